@@ -19,7 +19,8 @@ indirect : unix_text 0 (unix_line_at Unix (0o104400 ∷ 0o42 ∷ 0o103002 ∷ []
 unfolding call_of six_digits
 indirect = refl
 
-four_arguments : unix_text 0 (unix_line_at Unix (0o104470 ∷ 1 ∷ 2 ∷ 3 ∷ 4 ∷ []) 0) (1 ∷ 2 ∷ 3 ∷ 4 ∷ []) ≡ codes "sys mpx; 000001; 000002; 000003; 000004"
+four_arguments : unix_text 0 (unix_line_at Unix (0o104470 ∷ 1 ∷ 2 ∷ 3 ∷ 4 ∷ []) 0) (1 ∷ 2 ∷ 3 ∷ 4 ∷ [])
+    ≡ codes "sys mpx; 000001; 000002; 000003; 000004"
 unfolding call_of six_digits
 four_arguments = refl
 

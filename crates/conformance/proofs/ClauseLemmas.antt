@@ -1,5 +1,7 @@
 -- The clauses of the relation of linking as tests, where what they speak of is written out.
-use Rattle.std.proofs.Common.{◌≡◌, ◌≢◌, ℕ, zero, suc, ◌+◌, ◌*◌, ◌<◌, ◌≤◌, Bool, true, false, cond, not, ◌&&◌, List, [], ◌∷◌, ◌++◌, length, Option, Some, None, refl, sym, ◌∙◌, ap, subst, arith, inr, eqb-true, eq-eqb}
+use Rattle.std.proofs.Common.{◌≡◌, ◌≢◌, ℕ, zero, suc, ◌+◌, ◌*◌, ◌<◌, ◌≤◌, Bool, true, false, cond, not}
+use Rattle.std.proofs.Common.{◌&&◌, List, [], ◌∷◌, ◌++◌, length, Option, Some, None, refl, sym, ◌∙◌}
+use Rattle.std.proofs.Common.{ap, subst, arith, inr, eqb-true, eq-eqb}
 use Rattle.std.specs.Prelude.{eqb, nat_lt, is_none, slice_get, Ok, bytes_eq}
 use Rattle.std.proofs.lemmas.Bool.{and_parts, ltb-false, ltb-true}
 use Rattle.aout_core.specs.declared.symbol.Symbol.{Symbol}
@@ -24,7 +26,10 @@ use Rattle.link_laws.specs.relation.Relocated.{IsRelocated, IsEntry}
 use Rattle.link_laws.specs.relation.LinkedWords.{AreRelocated, IsKept, AreKept}
 use Rattle.link_laws.specs.relation.Reported.{ArePicked, IsOther}
 use Rattle.link_laws.specs.relation.LinkedFrom.{IsLinkedFrom}
-use Rattle.conformance.specs.Clauses.{Clause, text_size, data_size, bss, text_words, data_words, magic, symbol_size, unused, flag, short, few, names, are_rows, table, text, «data», text_relocs, data_relocs, text_kept, data_kept, entry, multiples, reserved, undefined, none, Says, ClausesAreAll}
+use Rattle.conformance.specs.Clauses.{Clause, text_size, data_size, bss, text_words, data_words, magic, symbol_size}
+use Rattle.conformance.specs.Clauses.{unused, flag, short, few, names, are_rows, table, text, «data», text_relocs}
+use Rattle.conformance.specs.Clauses.{data_relocs, text_kept, data_kept, entry, multiples, reserved, undefined}
+use Rattle.conformance.specs.Clauses.{none, Says, ClausesAreAll}
 
 abbrev pub at_most : ℕ → ℕ → Bool
 at_most a b = not (nat_lt b a)
@@ -51,7 +56,8 @@ none_so : {A : Type 0} (e : Option A) → is_none e ≡ true → e ≡ None
 none_so None h = refl
 none_so (Some x) h = absurd (cc)
 
-entry_so : (rows : List Symbol) (wish : Option (List ℕ)) (word : ℕ) (bad : Option (List ℕ)) → (is_none wish && (eqb word 0 && is_none bad)) ≡ true → IsEntry rows wish word bad
+entry_so : (rows : List Symbol) (wish : Option (List ℕ)) (word : ℕ) (bad : Option (List ℕ)) →
+    (is_none wish && (eqb word 0 && is_none bad)) ≡ true → IsEntry rows wish word bad
 entry_so rows (Some name) word bad h = absurd (cc)
 entry_so rows None word bad h = let both = and_parts (eqb word 0) (is_none bad) h in (eqb-true word 0 both.0, none_so bad both.1)
 
@@ -120,11 +126,13 @@ no_words file rows segment before k after e i w r ew er = absurd (no_object befo
 pub none_kept : (file : Contents) (rows : List Symbol) (locals : ℕ) (segment : Segment) → AreKept file rows locals [] segment
 none_kept file rows locals segment before k after e i w r ew er = absurd (no_object before k after e)
 
-pub only_object : (P : List Contents → Contents → Type 0) (j : Contents) → P [] j → (before : List Contents) (k : Contents) (after : List Contents) → j ∷ [] ≡ before ++ k ∷ after → P before k
+pub only_object : (P : List Contents → Contents → Type 0) (j : Contents) → P [] j →
+    (before : List Contents) (k : Contents) (after : List Contents) → j ∷ [] ≡ before ++ k ∷ after → P before k
 only_object P j h [] k after e = let same : j ≡ k = cc in subst (λ (c : Contents). P [] c) same h
 only_object P j h (b ∷ before) k after e = let rest : [] ≡ before ++ k ∷ after = cc in absurd (no_object before k after rest)
 
-pub one_of_two : (P : List Contents → Contents → Type 0) (i j : Contents) → P [] i → P (i ∷ []) j → (before : List Contents) (k : Contents) (after : List Contents) → i ∷ j ∷ [] ≡ before ++ k ∷ after → P before k
+pub one_of_two : (P : List Contents → Contents → Type 0) (i j : Contents) → P [] i → P (i ∷ []) j →
+    (before : List Contents) (k : Contents) (after : List Contents) → i ∷ j ∷ [] ≡ before ++ k ∷ after → P before k
 one_of_two P i j h g [] k after e = let same : i ≡ k = cc in subst (λ (c : Contents). P [] c) same h
 one_of_two P i j h g (b ∷ before) k after e =
     let same : i ≡ b = cc in
@@ -133,8 +141,11 @@ one_of_two P i j h g (b ∷ before) k after e =
 
 -- objects, and an object without words
 
-pub as_object : (c : Contents) → is_magic c.header.magic ≡ true → has_whole_sizes c.header ≡ true → 2 * length c.text_words ≡ c.header.text_size → 2 * length c.data_words ≡ c.header.data_size →
-    2 * length c.text_reloc ≡ with_relocation c.header c.header.text_size → 2 * length c.data_reloc ≡ with_relocation c.header c.header.data_size → 12 * length c.symbols ≡ c.header.symbol_size → IsWellFormed c → IsObject c
+pub as_object : (c : Contents) → is_magic c.header.magic ≡ true → has_whole_sizes c.header ≡ true →
+    2 * length c.text_words ≡ c.header.text_size → 2 * length c.data_words ≡ c.header.data_size →
+    2 * length c.text_reloc ≡ with_relocation c.header c.header.text_size →
+    2 * length c.data_reloc ≡ with_relocation c.header c.header.data_size →
+    12 * length c.symbols ≡ c.header.symbol_size → IsWellFormed c → IsObject c
 as_object c a b d e f g h well = record {
   fits = record { magic = a; sizes = b; text = d; «data» = e; text_relocation = f; data_relocation = g; table = h };
   well = well;
@@ -144,22 +155,33 @@ pub no_word : {A : Type 0} (xs : List A) → xs ≡ [] → (i : ℕ) (x : A) →
 no_word xs n i x e = let bad : slice_get [] i ≡ Some x = ap (λ ys. slice_get ys i) (sym n) ∙ e in cc
 
 pub wordless_text : (file : Contents) (rows : List Symbol) (j : Contents) → j.text_words ≡ [] → AreRelocated file rows (j ∷ []) TextSeg
-wordless_text file rows j n = only_object (λ before k. (i w : ℕ) (r : Reloc) → slice_get k.text_words i ≡ Some w → slice_get k.text_reloc i ≡ Some r → IsRelocated file rows (j ∷ []) before k TextSeg i w r) j
+wordless_text file rows j n =
+    only_object (λ before k. (i w : ℕ) (r : Reloc) → slice_get k.text_words i ≡ Some w →
+    slice_get k.text_reloc i ≡ Some r → IsRelocated file rows (j ∷ []) before k TextSeg i w r) j
     (λ i w r ew er. absurd (no_word j.text_words n i w ew))
 
 pub wordless_data : (file : Contents) (rows : List Symbol) (j : Contents) → j.data_words ≡ [] → AreRelocated file rows (j ∷ []) DataSeg
-wordless_data file rows j n = only_object (λ before k. (i w : ℕ) (r : Reloc) → slice_get k.data_words i ≡ Some w → slice_get k.data_reloc i ≡ Some r → IsRelocated file rows (j ∷ []) before k DataSeg i w r) j
+wordless_data file rows j n =
+    only_object (λ before k. (i w : ℕ) (r : Reloc) → slice_get k.data_words i ≡ Some w →
+    slice_get k.data_reloc i ≡ Some r → IsRelocated file rows (j ∷ []) before k DataSeg i w r) j
     (λ i w r ew er. absurd (no_word j.data_words n i w ew))
 
-pub unkept_text : (file : Contents) (rows : List Symbol) (locals : ℕ) (j : Contents) → j.text_words ≡ [] → AreKept file rows locals (j ∷ []) TextSeg
-unkept_text file rows locals j n = only_object (λ before k. (i w : ℕ) (r : Reloc) → slice_get k.text_words i ≡ Some w → slice_get k.text_reloc i ≡ Some r → IsKept file rows locals before k TextSeg i r) j
+pub unkept_text : (file : Contents) (rows : List Symbol) (locals : ℕ) (j : Contents) → j.text_words ≡ [] →
+    AreKept file rows locals (j ∷ []) TextSeg
+unkept_text file rows locals j n =
+    only_object (λ before k. (i w : ℕ) (r : Reloc) → slice_get k.text_words i ≡ Some w →
+    slice_get k.text_reloc i ≡ Some r → IsKept file rows locals before k TextSeg i r) j
     (λ i w r ew er. absurd (no_word j.text_words n i w ew))
 
-pub unkept_data : (file : Contents) (rows : List Symbol) (locals : ℕ) (j : Contents) → j.data_words ≡ [] → AreKept file rows locals (j ∷ []) DataSeg
-unkept_data file rows locals j n = only_object (λ before k. (i w : ℕ) (r : Reloc) → slice_get k.data_words i ≡ Some w → slice_get k.data_reloc i ≡ Some r → IsKept file rows locals before k DataSeg i r) j
+pub unkept_data : (file : Contents) (rows : List Symbol) (locals : ℕ) (j : Contents) → j.data_words ≡ [] →
+    AreKept file rows locals (j ∷ []) DataSeg
+unkept_data file rows locals j n =
+    only_object (λ before k. (i w : ℕ) (r : Reloc) → slice_get k.data_words i ≡ Some w →
+    slice_get k.data_reloc i ≡ Some r → IsKept file rows locals before k DataSeg i r) j
     (λ i w r ew er. absurd (no_word j.data_words n i w ew))
 
-pub only_word : (P : ℕ → ℕ → Reloc → Type 0) (w : ℕ) (r : Reloc) → P 0 w r → (i v : ℕ) (s : Reloc) → slice_get (w ∷ []) i ≡ Some v → slice_get (r ∷ []) i ≡ Some s → P i v s
+pub only_word : (P : ℕ → ℕ → Reloc → Type 0) (w : ℕ) (r : Reloc) → P 0 w r → (i v : ℕ) (s : Reloc) →
+    slice_get (w ∷ []) i ≡ Some v → slice_get (r ∷ []) i ≡ Some s → P i v s
 only_word P w r h zero v s e f =
     let word : w ≡ v = cc in
     let reloc : r ≡ s = cc in
@@ -196,10 +218,13 @@ other_wanted name other size apart = record {
   least = λ n h. omega arith;
 }
 
-pub none_reserved : (name : List ℕ) (size : ℕ) → bytes_eq etext name ≡ false → bytes_eq edata name ≡ false → bytes_eq end_name name ≡ false →
-    ArePicked (λ n. IsWanted (wants name size) n 0 → ⊥) reserved_names []
+pub none_reserved : (name : List ℕ) (size : ℕ) → bytes_eq etext name ≡ false → bytes_eq edata name ≡ false →
+    bytes_eq end_name name ≡ false → ArePicked (λ n. IsWanted (wants name size) n 0 → ⊥) reserved_names []
 none_reserved name size e f g =
-    inr ((λ h. h (other_wanted name etext size e)), inr ((λ h. h (other_wanted name edata size f)), inr ((λ h. h (other_wanted name end_name size g)), refl)))
+    inr (
+      (λ h. h (other_wanted name etext size e)),
+      inr ((λ h. h (other_wanted name edata size f)), inr ((λ h. h (other_wanted name end_name size g)), refl)),
+    )
 
 -- the clauses are the relation
 
@@ -209,8 +234,21 @@ clauses_are_all forced os o x = (
       let told = says multiples in
       record {
         rows = h.0;
-        holds = record { text = says text_size; «data» = says data_size; bss = says bss; text_words = says text_words; data_words = says data_words };
-        header = record { magic = says magic; symbol_size = says symbol_size; unused = says unused; flag = says flag; short = says short; few = says few };
+        holds = record {
+          text = says text_size;
+          «data» = says data_size;
+          bss = says bss;
+          text_words = says text_words;
+          data_words = says data_words;
+        };
+        header = record {
+          magic = says magic;
+          symbol_size = says symbol_size;
+          unused = says unused;
+          flag = says flag;
+          short = says short;
+          few = says few;
+        };
         names = says names;
         are_rows = says are_rows;
         table = says table;
@@ -221,7 +259,14 @@ clauses_are_all forced os o x = (
         text_kept = says text_kept;
         data_kept = says data_kept;
         entry = says entry;
-        report = record { others = told.0; picked = told.1; multiples = told.2; reserved = says reserved; undefined = says undefined; none = says none };
+        report = record {
+          others = told.0;
+          picked = told.1;
+          multiples = told.2;
+          reserved = says reserved;
+          undefined = says undefined;
+          none = says none;
+        };
       }),
   (λ h. (h.rows, said h)),
 )
@@ -254,7 +299,8 @@ clauses_are_all forced os o x = (
     said h none = h.report.none
 
 -- an outcome that differs in a number is another
-pub other_outcome : (forced : List (List ℕ)) (os : List Contents) (o : Choices) (x y : Outcome) → link forced os o ≡ Ok x → (f : Outcome → ℕ) → eqb (f x) (f y) ≡ false → link forced os o ≢ Ok y
+pub other_outcome : (forced : List (List ℕ)) (os : List Contents) (o : Choices) (x y : Outcome) →
+    link forced os o ≡ Ok x → (f : Outcome → ℕ) → eqb (f x) (f y) ≡ false → link forced os o ≢ Ok y
 other_outcome forced os o x y linked f apart e =
     let both : Ok x ≡ Ok y = sym linked ∙ e in
     let same : x ≡ y = cc in

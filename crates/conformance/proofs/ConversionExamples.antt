@@ -1,5 +1,6 @@
 -- Objects in GNU's form, what they become, and objects near these that they do not become.
-use Rattle.std.proofs.Common.{◌≡◌, ℕ, zero, suc, ◌/◌, false, true, List, [], ◌∷◌, Some, None, length, slice_get, refl, sym as back, ap, ◌∙◌, arith}
+use Rattle.std.proofs.Common.{◌≡◌, ℕ, zero, suc, ◌/◌, false, true, List, [], ◌∷◌, Some, None, length}
+use Rattle.std.proofs.Common.{slice_get, refl, sym as back, ap, ◌∙◌, arith}
 use Rattle.std.specs.Prelude.{codes, Ok, Err, slice_index}
 use Rattle.std.specs.List.{AllZip}
 use Rattle.aout_core.specs.declared.reloc.Reloc.{Reloc}
@@ -91,7 +92,8 @@ pc_bit_lost becomes = let bad : false ≡ true = becomes.text_reloc.1.0.pc in cc
 other_kind : Becomes (without_x 3) → ⊥
 other_kind becomes = let bad : Some TextSeg ≡ Some External = becomes.text_reloc.1.0.kind in cc
 
-other_number : Becomes (object (0o4767 ∷ 0o177774 ∷ 0o207 ∷ []) (0 ∷ 0o31 ∷ 2 ∷ []) (1 ∷ []) (0 ∷ []) 0 (sym _f 0o42 0 ∷ sym _g 0o40 0 ∷ [])) → ⊥
+other_number : Becomes (object (0o4767 ∷ 0o177774 ∷ 0o207 ∷ []) (0 ∷ 0o31 ∷ 2 ∷ []) (1 ∷ []) (0 ∷ []) 0
+    (sym _f 0o42 0 ∷ sym _g 0o40 0 ∷ [])) → ⊥
 other_number becomes = let bad : Some TextSeg ≡ Some Absolute = becomes.text_reloc.1.1.0.kind in cc
 
 other_value : Becomes (object (0o4767 ∷ 0 ∷ 0o207 ∷ []) (0 ∷ 0o31 ∷ 0 ∷ []) (1 ∷ []) (0 ∷ []) 0 (sym _f 0o42 0 ∷ sym _g 0o40 0 ∷ [])) → ⊥
@@ -128,8 +130,12 @@ second P a b c (r ∷ []) h = absurd h.1
 second P a b c (r ∷ s ∷ rs) h = (s, h.1.0)
 
 no_local : (m : ℕ) (e : Symbol) → slice_get (sym _f 0o42 0 ∷ sym _g 0o40 0 ∷ []) m ≡ Some e → 3 ≡ e.type_bits → ⊥
-no_local zero e is three = let same : sym _f 0o42 0 ≡ e = cc in let bits : 0o42 ≡ e.type_bits = ap (λ (u : Symbol). u.type_bits) same in omega (arith, bits)
-no_local (suc zero) e is three = let same : sym _g 0o40 0 ≡ e = cc in let bits : 0o40 ≡ e.type_bits = ap (λ (u : Symbol). u.type_bits) same in omega (arith, bits)
+no_local zero e is three =
+    let same : sym _f 0o42 0 ≡ e = cc in let bits : 0o42 ≡ e.type_bits = ap (λ (u : Symbol). u.type_bits) same in
+    omega (arith, bits)
+no_local (suc zero) e is three =
+    let same : sym _g 0o40 0 ≡ e = cc in let bits : 0o40 ≡ e.type_bits = ap (λ (u : Symbol). u.type_bits) same in
+    omega (arith, bits)
 no_local (suc (suc m)) e is three = cc
 
 dropped_and_needed : (c : Contents) → IsConversion dropping (gnu_file calls_x) c → ⊥

@@ -26,14 +26,16 @@ use Rattle.conformance.specs.Samples.{sym as entry_of, header, sized, _f, L1, c_
 use Rattle.conformance.proofs.LinkExamples.{shown, table_of, CallForward, LargeCommonRefused}
 use Rattle.conformance.proofs.ClauseLemmas.{only_object, only_word, no_word, as_object, at_most_so, less_so, only_wanted}
 
-two_objects : (P : List Contents → Contents → Type 0) (a b : Contents) → P [] a → P (a ∷ []) b → (before : List Contents) (k : Contents) (after : List Contents) → a ∷ b ∷ [] ≡ before ++ k ∷ after → P before k
+two_objects : (P : List Contents → Contents → Type 0) (a b : Contents) → P [] a → P (a ∷ []) b →
+    (before : List Contents) (k : Contents) (after : List Contents) → a ∷ b ∷ [] ≡ before ++ k ∷ after → P before k
 two_objects P a b first second [] k after e = let same : a ≡ k = cc in subst (λ (c : Contents). P [] c) same first
 two_objects P a b first second (c ∷ before) k after e =
     let same : a ≡ c = cc in
     let rest : b ∷ [] ≡ before ++ k ∷ after = cc in
     subst (λ (d : Contents). P (d ∷ before) k) same (only_object (λ bs j. P (a ∷ bs) j) b second before k after rest)
 
-two_words : (P : ℕ → ℕ → Reloc → Type 0) (v w : ℕ) (q r : Reloc) → P 0 v q → P 1 w r → (i u : ℕ) (s : Reloc) → slice_get (v ∷ w ∷ []) i ≡ Some u → slice_get (q ∷ r ∷ []) i ≡ Some s → P i u s
+two_words : (P : ℕ → ℕ → Reloc → Type 0) (v w : ℕ) (q r : Reloc) → P 0 v q → P 1 w r → (i u : ℕ) (s : Reloc) →
+    slice_get (v ∷ w ∷ []) i ≡ Some u → slice_get (q ∷ r ∷ []) i ≡ Some s → P i u s
 two_words P v w q r first second zero u s e f =
     let word : v ≡ u = cc in
     let reloc : q ≡ s = cc in
@@ -67,22 +69,29 @@ said = record { name = _f; says = Wanted 0 } ∷ (record { name = _f; says = Def
 
 text_relocated : AreRelocated forward.file rows os TextSeg
 text_relocated =
-    two_objects (λ before k. (i w : ℕ) (r : Reloc) → slice_get k.text_words i ≡ Some w → slice_get k.text_reloc i ≡ Some r → IsRelocated forward.file rows os before k TextSeg i w r) c_o d_o
+    two_objects (λ before k. (i w : ℕ) (r : Reloc) → slice_get k.text_words i ≡ Some w →
+    slice_get k.text_reloc i ≡ Some r → IsRelocated forward.file rows os before k TextSeg i w r) c_o d_o
     (two_words (λ i w r. IsRelocated forward.file rows os [] c_o TextSeg i w r) 0o4767 0o177774 (record { 0 = 0 }) (record { 0 = 0o11 })
     (record { added = 0; is = refl; word = refl })
-    (record { added = 6; is = record { symbol = entry_of _f 0o40 0; row = entry_of _f 34 6; named = refl; found = refl; gives = refl }; word = refl }))
+    (record {
+      added = 6;
+      is = record { symbol = entry_of _f 0o40 0; row = entry_of _f 34 6; named = refl; found = refl; gives = refl };
+      word = refl;
+    }))
     (two_words (λ i w r. IsRelocated forward.file rows os (c_o ∷ []) d_o TextSeg i w r) 0o240 0o207 (record { 0 = 0 }) (record { 0 = 0 })
     (record { added = 0; is = refl; word = refl })
     (record { added = 0; is = refl; word = refl }))
 
 data_relocated : AreRelocated forward.file rows os DataSeg
 data_relocated =
-    two_objects (λ before k. (i w : ℕ) (r : Reloc) → slice_get k.data_words i ≡ Some w → slice_get k.data_reloc i ≡ Some r → IsRelocated forward.file rows os before k DataSeg i w r) c_o d_o
+    two_objects (λ before k. (i w : ℕ) (r : Reloc) → slice_get k.data_words i ≡ Some w →
+    slice_get k.data_reloc i ≡ Some r → IsRelocated forward.file rows os before k DataSeg i w r) c_o d_o
     (λ i w r ew er. absurd (no_word [] refl i w ew))
     (λ i w r ew er. absurd (no_word [] refl i w ew))
 
 -- the second mention defines the name, and it is the first that does
-first_same : (segment first : Segment) (offset at : ℕ) → Defined TextSeg 6 ≡ Defined segment offset → IsFirst said _f first at → Defined first at ≡ Defined segment offset
+first_same : (segment first : Segment) (offset at : ℕ) → Defined TextSeg 6 ≡ Defined segment offset →
+    IsFirst said _f first at → Defined first at ≡ Defined segment offset
 first_same segment first offset at e (inl h) = let bad : Wanted 0 ≡ Defined first at = h.1 in absurd (cc)
 first_same segment first offset at e (inr h) = second h.1
   where
@@ -103,7 +112,11 @@ not_said name apart = record {
 reported : IsReported [] os plain forward
 reported = record {
   others = [];
-  picked = inr ((λ h. let bad : Wanted 0 ≡ Defined h.segment h.offset = h.says in absurd (cc)), inr ((λ h. h.differ (first_same h.segment h.first h.offset h.at h.says h.is)), refl));
+  picked =
+      inr (
+        (λ h. let bad : Wanted 0 ≡ Defined h.segment h.offset = h.says in absurd (cc)),
+        inr ((λ h. h.differ (first_same h.segment h.first h.offset h.at h.says h.is)), refl),
+      );
   multiples = refl;
   reserved = inr ((λ h. h (not_said etext refl)), inr ((λ h. h (not_said edata refl)), inr ((λ h. h (not_said end_name refl)), refl)));
   undefined = λ r. inr ((λ h. h.0.undefined.1.0 refl TextSeg 6 refl), refl);
@@ -114,9 +127,21 @@ forward_linked : IsLinkedFrom [] os plain forward
 forward_linked = record {
   rows = rows;
   holds = record { text = refl; «data» = refl; bss = at_most_so 0 0 refl; text_words = refl; data_words = refl };
-  header = record { magic = refl; symbol_size = refl; unused = refl; flag = refl; short = at_most_so 8 65535 refl; few = at_most_so 2 5461 refl };
+  header = record {
+    magic = refl;
+    symbol_size = refl;
+    unused = refl;
+    flag = refl;
+    short = at_most_so 8 65535 refl;
+    few = at_most_so 2 5461 refl;
+  };
   names = refl;
-  are_rows = (Defined TextSeg 6, inr ((λ same segment offset e. let bad : Wanted 0 ≡ Defined segment offset = e in absurd (cc)), inl (refl, refl)), refl, refl);
+  are_rows = (
+    Defined TextSeg 6,
+    inr ((λ same segment offset e. let bad : Wanted 0 ≡ Defined segment offset = e in absurd (cc)), inl (refl, refl)),
+    refl,
+    refl,
+  );
   table = refl;
   text = text_relocated;
   «data» = data_relocated;
@@ -129,7 +154,11 @@ forward_linked = record {
 }
 
 pub call_forward_follows : LinkedExactly → CallForward
-call_forward_follows exactly = ap shown ((exactly [] os plain forward (as_object c_o refl refl refl refl refl refl refl refl, (as_object d_o refl refl refl refl refl refl refl refl, tt))).1 forward_linked)
+call_forward_follows exactly =
+    ap shown ((exactly [] os plain forward (
+      as_object c_o refl refl refl refl refl refl refl refl,
+      (as_object d_o refl refl refl refl refl refl refl refl, tt),
+    )).1 forward_linked)
 
 -- a common of 65,535 bytes, by which a program would end at 65,536
 
@@ -138,19 +167,45 @@ large = sized 0 0 0 (entry_of (codes "_c") 0o40 65535 ∷ [])
 
 pub large_common_refused_follows : RefusedExactly → LargeCommonRefused
 large_common_refused_follows exactly =
-    ap table_of ((exactly [] (large ∷ []) plain DoesNotFit (as_object large refl refl refl refl refl refl refl refl, tt)).1
-    (65536, record { commons = 65536; take = (Wanted 65535, only_wanted (codes "_c") 65535, (0, refl, refl)); is = refl }, less_so 65535 65536 refl))
+    ap table_of ((exactly [] (large ∷ []) plain DoesNotFit (as_object large refl refl refl refl refl refl refl refl, tt)).1 (
+      65536,
+      record { commons = 65536; take = (Wanted 65535, only_wanted (codes "_c") 65535, (0, refl, refl)); is = refl },
+      less_so 65535 65536 refl,
+    ))
 
 -- a name that two objects define at different offsets
 
-pub multiply_defined_follows : MultiplesDiffer → (x : Outcome) → link [] (d_o ∷ d2_o ∷ []) plain ≡ Ok x → is_among x.report.multiples _f ≡ true
+pub multiply_defined_follows : MultiplesDiffer → (x : Outcome) → link [] (d_o ∷ d2_o ∷ []) plain ≡ Ok x →
+    is_among x.report.multiples _f ≡ true
 multiply_defined_follows law x linked = (law [] (d_o ∷ d2_o ∷ []) plain x linked _f).1 (record {
   one = TextSeg;
   two = TextSeg;
   at_one = 2;
   at_two = 4;
-  first = record { before = []; k = d_o; after = d2_o ∷ []; all = refl; number = 0; symbol = entry_of _f 0o42 2; stands = refl; outer = refl; names = refl; is = refl };
-  second = record { before = d_o ∷ []; k = d2_o; after = []; all = refl; number = 0; symbol = entry_of _f 0o42 0; stands = refl; outer = refl; names = refl; is = refl };
+  first = record {
+    before = [];
+    k = d_o;
+    after = d2_o ∷ [];
+    all = refl;
+    number = 0;
+    symbol = entry_of _f 0o42 2;
+    stands = refl;
+    outer = refl;
+    names = refl;
+    is = refl;
+  };
+  second = record {
+    before = d_o ∷ [];
+    k = d2_o;
+    after = [];
+    all = refl;
+    number = 0;
+    symbol = entry_of _f 0o42 0;
+    stands = refl;
+    outer = refl;
+    names = refl;
+    is = refl;
+  };
   differ = λ e. let same : 2 ≡ 4 = ap (λ (s : State). offset_of s) e in absurd (omega arith);
 })
   where

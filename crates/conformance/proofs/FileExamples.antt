@@ -96,10 +96,12 @@ decode_s = refl
 well_s : first_object_fault s_o ≡ None
 well_s = refl
 
-cut_short : map (λ n. decode_ok (decode (take n (encoding c_o)))) (15 ∷ 16 ∷ 47 ∷ 48 ∷ []) ≡ Some ShortHeader ∷ Some Truncated ∷ Some Truncated ∷ None ∷ []
+cut_short : map (λ n. decode_ok (decode (take n (encoding c_o)))) (15 ∷ 16 ∷ 47 ∷ 48 ∷ []) ≡ Some ShortHeader ∷
+    Some Truncated ∷ Some Truncated ∷ None ∷ []
 cut_short = refl
 
-odd_flag : decode (header_encoding (record b_o.header { flag = 2 }) ++ (word_bytes 0o207 ++ word_bytes 0)) ≡ Ok (record b_o { header = record b_o.header { flag = 2 }; text_reloc = [] })
+odd_flag : decode (header_encoding (record b_o.header { flag = 2 }) ++ (word_bytes 0o207 ++ word_bytes 0))
+    ≡ Ok (record b_o { header = record b_o.header { flag = 2 }; text_reloc = [] })
 odd_flag = refl
 
 name_junk : symbol_in (0x5f ∷ 0x66 ∷ 0 ∷ 0x41 ∷ 0 ∷ 0 ∷ 0 ∷ 0 ∷ 0x22 ∷ 0 ∷ 6 ∷ 0 ∷ []) ≡ sym _f 0o42 6
@@ -132,5 +134,12 @@ damaged_objects_defined = refl
 strip_an_object : encoding (stripped a_o) ≡ 7 ∷ 1 ∷ 4 ∷ 0 ∷ 2 ∷ 0 ∷ 0 ∷ 0 ∷ 0 ∷ 0 ∷ 0 ∷ 0 ∷ 0 ∷ 0 ∷ 1 ∷ 0 ∷ 192 ∷ 21 ∷ 4 ∷ 0 ∷ 34 ∷ 0 ∷ []
 strip_an_object = refl
 
-strip_overlay : encoding (stripped (record { header = header 0o405 2 0 0 12 4 0; text_words = 7 ∷ []; data_words = []; text_reloc = relocs (0 ∷ []); data_reloc = []; symbols = sym _f 0o42 0 ∷ [] })) ≡ 5 ∷ 1 ∷ 2 ∷ 0 ∷ 0 ∷ 0 ∷ 0 ∷ 0 ∷ 0 ∷ 0 ∷ 4 ∷ 0 ∷ 0 ∷ 0 ∷ 1 ∷ 0 ∷ 7 ∷ 0 ∷ []
+strip_overlay : encoding (stripped (record {
+  header = header 0o405 2 0 0 12 4 0;
+  text_words = 7 ∷ [];
+  data_words = [];
+  text_reloc = relocs (0 ∷ []);
+  data_reloc = [];
+  symbols = sym _f 0o42 0 ∷ [];
+})) ≡ 5 ∷ 1 ∷ 2 ∷ 0 ∷ 0 ∷ 0 ∷ 0 ∷ 0 ∷ 0 ∷ 0 ∷ 4 ∷ 0 ∷ 0 ∷ 0 ∷ 1 ∷ 0 ∷ 7 ∷ 0 ∷ []
 strip_overlay = refl

@@ -156,7 +156,8 @@ modes_have_their_numbers law = apart_down 4 2 (omega arith) (law Increment)
 abbrev second_from_first : ℕ → ℕ → ℕ
 second_from_first address word = (word + (address + 4)) % 0o200000
 
-second_has_its_own : ((word : ℕ) → line_text 2 (line_at (0o016767 ∷ 4 ∷ word ∷ []) 0) ≡ codes "mov 12," ++ octal (second_from_first 2 word)) → ⊥
+second_has_its_own : ((word : ℕ) →
+    line_text 2 (line_at (0o016767 ∷ 4 ∷ word ∷ []) 0) ≡ codes "mov 12," ++ octal (second_from_first 2 word)) → ⊥
 unfolding row_of begins digits six_digits
 second_has_its_own law =
     let e : codes "mov 12,14" ≡ codes "mov 12,12" = law 4 in

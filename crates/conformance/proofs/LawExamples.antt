@@ -19,7 +19,10 @@ use Rattle.std.specs.Prelude.{Result}
 
 abbrev pub outcome_of : Result Outcome LinkFault → Outcome
 outcome_of (Ok x) = x
-outcome_of (Err e) = record { file = e_o; report = record { multiples = []; reserved = []; entry_bad = Rattle.std.specs.Prelude.None; undefined = [] } }
+outcome_of (Err e) = record {
+  file = e_o;
+  report = record { multiples = []; reserved = []; entry_bad = Rattle.std.specs.Prelude.None; undefined = [] };
+}
 
 abbrev m3 : Outcome
 m3 = outcome_of (link [] (q_o ∷ r_o ∷ []) relocatable)
@@ -28,7 +31,9 @@ m3_is_partial : IsPartialLink [] (q_o ∷ r_o ∷ []) relocatable m3
 m3_is_partial = record { allowed = refl; relocatable = refl; no_commons = refl; linked = refl }
 
 among : link [] (p_o ∷ m3.file ∷ []) plain_s ≡ link [] (p_o ∷ (q_o ∷ (r_o ∷ []))) plain_s
-among = partial_stands_among [] (p_o ∷ []) (q_o ∷ r_o ∷ []) [] relocatable plain_s m3 (refl, tt) (refl, (refl, tt)) tt m3_is_partial (λ name h. absurd (cc)) refl
+among =
+    partial_stands_among [] (p_o ∷ []) (q_o ∷ r_o ∷ []) [] relocatable plain_s m3 (refl, tt)
+    (refl, (refl, tt)) tt m3_is_partial (λ name h. absurd (cc)) refl
 
 abbrev m6 : Outcome
 m6 = outcome_of (link [] (c_o ∷ []) (with_keep NotL relocatable))
@@ -37,7 +42,9 @@ m6_is_partial : IsPartialLink [] (c_o ∷ []) (with_keep NotL relocatable) m6
 m6_is_partial = record { allowed = refl; relocatable = refl; no_commons = refl; linked = refl }
 
 before_another : link [] (m6.file ∷ d_o ∷ []) (with_keep NotL plain) ≡ link [] (c_o ∷ (d_o ∷ [])) (with_keep NotL plain)
-before_another = partial_stands_among [] [] (c_o ∷ []) (d_o ∷ []) (with_keep NotL relocatable) (with_keep NotL plain) m6 tt (refl, tt) (refl, tt) m6_is_partial (λ name h. h) refl
+before_another =
+    partial_stands_among [] [] (c_o ∷ []) (d_o ∷ []) (with_keep NotL relocatable) (with_keep NotL plain) m6 tt
+    (refl, tt) (refl, tt) m6_is_partial (λ name h. h) refl
 
 -- where a name is multiply defined the words differ: those of the partial link are bound to its own definition
 abbrev m7 : Outcome

@@ -25,7 +25,8 @@ abbrev back : List Contents
 back = twice_o ∷ main_o ∷ count_o ∷ []
 
 -- the bytes of the operand of `mov _count,r0` and of the number after text, and none after that
-plain_bytes : map (λ (n : ℕ). core (file_of forward plain) of_instructions n) (2 ∷ 3 ∷ 14 ∷ 15 ∷ 16 ∷ []) ≡ Some 10 ∷ Some 0 ∷ Some 21 ∷ Some 0 ∷ None ∷ []
+plain_bytes : map (λ (n : ℕ). core (file_of forward plain) of_instructions n) (2 ∷ 3 ∷ 14 ∷ 15 ∷ 16 ∷ []) ≡ Some 10 ∷
+    Some 0 ∷ Some 21 ∷ Some 0 ∷ None ∷ []
 plain_bytes = refl
 
 -- the same in the space of data
@@ -33,18 +34,21 @@ one_space : core (file_of forward plain) of_data 2 ≡ Some 10
 one_space = refl
 
 -- pure text: nothing up to 020000, where data begins
-pure_bytes : map (λ (n : ℕ). core (file_of forward (with_layout Pure plain)) of_data n) (2 ∷ 3 ∷ 14 ∷ 8191 ∷ 8192 ∷ []) ≡ Some 252 ∷ Some 31 ∷ None ∷ None ∷ Some 21 ∷ []
+pure_bytes : map (λ (n : ℕ). core (file_of forward (with_layout Pure plain)) of_data n) (2 ∷ 3 ∷ 14 ∷ 8191 ∷ 8192 ∷ [])
+    ≡ Some 252 ∷ Some 31 ∷ None ∷ None ∷ Some 21 ∷ []
 pure_bytes = refl
 
 -- split spaces: text at 0 of the one, data at 0 of the other
-split_text : map (λ (n : ℕ). core (file_of forward (with_layout Split plain)) of_instructions n) (0 ∷ 1 ∷ 13 ∷ 14 ∷ []) ≡ Some 192 ∷ Some 29 ∷ Some 0 ∷ None ∷ []
+split_text : map (λ (n : ℕ). core (file_of forward (with_layout Split plain)) of_instructions n) (0 ∷ 1 ∷ 13 ∷ 14 ∷ [])
+    ≡ Some 192 ∷ Some 29 ∷ Some 0 ∷ None ∷ []
 split_text = refl
 
 split_data : map (λ (n : ℕ). core (file_of forward (with_layout Split plain)) of_data n) (0 ∷ 1 ∷ 2 ∷ []) ≡ Some 21 ∷ Some 0 ∷ None ∷ []
 split_data = refl
 
 -- zeros for a common of 3 bytes, rounded up, and 2 bytes of bss, after 6 of text and 4 of data
-zero_bytes : map (λ (n : ℕ). core (file_of (i_o ∷ []) plain) of_data n) (9 ∷ 10 ∷ 13 ∷ 14 ∷ 15 ∷ 16 ∷ []) ≡ Some 0 ∷ Some 0 ∷ Some 0 ∷ Some 0 ∷ Some 0 ∷ None ∷ []
+zero_bytes : map (λ (n : ℕ). core (file_of (i_o ∷ []) plain) of_data n) (9 ∷ 10 ∷ 13 ∷ 14 ∷ 15 ∷ 16 ∷ []) ≡ Some 0 ∷
+    Some 0 ∷ Some 0 ∷ Some 0 ∷ Some 0 ∷ None ∷ []
 zero_bytes = refl
 
 -- what the pc finds: `_count` at 016 by the word at 2, `_twice` at 012 by the word at 6
@@ -72,20 +76,34 @@ count_good : IsObject count_o
 count_good = as_object count_o refl refl refl refl refl refl refl refl
 
 main_calls : Calls main_o TextSeg 3 _twice
-main_calls = record { w = 65528; r = record { 0 = 25 }; symbol = entry _twice 32 0; word = refl; reloc = refl; pc = refl; kind = refl; named = refl; names = refl; just = refl }
+main_calls = record {
+  w = 65528;
+  r = record { 0 = 25 };
+  symbol = entry _twice 32 0;
+  word = refl;
+  reloc = refl;
+  pc = refl;
+  kind = refl;
+  named = refl;
+  names = refl;
+  just = refl;
+}
 
 twice_defined : Defines twice_o _twice TextSeg 0
-twice_defined = record { number = 0; symbol = entry _twice 34 0; stands = refl; outer = refl; inner = refl; names = refl; is = refl; value = refl }
+twice_defined =
+    record { number = 0; symbol = entry _twice 34 0; stands = refl; outer = refl; inner = refl; names = refl; is = refl; value = refl }
 
 forward_call : Arrives (file_of forward plain) of_instructions forward [] main_o TextSeg 3 (main_o ∷ []) twice_o TextSeg 0
 forward_call =
     calls_arrive [] forward plain (outcome_of (link [] forward plain)) (main_good, (twice_good, (count_good, tt))) all_kept refl refl
-    [] main_o (twice_o ∷ count_o ∷ []) refl (main_o ∷ []) twice_o (count_o ∷ []) refl TextSeg TextSeg 3 0 _twice main_calls twice_defined of_instructions refl
+    [] main_o (twice_o ∷ count_o ∷ []) refl (main_o ∷ []) twice_o
+    (count_o ∷ []) refl TextSeg TextSeg 3 0 _twice main_calls twice_defined of_instructions refl
 
 back_call : Arrives (file_of back plain) of_instructions back (twice_o ∷ []) main_o TextSeg 3 [] twice_o TextSeg 0
 back_call =
     calls_arrive [] back plain (outcome_of (link [] back plain)) (twice_good, (main_good, (count_good, tt))) all_kept refl refl
-    (twice_o ∷ []) main_o (count_o ∷ []) refl [] twice_o (main_o ∷ count_o ∷ []) refl TextSeg TextSeg 3 0 _twice main_calls twice_defined of_instructions refl
+    (twice_o ∷ []) main_o (count_o ∷ []) refl [] twice_o
+    (main_o ∷ count_o ∷ []) refl TextSeg TextSeg 3 0 _twice main_calls twice_defined of_instructions refl
 
 -- it arrives at 012 in the one link, and at 0 in the other
 forward_target : forward_call.target ≡ 10
@@ -97,19 +115,36 @@ back_target = back_call.there.sum
 -- with split spaces the call arrives too, and the number is found in the space of data alone
 split_call : Arrives (file_of forward (with_layout Split plain)) of_instructions forward [] main_o TextSeg 3 (main_o ∷ []) twice_o TextSeg 0
 split_call =
-    calls_arrive [] forward (with_layout Split plain) (outcome_of (link [] forward (with_layout Split plain))) (main_good, (twice_good, (count_good, tt))) all_kept refl refl
-    [] main_o (twice_o ∷ count_o ∷ []) refl (main_o ∷ []) twice_o (count_o ∷ []) refl TextSeg TextSeg 3 0 _twice main_calls twice_defined of_instructions refl
+    calls_arrive [] forward (with_layout Split plain) (outcome_of (link [] forward (with_layout Split plain)))
+    (main_good, (twice_good, (count_good, tt))) all_kept refl refl
+    [] main_o (twice_o ∷ count_o ∷ []) refl (main_o ∷ []) twice_o
+    (count_o ∷ []) refl TextSeg TextSeg 3 0 _twice main_calls twice_defined of_instructions refl
 
 main_fetches : Calls main_o TextSeg 1 _count
-main_fetches = record { w = 65532; r = record { 0 = 41 }; symbol = entry _count 32 2; word = refl; reloc = refl; pc = refl; kind = refl; named = refl; names = refl; just = refl }
+main_fetches = record {
+  w = 65532;
+  r = record { 0 = 41 };
+  symbol = entry _count 32 2;
+  word = refl;
+  reloc = refl;
+  pc = refl;
+  kind = refl;
+  named = refl;
+  names = refl;
+  just = refl;
+}
 
 count_defined : Defines count_o _count DataSeg 0
-count_defined = record { number = 0; symbol = entry _count 35 0; stands = refl; outer = refl; inner = refl; names = refl; is = refl; value = refl }
+count_defined =
+    record { number = 0; symbol = entry _count 35 0; stands = refl; outer = refl; inner = refl; names = refl; is = refl; value = refl }
 
-split_fetch : Arrives (file_of forward (with_layout Split plain)) of_data forward [] main_o TextSeg 1 (main_o ∷ twice_o ∷ []) count_o DataSeg 0
+split_fetch : Arrives (file_of forward (with_layout Split plain)) of_data forward [] main_o TextSeg 1
+    (main_o ∷ twice_o ∷ []) count_o DataSeg 0
 split_fetch =
-    calls_arrive [] forward (with_layout Split plain) (outcome_of (link [] forward (with_layout Split plain))) (main_good, (twice_good, (count_good, tt))) all_kept refl refl
-    [] main_o (twice_o ∷ count_o ∷ []) refl (main_o ∷ twice_o ∷ []) count_o [] refl TextSeg DataSeg 1 0 _count main_fetches count_defined of_data refl
+    calls_arrive [] forward (with_layout Split plain) (outcome_of (link [] forward (with_layout Split plain)))
+    (main_good, (twice_good, (count_good, tt))) all_kept refl refl
+    [] main_o (twice_o ∷ count_o ∷ []) refl (main_o ∷ twice_o ∷ []) count_o [] refl TextSeg DataSeg 1 0 _count
+    main_fetches count_defined of_data refl
 
 split_target : split_fetch.target ≡ 0
 split_target = split_fetch.there.sum

@@ -80,7 +80,9 @@ first_changed : first_is ≢ first_was
 first_changed e = let bad : DataSeg ≡ External 1 = ap (λ (c : Cell). c.target) e in absurd (cc)
 
 cell_twice_marked : AreExact (CellWas (InText 2) first_was ∷ its_marks) → ⊥
-cell_twice_marked d = let bad : first_was ∷ first_was ∷ [] ≡ first_was ∷ [] = (d.text 2 first_was first_is refl refl).changed first_changed in absurd (cc)
+cell_twice_marked d =
+    let bad : first_was ∷ first_was ∷ [] ≡ first_was ∷ [] = (d.text 2 first_was first_is refl refl).changed first_changed in
+    absurd (cc)
 
 made_up_state_undoes : Undo (StateWas 1 (Wanted 4) ∷ StateWas 1 (Wanted 7) ∷ cell_marks)
 made_up_state_undoes = refl
@@ -101,7 +103,8 @@ missing_cell d = let bad : [] ≡ first_was ∷ [] = (d.text 2 first_was first_i
 
 -- The content after the change in place of that before, and two marks of one place in the wrong order.
 
-content_after : AreExact (StateWas 1 (Wanted 4) ∷ StateWas 1 (Wanted 10) ∷ CellWas (InText 3) second_was ∷ CellWas (InText 2) first_is ∷ []) → ⊥
+content_after : AreExact (StateWas 1 (Wanted 4) ∷ StateWas 1 (Wanted 10) ∷ CellWas (InText 3) second_was ∷
+    CellWas (InText 2) first_is ∷ []) → ⊥
 content_after d =
     let bad : first_is ∷ [] ≡ first_was ∷ [] = (d.text 2 first_was first_is refl refl).changed first_changed in
     first_changed (cc)

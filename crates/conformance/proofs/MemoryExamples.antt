@@ -1,5 +1,6 @@
 -- Where the definitions of a stage rule out that memory ran out.
-use Rattle.std.proofs.Common.{◌≡◌, ℕ, ◌≤◌, ◌<◌, true, false, List, [], ◌∷◌, ◌++◌, length, Option, Some, None, Err, refl, ap, ◌∙◌, subst, arith, inl, inr}
+use Rattle.std.proofs.Common.{◌≡◌, ℕ, ◌≤◌, ◌<◌, true, false, List, [], ◌∷◌, ◌++◌, length, Option, Some}
+use Rattle.std.proofs.Common.{None, Err, refl, ap, ◌∙◌, subst, arith, inl, inr}
 use Rattle.std.specs.declared.alloc.Global.{Global}
 use Rattle.std.specs.Prelude.{IsOk, Vec, codes}
 use Rattle.aout_core.specs.declared.file.ReadFault.TheVariants as reads
@@ -89,7 +90,8 @@ input bytes = record { path = path; known = Some bytes; has_failed = false }
 first_short : (o : Choices) → IsLinkOver [] o (input short ∷ []) (Err faults.Memory) → ⊥
 first_short o (works, wants) = wanted_for_short [] [] wants
 
-first_failed : (o : Choices) → IsLinkOver [] o (record { path = path; known = Some (encoding b_o); has_failed = true } ∷ []) (Err faults.Memory) → ⊥
+first_failed : (o : Choices) →
+    IsLinkOver [] o (record { path = path; known = Some (encoding b_o); has_failed = true } ∷ []) (Err faults.Memory) → ⊥
 first_failed o (works, wants) = absurd (cc)
 
 -- after an object that was accepted, the stage rules out what the result as a whole can't
@@ -111,7 +113,9 @@ run_of_withdrawal : (old new : Kept) → StopsAmong old new (withdrawal ∷ []) 
 run_of_withdrawal old new h = by_order h.before h.order
   where
     by_order : (before : List Change) → withdrawal ∷ [] ≡ before ++ h.change ∷ h.left → ⊥
-    by_order [] e = let is : withdrawal ≡ h.change = cc in withdrawn_as_added (last_of new.entries) (ap (answer_to new.forced new.entries) is ∙ h.accepted)
+    by_order [] e =
+        let is : withdrawal ≡ h.change = cc in
+        withdrawn_as_added (last_of new.entries) (ap (answer_to new.forced new.entries) is ∙ h.accepted)
     by_order (b ∷ []) e = absurd (cc)
     by_order (b ∷ (c ∷ cs)) e = absurd (cc)
 

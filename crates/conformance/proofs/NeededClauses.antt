@@ -1,5 +1,6 @@
 -- No clause of the relation of linking can be left out: for each, a wrong file or report that all the others let through.
-use Rattle.std.proofs.Common.{◌≡◌, ◌≢◌, ℕ, ◌+◌, ◌≤◌, Bool, true, false, List, [], ◌∷◌, length, Some, None, refl, sym, subst, arith, inl, inr, eqb-true}
+use Rattle.std.proofs.Common.{◌≡◌, ◌≢◌, ℕ, ◌+◌, ◌≤◌, Bool, true, false, List, [], ◌∷◌, length, Some}
+use Rattle.std.proofs.Common.{None, refl, sym, subst, arith, inl, inr, eqb-true}
 use Rattle.std.specs.Prelude.{eqb, Ok, Err, slice_get, replicate, sum_by}
 use Rattle.aout_core.specs.declared.header.Header.{Header}
 use Rattle.aout_core.specs.declared.symbol.Symbol.{Symbol}
@@ -12,8 +13,14 @@ use Rattle.link_out.specs.Results.{ReportNames, Outcome}
 use Rattle.aout_core.specs.Addresses.{data_start_in}
 use Rattle.link_laws.specs.relation.Relocated.{base_in, IsRelocated}
 use Rattle.conformance.specs.Samples.{sym as entry_of, header, object, relocs, _f, _x, _z, L1, plain, relocatable}
-use Rattle.conformance.specs.Clauses.{Clause, text_size, data_size, bss, text_words, data_words, magic, symbol_size, unused, flag, short, few, names, are_rows, table, text, «data», text_relocs, data_relocs, text_kept, data_kept, entry, multiples, reserved, undefined, none, Says, IsNeeded}
-use Rattle.conformance.proofs.ClauseLemmas.{is_empty, empty_so, passes, passed, no_words, none_kept, only_object, as_object, wordless_text, wordless_data, unkept_text, unkept_data, only_word, nothing_reserved, wants_alone, only_wanted, none_reserved, other_outcome}
+use Rattle.conformance.specs.Clauses.{Clause, text_size, data_size, bss, text_words, data_words, magic, symbol_size}
+use Rattle.conformance.specs.Clauses.{unused, flag, short, few, names, are_rows, table, text, «data», text_relocs}
+use Rattle.conformance.specs.Clauses.{data_relocs, text_kept, data_kept, entry, multiples, reserved, undefined}
+use Rattle.conformance.specs.Clauses.{none, Says, IsNeeded}
+use Rattle.conformance.proofs.ClauseLemmas.{is_empty, empty_so, passes, passed, no_words, none_kept, only_object}
+use Rattle.conformance.proofs.ClauseLemmas.{as_object, wordless_text, wordless_data, unkept_text, unkept_data}
+use Rattle.conformance.proofs.ClauseLemmas.{only_word, nothing_reserved, wants_alone, only_wanted, none_reserved}
+use Rattle.conformance.proofs.ClauseLemmas.{other_outcome}
 
 abbrev silent : ReportNames
 silent = record { multiples = []; reserved = []; entry_bad = None; undefined = [] }
@@ -55,13 +62,16 @@ passed_empty x table h = empty_so x.file.symbols h
 passed_empty x text h = no_words x.file [] TextSeg
 passed_empty x «data» h = no_words x.file [] DataSeg
 passed_empty x multiples h = ([], refl, empty_so x.report.multiples h)
-passed_empty x reserved h = subst (λ (ns : List (List ℕ)). Says reserved [] [] plain (with_report (record silent { reserved = ns })) []) (sym (empty_so x.report.reserved h)) nothing_reserved
+passed_empty x reserved h =
+    subst (λ (ns : List (List ℕ)). Says reserved [] [] plain (with_report (record silent { reserved = ns })) [])
+    (sym (empty_so x.report.reserved h)) nothing_reserved
 passed_empty x undefined h = λ r. empty_so x.report.undefined h
 passed_empty x none h = λ r. absurd (cc)
 passed_empty x c h = passed [] [] plain x [] c h
 
 -- a clause is needed where all others pass, and a number tells the outcome from the link of no objects
-needed_empty : (c : Clause) (x : Outcome) → ((d : Clause) → d ≢ c → passes_empty x d ≡ true) → (f : Outcome → ℕ) → eqb (f (with_file empty)) (f x) ≡ false → IsNeeded c
+needed_empty : (c : Clause) (x : Outcome) → ((d : Clause) → d ≢ c → passes_empty x d ≡ true) → (f : Outcome → ℕ) →
+    eqb (f (with_file empty)) (f x) ≡ false → IsNeeded c
 needed_empty c x pass f apart = record {
   forced = [];
   os = [];
@@ -313,7 +323,9 @@ names_needed = record {
   rows = [];
   good = tt;
   others = names_others;
-  wrong = other_outcome (_z ∷ []) [] plain (record names_wrong { file = file_of (header 263 0 0 0 12 0 1) [] [] (entry_of _z 32 0 ∷ []) }) names_wrong refl (λ x. length x.file.symbols) refl;
+  wrong = other_outcome (_z ∷ []) [] plain (record names_wrong {
+    file = file_of (header 263 0 0 0 12 0 1) [] [] (entry_of _z 32 0 ∷ []);
+  }) names_wrong refl (λ x. length x.file.symbols) refl;
 }
 
 abbrev are_rows_wrong : Outcome
@@ -340,7 +352,9 @@ are_rows_needed = record {
   rows = entry_of _z 33 5 ∷ [];
   good = tt;
   others = are_rows_others;
-  wrong = other_outcome (_z ∷ []) [] plain (record names_wrong { file = file_of (header 263 0 0 0 12 0 1) [] [] (entry_of _z 32 0 ∷ []) }) are_rows_wrong refl (λ x. sum_by (λ (s : Symbol). s.type_bits) x.file.symbols) refl;
+  wrong = other_outcome (_z ∷ []) [] plain (record names_wrong {
+    file = file_of (header 263 0 0 0 12 0 1) [] [] (entry_of _z 32 0 ∷ []);
+  }) are_rows_wrong refl (λ x. sum_by (λ (s : Symbol). s.type_bits) x.file.symbols) refl;
 }
 
 -- bss of 2 bytes
@@ -403,7 +417,9 @@ text_needed = record {
   rows = [];
   good = (as_object text_o refl refl refl refl refl refl refl refl, tt);
   others = text_others;
-  wrong = other_outcome [] (text_o ∷ []) plain (with_file (file_of (header 263 2 0 0 0 0 1) (1 ∷ []) [] [])) text_wrong refl (λ x. sum_by (λ (w : ℕ). w) x.file.text_words) refl;
+  wrong =
+      other_outcome [] (text_o ∷ []) plain (with_file (file_of (header 263 2 0 0 0 0 1) (1 ∷ []) [] [])) text_wrong refl
+      (λ x. sum_by (λ (w : ℕ). w) x.file.text_words) refl;
 }
 
 abbrev data_o : Contents
@@ -432,7 +448,9 @@ data_needed = record {
   rows = [];
   good = (as_object data_o refl refl refl refl refl refl refl refl, tt);
   others = data_others;
-  wrong = other_outcome [] (data_o ∷ []) plain (with_file (file_of (header 263 0 2 0 0 0 1) [] (1 ∷ []) [])) data_wrong refl (λ x. sum_by (λ (w : ℕ). w) x.file.data_words) refl;
+  wrong =
+      other_outcome [] (data_o ∷ []) plain (with_file (file_of (header 263 0 2 0 0 0 1) [] (1 ∷ []) [])) data_wrong refl
+      (λ x. sum_by (λ (w : ℕ). w) x.file.data_words) refl;
 }
 
 -- the same with relocation: the relocation word of an absolute word says text
@@ -445,8 +463,11 @@ text_kept_others text_kept ne = absurd (ne refl)
 text_kept_others names ne = refl
 text_kept_others are_rows ne = refl
 text_kept_others table ne = refl
-text_kept_others text ne = only_object (λ before k. (i w : ℕ) (r : Reloc) → slice_get k.text_words i ≡ Some w → slice_get k.text_reloc i ≡ Some r → IsRelocated text_kept_wrong.file [] (text_o ∷ []) before k TextSeg i w r) text_o
-    (only_word (λ i w r. IsRelocated text_kept_wrong.file [] (text_o ∷ []) [] text_o TextSeg i w r) 1 (record { 0 = 0 }) (record { added = 0; is = refl; word = refl }))
+text_kept_others text ne =
+    only_object (λ before k. (i w : ℕ) (r : Reloc) → slice_get k.text_words i ≡ Some w →
+    slice_get k.text_reloc i ≡ Some r → IsRelocated text_kept_wrong.file [] (text_o ∷ []) before k TextSeg i w r) text_o
+    (only_word (λ i w r. IsRelocated text_kept_wrong.file [] (text_o ∷ []) [] text_o TextSeg i w r) 1 (record { 0 = 0 })
+    (record { added = 0; is = refl; word = refl }))
 text_kept_others «data» ne = wordless_data text_kept_wrong.file [] text_o refl
 text_kept_others data_kept ne = λ r. unkept_data text_kept_wrong.file [] 0 text_o refl
 text_kept_others multiples ne = ([], refl, refl)
@@ -463,7 +484,9 @@ text_kept_needed = record {
   rows = [];
   good = (as_object text_o refl refl refl refl refl refl refl refl, tt);
   others = text_kept_others;
-  wrong = other_outcome [] (text_o ∷ []) relocatable (record text_kept_wrong { file = record text_kept_wrong.file { text_reloc = relocs (0 ∷ []) } }) text_kept_wrong refl (λ x. sum_by (λ (r : Reloc). r.0) x.file.text_reloc) refl;
+  wrong = other_outcome [] (text_o ∷ []) relocatable (record text_kept_wrong {
+    file = record text_kept_wrong.file { text_reloc = relocs (0 ∷ []) };
+  }) text_kept_wrong refl (λ x. sum_by (λ (r : Reloc). r.0) x.file.text_reloc) refl;
 }
 
 abbrev data_kept_wrong : Outcome
@@ -475,8 +498,11 @@ data_kept_others names ne = refl
 data_kept_others are_rows ne = refl
 data_kept_others table ne = refl
 data_kept_others text ne = wordless_text data_kept_wrong.file [] data_o refl
-data_kept_others «data» ne = only_object (λ before k. (i w : ℕ) (r : Reloc) → slice_get k.data_words i ≡ Some w → slice_get k.data_reloc i ≡ Some r → IsRelocated data_kept_wrong.file [] (data_o ∷ []) before k DataSeg i w r) data_o
-    (only_word (λ i w r. IsRelocated data_kept_wrong.file [] (data_o ∷ []) [] data_o DataSeg i w r) 1 (record { 0 = 0 }) (record { added = 0; is = refl; word = refl }))
+data_kept_others «data» ne =
+    only_object (λ before k. (i w : ℕ) (r : Reloc) → slice_get k.data_words i ≡ Some w →
+    slice_get k.data_reloc i ≡ Some r → IsRelocated data_kept_wrong.file [] (data_o ∷ []) before k DataSeg i w r) data_o
+    (only_word (λ i w r. IsRelocated data_kept_wrong.file [] (data_o ∷ []) [] data_o DataSeg i w r) 1 (record { 0 = 0 })
+    (record { added = 0; is = refl; word = refl }))
 data_kept_others text_kept ne = λ r. unkept_text data_kept_wrong.file [] 0 data_o refl
 data_kept_others multiples ne = ([], refl, refl)
 data_kept_others reserved ne = nothing_reserved
@@ -492,7 +518,9 @@ data_kept_needed = record {
   rows = [];
   good = (as_object data_o refl refl refl refl refl refl refl refl, tt);
   others = data_kept_others;
-  wrong = other_outcome [] (data_o ∷ []) relocatable (record data_kept_wrong { file = record data_kept_wrong.file { data_reloc = relocs (0 ∷ []) } }) data_kept_wrong refl (λ x. sum_by (λ (r : Reloc). r.0) x.file.data_reloc) refl;
+  wrong = other_outcome [] (data_o ∷ []) relocatable (record data_kept_wrong {
+    file = record data_kept_wrong.file { data_reloc = relocs (0 ∷ []) };
+  }) data_kept_wrong refl (λ x. sum_by (λ (r : Reloc). r.0) x.file.data_reloc) refl;
 }
 
 -- with relocation nothing is reported undefined

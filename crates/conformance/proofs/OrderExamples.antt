@@ -1,5 +1,6 @@
 -- The law of order at the objects of docs/teaching/BLACKBOARD.md, and statements near it that do not hold.
-use Rattle.std.proofs.Common.{◌≡◌, ◌≢◌, ◌↔◌, ℕ, ◌≤◌, true, false, List, [], ◌∷◌, ◌++◌, length, Option, Some, None, refl, sym, ◌∙◌, ap, arith}
+use Rattle.std.proofs.Common.{◌≡◌, ◌≢◌, ◌↔◌, ℕ, ◌≤◌, true, false, List, [], ◌∷◌, ◌++◌, length}
+use Rattle.std.proofs.Common.{Option, Some, None, refl, sym, ◌∙◌, ap, arith}
 use Rattle.std.specs.Prelude.{Bool, not, ◌&&◌, eqb, replicate, filter, sum_by, slice_get, bytes_eq, codes, Ok, Err}
 use Rattle.std.specs.List.Sorted.{IsPermutation}
 use Rattle.std.proofs.lemmas.List.Sorted.{IsPermutation-refl, sum_by-IsPermutation}
@@ -24,8 +25,11 @@ use Rattle.link_out.specs.Results.{Outcome}
 use Rattle.link_out.specs.function.Link.{link}
 use Rattle.link_out.specs.Runs.{link_after}
 use Rattle.link_laws.specs.relation.Relocated.{entry_of as row_of, external_type}
-use Rattle.laws.specs.Orders.{additions, AreAdded, OrderAddsAlike, AreAlike, OrderLinksAlike, AreOrders, Meaning, definition, common, missing, Means, MeansTheSame, RefersAlike, OrderKeepsSizes, OrderReportsAlike, OrderFindsEntry, OrderKeepsMeanings, defines, OnceInAnyOrder}
-use Rattle.conformance.specs.Samples.{sym as entry, object, sized, d_o, _f, _g, _x, L1, _main, _twice, main_o, twice_o, count_o, g_o, x4_o, plain, plain_s, relocatable, with_entry}
+use Rattle.laws.specs.Orders.{additions, AreAdded, OrderAddsAlike, AreAlike, OrderLinksAlike, AreOrders, Meaning}
+use Rattle.laws.specs.Orders.{definition, common, missing, Means, MeansTheSame, RefersAlike, OrderKeepsSizes}
+use Rattle.laws.specs.Orders.{OrderReportsAlike, OrderFindsEntry, OrderKeepsMeanings, defines, OnceInAnyOrder}
+use Rattle.conformance.specs.Samples.{sym as entry, object, sized, d_o, _f, _g, _x, L1, _main, _twice, main_o, twice_o}
+use Rattle.conformance.specs.Samples.{count_o, g_o, x4_o, plain, plain_s, relocatable, with_entry}
 use Rattle.conformance.proofs.ClauseLemmas.{at_most_so}
 use Rattle.conformance.proofs.NeededPremises.{counts, all_kept, link_of, no_object}
 
@@ -91,25 +95,32 @@ OrdersGive Agree = (forced : List (List ℕ)) (os ps : List Contents) (o : Choic
 law_of_sizes : OrderKeepsSizes → OrdersGive (λ x y. (record x.file.header { entry_point = y.file.header.entry_point }) ≡ y.file.header)
 law_of_sizes law = law
 
-law_of_reports : OrderReportsAlike → OrdersGive (λ x y. (x.report.reserved ≡ y.report.reserved) × IsPermutation x.report.undefined y.report.undefined)
+law_of_reports : OrderReportsAlike →
+    OrdersGive (λ x y. (x.report.reserved ≡ y.report.reserved) × IsPermutation x.report.undefined y.report.undefined)
 law_of_reports law = law
 
-law_of_entries : OrderFindsEntry → (forced : List (List ℕ)) (os ps : List Contents) (o : Choices) (x y : Outcome) → AreOrders forced os ps o x y → x.report.multiples ≡ [] → x.report.entry_bad ≡ y.report.entry_bad
+law_of_entries : OrderFindsEntry → (forced : List (List ℕ)) (os ps : List Contents) (o : Choices) (x y : Outcome) →
+    AreOrders forced os ps o x y → x.report.multiples ≡ [] → x.report.entry_bad ≡ y.report.entry_bad
 law_of_entries law = law
 
 -- text differs, and so do the table, and the entry point
 same_words : OrdersGive (λ x y. x.file.text_words ≡ y.file.text_words) → ⊥
-same_words law = counts (λ ws. sum_by (λ (w : ℕ). w) ws) one.file.text_words other.file.text_words refl (law [] main_first twice_first plain one other two_orders)
+same_words law =
+    counts (λ ws. sum_by (λ (w : ℕ). w) ws) one.file.text_words other.file.text_words refl
+    (law [] main_first twice_first plain one other two_orders)
 
 same_table : OrdersGive (λ x y. x.file.symbols ≡ y.file.symbols) → ⊥
-same_table law = counts (λ ss. sum_by (λ (s : Symbol). s.value) ss) one.file.symbols other.file.symbols refl (law [] main_first twice_first plain one other two_orders)
+same_table law =
+    counts (λ ss. sum_by (λ (s : Symbol). s.value) ss) one.file.symbols other.file.symbols refl
+    (law [] main_first twice_first plain one other two_orders)
 
 same_headers : OrdersGive (λ x y. x.file.header ≡ y.file.header) → ⊥
 same_headers law =
     let o = with_entry _main plain in
     let x = link_of main_first o in
     let y = link_of twice_first o in
-    counts (λ h. h.entry_point) x.file.header y.file.header refl (law [] main_first twice_first o x y (record { same = first_two main_o twice_o (count_o ∷ []); one = refl; other = refl }))
+    counts (λ h. h.entry_point) x.file.header y.file.header refl
+    (law [] main_first twice_first o x y (record { same = first_two main_o twice_o (count_o ∷ []); one = refl; other = refl }))
 
 -- undefined names are in order of first mention
 abbrev f_o : Contents
@@ -122,7 +133,8 @@ same_undefined : OrdersGive (λ x y. x.report.undefined ≡ y.report.undefined) 
 same_undefined law =
     let x = link_of (f_o ∷ h_o ∷ []) plain in
     let y = link_of (h_o ∷ f_o ∷ []) plain in
-    let e : _f ∷ L1 ∷ [] ≡ L1 ∷ _f ∷ [] = law [] (f_o ∷ h_o ∷ []) (h_o ∷ f_o ∷ []) plain x y (record { same = first_two f_o h_o []; one = refl; other = refl }) in
+    let e : _f ∷ L1 ∷ [] ≡ L1 ∷ _f ∷ [] =
+    law [] (f_o ∷ h_o ∷ []) (h_o ∷ f_o ∷ []) plain x y (record { same = first_two f_o h_o []; one = refl; other = refl }) in
     let bad : _f ≡ L1 = cc in
     counts (λ (n : List ℕ). sum_by (λ (b : ℕ). b) n) _f L1 refl bad
 
@@ -137,7 +149,8 @@ same_multiples : OrdersGive (λ x y. x.report.multiples ≡ y.report.multiples) 
 same_multiples law =
     let x = link_of (empty_x ∷ word_x ∷ []) plain in
     let y = link_of (word_x ∷ empty_x ∷ []) plain in
-    let e : [] ≡ _x ∷ [] = law [] (empty_x ∷ word_x ∷ []) (word_x ∷ empty_x ∷ []) plain x y (record { same = first_two empty_x word_x []; one = refl; other = refl }) in
+    let e : [] ≡ _x ∷ [] = law [] (empty_x ∷ word_x ∷ []) (word_x ∷ empty_x ∷ []) plain x y
+    (record { same = first_two empty_x word_x []; one = refl; other = refl }) in
     absurd (cc)
 
 -- the entry point, where its name is multiply defined, in text and in data
@@ -152,32 +165,41 @@ entry_of_multiples law =
     let o = with_entry _f plain in
     let x = link_of (text_f ∷ data_f ∷ []) o in
     let y = link_of (data_f ∷ text_f ∷ []) o in
-    let e : None ≡ Some _f = law [] (text_f ∷ data_f ∷ []) (data_f ∷ text_f ∷ []) o x y (record { same = first_two text_f data_f []; one = refl; other = refl }) in
+    let e : None ≡ Some _f = law [] (text_f ∷ data_f ∷ []) (data_f ∷ text_f ∷ []) o x y
+    (record { same = first_two text_f data_f []; one = refl; other = refl }) in
     absurd (cc)
 
 -- with relocation a name may have a number in one order that a relocation word can hold, and not in the other
 abbrev pub many_locals : Contents
 many_locals = object (0 ∷ []) (0o10 ∷ []) [] [] 0 (entry _f 0o40 0 ∷ replicate 4095 (entry L1 2 0))
 
-refuses_with_relocation : ((forced : List (List ℕ)) (os ps : List Contents) (o : Choices) (fault : LinkFault) → IsPermutation os ps → link forced os o ≡ Err fault → link forced ps o ≡ Err fault) → ⊥
+refuses_with_relocation : ((forced : List (List ℕ)) (os ps : List Contents) (o : Choices) (fault : LinkFault) →
+    IsPermutation os ps → link forced os o ≡ Err fault → link forced ps o ≡ Err fault) → ⊥
 refuses_with_relocation law =
-    let bad : Ok (link_of (many_locals ∷ g_o ∷ []) relocatable) ≡ Err SymbolNumber = law [] (g_o ∷ many_locals ∷ []) (many_locals ∷ g_o ∷ []) relocatable SymbolNumber (first_two g_o many_locals []) refl in
+    let bad : Ok (link_of (many_locals ∷ g_o ∷ []) relocatable) ≡ Err SymbolNumber =
+    law [] (g_o ∷ many_locals ∷ []) (many_locals ∷ g_o ∷ []) relocatable SymbolNumber (first_two g_o many_locals []) refl in
     absurd (cc)
 
 -- what a name means, without one of the premises
 
 abbrev MeaningsKept : (Choices → Outcome → List (List ℕ) → List Contents → List ℕ → Type 0) → Type 0
-MeaningsKept Premise = (forced : List (List ℕ)) (os ps : List Contents) (o : Choices) (x y : Outcome) → AreOrders forced os ps o x y → (name : List ℕ) → Premise o x forced os name → MeansTheSame forced os ps o x y name
+MeaningsKept Premise =
+    (forced : List (List ℕ)) (os ps : List Contents) (o : Choices) (x y : Outcome) → AreOrders forced os ps o x y →
+    (name : List ℕ) → Premise o x forced os name → MeansTheSame forced os ps o x y name
 
 abbrev Premises : Choices → Outcome → List (List ℕ) → List Contents → List ℕ → Type 0
-Premises o x forced os name = (o.keep ≢ Nothing) × (o.relocatable ≡ false) × (x.report.multiples ≡ []) × (is_among (externals forced os) name ≡ true)
+Premises o x forced os name =
+    (o.keep ≢ Nothing) × (o.relocatable ≡ false) × (x.report.multiples ≡ []) × (is_among (externals forced os) name ≡ true)
 
 law_of_meanings : OrderKeepsMeanings → MeaningsKept Premises
 law_of_meanings law forced os ps o x y h name p = law forced os ps o x y h p.0 p.1 p.2 name p.3
 
 -- no table is written
-without_table : MeaningsKept (λ o x forced os name. (o.relocatable ≡ false) × (x.report.multiples ≡ []) × (is_among (externals forced os) name ≡ true)) → ⊥
-without_table law = none (law [] (g_o ∷ []) (g_o ∷ []) plain_s x x (record { same = IsPermutation-refl (g_o ∷ []); one = refl; other = refl }) _g (refl, refl, refl))
+without_table : MeaningsKept (λ o x forced os name. (o.relocatable ≡ false) × (x.report.multiples ≡ [])
+    × (is_among (externals forced os) name ≡ true)) → ⊥
+without_table law =
+    none (law [] (g_o ∷ []) (g_o ∷ []) plain_s x x
+    (record { same = IsPermutation-refl (g_o ∷ []); one = refl; other = refl }) _g (refl, refl, refl))
   where
     x : Outcome
     x = link_of (g_o ∷ []) plain_s
@@ -192,7 +214,8 @@ without_table law = none (law [] (g_o ∷ []) (g_o ∷ []) plain_s x x (record {
 
 -- the name is not mentioned
 without_mention : MeaningsKept (λ o x forced os name. (o.keep ≢ Nothing) × (o.relocatable ≡ false) × (x.report.multiples ≡ [])) → ⊥
-without_mention law = none (law [] [] [] plain x x (record { same = IsPermutation-refl []; one = refl; other = refl }) _g (all_kept, refl, refl))
+without_mention law =
+    none (law [] [] [] plain x x (record { same = IsPermutation-refl []; one = refl; other = refl }) _g (all_kept, refl, refl))
   where
     x : Outcome
     x = link_of [] plain
@@ -210,8 +233,11 @@ pub row_known : (a b : Symbol) → Some a ≡ Some b → a ≡ b
 row_known a b e = cc
 
 -- a name is defined in text in one order, and in data in the other
-where_multiple : MeaningsKept (λ o x forced os name. (o.keep ≢ Nothing) × (o.relocatable ≡ false) × (is_among (externals forced os) name ≡ true)) → ⊥
-where_multiple law = none (law [] (text_f ∷ data_f ∷ []) (data_f ∷ text_f ∷ []) plain x y (record { same = first_two text_f data_f []; one = refl; other = refl }) _f (all_kept, refl, refl))
+where_multiple : MeaningsKept (λ o x forced os name. (o.keep ≢ Nothing) × (o.relocatable ≡ false)
+    × (is_among (externals forced os) name ≡ true)) → ⊥
+where_multiple law =
+    none (law [] (text_f ∷ data_f ∷ []) (data_f ∷ text_f ∷ []) plain x y
+    (record { same = first_two text_f data_f []; one = refl; other = refl }) _f (all_kept, refl, refl))
   where
     x : Outcome
     x = link_of (text_f ∷ data_f ∷ []) plain
@@ -222,17 +248,26 @@ where_multiple law = none (law [] (text_f ∷ data_f ∷ []) (data_f ∷ text_f 
     none : MeansTheSame [] (text_f ∷ data_f ∷ []) (data_f ∷ text_f ∷ []) plain x y _f → ⊥
     none m = by_meaning m.meaning m.one m.other
       where
-        by_meaning : (meaning : Meaning) → Means [] (text_f ∷ data_f ∷ []) plain x.file _f meaning → Means [] (data_f ∷ text_f ∷ []) plain y.file _f meaning → ⊥
+        by_meaning : (meaning : Meaning) → Means [] (text_f ∷ data_f ∷ []) plain x.file _f meaning →
+            Means [] (data_f ∷ text_f ∷ []) plain y.file _f meaning → ⊥
         by_meaning (definition k s) h g =
             let a = row_known (entry _f 0o42 0) h.is.row (ap (λ (n : List ℕ). row_of x.file.symbols n) h.names ∙ h.is.found) in
             let b = row_known (entry _f 0o43 2) g.is.row (ap (λ (n : List ℕ). row_of y.file.symbols n) g.names ∙ g.is.found) in
-            counts (λ (n : ℕ). n) 0o42 0o43 refl (ap (λ (r : Symbol). r.type_bits) a ∙ h.is.type_bits ∙ sym g.is.type_bits ∙ sym (ap (λ (r : Symbol). r.type_bits) b))
-        by_meaning (common size) h g = counts (λ (n : ℕ). n) 0o42 0o44 refl (ap (λ (r : Symbol). r.type_bits) (row_known (entry _f 0o42 0) h.1.row h.1.found) ∙ h.1.type_bits)
-        by_meaning missing h g = counts (λ (r : Symbol). r.type_bits) (entry _f 0o42 0) (entry _f 0o40 0) refl (row_known (entry _f 0o42 0) (entry _f 0o40 0) h.1)
+            counts (λ (n : ℕ). n) 0o42 0o43 refl (ap (λ (r : Symbol). r.type_bits) a ∙ h.is.type_bits
+            ∙ sym g.is.type_bits ∙ sym (ap (λ (r : Symbol). r.type_bits) b))
+        by_meaning (common size) h g =
+            counts (λ (n : ℕ). n) 0o42 0o44 refl
+            (ap (λ (r : Symbol). r.type_bits) (row_known (entry _f 0o42 0) h.1.row h.1.found) ∙ h.1.type_bits)
+        by_meaning missing h g =
+            counts (λ (r : Symbol). r.type_bits) (entry _f 0o42 0) (entry _f 0o40 0) refl
+            (row_known (entry _f 0o42 0) (entry _f 0o40 0) h.1)
 
 -- with relocation a common has no room yet
-with_relocation : MeaningsKept (λ o x forced os name. (o.keep ≢ Nothing) × (x.report.multiples ≡ []) × (is_among (externals forced os) name ≡ true)) → ⊥
-with_relocation law = none (law [] (x4_o ∷ []) (x4_o ∷ []) relocatable x x (record { same = IsPermutation-refl (x4_o ∷ []); one = refl; other = refl }) _x (all_kept, refl, refl))
+with_relocation : MeaningsKept (λ o x forced os name. (o.keep ≢ Nothing) × (x.report.multiples ≡ [])
+    × (is_among (externals forced os) name ≡ true)) → ⊥
+with_relocation law =
+    none (law [] (x4_o ∷ []) (x4_o ∷ []) relocatable x x
+    (record { same = IsPermutation-refl (x4_o ∷ []); one = refl; other = refl }) _x (all_kept, refl, refl))
   where
     x : Outcome
     x = link_of (x4_o ∷ []) relocatable
@@ -252,7 +287,9 @@ with_relocation law = none (law [] (x4_o ∷ []) (x4_o ∷ []) relocatable x x (
         by_meaning (definition k s) h =
             let a = row_known (entry _x 0o40 4) h.is.row (ap (λ (n : List ℕ). row_of x.file.symbols n) h.names ∙ h.is.found) in
             undefined_type (segment_of s) (ap (λ (r : Symbol). r.type_bits) a ∙ h.is.type_bits)
-        by_meaning (common size) h = counts (λ (n : ℕ). n) 0o40 0o44 refl (ap (λ (r : Symbol). r.type_bits) (row_known (entry _x 0o40 4) h.1.row h.1.found) ∙ h.1.type_bits)
+        by_meaning (common size) h =
+            counts (λ (n : ℕ). n) 0o40 0o44 refl
+            (ap (λ (r : Symbol). r.type_bits) (row_known (entry _x 0o40 4) h.1.row h.1.found) ∙ h.1.type_bits)
         by_meaning missing h = let bad : 4 ≤ 0 = h.0.most.0 refl 4 refl in absurd (omega arith)
 
 -- commons are of the same size, and lie elsewhere
@@ -263,7 +300,8 @@ same_commons : OrdersGive (λ x y. row_of x.file.symbols _x ≡ row_of y.file.sy
 same_commons law =
     let x = link_of (x4_o ∷ f2_o ∷ []) plain in
     let y = link_of (f2_o ∷ x4_o ∷ []) plain in
-    let e : Some (entry _x 0o44 0) ≡ Some (entry _x 0o44 2) = law [] (x4_o ∷ f2_o ∷ []) (f2_o ∷ x4_o ∷ []) plain x y (record { same = first_two x4_o f2_o []; one = refl; other = refl }) in
+    let e : Some (entry _x 0o44 0) ≡ Some (entry _x 0o44 2) =
+    law [] (x4_o ∷ f2_o ∷ []) (f2_o ∷ x4_o ∷ []) plain x y (record { same = first_two x4_o f2_o []; one = refl; other = refl }) in
     counts (λ (r : Symbol). r.value) (entry _x 0o44 0) (entry _x 0o44 2) refl (row_known (entry _x 0o44 0) (entry _x 0o44 2) e)
 
 -- a name that two symbols define
@@ -271,7 +309,9 @@ abbrev DefineAtMost : ℕ → List Contents → Type 0
 DefineAtMost most os = (name : List ℕ) → sum_by (λ (k : Contents). length (filter (defines name) k.symbols)) os ≤ most
 
 abbrev SingleUpTo : ℕ → Type 0
-SingleUpTo most = (forced : List (List ℕ)) (os ps : List Contents) (o : Choices) (y : Outcome) → IsPermutation os ps → DefineAtMost most os → link forced ps o ≡ Ok y → y.report.multiples ≡ []
+SingleUpTo most =
+    (forced : List (List ℕ)) (os ps : List Contents) (o : Choices) (y : Outcome) → IsPermutation os ps →
+    DefineAtMost most os → link forced ps o ≡ Ok y → y.report.multiples ≡ []
 
 law_of_single_names : OnceInAnyOrder → SingleUpTo 1
 law_of_single_names law = law
@@ -285,7 +325,9 @@ single_where_two_define law =
     twice : DefineAtMost 2 (text_f ∷ data_f ∷ [])
     twice name = by_test (bytes_eq name _f)
       where
-        by_test : (t : Bool) → sum_by (λ (k : Contents). length (filter (λ s. is_external s && (not (eqb (masked_type s) 0) && t)) k.symbols)) (text_f ∷ data_f ∷ []) ≤ 2
+        by_test : (t : Bool) →
+            sum_by (λ (k : Contents). length (filter (λ s. is_external s && (not (eqb (masked_type s) 0) && t)) k.symbols))
+            (text_f ∷ data_f ∷ []) ≤ 2
         by_test true = at_most_so 2 2 refl
         by_test false = at_most_so 0 2 refl
 
@@ -293,14 +335,17 @@ single_where_two_define law =
 nothing_there : {v : ℕ} → (let none : Option ℕ = None in none) ≡ Some v → ⊥
 nothing_there e = cc
 
-referents_beside_others : ((forced : List (List ℕ)) (os ps : List Contents) (o : Choices) (x y : Outcome) → AreOrders forced os ps o x y → o.keep ≢ Nothing → o.relocatable ≡ false → x.report.multiples ≡ [] →
-    (before : List Contents) (k : Contents) (after : List Contents) → os ≡ before ++ k ∷ after → (front back : List Contents) → ps ≡ front ++ k ∷ back →
-    (segment : Segment) (i w : ℕ) (r : Reloc) → slice_get (segment_words segment k) i ≡ Some w → slice_get (segment_relocs segment k) i ≡ Some r →
-    RefersAlike forced os ps o x y before front k segment i w r) → ⊥
+referents_beside_others : ((forced : List (List ℕ)) (os ps : List Contents) (o : Choices) (x y : Outcome) →
+    AreOrders forced os ps o x y → o.keep ≢ Nothing → o.relocatable ≡ false → x.report.multiples ≡ [] →
+    (before : List Contents) (k : Contents) (after : List Contents) → os ≡ before ++ k ∷ after →
+    (front back : List Contents) → ps ≡ front ++ k ∷ back →
+    (segment : Segment) (i w : ℕ) (r : Reloc) → slice_get (segment_words segment k) i ≡ Some w →
+    slice_get (segment_relocs segment k) i ≡ Some r → RefersAlike forced os ps o x y before front k segment i w r) → ⊥
 referents_beside_others law =
     let os = no_object ∷ d_o ∷ [] in
     let x = link_of os plain in
-    nothing_there (law [] os os plain x x (record { same = IsPermutation-refl os; one = refl; other = refl }) all_kept refl refl (no_object ∷ []) d_o [] refl (no_object ∷ []) [] refl TextSeg 0 0o240 (record { 0 = 0 }) refl refl).one.word
+    nothing_there (law [] os os plain x x (record { same = IsPermutation-refl os; one = refl; other = refl }) all_kept refl
+    refl (no_object ∷ []) d_o [] refl (no_object ∷ []) [] refl TextSeg 0 0o240 (record { 0 = 0 }) refl refl).one.word
 
 -- ---- additions
 
@@ -357,8 +402,10 @@ AdditionsGive Agree = (forced : List (List ℕ)) (es ds : List Labelled) → IsP
 law_of_additions : OrderAddsAlike → AdditionsGive (λ forced es ds. AreAdded forced es ↔ AreAdded forced ds)
 law_of_additions law = law
 
-same_object_refused : AdditionsGive (λ forced es ds. first_refused es (answers forced (additions es)) ≡ first_refused ds (answers forced (additions ds))) → ⊥
-same_object_refused law = counts (λ (n : List ℕ). sum_by (λ (b : ℕ). b) n) (codes "tb.o") (codes "db.o") refl (law [] texts_first data_first texts_and_data)
+same_object_refused : AdditionsGive (λ forced es ds. first_refused es (answers forced (additions es))
+    ≡ first_refused ds (answers forced (additions ds))) → ⊥
+same_object_refused law =
+    counts (λ (n : List ℕ). sum_by (λ (b : ℕ). b) n) (codes "tb.o") (codes "db.o") refl (law [] texts_first data_first texts_and_data)
 
 same_limit : AdditionsGive (λ forced es ds. first_limit (answers forced (additions es)) ≡ first_limit (answers forced (additions ds))) → ⊥
 same_limit law =
@@ -369,7 +416,8 @@ same_limit law =
 same_objects_left : AdditionsGive (λ forced es ds. IsPermutation (survivors forced (additions es)) (survivors forced (additions ds))) → ⊥
 same_objects_left law =
     counts (λ (n : ℕ). n) 2 65534 refl
-    (sum_by-IsPermutation (λ (e : Labelled). e.object.header.text_size) (ta ∷ []) (tb ∷ []) (law [] (ta ∷ tb ∷ []) (tb ∷ ta ∷ []) (first_two ta tb [])))
+    (sum_by-IsPermutation (λ (e : Labelled). e.object.header.text_size) (ta ∷ []) (tb ∷ [])
+    (law [] (ta ∷ tb ∷ []) (tb ∷ ta ∷ []) (first_two ta tb [])))
 
 added_with_others : ((forced : List (List ℕ)) (es ds : List Labelled) → AreAdded forced es ↔ AreAdded forced ds) → ⊥
 added_with_others law = let bad : refused TextFull ≡ added = ((law [] [] (ta ∷ tb ∷ [])).0 tt).1.0 in cc
@@ -378,7 +426,9 @@ added_with_others law = let bad : refused TextFull ≡ added = ((law [] [] (ta �
 
 -- the links of what is left agree, where this is so
 abbrev LinkedAlikeWhere : (List (List ℕ) → List Labelled → Choices → Type 0) → Type 0
-LinkedAlikeWhere IsSo = (forced : List (List ℕ)) (es ds : List Labelled) (o : Choices) → IsPermutation es ds → IsSo forced es o → AreAlike (link_after forced (additions es) o) (link_after forced (additions ds) o)
+LinkedAlikeWhere IsSo =
+    (forced : List (List ℕ)) (es ds : List Labelled) (o : Choices) → IsPermutation es ds → IsSo forced es o →
+    AreAlike (link_after forced (additions es) o) (link_after forced (additions ds) o)
 
 law_of_links : OrderLinksAlike → LinkedAlikeWhere (λ forced es o. (o.relocatable ≡ false) × AreAdded forced es)
 law_of_links law forced es ds o same h = law forced es ds o same h.0 h.1

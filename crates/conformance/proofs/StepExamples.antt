@@ -41,9 +41,13 @@ use Rattle.conformance.proofs.StepRuns.{as_written, contents, links, run_of, sou
 -- what the law gives where these premises hold: of the two commands, of their options, and of the names
 abbrev StepsGive : (Run (List ℕ) (List ℕ) → Run (List ℕ) (List ℕ) → List ℕ → Type 0) → (Choices → Choices → Type 0) →
     (List (List ℕ) → List (List ℕ) → List Contents → List Contents → List Contents → Type 0) → Type 0
-StepsGive Between AreOptions AreNamed = (first second whole : Run (List ℕ) (List ℕ)) (own forced : List (List ℕ)) (by o : Choices) (m p q : List ℕ) (before parts after : List (List ℕ)) (bs os cs : List Contents) →
-    Links contents contents own by m parts first → Links contents contents forced o p (before ++ m ∷ after) second → Links contents contents forced o q (before ++ (parts ++ after)) whole →
-    AreAt first.disk parts os → AreAt second.disk before bs → AreAt second.disk after cs → AreAt whole.disk (before ++ (parts ++ after)) (bs ++ (os ++ cs)) →
+StepsGive Between AreOptions AreNamed =
+    (first second whole : Run (List ℕ) (List ℕ)) (own forced : List (List ℕ)) (by o : Choices) (m p q : List ℕ)
+    (before parts after : List (List ℕ)) (bs os cs : List Contents) →
+    Links contents contents own by m parts first → Links contents contents forced o p (before ++ m ∷ after) second →
+    Links contents contents forced o q (before ++ (parts ++ after)) whole →
+    AreAt first.disk parts os → AreAt second.disk before bs → AreAt second.disk after cs →
+    AreAt whole.disk (before ++ (parts ++ after)) (bs ++ (os ++ cs)) →
     Between first second m → AllByRecursion IsSound os → AllByRecursion IsName own → AreOptions by o → AreNamed own forced bs os cs →
     LeaveTheSame second p whole q × ReportTheSame contents second whole
 
@@ -57,8 +61,10 @@ abbrev NamesAgree : List (List ℕ) → List (List ℕ) → List Contents → Li
 NamesAgree own forced bs os cs = IsPart own forced × DefinesNoMultiple forced bs os cs
 
 law_of_steps : LinkStepsLaw contents contents → StepsGive IsIntact IsPartial NamesAgree
-law_of_steps law first second whole own forced by o m p q before parts after bs os cs first_links second_links whole_links parts_at before_at after_at all_at intact sound names fit named =
-    law first second whole own forced by o m p q before parts after bs os cs first_links second_links whole_links parts_at before_at after_at all_at intact sound names fit.0 fit.1 fit.2 named.0 named.1
+law_of_steps law first second whole own forced by o m p q before parts after bs os cs first_links second_links
+    whole_links parts_at before_at after_at all_at intact sound names fit named =
+    law first second whole own forced by o m p q before parts after bs os cs first_links second_links whole_links
+    parts_at before_at after_at all_at intact sound names fit.0 fit.1 fit.2 named.0 named.1
 
 -- ---- files, words and runs
 
@@ -123,27 +129,51 @@ whole_r_words = codes "ld" ∷ codes "-r" ∷ codes "-o" ∷ q ∷ a ∷ []
 
 partial_asks : AsksFor partial_words (Ld relocatable [] m_path (one a_path))
 unfolding clap_on_literals
-partial_asks = record { whole = (omega arith, refl, (omega arith, refl)); asked = (refl, rows_read partial_words, refl, (refl, refl, refl, refl)); dashes = refl }
+partial_asks = record {
+  whole = (omega arith, refl, (omega arith, refl));
+  asked = (refl, rows_read partial_words, refl, (refl, refl, refl, refl));
+  dashes = refl;
+}
 
 laying_asks : AsksFor laying_words (Ld relocatable_d [] m_path (one a_path))
 unfolding clap_on_literals
-laying_asks = record { whole = (omega arith, refl, (omega arith, refl)); asked = (refl, rows_read laying_words, refl, (refl, refl, refl, refl)); dashes = refl }
+laying_asks = record {
+  whole = (omega arith, refl, (omega arith, refl));
+  asked = (refl, rows_read laying_words, refl, (refl, refl, refl, refl));
+  dashes = refl;
+}
 
 last_asks : AsksFor last_words (Ld plain [] p_path (one m_path))
 unfolding clap_on_literals
-last_asks = record { whole = (omega arith, refl, (omega arith, refl)); asked = (refl, rows_read last_words, refl, (refl, refl, refl, refl)); dashes = refl }
+last_asks = record {
+  whole = (omega arith, refl, (omega arith, refl));
+  asked = (refl, rows_read last_words, refl, (refl, refl, refl, refl));
+  dashes = refl;
+}
 
 last_r_asks : AsksFor last_r_words (Ld relocatable [] p_path (one m_path))
 unfolding clap_on_literals
-last_r_asks = record { whole = (omega arith, refl, (omega arith, refl)); asked = (refl, rows_read last_r_words, refl, (refl, refl, refl, refl)); dashes = refl }
+last_r_asks = record {
+  whole = (omega arith, refl, (omega arith, refl));
+  asked = (refl, rows_read last_r_words, refl, (refl, refl, refl, refl));
+  dashes = refl;
+}
 
 pub whole_asks : AsksFor whole_words (Ld plain [] q_path (one a_path))
 unfolding clap_on_literals
-whole_asks = record { whole = (omega arith, refl, (omega arith, refl)); asked = (refl, rows_read whole_words, refl, (refl, refl, refl, refl)); dashes = refl }
+whole_asks = record {
+  whole = (omega arith, refl, (omega arith, refl));
+  asked = (refl, rows_read whole_words, refl, (refl, refl, refl, refl));
+  dashes = refl;
+}
 
 whole_r_asks : AsksFor whole_r_words (Ld relocatable [] q_path (one a_path))
 unfolding clap_on_literals
-whole_r_asks = record { whole = (omega arith, refl, (omega arith, refl)); asked = (refl, rows_read whole_r_words, refl, (refl, refl, refl, refl)); dashes = refl }
+whole_r_asks = record {
+  whole = (omega arith, refl, (omega arith, refl));
+  asked = (refl, rows_read whole_r_words, refl, (refl, refl, refl, refl));
+  dashes = refl;
+}
 
 -- what is kept of a file
 abbrev entry : List ℕ → Contents → Labelled
@@ -153,7 +183,12 @@ entry path file = record { label = path; object = file }
 abbrev made_of : List Contents → Choices → (ns : List (List ℕ)) → length ns < 2 ^ 63 → Linked
 made_of os o ns small = record {
   file = (outcome_of (link [] os o)).file;
-  report = record { multiples = vector ns small; reserved = vector [] (omega arith); entry_bad = None; undefined = vector [] (omega arith) };
+  report = record {
+    multiples = vector ns small;
+    reserved = vector [] (omega arith);
+    entry_bad = None;
+    undefined = vector [] (omega arith);
+  };
 }
 
 -- the file of the link of one object
@@ -166,7 +201,8 @@ one_file path file at = cond (bytes_eq at path) (Some (encoding file)) None
 
 -- a run of the words that link one file, of which nothing is reported
 abbrev pub run_on : List (List ℕ) → List ℕ → Contents → String Global → Choices → Run (List ℕ) (List ℕ)
-run_on words path file out o = run_of words (one_file path file) ((path, Some (encoding file)) ∷ []) out (made_of (file ∷ []) o [] (omega arith))
+run_on words path file out o =
+    run_of words (one_file path file) ((path, Some (encoding file)) ∷ []) out (made_of (file ∷ []) o [] (omega arith))
 
 module _ (path : String Global) (file : Contents) (out : String Global) (o : Choices) where
   abbrev name : List ℕ
@@ -175,8 +211,11 @@ module _ (path : String Global) (file : Contents) (out : String Global) (o : Cho
   abbrev made : Linked
   made = made_of (file ∷ []) o [] (omega arith)
 
-  pub run_links : (words : List (List ℕ)) → AsksFor words (Ld o [] out (one path)) → Ok file ≡ object_in (decode (encoding file)) → kept_with [] [] name (Ok file) ≡ Ok (entry name file ∷ []) → link [] (file ∷ []) o ≡ Ok (result_of made) →
-      linked [] ((name, encoding file) ∷ []) o ≡ Ok (result_of made) → Links contents contents [] o (string_bytes out) (name ∷ []) (run_on words name file out o)
+  pub run_links : (words : List (List ℕ)) → AsksFor words (Ld o [] out (one path)) →
+      Ok file ≡ object_in (decode (encoding file)) → kept_with [] [] name (Ok file) ≡ Ok (entry name file ∷ []) →
+      link [] (file ∷ []) o ≡ Ok (result_of made) →
+      linked [] ((name, encoding file) ∷ []) o ≡ Ok (result_of made) →
+      Links contents contents [] o (string_bytes out) (name ∷ []) (run_on words name file out o)
   run_links words asks found accepts is by_bytes =
       links words (one_file name file) ((name, Some (encoding file)) ∷ []) out made [] o (one path) asks (entry name file ∷ []) refl
       (entry name file ∷ [], record { works = refl; object = file; is_found = found; accepts = accepts }, refl) is by_bytes (there, tt)
@@ -184,7 +223,8 @@ module _ (path : String Global) (file : Contents) (out : String Global) (o : Cho
       there : IfSome (one_file name file name) (λ known. Some (encoding file) ≡ Some known)
       there = let same : bytes_eq name name ≡ true = (bytes_eq-Decides name name).1 refl in rw same refl
 
-pub file_there : (path : List ℕ) (file : Contents) → decode (encoding file) ≡ Ok file → one_file path file path ≡ Some (encoding file) → IsAt (one_file path file) path file
+pub file_there : (path : List ℕ) (file : Contents) → decode (encoding file) ≡ Ok file →
+    one_file path file path ≡ Some (encoding file) → IsAt (one_file path file) path file
 file_there path file read known = record { bytes = encoding file; known = known; read = read }
 
 -- the sum of what is known to be in a file
@@ -224,8 +264,10 @@ other_links = run_links m_path e_o p_path plain last_words last_asks refl refl r
 
 stored_between : StepsGive (λ first second m. Unit {0}) IsPartial NamesAgree → ⊥
 stored_between law =
-    let ends = law first_run other_run whole_run [] [] relocatable plain m p q [] (a ∷ []) [] [] (b_o ∷ []) [] first_links other_links whole_links
-    (file_there a b_o refl refl, tt) tt tt (file_there a b_o refl refl, tt) tt b_sound tt (refl, refl, λ name h. h) ((λ name h. h), none_multiple (b_o ∷ []) refl) in
+    let ends = law first_run other_run whole_run [] [] relocatable plain m p q [] (a ∷ []) [] []
+    (b_o ∷ []) [] first_links other_links whole_links
+    (file_there a b_o refl refl, tt) tt tt (file_there a b_o refl refl, tt) tt b_sound tt (refl, refl, λ name h. h)
+    ((λ name h. h), none_multiple (b_o ∷ []) refl) in
     counts (λ (it : Option (List ℕ)). bytes_in it) (file_after other_run p) (file_after whole_run q) refl (ends.0.one ∙ sym ends.0.two)
 
 -- commons that the first command lays out: a link that keeps relocation leaves those of the objects as they are
@@ -249,8 +291,10 @@ common_links = run_links a_path x4_o q_path relocatable whole_r_words whole_r_as
 
 commons_laid_before : StepsGive IsIntact (λ by o. (by.relocatable ≡ true) × KeepsNoMore o.keep by.keep) NamesAgree → ⊥
 commons_laid_before law =
-    let ends = law laying_run last_run common_run [] [] relocatable_d relocatable m p q [] (a ∷ []) [] [] (x4_o ∷ []) [] laying_links last_links common_links
-    (file_there a x4_o refl refl, tt) tt tt (file_there a x4_o refl refl, tt) refl (sound_file x4_o refl refl, tt) tt (refl, λ name h. h) ((λ name h. h), none_multiple (x4_o ∷ []) refl) in
+    let ends = law laying_run last_run common_run [] [] relocatable_d relocatable m p q [] (a ∷ []) [] []
+    (x4_o ∷ []) [] laying_links last_links common_links
+    (file_there a x4_o refl refl, tt) tt tt (file_there a x4_o refl refl, tt) refl (sound_file x4_o refl refl, tt) tt
+    (refl, λ name h. h) ((λ name h. h), none_multiple (x4_o ∷ []) refl) in
     counts (λ (it : Option (List ℕ)). bytes_in it) (file_after last_run p) (file_after common_run q) refl (ends.0.one ∙ sym ends.0.two)
 
 -- a name that two of the objects define: it is reported by the first command, and not by the second
@@ -268,11 +312,19 @@ whole_two_words = codes "ld" ∷ codes "-o" ∷ q ∷ a ∷ b ∷ []
 
 two_asks : AsksFor two_words (Ld relocatable [] m_path two)
 unfolding clap_on_literals
-two_asks = record { whole = (omega arith, refl, (omega arith, refl)); asked = (refl, rows_read two_words, refl, (refl, refl, refl, refl)); dashes = refl }
+two_asks = record {
+  whole = (omega arith, refl, (omega arith, refl));
+  asked = (refl, rows_read two_words, refl, (refl, refl, refl, refl));
+  dashes = refl;
+}
 
 whole_two_asks : AsksFor whole_two_words (Ld plain [] q_path two)
 unfolding clap_on_literals
-whole_two_asks = record { whole = (omega arith, refl, (omega arith, refl)); asked = (refl, rows_read whole_two_words, refl, (refl, refl, refl, refl)); dashes = refl }
+whole_two_asks = record {
+  whole = (omega arith, refl, (omega arith, refl));
+  asked = (refl, rows_read whole_two_words, refl, (refl, refl, refl, refl));
+  dashes = refl;
+}
 
 abbrev two_files : Disk
 two_files at = cond (bytes_eq at a) (Some (encoding d_o)) (cond (bytes_eq at b) (Some (encoding d2_o)) None)
@@ -297,10 +349,14 @@ abbrev run_two : List (List ℕ) → String Global → Choices → Run (List ℕ
 run_two words out o = run_of words two_files found_two out (made_two o)
 
 two_links : Links contents contents [] relocatable m (a ∷ b ∷ []) (run_two two_words m_path relocatable)
-two_links = links two_words two_files found_two m_path (made_two relocatable) [] relocatable two two_asks kept_two refl taken_two refl refl (refl, (refl, tt))
+two_links =
+    links two_words two_files found_two m_path (made_two relocatable) [] relocatable two two_asks kept_two refl
+    taken_two refl refl (refl, (refl, tt))
 
 whole_two_links : Links contents contents [] plain q (a ∷ b ∷ []) (run_two whole_two_words q_path plain)
-whole_two_links = links whole_two_words two_files found_two q_path (made_two plain) [] plain two whole_two_asks kept_two refl taken_two refl refl (refl, (refl, tt))
+whole_two_links =
+    links whole_two_words two_files found_two q_path (made_two plain) [] plain two whole_two_asks kept_two refl
+    taken_two refl refl (refl, (refl, tt))
 
 abbrev last_two_run : Run (List ℕ) (List ℕ)
 last_two_run = run_on last_words m (made_two relocatable).file p_path plain
@@ -313,7 +369,8 @@ are_two = (record { bytes = encoding d_o; known = refl; read = refl }, (record {
 
 names_defined_twice : StepsGive IsIntact IsPartial (λ own forced bs os cs. IsPart own forced) → ⊥
 names_defined_twice law =
-    let ends = law (run_two two_words m_path relocatable) last_two_run (run_two whole_two_words q_path plain) [] [] relocatable plain m p q [] (a ∷ b ∷ []) [] [] both [] two_links last_two_links whole_two_links
+    let ends = law (run_two two_words m_path relocatable) last_two_run (run_two whole_two_words q_path plain) [] []
+    relocatable plain m p q [] (a ∷ b ∷ []) [] [] both [] two_links last_two_links whole_two_links
     are_two tt tt are_two refl (sound_file d_o refl refl, (sound_file d2_o refl refl, tt)) tt (refl, refl, λ name h. h) (λ name h. h) in
     let bad : 0 ≡ 1 = ends.1.status in
     counts (λ (n : ℕ). n) 0 1 refl bad
@@ -324,7 +381,11 @@ dropping_words = codes "ld" ∷ codes "-r" ∷ codes "-x" ∷ codes "-o" ∷ m �
 
 dropping_asks : AsksFor dropping_words (Ld (with_keep Externals relocatable) [] m_path (one a_path))
 unfolding clap_on_literals
-dropping_asks = record { whole = (omega arith, refl, (omega arith, refl)); asked = (refl, rows_read dropping_words, refl, (refl, refl, refl, refl)); dashes = refl }
+dropping_asks = record {
+  whole = (omega arith, refl, (omega arith, refl));
+  asked = (refl, rows_read dropping_words, refl, (refl, refl, refl, refl));
+  dashes = refl;
+}
 
 abbrev dropping_run : Run (List ℕ) (List ℕ)
 dropping_run = run_on dropping_words a local_o m_path (with_keep Externals relocatable)
@@ -336,7 +397,8 @@ abbrev without_local : Run (List ℕ) (List ℕ)
 without_local = run_on last_words m (link_file local_o (with_keep Externals relocatable)) p_path plain
 
 without_local_links : Links contents contents [] plain p (m ∷ []) without_local
-without_local_links = run_links m_path (link_file local_o (with_keep Externals relocatable)) p_path plain last_words last_asks refl refl refl refl
+without_local_links =
+    run_links m_path (link_file local_o (with_keep Externals relocatable)) p_path plain last_words last_asks refl refl refl refl
 
 abbrev with_local : Run (List ℕ) (List ℕ)
 with_local = run_on whole_words a local_o q_path plain
@@ -346,8 +408,10 @@ with_local_links = run_links a_path local_o q_path plain whole_words whole_asks 
 
 locals_dropped_before : StepsGive IsIntact (λ by o. (by.relocatable ≡ true) × (by.force_commons ≡ false)) NamesAgree → ⊥
 locals_dropped_before law =
-    let ends = law dropping_run without_local with_local [] [] (with_keep Externals relocatable) plain m p q [] (a ∷ []) [] [] (local_o ∷ []) [] dropping_links without_local_links with_local_links
-    (file_there a local_o refl refl, tt) tt tt (file_there a local_o refl refl, tt) refl (sound_file local_o refl refl, tt) tt (refl, refl) ((λ name h. h), none_multiple (local_o ∷ []) refl) in
+    let ends = law dropping_run without_local with_local [] [] (with_keep Externals relocatable) plain m p q []
+    (a ∷ []) [] [] (local_o ∷ []) [] dropping_links without_local_links with_local_links
+    (file_there a local_o refl refl, tt) tt tt (file_there a local_o refl refl, tt) refl
+    (sound_file local_o refl refl, tt) tt (refl, refl) ((λ name h. h), none_multiple (local_o ∷ []) refl) in
     counts (λ (it : Option (List ℕ)). bytes_in it) (file_after without_local p) (file_after with_local q) refl (ends.0.one ∙ sym ends.0.two)
 
 -- a name that is forced in the first command alone: it stays in the table
@@ -356,7 +420,11 @@ forcing_words = codes "ld" ∷ codes "-r" ∷ codes "-u" ∷ _g ∷ codes "-o" �
 
 forcing_asks : AsksFor forcing_words (Ld relocatable (_g ∷ []) m_path (one a_path))
 unfolding clap_on_literals
-forcing_asks = record { whole = (omega arith, refl, (omega arith, refl)); asked = (refl, rows_read forcing_words, refl, (refl, refl, refl, refl)); dashes = refl }
+forcing_asks = record {
+  whole = (omega arith, refl, (omega arith, refl));
+  asked = (refl, rows_read forcing_words, refl, (refl, refl, refl, refl));
+  dashes = refl;
+}
 
 abbrev forced_made : Linked
 forced_made = record (made_of (b_o ∷ []) relocatable [] (omega arith)) { file = (outcome_of (link (_g ∷ []) (b_o ∷ []) relocatable)).file }
@@ -366,7 +434,8 @@ forcing_run = run_of forcing_words (one_file a b_o) ((a, Some (encoding b_o)) �
 
 forcing_links : Links contents contents (_g ∷ []) relocatable m (a ∷ []) forcing_run
 forcing_links =
-    links forcing_words (one_file a b_o) ((a, Some (encoding b_o)) ∷ []) m_path forced_made (_g ∷ []) relocatable (one a_path) forcing_asks (entry a b_o ∷ []) refl
+    links forcing_words (one_file a b_o) ((a, Some (encoding b_o)) ∷ []) m_path forced_made (_g ∷ []) relocatable
+    (one a_path) forcing_asks (entry a b_o ∷ []) refl
     (entry a b_o ∷ [], record { works = refl; object = b_o; is_found = refl; accepts = refl }, refl) refl refl (refl, tt)
 
 abbrev with_name : Run (List ℕ) (List ℕ)
@@ -383,8 +452,10 @@ without_name_links = run_links a_path b_o q_path relocatable whole_r_words whole
 
 names_forced_before : StepsGive IsIntact IsPartial (λ own forced bs os cs. DefinesNoMultiple forced bs os cs) → ⊥
 names_forced_before law =
-    let ends = law forcing_run with_name without_name (_g ∷ []) [] relocatable relocatable m p q [] (a ∷ []) [] [] (b_o ∷ []) [] forcing_links with_name_links without_name_links
-    (file_there a b_o refl refl, tt) tt tt (file_there a b_o refl refl, tt) refl b_sound (g_name, tt) (refl, refl, λ name h. h) (none_multiple (b_o ∷ []) refl) in
+    let ends = law forcing_run with_name without_name (_g ∷ []) [] relocatable relocatable m p q [] (a ∷ []) [] []
+    (b_o ∷ []) [] forcing_links with_name_links without_name_links
+    (file_there a b_o refl refl, tt) tt tt (file_there a b_o refl refl, tt) refl b_sound (g_name, tt)
+    (refl, refl, λ name h. h) (none_multiple (b_o ∷ []) refl) in
     counts (λ (it : Option (List ℕ)). bytes_in it) (file_after with_name p) (file_after without_name q) refl (ends.0.one ∙ sym ends.0.two)
 
 -- ---- the law at a sample
@@ -392,6 +463,8 @@ names_forced_before law =
 -- where all premises hold: the file that is linked and the one that is linked in two steps
 one_in_steps : LinkStepsLaw contents contents → LeaveTheSame (run_on last_words m (link_file b_o relocatable) p_path plain) p whole_run q
 one_in_steps law =
-    (law first_run (run_on last_words m (link_file b_o relocatable) p_path plain) whole_run [] [] relocatable plain m p q [] (a ∷ []) [] [] (b_o ∷ []) [] first_links
+    (law first_run (run_on last_words m (link_file b_o relocatable) p_path plain) whole_run [] [] relocatable plain m p
+    q [] (a ∷ []) [] [] (b_o ∷ []) [] first_links
     (run_links m_path (link_file b_o relocatable) p_path plain last_words last_asks refl refl refl refl) whole_links
-    (file_there a b_o refl refl, tt) tt tt (file_there a b_o refl refl, tt) refl b_sound tt refl refl (λ name h. h) (λ name h. h) (none_multiple (b_o ∷ []) refl)).0
+    (file_there a b_o refl refl, tt) tt tt (file_there a b_o refl refl, tt) refl b_sound tt refl refl (λ name h. h)
+    (λ name h. h) (none_multiple (b_o ∷ []) refl)).0

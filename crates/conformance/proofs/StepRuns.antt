@@ -1,6 +1,7 @@
 -- Runs of ld, made of the files that it opens and the link that it makes, for examples of commands in steps.
 use Rattle.std.specs.declared.alloc.Global.{Global}
-use Rattle.std.proofs.Common.{◌≡◌, ℕ, ◌<◌, ◌≤◌, ◌^◌, Bool, true, false, List, [], ◌∷◌, ◌++◌, map, length, Option, Some, None, Ok, refl, ap, arith, inr}
+use Rattle.std.proofs.Common.{◌≡◌, ℕ, ◌<◌, ◌≤◌, ◌^◌, Bool, true, false, List, [], ◌∷◌, ◌++◌, map, length}
+use Rattle.std.proofs.Common.{Option, Some, None, Ok, refl, ap, arith, inr}
 use Rattle.std.specs.Prelude.{IfSome, String, Vec, encode_utf8_all, eqb, nat_lt, if◌then◌else◌, string_bytes}
 use denote.RawPtr.{null_ptr}
 use Rattle.std.proofs.lemmas.Str.{encode_ascii}
@@ -33,7 +34,8 @@ heap = record { memory = record { seal = tt } }
 
 -- a vector of these
 abbrev pub vector : {A : Type 0} (xs : List A) → length xs < 2 ^ 63 → Vec A Global
-vector xs small = record { ptr = null_ptr; len = length xs; cap = length xs; alloc = heap; items = xs; ok = (refl, omega arith); small = small }
+vector xs small =
+    record { ptr = null_ptr; len = length xs; cap = length xs; alloc = heap; items = xs; ok = (refl, omega arith); small = small }
 
 -- a letter is written as itself
 pub as_written : (c : ℕ) → c < 128 → encode_utf8_all (c ∷ []) ≡ c ∷ []
@@ -77,7 +79,8 @@ module _ (words : List (List ℕ)) (disk : Disk) (found : List Opened) (out : St
 
   module _ (forced : List (List ℕ)) (o : Choices) (files : Vec (String Global) Global) (asks : AsksFor words (Ld o forced out files)) where
     -- it does what the contract of `perform` says
-    pub links : (kept : List Labelled) → paths_of found ≡ map string_bytes files.items → TakesAll forced [] (inputs_opened found) kept → link forced (objects kept) o ≡ Ok (outcome_of made) →
+    pub links : (kept : List Labelled) → paths_of found ≡ map string_bytes files.items →
+        TakesAll forced [] (inputs_opened found) kept → link forced (objects kept) o ≡ Ok (outcome_of made) →
         IfSome (known_inputs (inputs_opened found)) (λ bytes. linked forced bytes o ≡ Ok (outcome_of made)) → IsOn disk asked →
         Links contents contents forced o (string_bytes out) (map string_bytes files.items) run_of
     links kept all taken is bytes on_disk = record {
@@ -94,7 +97,11 @@ module _ (words : List (List ℕ)) (disk : Disk) (found : List Opened) (out : St
               found = found;
               answer = record { all = all; link = record { over = record { kept = kept; taken = taken; link = is }; bytes = bytes } };
               asked = refl;
-              reports = record { status = refl; write_failed = tt; writes = record { fault = ((λ e. e), (λ e. e)); latched = λ failed. absurd (cc); bytes = refl } };
+              reports = record {
+                status = refl;
+                write_failed = tt;
+                writes = record { fault = ((λ e. e), (λ e. e)); latched = λ failed. absurd (cc); bytes = refl };
+              };
             })));
           }),
           (refl, refl),
@@ -105,5 +112,6 @@ module _ (words : List (List ℕ)) (disk : Disk) (found : List Opened) (out : St
     }
 
 -- a file that is read back from its encoding is sound
-pub sound_file : (file : Contents) → list_all (λ (b : ℕ). nat_lt b 256) (encoding file) ≡ true → decode (encoding file) ≡ Ok file → IsSound file
+pub sound_file : (file : Contents) → list_all (λ (b : ℕ). nat_lt b 256) (encoding file) ≡ true →
+    decode (encoding file) ≡ Ok file → IsSound file
 sound_file file bytes read = decoded_sound (encoding file) file (below (encoding file) bytes) read

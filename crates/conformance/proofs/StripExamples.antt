@@ -19,16 +19,20 @@ use Rattle.laws.specs.StepsByCommands.{AreAt, LeaveTheSame, Links, ReportTheSame
 use Rattle.conformance.specs.Samples.{d_o, e_o, plain, plain_s}
 use Rattle.conformance.proofs.NeededPremises.{counts}
 use Rattle.conformance.proofs.StepRuns.{contents, holding, sound_file}
-use Rattle.conformance.proofs.StepExamples.{IsIntact, a, a_path, bytes_in, file_there, link_file, one, one_file, p, p_path, q, q_path, rows_read, run_links, run_on, whole_asks, whole_words}
+use Rattle.conformance.proofs.StepExamples.{IsIntact, a, a_path, bytes_in, file_there, link_file, one, one_file, p}
+use Rattle.conformance.proofs.StepExamples.{p_path, q, q_path, rows_read, run_links, run_on, whole_asks, whole_words}
 
 -- ---- the law, by its premises
 
 -- what the law gives where this holds of the two commands, and the whole link has these options
 abbrev StripGives : (Run (List ℕ) (List ℕ) → Run (List ℕ) (List ℕ) → List ℕ → Type 0) → (Choices → Choices) → Type 0
-StripGives Between at_once = (linked strip whole : Run (List ℕ) (List ℕ)) (forced : List (List ℕ)) (o : Choices) (p q : List ℕ) (paths : List (List ℕ)) (os : List Contents) →
-    Links contents contents forced o p paths linked → Strips contents contents p strip → Links contents contents forced (at_once o) q paths whole →
-    AreAt linked.disk paths os → AreAt whole.disk paths os → Between linked strip p → AllByRecursion IsSound os → AllByRecursion IsName forced →
-    LeaveTheSame strip p whole q × ReportTheSame contents linked whole × (strip.status ≡ 0)
+StripGives Between at_once =
+    (linked strip whole : Run (List ℕ) (List ℕ)) (forced : List (List ℕ)) (o : Choices) (p q : List ℕ)
+    (paths : List (List ℕ)) (os : List Contents) →
+    Links contents contents forced o p paths linked → Strips contents contents p strip →
+    Links contents contents forced (at_once o) q paths whole →
+    AreAt linked.disk paths os → AreAt whole.disk paths os → Between linked strip p → AllByRecursion IsSound os →
+    AllByRecursion IsName forced → LeaveTheSame strip p whole q × ReportTheSame contents linked whole × (strip.status ≡ 0)
 
 abbrev without_symbols : Choices → Choices
 without_symbols o = record o { keep = Nothing }
@@ -50,7 +54,11 @@ at_once_words = codes "ld" ∷ codes "-s" ∷ codes "-o" ∷ q ∷ a ∷ []
 
 link_asks : AsksFor link_words (Ld plain [] p_path (one a_path))
 unfolding clap_on_literals
-link_asks = record { whole = (omega arith, refl, (omega arith, refl)); asked = (refl, rows_read link_words, refl, (refl, refl, refl, refl)); dashes = refl }
+link_asks = record {
+  whole = (omega arith, refl, (omega arith, refl));
+  asked = (refl, rows_read link_words, refl, (refl, refl, refl, refl));
+  dashes = refl;
+}
 
 strip_asks : AsksFor strip_words (Strip (one p_path))
 unfolding clap_on_literals
@@ -58,7 +66,11 @@ strip_asks = record { whole = omega arith; asked = (refl, rows_read strip_words,
 
 at_once_asks : AsksFor at_once_words (Ld plain_s [] q_path (one a_path))
 unfolding clap_on_literals
-at_once_asks = record { whole = (omega arith, refl, (omega arith, refl)); asked = (refl, rows_read at_once_words, refl, (refl, refl, refl, refl)); dashes = refl }
+at_once_asks = record {
+  whole = (omega arith, refl, (omega arith, refl));
+  asked = (refl, rows_read at_once_words, refl, (refl, refl, refl, refl));
+  dashes = refl;
+}
 
 -- a run of strip on p, where this file is
 abbrev strip_on : Contents → Run (List ℕ) (List ℕ)
@@ -85,7 +97,12 @@ strips file read = record {
         call = Strip (one p_path);
         asks = strip_asks;
         run = (
-          inr ((p_path, file) ∷ [], Some (opened p (Some (Some (encoding file))) ∷ []), (refl, record { found = (p, Some (encoding file)) ∷ []; read = ((refl, read), tt); asked = refl }), (refl, refl)),
+          inr (
+            (p_path, file) ∷ [],
+            Some (opened p (Some (Some (encoding file))) ∷ []),
+            (refl, record { found = (p, Some (encoding file)) ∷ []; read = ((refl, read), tt); asked = refl }),
+            (refl, refl),
+          ),
           refl,
         );
       }),
@@ -122,14 +139,17 @@ d_sound = (sound_file d_o refl refl, tt)
 -- something else is stored at p between the two
 stored_between : StripGives (λ linked strip p. Unit {0}) without_symbols → ⊥
 stored_between law =
-    let ends = law link_run (strip_on e_o) at_once_run [] plain p q (a ∷ []) (d_o ∷ []) links (strips e_o refl) links_at_once (file_there a d_o refl refl, tt) (file_there a d_o refl refl, tt) tt d_sound tt in
-    counts (λ (it : Option (List ℕ)). bytes_in it) (file_after (strip_on e_o) p) (file_after at_once_run q) refl (ends.0.one ∙ sym ends.0.two)
+    let ends = law link_run (strip_on e_o) at_once_run [] plain p q (a ∷ []) (d_o ∷ []) links
+    (strips e_o refl) links_at_once (file_there a d_o refl refl, tt) (file_there a d_o refl refl, tt) tt d_sound tt in
+    counts (λ (it : Option (List ℕ)). bytes_in it) (file_after (strip_on e_o) p) (file_after at_once_run q) refl
+    (ends.0.one ∙ sym ends.0.two)
 
 -- the link at once keeps its symbols
 symbols_kept : StripGives IsIntact (λ o. o) → ⊥
 symbols_kept law =
     let whole = run_on whole_words a d_o q_path plain in
-    let ends = law link_run strip_run whole [] plain p q (a ∷ []) (d_o ∷ []) links strips_link (run_links a_path d_o q_path plain whole_words whole_asks refl refl refl refl)
+    let ends = law link_run strip_run whole [] plain p q (a ∷ []) (d_o ∷ []) links strips_link
+    (run_links a_path d_o q_path plain whole_words whole_asks refl refl refl refl)
     (file_there a d_o refl refl, tt) (file_there a d_o refl refl, tt) refl d_sound tt in
     counts (λ (it : Option (List ℕ)). bytes_in it) (file_after strip_run p) (file_after whole q) refl (ends.0.one ∙ sym ends.0.two)
 
@@ -138,4 +158,5 @@ symbols_kept law =
 -- where all premises hold: the program that is stripped and the one that is linked with `-s`
 stripped_at_once : StripStepsLaw contents contents → LeaveTheSame strip_run p at_once_run q
 stripped_at_once law =
-    (law link_run strip_run at_once_run [] plain p q (a ∷ []) (d_o ∷ []) links strips_link links_at_once (file_there a d_o refl refl, tt) (file_there a d_o refl refl, tt) refl d_sound tt).0
+    (law link_run strip_run at_once_run [] plain p q (a ∷ []) (d_o ∷ []) links strips_link links_at_once
+    (file_there a d_o refl refl, tt) (file_there a d_o refl refl, tt) refl d_sound tt).0

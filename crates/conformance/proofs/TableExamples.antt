@@ -7,15 +7,19 @@ use Rattle.instructions.specs.Rows.{begins, row_of}
 use Rattle.instructions.specs.Lines.{lines}
 use Rattle.instructions.specs.Laws.{lines_text}
 
-no_operands : lines_text 0 (lines (0o000241 ∷ 0o000242 ∷ 0o000244 ∷ 0o000250 ∷ 0o000261 ∷ 0o000262 ∷ 0o000264 ∷ 0o000270 ∷ [])) ≡ codes "clc\nclv\nclz\ncln\nsec\nsev\nsez\nsen\n"
+no_operands : lines_text 0 (lines (0o000241 ∷ 0o000242 ∷ 0o000244 ∷ 0o000250 ∷ 0o000261 ∷ 0o000262 ∷ 0o000264 ∷ 0o000270 ∷ []))
+    ≡ codes "clc\nclv\nclz\ncln\nsec\nsev\nsez\nsen\n"
 unfolding row_of begins digits
 no_operands = refl
 
-no_operands_of_the_machine : lines_text 0 (lines (0o000000 ∷ 0o000001 ∷ 0o000002 ∷ 0o000003 ∷ 0o000004 ∷ 0o000005 ∷ 0o000006 ∷ 0o000240 ∷ 0o000257 ∷ 0o000277 ∷ [])) ≡ codes "halt\nwait\nrti\nbpt\niot\nreset\nrtt\nnop\nccc\nscc\n"
+no_operands_of_the_machine : lines_text 0
+    (lines (0o000000 ∷ 0o000001 ∷ 0o000002 ∷ 0o000003 ∷ 0o000004 ∷ 0o000005 ∷ 0o000006 ∷ 0o000240 ∷ 0o000257 ∷ 0o000277 ∷ []))
+    ≡ codes "halt\nwait\nrti\nbpt\niot\nreset\nrtt\nnop\nccc\nscc\n"
 unfolding row_of begins digits
 no_operands_of_the_machine = refl
 
-no_operands_floating : lines_text 0 (lines (0o170000 ∷ 0o170001 ∷ 0o170002 ∷ 0o170011 ∷ 0o170012 ∷ [])) ≡ codes "cfcc\nsetf\nseti\nsetd\nsetl\n"
+no_operands_floating : lines_text 0 (lines (0o170000 ∷ 0o170001 ∷ 0o170002 ∷ 0o170011 ∷ 0o170012 ∷ []))
+    ≡ codes "cfcc\nsetf\nseti\nsetd\nsetl\n"
 unfolding row_of begins digits
 no_operands_floating = refl
 
@@ -23,15 +27,19 @@ jumps : lines_text 0 (lines (0o000111 ∷ 0o000302 ∷ [])) ≡ codes "jmp (r1)\
 unfolding row_of begins digits
 jumps = refl
 
-one_operand : lines_text 0 (lines (0o005002 ∷ 0o105002 ∷ 0o005102 ∷ 0o105102 ∷ 0o005202 ∷ 0o105202 ∷ 0o005302 ∷ 0o105302 ∷ [])) ≡ codes "clr r2\nclrb r2\ncom r2\ncomb r2\ninc r2\nincb r2\ndec r2\ndecb r2\n"
+one_operand : lines_text 0 (lines (0o005002 ∷ 0o105002 ∷ 0o005102 ∷ 0o105102 ∷ 0o005202 ∷ 0o105202 ∷ 0o005302 ∷ 0o105302 ∷ []))
+    ≡ codes "clr r2\nclrb r2\ncom r2\ncomb r2\ninc r2\nincb r2\ndec r2\ndecb r2\n"
 unfolding row_of begins digits
 one_operand = refl
 
-one_operand_with_carry : lines_text 0 (lines (0o005402 ∷ 0o105402 ∷ 0o005502 ∷ 0o105502 ∷ 0o005602 ∷ 0o105602 ∷ 0o005702 ∷ 0o105702 ∷ [])) ≡ codes "neg r2\nnegb r2\nadc r2\nadcb r2\nsbc r2\nsbcb r2\ntst r2\ntstb r2\n"
+one_operand_with_carry : lines_text 0
+    (lines (0o005402 ∷ 0o105402 ∷ 0o005502 ∷ 0o105502 ∷ 0o005602 ∷ 0o105602 ∷ 0o005702 ∷ 0o105702 ∷ []))
+    ≡ codes "neg r2\nnegb r2\nadc r2\nadcb r2\nsbc r2\nsbcb r2\ntst r2\ntstb r2\n"
 unfolding row_of begins digits
 one_operand_with_carry = refl
 
-shifts : lines_text 0 (lines (0o006002 ∷ 0o106002 ∷ 0o006102 ∷ 0o106102 ∷ 0o006202 ∷ 0o106202 ∷ 0o006302 ∷ 0o106302 ∷ 0o006702 ∷ [])) ≡ codes "ror r2\nrorb r2\nrol r2\nrolb r2\nasr r2\nasrb r2\nasl r2\naslb r2\nsxt r2\n"
+shifts : lines_text 0 (lines (0o006002 ∷ 0o106002 ∷ 0o006102 ∷ 0o106102 ∷ 0o006202 ∷ 0o106202 ∷ 0o006302 ∷ 0o106302 ∷ 0o006702 ∷ []))
+    ≡ codes "ror r2\nrorb r2\nrol r2\nrolb r2\nasr r2\nasrb r2\nasl r2\naslb r2\nsxt r2\n"
 unfolding row_of begins digits
 shifts = refl
 
@@ -43,11 +51,13 @@ floating_status : lines_text 0 (lines (0o170102 ∷ 0o170202 ∷ 0o170302 ∷ []
 unfolding row_of begins digits
 floating_status = refl
 
-two_operands : lines_text 0 (lines (0o010102 ∷ 0o110102 ∷ 0o020102 ∷ 0o120102 ∷ 0o030102 ∷ 0o130102 ∷ [])) ≡ codes "mov r1,r2\nmovb r1,r2\ncmp r1,r2\ncmpb r1,r2\nbit r1,r2\nbitb r1,r2\n"
+two_operands : lines_text 0 (lines (0o010102 ∷ 0o110102 ∷ 0o020102 ∷ 0o120102 ∷ 0o030102 ∷ 0o130102 ∷ []))
+    ≡ codes "mov r1,r2\nmovb r1,r2\ncmp r1,r2\ncmpb r1,r2\nbit r1,r2\nbitb r1,r2\n"
 unfolding row_of begins digits
 two_operands = refl
 
-two_operands_logical : lines_text 0 (lines (0o040102 ∷ 0o140102 ∷ 0o050102 ∷ 0o150102 ∷ 0o060102 ∷ 0o160102 ∷ [])) ≡ codes "bic r1,r2\nbicb r1,r2\nbis r1,r2\nbisb r1,r2\nadd r1,r2\nsub r1,r2\n"
+two_operands_logical : lines_text 0 (lines (0o040102 ∷ 0o140102 ∷ 0o050102 ∷ 0o150102 ∷ 0o060102 ∷ 0o160102 ∷ []))
+    ≡ codes "bic r1,r2\nbicb r1,r2\nbis r1,r2\nbisb r1,r2\nadd r1,r2\nsub r1,r2\n"
 unfolding row_of begins digits
 two_operands_logical = refl
 
@@ -55,7 +65,8 @@ register_and_operand : lines_text 0 (lines (0o004511 ∷ 0o074502 ∷ [])) ≡ c
 unfolding row_of begins digits
 register_and_operand = refl
 
-operand_and_register : lines_text 0 (lines (0o070502 ∷ 0o071502 ∷ 0o072502 ∷ 0o073502 ∷ [])) ≡ codes "mul r2,r5\ndiv r2,r5\nash r2,r5\nashc r2,r5\n"
+operand_and_register : lines_text 0 (lines (0o070502 ∷ 0o071502 ∷ 0o072502 ∷ 0o073502 ∷ []))
+    ≡ codes "mul r2,r5\ndiv r2,r5\nash r2,r5\nashc r2,r5\n"
 unfolding row_of begins digits
 operand_and_register = refl
 
@@ -63,11 +74,13 @@ return : lines_text 0 (lines (0o000205 ∷ [])) ≡ codes "rts r5\n"
 unfolding row_of begins digits
 return = refl
 
-branches : lines_text 0 (lines (0o000401 ∷ 0o001001 ∷ 0o001401 ∷ 0o002001 ∷ 0o002401 ∷ 0o003001 ∷ 0o003401 ∷ [])) ≡ codes "br 4\nbne 6\nbeq 10\nbge 12\nblt 14\nbgt 16\nble 20\n"
+branches : lines_text 0 (lines (0o000401 ∷ 0o001001 ∷ 0o001401 ∷ 0o002001 ∷ 0o002401 ∷ 0o003001 ∷ 0o003401 ∷ []))
+    ≡ codes "br 4\nbne 6\nbeq 10\nbge 12\nblt 14\nbgt 16\nble 20\n"
 unfolding row_of begins digits
 branches = refl
 
-branches_unsigned : lines_text 0 (lines (0o100001 ∷ 0o100401 ∷ 0o101001 ∷ 0o101401 ∷ 0o102001 ∷ 0o102401 ∷ 0o103001 ∷ 0o103401 ∷ [])) ≡ codes "bpl 4\nbmi 6\nbhi 10\nblos 12\nbvc 14\nbvs 16\nbcc 20\nbcs 22\n"
+branches_unsigned : lines_text 0 (lines (0o100001 ∷ 0o100401 ∷ 0o101001 ∷ 0o101401 ∷ 0o102001 ∷ 0o102401 ∷ 0o103001 ∷ 0o103401 ∷ []))
+    ≡ codes "bpl 4\nbmi 6\nbhi 10\nblos 12\nbvc 14\nbvs 16\nbcc 20\nbcs 22\n"
 unfolding row_of begins digits
 branches_unsigned = refl
 
@@ -91,7 +104,9 @@ floating : lines_text 0 (lines (0o170411 ∷ 0o170511 ∷ 0o170611 ∷ 0o170711 
 unfolding row_of begins digits
 floating = refl
 
-floating_and_accumulator : lines_text 0 (lines (0o171311 ∷ 0o171711 ∷ 0o172311 ∷ 0o172711 ∷ 0o173311 ∷ 0o173711 ∷ 0o174711 ∷ 0o177711 ∷ [])) ≡ codes "mulf (r1),fr3\nmodf (r1),fr3\naddf (r1),fr3\nmovf (r1),fr3\nsubf (r1),fr3\ncmpf (r1),fr3\ndivf (r1),fr3\nmovof (r1),fr3\n"
+floating_and_accumulator : lines_text 0
+    (lines (0o171311 ∷ 0o171711 ∷ 0o172311 ∷ 0o172711 ∷ 0o173311 ∷ 0o173711 ∷ 0o174711 ∷ 0o177711 ∷ []))
+    ≡ codes "mulf (r1),fr3\nmodf (r1),fr3\naddf (r1),fr3\nmovf (r1),fr3\nsubf (r1),fr3\ncmpf (r1),fr3\ndivf (r1),fr3\nmovof (r1),fr3\n"
 unfolding row_of begins digits
 floating_and_accumulator = refl
 

@@ -24,7 +24,8 @@ spaced = object (0o177777 ∷ []) (0o51 ∷ []) [] [] 2 (entry_of (codes "a b") 
 spaced_sound : IsSound spaced
 spaced_sound = sound_file spaced refl refl
 
-spaced_written : listing no_remarks spaced ≡ codes "text\n000000  177777    51\ndata\nbss 2\nsymbols\n0     a\\040b     40  000002\n1     _f         42  000000\n"
+spaced_written : listing no_remarks spaced
+    ≡ codes "text\n000000  177777    51\ndata\nbss 2\nsymbols\n0     a\\040b     40  000002\n1     _f         42  000000\n"
 unfolding digits six_digits
 spaced_written = refl
 
@@ -32,7 +33,8 @@ spaced_read : read (codes "text\n0 177777 51 remark\n\nbss 2\nsymbols\n/ note\n0
 spaced_read = refl
 
 -- labels and instructions say nothing
-labelled_read : read (codes "text\n_f:\n0 207 0 rts pc\nbss = .+1\nbss 2\nsymbols\n0 _f 42 0\nend:\n") ≡ Ok (object (0o207 ∷ []) (0 ∷ []) [] [] 2 (entry_of _f 0o42 0 ∷ []))
+labelled_read : read (codes "text\n_f:\n0 207 0 rts pc\nbss = .+1\nbss 2\nsymbols\n0 _f 42 0\nend:\n")
+    ≡ Ok (object (0o207 ∷ []) (0 ∷ []) [] [] 2 (entry_of _f 0o42 0 ∷ []))
 labelled_read = refl
 
 -- pure text, so data begins at the next multiple of 020000
@@ -71,7 +73,8 @@ abbrev ReadsBack : (Contents → List ℕ) → Type 0
 ReadsBack written = (c : Contents) → IsSound c → read (written c) ≡ Ok c
 
 law_of_listings : ListingLaw → ReadsBack (listing no_remarks)
-law_of_listings law = λ c sound. law no_remarks c (record { notes = tt; findings = tt; labels = λ p i. tt; word = λ p i. tt; symbol = λ s. tt }) sound
+law_of_listings law =
+    λ c sound. law no_remarks c (record { notes = tt; findings = tt; labels = λ p i. tt; word = λ p i. tt; symbol = λ s. tt }) sound
 
 -- other ways: other digits of a word, other names, and another order of the table
 abbrev rows : (ℕ → List ℕ) → ℕ → List ℕ → List Reloc → List (List ℕ)
@@ -81,11 +84,13 @@ rows written at (w ∷ ws) (r ∷ rs) = gap 1 (six_digits at) (gap 1 (written w)
 
 abbrev entries : (List ℕ → List ℕ) → ℕ → List Symbol → List (List ℕ)
 entries shown n [] = []
-entries shown n (s ∷ ss) = gap 1 (octal n) (gap 1 (shown s.name) (gap 1 (octal s.type_bits) (six_digits s.value))) ∷ entries shown (n + 1) ss
+entries shown n (s ∷ ss) =
+    gap 1 (octal n) (gap 1 (shown s.name) (gap 1 (octal s.type_bits) (six_digits s.value))) ∷ entries shown (n + 1) ss
 
 abbrev written_by : (ℕ → List ℕ) → (List ℕ → List ℕ) → (List (List ℕ) → List (List ℕ)) → Contents → List ℕ
 written_by word shown order c =
-    text_of (codes "text" ∷ rows word 0 c.text_words c.text_reloc ++ (gap 0 (codes "bss") (octal c.header.bss_size) ∷ (codes "symbols" ∷ order (entries shown 0 c.symbols))))
+    text_of (codes "text" ∷ rows word 0 c.text_words c.text_reloc
+    ++ (gap 0 (codes "bss") (octal c.header.bss_size) ∷ (codes "symbols" ∷ order (entries shown 0 c.symbols))))
 
 abbrev as_they_are : (List (List ℕ)) → List (List ℕ)
 as_they_are ls = ls
@@ -101,7 +106,8 @@ refuses fault c found e h = absurd (cc)
 name_as_it_is : ReadsBack (written_by six_digits (λ (name : List ℕ). name) as_they_are) → ⊥
 unfolding digits six_digits
 name_as_it_is law =
-    refuses (record { line = 5; column = 6; reason = NotOctal }) spaced (read (written_by six_digits (λ (name : List ℕ). name) as_they_are spaced)) refl (law spaced spaced_sound)
+    refuses (record { line = 5; column = 6; reason = NotOctal }) spaced
+    (read (written_by six_digits (λ (name : List ℕ). name) as_they_are spaced)) refl (law spaced spaced_sound)
 
 -- an octal digit too few
 abbrev five : ℕ → List ℕ
@@ -117,8 +123,10 @@ five_digits : ReadsBack (written_by five printable_name as_they_are) → ⊥
 unfolding digits six_digits
 five_digits law =
     let other : Contents = record spaced { text_words = 0o77777 ∷ [] } in
-    let same : other ≡ spaced = same_file other spaced (read (written_by five printable_name as_they_are spaced)) refl (law spaced spaced_sound) in
-    less_than_same (get_or other.text_words 0 0) (get_or spaced.text_words 0 0) (omega arith) (ap (λ (c : Contents). get_or c.text_words 0 0) same)
+    let same : other ≡ spaced =
+    same_file other spaced (read (written_by five printable_name as_they_are spaced)) refl (law spaced spaced_sound) in
+    less_than_same (get_or other.text_words 0 0) (get_or spaced.text_words 0 0) (omega arith)
+    (ap (λ (c : Contents). get_or c.text_words 0 0) same)
 
 -- the table in another order, with the numbers of its entries
 abbrev exchanged : List (List ℕ) → List (List ℕ)
@@ -129,4 +137,5 @@ exchanged (a ∷ (b ∷ ls)) = b ∷ (a ∷ ls)
 table_in_another_order : ReadsBack (written_by six_digits printable_name exchanged) → ⊥
 unfolding digits six_digits
 table_in_another_order law =
-    refuses (record { line = 5; column = 1; reason = WrongNumber }) spaced (read (written_by six_digits printable_name exchanged spaced)) refl (law spaced spaced_sound)
+    refuses (record { line = 5; column = 1; reason = WrongNumber }) spaced
+    (read (written_by six_digits printable_name exchanged spaced)) refl (law spaced spaced_sound)

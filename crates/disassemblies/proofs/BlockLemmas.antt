@@ -31,21 +31,26 @@ at_bucket shift count value s h =
     let alike : s.value ≡ value = (Decides-eqb s.value value).0 (and_last (eqb (masked_type s) 2) (eqb s.value value) h) in
     ap (λ (v : ℕ). block shift v % count) alike
 
-pub no_label_at : (shift count address : ℕ) (s : Symbol) → eqb (bucket_of shift count s) (block shift address % count) ≡ false → text_of (label_at address s) ≡ []
+pub no_label_at : (shift count address : ℕ) (s : Symbol) →
+    eqb (bucket_of shift count s) (block shift address % count) ≡ false → text_of (label_at address s) ≡ []
 no_label_at shift count address s other =
     let no : is_at TextSeg address s ≡ false =
-    false_from_ne_true (is_at TextSeg address s) (λ h. same (bucket_of shift count s) (block shift address % count) (at_bucket shift count address s h) other) in
+    false_from_ne_true (is_at TextSeg address s)
+    (λ h. same (bucket_of shift count s) (block shift address % count) (at_bucket shift count address s h) other) in
     ap (λ (t : Bool). text_of (if t then (assembly_name s.name ++ codes ":") ∷ [] else [])) no
 
 -- an address between two of one block is in that block
-between : (shift address end value : ℕ) → block shift address ≡ block shift end → address < value → value < end → block shift value ≡ block shift address
+between : (shift address end value : ℕ) → block shift address ≡ block shift end → address < value → value < end →
+    block shift value ≡ block shift address
 between shift address end value e low high = omega arith
 
-within_bucket : (shift count address length : ℕ) (s : Symbol) → block shift address ≡ block shift (address + 2 * length) → is_within address length s ≡ true →
-    bucket_of shift count s ≡ block shift address % count
+within_bucket : (shift count address length : ℕ) (s : Symbol) → block shift address ≡ block shift (address + 2 * length) →
+    is_within address length s ≡ true → bucket_of shift count s ≡ block shift address % count
 within_bucket shift count address length s e h =
-    let both : (eqb (masked_type s) 2 && nat_lt address s.value) ≡ true = and_first (eqb (masked_type s) 2 && nat_lt address s.value) (nat_lt s.value (address + 2 * length)) h in
-    let before : nat_lt s.value (address + 2 * length) ≡ true = and_last (eqb (masked_type s) 2 && nat_lt address s.value) (nat_lt s.value (address + 2 * length)) h in
+    let both : (eqb (masked_type s) 2 && nat_lt address s.value) ≡ true =
+    and_first (eqb (masked_type s) 2 && nat_lt address s.value) (nat_lt s.value (address + 2 * length)) h in
+    let before : nat_lt s.value (address + 2 * length) ≡ true =
+    and_last (eqb (masked_type s) 2 && nat_lt address s.value) (nat_lt s.value (address + 2 * length)) h in
     let after : nat_lt address s.value ≡ true = and_last (eqb (masked_type s) 2) (nat_lt address s.value) both in
     let low : address < s.value = grind (arith, nat_tests) in
     let high : s.value < address + 2 * length = grind (arith, nat_tests) in
@@ -55,5 +60,6 @@ pub no_label_within : (shift count address length : ℕ) (s : Symbol) → block 
     eqb (bucket_of shift count s) (block shift address % count) ≡ false → text_of (label_within address length s) ≡ []
 no_label_within shift count address length s e other =
     let no : is_within address length s ≡ false =
-    false_from_ne_true (is_within address length s) (λ h. same (bucket_of shift count s) (block shift address % count) (within_bucket shift count address length s e h) other) in
+    false_from_ne_true (is_within address length s) (λ h. same (bucket_of shift count s) (block shift address % count)
+    (within_bucket shift count address length s e h) other) in
     ap (λ (t : Bool). text_of (if t then (assembly_name s.name ++ (codes " = .+" ++ octal (s.value - address))) ∷ [] else [])) no

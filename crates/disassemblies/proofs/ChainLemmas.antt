@@ -1,5 +1,7 @@
 -- A table is put into chains from its last symbol to the first, and a walk along a chain passes over symbols of other buckets.
-use Rattle.std.proofs.Common.{◌≡◌, ℕ, zero, suc, ◌+◌, ◌<◌, ◌-◌, Bool, true, false, eqb, if◌then◌else◌, Some, None, List, [], ◌∷◌, ◌++◌, length, drop, replicate, refl, sym, ap, subst, ◌∙◌, arith, append_assoc, get_or}
+use Rattle.std.proofs.Common.{◌≡◌, ℕ, zero, suc, ◌+◌, ◌<◌, ◌-◌, Bool, true, false, eqb, if◌then◌else◌}
+use Rattle.std.proofs.Common.{Some, None, List, [], ◌∷◌, ◌++◌, length, drop, replicate, refl, sym, ap}
+use Rattle.std.proofs.Common.{subst, ◌∙◌, arith, append_assoc, get_or}
 use Rattle.std.specs.Prelude.{slice_get, slice_set, slice_index_or}
 use Rattle.std.specs.Option.{ForSome}
 use Rattle.std.specs.List.{flat_map}
@@ -11,8 +13,10 @@ use Rattle.aout_core.specs.declared.symbol.Symbol.{Symbol}
 use Rattle.disassemblies.specs.internal.Blocks.{place_of, AreFirst, IsNext, AreNext, IsIn, Walks}
 
 -- a symbol before the first of a bucket gives nothing, if those of the bucket alone can
-flat_by : (of : Symbol → ℕ) (b : ℕ) (f : Symbol → List ℕ) (s : Symbol) (ss : List Symbol) (t : Bool) → eqb (of s) b ≡ t → (t ≡ false → f s ≡ []) →
-    flat_map f (drop (place_of of b ss) ss) ≡ flat_map f ss → flat_map f (drop (if t then 0 else suc (place_of of b ss)) (s ∷ ss)) ≡ f s ++ flat_map f ss
+flat_by : (of : Symbol → ℕ) (b : ℕ) (f : Symbol → List ℕ) (s : Symbol) (ss : List Symbol) (t : Bool) →
+    eqb (of s) b ≡ t → (t ≡ false → f s ≡ []) →
+    flat_map f (drop (place_of of b ss) ss) ≡ flat_map f ss →
+    flat_map f (drop (if t then 0 else suc (place_of of b ss)) (s ∷ ss)) ≡ f s ++ flat_map f ss
 flat_by of b f s ss true e only more = refl
 flat_by of b f s ss false e only more = more ∙ sym (ap (λ (l : List ℕ). l ++ flat_map f ss) (only refl))
 
@@ -65,7 +69,8 @@ no_number Q j x e = absurd cc
 one_number : (Q : ℕ → Type 0) (a : ℕ) → Q a → ForSome (Some a) Q
 one_number Q a h x e = let alike : a ≡ x = cc in subst Q alike h
 
-put_down : (Q : ℕ → Type 0) (xs : List ℕ) (k a j : ℕ) → (j ≡ k → Q a) → ((j ≡ k → ⊥) → ForSome (slice_get xs j) Q) → ForSome (slice_get (slice_set xs k a) j) Q
+put_down : (Q : ℕ → Type 0) (xs : List ℕ) (k a j : ℕ) → (j ≡ k → Q a) → ((j ≡ k → ⊥) → ForSome (slice_get xs j) Q) →
+    ForSome (slice_get (slice_set xs k a) j) Q
 put_down Q [] k a j here there = no_number Q j
 put_down Q (y ∷ xs) zero a zero here there = one_number Q a (here refl)
 put_down Q (y ∷ xs) zero a (suc j) here there = there (λ e. absurd cc)
@@ -80,30 +85,34 @@ place_other of b s ss n =
     ap (λ (t : Bool). if t then 0 else suc (place_of of b ss)) (false_from_ne_true (eqb (of s) b) (λ e. n ((Decides-eqb (of s) b).0 e)))
 
 -- one symbol more is first of its bucket
-first_by : (of : Symbol → ℕ) (ss : List Symbol) (place k : ℕ) (s : Symbol) (first : List ℕ) → slice_get ss place ≡ Some s → of s ≡ k → AreFirst of ss (suc place) first →
-    AreFirst of ss place (slice_set first k place)
+first_by : (of : Symbol → ℕ) (ss : List Symbol) (place k : ℕ) (s : Symbol) (first : List ℕ) → slice_get ss place ≡ Some s →
+    of s ≡ k → AreFirst of ss (suc place) first → AreFirst of ss place (slice_set first k place)
 first_by of ss place k s first e is h b =
     let rest : List Symbol = drop (suc place) ss in
     put_down (λ i. i ≡ place + place_of of b (drop place ss)) first k place b
-    (λ here. let none : place_of of b (drop place ss) ≡ 0 = ap (place_of of b) (dropped ss place s e) ∙ place_here of b s rest (is ∙ sym here) in omega (arith, none))
+    (λ here. let none : place_of of b (drop place ss) ≡ 0 = ap (place_of of b) (dropped ss place s e)
+    ∙ place_here of b s rest (is ∙ sym here) in omega (arith, none))
     (λ n i was.
-    let more : place_of of b (drop place ss) ≡ suc (place_of of b rest) = ap (place_of of b) (dropped ss place s e) ∙ place_other of b s rest (λ is_b. n (sym is_b ∙ is)) in
+    let more : place_of of b (drop place ss) ≡ suc (place_of of b rest) =
+    ap (place_of of b) (dropped ss place s e) ∙ place_other of b s rest (λ is_b. n (sym is_b ∙ is)) in
     let before : i ≡ suc place + place_of of b rest = h b i was in
     omega (arith, more, before))
 
-pub first_put : (of : Symbol → ℕ) (ss : List Symbol) (place k : ℕ) (first : List ℕ) → place < length ss → IsIn of k ss place → AreFirst of ss (suc place) first →
-    AreFirst of ss place (slice_set first k place)
+pub first_put : (of : Symbol → ℕ) (ss : List Symbol) (place k : ℕ) (first : List ℕ) → place < length ss →
+    IsIn of k ss place → AreFirst of ss (suc place) first → AreFirst of ss place (slice_set first k place)
 first_put of ss place k first h is before =
     let at = inside ss place h in first_by of ss place k at.0 first at.1 (is at.0 at.1) before
 
 -- one symbol more has its next one
-pub next_put : (of : Symbol → ℕ) (ss : List Symbol) (place k : ℕ) (first next : List ℕ) → k < length first → IsIn of k ss place → AreFirst of ss (suc place) first →
+pub next_put : (of : Symbol → ℕ) (ss : List Symbol) (place k : ℕ) (first next : List ℕ) → k < length first →
+    IsIn of k ss place → AreFirst of ss (suc place) first →
     AreNext of ss (suc place) next → AreNext of ss place (slice_set next place (slice_index_or first k 0))
 next_put of ss place k first next h is before after j from =
     let a : ℕ = slice_index_or first k 0 in
     let found : a ≡ suc place + place_of of k (drop (suc place) ss) = before k a (slice_get-get_or first k 0 h) in
     let here : IsNext of ss place a = λ s e. found ∙ ap (λ (n : ℕ). suc place + place_of of n (drop (suc place) ss)) (sym (is s e)) in
-    put_down (λ i. IsNext of ss j i) next place a j (λ e. subst (λ (n : ℕ). IsNext of ss n a) (sym e) here) (λ n. after j (omega (arith, n)))
+    put_down (λ i. IsNext of ss j i) next place a j (λ e. subst (λ (n : ℕ). IsNext of ss n a) (sym e) here)
+    (λ n. after j (omega (arith, n)))
 
 -- no symbol has been put into a chain
 all_alike : (count n b i : ℕ) → slice_get (replicate count n) b ≡ Some i → i ≡ n
@@ -121,16 +130,18 @@ pub none_next : (of : Symbol → ℕ) (ss : List Symbol) (next : List ℕ) → A
 none_next of ss next j from i e s f = let past : slice_get ss j ≡ None = slice_get_past ss j from in absurd cc
 
 -- where a walk begins, and where it goes after a symbol of the bucket
-pub begins : (of : Symbol → ℕ) (ss : List Symbol) (first : List ℕ) (b i : ℕ) → AreFirst of ss 0 first → slice_get first b ≡ Some i → i ≡ place_of of b ss
+pub begins : (of : Symbol → ℕ) (ss : List Symbol) (first : List ℕ) (b i : ℕ) → AreFirst of ss 0 first →
+    slice_get first b ≡ Some i → i ≡ place_of of b ss
 begins of ss first b i h e = let found : i ≡ 0 + place_of of b ss = h b i e in omega arith
 
-goes : (of : Symbol → ℕ) (b : ℕ) (ss : List Symbol) (place next : ℕ) (s : Symbol) → slice_get ss place ≡ Some s → IsIn of b ss place → IsNext of ss place next →
-    next ≡ suc place + place_of of b (drop (suc place) ss)
+goes : (of : Symbol → ℕ) (b : ℕ) (ss : List Symbol) (place next : ℕ) (s : Symbol) → slice_get ss place ≡ Some s →
+    IsIn of b ss place → IsNext of ss place next → next ≡ suc place + place_of of b (drop (suc place) ss)
 goes of b ss place next s e is goes_to =
     goes_to s e ∙ ap (λ (n : ℕ). suc place + place_of of n (drop (suc place) ss)) (is s e)
 
 -- a walk begins at the first symbol of the bucket
-pub walk_begins : (of : Symbol → ℕ) (b : ℕ) (f : Symbol → List ℕ) → ((s : Symbol) → eqb (of s) b ≡ false → f s ≡ []) → (ss : List Symbol) (old : List ℕ) (place : ℕ) →
+pub walk_begins : (of : Symbol → ℕ) (b : ℕ) (f : Symbol → List ℕ) → ((s : Symbol) → eqb (of s) b ≡ false → f s ≡ []) →
+    (ss : List Symbol) (old : List ℕ) (place : ℕ) →
     place ≡ place_of of b ss → IsIn of b ss place → Walks of b f ss old place old
 walk_begins of b f only ss old place first is = record {
   whole = ap (λ (l : List ℕ). old ++ l) (ap (λ (n : ℕ). flat_map f (drop n ss)) first ∙ flat_later of b f only ss);
@@ -138,8 +149,10 @@ walk_begins of b f only ss old place first is = record {
 }
 
 -- it goes on to the next one
-pub walk_goes_on : (of : Symbol → ℕ) (b : ℕ) (f : Symbol → List ℕ) → ((s : Symbol) → eqb (of s) b ≡ false → f s ≡ []) → (ss : List Symbol) (old : List ℕ) (place next : ℕ) (s : Symbol) (text new : List ℕ) →
-    place < length ss → s ≡ get_or ss place s → IsNext of ss place next → new ≡ text ++ f s → Walks of b f ss old place text → Walks of b f ss old next new
+pub walk_goes_on : (of : Symbol → ℕ) (b : ℕ) (f : Symbol → List ℕ) → ((s : Symbol) → eqb (of s) b ≡ false → f s ≡ []) →
+    (ss : List Symbol) (old : List ℕ) (place next : ℕ) (s : Symbol) (text new : List ℕ) →
+    place < length ss → s ≡ get_or ss place s → IsNext of ss place next → new ≡ text ++ f s →
+    Walks of b f ss old place text → Walks of b f ss old next new
 walk_goes_on of b f only ss old place next s text new h is goes_to added before =
     let here : slice_get ss place ≡ Some s = slice_get_read ss (length ss) place s refl h is in
     let rest : List Symbol = drop (suc place) ss in
@@ -155,7 +168,8 @@ walk_goes_on of b f only ss old place next s text new h is goes_to added before 
     }
 
 -- fewer symbols are left then
-pub walk_less : (of : Symbol → ℕ) (ss : List Symbol) (place next : ℕ) (s : Symbol) → place < length ss → s ≡ get_or ss place s → IsNext of ss place next → length ss - next < length ss - place
+pub walk_less : (of : Symbol → ℕ) (ss : List Symbol) (place next : ℕ) (s : Symbol) → place < length ss →
+    s ≡ get_or ss place s → IsNext of ss place next → length ss - next < length ss - place
 walk_less of ss place next s h is goes_to =
     let found : next ≡ suc place + place_of of (of s) (drop (suc place) ss) = goes_to s (slice_get_read ss (length ss) place s refl h is) in
     omega (arith, found, h)

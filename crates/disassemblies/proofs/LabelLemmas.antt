@@ -9,7 +9,8 @@ texts_flat : (f : Symbol → List (List ℕ)) (ss : List Symbol) → flat_map (�
 texts_flat f [] = refl
 texts_flat f (s ∷ ss) = ap (λ (t : List ℕ). text_of (f s) ++ t) (texts_flat f ss) ∙ sym (two_texts (f s) (flat_map f ss))
 
-pub lines_appended : (old mid new : List ℕ) (f g : Symbol → List (List ℕ)) (ss : List Symbol) → mid ≡ old ++ flat_map (λ s. text_of (f s)) ss →
+pub lines_appended : (old mid new : List ℕ) (f g : Symbol → List (List ℕ)) (ss : List Symbol) →
+    mid ≡ old ++ flat_map (λ s. text_of (f s)) ss →
     new ≡ mid ++ flat_map (λ s. text_of (g s)) ss → new ≡ old ++ text_of (flat_map f ss ++ flat_map g ss)
 lines_appended old mid new f g ss first second =
     let a : List (List ℕ) = flat_map f ss in

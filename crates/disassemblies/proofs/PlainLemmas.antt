@@ -8,13 +8,14 @@ use Rattle.instructions.proofs.LineLemmas.{identity}
 use Rattle.disassemblies.specs.Columns.{plain_row, plain_rows}
 
 -- the words of the first line
-pub first_words : (words : List ℕ) (n : ℕ) (line : Line) → 0 < length words → line ≡ line_at words 0 → n ≡ line_length line → take n words ≡ words_of line
+pub first_words : (words : List ℕ) (n : ℕ) (line : Line) → 0 < length words → line ≡ line_at words 0 →
+    n ≡ line_length line → take n words ≡ words_of line
 first_words words n line some is long =
     ap (λ (k : ℕ). take k words) (long ∙ ap line_length is) ∙ sym (identity words 0 some) ∙ ap words_of (sym is)
 
 -- one line more is appended
-pub plain_more : (whole old new words : List ℕ) (address n : ℕ) (line : Line) → 0 < length words → line ≡ line_at words 0 → n ≡ line_length line →
-    new ≡ old ++ plain_row address line → old ++ plain_rows address (lines words) ≡ whole →
+pub plain_more : (whole old new words : List ℕ) (address n : ℕ) (line : Line) → 0 < length words → line ≡ line_at words 0 →
+    n ≡ line_length line → new ≡ old ++ plain_row address line → old ++ plain_rows address (lines words) ≡ whole →
     new ++ plain_rows (plus address (2 * n)) (lines (take (length words - n) (drop n words))) ≡ whole
 plain_more whole old new words address n line some is long added before =
     let rest : List Line = lines (take (length words - n) (drop n words)) in

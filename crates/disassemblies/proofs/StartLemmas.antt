@@ -1,5 +1,6 @@
 -- The lines from a place on: the first of them, and those after it.
-use Rattle.std.proofs.Common.{◌≡◌, ℕ, zero, suc, ◌+◌, ◌-◌, ◌<◌, ◌≤◌, Bool, true, false, nat_lt, if◌then◌else◌, List, ◌++◌, length, refl, sym, ◌∙◌, ap, append_assoc, arith}
+use Rattle.std.proofs.Common.{◌≡◌, ℕ, zero, suc, ◌+◌, ◌-◌, ◌<◌, ◌≤◌, Bool, true, false, nat_lt, if◌then◌else◌}
+use Rattle.std.proofs.Common.{List, ◌++◌, length, refl, sym, ◌∙◌, ap, append_assoc, arith}
 use Rattle.std.specs.Prelude.{slice_get, slice_index}
 use Rattle.std.proofs.lemmas.Bool.Decides.{nat_tests}
 use Rattle.aout_core.specs.Contents.{Contents}
@@ -19,14 +20,17 @@ length_by d c place true = (omega arith, omega arith)
 length_by d c place false = unix_short d c.text_words place
 
 -- a line has one to five words
-pub length_in : (d : Decoder) (c : Contents) (place : ℕ) → (1 ≤ unix_length (unix_line_in d c place)) × (unix_length (unix_line_in d c place) ≤ 5)
+pub length_in : (d : Decoder) (c : Contents) (place : ℕ) →
+    (1 ≤ unix_length (unix_line_in d c place)) × (unix_length (unix_line_in d c place) ≤ 5)
 length_in d c place = length_by d c place (is_relocated (slice_get c.text_reloc place))
 
-by_test : {A : Type 0} (d : Decoder) (c : Contents) (of : ℕ → ℕ → List A) (end : List A) (place a b : ℕ) (t : Bool) → nat_lt place (length c.text_words) ≡ t →
-    let n : ℕ = unix_length (unix_line_in d c place) in
+by_test : {A : Type 0} (d : Decoder) (c : Contents) (of : ℕ → ℕ → List A) (end : List A) (place a b : ℕ) (t : Bool) →
+    nat_lt place (length c.text_words) ≡ t → let n : ℕ = unix_length (unix_line_in d c place) in
     (t ≡ true → lines_from d c of end a (place + n) ≡ lines_from d c of end b (place + n)) →
-    (if t then of place n ++ lines_from d c of end a (place + n) else end) ≡ (if t then of place n ++ lines_from d c of end b (place + n) else end)
-by_test {A} d c of end place a b true e later = let n : ℕ = unix_length (unix_line_in d c place) in ap (λ (rest : List A). of place n ++ rest) (later refl)
+    (if t then of place n ++ lines_from d c of end a (place + n) else end)
+    ≡ (if t then of place n ++ lines_from d c of end b (place + n) else end)
+by_test {A} d c of end place a b true e later =
+    let n : ℕ = unix_length (unix_line_in d c place) in ap (λ (rest : List A). of place n ++ rest) (later refl)
 by_test d c of end place a b false e later = refl
 
 ended : (c : Contents) (place : ℕ) → length c.text_words ≤ place → nat_lt place (length c.text_words) ≡ false
@@ -46,7 +50,8 @@ from_enough d c of end (suc a) zero place h k =
 from_enough d c of end (suc a) (suc b) place h k =
     let n : ℕ = unix_length (unix_line_in d c place) in
     let some : 1 ≤ n = (length_in d c place).0 in
-    by_test d c of end place a b (nat_lt place (length c.text_words)) refl (λ t. from_enough d c of end a b (place + n) (omega arith) (omega arith))
+    by_test d c of end place a b (nat_lt place (length c.text_words)) refl
+    (λ t. from_enough d c of end a b (place + n) (omega arith) (omega arith))
 
 -- the line at a place of the text, and those after it
 from_first : {A : Type 0} (d : Decoder) (c : Contents) (of : ℕ → ℕ → List A) (end : List A) (place n a : ℕ) →
@@ -58,7 +63,8 @@ from_first {A} d c of end place n a h e left =
     let some : 1 ≤ m = (length_in d c place).0 in
     let test : nat_lt place (length c.text_words) ≡ true = grind (arith, nat_tests) in
     ap (λ (t : Bool). if t then of place m ++ lines_from d c of end a (place + m) else end) test
-    ∙ ap (λ (rest : List A). of place m ++ rest) (from_enough d c of end a (length c.text_words - (place + m)) (place + m) (omega arith) (omega arith))
+    ∙ ap (λ (rest : List A). of place m ++ rest)
+    (from_enough d c of end a (length c.text_words - (place + m)) (place + m) (omega arith) (omega arith))
     ∙ ap (λ (k : ℕ). of place k ++ lines_from d c of end (length c.text_words - (place + k)) (place + k)) (sym e)
 
 -- one line more is appended

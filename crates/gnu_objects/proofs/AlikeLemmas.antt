@@ -1,5 +1,6 @@
 -- What a map finds for a name once a name, or a symbol that counts, has been put in.
-use Rattle.std.proofs.Common.{◌≡◌, ℕ, ◌+◌, ◌<◌, Bool, true, false, cond, not, ◌&&◌, nat_eq, if◌then◌else◌, List, drop, take, length, Option, Some, None, Result, Ok, Err, OnErr, get_or, refl, sym, ap, ◌∙◌}
+use Rattle.std.proofs.Common.{◌≡◌, ℕ, ◌+◌, ◌<◌, Bool, true, false, cond, not, ◌&&◌, nat_eq, if◌then◌else◌, List, drop}
+use Rattle.std.proofs.Common.{take, length, Option, Some, None, Result, Ok, Err, OnErr, get_or, refl, sym, ap, ◌∙◌}
 use Rattle.std.proofs.lemmas.Cmp.{nat_list_eq_equiv}
 use Rattle.std.proofs.lemmas.List.{drop_more}
 use Rattle.std.specs.Cmp.Lexicographic.{pointwise, same_text}
@@ -15,7 +16,8 @@ alike-symm a b =
     ap (λ (t : Bool). t && not (pointwise nat_eq a b)) (nat_list_eq_equiv.symm (take 8 a) (take 8 b))
     ∙ ap (λ (t : Bool). pointwise nat_eq (take 8 b) (take 8 a) && not t) (nat_list_eq_equiv.symm a b)
 
-in_front : (t : Bool) (n : ℕ) (a b c : Option ℕ) → c ≡ first_number a b → (if t then Some n else c) ≡ first_number (if t then Some n else a) b
+in_front : (t : Bool) (n : ℕ) (a b c : Option ℕ) → c ≡ first_number a b →
+    (if t then Some n else c) ≡ first_number (if t then Some n else a) b
 in_front true n a b c e = refl
 in_front false n a b c e = e
 
@@ -29,12 +31,15 @@ any_err (Ok x) P p = tt
 any_err (Err e) P p = p
 
 module _ {S : Type 0} where
-  pub puts_name : (name : List ℕ) (number : ℕ) (e : Equals) (old new : IndexMap (List ℕ) Equals S) → e.name.items ≡ name → e.number ≡ number → e.other ≡ found old name →
-      ((k : List ℕ) → get (pointwise nat_eq) new k ≡ cond (pointwise nat_eq (take 8 name) k) (Some e) (get (pointwise nat_eq) old k)) → PutsName name number old new
+  pub puts_name : (name : List ℕ) (number : ℕ) (e : Equals) (old new : IndexMap (List ℕ) Equals S) →
+      e.name.items ≡ name → e.number ≡ number → e.other ≡ found old name →
+      ((k : List ℕ) → get (pointwise nat_eq) new k ≡ cond (pointwise nat_eq (take 8 name) k) (Some e) (get (pointwise nat_eq) old k)) →
+      PutsName name number old new
   puts_name name number e old new is_name is_number is_other puts q = by (pointwise nat_eq (take 8 name) (take 8 q)) refl
     where
       -- what is found, if the name has the same start
-      looks : pointwise nat_eq (take 8 name) (take 8 q) ≡ true → found new q ≡ (if pointwise nat_eq name q then found old name else Some number)
+      looks : pointwise nat_eq (take 8 name) (take 8 q) ≡ true →
+          found new q ≡ (if pointwise nat_eq name q then found old name else Some number)
       looks t =
           ap (other_than q) (puts (take 8 q))
           ∙ ap (λ (b : Bool). other_than q (cond b (Some e) (get (pointwise nat_eq) old (take 8 q)))) t
@@ -58,7 +63,8 @@ module _ {S : Type 0} where
           ∙ ap (λ (b : Bool). if b then found old name else Some number) u
           ∙ sym (ap (λ (b : Bool). if b then Some number else found old q) (is_alike t ∙ ap not u))
 
-      by : (t : Bool) → pointwise nat_eq (take 8 name) (take 8 q) ≡ t → found new q ≡ (if are_alike q name then Some number else found old q)
+      by : (t : Bool) → pointwise nat_eq (take 8 name) (take 8 q) ≡ t →
+          found new q ≡ (if are_alike q name then Some number else found old q)
       by true t = by_name (pointwise nat_eq name q) refl t
       by false t =
           ap (other_than q) (puts (take 8 q))
@@ -67,18 +73,22 @@ module _ {S : Type 0} where
           (alike-symm q name ∙ ap (λ (b : Bool). b && not (pointwise nat_eq name q)) t))
 
   -- one symbol more is put in
-  pub puts_more : (strings : List ℕ) (externals : Bool) (symbols : List GnuSymbol) (n : ℕ) (d : GnuSymbol) (old before after : IndexMap (List ℕ) Equals S) →
-      n < length symbols → PutsSymbol strings externals n (get_or symbols n d) before after → PutsSymbolsFrom strings externals (n + 1) (drop (n + 1) symbols) old before →
+  pub puts_more : (strings : List ℕ) (externals : Bool) (symbols : List GnuSymbol) (n : ℕ) (d : GnuSymbol)
+      (old before after : IndexMap (List ℕ) Equals S) →
+      n < length symbols → PutsSymbol strings externals n (get_or symbols n d) before after →
+      PutsSymbolsFrom strings externals (n + 1) (drop (n + 1) symbols) old before →
       PutsSymbolsFrom strings externals n (drop n symbols) old after
   puts_more strings externals symbols n d old before after inside puts so_far q =
       let s : GnuSymbol = get_or symbols n d in
       let rest : List GnuSymbol = drop (n + 1) symbols in
       puts q
-      ∙ in_front (counts strings externals s && are_alike q (name_at strings s.place)) n (alike_with strings externals q (n + 1) rest) (found old q) (found before q) (so_far q)
+      ∙ in_front (counts strings externals s && are_alike q (name_at strings s.place)) n
+      (alike_with strings externals q (n + 1) rest) (found old q) (found before q) (so_far q)
       ∙ sym (ap (λ (l : List GnuSymbol). first_number (alike_with strings externals q n l) (found old q)) (drop_more symbols n d inside))
 
   -- what is found for no name at last was found for none before
-  pub finds_no_less : (strings : List ℕ) (externals : Bool) (n : ℕ) (rest : List GnuSymbol) (old before after : IndexMap (List ℕ) Equals S) →
+  pub finds_no_less : (strings : List ℕ) (externals : Bool) (n : ℕ) (rest : List GnuSymbol)
+      (old before after : IndexMap (List ℕ) Equals S) →
       PutsSymbolsFrom strings externals n rest old before → FindsNoLess before after → FindsNoLess old after
   finds_no_less strings externals n rest old before after so_far no_less q none =
       later_none (alike_with strings externals q n rest) (found old q) (sym (so_far q) ∙ no_less q none)

@@ -1,5 +1,7 @@
 -- Different names of symbols that stay are different in eight bytes.
-use Rattle.std.proofs.Common.{◌≡◌, ◌≢◌, ℕ, zero, suc, ◌+◌, ◌<◌, Bool, true, false, not, ◌&&◌, ◌||◌, nat_eq, if◌then◌else◌, List, [], ◌∷◌, take, Option, Some, None, slice_get, refl, sym, ap, ◌∙◌, arith, ◌⊎◌, inl, inr}
+use Rattle.std.proofs.Common.{◌≡◌, ◌≢◌, ℕ, zero, suc, ◌+◌, ◌<◌, Bool, true, false, not, ◌&&◌, ◌||◌, nat_eq}
+use Rattle.std.proofs.Common.{if◌then◌else◌, List, [], ◌∷◌, take, Option, Some, None, slice_get, refl}
+use Rattle.std.proofs.Common.{sym, ap, ◌∙◌, arith, ◌⊎◌, inl, inr}
 use Rattle.std.proofs.lemmas.Bool.{cases_order}
 use Rattle.std.proofs.lemmas.Cmp.{nat_list_eq_equiv}
 use Rattle.std.specs.Cmp.Lexicographic.{pointwise, same_text}
@@ -59,8 +61,10 @@ apart strings i (x ∷ rest) zero (suc n) s t none lt is_s is_t count_s count_t 
     let it : x ≡ s = cc in
     let own : alike_refusal strings i s rest ≡ None = ap (λ (u : GnuSymbol). alike_refusal strings i u rest) (sym it) ∙ head.0 in
     let tested : alike_at i (alike_with strings true (name_at strings s.place) (i + 1) rest) ≡ None =
-    sym (ap (λ (b : Bool). if b then alike_at i (alike_with strings true (name_at strings s.place) (i + 1) rest) else None) count_s) ∙ own in
-    none_alike strings true (name_at strings s.place) (i + 1) rest n t (no_alike i (alike_with strings true (name_at strings s.place) (i + 1) rest) tested) is_t count_t same
+    sym (ap (λ (b : Bool). if b then alike_at i (alike_with strings true (name_at strings s.place) (i + 1) rest) else None) count_s)
+    ∙ own in
+    none_alike strings true (name_at strings s.place) (i + 1) rest n t
+    (no_alike i (alike_with strings true (name_at strings s.place) (i + 1) rest) tested) is_t count_t same
 apart strings i (x ∷ rest) (suc m) (suc n) s t none lt is_s is_t count_s count_t same =
     let head = both_none (alike_refusal strings i x rest) (first_alike strings (i + 1) rest) none in
     apart strings (i + 1) rest m n s t head.1 (omega arith) is_s is_t count_s count_t same

@@ -1,5 +1,6 @@
 -- The law of conversion.
-use Rattle.std.proofs.Common.{◌≡◌, ℕ, ◌+◌, ◌/◌, Bool, true, false, not, eqb, if◌then◌else◌, List, ◌++◌, map, take, drop, length, Option, Some, None, refl, ap, ◌∙◌, subst}
+use Rattle.std.proofs.Common.{◌≡◌, ℕ, ◌+◌, ◌/◌, Bool, true, false, not, eqb, if◌then◌else◌, List, ◌++◌, map}
+use Rattle.std.proofs.Common.{take, drop, length, Option, Some, None, refl, ap, ◌∙◌, subst}
 use Rattle.std.specs.Prelude.{Result, Ok}
 use Rattle.std.proofs.lemmas.List.{take-append-drop}
 use Rattle.aout_core.specs.declared.header.Header.{Header}
@@ -13,8 +14,10 @@ use Rattle.gnu_objects.specs.declared.refusal.Refusal.{Refusal}
 use Rattle.gnu_objects.specs.declared.symbols.GnuSymbol.{GnuSymbol}
 use Rattle.gnu_objects.specs.GnuForm.{words_from, symbols_of, strings_of, relocation_of}
 use Rattle.gnu_objects.specs.Staying.{staying, kept, count}
-use Rattle.gnu_objects.specs.GnuRefusals.{header_refusal, strings_refusal, first_bad_symbol, linked_refusal, count_refusal, first_alike, first_dropped_word, table_refusal, refused_first}
-use Rattle.gnu_objects.specs.Converted.{unless, object_unless, object_of, contents_with, converted_by, converted_with, converted_under, renumbered, converted_symbol}
+use Rattle.gnu_objects.specs.GnuRefusals.{header_refusal, strings_refusal, first_bad_symbol, linked_refusal}
+use Rattle.gnu_objects.specs.GnuRefusals.{count_refusal, first_alike, first_dropped_word, table_refusal, refused_first}
+use Rattle.gnu_objects.specs.Converted.{unless, object_unless, object_of, contents_with, converted_by, converted_with}
+use Rattle.gnu_objects.specs.Converted.{converted_under, renumbered, converted_symbol}
 use Rattle.gnu_objects.specs.Laws.{GnuFile, file_under, IsConversion, ConversionLaw}
 use Rattle.gnu_objects.proofs.StayingLemmas.{length-staying, kept_fused}
 use Rattle.gnu_objects.proofs.ReferenceLemmas.{both_none, bad_split, dropped_split, references}
@@ -31,7 +34,8 @@ object_ok (Some f) x c e = absurd (cc)
 object_words : (c : Contents) → first_object_fault c ≡ None → first_bad_word c.symbols 0 (c.text_reloc ++ c.data_reloc) ≡ None
 object_words c e = by (eqb c.header.magic 0o407) (eqb c.header.flag 0) e
   where
-    by : (m f : Bool) → (if not m then Some NotAnObject else (if not f then Some NoRelocation else first_bad_word c.symbols 0 (c.text_reloc ++ c.data_reloc))) ≡ None →
+    by : (m f : Bool) → (if not m then Some NotAnObject
+        else (if not f then Some NoRelocation else first_bad_word c.symbols 0 (c.text_reloc ++ c.data_reloc))) ≡ None →
         first_bad_word c.symbols 0 (c.text_reloc ++ c.data_reloc) ≡ None
     by true true e = e
     by true false e = absurd (cc)
@@ -48,9 +52,10 @@ file_of bytes h strings symbols words = record {
   symbols = symbols;
 }
 
-of_contents : (o : Options) (bytes : List ℕ) (h : Header) (strings : List ℕ) (symbols : List GnuSymbol) (words : List ℕ) (flags : List Bool) →
-    flags ≡ staying o.locals strings symbols words → first_alike strings 0 symbols ≡ None → first_dropped_word strings symbols flags 0 words ≡ None →
-    first_object_fault (contents_with bytes h strings symbols words flags) ≡ None →
+of_contents : (o : Options) (bytes : List ℕ) (h : Header) (strings : List ℕ) (symbols : List GnuSymbol) (words : List ℕ)
+    (flags : List Bool) →
+    flags ≡ staying o.locals strings symbols words → first_alike strings 0 symbols ≡ None → first_dropped_word strings
+    symbols flags 0 words ≡ None → first_object_fault (contents_with bytes h strings symbols words flags) ≡ None →
     IsConversion o (file_of bytes h strings symbols words) (contents_with bytes h strings symbols words flags)
 of_contents o bytes h strings symbols words flags is apart stay whole =
     let g = file_of bytes h strings symbols words in
@@ -72,10 +77,13 @@ of_contents o bytes h strings symbols words flags is apart stay whole =
       text_reloc = references g c flags 0 0 front beside table stay_in.0 good_in.0;
       data_reloc = references g c flags stay_in.1.0 good_in.1.0 back beside table stay_in.1.1 good_in.1.1;
       symbols = table ∙ ap (λ (f : List Bool). map (converted_symbol strings) (kept f symbols)) is;
-      names = λ m n s t stays_s stays_t ne. distinct o.locals strings symbols words apart m n s t stays_s.is stays_t.is stays_s.stays stays_t.stays ne;
+      names =
+          λ m n s t stays_s stays_t ne.
+          distinct o.locals strings symbols words apart m n s t stays_s.is stays_t.is stays_s.stays stays_t.stays ne;
     }
 
-of_tables : (o : Options) (bytes : List ℕ) (h : Header) (strings : List ℕ) (symbols : List GnuSymbol) (words : List ℕ) (flags : List Bool) (c : Contents) →
+of_tables : (o : Options) (bytes : List ℕ) (h : Header) (strings : List ℕ) (symbols : List GnuSymbol) (words : List ℕ)
+    (flags : List Bool) (c : Contents) →
     flags ≡ staying o.locals strings symbols words → converted_by o.drops_debugger bytes h strings symbols words flags ≡ Ok c →
     IsConversion o (file_of bytes h strings symbols words) c
 of_tables o bytes h strings symbols words flags c is e =
@@ -93,7 +101,8 @@ of_tables o bytes h strings symbols words flags c is e =
     subst (λ (x : Contents). IsConversion o (file_of bytes h strings symbols words) x) object.1
     (of_contents o bytes h strings symbols words flags is last.0 last.1 object.0)
 
-of_header : (o : Options) (bytes : List ℕ) (h : Header) (c : Contents) → converted_under o bytes h ≡ Ok c → IsConversion o (file_under bytes h) c
+of_header : (o : Options) (bytes : List ℕ) (h : Header) (c : Contents) → converted_under o bytes h ≡ Ok c →
+    IsConversion o (file_under bytes h) c
 of_header o bytes h c e =
     let tables = converted_with o bytes h (strings_of bytes h) (symbols_of bytes h) (relocation_of bytes h) in
     let first = unless_ok (header_refusal (length bytes) h) (unless (strings_refusal bytes h) tables) c e in

@@ -1,5 +1,6 @@
 -- How many symbols stay before each.
-use Rattle.std.proofs.Common.{◌≡◌, ℕ, zero, suc, ◌+◌, ◌*◌, ◌/◌, ◌%◌, ◌≤◌, ◌<◌, ◌⊎◌, inl, inr, Bool, true, false, if◌then◌else◌, List, [], ◌∷◌, ◌++◌, take, length, min, get_or, refl, sym, ap, ◌∙◌, arith}
+use Rattle.std.proofs.Common.{◌≡◌, ℕ, zero, suc, ◌+◌, ◌*◌, ◌/◌, ◌%◌, ◌≤◌, ◌<◌, ◌⊎◌, inl, inr, Bool, true, false}
+use Rattle.std.proofs.Common.{if◌then◌else◌, List, [], ◌∷◌, ◌++◌, take, length, min, get_or, refl, sym, ap, ◌∙◌, arith}
 use Rattle.std.proofs.lemmas.Bool.{cases_lt}
 use Rattle.std.proofs.lemmas.List.{take_all}
 use Rattle.std.proofs.lemmas.List.FromFn.{get_or-map-range_with_len, length-map-range_with_len, map-range_with_len_more}
@@ -27,14 +28,16 @@ one_if_small true = omega arith
 one_if_small false = omega arith
 
 -- one symbol more
-count_next : (flags : List Bool) (n : ℕ) (d : Bool) → n < length flags → count (take (suc n) flags) ≡ count (take n flags) + one_if (get_or flags n d)
+count_next : (flags : List Bool) (n : ℕ) (d : Bool) → n < length flags →
+    count (take (suc n) flags) ≡ count (take n flags) + one_if (get_or flags n d)
 count_next [] n d h = absurd (omega arith)
 count_next (true ∷ flags) zero d h = refl
 count_next (false ∷ flags) zero d h = refl
 count_next (true ∷ flags) (suc n) d h = omega (arith, count_next flags n d (omega arith))
 count_next (false ∷ flags) (suc n) d h = count_next flags n d (omega arith)
 
-pub count_more : (flags : List Bool) (n : ℕ) (d : Bool) → n < length flags → count (take (n + 1) flags) ≡ count (take n flags) + one_if (get_or flags n d)
+pub count_more : (flags : List Bool) (n : ℕ) (d : Bool) → n < length flags →
+    count (take (n + 1) flags) ≡ count (take n flags) + one_if (get_or flags n d)
 count_more flags n d h =
     let next : n + 1 ≡ suc n = omega arith in ap (λ (k : ℕ). count (take k flags)) next ∙ count_next flags n d h
 
@@ -44,7 +47,8 @@ count_all flags = sym (ap count (take_all (length flags) flags (omega arith)))
 pub length-ranks : (flags : List Bool) (n : ℕ) → length (ranks_to n flags) ≡ n
 length-ranks flags n = length-map-range_with_len (λ k. count (take k flags)) 0 n
 
-pub ranks_more : (flags : List Bool) (n before : ℕ) (old new : List ℕ) → old ≡ ranks_to n flags → new ≡ old ++ before ∷ [] → before ≡ count (take n flags) → new ≡ ranks_to (n + 1) flags
+pub ranks_more : (flags : List Bool) (n before : ℕ) (old new : List ℕ) → old ≡ ranks_to n flags →
+    new ≡ old ++ before ∷ [] → before ≡ count (take n flags) → new ≡ ranks_to (n + 1) flags
 ranks_more flags n before old new is pushed counted =
     pushed
     ∙ ap (λ l. l ++ before ∷ []) is
@@ -52,7 +56,8 @@ ranks_more flags n before old new is pushed counted =
     ∙ sym (map-range_with_len_more (λ k. count (take k flags)) 0 n n (omega arith))
 
 -- the rank of a symbol, by its number or that of the end
-pub rank : (flags : List Bool) (n before : ℕ) (ranks : List ℕ) → ranks ≡ ranks_of flags → before ≡ min n (length flags) → get_or ranks before 0 ≡ count (take n flags)
+pub rank : (flags : List Bool) (n before : ℕ) (ranks : List ℕ) → ranks ≡ ranks_of flags →
+    before ≡ min n (length flags) → get_or ranks before 0 ≡ count (take n flags)
 rank flags n before ranks are is =
     ap (λ (l : List ℕ). get_or l before 0) are
     ∙ get_or-map-range_with_len (λ k. count (take k flags)) 0 (length flags + 1) before before 0 (omega (arith, is)) (omega arith)
@@ -67,7 +72,8 @@ rank flags n before ranks are is =
 abbrev reloc : ℕ → Reloc
 reloc n = record { 0 = n }
 
-pub renumbered_by : (flags : List Bool) (w r : ℕ) → refers w ≡ true → r ≡ count (take (w / 16) flags) → reloc (16 * r + w % 16) ≡ renumbered flags w
+pub renumbered_by : (flags : List Bool) (w r : ℕ) → refers w ≡ true → r ≡ count (take (w / 16) flags) →
+    reloc (16 * r + w % 16) ≡ renumbered flags w
 renumbered_by flags w r on is =
     ap (λ (k : ℕ). reloc (16 * k + w % 16)) is
     ∙ sym (ap (λ (b : Bool). reloc (if b then 16 * count (take (w / 16) flags) + w % 16 else w)) on)

@@ -1,5 +1,7 @@
 -- What the words of a converted object refer to.
-use Rattle.std.proofs.Common.{◌≡◌, ℕ, zero, suc, ◌+◌, ◌*◌, ◌/◌, ◌%◌, ◌<◌, ◌≤◌, Bool, true, false, ◌==◌, eqb, eqb-true, if◌then◌else◌, List, [], ◌∷◌, ◌++◌, map, take, length, Option, Some, None, option_map, slice_get, refl, sym, ap, ◌∙◌, arith, ◌⊎◌, inl, inr}
+use Rattle.std.proofs.Common.{◌≡◌, ℕ, zero, suc, ◌+◌, ◌*◌, ◌/◌, ◌%◌, ◌<◌, ◌≤◌, Bool, true, false, ◌==◌, eqb, eqb-true}
+use Rattle.std.proofs.Common.{if◌then◌else◌, List, [], ◌∷◌, ◌++◌, map, take, length, Option, Some, None, option_map}
+use Rattle.std.proofs.Common.{slice_get, refl, sym, ap, ◌∙◌, arith, ◌⊎◌, inl, inr}
 use Rattle.std.proofs.lemmas.Bool.{cases_lt}
 use Rattle.std.proofs.lemmas.List.{length-map}
 use Rattle.std.proofs.lemmas.Option.{slice_get-map, slice_get_past}
@@ -87,7 +89,8 @@ take_past [] (suc k) le = refl
 take_past (x ∷ xs) zero le = absurd (omega arith)
 take_past (x ∷ xs) (suc k) le = ap (λ l. x ∷ l) (take_past xs k (omega arith))
 
-wanted : (symbols : List Symbol) (i : ℕ) (r : Reloc) → kind_of r ≡ Some External → slice_get symbols (symbol_number r) ≡ None → word_fault symbols i r ≡ None → ⊥
+wanted : (symbols : List Symbol) (i : ℕ) (r : Reloc) → kind_of r ≡ Some External →
+    slice_get symbols (symbol_number r) ≡ None → word_fault symbols i r ≡ None → ⊥
 wanted symbols i r kind missing e =
     let fault : word_fault symbols i r ≡ Some (BadSymbolNumber i) =
     ap (λ k. kind_fault symbols i k (symbol_number r)) kind
@@ -95,8 +98,8 @@ wanted symbols i r kind missing e =
     let bad : Some (BadSymbolNumber i) ≡ None = sym fault ∙ e in
     cc
 
-referred : (strings : List ℕ) (symbols : List GnuSymbol) (flags : List Bool) (i k : ℕ) → length flags ≡ length symbols → k < length symbols →
-    dropped_refusal strings i k (slice_get symbols k) (slice_get flags k) ≡ None →
+referred : (strings : List ℕ) (symbols : List GnuSymbol) (flags : List Bool) (i k : ℕ) → length flags ≡ length symbols →
+    k < length symbols → dropped_refusal strings i k (slice_get symbols k) (slice_get flags k) ≡ None →
     (s : GnuSymbol) × (slice_get symbols k ≡ Some s) × (slice_get flags k ≡ Some true)
 referred strings symbols flags i k beside lt h = by (found symbols k lt) (found flags k (omega arith))
   where

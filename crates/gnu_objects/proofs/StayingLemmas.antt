@@ -1,5 +1,6 @@
 -- The symbols that stay.
-use Rattle.std.proofs.Common.{◌≡◌, ℕ, zero, suc, ◌+◌, Bool, true, false, List, [], ◌∷◌, map, take, length, Some, slice_get, refl, ap, ◌∙◌, arith}
+use Rattle.std.proofs.Common.{◌≡◌, ℕ, zero, suc, ◌+◌, Bool, true, false, List, [], ◌∷◌, map, take}
+use Rattle.std.proofs.Common.{length, Some, slice_get, refl, ap, ◌∙◌, arith}
 use Rattle.std.proofs.lemmas.List.{length-map}
 use Rattle.aout_core.specs.declared.symbol.Symbol.{Symbol}
 use Rattle.gnu_objects.specs.declared.options.Locals.{Locals}
@@ -16,7 +17,8 @@ pub length-staying : (locals : Locals) (strings : List ℕ) (symbols : List GnuS
     length (staying locals strings symbols words) ≡ length symbols
 length-staying locals strings symbols words = length-staying_from locals strings symbols words 0 symbols
 
-pub length-pairs_kept : (flags : List Bool) (symbols : List GnuSymbol) → length flags ≡ length symbols → length (pairs_kept flags symbols) ≡ count flags
+pub length-pairs_kept : (flags : List Bool) (symbols : List GnuSymbol) → length flags ≡ length symbols →
+    length (pairs_kept flags symbols) ≡ count flags
 length-pairs_kept [] [] e = refl
 length-pairs_kept [] (s ∷ ss) e = absurd (omega arith)
 length-pairs_kept (f ∷ fs) [] e = absurd (omega arith)
@@ -27,8 +29,8 @@ pub length-kept : (flags : List Bool) (symbols : List GnuSymbol) → length flag
 length-kept flags symbols e = length-map (pairs_kept flags symbols) (λ p. p.0) ∙ length-pairs_kept flags symbols e
 
 -- a symbol that stays comes after as many as stay before it
-pub kept_at : (flags : List Bool) (symbols : List GnuSymbol) (k : ℕ) (s : GnuSymbol) → slice_get symbols k ≡ Some s → slice_get flags k ≡ Some true →
-    slice_get (kept flags symbols) (count (take k flags)) ≡ Some s
+pub kept_at : (flags : List Bool) (symbols : List GnuSymbol) (k : ℕ) (s : GnuSymbol) → slice_get symbols k ≡ Some s →
+    slice_get flags k ≡ Some true → slice_get (kept flags symbols) (count (take k flags)) ≡ Some s
 kept_at flags [] k s e f = absurd (cc)
 kept_at [] (t ∷ ts) k s e f = absurd (cc)
 kept_at (true ∷ fs) (t ∷ ts) zero s e f = e

@@ -1,5 +1,7 @@
 -- The lines of two texts that differ at most in words that move, and of texts one after the other.
-use Rattle.std.proofs.Common.{◌≡◌, ℕ, zero, suc, ◌+◌, ◌-◌, ◌<◌, ◌≤◌, Bool, true, false, nat_lt, if◌then◌else◌, Option, Some, None, List, [], ◌∷◌, ◌++◌, length, take, drop, slice_get, refl, sym, ap, subst, ◌∙◌, arith}
+use Rattle.std.proofs.Common.{◌≡◌, ℕ, zero, suc, ◌+◌, ◌-◌, ◌<◌, ◌≤◌, Bool, true, false, nat_lt, if◌then◌else◌}
+use Rattle.std.proofs.Common.{Option, Some, None, List, [], ◌∷◌, ◌++◌, length, take, drop, slice_get}
+use Rattle.std.proofs.Common.{refl, sym, ap, subst, ◌∙◌, arith}
 use Rattle.std.proofs.lemmas.Bool.Decides.{nat_tests}
 use Rattle.std.proofs.lemmas.List.{length-drop, take_rest}
 use Rattle.instructions.specs.declared.instruction.Instruction.{Instruction}
@@ -42,7 +44,8 @@ pub lines_some : (words : List ℕ) (k : ℕ) → 0 < length words → k ≡ lin
 lines_some [] k h e = absurd (omega arith)
 lines_some (w ∷ f) k h e =
     let all : take (length (w ∷ f) - k) (drop k (w ∷ f)) ≡ drop k (w ∷ f) = take_rest (w ∷ f) k in
-    lines_first w f ∙ ap (λ n. line_of (instruction_of w) w f ∷ lines (drop n (w ∷ f))) (sym e) ∙ ap (λ l. line_of (instruction_of w) w f ∷ lines l) (sym all)
+    lines_first w f ∙ ap (λ n. line_of (instruction_of w) w f ∷ lines (drop n (w ∷ f))) (sym e)
+    ∙ ap (λ l. line_of (instruction_of w) w f ∷ lines l) (sym all)
 
 pub get_inside : (xs : List ℕ) (k : ℕ) → k < length xs → (x : ℕ) × (slice_get xs k ≡ Some x)
 get_inside [] k h = absurd (omega arith)
@@ -75,11 +78,12 @@ pub pairs_from : (P : ℕ → ℕ → ℕ → Type 0) (place k : ℕ) (ws vs : L
 pairs_from P place k ws vs pairs i q w v e a b =
     pairs (k + i) q w v (omega arith) (sym (get_from ws k i) ∙ a) (sym (get_from vs k i) ∙ b)
 
-alike_some : (P : ℕ → ℕ → ℕ → Type 0) (place : ℕ) (x y : Option ℕ) (w v : ℕ) → x ≡ Some w → y ≡ Some v → P place w v → AlikeWords P place x y
+alike_some : (P : ℕ → ℕ → ℕ → Type 0) (place : ℕ) (x y : Option ℕ) (w v : ℕ) → x ≡ Some w → y ≡ Some v → P place w v →
+    AlikeWords P place x y
 alike_some P place x y w v e h p = subst (λ a. AlikeWords P place a y) (sym e) (subst (λ b. AlikeWords P place (Some w) b) (sym h) p)
 
-words_alike : (P : ℕ → ℕ → ℕ → Type 0) (place : ℕ) (takes : Bool) (c : ℕ) (f g : List ℕ) → (takes ≡ true → c < length f) → length f ≤ length g →
-    ((w v : ℕ) → slice_get f c ≡ Some w → slice_get g c ≡ Some v → P place w v) →
+words_alike : (P : ℕ → ℕ → ℕ → Type 0) (place : ℕ) (takes : Bool) (c : ℕ) (f g : List ℕ) → (takes ≡ true → c < length f) →
+    length f ≤ length g → ((w v : ℕ) → slice_get f c ≡ Some w → slice_get g c ≡ Some v → P place w v) →
     AlikeWords P place (if takes then slice_get f c else None) (if takes then slice_get g c else None)
 words_alike P place false c f g inside more pairs = tt
 words_alike P place true c f g inside more pairs =
@@ -101,8 +105,8 @@ alike_by P place w i a b c d false true e h x y = absurd cc
 alike_by P place w i a b c d false false e h x y = (refl, x, y)
 
 -- a line, and that of the same first word with other words after it
-pub line_alike : (P : ℕ → ℕ → ℕ → Type 0) (place : ℕ) (o : Option Instruction) (w : ℕ) (f g : List ℕ) → is_cut o f ≡ false → length f ≤ length g →
-    Pairs P place (w ∷ f) (w ∷ g) → AlikeLine P place (line_of o w f) (line_of o w g)
+pub line_alike : (P : ℕ → ℕ → ℕ → Type 0) (place : ℕ) (o : Option Instruction) (w : ℕ) (f g : List ℕ) → is_cut o f ≡ false →
+    length f ≤ length g → Pairs P place (w ∷ f) (w ∷ g) → AlikeLine P place (line_of o w f) (line_of o w g)
 line_alike P place None w f g whole more pairs = refl
 line_alike P place (Some i) w f g whole more pairs =
     let test : nat_lt (length f) (following_words i) ≡ false = whole in
@@ -115,7 +119,8 @@ line_alike P place (Some i) w f g whole more pairs =
     (words_alike P (place + 1) (takes_word i.first) 0 f g r.0 more (λ x y a b. pairs 1 (place + 1) x y refl a b))
     (words_alike P (place + 1 + c) (takes_word i.second) c f g r.1 more (λ x y a b. pairs (suc c) (place + 1 + c) x y (omega arith) a b))
 
-length_by : (i : Instruction) (w : ℕ) (a b : Option ℕ) (cut : Bool) → cut ≡ false → line_length (if cut then Plain w else Decoded i a b) ≡ 1 + following_words i
+length_by : (i : Instruction) (w : ℕ) (a b : Option ℕ) (cut : Bool) → cut ≡ false →
+    line_length (if cut then Plain w else Decoded i a b) ≡ 1 + following_words i
 length_by i w a b true e = absurd cc
 length_by i w a b false e = refl
 
@@ -136,7 +141,8 @@ alike_step : (P : ℕ → ℕ → ℕ → Type 0) (place w v : ℕ) (f g : List 
     is_cut (instruction_of w) f ≡ false → length f ≤ length g → Pairs P place (w ∷ f) (v ∷ g) →
     AlikeLines P place (line_of (instruction_of w) w f ∷ rest) (line_of (instruction_of v) v g ∷ others)
 alike_step P place w v f g rest others e later whole more pairs =
-    subst (λ x. Pairs P place (w ∷ f) (x ∷ g) → AlikeLines P place (line_of (instruction_of w) w f ∷ rest) (line_of (instruction_of x) x g ∷ others)) (sym e)
+    subst (λ x. Pairs P place (w ∷ f) (x ∷ g) →
+    AlikeLines P place (line_of (instruction_of w) w f ∷ rest) (line_of (instruction_of x) x g ∷ others)) (sym e)
     (λ p. (line_alike P place (instruction_of w) w f g whole more p, later)) pairs
 
 -- the lines of a text are alike at the front of another, and the lines of what follows them come after
@@ -155,8 +161,8 @@ begin_step P place w v f g after rest others e whole more pairs b = record {
   alike = alike_step P place w v f g rest b.front e b.alike whole more pairs;
 }
 
-pub begin_alike : (P : ℕ → ℕ → ℕ → Type 0) (moves : ℕ → Bool) (n m place : ℕ) (ws vs : List ℕ) → length ws ≤ length vs → length ws ≤ n → length vs ≤ m →
-    Pairs P place ws vs → Pairs (Same moves) place ws vs → AreWhole moves n place ws →
+pub begin_alike : (P : ℕ → ℕ → ℕ → Type 0) (moves : ℕ → Bool) (n m place : ℕ) (ws vs : List ℕ) → length ws ≤ length vs →
+    length ws ≤ n → length vs ≤ m → Pairs P place ws vs → Pairs (Same moves) place ws vs → AreWhole moves n place ws →
     BeginAlike P place (lines_within n ws) (lines_within m vs) (drop (length ws) vs)
 begin_alike P moves zero m place [] vs more enough some pairs still whole =
     record { front = []; all = lines_enough m (length vs) vs some (omega arith); alike = tt }
@@ -177,12 +183,14 @@ begin_alike P moves (suc n) (suc m) place (w ∷ f) (v ∷ g) more enough some p
     let b : length (drop k (v ∷ g)) ≤ m = omega (arith, length-drop k (v ∷ g)) in
     let c : length (drop k (w ∷ f)) ≤ length (drop k (v ∷ g)) = omega (arith, length-drop k (w ∷ f), length-drop k (v ∷ g)) in
     let sum : k + length (drop k (w ∷ f)) ≡ length (w ∷ f) = omega (arith, length-drop k (w ∷ f)) in
-    let later : BeginAlike P (place + k) (lines_within n (drop k (w ∷ f))) (lines_within m (drop k (v ∷ g))) (drop (length (drop k (w ∷ f))) (drop k (v ∷ g))) =
+    let later : BeginAlike P (place + k) (lines_within n (drop k (w ∷ f))) (lines_within m (drop k (v ∷ g)))
+    (drop (length (drop k (w ∷ f))) (drop k (v ∷ g))) =
     begin_alike P moves n m (place + k) (drop k (w ∷ f)) (drop k (v ∷ g)) c a b
     (pairs_from P place k (w ∷ f) (v ∷ g) pairs) (pairs_from (Same moves) place k (w ∷ f) (v ∷ g) still) whole.2 in
     let there : drop (length (drop k (w ∷ f))) (drop k (v ∷ g)) ≡ drop (length (w ∷ f)) (v ∷ g) =
     drop_twice k (length (drop k (w ∷ f))) (v ∷ g) ∙ ap (λ i. drop i (v ∷ g)) sum in
     begin_step P place w v f g (drop (length (w ∷ f)) (v ∷ g)) (lines_within n (drop k (w ∷ f)))
     (lines_within m (drop (line_length (line_of (instruction_of v) v g)) (v ∷ g))) e whole.1 tails pairs
-    (subst (λ i. BeginAlike P (place + k) (lines_within n (drop k (w ∷ f))) (lines_within m (drop i (v ∷ g))) (drop (length (w ∷ f)) (v ∷ g))) (sym j)
+    (subst (λ i. BeginAlike P (place + k) (lines_within n (drop k (w ∷ f))) (lines_within m (drop i (v ∷ g)))
+    (drop (length (w ∷ f)) (v ∷ g))) (sym j)
     (subst (λ l. BeginAlike P (place + k) (lines_within n (drop k (w ∷ f))) (lines_within m (drop k (v ∷ g))) l) there later))

@@ -1,5 +1,6 @@
 -- What holds of each row of the table of calls: by its name it is found again.
-use Rattle.std.proofs.Common.{◌≡◌, ℕ, ◌≤◌, Bool, true, false, eqb, nat_lt, Option, Some, None, List, [], ◌∷◌, ◌++◌, slice_index, refl, subst, cond, arith}
+use Rattle.std.proofs.Common.{◌≡◌, ℕ, ◌≤◌, Bool, true, false, eqb, nat_lt, Option, Some, None, List}
+use Rattle.std.proofs.Common.{[], ◌∷◌, ◌++◌, slice_index, refl, subst, cond, arith}
 use Rattle.std.specs.Prelude.{IfSome}
 use Rattle.std.proofs.lemmas.Bool.Decides.{Decides-eqb}
 use Rattle.std.specs.List.{find}
@@ -34,7 +35,8 @@ each_sound : Each system_calls
 unfolding call_named
 each_sound = (record { small = omega arith; letter = λ rest. refl; name = refl; again = refl }, (record { small = omega arith; letter = λ rest. refl; name = refl; again = refl }, (record { small = omega arith; letter = λ rest. refl; name = refl; again = refl }, (record { small = omega arith; letter = λ rest. refl; name = refl; again = refl }, (record { small = omega arith; letter = λ rest. refl; name = refl; again = refl }, (record { small = omega arith; letter = λ rest. refl; name = refl; again = refl }, (record { small = omega arith; letter = λ rest. refl; name = refl; again = refl }, (record { small = omega arith; letter = λ rest. refl; name = refl; again = refl }, (record { small = omega arith; letter = λ rest. refl; name = refl; again = refl }, (record { small = omega arith; letter = λ rest. refl; name = refl; again = refl }, (record { small = omega arith; letter = λ rest. refl; name = refl; again = refl }, (record { small = omega arith; letter = λ rest. refl; name = refl; again = refl }, (record { small = omega arith; letter = λ rest. refl; name = refl; again = refl }, (record { small = omega arith; letter = λ rest. refl; name = refl; again = refl }, (record { small = omega arith; letter = λ rest. refl; name = refl; again = refl }, (record { small = omega arith; letter = λ rest. refl; name = refl; again = refl }, (record { small = omega arith; letter = λ rest. refl; name = refl; again = refl }, (record { small = omega arith; letter = λ rest. refl; name = refl; again = refl }, (record { small = omega arith; letter = λ rest. refl; name = refl; again = refl }, (record { small = omega arith; letter = λ rest. refl; name = refl; again = refl }, (record { small = omega arith; letter = λ rest. refl; name = refl; again = refl }, (record { small = omega arith; letter = λ rest. refl; name = refl; again = refl }, (record { small = omega arith; letter = λ rest. refl; name = refl; again = refl }, (record { small = omega arith; letter = λ rest. refl; name = refl; again = refl }, (record { small = omega arith; letter = λ rest. refl; name = refl; again = refl }, (record { small = omega arith; letter = λ rest. refl; name = refl; again = refl }, (record { small = omega arith; letter = λ rest. refl; name = refl; again = refl }, (record { small = omega arith; letter = λ rest. refl; name = refl; again = refl }, (record { small = omega arith; letter = λ rest. refl; name = refl; again = refl }, (record { small = omega arith; letter = λ rest. refl; name = refl; again = refl }, (record { small = omega arith; letter = λ rest. refl; name = refl; again = refl }, (record { small = omega arith; letter = λ rest. refl; name = refl; again = refl }, (record { small = omega arith; letter = λ rest. refl; name = refl; again = refl }, (record { small = omega arith; letter = λ rest. refl; name = refl; again = refl }, (record { small = omega arith; letter = λ rest. refl; name = refl; again = refl }, (record { small = omega arith; letter = λ rest. refl; name = refl; again = refl }, (record { small = omega arith; letter = λ rest. refl; name = refl; again = refl }, (record { small = omega arith; letter = λ rest. refl; name = refl; again = refl }, (record { small = omega arith; letter = λ rest. refl; name = refl; again = refl }, (record { small = omega arith; letter = λ rest. refl; name = refl; again = refl }, (record { small = omega arith; letter = λ rest. refl; name = refl; again = refl }, (record { small = omega arith; letter = λ rest. refl; name = refl; again = refl }, (record { small = omega arith; letter = λ rest. refl; name = refl; again = refl }, (record { small = omega arith; letter = λ rest. refl; name = refl; again = refl }, (record { small = omega arith; letter = λ rest. refl; name = refl; again = refl }, (record { small = omega arith; letter = λ rest. refl; name = refl; again = refl }, (record { small = omega arith; letter = λ rest. refl; name = refl; again = refl }, (record { small = omega arith; letter = λ rest. refl; name = refl; again = refl }, (record { small = omega arith; letter = λ rest. refl; name = refl; again = refl }, (record { small = omega arith; letter = λ rest. refl; name = refl; again = refl }, (record { small = omega arith; letter = λ rest. refl; name = refl; again = refl }, (record { small = omega arith; letter = λ rest. refl; name = refl; again = refl }, (record { small = omega arith; letter = λ rest. refl; name = refl; again = refl }, tt)))))))))))))))))))))))))))))))))))))))))))))))))))))
 
-sound_at : (c d : CallRow) (b : Bool) (rest : Option CallRow) → SoundCall c → (rest ≡ Some d → SoundCall d) → cond b (Some c) rest ≡ Some d → SoundCall d
+sound_at : (c d : CallRow) (b : Bool) (rest : Option CallRow) → SoundCall c → (rest ≡ Some d → SoundCall d) →
+    cond b (Some c) rest ≡ Some d → SoundCall d
 sound_at c d true rest s later e = let same : c ≡ d = cc in subst SoundCall same s
 sound_at c d false rest s later e = later e
 
@@ -44,7 +46,8 @@ sound_found p (c ∷ calls) d s e = sound_at c d (p c) (find p calls) s.0 (sound
 
 word_at : (w : ℕ) (c d : CallRow) (b : Bool) (rest : Option CallRow) → eqb (call_word c) w ≡ b → (rest ≡ Some d → call_word d ≡ w) →
     cond b (Some c) rest ≡ Some d → call_word d ≡ w
-word_at w c d true rest t later e = let same : c ≡ d = cc in subst (λ (x : CallRow). call_word x ≡ w) same ((Decides-eqb (call_word c) w).0 t)
+word_at w c d true rest t later e =
+    let same : c ≡ d = cc in subst (λ (x : CallRow). call_word x ≡ w) same ((Decides-eqb (call_word c) w).0 t)
 word_at w c d false rest t later e = later e
 
 word_found : (w : ℕ) (calls : List CallRow) (d : CallRow) → find (λ c. eqb (call_word c) w) calls ≡ Some d → call_word d ≡ w

@@ -1,5 +1,7 @@
 -- The text of each field's operand is read back, and has no comma.
-use Rattle.std.proofs.Common.{◌≡◌, ℕ, ◌+◌, ◌-◌, ◌*◌, ◌/◌, ◌%◌, ◌<◌, ◌≤◌, Bool, true, false, eqb, nat_lt, if◌then◌else◌, Option, Some, None, List, [], ◌∷◌, ◌++◌, length, slice_index, refl, sym, ap, ◌∙◌, append_assoc, arith}
+use Rattle.std.proofs.Common.{◌≡◌, ℕ, ◌+◌, ◌-◌, ◌*◌, ◌/◌, ◌%◌, ◌<◌, ◌≤◌, Bool, true, false, eqb, nat_lt}
+use Rattle.std.proofs.Common.{if◌then◌else◌, Option, Some, None, List, [], ◌∷◌, ◌++◌, length, slice_index}
+use Rattle.std.proofs.Common.{refl, sym, ap, ◌∙◌, append_assoc, arith}
 use Rattle.std.proofs.lemmas.Bool.Decides.{nat_tests}
 use Rattle.std.specs.Prelude.{codes}
 use Rattle.std.proofs.lemmas.List.{append-nil}
@@ -29,7 +31,8 @@ pub record Word (takes : Bool) (a : Option ℕ) : Type 0 where
 abbrev pub field_read : Field → ℕ → ℕ → List ℕ → Reading
 field_read fields.Source next address cs = general_read next cs
 field_read fields.Destination next address cs = general_read next cs
-field_read fields.Floating next address cs = if eqb (slice_index cs 0) 102 then (digits_value 8 (tail (tail cs)), None) else general_read next cs
+field_read fields.Floating next address cs =
+    if eqb (slice_index cs 0) 102 then (digits_value 8 (tail (tail cs)), None) else general_read next cs
 field_read fields.Register next address cs = (register_read cs, None)
 field_read fields.LowRegister next address cs = (register_read cs, None)
 field_read fields.Accumulator next address cs = (digits_value 8 (tail (tail cs)), None)
@@ -52,12 +55,14 @@ digits_f : (ds rest : List ℕ) → AreDigits ds → 0 < length ds → eqb (slic
 digits_f [] rest are some = absurd (omega arith)
 digits_f (d ∷ ds) rest are some = other_test d 102 (λ e. omega (arith, are.1))
 
-signed_f : (b : Bool) (n : ℕ) (rest : List ℕ) → n < 0o200000 → eqb (slice_index ((if b then octal n else codes "-" ++ octal (0o200000 - n)) ++ rest) 0) 102 ≡ false
+signed_f : (b : Bool) (n : ℕ) (rest : List ℕ) → n < 0o200000 →
+    eqb (slice_index ((if b then octal n else codes "-" ++ octal (0o200000 - n)) ++ rest) 0) 102 ≡ false
 signed_f true n rest h = let o = octal_is n h in digits_f (octal n) rest o.digits o.some
 signed_f false n rest h = refl
 
 -- no operand but a register or an accumulator begins with an f; the rest is for those following it in a line
-general_f : (m : Mode) (r : Register) (n next : ℕ) (rest : List ℕ) → n < 0o200000 → 1 ≤ mode_number m → eqb (slice_index (general_text m r n next ++ rest) 0) 102 ≡ false
+general_f : (m : Mode) (r : Register) (n next : ℕ) (rest : List ℕ) → n < 0o200000 → 1 ≤ mode_number m →
+    eqb (slice_index (general_text m r n next ++ rest) 0) 102 ≡ false
 general_f modes.Direct r n next rest h k = absurd (omega arith)
 general_f modes.Deferred r n next rest h k = refl
 general_f modes.IncrementDeferred r n next rest h k = refl
@@ -72,14 +77,29 @@ general_f modes.Increment R4 n next rest h k = refl
 general_f modes.Increment R5 n next rest h k = refl
 general_f modes.Increment Sp n next rest h k = refl
 general_f modes.Increment Pc n next rest h k = refl
-general_f modes.Index R0 n next rest h k = ap (λ l. eqb (slice_index l 0) 102) (append_assoc (signed n) (in_parentheses R0) rest) ∙ signed_f (nat_lt n 0o100000) n (in_parentheses R0 ++ rest) h
-general_f modes.Index R1 n next rest h k = ap (λ l. eqb (slice_index l 0) 102) (append_assoc (signed n) (in_parentheses R1) rest) ∙ signed_f (nat_lt n 0o100000) n (in_parentheses R1 ++ rest) h
-general_f modes.Index R2 n next rest h k = ap (λ l. eqb (slice_index l 0) 102) (append_assoc (signed n) (in_parentheses R2) rest) ∙ signed_f (nat_lt n 0o100000) n (in_parentheses R2 ++ rest) h
-general_f modes.Index R3 n next rest h k = ap (λ l. eqb (slice_index l 0) 102) (append_assoc (signed n) (in_parentheses R3) rest) ∙ signed_f (nat_lt n 0o100000) n (in_parentheses R3 ++ rest) h
-general_f modes.Index R4 n next rest h k = ap (λ l. eqb (slice_index l 0) 102) (append_assoc (signed n) (in_parentheses R4) rest) ∙ signed_f (nat_lt n 0o100000) n (in_parentheses R4 ++ rest) h
-general_f modes.Index R5 n next rest h k = ap (λ l. eqb (slice_index l 0) 102) (append_assoc (signed n) (in_parentheses R5) rest) ∙ signed_f (nat_lt n 0o100000) n (in_parentheses R5 ++ rest) h
-general_f modes.Index Sp n next rest h k = ap (λ l. eqb (slice_index l 0) 102) (append_assoc (signed n) (in_parentheses Sp) rest) ∙ signed_f (nat_lt n 0o100000) n (in_parentheses Sp ++ rest) h
-general_f modes.Index Pc n next rest h k = let o = octal_is ((n + next) % 0o200000) (omega arith) in digits_f (octal ((n + next) % 0o200000)) rest o.digits o.some
+general_f modes.Index R0 n next rest h k =
+    ap (λ l. eqb (slice_index l 0) 102) (append_assoc (signed n) (in_parentheses R0) rest)
+    ∙ signed_f (nat_lt n 0o100000) n (in_parentheses R0 ++ rest) h
+general_f modes.Index R1 n next rest h k =
+    ap (λ l. eqb (slice_index l 0) 102) (append_assoc (signed n) (in_parentheses R1) rest)
+    ∙ signed_f (nat_lt n 0o100000) n (in_parentheses R1 ++ rest) h
+general_f modes.Index R2 n next rest h k =
+    ap (λ l. eqb (slice_index l 0) 102) (append_assoc (signed n) (in_parentheses R2) rest)
+    ∙ signed_f (nat_lt n 0o100000) n (in_parentheses R2 ++ rest) h
+general_f modes.Index R3 n next rest h k =
+    ap (λ l. eqb (slice_index l 0) 102) (append_assoc (signed n) (in_parentheses R3) rest)
+    ∙ signed_f (nat_lt n 0o100000) n (in_parentheses R3 ++ rest) h
+general_f modes.Index R4 n next rest h k =
+    ap (λ l. eqb (slice_index l 0) 102) (append_assoc (signed n) (in_parentheses R4) rest)
+    ∙ signed_f (nat_lt n 0o100000) n (in_parentheses R4 ++ rest) h
+general_f modes.Index R5 n next rest h k =
+    ap (λ l. eqb (slice_index l 0) 102) (append_assoc (signed n) (in_parentheses R5) rest)
+    ∙ signed_f (nat_lt n 0o100000) n (in_parentheses R5 ++ rest) h
+general_f modes.Index Sp n next rest h k =
+    ap (λ l. eqb (slice_index l 0) 102) (append_assoc (signed n) (in_parentheses Sp) rest)
+    ∙ signed_f (nat_lt n 0o100000) n (in_parentheses Sp ++ rest) h
+general_f modes.Index Pc n next rest h k =
+    let o = octal_is ((n + next) % 0o200000) (omega arith) in digits_f (octal ((n + next) % 0o200000)) rest o.digits o.some
 
 -- a floating operand that is no accumulator
 pub floating_f : (v n next : ℕ) (rest : List ℕ) → v < 0o100 → 8 ≤ v → n < 0o200000 →
@@ -91,19 +111,25 @@ floating_f v n next rest h k fits =
 octal_value : (n : ℕ) → n < 0o200000 → digits_value 8 (octal n) ≡ n
 octal_value n h = (octal_is n h).value
 
-floating_back : (b : Bool) (v : ℕ) (a : Option ℕ) (next address : ℕ) → nat_lt v 8 ≡ b → v < 0o100 → Word (takes_word (Some (if b then operands.Accumulator v else general v))) a →
-    field_read fields.Floating next address (operand_text (if b then operands.Accumulator v else general v) (number a) next address) ≡ (v, a)
+floating_back : (b : Bool) (v : ℕ) (a : Option ℕ) (next address : ℕ) → nat_lt v 8 ≡ b → v < 0o100 →
+    Word (takes_word (Some (if b then operands.Accumulator v else general v))) a →
+    field_read fields.Floating next address
+    (operand_text (if b then operands.Accumulator v else general v) (number a) next address) ≡ (v, a)
 floating_back true v a next address e h w = pair_same (digits_value 8 (octal v)) v None a (octal_value v (omega arith)) (sym w.is)
 floating_back false v a next address e h w =
     let cs : List ℕ = general_text (mode_numbered (v / 8)) (register_numbered (v % 8)) (number a) next in
     let large : 8 ≤ v = grind (arith, nat_tests) in
-    let f : eqb (slice_index cs 0) 102 ≡ false = ap (λ l. eqb (slice_index l 0) 102) (sym (append-nil cs)) ∙ floating_f v (number a) next [] h large w.fits in
-    ap (λ (b : Bool). if b then (let x : Reading = (digits_value 8 (tail (tail cs)), None) in x) else general_read next cs) f ∙ general_value v a next h w
+    let f : eqb (slice_index cs 0) 102 ≡ false =
+    ap (λ l. eqb (slice_index l 0) 102) (sym (append-nil cs)) ∙ floating_f v (number a) next [] h large w.fits in
+    ap (λ (b : Bool). if b then (let x : Reading = (digits_value 8 (tail (tail cs)), None) in x) else general_read next cs) f
+    ∙ general_value v a next h w
 
-register_value : (v : ℕ) (a : Option ℕ) → v < 8 → Word false a → ◌≡◌ {A = Reading} (register_read (register_text (register_numbered v)), None) (v, a)
+register_value : (v : ℕ) (a : Option ℕ) → v < 8 → Word false a →
+    ◌≡◌ {A = Reading} (register_read (register_text (register_numbered v)), None) (v, a)
 register_value v a h w =
     pair_same (register_read (register_text (register_numbered v))) v None a
-    (ap register_read (sym (append-nil (register_text (register_numbered v)))) ∙ register_back (register_numbered v) [] ∙ register_again v h) (sym w.is)
+    (ap register_read (sym (append-nil (register_text (register_numbered v)))) ∙ register_back (register_numbered v) []
+    ∙ register_again v h) (sym w.is)
 
 forward_by : (b : Bool) (address v : ℕ) → nat_lt v 0o200 ≡ b → v < 0o400 →
     ((address + 2 + 2 * v + (if b then 0 else 0o177000)) % 0o200000 + 0o377776 - address % 0o200000) % 0o200000 / 2 % 0o400 ≡ v
@@ -169,7 +195,8 @@ increment_clean R5 n h = refl
 increment_clean Sp n h = refl
 increment_clean Pc n h = octal_clean n h
 
-signed_clean : (b : Bool) (n : ℕ) → n < 0o200000 → nat_lt n 0o100000 ≡ b → clean (if b then octal n else codes "-" ++ octal (0o200000 - n)) ≡ true
+signed_clean : (b : Bool) (n : ℕ) → n < 0o200000 → nat_lt n 0o100000 ≡ b →
+    clean (if b then octal n else codes "-" ++ octal (0o200000 - n)) ≡ true
 signed_clean true n h e = octal_clean n h
 signed_clean false n h e = let large : 0o100000 ≤ n = grind (arith, nat_tests) in octal_clean (0o200000 - n) (omega arith)
 
@@ -193,12 +220,14 @@ general_clean modes.DecrementDeferred r n next h = in_clean r
 general_clean modes.Index r n next h = index_clean r n next h
 general_clean modes.IndexDeferred r n next h = index_clean r n next h
 
-floating_clean : (b : Bool) (v n next address : ℕ) → v < 0o100 → n < 0o200000 → clean (operand_text (if b then operands.Accumulator v else general v) n next address) ≡ true
+floating_clean : (b : Bool) (v n next address : ℕ) → v < 0o100 → n < 0o200000 →
+    clean (operand_text (if b then operands.Accumulator v else general v) n next address) ≡ true
 floating_clean true v n next address h k = octal_clean v (omega arith)
 floating_clean false v n next address h k = general_clean (mode_numbered (v / 8)) (register_numbered (v % 8)) n next k
 
 -- no operand has a blank, a newline or a comma
-pub field_clean : (f : Field) (v n next address : ℕ) → v < size f → n < 0o200000 → clean (operand_text (operand_of f v) n next address) ≡ true
+pub field_clean : (f : Field) (v n next address : ℕ) → v < size f → n < 0o200000 →
+    clean (operand_text (operand_of f v) n next address) ≡ true
 field_clean fields.Source v n next address h k = general_clean (mode_numbered (v / 8)) (register_numbered (v % 8)) n next k
 field_clean fields.Destination v n next address h k = general_clean (mode_numbered (v / 8)) (register_numbered (v % 8)) n next k
 field_clean fields.Floating v n next address h k = floating_clean (nat_lt v 8) v n next address h k
@@ -211,5 +240,6 @@ field_clean fields.Byte v n next address h k = octal_clean v (omega arith)
 field_clean fields.SixBits v n next address h k = octal_clean v (omega arith)
 field_clean fields.ThreeBits v n next address h k = octal_clean v (omega arith)
 
-pub field_free : (f : Field) (v n next address : ℕ) → v < size f → n < 0o200000 → free 44 (operand_text (operand_of f v) n next address) ≡ true
+pub field_free : (f : Field) (v n next address : ℕ) → v < size f → n < 0o200000 →
+    free 44 (operand_text (operand_of f v) n next address) ≡ true
 field_free f v n next address h k = clean_comma (operand_text (operand_of f v) n next address) (field_clean f v n next address h k)

@@ -1,5 +1,7 @@
 -- A line has the words that it was made of.
-use Rattle.std.proofs.Common.{◌≡◌, ℕ, zero, suc, ◌+◌, ◌<◌, ◌≤◌, Bool, true, false, nat_lt, if◌then◌else◌, Option, Some, None, List, [], ◌∷◌, ◌++◌, length, take, drop, slice_get, slice_index, refl, sym, ap, ◌∙◌, arith}
+use Rattle.std.proofs.Common.{◌≡◌, ℕ, zero, suc, ◌+◌, ◌<◌, ◌≤◌, Bool, true, false, nat_lt, if◌then◌else◌}
+use Rattle.std.proofs.Common.{Option, Some, None, List, [], ◌∷◌, ◌++◌, length, take, drop, slice_get}
+use Rattle.std.proofs.Common.{slice_index, refl, sym, ap, ◌∙◌, arith}
 use Rattle.std.proofs.lemmas.Bool.Decides.{nat_tests}
 use Rattle.std.specs.List.{flat_map}
 use Rattle.std.proofs.lemmas.List.{length-drop, take-append-drop}
@@ -30,8 +32,10 @@ operand_words true true (x ∷ y ∷ rest) h = refl
 pub take_one_more : (n x : ℕ) (xs : List ℕ) → take (1 + n) (x ∷ xs) ≡ x ∷ take n xs
 take_one_more n x xs = let e : 1 + n ≡ suc n = omega arith in ap (λ k. take k (x ∷ xs)) e
 
-whole_words : (i : Instruction) (w : ℕ) (following : List ℕ) (b : Bool) → nat_lt (length following) (following_words i) ≡ b → first_word i ≡ w →
-    let line : Line = if b then Plain w else Decoded i (word_for i.first 0 following) (word_for i.second (word_count_of i.first) following) in
+whole_words : (i : Instruction) (w : ℕ) (following : List ℕ) (b : Bool) →
+    nat_lt (length following) (following_words i) ≡ b → first_word i ≡ w →
+    let line : Line =
+    if b then Plain w else Decoded i (word_for i.first 0 following) (word_for i.second (word_count_of i.first) following) in
     words_of line ≡ take (line_length line) (w ∷ following)
 whole_words i w following true test starts = sym (take_one_more 0 w following)
 whole_words i w following false test starts =
@@ -53,7 +57,8 @@ pub identity : IdentityLaw
 identity words place h =
     let w : ℕ = slice_index words place in
     let following : List ℕ = drop (place + 1) words in
-    line_words (instruction_of w) w following (first_word_again w) ∙ ap (take (line_length (line_at words place))) (sym (from_place words place h))
+    line_words (instruction_of w) w following (first_word_again w)
+    ∙ ap (take (line_length (line_at words place))) (sym (from_place words place h))
 
 counted_once : (b : Bool) → (if b then 1 else 0) ≤ 1
 counted_once true = omega arith
@@ -68,7 +73,8 @@ two_enough i following h =
 whole_line : (i : Instruction) (w : ℕ) (following : List ℕ) → 2 ≤ length following →
     line_of (Some i) w following ≡ Decoded i (word_for i.first 0 following) (word_for i.second (word_count_of i.first) following)
 whole_line i w following h =
-    ap (λ b. if b then Plain w else Decoded i (word_for i.first 0 following) (word_for i.second (word_count_of i.first) following)) (two_enough i following h)
+    ap (λ b. if b then Plain w else Decoded i (word_for i.first 0 following) (word_for i.second (word_count_of i.first) following))
+    (two_enough i following h)
 
 same_shape : (o : Option Instruction) (w : ℕ) (following : List ℕ) → 2 ≤ length following → shape (line_of o w following) ≡ o
 same_shape None w following h = refl
@@ -109,14 +115,17 @@ lines_back (suc n) (w ∷ following) h =
 pub total : TotalLaw
 total = record { whole = λ words. lines_back (length words) words (omega arith); short = length_from }
 
-start_by : (cut : Bool) (i : Instruction) (w : ℕ) (a b : Option ℕ) → first_word i ≡ w → start_of (if cut then Plain w else Decoded i a b) ≡ w
+start_by : (cut : Bool) (i : Instruction) (w : ℕ) (a b : Option ℕ) → first_word i ≡ w →
+    start_of (if cut then Plain w else Decoded i a b) ≡ w
 start_by true i w a b e = refl
 start_by false i w a b e = e
 
-line_start : (o : Option Instruction) (w : ℕ) (following : List ℕ) → ((i : Instruction) → o ≡ Some i → first_word i ≡ w) → start_of (line_of o w following) ≡ w
+line_start : (o : Option Instruction) (w : ℕ) (following : List ℕ) →
+    ((i : Instruction) → o ≡ Some i → first_word i ≡ w) → start_of (line_of o w following) ≡ w
 line_start None w following starts = refl
 line_start (Some i) w following starts =
-    start_by (nat_lt (length following) (following_words i)) i w (word_for i.first 0 following) (word_for i.second (word_count_of i.first) following) (starts i refl)
+    start_by (nat_lt (length following) (following_words i)) i w (word_for i.first 0 following)
+    (word_for i.second (word_count_of i.first) following) (starts i refl)
 
 fits_by : (b : Bool) (i : Instruction) (w : ℕ) (following : List ℕ) (x y : Option ℕ) → nat_lt (length following) (following_words i) ≡ b →
     line_length (if b then Plain w else Decoded i x y) ≤ 1 + length following
@@ -126,13 +135,15 @@ fits_by false i w following x y test = grind (arith, nat_tests)
 pub line_within : (o : Option Instruction) (w : ℕ) (following : List ℕ) → line_length (line_of o w following) ≤ 1 + length following
 line_within None w following = omega arith
 line_within (Some i) w following =
-    fits_by (nat_lt (length following) (following_words i)) i w following (word_for i.first 0 following) (word_for i.second (word_count_of i.first) following) refl
+    fits_by (nat_lt (length following) (following_words i)) i w following (word_for i.first 0 following)
+    (word_for i.second (word_count_of i.first) following) refl
 
 -- a line ends with the words at the latest
 pub line_fits : (words : List ℕ) (place : ℕ) → place < length words → place + line_length (line_at words place) ≤ length words
 line_fits words place h =
     let w : ℕ = slice_index words place in
-    let short : line_length (line_at words place) ≤ 1 + length (drop (place + 1) words) = line_within (instruction_of w) w (drop (place + 1) words) in
+    let short : line_length (line_at words place) ≤ 1 + length (drop (place + 1) words) =
+    line_within (instruction_of w) w (drop (place + 1) words) in
     omega (arith, length-drop (place + 1) words)
 
 -- a line begins with the word that it was made of

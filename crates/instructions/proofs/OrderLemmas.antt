@@ -1,5 +1,7 @@
 -- The rows of the table are in the order of their words, so the row of a word is found by halves.
-use Rattle.std.proofs.Common.{◌≡◌, ℕ, ◌+◌, ◌-◌, ◌*◌, ◌<◌, ◌≤◌, Bool, true, false, ◌&&◌, nat_le, nat_lt, if◌then◌else◌, Option, Some, None, List, [], ◌∷◌, ◌++◌, length, slice_index_or, refl, sym, ap, subst, ◌∙◌, cond, arith}
+use Rattle.std.proofs.Common.{◌≡◌, ℕ, ◌+◌, ◌-◌, ◌*◌, ◌<◌, ◌≤◌, Bool, true, false, ◌&&◌, nat_le, nat_lt}
+use Rattle.std.proofs.Common.{if◌then◌else◌, Option, Some, None, List, [], ◌∷◌, ◌++◌, length, slice_index_or}
+use Rattle.std.proofs.Common.{refl, sym, ap, subst, ◌∙◌, cond, arith}
 use Rattle.std.proofs.lemmas.Bool.Decides.{nat_tests}
 use Rattle.std.specs.List.{find, filter}
 use Rattle.instructions.specs.declared.field.Field.{Field}
@@ -80,7 +82,8 @@ follows low (r ∷ front) row back h =
     let rest = follows (last r + 1) front row back parts.1 in
     omega arith
 
-front_in_order : (low : ℕ) (front : List Row) (row : Row) (back : List Row) → are_in_order low (front ++ row ∷ back) ≡ true → are_in_order low front ≡ true
+front_in_order : (low : ℕ) (front : List Row) (row : Row) (back : List Row) →
+    are_in_order low (front ++ row ∷ back) ≡ true → are_in_order low front ≡ true
 front_in_order low [] row back h = refl
 front_in_order low (r ∷ front) row back h =
     let parts = both (nat_le low r.base) (are_in_order (last r + 1) (front ++ row ∷ back)) h in
@@ -158,7 +161,8 @@ exchanged true true r s rest n h = absurd (omega arith)
 exchanged true false r s rest n h = refl
 exchanged false b r s rest n h = refl
 
-found_by : (w : ℕ) (row other : Row) (rows rest : List Row) (t : Bool) → length (rows_with w (row ∷ (other ∷ rows))) ≤ 1 → found w rest ≡ found w (row ∷ rows) →
+found_by : (w : ℕ) (row other : Row) (rows rest : List Row) (t : Bool) →
+    length (rows_with w (row ∷ (other ∷ rows))) ≤ 1 → found w rest ≡ found w (row ∷ rows) →
     found w (if t then row ∷ (other ∷ rows) else other ∷ rest) ≡ found w (row ∷ (other ∷ rows))
 found_by w row other rows rest true one e = refl
 found_by w row other rows rest false one e =
@@ -167,7 +171,8 @@ found_by w row other rows rest false one e =
     ap (λ o. cond (begins other w) (Some other) o) e
     ∙ exchanged (begins row w) (begins other w) row other (found w rows) (length (rows_with w rows)) (omega (arith, c, d, one))
 
-placed_found : (w : ℕ) (row : Row) (rows : List Row) → length (rows_with w (row ∷ rows)) ≤ 1 → found w (placed row rows) ≡ found w (row ∷ rows)
+placed_found : (w : ℕ) (row : Row) (rows : List Row) → length (rows_with w (row ∷ rows)) ≤ 1 →
+    found w (placed row rows) ≡ found w (row ∷ rows)
 placed_found w row [] one = refl
 placed_found w row (other ∷ rows) one =
     let b = counted (begins row w) row (rows_with w rows) in
@@ -192,8 +197,8 @@ none_counted low w (r ∷ rows) h small =
     let not_this : begins r w ≡ false = is_false (begins r w) (λ is. let within = words_within r w is in omega arith) in
     ap (λ b. length (cond b (r ∷ rows_with w rows) (rows_with w rows))) not_this ∙ none_counted (last r + 1) w rows parts.1 (omega arith)
 
-one_by : (w : ℕ) (r : Row) (rows : List Row) (b : Bool) → begins r w ≡ b → (b ≡ true → length (rows_with w rows) ≡ 0) → length (rows_with w rows) ≤ 1 →
-    length (cond b (r ∷ rows_with w rows) (rows_with w rows)) ≤ 1
+one_by : (w : ℕ) (r : Row) (rows : List Row) (b : Bool) → begins r w ≡ b → (b ≡ true → length (rows_with w rows) ≡ 0) →
+    length (rows_with w rows) ≤ 1 → length (cond b (r ∷ rows_with w rows) (rows_with w rows)) ≤ 1
 one_by w r rows true is none one = omega (arith, none refl)
 one_by w r rows false is none one = one
 
@@ -206,7 +211,9 @@ one_counted low w (r ∷ rows) h =
     (one_counted (last r + 1) w rows parts.1)
 
 pub one_row : OneRow
-one_row w = let same = order_count w table in let one : length (rows_with w ROWS) ≤ 1 = one_counted 0 w ROWS refl in omega (arith, same, one, ap (λ rows. length (rows_with w rows)) same_table)
+one_row w =
+    let same = order_count w table in let one : length (rows_with w ROWS) ≤ 1 = one_counted 0 w ROWS refl in
+    omega (arith, same, one, ap (λ rows. length (rows_with w rows)) same_table)
 
 pub table_holds : (w : ℕ) → Holds w ROWS
 unfolding row_of

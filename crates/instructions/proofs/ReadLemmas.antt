@@ -1,5 +1,6 @@
 -- The text of an operand is read back.
-use Rattle.std.proofs.Common.{◌≡◌, ℕ, ◌+◌, ◌-◌, ◌*◌, ◌%◌, ◌<◌, ◌≤◌, Bool, true, false, eqb, nat_lt, if◌then◌else◌, Option, Some, None, List, [], ◌∷◌, ◌++◌, length, slice_index, refl, sym, ap, ◌∙◌, arith}
+use Rattle.std.proofs.Common.{◌≡◌, ℕ, ◌+◌, ◌-◌, ◌*◌, ◌%◌, ◌<◌, ◌≤◌, Bool, true, false, eqb, nat_lt, if◌then◌else◌}
+use Rattle.std.proofs.Common.{Option, Some, None, List, [], ◌∷◌, ◌++◌, length, slice_index, refl, sym, ap, ◌∙◌, arith}
 use Rattle.std.proofs.lemmas.Bool.Decides.{nat_tests}
 use Rattle.std.specs.Prelude.{codes}
 use Rattle.std.proofs.lemmas.List.{append-nil}
@@ -90,7 +91,8 @@ digit_start d low high =
     rw (a, b, c, e) refl
 
 -- digits that nothing follows
-plain_digits : (ds : List ℕ) (next : ℕ) → AreDigits ds → 0 < length ds → base_read next ds ≡ (0o67, Some ((digits_value 8 ds + 0o200000 - next % 0o200000) % 0o200000))
+plain_digits : (ds : List ℕ) (next : ℕ) → AreDigits ds → 0 < length ds →
+    base_read next ds ≡ (0o67, Some ((digits_value 8 ds + 0o200000 - next % 0o200000) % 0o200000))
 plain_digits [] next are some = absurd (omega arith)
 plain_digits (d ∷ ds) next are some =
     let p : past 40 ((d ∷ ds) ++ []) ≡ [] = (until_past 40 (d ∷ ds) [] (digits_free 40 (d ∷ ds) (omega arith) are) tt).1 in
@@ -130,7 +132,8 @@ signed_by false r n next e h =
     let large : 0o100000 ≤ n = grind (arith, nat_tests) in
     let o = octal_is (0o200000 - n) (omega arith) in
     let back : 0o200000 - digits_value 8 (octal (0o200000 - n)) ≡ n = omega (arith, o.value) in
-    minus_register (octal (0o200000 - n)) r next o.digits o.some ∙ ap (λ (k : ℕ). let x : Reading = (0o60 + register_number r, Some k) in x) back
+    minus_register (octal (0o200000 - n)) r next o.digits o.some
+    ∙ ap (λ (k : ℕ). let x : Reading = (0o60 + register_number r, Some k) in x) back
 
 address_back : (n next : ℕ) → n < 0o200000 → ((n + next) % 0o200000 + 0o200000 - next % 0o200000) % 0o200000 ≡ n
 address_back n next h = omega arith
@@ -168,7 +171,8 @@ increment_star R5 n = refl
 increment_star Sp n = refl
 increment_star Pc n = refl
 
-signed_star : (b : Bool) (n : ℕ) (rest : List ℕ) → n < 0o200000 → eqb (slice_index ((if b then octal n else codes "-" ++ octal (0o200000 - n)) ++ rest) 0) 42 ≡ false
+signed_star : (b : Bool) (n : ℕ) (rest : List ℕ) → n < 0o200000 →
+    eqb (slice_index ((if b then octal n else codes "-" ++ octal (0o200000 - n)) ++ rest) 0) 42 ≡ false
 signed_star true n rest h = let o = octal_is n h in digits_star (octal n) rest o.digits o.some
 signed_star false n rest h = refl
 
@@ -182,7 +186,8 @@ index_star R5 n next h = signed_star (nat_lt n 0o100000) n (in_parentheses R5) h
 index_star Sp n next h = signed_star (nat_lt n 0o100000) n (in_parentheses Sp) h
 index_star Pc n next h =
     let o = octal_is ((n + next) % 0o200000) (omega arith) in
-    ap (λ l. eqb (slice_index l 0) 42) (sym (append-nil (octal ((n + next) % 0o200000)))) ∙ digits_star (octal ((n + next) % 0o200000)) [] o.digits o.some
+    ap (λ l. eqb (slice_index l 0) 42) (sym (append-nil (octal ((n + next) % 0o200000))))
+    ∙ digits_star (octal ((n + next) % 0o200000)) [] o.digits o.some
 
 unstarred : (next : ℕ) (cs : List ℕ) (x : Reading) → eqb (slice_index cs 0) 42 ≡ false → base_read next cs ≡ x → general_read next cs ≡ x
 unstarred next cs x e h = ap (λ b. if b then starred (base_read next (tail cs)) else base_read next cs) e ∙ h
@@ -209,9 +214,11 @@ starred_index Pc n = refl
 
 -- a general operand is read back
 pub general_back : (m : Mode) (r : Register) (n next : ℕ) → n < 0o200000 → general_read next (general_text m r n next) ≡ reading m r n
-general_back modes.Increment r n next h = unstarred next (increment_text r n) (reading modes.Increment r n) (increment_star r n) (increment_back r n next h)
+general_back modes.Increment r n next h =
+    unstarred next (increment_text r n) (reading modes.Increment r n) (increment_star r n) (increment_back r n next h)
 general_back modes.IncrementDeferred r n next h = ap starred (increment_back r n next h) ∙ starred_increment r n
-general_back modes.Index r n next h = unstarred next (index_text r n next) (reading modes.Index r n) (index_star r n next h) (index_back r n next h)
+general_back modes.Index r n next h =
+    unstarred next (index_text r n next) (reading modes.Index r n) (index_star r n next h) (index_back r n next h)
 general_back modes.IndexDeferred r n next h = ap starred (index_back r n next h) ∙ starred_index r n
 general_back modes.Direct R0 n next h = refl
 general_back modes.Direct R1 n next h = refl

@@ -1,5 +1,6 @@
 -- Texts that are taken apart at their first separator, and octal numbers that are read back.
-use Rattle.std.proofs.Common.{◌≡◌, ℕ, ◌^◌, ◌<◌, ◌≤◌, Bool, true, false, eqb, nat_lt, if◌then◌else◌, List, [], ◌∷◌, ◌++◌, length, refl, ap, ◌∙◌, arith}
+use Rattle.std.proofs.Common.{◌≡◌, ℕ, ◌^◌, ◌<◌, ◌≤◌, Bool, true, false, eqb, nat_lt, if◌then◌else◌}
+use Rattle.std.proofs.Common.{List, [], ◌∷◌, ◌++◌, length, refl, ap, ◌∙◌, arith}
 use Rattle.std.proofs.lemmas.Bool.Decides.{nat_tests}
 use Rattle.std.proofs.lemmas.Fmt.{digits_is_IsNumeral}
 use Rattle.std.proofs.lemmas.Str.Parse.{digit_from_value}
@@ -89,7 +90,8 @@ abbrev pub clean : List ℕ → Bool
 clean [] = true
 clean (x ∷ xs) = if nat_lt x 33 then false else (if eqb x 44 then false else clean xs)
 
-clean_parts : (b d : Bool) (xs : List ℕ) → (if b then false else (if d then false else clean xs)) ≡ true → (b ≡ false) × (d ≡ false) × (clean xs ≡ true)
+clean_parts : (b d : Bool) (xs : List ℕ) → (if b then false else (if d then false else clean xs)) ≡ true →
+    (b ≡ false) × (d ≡ false) × (clean xs ≡ true)
 clean_parts true d xs h = absurd cc
 clean_parts false true xs h = absurd cc
 clean_parts false false xs h = (refl, refl, h)
@@ -103,7 +105,8 @@ clean_append (x ∷ xs) ys f g =
 
 pub clean_comma : (xs : List ℕ) → clean xs ≡ true → free 44 xs ≡ true
 clean_comma [] h = refl
-clean_comma (x ∷ xs) h = let t = clean_parts (nat_lt x 33) (eqb x 44) xs h in ap (λ b. if b then false else free 44 xs) t.1 ∙ clean_comma xs t.2
+clean_comma (x ∷ xs) h =
+    let t = clean_parts (nat_lt x 33) (eqb x 44) xs h in ap (λ b. if b then false else free 44 xs) t.1 ∙ clean_comma xs t.2
 
 large_is_other : (x c : ℕ) → nat_lt x 33 ≡ false → c < 33 → eqb x c ≡ false
 large_is_other x c h low = let large : 33 ≤ x = grind (arith, nat_tests) in other_test x c (λ e. omega arith)
@@ -111,7 +114,8 @@ large_is_other x c h low = let large : 33 ≤ x = grind (arith, nat_tests) in ot
 pub clean_free : (c : ℕ) (xs : List ℕ) → c < 33 → clean xs ≡ true → free c xs ≡ true
 clean_free c [] low h = refl
 clean_free c (x ∷ xs) low h =
-    let t = clean_parts (nat_lt x 33) (eqb x 44) xs h in ap (λ b. if b then false else free c xs) (large_is_other x c t.0 low) ∙ clean_free c xs low t.2
+    let t = clean_parts (nat_lt x 33) (eqb x 44) xs h in
+    ap (λ b. if b then false else free c xs) (large_is_other x c t.0 low) ∙ clean_free c xs low t.2
 
 digit_large : (d : ℕ) → 48 ≤ d → nat_lt d 33 ≡ false
 digit_large d h = grind (arith, nat_tests)

@@ -1,5 +1,6 @@
 -- What holds of each row of the table: by its name, and by whether an accumulator stands following it, it is found again.
-use Rattle.std.proofs.Common.{◌≡◌, ℕ, Bool, true, false, eqb, nat_lt, if◌then◌else◌, Option, Some, None, List, [], ◌∷◌, ◌++◌, slice_index, refl, ap, subst, ◌∙◌, cond}
+use Rattle.std.proofs.Common.{◌≡◌, ℕ, Bool, true, false, eqb, nat_lt, if◌then◌else◌, Option, Some, None, List}
+use Rattle.std.proofs.Common.{[], ◌∷◌, ◌++◌, slice_index, refl, ap, subst, ◌∙◌, cond}
 use Rattle.std.specs.Prelude.{codes, option_map}
 use Rattle.std.specs.List.{find}
 use Rattle.instructions.specs.declared.field.Field.{Field}
@@ -62,7 +63,8 @@ each_sound : Each ROWS
 unfolding layout
 each_sound = (record { letter = λ rest. refl; blank = refl; clean = refl; alone = λ e. refl; floating = λ e. cc; accumulator = λ e. cc; ldf = λ e. absurd cc; sys = λ e. cc; found = λ a e. refl }, (record { letter = λ rest. refl; blank = refl; clean = refl; alone = λ e. refl; floating = λ e. cc; accumulator = λ e. cc; ldf = λ e. absurd cc; sys = λ e. cc; found = λ a e. refl }, (record { letter = λ rest. refl; blank = refl; clean = refl; alone = λ e. refl; floating = λ e. cc; accumulator = λ e. cc; ldf = λ e. absurd cc; sys = λ e. cc; found = λ a e. refl }, (record { letter = λ rest. refl; blank = refl; clean = refl; alone = λ e. refl; floating = λ e. cc; accumulator = λ e. cc; ldf = λ e. absurd cc; sys = λ e. cc; found = λ a e. refl }, (record { letter = λ rest. refl; blank = refl; clean = refl; alone = λ e. refl; floating = λ e. cc; accumulator = λ e. cc; ldf = λ e. absurd cc; sys = λ e. cc; found = λ a e. refl }, (record { letter = λ rest. refl; blank = refl; clean = refl; alone = λ e. refl; floating = λ e. cc; accumulator = λ e. cc; ldf = λ e. absurd cc; sys = λ e. cc; found = λ a e. refl }, (record { letter = λ rest. refl; blank = refl; clean = refl; alone = λ e. refl; floating = λ e. cc; accumulator = λ e. cc; ldf = λ e. absurd cc; sys = λ e. cc; found = λ a e. refl }, (record { letter = λ rest. refl; blank = refl; clean = refl; alone = λ e. cc; floating = λ e. cc; accumulator = λ e. cc; ldf = λ e. absurd cc; sys = λ e. cc; found = λ a e. refl }, (record { letter = λ rest. refl; blank = refl; clean = refl; alone = λ e. cc; floating = λ e. cc; accumulator = λ e. cc; ldf = λ e. absurd cc; sys = λ e. cc; found = λ a e. refl }, (record { letter = λ rest. refl; blank = refl; clean = refl; alone = λ e. cc; floating = λ e. cc; accumulator = λ e. cc; ldf = λ e. absurd cc; sys = λ e. cc; found = λ a e. refl }, (record { letter = λ rest. refl; blank = refl; clean = refl; alone = λ e. refl; floating = λ e. cc; accumulator = λ e. cc; ldf = λ e. absurd cc; sys = λ e. cc; found = λ a e. refl }, (record { letter = λ rest. refl; blank = refl; clean = refl; alone = λ e. refl; floating = λ e. cc; accumulator = λ e. cc; ldf = λ e. absurd cc; sys = λ e. cc; found = λ a e. refl }, (record { letter = λ rest. refl; blank = refl; clean = refl; alone = λ e. refl; floating = λ e. cc; accumulator = λ e. cc; ldf = λ e. absurd cc; sys = λ e. cc; found = λ a e. refl }, (record { letter = λ rest. refl; blank = refl; clean = refl; alone = λ e. refl; floating = λ e. cc; accumulator = λ e. cc; ldf = λ e. absurd cc; sys = λ e. cc; found = λ a e. refl }, (record { letter = λ rest. refl; blank = refl; clean = refl; alone = λ e. refl; floating = λ e. cc; accumulator = λ e. cc; ldf = λ e. absurd cc; sys = λ e. cc; found = λ a e. refl }, (record { letter = λ rest. refl; blank = refl; clean = refl; alone = λ e. refl; floating = λ e. cc; accumulator = λ e. cc; ldf = λ e. absurd cc; sys = λ e. cc; found = λ a e. refl }, (record { letter = λ rest. refl; blank = refl; clean = refl; alone = λ e. refl; floating = λ e. cc; accumulator = λ e. cc; ldf = λ e. absurd cc; sys = λ e. cc; found = λ a e. refl }, (record { letter = λ rest. refl; blank = refl; clean = refl; alone = λ e. refl; floating = λ e. cc; accumulator = λ e. cc; ldf = λ e. absurd cc; sys = λ e. cc; found = λ a e. refl }, (record { letter = λ rest. refl; blank = refl; clean = refl; alone = λ e. refl; floating = λ e. cc; accumulator = λ e. cc; ldf = λ e. absurd cc; sys = λ e. cc; found = λ a e. refl }, (record { letter = λ rest. refl; blank = refl; clean = refl; alone = λ e. refl; floating = λ e. cc; accumulator = λ e. cc; ldf = λ e. absurd cc; sys = λ e. cc; found = λ a e. refl }, (record { letter = λ rest. refl; blank = refl; clean = refl; alone = λ e. refl; floating = λ e. cc; accumulator = λ e. cc; ldf = λ e. absurd cc; sys = λ e. cc; found = λ a e. refl }, (record { letter = λ rest. refl; blank = refl; clean = refl; alone = λ e. cc; floating = λ e. cc; accumulator = λ e. cc; ldf = λ e. absurd cc; sys = λ e. cc; found = λ a e. refl }, (record { letter = λ rest. refl; blank = refl; clean = refl; alone = λ e. cc; floating = λ e. cc; accumulator = λ e. cc; ldf = λ e. absurd cc; sys = λ e. cc; found = λ a e. refl }, (record { letter = λ rest. refl; blank = refl; clean = refl; alone = λ e. cc; floating = λ e. cc; accumulator = λ e. cc; ldf = λ e. absurd cc; sys = λ e. cc; found = λ a e. refl }, (record { letter = λ rest. refl; blank = refl; clean = refl; alone = λ e. cc; floating = λ e. cc; accumulator = λ e. cc; ldf = λ e. absurd cc; sys = λ e. cc; found = λ a e. refl }, (record { letter = λ rest. refl; blank = refl; clean = refl; alone = λ e. cc; floating = λ e. cc; accumulator = λ e. cc; ldf = λ e. absurd cc; sys = λ e. cc; found = λ a e. refl }, (record { letter = λ rest. refl; blank = refl; clean = refl; alone = λ e. cc; floating = λ e. cc; accumulator = λ e. cc; ldf = λ e. absurd cc; sys = λ e. cc; found = λ a e. refl }, (record { letter = λ rest. refl; blank = refl; clean = refl; alone = λ e. cc; floating = λ e. cc; accumulator = λ e. cc; ldf = λ e. absurd cc; sys = λ e. cc; found = λ a e. refl }, (record { letter = λ rest. refl; blank = refl; clean = refl; alone = λ e. cc; floating = λ e. cc; accumulator = λ e. cc; ldf = λ e. absurd cc; sys = λ e. cc; found = λ a e. refl }, (record { letter = λ rest. refl; blank = refl; clean = refl; alone = λ e. cc; floating = λ e. cc; accumulator = λ e. cc; ldf = λ e. absurd cc; sys = λ e. cc; found = λ a e. refl }, (record { letter = λ rest. refl; blank = refl; clean = refl; alone = λ e. cc; floating = λ e. cc; accumulator = λ e. cc; ldf = λ e. absurd cc; sys = λ e. cc; found = λ a e. refl }, (record { letter = λ rest. refl; blank = refl; clean = refl; alone = λ e. cc; floating = λ e. cc; accumulator = λ e. cc; ldf = λ e. absurd cc; sys = λ e. cc; found = λ a e. refl }, (record { letter = λ rest. refl; blank = refl; clean = refl; alone = λ e. cc; floating = λ e. cc; accumulator = λ e. cc; ldf = λ e. absurd cc; sys = λ e. cc; found = λ a e. refl }, (record { letter = λ rest. refl; blank = refl; clean = refl; alone = λ e. cc; floating = λ e. cc; accumulator = λ e. cc; ldf = λ e. absurd cc; sys = λ e. cc; found = λ a e. refl }, (record { letter = λ rest. refl; blank = refl; clean = refl; alone = λ e. cc; floating = λ e. cc; accumulator = λ e. cc; ldf = λ e. absurd cc; sys = λ e. cc; found = λ a e. refl }, (record { letter = λ rest. refl; blank = refl; clean = refl; alone = λ e. cc; floating = λ e. cc; accumulator = λ e. cc; ldf = λ e. absurd cc; sys = λ e. cc; found = λ a e. refl }, (record { letter = λ rest. refl; blank = refl; clean = refl; alone = λ e. cc; floating = λ e. cc; accumulator = λ e. cc; ldf = λ e. absurd cc; sys = λ e. cc; found = λ a e. refl }, (record { letter = λ rest. refl; blank = refl; clean = refl; alone = λ e. cc; floating = λ e. cc; accumulator = λ e. cc; ldf = λ e. absurd cc; sys = λ e. cc; found = λ a e. refl }, (record { letter = λ rest. refl; blank = refl; clean = refl; alone = λ e. cc; floating = λ e. cc; accumulator = λ e. cc; ldf = λ e. absurd cc; sys = λ e. cc; found = λ a e. refl }, (record { letter = λ rest. refl; blank = refl; clean = refl; alone = λ e. cc; floating = λ e. cc; accumulator = λ e. cc; ldf = λ e. absurd cc; sys = λ e. cc; found = λ a e. refl }, (record { letter = λ rest. refl; blank = refl; clean = refl; alone = λ e. cc; floating = λ e. cc; accumulator = λ e. cc; ldf = λ e. absurd cc; sys = λ e. cc; found = λ a e. refl }, (record { letter = λ rest. refl; blank = refl; clean = refl; alone = λ e. cc; floating = λ e. cc; accumulator = λ e. cc; ldf = λ e. absurd cc; sys = λ e. cc; found = λ a e. refl }, (record { letter = λ rest. refl; blank = refl; clean = refl; alone = λ e. cc; floating = λ e. cc; accumulator = λ e. cc; ldf = λ e. absurd cc; sys = λ e. cc; found = λ a e. refl }, (record { letter = λ rest. refl; blank = refl; clean = refl; alone = λ e. cc; floating = λ e. cc; accumulator = λ e. cc; ldf = λ e. absurd cc; sys = λ e. cc; found = λ a e. refl }, (record { letter = λ rest. refl; blank = refl; clean = refl; alone = λ e. cc; floating = λ e. cc; accumulator = λ e. cc; ldf = λ e. absurd cc; sys = λ e. cc; found = λ a e. refl }, (record { letter = λ rest. refl; blank = refl; clean = refl; alone = λ e. cc; floating = λ e. cc; accumulator = λ e. cc; ldf = λ e. absurd cc; sys = λ e. cc; found = λ a e. refl }, (record { letter = λ rest. refl; blank = refl; clean = refl; alone = λ e. cc; floating = λ e. cc; accumulator = λ e. cc; ldf = λ e. absurd cc; sys = λ e. cc; found = λ a e. refl }, (record { letter = λ rest. refl; blank = refl; clean = refl; alone = λ e. cc; floating = λ e. cc; accumulator = λ e. cc; ldf = λ e. absurd cc; sys = λ e. cc; found = λ a e. refl }, (record { letter = λ rest. refl; blank = refl; clean = refl; alone = λ e. cc; floating = λ e. cc; accumulator = λ e. cc; ldf = λ e. absurd cc; sys = λ e. cc; found = λ a e. refl }, (record { letter = λ rest. refl; blank = refl; clean = refl; alone = λ e. cc; floating = λ e. cc; accumulator = λ e. cc; ldf = λ e. absurd cc; sys = λ e. cc; found = λ a e. refl }, (record { letter = λ rest. refl; blank = refl; clean = refl; alone = λ e. cc; floating = λ e. cc; accumulator = λ e. cc; ldf = λ e. absurd cc; sys = λ e. cc; found = λ a e. refl }, (record { letter = λ rest. refl; blank = refl; clean = refl; alone = λ e. cc; floating = λ e. cc; accumulator = λ e. cc; ldf = λ e. absurd cc; sys = λ e. cc; found = λ a e. refl }, (record { letter = λ rest. refl; blank = refl; clean = refl; alone = λ e. cc; floating = λ e. cc; accumulator = λ e. cc; ldf = λ e. absurd cc; sys = λ e. cc; found = λ a e. refl }, (record { letter = λ rest. refl; blank = refl; clean = refl; alone = λ e. cc; floating = λ e. cc; accumulator = λ e. cc; ldf = λ e. absurd cc; sys = λ e. cc; found = λ a e. refl }, (record { letter = λ rest. refl; blank = refl; clean = refl; alone = λ e. cc; floating = λ e. cc; accumulator = λ e. cc; ldf = λ e. absurd cc; sys = λ e. cc; found = λ a e. refl }, (record { letter = λ rest. refl; blank = refl; clean = refl; alone = λ e. cc; floating = λ e. cc; accumulator = λ e. cc; ldf = λ e. absurd cc; sys = λ e. cc; found = λ a e. refl }, (record { letter = λ rest. refl; blank = refl; clean = refl; alone = λ e. cc; floating = λ e. cc; accumulator = λ e. cc; ldf = λ e. absurd cc; sys = λ e. cc; found = λ a e. refl }, (record { letter = λ rest. refl; blank = refl; clean = refl; alone = λ e. cc; floating = λ e. cc; accumulator = λ e. cc; ldf = λ e. absurd cc; sys = λ e. cc; found = λ a e. refl }, (record { letter = λ rest. refl; blank = refl; clean = refl; alone = λ e. cc; floating = λ e. cc; accumulator = λ e. cc; ldf = λ e. absurd cc; sys = λ e. cc; found = λ a e. refl }, (record { letter = λ rest. refl; blank = refl; clean = refl; alone = λ e. cc; floating = λ e. cc; accumulator = λ e. cc; ldf = λ e. absurd cc; sys = λ e. cc; found = λ a e. refl }, (record { letter = λ rest. refl; blank = refl; clean = refl; alone = λ e. cc; floating = λ e. cc; accumulator = λ e. cc; ldf = λ e. absurd cc; sys = λ e. cc; found = λ a e. refl }, (record { letter = λ rest. refl; blank = refl; clean = refl; alone = λ e. cc; floating = λ e. cc; accumulator = λ e. cc; ldf = λ e. absurd cc; sys = λ e. cc; found = λ a e. refl }, (record { letter = λ rest. refl; blank = refl; clean = refl; alone = λ e. cc; floating = λ e. cc; accumulator = λ e. cc; ldf = λ e. absurd cc; sys = λ e. cc; found = λ a e. refl }, (record { letter = λ rest. refl; blank = refl; clean = refl; alone = λ e. cc; floating = λ e. cc; accumulator = λ e. cc; ldf = λ e. absurd cc; sys = λ e. cc; found = λ a e. refl }, (record { letter = λ rest. refl; blank = refl; clean = refl; alone = λ e. cc; floating = λ e. cc; accumulator = λ e. cc; ldf = λ e. absurd cc; sys = λ e. cc; found = λ a e. refl }, (record { letter = λ rest. refl; blank = refl; clean = refl; alone = λ e. cc; floating = λ e. cc; accumulator = λ e. cc; ldf = λ e. absurd cc; sys = λ e. cc; found = λ a e. refl }, (record { letter = λ rest. refl; blank = refl; clean = refl; alone = λ e. cc; floating = λ e. cc; accumulator = λ e. cc; ldf = λ e. absurd cc; sys = λ e. cc; found = λ a e. refl }, (record { letter = λ rest. refl; blank = refl; clean = refl; alone = λ e. cc; floating = λ e. cc; accumulator = λ e. cc; ldf = λ e. absurd cc; sys = λ e. cc; found = λ a e. refl }, (record { letter = λ rest. refl; blank = refl; clean = refl; alone = λ e. cc; floating = λ e. cc; accumulator = λ e. cc; ldf = λ e. absurd cc; sys = λ e. cc; found = λ a e. refl }, (record { letter = λ rest. refl; blank = refl; clean = refl; alone = λ e. cc; floating = λ e. cc; accumulator = λ e. cc; ldf = λ e. absurd cc; sys = λ e. cc; found = λ a e. refl }, (record { letter = λ rest. refl; blank = refl; clean = refl; alone = λ e. cc; floating = λ e. cc; accumulator = λ e. cc; ldf = λ e. absurd cc; sys = λ e. cc; found = λ a e. refl }, (record { letter = λ rest. refl; blank = refl; clean = refl; alone = λ e. cc; floating = λ e. cc; accumulator = λ e. cc; ldf = λ e. absurd cc; sys = λ e. cc; found = λ a e. refl }, (record { letter = λ rest. refl; blank = refl; clean = refl; alone = λ e. cc; floating = λ e. cc; accumulator = λ e. cc; ldf = λ e. absurd cc; sys = λ e. cc; found = λ a e. refl }, (record { letter = λ rest. refl; blank = refl; clean = refl; alone = λ e. cc; floating = λ e. cc; accumulator = λ e. cc; ldf = λ e. absurd cc; sys = λ e. cc; found = λ a e. refl }, (record { letter = λ rest. refl; blank = refl; clean = refl; alone = λ e. cc; floating = λ e. cc; accumulator = λ e. cc; ldf = λ e. absurd cc; sys = λ e. cc; found = λ a e. refl }, (record { letter = λ rest. refl; blank = refl; clean = refl; alone = λ e. cc; floating = λ e. cc; accumulator = λ e. cc; ldf = λ e. absurd cc; sys = λ e. cc; found = λ a e. refl }, (record { letter = λ rest. refl; blank = refl; clean = refl; alone = λ e. cc; floating = λ e. cc; accumulator = λ e. cc; ldf = λ e. absurd cc; sys = λ e. cc; found = λ a e. refl }, (record { letter = λ rest. refl; blank = refl; clean = refl; alone = λ e. cc; floating = λ e. cc; accumulator = λ e. cc; ldf = λ e. absurd cc; sys = λ e. cc; found = λ a e. refl }, (record { letter = λ rest. refl; blank = refl; clean = refl; alone = λ e. cc; floating = λ e. cc; accumulator = λ e. cc; ldf = λ e. absurd cc; sys = λ e. cc; found = λ a e. refl }, (record { letter = λ rest. refl; blank = refl; clean = refl; alone = λ e. cc; floating = λ e. cc; accumulator = λ e. cc; ldf = λ e. absurd cc; sys = λ e. cc; found = λ a e. refl }, (record { letter = λ rest. refl; blank = refl; clean = refl; alone = λ e. cc; floating = λ e. cc; accumulator = λ e. cc; ldf = λ e. absurd cc; sys = λ e. cc; found = λ a e. refl }, (record { letter = λ rest. refl; blank = refl; clean = refl; alone = λ e. cc; floating = λ e. cc; accumulator = λ e. cc; ldf = λ e. absurd cc; sys = λ e. cc; found = λ a e. refl }, (record { letter = λ rest. refl; blank = refl; clean = refl; alone = λ e. cc; floating = λ e. cc; accumulator = λ e. cc; ldf = λ e. absurd cc; sys = λ e. cc; found = λ a e. refl }, (record { letter = λ rest. refl; blank = refl; clean = refl; alone = λ e. cc; floating = λ e. cc; accumulator = λ e. cc; ldf = λ e. absurd cc; sys = λ e. cc; found = λ a e. refl }, (record { letter = λ rest. refl; blank = refl; clean = refl; alone = λ e. cc; floating = λ e. cc; accumulator = λ e. cc; ldf = λ e. absurd cc; sys = λ e. cc; found = λ a e. refl }, (record { letter = λ rest. refl; blank = refl; clean = refl; alone = λ e. cc; floating = λ e. cc; accumulator = λ e. cc; ldf = λ e. absurd cc; sys = λ e. cc; found = λ a e. refl }, (record { letter = λ rest. refl; blank = refl; clean = refl; alone = λ e. cc; floating = λ e. cc; accumulator = λ e. cc; ldf = λ e. absurd cc; sys = λ e. cc; found = λ a e. refl }, (record { letter = λ rest. refl; blank = refl; clean = refl; alone = λ e. cc; floating = λ e. cc; accumulator = λ e. cc; ldf = λ e. absurd cc; sys = λ e. cc; found = λ a e. refl }, (record { letter = λ rest. refl; blank = refl; clean = refl; alone = λ e. refl; floating = λ e. cc; accumulator = λ e. cc; ldf = λ e. absurd cc; sys = λ e. cc; found = λ a e. refl }, (record { letter = λ rest. refl; blank = refl; clean = refl; alone = λ e. refl; floating = λ e. cc; accumulator = λ e. cc; ldf = λ e. absurd cc; sys = λ e. cc; found = λ a e. refl }, (record { letter = λ rest. refl; blank = refl; clean = refl; alone = λ e. refl; floating = λ e. cc; accumulator = λ e. cc; ldf = λ e. absurd cc; sys = λ e. cc; found = λ a e. refl }, (record { letter = λ rest. refl; blank = refl; clean = refl; alone = λ e. refl; floating = λ e. cc; accumulator = λ e. cc; ldf = λ e. absurd cc; sys = λ e. cc; found = λ a e. refl }, (record { letter = λ rest. refl; blank = refl; clean = refl; alone = λ e. refl; floating = λ e. cc; accumulator = λ e. cc; ldf = λ e. absurd cc; sys = λ e. cc; found = λ a e. refl }, (record { letter = λ rest. refl; blank = refl; clean = refl; alone = λ e. cc; floating = λ e. cc; accumulator = λ e. cc; ldf = λ e. absurd cc; sys = λ e. cc; found = λ a e. refl }, (record { letter = λ rest. refl; blank = refl; clean = refl; alone = λ e. cc; floating = λ e. cc; accumulator = λ e. cc; ldf = λ e. absurd cc; sys = λ e. cc; found = λ a e. refl }, (record { letter = λ rest. refl; blank = refl; clean = refl; alone = λ e. cc; floating = λ e. cc; accumulator = λ e. cc; ldf = λ e. absurd cc; sys = λ e. cc; found = λ a e. refl }, (record { letter = λ rest. refl; blank = refl; clean = refl; alone = λ e. cc; floating = λ e. cc; accumulator = λ e. cc; ldf = λ e. absurd cc; sys = λ e. cc; found = λ a e. refl }, (record { letter = λ rest. refl; blank = refl; clean = refl; alone = λ e. cc; floating = λ e. cc; accumulator = λ e. cc; ldf = λ e. absurd cc; sys = λ e. cc; found = λ a e. refl }, (record { letter = λ rest. refl; blank = refl; clean = refl; alone = λ e. cc; floating = λ e. cc; accumulator = λ e. cc; ldf = λ e. absurd cc; sys = λ e. cc; found = λ a e. refl }, (record { letter = λ rest. refl; blank = refl; clean = refl; alone = λ e. cc; floating = λ e. cc; accumulator = λ e. cc; ldf = λ e. absurd cc; sys = λ e. cc; found = λ a e. refl }, (record { letter = λ rest. refl; blank = refl; clean = refl; alone = λ e. cc; floating = λ e. cc; accumulator = λ e. cc; ldf = λ e. absurd cc; sys = λ e. cc; found = λ a e. refl }, (record { letter = λ rest. refl; blank = refl; clean = refl; alone = λ e. cc; floating = λ e. cc; accumulator = λ e. cc; ldf = λ e. absurd cc; sys = λ e. cc; found = λ a e. refl }, (record { letter = λ rest. refl; blank = refl; clean = refl; alone = λ e. cc; floating = λ e. cc; accumulator = λ e. cc; ldf = λ e. absurd cc; sys = λ e. cc; found = λ a e. refl }, (record { letter = λ rest. refl; blank = refl; clean = refl; alone = λ e. cc; floating = λ e. refl; accumulator = λ e. cc; ldf = λ e a. refl; sys = λ e. cc; found = λ a e. ap (layout (codes "movf")) e }, (record { letter = λ rest. refl; blank = refl; clean = refl; alone = λ e. cc; floating = λ e. cc; accumulator = λ e. cc; ldf = λ e. absurd cc; sys = λ e. cc; found = λ a e. refl }, (record { letter = λ rest. refl; blank = refl; clean = refl; alone = λ e. cc; floating = λ e. cc; accumulator = λ e. cc; ldf = λ e. absurd cc; sys = λ e. cc; found = λ a e. refl }, (record { letter = λ rest. refl; blank = refl; clean = refl; alone = λ e. cc; floating = λ e. cc; accumulator = λ e. refl; ldf = λ e. absurd cc; sys = λ e. cc; found = λ a e. ap (layout (codes "movf")) e }, (record { letter = λ rest. refl; blank = refl; clean = refl; alone = λ e. cc; floating = λ e. cc; accumulator = λ e. cc; ldf = λ e. absurd cc; sys = λ e. cc; found = λ a e. refl }, (record { letter = λ rest. refl; blank = refl; clean = refl; alone = λ e. cc; floating = λ e. cc; accumulator = λ e. cc; ldf = λ e. absurd cc; sys = λ e. cc; found = λ a e. refl }, (record { letter = λ rest. refl; blank = refl; clean = refl; alone = λ e. cc; floating = λ e. cc; accumulator = λ e. cc; ldf = λ e. absurd cc; sys = λ e. cc; found = λ a e. refl }, (record { letter = λ rest. refl; blank = refl; clean = refl; alone = λ e. cc; floating = λ e. cc; accumulator = λ e. cc; ldf = λ e. absurd cc; sys = λ e. cc; found = λ a e. refl }, (record { letter = λ rest. refl; blank = refl; clean = refl; alone = λ e. cc; floating = λ e. cc; accumulator = λ e. cc; ldf = λ e. absurd cc; sys = λ e. cc; found = λ a e. refl }, (record { letter = λ rest. refl; blank = refl; clean = refl; alone = λ e. cc; floating = λ e. cc; accumulator = λ e. cc; ldf = λ e. absurd cc; sys = λ e. cc; found = λ a e. refl }, (record { letter = λ rest. refl; blank = refl; clean = refl; alone = λ e. cc; floating = λ e. cc; accumulator = λ e. cc; ldf = λ e. absurd cc; sys = λ e. cc; found = λ a e. refl }, tt))))))))))))))))))))))))))))))))))))))))))))))))))))))))))))))))))))))))))))))))))))))))))))))))))))))))))))))))))
 
-sound_at : (p : Row → Bool) (r o : Row) (b : Bool) (rest : Option Row) → Sound r → (rest ≡ Some o → Sound o) → cond b (Some r) rest ≡ Some o → Sound o
+sound_at : (p : Row → Bool) (r o : Row) (b : Bool) (rest : Option Row) → Sound r → (rest ≡ Some o → Sound o) →
+    cond b (Some r) rest ≡ Some o → Sound o
 sound_at p r o true rest s later e = let same : r ≡ o = cc in subst Sound same s
 sound_at p r o false rest s later e = later e
 

@@ -23,7 +23,8 @@ cut_words : (cut : Bool) (c : CallRow) (w : ℕ) (following : List ℕ) → call
 cut_words true c w following is = sym (take_one_more 0 w following)
 cut_words false c w following is = ap (λ x. x ∷ take c.words following) is ∙ sym (take_one_more c.words w following)
 
-identity_by : (o : Option CallRow) (words : List ℕ) (place : ℕ) → place < length words → ((c : CallRow) → o ≡ Some c → call_word c ≡ slice_index words place) →
+identity_by : (o : Option CallRow) (words : List ℕ) (place : ℕ) → place < length words →
+    ((c : CallRow) → o ≡ Some c → call_word c ≡ slice_index words place) →
     unix_words (unix_line o words place) (drop (place + 1) words) ≡ take (unix_length (unix_line o words place)) (drop place words)
 identity_by None words place h is = identity words place h
 identity_by (Some c) words place h is =
@@ -37,9 +38,11 @@ unix_identity d words place h = identity_by (call_by d (slice_index words place)
 
 whole_call : (c : CallRow) (w : ℕ) (following : List ℕ) → 4 ≤ length following → c.words ≤ 4 → unix_line (Some c) (w ∷ following) 0 ≡ Call c
 whole_call c w following h small =
-    let enough : nat_lt (length following) c.words ≡ false = grind (arith, nat_tests) in ap (λ b. if b then Machine (Plain w) else Call c) enough
+    let enough : nat_lt (length following) c.words ≡ false = grind (arith, nat_tests) in
+    ap (λ b. if b then Machine (Plain w) else Call c) enough
 
-length_by : (o : Option CallRow) (w : ℕ) (following other : List ℕ) → 4 ≤ length following → 4 ≤ length other → ((c : CallRow) → o ≡ Some c → c.words ≤ 4) →
+length_by : (o : Option CallRow) (w : ℕ) (following other : List ℕ) → 4 ≤ length following → 4 ≤ length other →
+    ((c : CallRow) → o ≡ Some c → c.words ≤ 4) →
     unix_length (unix_line o (w ∷ following) 0) ≡ unix_length (unix_line o (w ∷ other) 0)
 length_by None w following other h k small = first_word_decides.length w following other (omega arith) (omega arith)
 length_by (Some c) w following other h k small =
@@ -47,7 +50,9 @@ length_by (Some c) w following other h k small =
 
 pub unix_first_word : UnixFirstWordLaw
 unix_first_word = record {
-  call = λ d w c following e h. ap (λ (o : Option CallRow). unix_line o (w ∷ following) 0) e ∙ whole_call c w following h (call_sound d w c e).small;
+  call =
+      λ d w c following e h. ap (λ (o : Option CallRow). unix_line o (w ∷ following) 0) e
+      ∙ whole_call c w following h (call_sound d w c e).small;
   machine = λ d w following e. ap (λ (o : Option CallRow). unix_line o (w ∷ following) 0) e;
   length = λ d w following other h k. length_by (call_by d w) w following other h k (λ c e. (call_sound d w c e).small);
 }
@@ -59,12 +64,16 @@ cut_length false c w small = (omega arith, omega arith)
 short_by : (o : Option CallRow) (words : List ℕ) (place : ℕ) → ((c : CallRow) → o ≡ Some c → c.words ≤ 4) →
     (1 ≤ unix_length (unix_line o words place)) × (unix_length (unix_line o words place) ≤ 5)
 short_by None words place small = let l = length_from (line_at words place) in (l.0, omega (arith, l.1))
-short_by (Some c) words place small = cut_length (nat_lt (length (drop (place + 1) words)) c.words) c (slice_index words place) (small c refl)
+short_by (Some c) words place small =
+    cut_length (nat_lt (length (drop (place + 1) words)) c.words) c (slice_index words place) (small c refl)
 
-pub unix_short : (d : Decoder) (words : List ℕ) (place : ℕ) → (1 ≤ unix_length (unix_line_at d words place)) × (unix_length (unix_line_at d words place) ≤ 5)
-unix_short d words place = short_by (call_by d (slice_index words place)) words place (λ c e. (call_sound d (slice_index words place) c e).small)
+pub unix_short : (d : Decoder) (words : List ℕ) (place : ℕ) →
+    (1 ≤ unix_length (unix_line_at d words place)) × (unix_length (unix_line_at d words place) ≤ 5)
+unix_short d words place =
+    short_by (call_by d (slice_index words place)) words place (λ c e. (call_sound d (slice_index words place) c e).small)
 
-unix_back : (d : Decoder) (n : ℕ) (words : List ℕ) → length words ≤ n → flat_map (λ l. unix_words l.0 l.1) (unix_lines_within d n words) ≡ words
+unix_back : (d : Decoder) (n : ℕ) (words : List ℕ) → length words ≤ n →
+    flat_map (λ l. unix_words l.0 l.1) (unix_lines_within d n words) ≡ words
 unix_back d zero [] h = refl
 unix_back d zero (w ∷ following) h = absurd (omega arith)
 unix_back d (suc n) [] h = refl

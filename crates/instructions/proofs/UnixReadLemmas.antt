@@ -1,5 +1,6 @@
 -- The text of a line with a system call is read back, so that no two lines of different words have one text.
-use Rattle.std.proofs.Common.{◌≡◌, ℕ, zero, suc, ◌+◌, ◌*◌, ◌/◌, ◌%◌, ◌<◌, Option, Some, None, refl, sym, ap, subst, ◌∙◌, append_assoc, arith}
+use Rattle.std.proofs.Common.{◌≡◌, ℕ, zero, suc, ◌+◌, ◌*◌, ◌/◌, ◌%◌, ◌<◌, Option, Some, None, refl}
+use Rattle.std.proofs.Common.{sym, ap, subst, ◌∙◌, append_assoc, arith}
 use Rattle.std.specs.Prelude.{Bool, true, false, not, ◌&&◌, ◌||◌, eqb, nat_lt, if◌then◌else◌}
 use Rattle.std.specs.Prelude.{List, [], ◌∷◌, ◌++◌, length, take, drop, slice_index, codes}
 use Rattle.std.specs.List.{flat_map}
@@ -57,8 +58,8 @@ either : (a b : Bool) → (a ≡ true → b ≡ true) → (a && not b) ≡ false
 either true b h = ap not (h refl)
 either false b h = refl
 
-named_other : (n rest : List ℕ) → free 32 n ≡ true → Stops 32 rest → (same_text n (codes "sys") ≡ true → nat_lt (slice_index (tail rest) 0) 58 ≡ true) →
-    is_call (n ++ rest) ≡ false
+named_other : (n rest : List ℕ) → free 32 n ≡ true → Stops 32 rest →
+    (same_text n (codes "sys") ≡ true → nat_lt (slice_index (tail rest) 0) 58 ≡ true) → is_call (n ++ rest) ≡ false
 named_other n rest blank stop digit =
     let s = until_past 32 n rest blank stop in
     ap (λ (l : List ℕ). same_text l (codes "sys") && not (nat_lt (slice_index (tail (past 32 (n ++ rest))) 0) 58)) s.0
@@ -71,7 +72,11 @@ six_free w =
     digits_free 32 (six_digits w) (omega arith) (
       omega arith,
       omega arith,
-      (omega arith, omega arith, (omega arith, omega arith, (omega arith, omega arith, (omega arith, omega arith, (omega arith, omega arith, tt))))),
+      (
+        omega arith,
+        omega arith,
+        (omega arith, omega arith, (omega arith, omega arith, (omega arith, omega arith, (omega arith, omega arith, tt)))),
+      ),
     )
 
 six_other : (w : ℕ) → same_text (six_digits w) (codes "sys") ≡ false
@@ -101,7 +106,8 @@ sys_digit first w a next address rest e =
 
 name_other : (ldf : Bool) (r : Row) (w : ℕ) (a b : Option ℕ) (next later address : ℕ) → Sound r →
     is_call ((if ldf then codes "ldf" else name_text r.operation)
-    ++ (operand_after (codes " ") (field_operand r.first w) a next address ++ operand_after (codes ",") (field_operand r.second w) b later address)) ≡ false
+    ++ (operand_after (codes " ") (field_operand r.first w) a next address
+    ++ operand_after (codes ",") (field_operand r.second w) b later address)) ≡ false
 name_other true r w a b next later address s =
     let rest : List ℕ = operand_after (codes ",") (field_operand r.second w) b later address in
     named_other (codes "ldf") (operand_after (codes " ") (field_operand r.first w) a next address ++ rest)
@@ -111,7 +117,8 @@ name_other false r w a b next later address s =
     named_other (name_text r.operation) (operand_after (codes " ") (field_operand r.first w) a next address ++ rest)
     s.blank (stops r.first r.second w a b next later address s.alone) (λ e. sys_digit r.first w a next address rest (s.sys e))
 
-decoded_other : (r : Row) (w : ℕ) (a b : Option ℕ) (address : ℕ) → Sound r → is_call (line_text address (Decoded (instruction r w) a b)) ≡ false
+decoded_other : (r : Row) (w : ℕ) (a b : Option ℕ) (address : ℕ) → Sound r →
+    is_call (line_text address (Decoded (instruction r w) a b)) ≡ false
 decoded_other r w a b address s =
     let later : ℕ = address + 4 + 2 * word_count_of (field_operand r.first w) in
     let one : List ℕ = operand_after (codes " ") (field_operand r.first w) a (address + 4) address in
@@ -125,8 +132,8 @@ cut_holds : (P : Line → Type 0) (cut : Bool) (i : Instruction) (w : ℕ) (a b 
 cut_holds P true i w a b p d = p
 cut_holds P false i w a b p d = d
 
-missing_holds : (P : Line → Type 0) (missing : Bool) (r : Row) (w : ℕ) (f : List ℕ) → P (Plain w) → ((a b : Option ℕ) → P (Decoded (instruction r w) a b)) →
-    P (line_of (if missing then None else Some (instruction r w)) w f)
+missing_holds : (P : Line → Type 0) (missing : Bool) (r : Row) (w : ℕ) (f : List ℕ) → P (Plain w) →
+    ((a b : Option ℕ) → P (Decoded (instruction r w) a b)) → P (line_of (if missing then None else Some (instruction r w)) w f)
 missing_holds P true r w f p d = p
 missing_holds P false r w f p d =
     let i : Instruction = instruction r w in
@@ -138,11 +145,13 @@ row_holds : (P : Line → Type 0) (o : Option Row) (w : ℕ) (f : List ℕ) → 
     ((r : Row) → o ≡ Some r → (a b : Option ℕ) → P (Decoded (instruction r w) a b)) →
     P (line_of (instruction_in o w) w f)
 row_holds P None w f p d = p
-row_holds P (Some r) w f p d = missing_holds P (is_missing (field_operand r.first w) || is_missing (field_operand r.second w)) r w f p (d r refl)
+row_holds P (Some r) w f p d =
+    missing_holds P (is_missing (field_operand r.first w) || is_missing (field_operand r.second w)) r w f p (d r refl)
 
 line_other : (address w : ℕ) (f : List ℕ) → is_call (line_text address (line_of (instruction_of w) w f)) ≡ false
 line_other address w f =
-    row_holds (λ (l : Line). is_call (line_text address l) ≡ false) (row_of w) w f (plain_other w) (λ r e a b. decoded_other r w a b address (row_sound w r e))
+    row_holds (λ (l : Line). is_call (line_text address l) ≡ false) (row_of w) w f (plain_other w)
+    (λ r e a b. decoded_other r w a b address (row_sound w r e))
 
 machine_back : (address : ℕ) (cs words : List ℕ) → is_call cs ≡ false → line_read address cs ≡ words → unix_read address cs ≡ words
 machine_back address cs words other back = ap (λ (b : Bool). if b then call_read (tail (past 32 cs)) else line_read address cs) other ∙ back
@@ -183,8 +192,10 @@ cut_back : (cut : Bool) (address w : ℕ) (c : CallRow) (following : List ℕ) �
 cut_back true address w c following h are sound = machine_back address (six_digits w) (w ∷ []) (plain_other w) (plain_back address w h)
 cut_back false address w c following h are sound = call_back address c (take c.words following) sound (words_taken c.words following are)
 
-unix_back_by : (o : Option CallRow) (address : ℕ) (words : List ℕ) (place : ℕ) → AreWords words → ((c : CallRow) → o ≡ Some c → SoundCall c) →
-    unix_read address (unix_text address (unix_line o words place) (drop (place + 1) words)) ≡ unix_words (unix_line o words place) (drop (place + 1) words)
+unix_back_by : (o : Option CallRow) (address : ℕ) (words : List ℕ) (place : ℕ) → AreWords words →
+    ((c : CallRow) → o ≡ Some c → SoundCall c) →
+    unix_read address (unix_text address (unix_line o words place) (drop (place + 1) words))
+    ≡ unix_words (unix_line o words place) (drop (place + 1) words)
 unix_back_by None address words place are sound =
     machine_back address (line_text address (line_at words place)) (words_of (line_at words place))
     (line_other address (slice_index words place) (drop (place + 1) words)) (line_back address words place are)

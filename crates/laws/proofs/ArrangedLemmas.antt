@@ -1,8 +1,10 @@
 -- The orders of nm only move symbols: what passes a test alone does so in every order.
-use Rattle.std.proofs.Common.{◌≡◌, Bool, true, false, cond, List, [], ◌∷◌, ◌++◌, reverse, filter, IsPermutation, refl, sym, ◌∙◌, ap, append-nil}
+use Rattle.std.proofs.Common.{◌≡◌, Bool, true, false, cond, List, [], ◌∷◌, ◌++◌, reverse, filter}
+use Rattle.std.proofs.Common.{IsPermutation, refl, sym, ◌∙◌, ap, append-nil}
 use Rattle.std.proofs.lemmas.List.{reverse-append}
 use Rattle.std.proofs.lemmas.List.Elements.{filter-append}
-use Rattle.std.proofs.lemmas.List.Sorted.{IsPermutation-refl, IsPermutation-sym, IsPermutation-cons, IsPermutation-trans, IsPermutation-middle, IsPermutation-reverse}
+use Rattle.std.proofs.lemmas.List.Sorted.{IsPermutation-refl, IsPermutation-sym, IsPermutation-cons}
+use Rattle.std.proofs.lemmas.List.Sorted.{IsPermutation-trans, IsPermutation-middle, IsPermutation-reverse}
 use Rattle.aout_core.specs.declared.symbol.Symbol.{Symbol}
 use Rattle.tool_options.specs.declared.nm_options.NmOptions.{NmOptions}
 use Rattle.symtools.specs.NmLists.{name_before, value_before, inserted, in_order, arranged}
@@ -12,16 +14,19 @@ module _ {A : Type 0} (before : A → A → Bool) where
   inserted_moves x [] = IsPermutation-refl (x ∷ [])
   inserted_moves x (y ∷ ys) = by_test (before y x) (inserted_moves x ys)
     where
-      by_test : (t : Bool) → IsPermutation (x ∷ ys) (inserted before x ys) → IsPermutation (x ∷ (y ∷ ys)) (cond t (y ∷ inserted before x ys) (x ∷ (y ∷ ys)))
+      by_test : (t : Bool) → IsPermutation (x ∷ ys) (inserted before x ys) →
+          IsPermutation (x ∷ (y ∷ ys)) (cond t (y ∷ inserted before x ys) (x ∷ (y ∷ ys)))
       by_test false rest = IsPermutation-refl (x ∷ (y ∷ ys))
       by_test true rest =
-          IsPermutation-trans (x ∷ (y ∷ ys)) (y ∷ (x ∷ ys)) (y ∷ inserted before x ys) (IsPermutation-sym (y ∷ (x ∷ ys)) (x ∷ (y ∷ ys)) (IsPermutation-middle (y ∷ []) x ys))
+          IsPermutation-trans (x ∷ (y ∷ ys)) (y ∷ (x ∷ ys)) (y ∷ inserted before x ys)
+          (IsPermutation-sym (y ∷ (x ∷ ys)) (x ∷ (y ∷ ys)) (IsPermutation-middle (y ∷ []) x ys))
           (IsPermutation-cons y (x ∷ ys) (inserted before x ys) rest)
 
   in_order_moves : (xs : List A) → IsPermutation xs (in_order before xs)
   in_order_moves [] = IsPermutation-refl []
   in_order_moves (x ∷ xs) =
-      IsPermutation-trans (x ∷ xs) (x ∷ in_order before xs) (inserted before x (in_order before xs)) (IsPermutation-cons x xs (in_order before xs) (in_order_moves xs)) (inserted_moves x (in_order before xs))
+      IsPermutation-trans (x ∷ xs) (x ∷ in_order before xs) (inserted before x (in_order before xs))
+      (IsPermutation-cons x xs (in_order before xs) (in_order_moves xs)) (inserted_moves x (in_order before xs))
 
   -- what passes a test
 
@@ -30,7 +35,8 @@ module _ {A : Type 0} (before : A → A → Bool) where
     none_inserted x [] e = ap (λ (u : Bool). cond u (x ∷ []) []) e
     none_inserted x (y ∷ ys) e = by_test (before y x) (none_inserted x ys e)
       where
-        by_test : (b : Bool) → filter t (inserted before x ys) ≡ filter t ys → filter t (cond b (y ∷ inserted before x ys) (x ∷ (y ∷ ys))) ≡ filter t (y ∷ ys)
+        by_test : (b : Bool) → filter t (inserted before x ys) ≡ filter t ys →
+            filter t (cond b (y ∷ inserted before x ys) (x ∷ (y ∷ ys))) ≡ filter t (y ∷ ys)
         by_test true rest = ap (λ (zs : List A). cond (t y) (y ∷ zs) zs) rest
         by_test false rest = ap (λ (u : Bool). cond u (x ∷ filter t (y ∷ ys)) (filter t (y ∷ ys))) e
 
@@ -38,10 +44,12 @@ module _ {A : Type 0} (before : A → A → Bool) where
     one_inserted x [] e none = ap (λ (u : Bool). cond u (x ∷ []) []) e
     one_inserted x (y ∷ ys) e none = by_tests (before y x) (t y) refl none (one_inserted x ys e)
       where
-        by_tests : (b u : Bool) → t y ≡ u → cond u (y ∷ filter t ys) (filter t ys) ≡ [] → (filter t ys ≡ [] → filter t (inserted before x ys) ≡ x ∷ []) →
+        by_tests : (b u : Bool) → t y ≡ u → cond u (y ∷ filter t ys) (filter t ys) ≡ [] →
+            (filter t ys ≡ [] → filter t (inserted before x ys) ≡ x ∷ []) →
             filter t (cond b (y ∷ inserted before x ys) (x ∷ (y ∷ ys))) ≡ x ∷ []
         by_tests b true ue none rest = absurd (cc)
-        by_tests true false ue none rest = ap (λ (u : Bool). cond u (y ∷ filter t (inserted before x ys)) (filter t (inserted before x ys))) ue ∙ rest none
+        by_tests true false ue none rest =
+            ap (λ (u : Bool). cond u (y ∷ filter t (inserted before x ys)) (filter t (inserted before x ys))) ue ∙ rest none
         by_tests false false ue none rest =
             ap (λ (u : Bool). cond u (x ∷ filter t (y ∷ ys)) (filter t (y ∷ ys))) e
             ∙ ap (λ (u : Bool). x ∷ cond u (y ∷ filter t ys) (filter t ys)) ue
@@ -51,7 +59,8 @@ module _ {A : Type 0} (before : A → A → Bool) where
     none_in_order [] none = refl
     none_in_order (x ∷ xs) none = by_test (t x) refl none (none_in_order xs)
       where
-        by_test : (u : Bool) → t x ≡ u → cond u (x ∷ filter t xs) (filter t xs) ≡ [] → (filter t xs ≡ [] → filter t (in_order before xs) ≡ []) → filter t (inserted before x (in_order before xs)) ≡ []
+        by_test : (u : Bool) → t x ≡ u → cond u (x ∷ filter t xs) (filter t xs) ≡ [] →
+            (filter t xs ≡ [] → filter t (in_order before xs) ≡ []) → filter t (inserted before x (in_order before xs)) ≡ []
         by_test true e none rest = absurd (cc)
         by_test false e none rest = none_inserted x (in_order before xs) e ∙ rest none
 
@@ -59,7 +68,9 @@ module _ {A : Type 0} (before : A → A → Bool) where
     one_in_order [] r one = absurd (cc)
     one_in_order (x ∷ xs) r one = by_test (t x) refl one (one_in_order xs r)
       where
-        by_test : (u : Bool) → t x ≡ u → cond u (x ∷ filter t xs) (filter t xs) ≡ r ∷ [] → (filter t xs ≡ r ∷ [] → filter t (in_order before xs) ≡ r ∷ []) → filter t (inserted before x (in_order before xs)) ≡ r ∷ []
+        by_test : (u : Bool) → t x ≡ u → cond u (x ∷ filter t xs) (filter t xs) ≡ r ∷ [] →
+            (filter t xs ≡ r ∷ [] → filter t (in_order before xs) ≡ r ∷ []) →
+            filter t (inserted before x (in_order before xs)) ≡ r ∷ []
         by_test false e one rest = none_inserted x (in_order before xs) e ∙ rest one
         by_test true e one rest =
             let same : x ≡ r = cc in
@@ -69,7 +80,8 @@ module _ {A : Type 0} (before : A → A → Bool) where
 filter_reversed : {A : Type 0} (t : A → Bool) (xs : List A) → filter t (reverse xs) ≡ reverse (filter t xs)
 filter_reversed t [] = refl
 filter_reversed {A = A} t (x ∷ xs) =
-    ap (filter t) (reverse-append (x ∷ []) xs) ∙ filter-append t (reverse xs) (x ∷ []) ∙ ap (λ (zs : List A). zs ++ cond (t x) (x ∷ []) []) (filter_reversed t xs) ∙ by_test (t x)
+    ap (filter t) (reverse-append (x ∷ []) xs) ∙ filter-append t (reverse xs) (x ∷ [])
+    ∙ ap (λ (zs : List A). zs ++ cond (t x) (x ∷ []) []) (filter_reversed t xs) ∙ by_test (t x)
   where
     by_test : (u : Bool) → reverse (filter t xs) ++ cond u (x ∷ []) [] ≡ reverse (cond u (x ∷ filter t xs) (filter t xs))
     by_test true = sym (reverse-append (x ∷ []) (filter t xs))

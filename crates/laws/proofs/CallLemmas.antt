@@ -20,7 +20,8 @@ out_id = codes "out"
 
 -- a call is the link of these files
 abbrev pub IsLink : List (List ℕ) → Choices → List ℕ → List (List ℕ) → Call → Type 0
-IsLink forced o out paths (Ld options names output files) = (options ≡ o) × (names ≡ forced) × (string_bytes output ≡ out) × (map string_bytes files.items ≡ paths)
+IsLink forced o out paths (Ld options names output files) =
+    (options ≡ o) × (names ≡ forced) × (string_bytes output ≡ out) × (map string_bytes files.items ≡ paths)
 IsLink forced o out paths _ = ⊥
 
 -- a call strips these files
@@ -40,7 +41,8 @@ same_value : {A : Type 0} (a b : A) → let x : Result A WordsFault = Ok a in le
 same_value a b e = cc
 
 module _ (words : List (List ℕ)) (one other : Call) (a : AsksFor words one) (b : AsksFor words other) where
-  same_words : (let x : Option (List ℕ × List Row) = Some (name_of one, a.asked.1) in let y : Option (List ℕ × List Row) = Some (name_of other, b.asked.1) in x ≡ y)
+  same_words : (let x : Option (List ℕ × List Row) = Some (name_of one, a.asked.1) in
+      let y : Option (List ℕ × List Row) = Some (name_of other, b.asked.1) in x ≡ y)
   same_words = sym a.asked.2 ∙ b.asked.2
 
   same_rows : a.asked.1 ≡ b.asked.1
@@ -49,7 +51,8 @@ module _ (words : List (List ℕ)) (one other : Call) (a : AsksFor words one) (b
   pub same_name : (name : List ℕ) → bytes_eq (name_of one) name ≡ bytes_eq (name_of other) name
   same_name name = ap (has_name name) same_words
 
-module _ (words forced : List (List ℕ)) (o : Choices) (output : String Global) (files : Vec (String Global) Global) (a : AsksFor words (Ld o forced output files)) where
+module _ (words forced : List (List ℕ)) (o : Choices) (output : String Global) (files : Vec (String Global) Global)
+    (a : AsksFor words (Ld o forced output files)) where
   pub same_link : (call : Call) → AsksFor words call → IsLink forced o (string_bytes output) (map string_bytes files.items) call
   same_link (Ld options names out paths) b =
       let rows : b.asked.1 ≡ a.asked.1 = sym (same_rows words (Ld o forced output files) (Ld options names out paths) a b) in (
@@ -58,15 +61,24 @@ module _ (words forced : List (List ℕ)) (o : Choices) (output : String Global)
         b.asked.3.2 ∙ ap (λ (r : List Row). unwrap_or (first_of out_id r) program) rows ∙ sym a.asked.3.2,
         b.asked.3.3 ∙ ap (λ (r : List Row). values_of r file_id) rows ∙ sym a.asked.3.3,
       )
-  same_link (Nm options paths) b = absurd (let bad : true ≡ false = same_name words (Ld o forced output files) (Nm options paths) a b (codes "ld") in cc)
-  same_link (Size paths) b = absurd (let bad : true ≡ false = same_name words (Ld o forced output files) (Size paths) a b (codes "ld") in cc)
-  same_link (Strip paths) b = absurd (let bad : true ≡ false = same_name words (Ld o forced output files) (Strip paths) a b (codes "ld") in cc)
-  same_link (Session options names) b = absurd (let bad : true ≡ false = same_name words (Ld o forced output files) (Session options names) a b (codes "ld") in cc)
+  same_link (Nm options paths) b =
+      absurd (let bad : true ≡ false = same_name words (Ld o forced output files) (Nm options paths) a b (codes "ld") in cc)
+  same_link (Size paths) b =
+      absurd (let bad : true ≡ false = same_name words (Ld o forced output files) (Size paths) a b (codes "ld") in cc)
+  same_link (Strip paths) b =
+      absurd (let bad : true ≡ false = same_name words (Ld o forced output files) (Strip paths) a b (codes "ld") in cc)
+  same_link (Session options names) b =
+      absurd (let bad : true ≡ false = same_name words (Ld o forced output files) (Session options names) a b (codes "ld") in cc)
 
 module _ (words : List (List ℕ)) (files : Vec (String Global) Global) (a : AsksFor words (Strip files)) where
   pub same_strip : (call : Call) → AsksFor words call → IsStrip (map string_bytes files.items) call
-  same_strip (Ld options names out paths) b = absurd (let bad : true ≡ false = same_name words (Strip files) (Ld options names out paths) a b (codes "strip") in cc)
-  same_strip (Nm options paths) b = absurd (let bad : true ≡ false = same_name words (Strip files) (Nm options paths) a b (codes "strip") in cc)
+  same_strip (Ld options names out paths) b =
+      absurd (let bad : true ≡ false = same_name words (Strip files) (Ld options names out paths) a b (codes "strip") in cc)
+  same_strip (Nm options paths) b =
+      absurd (let bad : true ≡ false = same_name words (Strip files) (Nm options paths) a b (codes "strip") in cc)
   same_strip (Size paths) b = absurd (let bad : true ≡ false = same_name words (Strip files) (Size paths) a b (codes "strip") in cc)
-  same_strip (Strip paths) b = b.asked.3 ∙ ap (λ (r : List Row). values_of r file_id) (sym (same_rows words (Strip files) (Strip paths) a b)) ∙ sym a.asked.3
-  same_strip (Session options names) b = absurd (let bad : true ≡ false = same_name words (Strip files) (Session options names) a b (codes "strip") in cc)
+  same_strip (Strip paths) b =
+      b.asked.3 ∙ ap (λ (r : List Row). values_of r file_id) (sym (same_rows words (Strip files) (Strip paths) a b))
+      ∙ sym a.asked.3
+  same_strip (Session options names) b =
+      absurd (let bad : true ≡ false = same_name words (Strip files) (Session options names) a b (codes "strip") in cc)

@@ -1,5 +1,6 @@
 -- The segments of a file in its spaces: which address is in which, and what the core has there.
-use Rattle.std.proofs.Common.{◌≡◌, ℕ, ◌+◌, ◌-◌, ◌<◌, ◌≤◌, ◌⊎◌, inl, inr, Bool, true, false, cond, ◌&&◌, ◌||◌, eqb, Option, Some, None, refl, sym, ◌∙◌, ap, arith, eqb-true}
+use Rattle.std.proofs.Common.{◌≡◌, ℕ, ◌+◌, ◌-◌, ◌<◌, ◌≤◌, ◌⊎◌, inl, inr, Bool, true, false, cond, ◌&&◌, ◌||◌}
+use Rattle.std.proofs.Common.{eqb, Option, Some, None, refl, sym, ◌∙◌, ap, arith, eqb-true}
 use Rattle.std.specs.Prelude.{nat_le, nat_lt}
 use Rattle.std.proofs.lemmas.Bool.{and_parts, and_from, ltb-true, leb-true, lt-ltb, le-leb, false_from_ne_true}
 use Rattle.aout_core.specs.declared.header.Header.{Header}
@@ -8,7 +9,8 @@ use Rattle.aout_core.specs.declared.symbol.Segment.TheVariants.{Undefined, Absol
 use Rattle.aout_core.specs.Contents.{Contents}
 use Rattle.aout_core.specs.WellFormed.{first_of}
 use Rattle.aout_core.specs.Addresses.{data_start_in, next_boundary}
-use Rattle.laws.specs.Core.{Space, of_instructions, of_data, has_one_space, has_segment, first_address, bytes_of, segment_byte, is_in, loaded_byte, core}
+use Rattle.laws.specs.Core.{Space, of_instructions, of_data, has_one_space, has_segment, first_address}
+use Rattle.laws.specs.Core.{bytes_of, segment_byte, is_in, loaded_byte, core}
 
 -- what it is to be in a segment
 pub record IsWithin (h : Header) (space : Space) (segment : Segment) (address : ℕ) : Type 0 where
@@ -19,23 +21,34 @@ pub record IsWithin (h : Header) (space : Space) (segment : Segment) (address : 
 module _ (h : Header) (space : Space) (segment : Segment) (address : ℕ) where
   pub within : is_in h space segment address ≡ true → IsWithin h space segment address
   within e =
-      let one = and_parts (has_segment h.magic segment space) (nat_le (first_address h segment) address && nat_lt address (first_address h segment + bytes_of h segment)) e in
-      let two = and_parts (nat_le (first_address h segment) address) (nat_lt address (first_address h segment + bytes_of h segment)) one.1 in
-      record { has = one.0; from = leb-true (first_address h segment) address two.0; before = ltb-true address (first_address h segment + bytes_of h segment) two.1 }
+      let one = and_parts (has_segment h.magic segment space)
+      (nat_le (first_address h segment) address && nat_lt address (first_address h segment + bytes_of h segment)) e in
+      let two =
+      and_parts (nat_le (first_address h segment) address) (nat_lt address (first_address h segment + bytes_of h segment)) one.1 in
+      record {
+        has = one.0;
+        from = leb-true (first_address h segment) address two.0;
+        before = ltb-true address (first_address h segment + bytes_of h segment) two.1;
+      }
 
   pub within_back : IsWithin h space segment address → is_in h space segment address ≡ true
   within_back w =
-      and_from (has_segment h.magic segment space) (nat_le (first_address h segment) address && nat_lt address (first_address h segment + bytes_of h segment)) w.has
-      (and_from (nat_le (first_address h segment) address) (nat_lt address (first_address h segment + bytes_of h segment)) (le-leb (first_address h segment) address w.from) (lt-ltb address (first_address h segment + bytes_of h segment) w.before))
+      and_from (has_segment h.magic segment space)
+      (nat_le (first_address h segment) address && nat_lt address (first_address h segment + bytes_of h segment)) w.has
+      (and_from (nat_le (first_address h segment) address) (nat_lt address (first_address h segment + bytes_of h segment))
+      (le-leb (first_address h segment) address w.from) (lt-ltb address (first_address h segment + bytes_of h segment) w.before))
 
 -- text ends before data where they share a space
 pub text_before : (h : Header) → has_one_space h.magic ≡ true → h.text_size ≤ data_start_in h
-text_before h e = by_tests (eqb h.magic 0o407) (eqb h.magic 0o410) (eqb h.magic 0o411) e (λ plain. ap (λ m. eqb m 0o411) (eqb-true h.magic 0o407 plain))
+text_before h e =
+    by_tests (eqb h.magic 0o407) (eqb h.magic 0o410) (eqb h.magic 0o411) e
+    (λ plain. ap (λ m. eqb m 0o411) (eqb-true h.magic 0o407 plain))
   where
     rounded : (t : ℕ) → t ≤ next_boundary t
     rounded t = omega arith
 
-    by_tests : (plain pure split : Bool) → (plain || pure) ≡ true → (plain ≡ true → split ≡ false) → h.text_size ≤ cond pure (next_boundary h.text_size) (cond split 0 h.text_size)
+    by_tests : (plain pure split : Bool) → (plain || pure) ≡ true → (plain ≡ true → split ≡ false) →
+        h.text_size ≤ cond pure (next_boundary h.text_size) (cond split 0 h.text_size)
     by_tests plain true split e f = rounded h.text_size
     by_tests plain false false e f = omega arith
     by_tests true false true e f = absurd (let bad : true ≡ false = f refl in cc)
@@ -77,7 +90,8 @@ module _ (h : Header) (space : Space) (address : ℕ) where
       clash : (a e : ℕ) → a < e → e ≤ a → ⊥
       clash a e f g = omega arith
 
-pub segments_apart : (h : Header) (space : Space) (one two : Segment) (address : ℕ) → is_in h space one address ≡ true → is_in h space two address ≡ true → one ≡ two
+pub segments_apart : (h : Header) (space : Space) (one two : Segment) (address : ℕ) → is_in h space one address ≡ true →
+    is_in h space two address ≡ true → one ≡ two
 segments_apart h space TextSeg TextSeg a p q = refl
 segments_apart h space TextSeg DataSeg a p q = absurd (text_or_data h space a p q)
 segments_apart h space TextSeg BssSeg a p q = absurd (text_or_bss h space a p q)
@@ -95,19 +109,28 @@ segments_apart h space one Absolute a p q = absurd (let bad : false ≡ true = q
 segments_apart h space one Other a p q = absurd (let bad : false ≡ true = q in cc)
 
 module _ (file : Contents) (space : Space) (address byte : ℕ) where
-  loaded_in : (segment : Segment) → is_in file.header space segment address ≡ true → loaded_byte file space segment address ≡ segment_byte file segment (address - first_address file.header segment)
-  loaded_in segment e = ap (λ (t : Bool). let b : Option ℕ = cond t (segment_byte file segment (address - first_address file.header segment)) None in b) e
+  loaded_in : (segment : Segment) → is_in file.header space segment address ≡ true →
+      loaded_byte file space segment address ≡ segment_byte file segment (address - first_address file.header segment)
+  loaded_in segment e =
+      ap (λ (t : Bool). let b : Option ℕ = cond t (segment_byte file segment (address - first_address file.header segment)) None in b) e
 
   loaded_out : (segment : Segment) → (is_in file.header space segment address ≡ true → ⊥) → loaded_byte file space segment address ≡ None
-  loaded_out segment h = ap (λ (t : Bool). let b : Option ℕ = cond t (segment_byte file segment (address - first_address file.header segment)) None in b) (false_from_ne_true (is_in file.header space segment address) h)
+  loaded_out segment h =
+      ap (λ (t : Bool). let b : Option ℕ = cond t (segment_byte file segment (address - first_address file.header segment)) None in b)
+      (false_from_ne_true (is_in file.header space segment address) h)
 
   -- a byte of a segment is in the core
-  pub core_at : (segment : Segment) → is_in file.header space segment address ≡ true → segment_byte file segment (address - first_address file.header segment) ≡ Some byte → core file space address ≡ Some byte
-  core_at TextSeg p e = ap (λ (b : Option ℕ). first_of b (first_of (loaded_byte file space DataSeg address) (loaded_byte file space BssSeg address))) (loaded_in TextSeg p ∙ e)
+  pub core_at : (segment : Segment) → is_in file.header space segment address ≡ true → segment_byte file segment
+      (address - first_address file.header segment) ≡ Some byte → core file space address ≡ Some byte
+  core_at TextSeg p e =
+      ap (λ (b : Option ℕ). first_of b (first_of (loaded_byte file space DataSeg address) (loaded_byte file space BssSeg address)))
+      (loaded_in TextSeg p ∙ e)
   core_at DataSeg p e =
-      λ i. first_of (loaded_out TextSeg (λ q. text_or_data file.header space address q p) i) (first_of ((loaded_in DataSeg p ∙ e) i) (loaded_byte file space BssSeg address))
+      λ i. first_of (loaded_out TextSeg (λ q. text_or_data file.header space address q p) i)
+      (first_of ((loaded_in DataSeg p ∙ e) i) (loaded_byte file space BssSeg address))
   core_at BssSeg p e =
-      λ i. first_of (loaded_out TextSeg (λ q. text_or_bss file.header space address q p) i) (first_of (loaded_out DataSeg (λ q. data_or_bss file.header space address q p) i) ((loaded_in BssSeg p ∙ e) i))
+      λ i. first_of (loaded_out TextSeg (λ q. text_or_bss file.header space address q p) i)
+      (first_of (loaded_out DataSeg (λ q. data_or_bss file.header space address q p) i) ((loaded_in BssSeg p ∙ e) i))
   core_at Undefined p e = absurd (let bad : false ≡ true = p in cc)
   core_at Absolute p e = absurd (let bad : false ≡ true = p in cc)
   core_at Other p e = absurd (let bad : false ≡ true = p in cc)
@@ -120,7 +143,8 @@ module _ (file : Contents) (space : Space) (address byte : ℕ) where
   loaded_back : (segment : Segment) → loaded_byte file space segment address ≡ Some byte → IsByteOf segment
   loaded_back segment e = by_test (is_in file.header space segment address) refl e
     where
-      by_test : (t : Bool) → is_in file.header space segment address ≡ t → cond t (segment_byte file segment (address - first_address file.header segment)) None ≡ Some byte → IsByteOf segment
+      by_test : (t : Bool) → is_in file.header space segment address ≡ t → cond t
+          (segment_byte file segment (address - first_address file.header segment)) None ≡ Some byte → IsByteOf segment
       by_test true p e = record { «in» = p; reads = e }
       by_test false p e = absurd (cc)
 
@@ -130,20 +154,26 @@ module _ (file : Contents) (space : Space) (address byte : ℕ) where
   one_of None None z e = inr (inr e)
 
   pub core_back : core file space address ≡ Some byte → IsByteOf TextSeg ⊎ (IsByteOf DataSeg ⊎ IsByteOf BssSeg)
-  core_back e = by_case (one_of (loaded_byte file space TextSeg address) (loaded_byte file space DataSeg address) (loaded_byte file space BssSeg address) e)
+  core_back e =
+      by_case (one_of (loaded_byte file space TextSeg address) (loaded_byte file space DataSeg address)
+      (loaded_byte file space BssSeg address) e)
     where
-      by_case : (loaded_byte file space TextSeg address ≡ Some byte) ⊎ ((loaded_byte file space DataSeg address ≡ Some byte) ⊎ (loaded_byte file space BssSeg address ≡ Some byte)) → IsByteOf TextSeg ⊎ (IsByteOf DataSeg ⊎ IsByteOf BssSeg)
+      by_case : (loaded_byte file space TextSeg address ≡ Some byte)
+          ⊎ ((loaded_byte file space DataSeg address ≡ Some byte) ⊎ (loaded_byte file space BssSeg address ≡ Some byte)) →
+          IsByteOf TextSeg ⊎ (IsByteOf DataSeg ⊎ IsByteOf BssSeg)
       by_case (inl f) = inl (loaded_back TextSeg f)
       by_case (inr (inl f)) = inr (inl (loaded_back DataSeg f))
       by_case (inr (inr f)) = inr (inr (loaded_back BssSeg f))
 
 -- one space is both
-pub one_space : (file : Contents) → has_one_space file.header.magic ≡ true → (address : ℕ) → core file of_instructions address ≡ core file of_data address
+pub one_space : (file : Contents) → has_one_space file.header.magic ≡ true → (address : ℕ) →
+    core file of_instructions address ≡ core file of_data address
 one_space file e address = λ i. first_of (load (text i) TextSeg) (first_of (load (rest i) DataSeg) (load (rest i) BssSeg))
   where
     load : Bool → Segment → Option ℕ
     load has segment =
-        cond (has && (nat_le (first_address file.header segment) address && nat_lt address (first_address file.header segment + bytes_of file.header segment)))
+        cond (has && (nat_le (first_address file.header segment) address
+        && nat_lt address (first_address file.header segment + bytes_of file.header segment)))
         (segment_byte file segment (address - first_address file.header segment)) None
 
     text : (has_one_space file.header.magic || eqb file.header.magic 265) ≡ has_one_space file.header.magic

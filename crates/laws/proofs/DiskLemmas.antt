@@ -1,5 +1,6 @@
 -- What is on a disk, and which objects a link takes from it.
-use Rattle.std.proofs.Common.{◌≡◌, ℕ, ◌≤◌, Bool, true, false, cond, List, [], ◌∷◌, ◌++◌, Option, Some, None, Result, Ok, refl, sym, ap, ◌∙◌, subst}
+use Rattle.std.proofs.Common.{◌≡◌, ℕ, ◌≤◌, Bool, true, false, cond, List, [], ◌∷◌, ◌++◌, Option, Some}
+use Rattle.std.proofs.Common.{None, Result, Ok, refl, sym, ap, ◌∙◌, subst}
 use Rattle.std.proofs.lemmas.List.{append-nil, append_assoc, map-append}
 use Rattle.std.proofs.lemmas.Slice.Eq.{bytes_eq-Decides}
 use Rattle.std.specs.List.{AllByRecursion}
@@ -32,7 +33,8 @@ abbrev pub AreGiven : Disk → List Opened → Type 0
 AreGiven disk found = AllByRecursion (λ (f : Opened). IfSome (disk f.0) (λ bytes. f.1 ≡ Some bytes)) found
 
 -- openings leave the disk as it was
-pub after_opens : (disk : Disk) (found : List Opened) (events : List Event) → disk_after disk (opens found ++ events) ≡ disk_after disk events
+pub after_opens : (disk : Disk) (found : List Opened) (events : List Event) →
+    disk_after disk (opens found ++ events) ≡ disk_after disk events
 after_opens disk [] events = refl
 after_opens disk (f ∷ fs) events = after_opens disk fs events
 
@@ -48,7 +50,8 @@ stored_there disk path bytes = let same : bytes_eq path path ≡ true = (bytes_e
 pub read_back : EncodingLaw → (file : Contents) → IsSound file → decode (encoding file) ≡ Ok file
 read_back law file sound = ap decode (sym (append-nil (encoding file))) ∙ law file [] sound
 
-pub are_at_append : (disk : Disk) (paths more : List (List ℕ)) (os ps : List Contents) → AreAt disk paths os → AreAt disk more ps → AreAt disk (paths ++ more) (os ++ ps)
+pub are_at_append : (disk : Disk) (paths more : List (List ℕ)) (os ps : List Contents) → AreAt disk paths os →
+    AreAt disk more ps → AreAt disk (paths ++ more) (os ++ ps)
 are_at_append disk [] more [] ps h k = k
 are_at_append disk (path ∷ paths) more (o ∷ os) ps h k = (h.0, are_at_append disk paths more os ps h.1 k)
 are_at_append disk [] more (o ∷ os) ps h k = absurd h
@@ -64,7 +67,8 @@ record IsFound (c o : Contents) : Type 0 where
 found_object : (c o : Contents) → let it : Result Contents Cause = Ok c in it ≡ object_in (Ok o) → IsFound c o
 found_object c o e = by_fault (first_object_fault o) refl e
   where
-    by_fault : (fault : Option ObjectFault) → first_object_fault o ≡ fault → (let it : Result Contents Cause = Ok c in it ≡ unless bad_object fault o) → IsFound c o
+    by_fault : (fault : Option ObjectFault) → first_object_fault o ≡ fault →
+        (let it : Result Contents Cause = Ok c in it ≡ unless bad_object fault o) → IsFound c o
     by_fault None well h = record { same = cc; well = well }
     by_fault (Some fault) well h = absurd (cc)
 
@@ -73,7 +77,9 @@ record IsAdded (fault : Option AddFault) (kept next : List Labelled) (e : Labell
   none : fault ≡ None
   longer : next ≡ kept ++ e ∷ []
 
-added : (fault : Option AddFault) (kept next : List Labelled) (e : Labelled) → (let it : Result (List Labelled) Cause = Ok next in unless not_added fault (kept ++ e ∷ []) ≡ it) → IsAdded fault kept next e
+added : (fault : Option AddFault) (kept next : List Labelled) (e : Labelled) →
+    (let it : Result (List Labelled) Cause = Ok next in unless not_added fault (kept ++ e ∷ []) ≡ it) →
+    IsAdded fault kept next e
 added None kept next e h = record { none = refl; longer = cc }
 added (Some fault) kept next e h = absurd (cc)
 
@@ -84,7 +90,8 @@ text_fits forced os h = ltb-false 65534 (total TextSeg os) (not_full (nat_lt 655
     not_full true rest h = absurd (cc)
     not_full false rest h = refl
 
-known_there : (known : Option (List ℕ)) (disk : Option (List ℕ)) (bytes : List ℕ) → disk ≡ Some bytes → IfSome disk (λ bytes. known ≡ Some bytes) → known ≡ Some bytes
+known_there : (known : Option (List ℕ)) (disk : Option (List ℕ)) (bytes : List ℕ) → disk ≡ Some bytes →
+    IfSome disk (λ bytes. known ≡ Some bytes) → known ≡ Some bytes
 known_there known disk bytes e h = subst (λ (d : Option (List ℕ)). IfSome d (λ bytes. known ≡ Some bytes)) e h
 
 -- the objects that are taken are those at the paths
@@ -93,7 +100,8 @@ pub record AreTaken (kept more : List Labelled) (os : List Contents) : Type 0 wh
   pub well : AllByRecursion IsWellFormed os
   pub text : total TextSeg (objects kept) ≤ 65534 → total TextSeg (objects more) ≤ 65534
 
-pub objects_taken : (disk : Disk) (forced : List (List ℕ)) (found : List Opened) (os : List Contents) (kept more : List Labelled) → AreGiven disk found → AreAt disk (paths_of found) os →
+pub objects_taken : (disk : Disk) (forced : List (List ℕ)) (found : List Opened) (os : List Contents)
+    (kept more : List Labelled) → AreGiven disk found → AreAt disk (paths_of found) os →
     TakesAll forced kept (inputs_opened found) more → AreTaken kept more os
 objects_taken disk forced [] [] kept more gives at same = record {
   all = ap objects same ∙ sym (append-nil (objects kept));
@@ -107,13 +115,18 @@ objects_taken disk forced (f ∷ fs) (o ∷ os) kept more gives at (next, takes,
     let is_found = subst (λ (k : Option (List ℕ)). IfSome k (λ bytes. Ok takes.object ≡ object_in (decode bytes))) known takes.is_found in
     let is : IsFound takes.object o = found_object takes.object o (is_found ∙ ap object_in at.0.read) in
     let e : Labelled = record { label = f.0; object = takes.object } in
-    let one : IsAdded (refusal forced (objects kept) takes.object) kept next e = added (refusal forced (objects kept) takes.object) kept next e takes.accepts in
-    let more_objects : objects next ≡ objects kept ++ takes.object ∷ [] = ap objects one.longer ∙ map-append (λ (e : Labelled). e.object) kept (e ∷ []) in
+    let one : IsAdded (refusal forced (objects kept) takes.object) kept next e =
+    added (refusal forced (objects kept) takes.object) kept next e takes.accepts in
+    let more_objects : objects next ≡ objects kept ++ takes.object ∷ [] =
+    ap objects one.longer ∙ map-append (λ (e : Labelled). e.object) kept (e ∷ []) in
     let fits : total TextSeg (objects next) ≤ 65534 =
-    subst (λ (cs : List Contents). total TextSeg cs ≤ 65534) (sym more_objects) (text_fits forced (objects kept ++ takes.object ∷ []) one.none) in
+    subst (λ (cs : List Contents). total TextSeg cs ≤ 65534) (sym more_objects)
+    (text_fits forced (objects kept ++ takes.object ∷ []) one.none) in
     let later : AreTaken next more os = objects_taken disk forced fs os next more gives.1 at.1 rest in
     record {
-      all = later.all ∙ ap (λ (cs : List Contents). cs ++ os) (more_objects ∙ ap (λ (c : Contents). objects kept ++ c ∷ []) is.same) ∙ append_assoc (objects kept) (o ∷ []) os;
+      all =
+          later.all ∙ ap (λ (cs : List Contents). cs ++ os)
+          (more_objects ∙ ap (λ (c : Contents). objects kept ++ c ∷ []) is.same) ∙ append_assoc (objects kept) (o ∷ []) os;
       well = (is.well, later.well);
       text = λ h. later.text fits;
     }

@@ -1,5 +1,6 @@
 -- The rows of the externals, as the relation of linking tells them, stand once each among the symbols that nm lists.
-use Rattle.std.proofs.Common.{◌≡◌, ◌≢◌, ℕ, ◌+◌, Bool, true, false, cond, not, ◌&&◌, ◌||◌, eqb, List, [], ◌∷◌, ◌++◌, map, filter, Some, refl, sym, ◌∙◌, ap, subst, arith}
+use Rattle.std.proofs.Common.{◌≡◌, ◌≢◌, ℕ, ◌+◌, Bool, true, false, cond, not, ◌&&◌, ◌||◌, eqb, List, [], ◌∷◌}
+use Rattle.std.proofs.Common.{◌++◌, map, filter, Some, refl, sym, ◌∙◌, ap, subst, arith}
 use Rattle.std.specs.Prelude.{bytes_eq}
 use Rattle.std.specs.List.{flat_map, AllByRecursion}
 use Rattle.std.proofs.lemmas.Bool.{and_parts}
@@ -39,20 +40,28 @@ use Rattle.laws.proofs.ShownLemmas.{no_local, all_apart, one_file}
 -- kept locals are no externals
 
 module _ (h : Header) (os : List Contents) (o : Choices) where
-  kept_inner : (earlier : List Contents) (k : Contents) (ss : List Symbol) → filter is_external (map (moved_local_in h os earlier k) (filter (is_kept_local o.keep) ss)) ≡ []
+  kept_inner : (earlier : List Contents) (k : Contents) (ss : List Symbol) →
+      filter is_external (map (moved_local_in h os earlier k) (filter (is_kept_local o.keep) ss)) ≡ []
   kept_inner earlier k [] = refl
   kept_inner earlier k (s ∷ ss) = by_tests (is_external s) refl (is_kept_local o.keep s) refl (kept_inner earlier k ss)
     where
-      by_tests : (e : Bool) → is_external s ≡ e → (t : Bool) → is_kept_local o.keep s ≡ t → filter is_external (map (moved_local_in h os earlier k) (filter (is_kept_local o.keep) ss)) ≡ [] →
-          filter is_external (map (moved_local_in h os earlier k) (cond t (s ∷ filter (is_kept_local o.keep) ss) (filter (is_kept_local o.keep) ss))) ≡ []
+      by_tests : (e : Bool) → is_external s ≡ e → (t : Bool) → is_kept_local o.keep s ≡ t →
+          filter is_external (map (moved_local_in h os earlier k) (filter (is_kept_local o.keep) ss)) ≡ [] →
+          filter is_external (map (moved_local_in h os earlier k)
+          (cond t (s ∷ filter (is_kept_local o.keep) ss) (filter (is_kept_local o.keep) ss))) ≡ []
       by_tests e se false kt rest = rest
       by_tests false se true kt rest = rw se rest
-      by_tests true se true kt rest = let no : not (is_external s) ≡ true = (and_parts _ _ kt).0 in absurd (let bad : not true ≡ true = (rw se at no) in cc)
+      by_tests true se true kt rest =
+          let no : not (is_external s) ≡ true = (and_parts _ _ kt).0 in
+          absurd (let bad : not true ≡ true = (rw se at no) in cc)
 
-  locals_inner : (earlier rest : List Contents) → filter is_external (flat_map (λ q. map (moved_local_in h os q.0 q.1) (filter (is_kept_local o.keep) q.1.symbols)) (with_earlier earlier rest)) ≡ []
+  locals_inner : (earlier rest : List Contents) → filter is_external
+      (flat_map (λ q. map (moved_local_in h os q.0 q.1) (filter (is_kept_local o.keep) q.1.symbols)) (with_earlier earlier rest)) ≡ []
   locals_inner earlier [] = refl
   locals_inner earlier (k ∷ ks) =
-      filter-append is_external (map (moved_local_in h os earlier k) (filter (is_kept_local o.keep) k.symbols)) (flat_map (λ q. map (moved_local_in h os q.0 q.1) (filter (is_kept_local o.keep) q.1.symbols)) (with_earlier (earlier ++ k ∷ []) ks))
+      filter-append is_external (map (moved_local_in h os earlier k) (filter (is_kept_local o.keep) k.symbols))
+      (flat_map (λ q. map (moved_local_in h os q.0 q.1) (filter (is_kept_local o.keep) q.1.symbols))
+      (with_earlier (earlier ++ k ∷ []) ks))
       ∙ (λ i. kept_inner earlier k k.symbols i ++ locals_inner (earlier ++ k ∷ []) ks i)
 
 -- the row of a state
@@ -61,7 +70,9 @@ module _ (h : Header) (bss : ℕ) (o : Choices) (at : ℕ) (name : List ℕ) whe
   -- each part of the row of a wanted name
   abbrev wanted_row : ℕ → Bool → Bool → Bool → Bool → Bool → Bool → Symbol
   wanted_row size z r c t d e =
-      cond z (cond r (row_of_name name 32 0) (cond t (row_of_name name 34 h.text_size) (cond d (row_of_name name 35 (data_start_in h + h.data_size)) (cond e (row_of_name name 36 (data_start_in h + h.data_size + h.bss_size)) (row_of_name name 32 0)))))
+      cond z (cond r (row_of_name name 32 0)
+      (cond t (row_of_name name 34 h.text_size) (cond d (row_of_name name 35 (data_start_in h + h.data_size))
+      (cond e (row_of_name name 36 (data_start_in h + h.data_size + h.bss_size)) (row_of_name name 32 0)))))
       (cond (not r || c) (row_of_name name 36 at) (row_of_name name 32 size))
 
   row_outer : (st : State) → is_external (row_for h bss o at name st) ≡ true
@@ -71,7 +82,8 @@ module _ (h : Header) (bss : ℕ) (o : Choices) (at : ℕ) (name : List ℕ) whe
   row_outer (Defined DataSeg offset) = refl
   row_outer (Defined BssSeg offset) = refl
   row_outer (Defined Other offset) = refl
-  row_outer (Wanted size) = by_tests (eqb size 0) o.relocatable o.force_commons (bytes_eq name etext) (bytes_eq name edata) (bytes_eq name end_name)
+  row_outer (Wanted size) =
+      by_tests (eqb size 0) o.relocatable o.force_commons (bytes_eq name etext) (bytes_eq name edata) (bytes_eq name end_name)
     where
       by_tests : (z r c t d e : Bool) → is_external (wanted_row size z r c t d e) ≡ true
       by_tests true true c t d e = refl
@@ -90,9 +102,11 @@ module _ (h : Header) (bss : ℕ) (o : Choices) (at : ℕ) (name : List ℕ) whe
   row_letter (Defined DataSeg offset) plain = refl
   row_letter (Defined BssSeg offset) plain = refl
   row_letter (Defined Other offset) plain = refl
-  row_letter (Wanted size) plain = by_tests (eqb size 0) o.relocatable plain o.force_commons (bytes_eq name etext) (bytes_eq name edata) (bytes_eq name end_name)
+  row_letter (Wanted size) plain =
+      by_tests (eqb size 0) o.relocatable plain o.force_commons (bytes_eq name etext) (bytes_eq name edata) (bytes_eq name end_name)
     where
-      by_tests : (z r : Bool) → r ≡ false → (c t d e : Bool) → letter (wanted_row size z r c t d e) ≡ cond z (cond t 84 (cond d 68 (cond e 66 85))) 66
+      by_tests : (z r : Bool) → r ≡ false → (c t d e : Bool) →
+          letter (wanted_row size z r c t d e) ≡ cond z (cond t 84 (cond d 68 (cond e 66 85))) 66
       by_tests z true plain c t d e = absurd (cc)
       by_tests true false plain c true d e = refl
       by_tests true false plain c false true e = refl
@@ -109,13 +123,16 @@ AreApart (n ∷ ns) = (is_among ns n ≡ false) × AreApart ns
 -- what is seen is not new again
 not_again : (seen names : List (List ℕ)) (name : List ℕ) → is_among seen name ≡ true → is_among (new_names seen names) name ≡ false
 not_again seen [] name known = refl
-not_again seen (n ∷ ns) name known = by_tests (is_among seen n) refl (bytes_eq name n) refl (not_again (seen ++ n ∷ []) ns name (is_among-append seen (n ∷ []) name ∙ ap (λ (t : Bool). t || is_among (n ∷ []) name) known))
+not_again seen (n ∷ ns) name known =
+    by_tests (is_among seen n) refl (bytes_eq name n) refl (not_again (seen ++ n ∷ []) ns name
+    (is_among-append seen (n ∷ []) name ∙ ap (λ (t : Bool). t || is_among (n ∷ []) name) known))
   where
     by_tests : (t : Bool) → is_among seen n ≡ t → (e : Bool) → bytes_eq name n ≡ e → is_among (new_names (seen ++ n ∷ []) ns) name ≡ false →
         is_among (cond t (new_names (seen ++ n ∷ []) ns) (n ∷ new_names (seen ++ n ∷ []) ns)) name ≡ false
     by_tests true te e ee rest = rest
     by_tests false te true ee rest =
-        absurd (let same : is_among seen name ≡ is_among seen n = ap (is_among seen) ((bytes_eq-Decides name n).0 ee) in let bad : true ≡ false = sym known ∙ same ∙ te in cc)
+        absurd (let same : is_among seen name ≡ is_among seen n = ap (is_among seen) ((bytes_eq-Decides name n).0 ee) in
+        let bad : true ≡ false = sym known ∙ same ∙ te in cc)
     by_tests false te false ee rest = ap (λ (e : Bool). e || is_among (new_names (seen ++ n ∷ []) ns) name) ee ∙ rest
 
 or_last : (t : Bool) → (t || (true || false)) ≡ true
@@ -127,9 +144,12 @@ new_apart seen [] = tt
 new_apart seen (n ∷ ns) = by_test (is_among seen n) (new_apart (seen ++ n ∷ []) ns)
   where
     last : is_among (seen ++ n ∷ []) n ≡ true
-    last = is_among-append seen (n ∷ []) n ∙ ap (λ (e : Bool). is_among seen n || (e || false)) ((bytes_eq-Decides n n).1 refl) ∙ or_last (is_among seen n)
+    last =
+        is_among-append seen (n ∷ []) n
+        ∙ ap (λ (e : Bool). is_among seen n || (e || false)) ((bytes_eq-Decides n n).1 refl) ∙ or_last (is_among seen n)
 
-    by_test : (t : Bool) → AreApart (new_names (seen ++ n ∷ []) ns) → AreApart (cond t (new_names (seen ++ n ∷ []) ns) (n ∷ new_names (seen ++ n ∷ []) ns))
+    by_test : (t : Bool) → AreApart (new_names (seen ++ n ∷ []) ns) →
+        AreApart (cond t (new_names (seen ++ n ∷ []) ns) (n ∷ new_names (seen ++ n ∷ []) ns))
     by_test true rest = rest
     by_test false rest = (not_again (seen ++ n ∷ []) ns n last, rest)
 
@@ -142,7 +162,8 @@ entry_first : (ss : List Symbol) (name : List ℕ) (r : Symbol) → filter (is_n
 entry_first [] name r one = absurd (cc)
 entry_first (s ∷ ss) name r one = by_test (is_named name s) one (entry_first ss name r)
   where
-    by_test : (t : Bool) → cond t (s ∷ filter (is_named name) ss) (filter (is_named name) ss) ≡ r ∷ [] → (filter (is_named name) ss ≡ r ∷ [] → entry_of ss name ≡ Some r) → cond t (Some s) (entry_of ss name) ≡ Some r
+    by_test : (t : Bool) → cond t (s ∷ filter (is_named name) ss) (filter (is_named name) ss) ≡ r ∷ [] →
+        (filter (is_named name) ss ≡ r ∷ [] → entry_of ss name ≡ Some r) → cond t (Some s) (entry_of ss name) ≡ Some r
     by_test true one rest = let same : s ≡ r = cc in ap (λ (q : Symbol). Some q) same
     by_test false one rest = rest one
 
@@ -150,7 +171,8 @@ none_named : (ss : List Symbol) (name : List ℕ) → is_among (map (λ s. s.nam
 none_named [] name none = refl
 none_named (s ∷ ss) name none = by_tests (is_external s) (bytes_eq name s.name) none (none_named ss name)
   where
-    by_tests : (e b : Bool) → (b || is_among (map (λ s. s.name) ss) name) ≡ false → (is_among (map (λ s. s.name) ss) name ≡ false → filter (is_named name) ss ≡ []) →
+    by_tests : (e b : Bool) → (b || is_among (map (λ s. s.name) ss) name) ≡ false →
+        (is_among (map (λ s. s.name) ss) name ≡ false → filter (is_named name) ss ≡ []) →
         cond (e && b) (s ∷ filter (is_named name) ss) (filter (is_named name) ss) ≡ []
     by_tests e true none rest = absurd (cc)
     by_tests true false none rest = rest none
@@ -159,7 +181,8 @@ none_named (s ∷ ss) name none = by_tests (is_external s) (bytes_eq name s.name
 module _ (h : Header) (bss : ℕ) (o : Choices) (ms : List Mention) where
   rows_outer : (rows : List Symbol) (at end : ℕ) → AreRows h bss o ms at rows end → AllByRecursion (λ s. is_external s ≡ true) rows
   rows_outer [] at end are = tt
-  rows_outer (r ∷ rs) at end are = (ap is_external are.2 ∙ row_outer h bss o at r.name are.0, rows_outer rs (at + room_for o are.0) end are.3)
+  rows_outer (r ∷ rs) at end are =
+      (ap is_external are.2 ∙ row_outer h bss o at r.name are.0, rows_outer rs (at + room_for o are.0) end are.3)
 
   -- one of these rows, the first of which would have a common at the start
   record IsRowOf (rows : List Symbol) (start : ℕ) (name : List ℕ) : Type 0 where
@@ -180,15 +203,17 @@ module _ (h : Header) (bss : ℕ) (o : Choices) (ms : List Mention) where
   further : (start room taken : ℕ) → start + room + taken ≡ start + (room + taken)
   further start room taken = omega arith
 
-  one_row : (rows : List Symbol) (at end : ℕ) → AreRows h bss o ms at rows end → AreApart (map (λ s. s.name) rows) → (name : List ℕ) → is_among (map (λ s. s.name) rows) name ≡ true → IsRowOf rows at name
+  one_row : (rows : List Symbol) (at end : ℕ) → AreRows h bss o ms at rows end → AreApart (map (λ s. s.name) rows) →
+      (name : List ℕ) → is_among (map (λ s. s.name) rows) name ≡ true → IsRowOf rows at name
   one_row [] at end are lie name known = absurd (cc)
-  one_row (r ∷ rs) at end are lie name known = by_test (bytes_eq name r.name) refl known (one_row rs (at + room_for o are.0) end are.3 lie.1 name)
+  one_row (r ∷ rs) at end are lie name known =
+      by_test (bytes_eq name r.name) refl known (one_row rs (at + room_for o are.0) end are.3 lie.1 name)
     where
       outer : is_external r ≡ true
       outer = ap is_external are.2 ∙ row_outer h bss o at r.name are.0
 
-      by_test : (t : Bool) → bytes_eq name r.name ≡ t → (t || is_among (map (λ s. s.name) rs) name) ≡ true → (is_among (map (λ s. s.name) rs) name ≡ true → IsRowOf rs (at + room_for o are.0) name) →
-          IsRowOf (r ∷ rs) at name
+      by_test : (t : Bool) → bytes_eq name r.name ≡ t → (t || is_among (map (λ s. s.name) rs) name) ≡ true →
+          (is_among (map (λ s. s.name) rs) name ≡ true → IsRowOf rs (at + room_for o are.0) name) → IsRowOf (r ∷ rs) at name
       by_test true e known rest =
           let same : name ≡ r.name = (bytes_eq-Decides name r.name).0 e in
           let none : filter (is_named name) rs ≡ [] = none_named rs name (ap (is_among (map (λ s. s.name) rs)) same ∙ lie.0) in
@@ -221,7 +246,8 @@ module _ (h : Header) (bss : ℕ) (o : Choices) (ms : List Mention) where
 
 -- the table of a link
 
-module _ (forced : List (List ℕ)) (os : List Contents) (o : Choices) (x : Outcome) (others : o.keep ≢ Nothing) (l : IsLinkedFrom forced os o x) where
+module _ (forced : List (List ℕ)) (os : List Contents) (o : Choices) (x : Outcome) (others : o.keep ≢ Nothing)
+    (l : IsLinkedFrom forced os o x) where
   abbrev locals : List Symbol
   locals = moved_locals_in x.file.header os o
 
@@ -247,32 +273,46 @@ module _ (forced : List (List ℕ)) (os : List Contents) (o : Choices) (x : Outc
   passed n u = ap (filter (is_shown n)) symbols_are ∙ all_apart n locals l.rows inner outer u
 
   -- locals before the rows change nothing for a name
-  named_after : (ss : List Symbol) (name : List ℕ) → filter is_external ss ≡ [] → filter (is_named name) (ss ++ l.rows) ≡ filter (is_named name) l.rows
-  named_after ss name none = filter-append (is_named name) ss l.rows ∙ ap (λ (ls : List Symbol). ls ++ filter (is_named name) l.rows) (no_local (λ s. bytes_eq name s.name) ss none)
+  named_after : (ss : List Symbol) (name : List ℕ) → filter is_external ss ≡ [] →
+      filter (is_named name) (ss ++ l.rows) ≡ filter (is_named name) l.rows
+  named_after ss name none =
+      filter-append (is_named name) ss l.rows
+      ∙ ap (λ (ls : List Symbol). ls ++ filter (is_named name) l.rows) (no_local (λ s. bytes_eq name s.name) ss none)
 
   listed_inner : (e : Bool) → filter is_external (cond e [] locals) ≡ []
   listed_inner true = refl
   listed_inner false = inner
 
-  listed_once : (n : NmOptions) → n.undefined ≡ false → (name : List ℕ) → is_among (externals forced os) name ≡ true → IsListedOnce forced os o x.file (shown n x.file) name
+  listed_once : (n : NmOptions) → n.undefined ≡ false → (name : List ℕ) → is_among (externals forced os) name ≡ true →
+      IsListedOnce forced os o x.file (shown n x.file) name
   listed_once n u name known =
-      let r = one_row x.file.header bss o (mentions forced os) l.rows at end l.are_rows (subst AreApart (sym l.names) (new_apart [] (names_of (mentions forced os)))) name (ap (λ (ns : List (List ℕ)). is_among ns name) l.names ∙ known) in
+      let r = one_row x.file.header bss o (mentions forced os) l.rows at end l.are_rows
+      (subst AreApart (sym l.names) (new_apart [] (names_of (mentions forced os)))) name
+      (ap (λ (ns : List (List ℕ)). is_among ns name) l.names ∙ known) in
       record {
         row = r.row;
         found = entry_first x.file.symbols name r.row (ap (filter (is_named name)) symbols_are ∙ named_after locals name inner ∙ r.once);
-        once = arranged_one n (filter (is_shown n) x.file.symbols) (is_named name) r.row (ap (filter (is_named name)) (passed n u) ∙ named_after (listed_locals n locals) name (listed_inner n.external) ∙ r.once);
+        once =
+            arranged_one n (filter (is_shown n) x.file.symbols) (is_named name) r.row (ap (filter (is_named name))
+            (passed n u) ∙ named_after (listed_locals n locals) name (listed_inner n.external) ∙ r.once);
         state = r.state;
         has = r.has;
         at = at + r.taken;
-        place = record { earlier = r.earlier; later = r.later; order = sym l.names ∙ r.order; taken = r.taken; take = r.take; after = refl };
+        place =
+            record { earlier = r.earlier; later = r.later; order = sym l.names ∙ r.order; taken = r.taken; take = r.take; after = refl };
         is = r.is;
         shows = λ plain. ap letter r.is ∙ row_letter x.file.header bss o (at + r.taken) name r.state plain;
       }
 
-pub externals_are_listed : (forced : List (List ℕ)) (os : List Contents) (o : Choices) (x : Outcome) → o.keep ≢ Nothing → IsLinkedFrom forced os o x →
-    (n : NmOptions) → n.undefined ≡ false → (name : List ℕ) → is_among (externals forced os) name ≡ true → IsListedOnce forced os o x.file (shown n x.file) name
+pub externals_are_listed : (forced : List (List ℕ)) (os : List Contents) (o : Choices) (x : Outcome) →
+    o.keep ≢ Nothing → IsLinkedFrom forced os o x →
+    (n : NmOptions) → n.undefined ≡ false → (name : List ℕ) → is_among (externals forced os) name ≡ true →
+    IsListedOnce forced os o x.file (shown n x.file) name
 externals_are_listed forced os o x others l n u name known = listed_once forced os o x others l n u name known
 
-pub row_lines : (forced : List (List ℕ)) (os : List Contents) (o : Choices) (x : Outcome) → o.keep ≢ Nothing → (l : IsLinkedFrom forced os o x) →
-    (n : NmOptions) (path : List ℕ) → n.undefined ≡ false → nm_text n ((path, x.file) ∷ []) ≡ lines n path (arranged n (listed_locals n (moved_locals_in x.file.header os o) ++ l.rows))
-row_lines forced os o x others l n path u = one_file n path x.file ∙ ap (λ (ss : List Symbol). lines n path (arranged n ss)) (passed forced os o x others l n u)
+pub row_lines : (forced : List (List ℕ)) (os : List Contents) (o : Choices) (x : Outcome) → o.keep ≢ Nothing →
+    (l : IsLinkedFrom forced os o x) →
+    (n : NmOptions) (path : List ℕ) → n.undefined ≡ false → nm_text n ((path, x.file) ∷ []) ≡ lines n path
+    (arranged n (listed_locals n (moved_locals_in x.file.header os o) ++ l.rows))
+row_lines forced os o x others l n path u =
+    one_file n path x.file ∙ ap (λ (ss : List Symbol). lines n path (arranged n ss)) (passed forced os o x others l n u)

@@ -15,12 +15,14 @@ pub differ_long : {A : Type 0} (start count : ℕ) (xs ys : List A) → DifferAt
 differ_long start count xs ys d =
     ap length d.one
     ∙ length-append d.front (d.own ++ d.back)
-    ∙ ap (λ (n : ℕ). length d.front + n) (length-append d.own d.back ∙ ap (λ (n : ℕ). n + length d.back) (d.counts ∙ sym d.as_many) ∙ sym (length-append d.other d.back))
+    ∙ ap (λ (n : ℕ). length d.front + n) (length-append d.own d.back
+    ∙ ap (λ (n : ℕ). n + length d.back) (d.counts ∙ sym d.as_many) ∙ sym (length-append d.other d.back))
     ∙ sym (length-append d.front (d.other ++ d.back))
     ∙ sym (ap length d.two)
 
 -- also with the same elements after them
-pub differ_append : {A : Type 0} (start count : ℕ) (xs ys zs : List A) → DifferAt start count xs ys → DifferAt start count (xs ++ zs) (ys ++ zs)
+pub differ_append : {A : Type 0} (start count : ℕ) (xs ys zs : List A) → DifferAt start count xs ys →
+    DifferAt start count (xs ++ zs) (ys ++ zs)
 differ_append {A = A} start count xs ys zs d = record {
   front = d.front;
   own = d.own;
@@ -36,13 +38,20 @@ differ_append {A = A} start count xs ys zs d = record {
     grouped : (own : List A) → (d.front ++ (own ++ d.back)) ++ zs ≡ d.front ++ (own ++ (d.back ++ zs))
     grouped own = append_assoc d.front (own ++ d.back) zs ∙ ap (λ (ws : List A). d.front ++ ws) (append_assoc own d.back zs)
 
-module _ {A : Type 0} (f : List Contents → Contents → List A) (same : (xs ys : List Contents) (c : Contents) → AreAsLong xs ys → f xs c ≡ f ys c) where
+module _ {A : Type 0} (f : List Contents → Contents → List A)
+    (same : (xs ys : List Contents) (c : Contents) → AreAsLong xs ys → f xs c ≡ f ys c) where
   -- the blocks of these objects: those before one, its own, and those after it
-  parted : (before : List Contents) (k : Contents) (after : List Contents) → blocks f [] (before ++ k ∷ after) ≡ blocks f [] before ++ (blocks f before (k ∷ []) ++ blocks f (before ++ k ∷ []) after)
-  parted before k after = blocks-append f [] before (k ∷ after) ∙ ap (λ (rest : List A). blocks f [] before ++ rest) (blocks-append f before (k ∷ []) after)
+  parted : (before : List Contents) (k : Contents) (after : List Contents) → blocks f [] (before ++ k ∷ after)
+      ≡ blocks f [] before ++ (blocks f before (k ∷ []) ++ blocks f (before ++ k ∷ []) after)
+  parted before k after =
+      blocks-append f [] before (k ∷ after)
+      ∙ ap (λ (rest : List A). blocks f [] before ++ rest) (blocks-append f before (k ∷ []) after)
 
-  pub after_same : (before : List Contents) (k l : Contents) (after : List Contents) → AreAsLong (k ∷ []) (l ∷ []) → blocks f (before ++ k ∷ []) after ≡ blocks f (before ++ l ∷ []) after
-  after_same before k l after long = blocks_same f same (before ++ k ∷ []) (before ++ l ∷ []) after (as_long_append before before (k ∷ []) (l ∷ []) (as_long_self before) long)
+  pub after_same : (before : List Contents) (k l : Contents) (after : List Contents) → AreAsLong (k ∷ []) (l ∷ []) →
+      blocks f (before ++ k ∷ []) after ≡ blocks f (before ++ l ∷ []) after
+  after_same before k l after long =
+      blocks_same f same (before ++ k ∷ []) (before ++ l ∷ []) after
+      (as_long_append before before (k ∷ []) (l ∷ []) (as_long_self before) long)
 
   -- only the replaced object's own blocks differ
   pub replaced : (before : List Contents) (k l : Contents) (after : List Contents) → AreAsLong (k ∷ []) (l ∷ []) → (start count : ℕ) →
@@ -53,7 +62,9 @@ module _ {A : Type 0} (f : List Contents → Contents → List A) (same : (xs ys
     own = blocks f before (k ∷ []);
     other = blocks f before (l ∷ []);
     back = blocks f (before ++ l ∷ []) after;
-    one = parted before k after ∙ ap (λ (rest : List A). blocks f [] before ++ (blocks f before (k ∷ []) ++ rest)) (after_same before k l after long);
+    one =
+        parted before k after ∙ ap (λ (rest : List A). blocks f [] before ++ (blocks f before (k ∷ []) ++ rest))
+        (after_same before k l after long);
     two = parted before l after;
     begins = begins;
     counts = counts;
@@ -61,8 +72,8 @@ module _ {A : Type 0} (f : List Contents → Contents → List A) (same : (xs ys
   }
 
   -- and none, if it gives the same
-  pub replaced_same : (before : List Contents) (k l : Contents) (after : List Contents) → AreAsLong (k ∷ []) (l ∷ []) → f before k ≡ f before l →
-      blocks f [] (before ++ k ∷ after) ≡ blocks f [] (before ++ l ∷ after)
+  pub replaced_same : (before : List Contents) (k l : Contents) (after : List Contents) → AreAsLong (k ∷ []) (l ∷ []) →
+      f before k ≡ f before l → blocks f [] (before ++ k ∷ after) ≡ blocks f [] (before ++ l ∷ after)
   replaced_same before k l after long own =
       parted before k after
       ∙ (λ i. blocks f [] before ++ ((own i ++ []) ++ after_same before k l after long i))
@@ -70,10 +81,12 @@ module _ {A : Type 0} (f : List Contents → Contents → List A) (same : (xs ys
 
 -- two objects of the same sizes
 module _ (k l : Contents) (sizes : (segment : Segment) → size_of segment k ≡ size_of segment l) where
-  pub same_totals : (before after : List Contents) (segment : Segment) → total segment (before ++ k ∷ after) ≡ total segment (before ++ l ∷ after)
+  pub same_totals : (before after : List Contents) (segment : Segment) →
+      total segment (before ++ k ∷ after) ≡ total segment (before ++ l ∷ after)
   same_totals before after segment =
       sum_by-append (size_of segment) before (k ∷ after)
-      ∙ ap (λ (n : ℕ). total segment before + n) (total-first segment k after ∙ ap (λ (n : ℕ). n + total segment after) (sizes segment) ∙ sym (total-first segment l after))
+      ∙ ap (λ (n : ℕ). total segment before + n) (total-first segment k after
+      ∙ ap (λ (n : ℕ). n + total segment after) (sizes segment) ∙ sym (total-first segment l after))
       ∙ sym (sum_by-append (size_of segment) before (l ∷ after))
 
   pub as_long : (before after : List Contents) → AreAsLong (before ++ k ∷ after) (before ++ l ∷ after)

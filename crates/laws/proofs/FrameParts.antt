@@ -1,5 +1,6 @@
 -- The parts of a link, where one object is replaced by another of the same sizes, with as many kept locals.
-use Rattle.std.proofs.Common.{◌≡◌, ℕ, ◌+◌, ◌*◌, ◌/◌, ◌%◌, Bool, true, false, cond, not, ◌&&◌, List, [], ◌∷◌, ◌++◌, map, length, refl, sym, ◌∙◌, ap, subst, arith}
+use Rattle.std.proofs.Common.{◌≡◌, ℕ, ◌+◌, ◌*◌, ◌/◌, ◌%◌, Bool, true, false, cond, not, ◌&&◌, List, [], ◌∷◌}
+use Rattle.std.proofs.Common.{◌++◌, map, length, refl, sym, ◌∙◌, ap, subst, arith}
 use Rattle.std.specs.Prelude.{filter}
 use Rattle.std.specs.List.{flat_map, AllByRecursion}
 use Rattle.aout_core.specs.declared.symbol.Symbol.{Symbol}
@@ -31,18 +32,22 @@ use Rattle.laws.specs.Frame.{DifferAt}
 use Rattle.laws.proofs.FrameBlocks.{differ_long, replaced, same_totals, as_long}
 
 -- what is added to a word, and so the word, depends on the earlier objects by their sizes alone
-move_same : (p : Plan) (xs ys : List Contents) (c : Contents) → AreAsLong xs ys → (r : Referent) → referent_move p xs c r ≡ referent_move p ys c r
+move_same : (p : Plan) (xs ys : List Contents) (c : Contents) → AreAsLong xs ys → (r : Referent) →
+    referent_move p xs c r ≡ referent_move p ys c r
 move_same p xs ys c h (to_segment segment) = ap (λ (n : ℕ). plus (base p.at segment) n) (shift_same xs ys c segment h)
 move_same p xs ys c h (to_name name) = refl
 
-pub word_same : (p : Plan) (segment : Segment) (xs ys : List Contents) (c : Contents) → AreAsLong xs ys → (w : ℕ) (r : Reloc) → final_word p xs c segment w r ≡ final_word p ys c segment w r
-word_same p segment xs ys c h w r = λ i. minus (plus w (move_same p xs ys c h (referent c r) i)) (if_pc r (plus (base p.at segment) (shift_same xs ys c segment h i)))
+pub word_same : (p : Plan) (segment : Segment) (xs ys : List Contents) (c : Contents) → AreAsLong xs ys →
+    (w : ℕ) (r : Reloc) → final_word p xs c segment w r ≡ final_word p ys c segment w r
+word_same p segment xs ys c h w r =
+    λ i. minus (plus w (move_same p xs ys c h (referent c r) i)) (if_pc r (plus (base p.at segment) (shift_same xs ys c segment h i)))
 
 -- the kept locals of one object after others; they too depend on these by their sizes alone
 abbrev locals_of : Bases → Keep → List Contents → Contents → List Symbol
 locals_of b keep earlier c = map (moved_local b earlier c) (filter (is_kept_local keep) c.symbols)
 
-value_same : (b : Bases) (xs ys : List Contents) (c : Contents) → AreAsLong xs ys → (segment : Segment) (value : ℕ) → moved_value b xs c segment value ≡ moved_value b ys c segment value
+value_same : (b : Bases) (xs ys : List Contents) (c : Contents) → AreAsLong xs ys → (segment : Segment) (value : ℕ) →
+    moved_value b xs c segment value ≡ moved_value b ys c segment value
 value_same b xs ys c h Undefined value = refl
 value_same b xs ys c h Absolute value = refl
 value_same b xs ys c h Other value = refl
@@ -50,26 +55,34 @@ value_same b xs ys c h TextSeg value = ap (λ (n : ℕ). plus value (plus (base 
 value_same b xs ys c h DataSeg value = ap (λ (n : ℕ). plus value (plus (base b DataSeg) n)) (shift_same xs ys c DataSeg h)
 value_same b xs ys c h BssSeg value = ap (λ (n : ℕ). plus value (plus (base b BssSeg) n)) (shift_same xs ys c BssSeg h)
 
-locals_same : (b : Bases) (keep : Keep) (xs ys : List Contents) (c : Contents) → AreAsLong xs ys → locals_of b keep xs c ≡ locals_of b keep ys c
-locals_same b keep xs ys c h = λ i. map (λ (s : Symbol). let t : Symbol = record s { value = value_same b xs ys c h (segment_of s) s.value i } in t) (filter (is_kept_local keep) c.symbols)
+locals_same : (b : Bases) (keep : Keep) (xs ys : List Contents) (c : Contents) → AreAsLong xs ys →
+    locals_of b keep xs c ≡ locals_of b keep ys c
+locals_same b keep xs ys c h = λ i. map (λ (s : Symbol). let t : Symbol = record s {
+  value = value_same b xs ys c h (segment_of s) s.value i;
+} in t) (filter (is_kept_local keep) c.symbols)
 
 -- no locals are kept with `-s`
 none_in : (ss : List Symbol) → filter (is_kept_local Nothing) ss ≡ []
 none_in [] = refl
 none_in (s ∷ ss) = by_test (is_external s) (none_in ss)
   where
-    by_test : (t : Bool) → filter (is_kept_local Nothing) ss ≡ [] → cond (not t && false) (s ∷ filter (is_kept_local Nothing) ss) (filter (is_kept_local Nothing) ss) ≡ []
+    by_test : (t : Bool) → filter (is_kept_local Nothing) ss ≡ [] →
+        cond (not t && false) (s ∷ filter (is_kept_local Nothing) ss) (filter (is_kept_local Nothing) ss) ≡ []
     by_test true rest = rest
     by_test false rest = rest
 
 pub none_kept : (os : List Contents) → length (flat_map (λ (k : Contents). filter (is_kept_local Nothing) k.symbols) os) ≡ 0
 none_kept [] = refl
-none_kept (k ∷ ks) = ap (λ (ss : List Symbol). length (ss ++ flat_map (λ (c : Contents). filter (is_kept_local Nothing) c.symbols) ks)) (none_in k.symbols) ∙ none_kept ks
+none_kept (k ∷ ks) =
+    ap (λ (ss : List Symbol). length (ss ++ flat_map (λ (c : Contents). filter (is_kept_local Nothing) c.symbols) ks))
+    (none_in k.symbols) ∙ none_kept ks
 
 halved : (n t : ℕ) → 2 * n ≡ t → n ≡ t / 2
 halved n t e = omega arith
 
-module _ (forced : List (List ℕ)) (before : List Contents) (k l : Contents) (after : List Contents) (o : Choices) (sizes : (segment : Segment) → size_of segment k ≡ size_of segment l) (locals : length (kept_locals o (k ∷ [])) ≡ length (kept_locals o (l ∷ []))) where
+module _ (forced : List (List ℕ)) (before : List Contents) (k l : Contents) (after : List Contents)
+    (o : Choices) (sizes : (segment : Segment) → size_of segment k ≡ size_of segment l)
+    (locals : length (kept_locals o (k ∷ [])) ≡ length (kept_locals o (l ∷ []))) where
   abbrev os : List Contents
   os = before ++ k ∷ after
 
@@ -81,11 +94,13 @@ module _ (forced : List (List ℕ)) (before : List Contents) (k l : Contents) (a
 
   pub locals_differ : DifferAt (length (kept_locals o before)) (length (kept_locals o (k ∷ []))) (local_rows p os) (local_rows p ps)
   locals_differ =
-      replaced (locals_of p.at o.keep) (locals_same p.at o.keep) before k l after (as_long k l sizes [] []) (length (kept_locals o before)) (length (kept_locals o (k ∷ [])))
+      replaced (locals_of p.at o.keep) (locals_same p.at o.keep) before k l after (as_long k l sizes [] [])
+      (length (kept_locals o before)) (length (kept_locals o (k ∷ [])))
       (locals_long forced os o [] before) (locals_long forced os o before (k ∷ [])) (locals_long forced os o before (l ∷ []) ∙ sym locals)
 
   pub rows_counted : length (local_rows p os) ≡ length (local_rows p ps)
-  rows_counted = differ_long (length (kept_locals o before)) (length (kept_locals o (k ∷ []))) (local_rows p os) (local_rows p ps) locals_differ
+  rows_counted =
+      differ_long (length (kept_locals o before)) (length (kept_locals o (k ∷ []))) (local_rows p os) (local_rows p ps) locals_differ
 
   module _ (good : AllByRecursion IsObject os) (object : IsObject l) where
     front_good : AllByRecursion IsObject before
@@ -98,29 +113,42 @@ module _ (forced : List (List ℕ)) (before : List Contents) (k l : Contents) (a
     own_size segment = total-first segment k [] ∙ omega arith
 
     -- what is made of the words of a segment
-    pub made_differ : {A : Type 0} (g : List Contents → Contents → ℕ → Reloc → A) → ((xs ys : List Contents) (c : Contents) → AreAsLong xs ys → (w : ℕ) (r : Reloc) → g xs c w r ≡ g ys c w r) → (segment : Segment) → HasWords segment →
-        DifferAt (total segment before / 2) (size_of segment k / 2)
+    pub made_differ : {A : Type 0} (g : List Contents → Contents → ℕ → Reloc → A) →
+        ((xs ys : List Contents) (c : Contents) → AreAsLong xs ys → (w : ℕ) (r : Reloc) → g xs c w r ≡ g ys c w r) →
+        (segment : Segment) → HasWords segment → DifferAt (total segment before / 2) (size_of segment k / 2)
         (flat_map (λ z. map (λ wr. g z.0 z.1 wr.0 wr.1) (words_of segment z.1)) (with_earlier [] os))
         (flat_map (λ z. map (λ wr. g z.0 z.1 wr.0 wr.1) (words_of segment z.1)) (with_earlier [] ps))
     made_differ {A = A} g same segment has =
-        replaced (λ (earlier : List Contents) (c : Contents). map (λ wr. g earlier c wr.0 wr.1) (words_of segment c)) (λ xs ys c h. λ i. map (λ wr. same xs ys c h wr.0 wr.1 i) (words_of segment c)) before k l after (as_long k l sizes [] [])
+        replaced (λ (earlier : List Contents) (c : Contents). map (λ wr. g earlier c wr.0 wr.1) (words_of segment c))
+        (λ xs ys c h. λ i. map (λ wr. same xs ys c h wr.0 wr.1 i) (words_of segment c)) before k l after (as_long k l sizes [] [])
         (total segment before / 2) (size_of segment k / 2)
         (halved _ _ (made_length g segment has [] before front_good))
         (halved _ _ (made_length g segment has before (k ∷ []) (own_good, tt) ∙ own_size segment))
         (halved _ _ (made_length g segment has before (l ∷ []) (object, tt) ∙ sym (same_totals k l sizes [] [] segment) ∙ own_size segment))
 
     -- relocation words, where each referent has the same bits in both links
-    relocs_differ : (q : Plan) → ((r : Referent) → referent_bits p os r ≡ referent_bits q ps r) → (segment : Segment) → HasWords segment → DifferAt (total segment before / 2) (size_of segment k / 2) (final_relocs p os segment) (final_relocs q ps segment)
+    relocs_differ : (q : Plan) → ((r : Referent) → referent_bits p os r ≡ referent_bits q ps r) →
+        (segment : Segment) → HasWords segment →
+        DifferAt (total segment before / 2) (size_of segment k / 2) (final_relocs p os segment) (final_relocs q ps segment)
     relocs_differ q bits segment has =
         subst (λ (rs : List Reloc). DifferAt (total segment before / 2) (size_of segment k / 2) (final_relocs p os segment) rs)
-        (λ i. flat_map (λ z. map (λ wr. let x : Reloc = record { 0 = wr.1.0 % 2 + bits (referent z.1 wr.1) i } in x) (words_of segment z.1)) (with_earlier [] ps))
-        (made_differ (λ (earlier : List Contents) (c : Contents) (w : ℕ) (r : Reloc). final_reloc p os c r) (λ xs ys c h w r. refl) segment has)
+        (λ i. flat_map (λ z. map (λ wr. let x : Reloc = record { 0 = wr.1.0 % 2 + bits (referent z.1 wr.1) i } in x)
+        (words_of segment z.1)) (with_earlier [] ps))
+        (made_differ (λ (earlier : List Contents) (c : Contents) (w : ℕ) (r : Reloc). final_reloc p os c r)
+        (λ xs ys c h w r. refl) segment has)
 
     -- they are kept only with `-r`
-    pub kept_relocs_differ : (q : Plan) → ((r : Referent) → referent_bits p os r ≡ referent_bits q ps r) → (segment : Segment) → HasWords segment →
-        DifferAt (with_relocation (linked_header p os) (total segment before) / 2) (with_relocation (linked_header p os) (size_of segment k) / 2) (cond o.relocatable (final_relocs p os segment) []) (cond o.relocatable (final_relocs q ps segment) [])
+    pub kept_relocs_differ : (q : Plan) → ((r : Referent) → referent_bits p os r ≡ referent_bits q ps r) →
+        (segment : Segment) → HasWords segment →
+        DifferAt (with_relocation (linked_header p os) (total segment before) / 2)
+        (with_relocation (linked_header p os) (size_of segment k) / 2)
+        (cond o.relocatable (final_relocs p os segment) []) (cond o.relocatable (final_relocs q ps segment) [])
     kept_relocs_differ q bits segment has = by_test o.relocatable
       where
-        by_test : (t : Bool) → DifferAt (with_relocation (record (linked_header p os) { flag = cond t 0 1 }) (total segment before) / 2) (with_relocation (record (linked_header p os) { flag = cond t 0 1 }) (size_of segment k) / 2) (cond t (final_relocs p os segment) []) (cond t (final_relocs q ps segment) [])
+        by_test : (t : Bool) →
+            DifferAt (with_relocation (record (linked_header p os) { flag = cond t 0 1 }) (total segment before) / 2)
+            (with_relocation (record (linked_header p os) { flag = cond t 0 1 }) (size_of segment k) / 2)
+            (cond t (final_relocs p os segment) []) (cond t (final_relocs q ps segment) [])
         by_test true = relocs_differ q bits segment has
-        by_test false = record { front = []; own = []; other = []; back = []; one = refl; two = refl; begins = refl; counts = refl; as_many = refl }
+        by_test false =
+            record { front = []; own = []; other = []; back = []; one = refl; two = refl; begins = refl; counts = refl; as_many = refl }

@@ -1,5 +1,7 @@
 -- The link of objects, one of which is replaced by another that defines its names with other values.
-use Rattle.std.proofs.Common.{◌≡◌, ◌≢◌, ◌⊎◌, inl, inr, ℕ, zero, suc, ◌+◌, ◌-◌, ◌*◌, ◌<◌, ◌≤◌, Bool, true, false, cond, not, ◌&&◌, eqb, List, [], ◌∷◌, ◌++◌, map, length, Option, Some, None, refl, sym, ◌∙◌, ap, subst, arith, take, length-append}
+use Rattle.std.proofs.Common.{◌≡◌, ◌≢◌, ◌⊎◌, inl, inr, ℕ, zero, suc, ◌+◌, ◌-◌, ◌*◌, ◌<◌, ◌≤◌, Bool, true, false}
+use Rattle.std.proofs.Common.{cond, not, ◌&&◌, eqb, List, [], ◌∷◌, ◌++◌, map, length, Option, Some, None, refl}
+use Rattle.std.proofs.Common.{sym, ◌∙◌, ap, subst, arith, take, length-append}
 use Rattle.std.specs.Prelude.{filter, nat_lt, slice_get, sum_by}
 use Rattle.std.proofs.lemmas.Bool.{ltb-true, ltb-false}
 use Rattle.std.proofs.lemmas.List.{length-map}
@@ -52,7 +54,8 @@ near_undefined (Defined g m) (Wanted n) e = absurd e
 near_undefined (Wanted m) (Defined h n) e = absurd e
 near_undefined (Wanted m) (Wanted n) e = ap (λ (x : ℕ). eqb x 0) e
 
-near_bound : (o : Choices) (b : Bases) (m : ℕ) (name : List ℕ) (s t : State) → AreNear s t → (final_at o b m name s).bound ≡ (final_at o b m name t).bound
+near_bound : (o : Choices) (b : Bases) (m : ℕ) (name : List ℕ) (s t : State) → AreNear s t →
+    (final_at o b m name s).bound ≡ (final_at o b m name t).bound
 near_bound o b m name (Defined g x) (Defined h y) e = ap (λ (z : Segment). let r : Option Segment = Some z in r) e
 near_bound o b m name (Defined g x) (Wanted y) e = absurd e
 near_bound o b m name (Wanted x) (Defined h y) e = absurd e
@@ -65,7 +68,8 @@ stays_self : (k l : Contents) (s : Option Symbol) → SymbolsStay k l s s
 stays_self k l None = tt
 stays_self k l (Some s) = record { name = refl; type_bits = refl; value = inl refl }
 
-module _ (forced : List (List ℕ)) (before : List Contents) (k l : Contents) (after : List Contents) (o : Choices) (takes : TakesPlaceRevalued o k l) where
+module _ (forced : List (List ℕ)) (before : List Contents) (k l : Contents) (after : List Contents) (o : Choices)
+    (takes : TakesPlaceRevalued o k l) where
   abbrev os : List Contents
   os = before ++ k ∷ after
 
@@ -101,31 +105,43 @@ module _ (forced : List (List ℕ)) (before : List Contents) (k l : Contents) (a
   other_said : mentions forced ps ≡ front ++ (map (said_by at) (externals_in l) ++ back)
   other_said =
       mentions-append forced before (l ∷ after)
-      ∙ (λ i. front ++ (mentions_in before l ++ after_same mentions_in mentions_in_same before l k after (as_long l k (λ g. sym (takes.sizes g)) [] []) i))
+      ∙ (λ i. front ++ (mentions_in before l
+      ++ after_same mentions_in mentions_in_same before l k after (as_long l k (λ g. sym (takes.sizes g)) [] []) i))
       ∙ (λ i. front ++ (map (said_by (λ g. sym (own_shift k l takes.sizes before g) i)) (externals_in l) ++ back))
 
-  by_parts : (middle : List Mention) (name : List ℕ) → state (front ++ (middle ++ back)) name ≡ updated_state (state front name) (updated_state (state middle name) (state back name))
-  by_parts middle name = state-append front (middle ++ back) name ∙ ap (λ (s : State). updated_state (state front name) s) (state-append middle back name)
+  by_parts : (middle : List Mention) (name : List ℕ) → state (front ++ (middle ++ back)) name
+      ≡ updated_state (state front name) (updated_state (state middle name) (state back name))
+  by_parts middle name =
+      state-append front (middle ++ back) name
+      ∙ ap (λ (s : State). updated_state (state front name) s) (state-append middle back name)
 
-  own_state : (name : List ℕ) → state ms name ≡ updated_state (state front name) (updated_state (state (map (said_by at) (externals_in k)) name) (state back name))
+  own_state : (name : List ℕ) → state ms name ≡ updated_state (state front name)
+      (updated_state (state (map (said_by at) (externals_in k)) name) (state back name))
   own_state name = ap (λ (ks : List Mention). state ks name) own_said ∙ by_parts (map (said_by at) (externals_in k)) name
 
-  other_state : (name : List ℕ) → state ns name ≡ updated_state (state front name) (updated_state (state (map (said_by at) (externals_in l)) name) (state back name))
+  other_state : (name : List ℕ) → state ns name ≡ updated_state (state front name)
+      (updated_state (state (map (said_by at) (externals_in l)) name) (state back name))
   other_state name = ap (λ (ks : List Mention). state ks name) other_said ∙ by_parts (map (said_by at) (externals_in l)) name
 
   near : (name : List ℕ) → AreNear (state ms name) (state ns name)
   near name =
       subst (λ (s : State). AreNear s (state ns name)) (sym (own_state name))
-      (subst (λ (t : State). AreNear (updated_state (state front name) (updated_state (state (map (said_by at) (externals_in k)) name) (state back name))) t) (sym (other_state name))
-      (near_updated (state front name) (state front name) (updated_state (state (map (said_by at) (externals_in k)) name) (state back name)) (updated_state (state (map (said_by at) (externals_in l)) name) (state back name)) (near_self (state front name))
-      (near_updated (state (map (said_by at) (externals_in k)) name) (state (map (said_by at) (externals_in l)) name) (state back name) (state back name)
+      (subst (λ (t : State). AreNear (updated_state (state front name)
+      (updated_state (state (map (said_by at) (externals_in k)) name) (state back name))) t) (sym (other_state name))
+      (near_updated (state front name) (state front name) (updated_state (state (map (said_by at) (externals_in k)) name) (state back name))
+      (updated_state (state (map (said_by at) (externals_in l)) name) (state back name)) (near_self (state front name))
+      (near_updated (state (map (said_by at) (externals_in k)) name) (state (map (said_by at) (externals_in l)) name)
+      (state back name) (state back name)
       (near_states at (externals_in k) (externals_in l) takes.externals name) (near_self (state back name)))))
 
   same_state : (name : List ℕ) → (state ms name ≡ state ns name) ⊎ IsRedefined k l name
   same_state name = by_own (same_or_other at (externals_in k) (externals_in l) takes.externals name)
     where
-      by_own : (state (map (said_by at) (externals_in k)) name ≡ state (map (said_by at) (externals_in l)) name) ⊎ IsRedefined k l name → (state ms name ≡ state ns name) ⊎ IsRedefined k l name
-      by_own (inl e) = inl (own_state name ∙ ap (λ (s : State). updated_state (state front name) (updated_state s (state back name))) e ∙ sym (other_state name))
+      by_own : (state (map (said_by at) (externals_in k)) name ≡ state (map (said_by at) (externals_in l)) name)
+          ⊎ IsRedefined k l name → (state ms name ≡ state ns name) ⊎ IsRedefined k l name
+      by_own (inl e) =
+          inl (own_state name ∙ ap (λ (s : State). updated_state (state front name) (updated_state s (state back name))) e
+          ∙ sym (other_state name))
       by_own (inr c) = inr c
 
   same_names : names_by_first_mention ms ≡ names_by_first_mention ns
@@ -134,7 +150,9 @@ module _ (forced : List (List ℕ)) (before : List Contents) (k l : Contents) (a
       ∙ ap (λ (xs : List (List ℕ)). new_names [] xs)
       (names_of-append front (map (said_by at) (externals_in k) ++ back)
       ∙ ap (λ (xs : List (List ℕ)). names_of front ++ xs)
-      (names_of-append (map (said_by at) (externals_in k)) back ∙ ap (λ (xs : List (List ℕ)). xs ++ names_of back) (names_revalued at (externals_in k) (externals_in l) takes.externals) ∙ sym (names_of-append (map (said_by at) (externals_in l)) back))
+      (names_of-append (map (said_by at) (externals_in k)) back ∙ ap (λ (xs : List (List ℕ)). xs ++ names_of back)
+      (names_revalued at (externals_in k) (externals_in l) takes.externals)
+      ∙ sym (names_of-append (map (said_by at) (externals_in l)) back))
       ∙ sym (names_of-append front (map (said_by at) (externals_in l) ++ back)))
       ∙ sym (ap (λ (ks : List Mention). new_names [] (names_of ks)) other_said)
 
@@ -144,16 +162,24 @@ module _ (forced : List (List ℕ)) (before : List Contents) (k l : Contents) (a
   same_room xs = λ i. sum_by (λ n. near_size (state ms n) (state ns n) (near n) i) xs
 
   same_offset : (name : List ℕ) → common_offset ms name ≡ common_offset ns name
-  same_offset name = same_room (take (place_of name (names_by_first_mention ms)) (names_by_first_mention ms)) ∙ ap (λ (xs : List (List ℕ)). room_of ns (take (place_of name xs) xs)) same_names
+  same_offset name =
+      same_room (take (place_of name (names_by_first_mention ms)) (names_by_first_mention ms))
+      ∙ ap (λ (xs : List (List ℕ)). room_of ns (take (place_of name xs) xs)) same_names
 
   same_laid : commons_laid o ms ≡ commons_laid o ns
-  same_laid = ap (λ (n : ℕ). cond (lays_commons o) n 0) (same_room (names_by_first_mention ms) ∙ ap (λ (xs : List (List ℕ)). room_of ns xs) same_names)
+  same_laid =
+      ap (λ (n : ℕ). cond (lays_commons o) n 0)
+      (same_room (names_by_first_mention ms) ∙ ap (λ (xs : List (List ℕ)). room_of ns xs) same_names)
 
   same_bases : (plan forced os o).at ≡ (plan forced ps o).at
-  same_bases = λ i. bases o.layout (as_long k l takes.sizes before after TextSeg i) (as_long k l takes.sizes before after DataSeg i) (same_laid i) (as_long k l takes.sizes before after BssSeg i)
+  same_bases =
+      λ i. bases o.layout (as_long k l takes.sizes before after TextSeg i)
+      (as_long k l takes.sizes before after DataSeg i) (same_laid i) (as_long k l takes.sizes before after BssSeg i)
 
   near_final : (name : List ℕ) → (final p name).bound ≡ (final q name).bound
-  near_final name = near_bound o p.at (common_offset ms name) name (state ms name) (state ns name) (near name) ∙ (λ i. (final_at o (same_bases i) (same_offset name i) name (state ns name)).bound)
+  near_final name =
+      near_bound o p.at (common_offset ms name) name (state ms name) (state ns name) (near name)
+      ∙ (λ i. (final_at o (same_bases i) (same_offset name i) name (state ns name)).bound)
 
   same_final : (name : List ℕ) → state ms name ≡ state ns name → final p name ≡ final q name
   same_final name e = λ i. final_at o (same_bases i) (same_offset name i) name (e i)
@@ -162,7 +188,9 @@ module _ (forced : List (List ℕ)) (before : List Contents) (k l : Contents) (a
   same_row name = by_state (same_state name)
     where
       by_state : (state ms name ≡ state ns name) ⊎ IsRedefined k l name → (external_row p name ≡ external_row q name) ⊎ IsRedefined k l name
-      by_state (inl e) = inl (ap (λ (f : Final). let s : Symbol = record { name = name; type_bits = type_of f.bound; value = f.written } in s) (same_final name e))
+      by_state (inl e) =
+          inl (ap (λ (f : Final). let s : Symbol = record { name = name; type_bits = type_of f.bound; value = f.written } in s)
+          (same_final name e))
       by_state (inr c) = inr c
 
   -- the report
@@ -177,7 +205,9 @@ module _ (forced : List (List ℕ)) (before : List Contents) (k l : Contents) (a
     where
       bad_entries : (e : Option (List ℕ)) → entry_found_bad p e ≡ entry_found_bad q e
       bad_entries None = refl
-      bad_entries (Some name) = λ i. let r : Option (List ℕ) = cond (is_among (same_names i) name && eqb (type_of (near_final name i)) 0o42) None (Some name) in r
+      bad_entries (Some name) =
+          λ i. let r : Option (List ℕ) =
+          cond (is_among (same_names i) name && eqb (type_of (near_final name i)) 0o42) None (Some name) in r
 
       missing : undefined_names ms ≡ undefined_names ns
       missing = λ i. filter (λ n. near_undefined (state ms n) (state ns n) (near n) i && not (is_among reserved_names n)) (same_names i)
@@ -194,38 +224,53 @@ module _ (forced : List (List ℕ)) (before : List Contents) (k l : Contents) (a
   other_locals = ap (λ (b : Bases). local_rows (record { choices = o; mentions = ns; at = b }) ps) same_bases
 
   all_locals_differ : DifferAt start count (local_rows p os) (local_rows q ps)
-  all_locals_differ = subst (λ (ss : List Symbol). DifferAt start count (local_rows p os) ss) other_locals (locals_differ forced before k l after o takes.sizes takes.locals)
+  all_locals_differ =
+      subst (λ (ss : List Symbol). DifferAt start count (local_rows p os) ss) other_locals
+      (locals_differ forced before k l after o takes.sizes takes.locals)
 
   all_rows_counted : length (local_rows p os) ≡ length (local_rows q ps)
   all_rows_counted = differ_long start count (local_rows p os) (local_rows q ps) all_locals_differ
 
-  rows_stay : (names : List (List ℕ)) (j : ℕ) → SymbolsStay k l (slice_get (map (external_row p) names) j) (slice_get (map (external_row q) names) j)
+  rows_stay : (names : List (List ℕ)) (j : ℕ) →
+      SymbolsStay k l (slice_get (map (external_row p) names) j) (slice_get (map (external_row q) names) j)
   rows_stay [] j = tt
   rows_stay (n ∷ rest) (suc j) = rows_stay rest j
   rows_stay (n ∷ rest) zero = record { name = refl; type_bits = ap type_of (near_final n); value = by_row (same_row n) }
     where
-      by_row : (external_row p n ≡ external_row q n) ⊎ IsRedefined k l n → ((external_row p n).value ≡ (external_row q n).value) ⊎ IsRedefined k l n
+      by_row : (external_row p n ≡ external_row q n) ⊎ IsRedefined k l n →
+          ((external_row p n).value ≡ (external_row q n).value) ⊎ IsRedefined k l n
       by_row (inl e) = inl (ap (λ (s : Symbol). s.value) e)
       by_row (inr c) = inr c
 
   external_rows_stay : (j : ℕ) → SymbolsStay k l (slice_get (external_rows p) j) (slice_get (external_rows q) j)
-  external_rows_stay j = subst (λ (xs : List (List ℕ)). SymbolsStay k l (slice_get (external_rows p) j) (slice_get (map (external_row q) xs) j)) same_names (rows_stay (names_by_first_mention ms) j)
+  external_rows_stay j =
+      subst (λ (xs : List (List ℕ)). SymbolsStay k l (slice_get (external_rows p) j) (slice_get (map (external_row q) xs) j))
+      same_names (rows_stay (names_by_first_mention ms) j)
 
-  all_stay : (place : ℕ) → IsBeside start count place → SymbolsStay k l (slice_get (local_rows p os ++ external_rows p) place) (slice_get (local_rows q ps ++ external_rows q) place)
+  all_stay : (place : ℕ) → IsBeside start count place → SymbolsStay k l
+      (slice_get (local_rows p os ++ external_rows p) place) (slice_get (local_rows q ps ++ external_rows q) place)
   all_stay place beside = by_test (nat_lt place (length (local_rows p os))) refl
     where
-      by_test : (t : Bool) → nat_lt place (length (local_rows p os)) ≡ t → SymbolsStay k l (slice_get (local_rows p os ++ external_rows p) place) (slice_get (local_rows q ps ++ external_rows q) place)
+      by_test : (t : Bool) → nat_lt place (length (local_rows p os)) ≡ t → SymbolsStay k l
+          (slice_get (local_rows p os ++ external_rows p) place) (slice_get (local_rows q ps ++ external_rows q) place)
       by_test true e =
           let short = ltb-true place (length (local_rows p os)) e in
           let same : slice_get (local_rows p os ++ external_rows p) place ≡ slice_get (local_rows q ps ++ external_rows q) place =
           slice_get_front (local_rows p os) (external_rows p) place short
           ∙ beside_same start count place (local_rows p os) (local_rows q ps) all_locals_differ beside
           ∙ sym (slice_get_front (local_rows q ps) (external_rows q) place (subst (λ (n : ℕ). place < n) all_rows_counted short)) in
-          subst (λ (s : Option Symbol). SymbolsStay k l (slice_get (local_rows p os ++ external_rows p) place) s) same (stays_self k l (slice_get (local_rows p os ++ external_rows p) place))
+          subst (λ (s : Option Symbol). SymbolsStay k l (slice_get (local_rows p os ++ external_rows p) place) s) same
+          (stays_self k l (slice_get (local_rows p os ++ external_rows p) place))
       by_test false e =
-          subst (λ (m : ℕ). SymbolsStay k l (slice_get (local_rows p os ++ external_rows p) m) (slice_get (local_rows q ps ++ external_rows q) m)) (back_again (length (local_rows p os)) place (ltb-false place (length (local_rows p os)) e))
-          (subst (λ (s : Option Symbol). SymbolsStay k l s (slice_get (local_rows q ps ++ external_rows q) (length (local_rows p os) + (place - length (local_rows p os))))) (sym (slice_get_after (local_rows p os) (external_rows p) (length (local_rows p os)) (place - length (local_rows p os)) refl))
-          (subst (λ (t : Option Symbol). SymbolsStay k l (slice_get (external_rows p) (place - length (local_rows p os))) t) (sym (slice_get_after (local_rows q ps) (external_rows q) (length (local_rows p os)) (place - length (local_rows p os)) (sym all_rows_counted))) (external_rows_stay (place - length (local_rows p os)))))
+          subst (λ (m : ℕ). SymbolsStay k l (slice_get (local_rows p os ++ external_rows p) m)
+          (slice_get (local_rows q ps ++ external_rows q) m))
+          (back_again (length (local_rows p os)) place (ltb-false place (length (local_rows p os)) e))
+          (subst (λ (s : Option Symbol). SymbolsStay k l s
+          (slice_get (local_rows q ps ++ external_rows q) (length (local_rows p os) + (place - length (local_rows p os)))))
+          (sym (slice_get_after (local_rows p os) (external_rows p) (length (local_rows p os)) (place - length (local_rows p os)) refl))
+          (subst (λ (t : Option Symbol). SymbolsStay k l (slice_get (external_rows p) (place - length (local_rows p os))) t)
+          (sym (slice_get_after (local_rows q ps) (external_rows q) (length (local_rows p os))
+          (place - length (local_rows p os)) (sym all_rows_counted))) (external_rows_stay (place - length (local_rows p os)))))
 
   pub bits_same : (r : Referent) → referent_bits p os r ≡ referent_bits q ps r
   bits_same (to_segment segment) = refl
@@ -242,7 +287,8 @@ module _ (forced : List (List ℕ)) (before : List Contents) (k l : Contents) (a
     table_counted =
         ap length whole_table
         ∙ length-append (local_rows p os) (external_rows p)
-        ∙ (λ i. all_rows_counted i + (length-map (names_by_first_mention ms) (external_row p) ∙ ap length same_names ∙ sym (length-map (names_by_first_mention ns) (external_row q))) i)
+        ∙ (λ i. all_rows_counted i + (length-map (names_by_first_mention ms) (external_row p) ∙ ap length same_names
+        ∙ sym (length-map (names_by_first_mention ns) (external_row q))) i)
         ∙ sym (length-append (local_rows q ps) (external_rows q))
         ∙ sym (ap length other_table)
 
@@ -261,12 +307,16 @@ module _ (forced : List (List ℕ)) (before : List Contents) (k l : Contents) (a
     pub same_entry : (name : List ℕ) → (entry_of (table p os) name ≡ entry_of (table q ps) name) ⊎ IsRedefined k l name
     same_entry name = by_row (same_row name)
       where
-        by_row : (external_row p name ≡ external_row q name) ⊎ IsRedefined k l name → (entry_of (table p os) name ≡ entry_of (table q ps) name) ⊎ IsRedefined k l name
+        by_row : (external_row p name ≡ external_row q name) ⊎ IsRedefined k l name →
+            (entry_of (table p os) name ≡ entry_of (table q ps) name) ⊎ IsRedefined k l name
         by_row (inl e) =
-            inl (entry_in_table p os name others ∙ (λ i. let r : Option Symbol = cond (is_among (same_names i) name) (Some (e i)) None in r) ∙ sym (entry_in_table q ps name others))
+            inl (entry_in_table p os name others ∙ (λ i. let r : Option Symbol =
+            cond (is_among (same_names i) name) (Some (e i)) None in r) ∙ sym (entry_in_table q ps name others))
         by_row (inr c) = inr c
 
-    pub tables_stay : (place : ℕ) → IsBeside start count place → SymbolsStay k l (slice_get (table p os) place) (slice_get (table q ps) place)
+    pub tables_stay : (place : ℕ) → IsBeside start count place →
+        SymbolsStay k l (slice_get (table p os) place) (slice_get (table q ps) place)
     tables_stay place beside =
         subst (λ (ss : List Symbol). SymbolsStay k l (slice_get ss place) (slice_get (table q ps) place)) (sym whole_table)
-        (subst (λ (ss : List Symbol). SymbolsStay k l (slice_get (local_rows p os ++ external_rows p) place) (slice_get ss place)) (sym other_table) (all_stay place beside))
+        (subst (λ (ss : List Symbol). SymbolsStay k l (slice_get (local_rows p os ++ external_rows p) place) (slice_get ss place))
+        (sym other_table) (all_stay place beside))

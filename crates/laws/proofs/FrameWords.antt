@@ -1,5 +1,6 @@
 -- The words of the other objects, where one object is replaced by another that defines its names with other values.
-use Rattle.std.proofs.Common.{◌≡◌, ◌≢◌, ◌⊎◌, inl, inr, ℕ, ◌+◌, ◌/◌, cond, List, ◌∷◌, ◌++◌, Option, Some, None, refl, sym, ◌∙◌, ap, subst, arith, append_assoc}
+use Rattle.std.proofs.Common.{◌≡◌, ◌≢◌, ◌⊎◌, inl, inr, ℕ, ◌+◌, ◌/◌, cond, List, ◌∷◌, ◌++◌, Option, Some}
+use Rattle.std.proofs.Common.{None, refl, sym, ◌∙◌, ap, subst, arith, append_assoc}
 use Rattle.std.specs.Prelude.{slice_get, Ok}
 use Rattle.std.specs.List.{AllByRecursion}
 use Rattle.aout_core.specs.declared.symbol.Symbol.{Symbol}
@@ -30,8 +31,10 @@ use Rattle.laws.proofs.FrameParts.{kept_relocs_differ}
 use Rattle.laws.proofs.FrameValues.{same_report, same_header, same_entry, tables_stay, bits_same}
 
 -- a word that both links have of an object, after these objects in the one and those in the other
-module _ (x y : Outcome) (k l m : Contents) (xs ys f g : List Contents) (header : (record x.file.header { entry_point = y.file.header.entry_point }) ≡ y.file.header)
-    (entries : (name : List ℕ) → (entry_of x.file.symbols name ≡ entry_of y.file.symbols name) ⊎ IsRedefined k l name) (long : AreAsLong xs ys) (front_long : AreAsLong f g) (totals : (segment : Segment) → total segment f ≡ total segment g) where
+module _ (x y : Outcome) (k l m : Contents) (xs ys f g : List Contents)
+    (header : (record x.file.header { entry_point = y.file.header.entry_point }) ≡ y.file.header)
+    (entries : (name : List ℕ) → (entry_of x.file.symbols name ≡ entry_of y.file.symbols name) ⊎ IsRedefined k l name)
+    (long : AreAsLong xs ys) (front_long : AreAsLong f g) (totals : (segment : Segment) → total segment f ≡ total segment g) where
   moves : (segment : Segment) → move_in x.file.header xs f m segment ≡ move_in y.file.header ys g m segment
   moves Undefined = refl
   moves Absolute = refl
@@ -56,7 +59,9 @@ module _ (x y : Outcome) (k l m : Contents) (xs ys f g : List Contents) (header 
   inside : (s t : Symbol) → Some s ≡ Some t → s ≡ t
   inside s t e = cc
 
-  added_alike : (r : Reloc) (kind : Option Kind) → kind_of r ≡ kind → (a b : ℕ) → IsAdded x.file.header x.file.symbols xs f m kind (symbol_number r) a → IsAdded y.file.header y.file.symbols ys g m kind (symbol_number r) b → (a ≡ b) ⊎ FollowsBy r a b
+  added_alike : (r : Reloc) (kind : Option Kind) → kind_of r ≡ kind → (a b : ℕ) →
+      IsAdded x.file.header x.file.symbols xs f m kind (symbol_number r) a →
+      IsAdded y.file.header y.file.symbols ys g m kind (symbol_number r) b → (a ≡ b) ⊎ FollowsBy r a b
   added_alike r None e a b h j = absurd h
   added_alike r (Some kinds.Absolute) e a b h j = inl (h ∙ sym j)
   added_alike r (Some kinds.TextSeg) e a b h j = inl (h ∙ moves TextSeg ∙ sym j)
@@ -70,14 +75,27 @@ module _ (x y : Outcome) (k l m : Contents) (xs ys f g : List Contents) (header 
       other_found : entry_of y.file.symbols h.symbol.name ≡ Some j.row
       other_found = ap (λ (s : Symbol). entry_of y.file.symbols s.name) same_symbol ∙ j.found
 
-      by_entry : (entry_of x.file.symbols h.symbol.name ≡ entry_of y.file.symbols h.symbol.name) ⊎ IsRedefined k l h.symbol.name → (a ≡ b) ⊎ FollowsBy r a b
+      by_entry : (entry_of x.file.symbols h.symbol.name ≡ entry_of y.file.symbols h.symbol.name)
+          ⊎ IsRedefined k l h.symbol.name → (a ≡ b) ⊎ FollowsBy r a b
       by_entry (inl s) = inl (h.gives ∙ ap address_in (inside h.row j.row (sym h.found ∙ s ∙ other_found)) ∙ sym j.gives)
-      by_entry (inr c) = inr (record { kind = e; symbol = h.symbol; named = h.named; redefined = c; row = h.row; other_row = j.row; found = h.found; found_too = other_found; gives = h.gives; gives_too = j.gives })
+      by_entry (inr c) = inr (record {
+        kind = e;
+        symbol = h.symbol;
+        named = h.named;
+        redefined = c;
+        row = h.row;
+        other_row = j.row;
+        found = h.found;
+        found_too = other_found;
+        gives = h.gives;
+        gives_too = j.gives;
+      })
 
   sums : (w a b c : ℕ) → minus (plus w b) c ≡ minus (plus (minus (plus w a) c) b) a
   sums w a b c = omega arith
 
-  pub word_stays : (segment : Segment) (i w : ℕ) (r : Reloc) → IsRelocated x.file x.file.symbols xs f m segment i w r → IsRelocated y.file y.file.symbols ys g m segment i w r → WordStays x y k l m segment (total segment f / 2 + i) r
+  pub word_stays : (segment : Segment) (i w : ℕ) (r : Reloc) → IsRelocated x.file x.file.symbols xs f m segment i w r →
+      IsRelocated y.file y.file.symbols ys g m segment i w r → WordStays x y k l m segment (total segment f / 2 + i) r
   word_stays segment i w r h j = record {
     one = minus (plus w h.added) (cond (is_pc_relative r) (move_in x.file.header xs f m segment) 0);
     other = minus (plus w j.added) (cond (is_pc_relative r) (move_in y.file.header ys g m segment) 0);
@@ -87,8 +105,10 @@ module _ (x y : Outcome) (k l m : Contents) (xs ys f g : List Contents) (header 
   }
     where
       by_added : (h.added ≡ j.added) ⊎ FollowsBy r h.added j.added →
-          (minus (plus w h.added) (cond (is_pc_relative r) (move_in x.file.header xs f m segment) 0) ≡ minus (plus w j.added) (cond (is_pc_relative r) (move_in y.file.header ys g m segment) 0))
-          ⊎ Follows x y k l m r (minus (plus w h.added) (cond (is_pc_relative r) (move_in x.file.header xs f m segment) 0)) (minus (plus w j.added) (cond (is_pc_relative r) (move_in y.file.header ys g m segment) 0))
+          (minus (plus w h.added) (cond (is_pc_relative r) (move_in x.file.header xs f m segment) 0)
+          ≡ minus (plus w j.added) (cond (is_pc_relative r) (move_in y.file.header ys g m segment) 0))
+          ⊎ Follows x y k l m r (minus (plus w h.added) (cond (is_pc_relative r) (move_in x.file.header xs f m segment) 0))
+          (minus (plus w j.added) (cond (is_pc_relative r) (move_in y.file.header ys g m segment) 0))
       by_added (inl e) = inl (λ i. minus (plus w (e i)) (cond (is_pc_relative r) (moves segment i) 0))
       by_added (inr c) = inr (record {
         kind = c.kind;
@@ -102,17 +122,23 @@ module _ (x y : Outcome) (k l m : Contents) (xs ys f g : List Contents) (header 
         differs =
             (λ i. minus (plus w (c.gives_too i)) (cond (is_pc_relative r) (sym (moves segment) i) 0))
             ∙ sums w (address_in c.row) (address_in c.other_row) (cond (is_pc_relative r) (move_in x.file.header xs f m segment) 0)
-            ∙ (λ i. minus (plus (minus (plus w (sym c.gives i)) (cond (is_pc_relative r) (move_in x.file.header xs f m segment) 0)) (address_in c.other_row)) (address_in c.row));
+            ∙ (λ i. minus (plus (minus (plus w (sym c.gives i)) (cond (is_pc_relative r) (move_in x.file.header xs f m segment) 0))
+            (address_in c.other_row)) (address_in c.row));
       })
 
 -- a word of any object of a link, as it stands in the file
-relocated : (forced : List (List ℕ)) (os : List Contents) (o : Choices) (x : Outcome) → AllByRecursion IsObject os → o.keep ≢ Nothing → link forced os o ≡ Ok x → (before : List Contents) (m : Contents) (after : List Contents) → os ≡ before ++ m ∷ after →
-    (segment : Segment) (i w : ℕ) (r : Reloc) → slice_get (segment_words segment m) i ≡ Some w → slice_get (segment_relocs segment m) i ≡ Some r → IsRelocated x.file x.file.symbols os before m segment i w r
+relocated : (forced : List (List ℕ)) (os : List Contents) (o : Choices) (x : Outcome) → AllByRecursion IsObject os →
+    o.keep ≢ Nothing → link forced os o ≡ Ok x → (before : List Contents) (m : Contents) (after : List Contents) →
+    os ≡ before ++ m ∷ after →
+    (segment : Segment) (i w : ℕ) (r : Reloc) → slice_get (segment_words segment m) i ≡ Some w →
+    slice_get (segment_relocs segment m) i ≡ Some r → IsRelocated x.file x.file.symbols os before m segment i w r
 relocated forced os o x good others linked before m after all segment i w r ew er =
     subst (λ (zs : List Contents). IsRelocated x.file x.file.symbols zs before m segment i w r) (sym all)
-    (words_relocated forced before m after o x (subst (λ (zs : List Contents). AllByRecursion IsObject zs) all good) others (subst (λ (zs : List Contents). link forced zs o ≡ Ok x) all linked) segment i w r ew er)
+    (words_relocated forced before m after o x (subst (λ (zs : List Contents). AllByRecursion IsObject zs) all good)
+    others (subst (λ (zs : List Contents). link forced zs o ≡ Ok x) all linked) segment i w r ew er)
 
-module _ (forced : List (List ℕ)) (before : List Contents) (k l : Contents) (after : List Contents) (o : Choices) (x y : Outcome) (h : AreRevaluedLinks forced before k l after o x y) (others : o.keep ≢ Nothing) where
+module _ (forced : List (List ℕ)) (before : List Contents) (k l : Contents) (after : List Contents) (o : Choices)
+    (x y : Outcome) (h : AreRevaluedLinks forced before k l after o x y) (others : o.keep ≢ Nothing) where
   abbrev os : List Contents
   os = before ++ k ∷ after
 
@@ -132,12 +158,16 @@ module _ (forced : List (List ℕ)) (before : List Contents) (k l : Contents) (a
   other_linked = h.other ∙ (λ i. Ok (sym (made (plan forced ps o) ps y h.other).outcome i))
 
   other_good : AllByRecursion IsObject ps
-  other_good = let parts = all_split IsObject before (k ∷ after) h.objects in all_append IsObject before (l ∷ after) parts.0 (h.object, parts.1.1)
+  other_good =
+      let parts = all_split IsObject before (k ∷ after) h.objects in
+      all_append IsObject before (l ∷ after) parts.0 (h.object, parts.1.1)
 
   -- the words of an object that is after these in the one link and those in the other
-  words : (f g : List Contents) (m : Contents) (b c : List Contents) → os ≡ f ++ m ∷ b → ps ≡ g ++ m ∷ c → AreAsLong f g → ((segment : Segment) → total segment f ≡ total segment g) → WordsStay one_made other_made k l m f
+  words : (f g : List Contents) (m : Contents) (b c : List Contents) → os ≡ f ++ m ∷ b → ps ≡ g ++ m ∷ c →
+      AreAsLong f g → ((segment : Segment) → total segment f ≡ total segment g) → WordsStay one_made other_made k l m f
   words f g m b c one other long totals segment i w r ew er =
-      word_stays one_made other_made k l m os ps f g (same_header forced before k l after o h.takes others) (same_entry forced before k l after o h.takes others) (as_long k l h.takes.sizes before after) long totals segment i w r
+      word_stays one_made other_made k l m os ps f g (same_header forced before k l after o h.takes others)
+      (same_entry forced before k l after o h.takes others) (as_long k l h.takes.sizes before after) long totals segment i w r
       (relocated forced os o one_made h.objects others one_linked f m b one segment i w r ew er)
       (relocated forced ps o other_made other_good others other_linked g m c other segment i w r ew er)
 
@@ -145,11 +175,17 @@ module _ (forced : List (List ℕ)) (before : List Contents) (k l : Contents) (a
   made_so = record {
     header = same_header forced before k l after o h.takes others;
     report = same_report forced before k l after o h.takes;
-    text_reloc = kept_relocs_differ forced before k l after o h.takes.sizes h.takes.locals h.objects h.object (plan forced ps o) (bits_same forced before k l after o h.takes) TextSeg tt;
-    data_reloc = kept_relocs_differ forced before k l after o h.takes.sizes h.takes.locals h.objects h.object (plan forced ps o) (bits_same forced before k l after o h.takes) DataSeg tt;
+    text_reloc =
+        kept_relocs_differ forced before k l after o h.takes.sizes h.takes.locals h.objects h.object (plan forced ps o)
+        (bits_same forced before k l after o h.takes) TextSeg tt;
+    data_reloc =
+        kept_relocs_differ forced before k l after o h.takes.sizes h.takes.locals h.objects h.object (plan forced ps o)
+        (bits_same forced before k l after o h.takes) DataSeg tt;
     symbols = tables_stay forced before k l after o h.takes others;
     earlier = λ front m back e.
-        words front front m (back ++ k ∷ after) (back ++ l ∷ after) (ap (λ (zs : List Contents). zs ++ k ∷ after) e ∙ append_assoc front (m ∷ back) (k ∷ after)) (ap (λ (zs : List Contents). zs ++ l ∷ after) e ∙ append_assoc front (m ∷ back) (l ∷ after)) (as_long_self front) (λ segment. refl);
+        words front front m (back ++ k ∷ after) (back ++ l ∷ after) (ap (λ (zs : List Contents). zs ++ k ∷ after) e
+        ∙ append_assoc front (m ∷ back) (k ∷ after)) (ap (λ (zs : List Contents). zs ++ l ∷ after) e
+        ∙ append_assoc front (m ∷ back) (l ∷ after)) (as_long_self front) (λ segment. refl);
     later = λ front m back e.
         words (before ++ k ∷ front) (before ++ l ∷ front) m back back
         (ap (λ (zs : List Contents). before ++ k ∷ zs) e ∙ sym (append_assoc before (k ∷ front) (m ∷ back)))

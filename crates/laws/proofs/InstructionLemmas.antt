@@ -1,5 +1,7 @@
 -- Linking preserves instructions.
-use Rattle.std.proofs.Common.{◌≡◌, ℕ, zero, suc, ◌+◌, ◌-◌, ◌*◌, ◌/◌, ◌%◌, ◌<◌, ◌≤◌, Bool, true, false, eqb, if◌then◌else◌, cond, List, [], ◌∷◌, ◌++◌, length, drop, Some, refl, sym, ◌∙◌, ap, subst, append_assoc, arith}
+use Rattle.std.proofs.Common.{◌≡◌, ℕ, zero, suc, ◌+◌, ◌-◌, ◌*◌, ◌/◌, ◌%◌, ◌<◌, ◌≤◌, Bool, true, false}
+use Rattle.std.proofs.Common.{eqb, if◌then◌else◌, cond, List, [], ◌∷◌, ◌++◌, length, drop, Some, refl}
+use Rattle.std.proofs.Common.{sym, ◌∙◌, ap, subst, append_assoc, arith}
 use Rattle.std.specs.Prelude.{slice_get, not}
 use Rattle.std.specs.List.{AllByRecursion}
 use Rattle.std.proofs.lemmas.List.{length-drop}
@@ -34,7 +36,8 @@ relocs_by false words relocs size e long same = absurd cc
 
 pub relocs_long : (k : Contents) → IsObject k → length k.text_reloc ≡ length k.text_words
 relocs_long k is =
-    relocs_by (eqb k.header.flag 0) (length k.text_words) (length k.text_reloc) k.header.text_size (well_formed_parts k is.well).0 is.fits.text is.fits.text_relocation
+    relocs_by (eqb k.header.flag 0) (length k.text_words) (length k.text_reloc) k.header.text_size
+    (well_formed_parts k is.well).0 is.fits.text is.fits.text_relocation
 
 pub reloc_inside : (rs : List Reloc) (i : ℕ) → i < length rs → (r : Reloc) × (slice_get rs i ≡ Some r)
 reloc_inside [] i h = absurd (omega arith)
@@ -51,7 +54,8 @@ low_bits : (b : Bool) (n : ℕ) → eqb (n % 16) 0 ≡ b → not b ≡ false →
 low_bits true n e h = eqb-true (n % 16) 0 e
 low_bits false n e h = absurd cc
 
-unmoved : (file : Contents) (rows : List Symbol) (os before : List Contents) (k : Contents) (i w v : ℕ) (r : Reloc) → w < 65536 → r.0 % 16 ≡ 0 →
+unmoved : (file : Contents) (rows : List Symbol) (os before : List Contents) (k : Contents) (i w v : ℕ) (r : Reloc) →
+    w < 65536 → r.0 % 16 ≡ 0 →
     IsRelocated file rows os before k TextSeg i w r → slice_get file.text_words (total TextSeg before / 2 + i) ≡ Some v → v ≡ w
 unmoved file rows os before k i w v r small low is there =
     let kind : kind_of r ≡ Some Absolute = ap kind_numbered (let e : r.0 / 2 % 8 ≡ 0 = omega arith in e) in
@@ -65,7 +69,8 @@ unmoved file rows os before k i w v r small low is there =
 pub moves_low : (rs : List Reloc) (i : ℕ) (r : Reloc) → slice_get rs i ≡ Some r → is_relocated (slice_get rs i) ≡ false → r.0 % 16 ≡ 0
 moves_low rs i r at e = low_bits (eqb (r.0 % 16) 0) r.0 refl (sym (ap is_relocated at) ∙ e)
 
-module _ (forced : List (List ℕ)) (os : List Contents) (o : Choices) (x : Outcome) (all : AllByRecursion IsObject os) (l : IsLinkedFrom forced os o x) where
+module _ (forced : List (List ℕ)) (os : List Contents) (o : Choices) (x : Outcome) (all : AllByRecursion IsObject os)
+    (l : IsLinkedFrom forced os o x) where
   start : List Contents → ℕ
   start before = total TextSeg before / 2
 
@@ -83,14 +88,17 @@ module _ (forced : List (List ℕ)) (os : List Contents) (o : Choices) (x : Outc
         there = sym (get_from x.file.text_words (total TextSeg before / 2) i) ∙ there;
       })
 
-  pub linked_same : (before : List Contents) (k : Contents) (after : List Contents) → os ≡ before ++ k ∷ after → IsObject k → AllByRecursion IsWord k.text_words →
+  pub linked_same : (before : List Contents) (k : Contents) (after : List Contents) → os ≡ before ++ k ∷ after →
+      IsObject k → AllByRecursion IsWord k.text_words →
       Pairs (Same (λ place. is_relocated (slice_get k.text_reloc place))) 0 k.text_words (drop (total TextSeg before / 2) x.file.text_words)
   linked_same before k after e is small i q w v at word there still =
       let p = linked_pairs before k after e is i q w v at word there in
-      unmoved x.file l.rows os before k q w v p.reloc (word_small k.text_words i w small word) (moves_low k.text_reloc q p.reloc p.at still) p.is p.there
+      unmoved x.file l.rows os before k q w v p.reloc (word_small k.text_words i w small word)
+      (moves_low k.text_reloc q p.reloc p.at still) p.is p.there
 
   -- where the text of k begins and ends in that of the file
-  pub text_room : (before : List Contents) (k : Contents) (after : List Contents) → os ≡ before ++ k ∷ after → IsObject k → total TextSeg before / 2 + length k.text_words ≤ length x.file.text_words
+  pub text_room : (before : List Contents) (k : Contents) (after : List Contents) → os ≡ before ++ k ∷ after →
+      IsObject k → total TextSeg before / 2 + length k.text_words ≤ length x.file.text_words
   text_room before k after e is =
       let sum : total TextSeg os ≡ total TextSeg before + (0 + k.header.text_size + total TextSeg after) =
       ap (λ (ys : List Contents). total TextSeg ys) e ∙ sum_by-append (size_of TextSeg) before (k ∷ after)
@@ -102,17 +110,20 @@ module _ (forced : List (List ℕ)) (os : List Contents) (o : Choices) (x : Outc
       (drop (length k.text_words) (drop (total TextSeg before / 2) x.file.text_words))
   begins before k after e is has =
       let vs : List ℕ = drop (total TextSeg before / 2) x.file.text_words in
-      begin_alike (IsLinkedWord x.file l.rows os before k) (λ place. is_relocated (slice_get k.text_reloc place)) (length k.text_words) (length vs) 0 k.text_words vs
+      begin_alike (IsLinkedWord x.file l.rows os before k) (λ place. is_relocated (slice_get k.text_reloc place))
+      (length k.text_words) (length vs) 0 k.text_words vs
       (omega (arith, text_room before k after e is, length-drop (total TextSeg before / 2) x.file.text_words)) (omega arith) (omega arith)
       (linked_pairs before k after e is) (linked_same before k after e is has.words) has.whole
 
   -- the texts of the objects from k on
-  texts_from : (before after : List Contents) → os ≡ before ++ after → AllByRecursion IsObject before → AllByRecursion IsObject after → AllByRecursion HasWholeText after →
+  texts_from : (before after : List Contents) → os ≡ before ++ after → AllByRecursion IsObject before →
+      AllByRecursion IsObject after → AllByRecursion HasWholeText after →
       AreLinesOf x.file l.rows os before after (lines (drop (total TextSeg before / 2) x.file.text_words))
   texts_from before [] e first later whole =
       let sum : total TextSeg os ≡ total TextSeg before = ap (λ (ys : List Contents). total TextSeg ys) (e ∙ append_nothing before) in
       let even : 2 * (total TextSeg before / 2) ≡ total TextSeg before = whole_words TextSeg tt before first in
-      let none : drop (total TextSeg before / 2) x.file.text_words ≡ [] = dropped x.file.text_words (total TextSeg before / 2) (omega (arith, l.holds.text_words)) in
+      let none : drop (total TextSeg before / 2) x.file.text_words ≡ [] =
+      dropped x.file.text_words (total TextSeg before / 2) (omega (arith, l.holds.text_words)) in
       ap lines none
     where
       append_nothing : (xs : List Contents) → xs ++ [] ≡ xs
@@ -127,12 +138,20 @@ module _ (forced : List (List ℕ)) (os : List Contents) (o : Choices) (x : Outc
   texts_from before (k ∷ after) e first later whole =
       let b = begins before k after e later.0 whole.0 in
       let even : 2 * (total TextSeg before / 2) ≡ total TextSeg before = whole_words TextSeg tt before first in
-      let sum : total TextSeg (before ++ k ∷ []) ≡ total TextSeg before + (0 + k.header.text_size) = sum_by-append (size_of TextSeg) before (k ∷ []) in
+      let sum : total TextSeg (before ++ k ∷ []) ≡ total TextSeg before + (0 + k.header.text_size) =
+      sum_by-append (size_of TextSeg) before (k ∷ []) in
       let next : total TextSeg before / 2 + length k.text_words ≡ total TextSeg (before ++ k ∷ []) / 2 = omega (arith, later.0.fits.text) in
-      let there : drop (length k.text_words) (drop (total TextSeg before / 2) x.file.text_words) ≡ drop (total TextSeg (before ++ k ∷ []) / 2) x.file.text_words =
+      let there : drop (length k.text_words) (drop (total TextSeg before / 2) x.file.text_words)
+      ≡ drop (total TextSeg (before ++ k ∷ []) / 2) x.file.text_words =
       drop_twice (total TextSeg before / 2) (length k.text_words) x.file.text_words ∙ ap (λ n. drop n x.file.text_words) next in
-      let more = texts_from (before ++ k ∷ []) after (e ∙ sym (append_assoc before (k ∷ []) after)) (all_append before k first later.0) later.1 whole.1 in
-      (b.front, (lines (drop (total TextSeg (before ++ k ∷ []) / 2) x.file.text_words), (b.all ∙ ap (λ ws. b.front ++ lines ws) there, (b.alike, more))))
+      let more = texts_from (before ++ k ∷ []) after (e ∙ sym (append_assoc before (k ∷ []) after))
+      (all_append before k first later.0) later.1 whole.1 in (
+        b.front,
+        (
+          lines (drop (total TextSeg (before ++ k ∷ []) / 2) x.file.text_words),
+          (b.all ∙ ap (λ ws. b.front ++ lines ws) there, (b.alike, more)),
+        ),
+      )
     where
       all_append : (xs : List Contents) (k : Contents) → AllByRecursion IsObject xs → IsObject k → AllByRecursion IsObject (xs ++ k ∷ [])
       all_append [] k none is = (is, tt)
@@ -141,7 +160,12 @@ module _ (forced : List (List ℕ)) (os : List Contents) (o : Choices) (x : Outc
 pub instructions_kept : InstructionsAreKept
 instructions_kept forced before k after o x all has l =
     let b = begins forced (before ++ k ∷ after) o x all l before k after refl (all_split IsObject before (k ∷ after) all).1.0 has in
-    record { front = b.front; back = lines (drop (length k.text_words) (drop (total TextSeg before / 2) x.file.text_words)); all = b.all; alike = b.alike }
+    record {
+      front = b.front;
+      back = lines (drop (length k.text_words) (drop (total TextSeg before / 2) x.file.text_words));
+      all = b.all;
+      alike = b.alike;
+    }
 
 pub texts_kept : TextsAreKept
 texts_kept forced os o x all whole l = texts_from forced os o x all l [] os refl tt all whole

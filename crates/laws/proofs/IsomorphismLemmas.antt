@@ -1,5 +1,6 @@
 -- Two links of the same objects: the same places, the same bytes, and words that move as what they refer to.
-use Rattle.std.proofs.Common.{◌≡◌, ◌≢◌, ℕ, zero, suc, ◌+◌, ◌*◌, ◌/◌, ◌%◌, ◌<◌, Bool, true, false, cond, eqb, List, [], ◌∷◌, ◌++◌, length, take, drop, Option, Some, None, refl, sym, ◌∙◌, ap, subst, arith}
+use Rattle.std.proofs.Common.{◌≡◌, ◌≢◌, ℕ, zero, suc, ◌+◌, ◌*◌, ◌/◌, ◌%◌, ◌<◌, Bool, true, false, cond, eqb, List, []}
+use Rattle.std.proofs.Common.{◌∷◌, ◌++◌, length, take, drop, Option, Some, None, refl, sym, ◌∙◌, ap, subst, arith}
 use Rattle.std.specs.Prelude.{slice_get, bytes_eq, Ok}
 use Rattle.std.specs.List.{AllByRecursion}
 use Rattle.std.proofs.lemmas.List.Sorted.{IsPermutation-sym}
@@ -36,8 +37,12 @@ use Rattle.instructions.proofs.AlikeLemmas.{get_inside}
 use Rattle.laws.specs.Core.{Space, of_instructions, of_data, has_segment, is_in, core, IsWordAt}
 use Rattle.laws.specs.CoreLaws.{space_of, IsPlace, IsLoaded}
 use Rattle.laws.specs.Operands.{operand, FindsMore}
-use Rattle.laws.specs.Orders.{Meaning, definition, common, missing, IsDefinedBy, Means, MeansTheSame, AreOrders, OrderKeepsReferents, OrderKeepsMeanings}
-use Rattle.laws.specs.Isomorphism.{Place, of_object, of_common, IsPlaceOf, segment_at, value_in, address_at, LiesAt, PlacesAreLoaded, AreRenumbered, moved, Target, to_place, to_end, to_nothing, address_to, moved_target, missing_target, IsDefinedAt, IsTargetOf, RefersTo, AreLinks, IsUnrelocated, MovesAsTarget, LinksAreIsomorphic, LinksKeepReferents}
+use Rattle.laws.specs.Orders.{Meaning, definition, common, missing, IsDefinedBy, Means, MeansTheSame}
+use Rattle.laws.specs.Orders.{AreOrders, OrderKeepsReferents, OrderKeepsMeanings}
+use Rattle.laws.specs.Isomorphism.{Place, of_object, of_common, IsPlaceOf, segment_at, value_in, address_at, LiesAt}
+use Rattle.laws.specs.Isomorphism.{PlacesAreLoaded, AreRenumbered, moved, Target, to_place, to_end, to_nothing}
+use Rattle.laws.specs.Isomorphism.{address_to, moved_target, missing_target, IsDefinedAt, IsTargetOf, RefersTo}
+use Rattle.laws.specs.Isomorphism.{AreLinks, IsUnrelocated, MovesAsTarget, LinksAreIsomorphic, LinksKeepReferents}
 use Rattle.laws.proofs.CoreLemmas.{core_at, one_space}
 use Rattle.laws.proofs.InstructionLemmas.{relocs_by, relocs_long, reloc_inside, moves_low}
 use Rattle.laws.proofs.IsomorphismLists.{cut, take_before, get_between}
@@ -48,7 +53,8 @@ use Rattle.laws.proofs.ReorderedMentions.{wanted_too}
 use Rattle.laws.proofs.ReorderedMeanings.{laid, meanings_kept, objects_too, referents_kept}
 
 -- a segment has the same in each space that has it
-in_its_space : (file : Contents) (segment : Segment) (space : Space) (address : ℕ) → has_segment file.header.magic segment space ≡ true → core file space address ≡ core file (space_of segment) address
+in_its_space : (file : Contents) (segment : Segment) (space : Space) (address : ℕ) →
+    has_segment file.header.magic segment space ≡ true → core file space address ≡ core file (space_of segment) address
 in_its_space file TextSeg of_instructions address has = refl
 in_its_space file TextSeg of_data address has = sym (one_space file has address)
 in_its_space file DataSeg of_instructions address has = one_space file has address
@@ -63,18 +69,21 @@ in_its_space file Other space address has = absurd (let bad : false ≡ true = h
 abbrev byte_of : ℕ → ℕ → ℕ
 byte_of n word = cond (eqb (n % 2) 0) (word % 256) (word / 256)
 
-word_byte : (file : Contents) (space : Space) (start n word : ℕ) → IsWordAt file space (start + 2 * (n / 2)) word → core file space (start + n) ≡ Some (byte_of n word)
+word_byte : (file : Contents) (space : Space) (start n word : ℕ) → IsWordAt file space (start + 2 * (n / 2)) word →
+    core file space (start + n) ≡ Some (byte_of n word)
 word_byte file space start n word w = by_test (eqb (n % 2) 0) refl
   where
     by_test : (t : Bool) → eqb (n % 2) 0 ≡ t → core file space (start + n) ≡ Some (cond (eqb (n % 2) 0) (word % 256) (word / 256))
     by_test true e =
         let zero_is : n % 2 ≡ 0 = eqb-true (n % 2) 0 e in
         let same : start + n ≡ start + 2 * (n / 2) = omega arith in
-        ap (λ (a : ℕ). core file space a) same ∙ w.low ∙ ap (λ (t : Bool). let b : Option ℕ = Some (cond t (word % 256) (word / 256)) in b) (sym e)
+        ap (λ (a : ℕ). core file space a) same ∙ w.low
+        ∙ ap (λ (t : Bool). let b : Option ℕ = Some (cond t (word % 256) (word / 256)) in b) (sym e)
     by_test false e =
         let apart = eqb-false (n % 2) 0 e in
         let same : start + n ≡ start + 2 * (n / 2) + 1 = omega arith in
-        ap (λ (a : ℕ). core file space a) same ∙ w.high ∙ ap (λ (t : Bool). let b : Option ℕ = Some (cond t (word % 256) (word / 256)) in b) (sym e)
+        ap (λ (a : ℕ). core file space a) same ∙ w.high
+        ∙ ap (λ (t : Bool). let b : Option ℕ = Some (cond t (word % 256) (word / 256)) in b) (sym e)
 
 -- an object has a word, and a relocation word, at each byte of its text and data
 record HasWord (k : Contents) (segment : Segment) (i : ℕ) : Type 0 where
@@ -92,7 +101,8 @@ word_of k is TextSeg has n h =
 word_of k is DataSeg has n h =
     let inside : n / 2 < length k.data_words = omega (arith, is.fits.data) in
     let long : length k.data_reloc ≡ length k.data_words =
-    relocs_by (eqb k.header.flag 0) (length k.data_words) (length k.data_reloc) k.header.data_size (well_formed_parts k is.well).0 is.fits.data is.fits.data_relocation in
+    relocs_by (eqb k.header.flag 0) (length k.data_words) (length k.data_reloc) k.header.data_size
+    (well_formed_parts k is.well).0 is.fits.data is.fits.data_relocation in
     let w = get_inside k.data_words (n / 2) inside in
     let r = reloc_inside k.data_reloc (n / 2) (omega (arith, inside, long)) in
     record { w = w.0; r = r.0; word = w.1; reloc = r.1 }
@@ -103,44 +113,59 @@ word_of k is Other has n h = absurd has
 
 -- one link
 
-module _ (forced : List (List ℕ)) (os : List Contents) (o : Choices) (x : Outcome) (good : AllByRecursion IsObject os) (kept : o.keep ≢ Nothing) (linked : link forced os o ≡ Ok x) where
+module _ (forced : List (List ℕ)) (os : List Contents) (o : Choices) (x : Outcome) (good : AllByRecursion IsObject os)
+    (kept : o.keep ≢ Nothing) (linked : link forced os o ≡ Ok x) where
   is_object : (number : ℕ) (k : Contents) → slice_get os number ≡ Some k → IsObject k
-  is_object number k e = (all_split IsObject (take number os) (k ∷ drop (suc number) os) (subst (λ (ks : List Contents). AllByRecursion IsObject ks) (cut os number k e) good)).1.0
+  is_object number k e =
+      (all_split IsObject (take number os) (k ∷ drop (suc number) os)
+      (subst (λ (ks : List Contents). AllByRecursion IsObject ks) (cut os number k e) good)).1.0
 
   -- each word of an object is at its place
-  loaded_at : (number : ℕ) (k : Contents) → slice_get os number ≡ Some k → (segment : Segment) (i w : ℕ) (r : Reloc) → slice_get (segment_words segment k) i ≡ Some w → slice_get (segment_relocs segment k) i ≡ Some r →
+  loaded_at : (number : ℕ) (k : Contents) → slice_get os number ≡ Some k → (segment : Segment) (i w : ℕ) (r : Reloc) →
+      slice_get (segment_words segment k) i ≡ Some w → slice_get (segment_relocs segment k) i ≡ Some r →
       IsLoaded x.file x.file.symbols os (take number os) k segment i w r
   loaded_at number k e segment i w r ew er =
       let all : os ≡ take number os ++ k ∷ drop (suc number) os = cut os number k e in
       subst (λ (ks : List Contents). IsLoaded x.file x.file.symbols ks (take number os) k segment i w r) (sym all)
-      (words_loaded forced (take number os) k (drop (suc number) os) o x (subst (λ (ks : List Contents). AllByRecursion IsObject ks) all good) kept (subst (λ (ks : List Contents). link forced ks o ≡ Ok x) all linked) segment i w r ew er)
+      (words_loaded forced (take number os) k (drop (suc number) os) o x (subst (λ (ks : List Contents). AllByRecursion IsObject ks)
+      all good) kept (subst (λ (ks : List Contents). link forced ks o ≡ Ok x) all linked) segment i w r ew er)
 
-  byte_at : (number : ℕ) (k : Contents) (e : slice_get os number ≡ Some k) (segment : Segment) (n : ℕ) (h : HasWord k segment (n / 2)) (space : Space) → has_segment x.file.header.magic segment space ≡ true →
+  byte_at : (number : ℕ) (k : Contents) (e : slice_get os number ≡ Some k) (segment : Segment) (n : ℕ)
+      (h : HasWord k segment (n / 2)) (space : Space) → has_segment x.file.header.magic segment space ≡ true →
       core x.file space (address_at x.file os (of_object number segment n))
-      ≡ Some (byte_of n (minus (plus h.w (loaded_at number k e segment (n / 2) h.w h.r h.word h.reloc).added) (cond (is_pc_relative h.r) (move_in x.file.header os (take number os) k segment) 0)))
+      ≡ Some (byte_of n (minus (plus h.w (loaded_at number k e segment (n / 2) h.w h.r h.word h.reloc).added)
+      (cond (is_pc_relative h.r) (move_in x.file.header os (take number os) k segment) 0)))
   byte_at number k e segment n h space has =
       let l = loaded_at number k e segment (n / 2) h.w h.r h.word h.reloc in
       let word : ℕ = minus (plus h.w l.added) (cond (is_pc_relative h.r) (move_in x.file.header os (take number os) k segment) 0) in
       in_its_space x.file segment space (address_at x.file os (of_object number segment n)) has
-      ∙ word_byte x.file (space_of segment) (base_in x.file.header (total BssSeg os) segment + total segment (take number os)) n word (subst (λ (a : ℕ). IsWordAt x.file (space_of segment) a word) l.place.sum l.word)
+      ∙ word_byte x.file (space_of segment) (base_in x.file.header (total BssSeg os) segment + total segment (take number os))
+      n word (subst (λ (a : ℕ). IsWordAt x.file (space_of segment) a word) l.place.sum l.word)
 
   -- one that is not relocated is that of the object
-  kept_byte : (number : ℕ) (k : Contents) → slice_get os number ≡ Some k → (segment : Segment) (n : ℕ) (h : HasWord k segment (n / 2)) → h.r.0 % 16 ≡ 0 → (space : Space) → has_segment x.file.header.magic segment space ≡ true →
+  kept_byte : (number : ℕ) (k : Contents) → slice_get os number ≡ Some k →
+      (segment : Segment) (n : ℕ) (h : HasWord k segment (n / 2)) → h.r.0 % 16 ≡ 0 → (space : Space) →
+      has_segment x.file.header.magic segment space ≡ true →
       core x.file space (address_at x.file os (of_object number segment n)) ≡ Some (byte_of n (minus (plus h.w 0) 0))
   kept_byte number k e segment n h low space has =
       let l = loaded_at number k e segment (n / 2) h.w h.r h.word h.reloc in
       let kind : kind_of h.r ≡ Some kinds.Absolute = ap kind_numbered (let f : h.r.0 / 2 % 8 ≡ 0 = omega arith in f) in
       let pc : is_pc_relative h.r ≡ false = ap (λ m. eqb m 1) (let f : h.r.0 % 2 ≡ 0 = omega arith in f) in
-      let added : l.added ≡ 0 = subst (λ m. IsAdded x.file.header x.file.symbols os (take number os) k m (symbol_number h.r) l.added) kind l.is in
+      let added : l.added ≡ 0 =
+      subst (λ m. IsAdded x.file.header x.file.symbols os (take number os) k m (symbol_number h.r) l.added) kind l.is in
       byte_at number k e segment n h space has
-      ∙ (λ j. let b : Option ℕ = Some (byte_of n (minus (plus h.w (added j)) (cond (pc j) (move_in x.file.header os (take number os) k segment) 0))) in b)
+      ∙ (λ j. let b : Option ℕ =
+      Some (byte_of n (minus (plus h.w (added j)) (cond (pc j) (move_in x.file.header os (take number os) k segment) 0))) in b)
 
   -- bss and commons are zeros
-  zero_at_place : lays_commons o ≡ true → (place : Place) → segment_at place ≡ BssSeg → (space : Space) (address : ℕ) → LiesAt forced os x.file place space address → core x.file space address ≡ Some 0
+  zero_at_place : lays_commons o ≡ true → (place : Place) → segment_at place ≡ BssSeg → (space : Space) (address : ℕ) →
+      LiesAt forced os x.file place space address → core x.file space address ≡ Some 0
   zero_at_place lays place bss space address l =
-      core_at x.file space address 0 BssSeg (ap (λ (s : Segment). is_in x.file.header space s address) (sym bss) ∙ place_in forced os o x kept lays linked good place space address l) refl
+      core_at x.file space address 0 BssSeg (ap (λ (s : Segment). is_in x.file.header space s address) (sym bss)
+      ∙ place_in forced os o x kept lays linked good place space address l) refl
 
-  loaded_place : lays_commons o ≡ true → (place : Place) (space : Space) (address : ℕ) → LiesAt forced os x.file place space address → (byte : ℕ) × (core x.file space address ≡ Some byte)
+  loaded_place : lays_commons o ≡ true → (place : Place) (space : Space) (address : ℕ) →
+      LiesAt forced os x.file place space address → (byte : ℕ) × (core x.file space address ≡ Some byte)
   loaded_place lays (of_common name n) space address l = (0, zero_at_place lays (of_common name n) refl space address l)
   loaded_place lays (of_object number BssSeg n) space address l = (0, zero_at_place lays (of_object number BssSeg n) refl space address l)
   loaded_place lays (of_object number TextSeg n) space address l =
@@ -154,17 +179,23 @@ module _ (forced : List (List ℕ)) (os : List Contents) (o : Choices) (x : Outc
   loaded_place lays (of_object number Other n) space address l = absurd (omega (arith, l.is.inside))
 
   -- a definition gives its address
-  defined_value : (name : List ℕ) (number : ℕ) (segment : Segment) (n : ℕ) → IsDefinedAt x.file os name number segment n → (row : Symbol) → entry_of x.file.symbols name ≡ Some row →
+  defined_value : (name : List ℕ) (number : ℕ) (segment : Segment) (n : ℕ) →
+      IsDefinedAt x.file os name number segment n → (row : Symbol) → entry_of x.file.symbols name ≡ Some row →
       address_in row % 65536 ≡ address_at x.file os (of_object number segment n) % 65536
   defined_value name number segment n d row found =
       let b : IsDefinedBy x.file os name d.object d.symbol = d.is in
       let before : take number os ≡ b.before =
-      ap (λ (m : ℕ). take m os) (sym d.number_is) ∙ ap (λ (ks : List Contents). take (length b.before) ks) b.all ∙ take_before b.before d.object b.after in
-      let same : row ≡ b.is.row = same_Some row b.is.row (sym found ∙ ap (λ (m : List ℕ). entry_of x.file.symbols m) b.names ∙ b.is.found) in
-      let there : IsPlace x.file.header os b.before d.object segment n (address_of x.file.header os b.before d.object segment n) = any_place x.file.header os b.before d.object segment n in
+      ap (λ (m : ℕ). take m os) (sym d.number_is) ∙ ap (λ (ks : List Contents). take (length b.before) ks) b.all
+      ∙ take_before b.before d.object b.after in
+      let same : row ≡ b.is.row =
+      same_Some row b.is.row (sym found ∙ ap (λ (m : List ℕ). entry_of x.file.symbols m) b.names ∙ b.is.found) in
+      let there : IsPlace x.file.header os b.before d.object segment n
+      (address_of x.file.header os b.before d.object segment n) = any_place x.file.header os b.before d.object segment n in
       let value : address_in row ≡ plus d.symbol.value (move_in x.file.header os b.before d.object segment) =
-      ap address_in same ∙ defined_address b.is.row (segment_of d.symbol) b.is.type_bits ∙ b.is.value ∙ ap (λ (s : Segment). plus d.symbol.value (move_in x.file.header os b.before d.object s)) d.segment_is in
-      sums (address_in row) d.symbol.value (move_in x.file.header os b.before d.object segment) (own d.object segment) n (address_of x.file.header os b.before d.object segment n) value d.distance there.symbol
+      ap address_in same ∙ defined_address b.is.row (segment_of d.symbol) b.is.type_bits ∙ b.is.value
+      ∙ ap (λ (s : Segment). plus d.symbol.value (move_in x.file.header os b.before d.object s)) d.segment_is in
+      sums (address_in row) d.symbol.value (move_in x.file.header os b.before d.object segment) (own d.object segment) n
+      (address_of x.file.header os b.before d.object segment n) value d.distance there.symbol
       ∙ ap (λ (ks : List Contents). (base_in x.file.header (total BssSeg os) segment + total segment ks + n) % 65536) (sym before)
     where
       sums : (a v m own n address : ℕ) → a ≡ plus v m → n ≡ minus v own → plus (own + n) m ≡ address % 65536 → a % 65536 ≡ address % 65536
@@ -194,21 +225,27 @@ unmoved_target to (to_place place) none = absurd none
 unmoved_target to (to_end segment) none = refl
 unmoved_target to to_nothing none = refl
 
-missing_is : (forced : List (List ℕ)) (os : List Contents) (o : Choices) (file : Contents) (name : List ℕ) → Means forced os o file name missing → (t : Target) → missing_target name ≡ t → IsNoPlace t → IsTargetOf forced os o file name t
+missing_is : (forced : List (List ℕ)) (os : List Contents) (o : Choices) (file : Contents) (name : List ℕ) →
+    Means forced os o file name missing → (t : Target) → missing_target name ≡ t → IsNoPlace t →
+    IsTargetOf forced os o file name t
 missing_is forced os o file name m (to_place place) e none = absurd none
 missing_is forced os o file name m (to_end segment) e none = (m, e)
 missing_is forced os o file name m to_nothing e none = (m, e)
 
-missing_value : (o : Choices) → o.relocatable ≡ false → (file : Contents) (os : List Contents) (name : List ℕ) → entry_of file.symbols name ≡ Some (undefined_row file.header o name) →
+missing_value : (o : Choices) → o.relocatable ≡ false → (file : Contents) (os : List Contents) (name : List ℕ) →
+    entry_of file.symbols name ≡ Some (undefined_row file.header o name) →
     (row : Symbol) → entry_of file.symbols name ≡ Some row → address_in row % 65536 ≡ address_to file os (missing_target name) % 65536
 missing_value o nr file os name is row found =
     ap (λ (s : Symbol). address_in s % 65536) (same_Some row (undefined_row file.header o name) (sym found ∙ is))
-    ∙ ap (λ (r : Bool). address_in (cond r (shown name 0o40 0) (cond (bytes_eq name etext) (shown name 0o42 file.header.text_size) (cond (bytes_eq name edata) (shown name 0o43 (data_start_in file.header + file.header.data_size))
-    (cond (bytes_eq name end_name) (shown name 0o44 (data_start_in file.header + file.header.data_size + file.header.bss_size)) (shown name 0o40 0))))) % 65536) nr
+    ∙ ap (λ (r : Bool). address_in (cond r (shown name 0o40 0) (cond (bytes_eq name etext) (shown name 0o42 file.header.text_size)
+    (cond (bytes_eq name edata) (shown name 0o43 (data_start_in file.header + file.header.data_size))
+    (cond (bytes_eq name end_name) (shown name 0o44 (data_start_in file.header + file.header.data_size + file.header.bss_size))
+    (shown name 0o40 0))))) % 65536) nr
     ∙ by_tests (bytes_eq name etext) (bytes_eq name edata) (bytes_eq name end_name)
   where
     by_tests : (t d e : Bool) →
-        address_in (cond t (shown name 0o42 file.header.text_size) (cond d (shown name 0o43 (data_start_in file.header + file.header.data_size))
+        address_in (cond t (shown name 0o42 file.header.text_size)
+        (cond d (shown name 0o43 (data_start_in file.header + file.header.data_size))
         (cond e (shown name 0o44 (data_start_in file.header + file.header.data_size + file.header.bss_size)) (shown name 0o40 0)))) % 65536
         ≡ address_to file os (cond t (to_end TextSeg) (cond d (to_end DataSeg) (cond e (to_end BssSeg) to_nothing))) % 65536
     by_tests true d e = refl
@@ -217,10 +254,11 @@ missing_value o nr file os name is row found =
     by_tests false false false = refl
 
 -- a common gives the address of its first byte
-common_value : (file : Contents) (os : List Contents) (name : List ℕ) (size : ℕ) → HasRoom file os name size → (row : Symbol) → entry_of file.symbols name ≡ Some row →
-    address_in row % 65536 ≡ address_at file os (of_common name 0) % 65536
+common_value : (file : Contents) (os : List Contents) (name : List ℕ) (size : ℕ) → HasRoom file os name size → (row : Symbol) →
+    entry_of file.symbols name ≡ Some row → address_in row % 65536 ≡ address_at file os (of_common name 0) % 65536
 common_value file os name size has row found =
-    let value : address_in row ≡ has.row.value = ap address_in (same_Some row has.row (sym found ∙ has.found)) ∙ defined_address has.row BssSeg has.type_bits in
+    let value : address_in row ≡ has.row.value =
+    ap address_in (same_Some row has.row (sym found ∙ has.found)) ∙ defined_address has.row BssSeg has.type_bits in
     let there : has.row.value ≡ value_in (entry_of file.symbols name) = ap value_in (sym has.found) in
     ap (λ (n : ℕ). n % 65536) (value ∙ there) ∙ first (value_in (entry_of file.symbols name))
   where
@@ -229,8 +267,10 @@ common_value file os name size has row found =
 
 -- two links
 
-module _ (forced : List (List ℕ)) (os ps : List Contents) (o : Choices) (layout : Layout) (x y : Outcome) (h : AreLinks forced os ps o layout x y) (good : AllByRecursion IsObject os)
-    (kept : o.keep ≢ Nothing) (nr : o.relocatable ≡ false) (single : x.report.multiples ≡ []) (to from : ℕ → ℕ) (renumbered : AreRenumbered os ps to from) where
+module _ (forced : List (List ℕ)) (os ps : List Contents) (o : Choices) (layout : Layout) (x y : Outcome)
+    (h : AreLinks forced os ps o layout x y) (good : AllByRecursion IsObject os)
+    (kept : o.keep ≢ Nothing) (nr : o.relocatable ≡ false) (single : x.report.multiples ≡ []) (to from : ℕ → ℕ)
+    (renumbered : AreRenumbered os ps to from) where
   abbrev q : Choices
   q = record o { layout = layout }
 
@@ -243,7 +283,8 @@ module _ (forced : List (List ℕ)) (os ps : List Contents) (o : Choices) (layou
     one : IsTargetOf forced os o x.file name target
     other : IsTargetOf forced ps o y.file name (moved_target to target)
     value : (row : Symbol) → entry_of x.file.symbols name ≡ Some row → address_in row % 65536 ≡ address_to x.file os target % 65536
-    value_too : (row : Symbol) → entry_of y.file.symbols name ≡ Some row → address_in row % 65536 ≡ address_to y.file ps (moved_target to target) % 65536
+    value_too : (row : Symbol) → entry_of y.file.symbols name ≡ Some row →
+        address_in row % 65536 ≡ address_to y.file ps (moved_target to target) % 65536
 
   -- the definition that the other has
   definition_target : (name : List ℕ) (k : Contents) (s : Symbol) → IsDefinedBy y.file ps name k s → HasTarget name
@@ -289,7 +330,8 @@ module _ (forced : List (List ℕ)) (os ps : List Contents) (o : Choices) (layou
           inner = d.inner;
           names = d.names;
           is = subst (λ (ks : List Contents). IsDefined x.file ks (take i os) k s) (sym all)
-              (definitions_hold forced (take i os) k (drop (suc i) os) o x kept (subst (λ (ks : List Contents). link forced ks o ≡ Ok x) all h.one) single d.number s d.stands d.outer d.inner);
+              (definitions_hold forced (take i os) k (drop (suc i) os) o x kept
+              (subst (λ (ks : List Contents). link forced ks o ≡ Ok x) all h.one) single d.number s d.stands d.outer d.inner);
         };
         number_is = long os i k here;
         segment_is = refl;
@@ -297,7 +339,14 @@ module _ (forced : List (List ℕ)) (os ps : List Contents) (o : Choices) (layou
       }
 
       other : IsDefinedAt y.file ps name (to i) (segment_of s) n
-      other = record { object = k; symbol = s; is = d; number_is = sym (renumbered.back (length d.before) k there).1; segment_is = refl; distance = refl }
+      other = record {
+        object = k;
+        symbol = s;
+        is = d;
+        number_is = sym (renumbered.back (length d.before) k there).1;
+        segment_is = refl;
+        distance = refl;
+      }
 
   name_target : (name : List ℕ) → MeansTheSame forced os ps o x y name → HasTarget name
   name_target name m = by_meaning m.meaning m.one m.other
@@ -317,13 +366,18 @@ module _ (forced : List (List ℕ)) (os ps : List Contents) (o : Choices) (layou
           record {
             target = missing_target name;
             one = missing_is forced os o x.file name one (missing_target name) refl none;
-            other = subst (λ (t : Target). IsTargetOf forced ps o y.file name t) same (missing_is forced ps o y.file name other (missing_target name) refl none);
+            other =
+                subst (λ (t : Target). IsTargetOf forced ps o y.file name t) same
+                (missing_is forced ps o y.file name other (missing_target name) refl none);
             value = λ row found. missing_value o nr x.file os name one.1 row found;
-            value_too = λ row found. missing_value o nr y.file ps name other.1 row found ∙ ap (λ (t : Target). address_to y.file ps t % 65536) same;
+            value_too =
+                λ row found. missing_value o nr y.file ps name other.1 row found
+                ∙ ap (λ (t : Target). address_to y.file ps t % 65536) same;
           }
 
   -- a word moves as what it refers to
-  words_move : (number : ℕ) (k : Contents) → slice_get os number ≡ Some k → (segment : Segment) (i w : ℕ) (r : Reloc) → slice_get (segment_words segment k) i ≡ Some w → slice_get (segment_relocs segment k) i ≡ Some r →
+  words_move : (number : ℕ) (k : Contents) → slice_get os number ≡ Some k → (segment : Segment) (i w : ℕ) (r : Reloc) →
+      slice_get (segment_words segment k) i ≡ Some w → slice_get (segment_relocs segment k) i ≡ Some r →
       MovesAsTarget forced os ps o x y to number k segment i r
   words_move number k e segment i w r ew er = by_kind (kind_of r) refl l.is l_too.is
     where
@@ -342,8 +396,11 @@ module _ (forced : List (List ℕ)) (os ps : List Contents) (o : Choices) (layou
       f_too : FindsMore y.file ps (take (to number) ps) k segment i w r l_too.added
       f_too = loaded_finds y.file y.file.symbols ps (take (to number) ps) k segment (words_there segment k i w ew) i w r l_too
 
-      moves : (target : Target) → RefersTo forced os o x.file number k (kind_of r) (symbol_number r) target → RefersTo forced ps o y.file (to number) k (kind_of r) (symbol_number r) (moved_target to target) →
-          (d : ℕ) → (l.added + d) % 65536 ≡ address_to x.file os target % 65536 → (l_too.added + d) % 65536 ≡ address_to y.file ps (moved_target to target) % 65536 → MovesAsTarget forced os ps o x y to number k segment i r
+      moves : (target : Target) → RefersTo forced os o x.file number k (kind_of r) (symbol_number r) target →
+          RefersTo forced ps o y.file (to number) k (kind_of r) (symbol_number r) (moved_target to target) →
+          (d : ℕ) → (l.added + d) % 65536 ≡ address_to x.file os target % 65536 →
+          (l_too.added + d) % 65536 ≡ address_to y.file ps (moved_target to target) % 65536 →
+          MovesAsTarget forced os ps o x y to number k segment i r
       moves target refers refers_too d sum sum_too = record {
         target = target;
         refers = refers;
@@ -353,50 +410,70 @@ module _ (forced : List (List ℕ)) (os ps : List Contents) (o : Choices) (layou
         other = f_too.word;
         stands_too = subst (λ (a : ℕ). IsWordAt y.file (space_of segment) a f_too.word) f_too.place.sum f_too.stands;
         differ =
-            (λ j. minus (operand (is_pc_relative r) (sym f_too.place.sum j) f_too.word) (operand (is_pc_relative r) (sym f.place.sum j) f.word))
+            (λ j. minus (operand (is_pc_relative r) (sym f_too.place.sum j) f_too.word)
+            (operand (is_pc_relative r) (sym f.place.sum j) f.word))
             ∙ (λ j. minus (f_too.finds j) (f.finds j))
-            ∙ differ l.added l_too.added (operand (is_pc_relative r) (own k segment + 2 * i) w) d (address_to x.file os target) (address_to y.file ps (moved_target to target)) sum sum_too;
+            ∙ differ l.added l_too.added (operand (is_pc_relative r) (own k segment + 2 * i) w) d
+            (address_to x.file os target) (address_to y.file ps (moved_target to target)) sum sum_too;
       }
         where
           differ : (a b c d s t : ℕ) → (a + d) % 65536 ≡ s % 65536 → (b + d) % 65536 ≡ t % 65536 → minus (plus b c) (plus a c) ≡ minus t s
           differ a b c d s t f g = omega arith
 
       -- a segment of its own object
-      by_segment : (meant : Segment) → RefersTo forced os o x.file number k (kind_of r) (symbol_number r) (to_place (of_object number meant 0)) →
+      by_segment : (meant : Segment) →
+          RefersTo forced os o x.file number k (kind_of r) (symbol_number r) (to_place (of_object number meant 0)) →
           RefersTo forced ps o y.file (to number) k (kind_of r) (symbol_number r) (to_place (of_object (to number) meant 0)) →
-          l.added ≡ move_in x.file.header os (take number os) k meant → l_too.added ≡ move_in y.file.header ps (take (to number) ps) k meant → MovesAsTarget forced os ps o x y to number k segment i r
+          l.added ≡ move_in x.file.header os (take number os) k meant → l_too.added ≡ move_in y.file.header ps
+          (take (to number) ps) k meant → MovesAsTarget forced os ps o x y to number k segment i r
       by_segment meant refers refers_too p p_too =
           moves (to_place (of_object number meant 0)) refers refers_too (own k meant)
-          (sums l.added (move_in x.file.header os (take number os) k meant) (own k meant) (address_of x.file.header os (take number os) k meant 0) p (any_place x.file.header os (take number os) k meant 0).symbol)
-          (sums l_too.added (move_in y.file.header ps (take (to number) ps) k meant) (own k meant) (address_of y.file.header ps (take (to number) ps) k meant 0) p_too (any_place y.file.header ps (take (to number) ps) k meant 0).symbol)
+          (sums l.added (move_in x.file.header os (take number os) k meant) (own k meant) (address_of x.file.header os
+          (take number os) k meant 0) p (any_place x.file.header os (take number os) k meant 0).symbol)
+          (sums l_too.added (move_in y.file.header ps (take (to number) ps) k meant) (own k meant) (address_of y.file.header
+          ps (take (to number) ps) k meant 0) p_too (any_place y.file.header ps (take (to number) ps) k meant 0).symbol)
         where
           sums : (a m own address : ℕ) → a ≡ m → plus (own + 0) m ≡ address % 65536 → (a + own) % 65536 ≡ address % 65536
           sums a m own address f g = omega arith
 
-      by_kind : (kind : Option Kind) → kind_of r ≡ kind → IsAdded x.file.header x.file.symbols os (take number os) k kind (symbol_number r) l.added →
-          IsAdded y.file.header y.file.symbols ps (take (to number) ps) k kind (symbol_number r) l_too.added → MovesAsTarget forced os ps o x y to number k segment i r
+      by_kind : (kind : Option Kind) → kind_of r ≡ kind →
+          IsAdded x.file.header x.file.symbols os (take number os) k kind (symbol_number r) l.added →
+          IsAdded y.file.header y.file.symbols ps (take (to number) ps) k kind (symbol_number r) l_too.added →
+          MovesAsTarget forced os ps o x y to number k segment i r
       by_kind None is p p_too = absurd p
       by_kind (Some kinds.Absolute) is p p_too =
           moves to_nothing (subst (λ (m : Option Kind). RefersTo forced os o x.file number k m (symbol_number r) to_nothing) (sym is) refl)
           (subst (λ (m : Option Kind). RefersTo forced ps o y.file (to number) k m (symbol_number r) to_nothing) (sym is) refl) 0
           (ap (λ (a : ℕ). (a + 0) % 65536) p) (ap (λ (a : ℕ). (a + 0) % 65536) p_too)
       by_kind (Some kinds.TextSeg) is p p_too =
-          by_segment TextSeg (subst (λ (m : Option Kind). RefersTo forced os o x.file number k m (symbol_number r) (to_place (of_object number TextSeg 0))) (sym is) refl)
-          (subst (λ (m : Option Kind). RefersTo forced ps o y.file (to number) k m (symbol_number r) (to_place (of_object (to number) TextSeg 0))) (sym is) refl) p p_too
+          by_segment TextSeg (subst (λ (m : Option Kind). RefersTo forced os o x.file number k m (symbol_number r)
+          (to_place (of_object number TextSeg 0))) (sym is) refl)
+          (subst (λ (m : Option Kind). RefersTo forced ps o y.file (to number) k m (symbol_number r)
+          (to_place (of_object (to number) TextSeg 0))) (sym is) refl) p p_too
       by_kind (Some kinds.DataSeg) is p p_too =
-          by_segment DataSeg (subst (λ (m : Option Kind). RefersTo forced os o x.file number k m (symbol_number r) (to_place (of_object number DataSeg 0))) (sym is) refl)
-          (subst (λ (m : Option Kind). RefersTo forced ps o y.file (to number) k m (symbol_number r) (to_place (of_object (to number) DataSeg 0))) (sym is) refl) p p_too
+          by_segment DataSeg (subst (λ (m : Option Kind). RefersTo forced os o x.file number k m (symbol_number r)
+          (to_place (of_object number DataSeg 0))) (sym is) refl)
+          (subst (λ (m : Option Kind). RefersTo forced ps o y.file (to number) k m (symbol_number r)
+          (to_place (of_object (to number) DataSeg 0))) (sym is) refl) p p_too
       by_kind (Some kinds.BssSeg) is p p_too =
-          by_segment BssSeg (subst (λ (m : Option Kind). RefersTo forced os o x.file number k m (symbol_number r) (to_place (of_object number BssSeg 0))) (sym is) refl)
-          (subst (λ (m : Option Kind). RefersTo forced ps o y.file (to number) k m (symbol_number r) (to_place (of_object (to number) BssSeg 0))) (sym is) refl) p p_too
+          by_segment BssSeg (subst (λ (m : Option Kind). RefersTo forced os o x.file number k m (symbol_number r)
+          (to_place (of_object number BssSeg 0))) (sym is) refl)
+          (subst (λ (m : Option Kind). RefersTo forced ps o y.file (to number) k m (symbol_number r)
+          (to_place (of_object (to number) BssSeg 0))) (sym is) refl) p p_too
       by_kind (Some kinds.External) is p p_too =
-          let alike = referents_kept forced os ps o layout x y h kept nr single good (take number os) k (drop (suc number) os) (cut os number k e) (take (to number) ps) (drop (suc (to number)) ps) (cut ps (to number) k e_too) segment i w r ew er in
+          let alike =
+          referents_kept forced os ps o layout x y h kept nr single good (take number os) k (drop (suc number) os)
+          (cut os number k e) (take (to number) ps) (drop (suc (to number)) ps) (cut ps (to number) k e_too) segment i w r ew er in
           let t : HasTarget p.symbol.name = name_target p.symbol.name (alike.name is p.symbol p.named) in
           let same : p_too.symbol ≡ p.symbol = same_Some p_too.symbol p.symbol (sym p_too.named ∙ p.named) in
-          let found_too : entry_of y.file.symbols p.symbol.name ≡ Some p_too.row = ap (λ (s : Symbol). entry_of y.file.symbols s.name) (sym same) ∙ p_too.found in
-          moves t.target (subst (λ (m : Option Kind). RefersTo forced os o x.file number k m (symbol_number r) t.target) (sym is) (p.symbol, (p.named, t.one)))
-          (subst (λ (m : Option Kind). RefersTo forced ps o y.file (to number) k m (symbol_number r) (moved_target to t.target)) (sym is) (p.symbol, (p.named, t.other))) 0
-          (sums l.added (address_in p.row) p.gives ∙ t.value p.row p.found) (sums l_too.added (address_in p_too.row) p_too.gives ∙ t.value_too p_too.row found_too)
+          let found_too : entry_of y.file.symbols p.symbol.name ≡ Some p_too.row =
+          ap (λ (s : Symbol). entry_of y.file.symbols s.name) (sym same) ∙ p_too.found in
+          moves t.target (subst (λ (m : Option Kind). RefersTo forced os o x.file number k m (symbol_number r) t.target)
+          (sym is) (p.symbol, (p.named, t.one)))
+          (subst (λ (m : Option Kind). RefersTo forced ps o y.file (to number) k m (symbol_number r) (moved_target to t.target))
+          (sym is) (p.symbol, (p.named, t.other))) 0
+          (sums l.added (address_in p.row) p.gives
+          ∙ t.value p.row p.found) (sums l_too.added (address_in p_too.row) p_too.gives ∙ t.value_too p_too.row found_too)
         where
           sums : (a b : ℕ) → a ≡ b → (a + 0) % 65536 ≡ b % 65536
           sums a b f = omega arith
@@ -406,19 +483,37 @@ module _ (forced : List (List ℕ)) (os ps : List Contents) (o : Choices) (layou
   place_there (of_object number segment n) is =
       let there = renumbered.there number is.object is.is in
       (record { object = is.object; is = there.0; inside = is.inside }, ap (λ (m : ℕ). of_object m segment n) there.1)
-  place_there (of_common name n) is =
-      (record { size = is.size; is = record { wanted = wanted_too forced os ps h.same name is.size is.is.wanted; sized = is.is.sized }; inside = is.inside }, refl)
+  place_there (of_common name n) is = (
+    record {
+      size = is.size;
+      is = record { wanted = wanted_too forced os ps h.same name is.size is.is.wanted; sized = is.is.sized };
+      inside = is.inside;
+    },
+    refl,
+  )
 
   place_back : (place : Place) → IsPlaceOf forced ps place → IsPlaceOf forced os (moved from place) × (moved to (moved from place) ≡ place)
   place_back (of_object number segment n) is =
       let back = renumbered.back number is.object is.is in
       (record { object = is.object; is = back.0; inside = is.inside }, ap (λ (m : ℕ). of_object m segment n) back.1)
-  place_back (of_common name n) is =
-      (record { size = is.size; is = record { wanted = wanted_too forced ps os (IsPermutation-sym os ps h.same) name is.size is.is.wanted; sized = is.is.sized }; inside = is.inside }, refl)
+  place_back (of_common name n) is = (
+    record {
+      size = is.size;
+      is = record {
+        wanted = wanted_too forced ps os (IsPermutation-sym os ps h.same) name is.size is.is.wanted;
+        sized = is.is.sized;
+      };
+      inside = is.inside;
+    },
+    refl,
+  )
 
   -- and has the same byte there, but for relocated words
-  same_word_byte : (number : ℕ) (segment : Segment) (has : HasWords segment) (n : ℕ) → IsUnrelocated os (of_object number segment n) → (space space_too : Space) (address address_too : ℕ) →
-      LiesAt forced os x.file (of_object number segment n) space address → LiesAt forced ps y.file (of_object (to number) segment n) space_too address_too → core y.file space_too address_too ≡ core x.file space address
+  same_word_byte : (number : ℕ) (segment : Segment) (has : HasWords segment) (n : ℕ) →
+      IsUnrelocated os (of_object number segment n) → (space space_too : Space) (address address_too : ℕ) →
+      LiesAt forced os x.file (of_object number segment n) space address →
+      LiesAt forced ps y.file (of_object (to number) segment n) space_too address_too →
+      core y.file space_too address_too ≡ core x.file space address
   same_word_byte number segment has n free space space_too address address_too l l_too =
       let k : Contents = l.is.object in
       let e : slice_get os number ≡ Some k = l.is.is in
@@ -428,14 +523,17 @@ module _ (forced : List (List ℕ)) (os ps : List Contents) (o : Choices) (layou
       ∙ kept_byte forced ps q y good_too kept h.other (to number) k (renumbered.there number k e).0 segment n word low space_too l_too.in
       ∙ sym (ap (λ (a : ℕ). core x.file space a) l.at ∙ kept_byte forced os o x good kept h.one number k e segment n word low space l.in)
 
-  same_zero : (place : Place) → segment_at place ≡ BssSeg → segment_at (moved to place) ≡ BssSeg → (space space_too : Space) (address address_too : ℕ) →
-      LiesAt forced os x.file place space address → LiesAt forced ps y.file (moved to place) space_too address_too → core y.file space_too address_too ≡ core x.file space address
+  same_zero : (place : Place) → segment_at place ≡ BssSeg → segment_at (moved to place) ≡ BssSeg →
+      (space space_too : Space) (address address_too : ℕ) →
+      LiesAt forced os x.file place space address → LiesAt forced ps y.file (moved to place) space_too address_too →
+      core y.file space_too address_too ≡ core x.file space address
   same_zero place bss bss_too space space_too address address_too l l_too =
       zero_at_place forced ps q y good_too kept h.other (laid o nr) (moved to place) bss_too space_too address_too l_too
       ∙ sym (zero_at_place forced os o x good kept h.one (laid o nr) place bss space address l)
 
   same_byte : (place : Place) → IsUnrelocated os place → (space space_too : Space) (address address_too : ℕ) →
-      LiesAt forced os x.file place space address → LiesAt forced ps y.file (moved to place) space_too address_too → core y.file space_too address_too ≡ core x.file space address
+      LiesAt forced os x.file place space address → LiesAt forced ps y.file (moved to place) space_too address_too →
+      core y.file space_too address_too ≡ core x.file space address
   same_byte (of_common name n) free s t a b l k = same_zero (of_common name n) refl refl s t a b l k
   same_byte (of_object number BssSeg n) free s t a b l k = same_zero (of_object number BssSeg n) refl refl s t a b l k
   same_byte (of_object number TextSeg n) free s t a b l k = same_word_byte number TextSeg tt n free s t a b l k
@@ -454,7 +552,8 @@ links_isomorphic forced os ps o layout x y h good kept nr single to from renumbe
 
 -- two orders in one layout
 
-as_links : (forced : List (List ℕ)) (os ps : List Contents) (o : Choices) (x y : Outcome) → AreOrders forced os ps o x y → AreLinks forced os ps o o.layout x y
+as_links : (forced : List (List ℕ)) (os ps : List Contents) (o : Choices) (x y : Outcome) →
+    AreOrders forced os ps o x y → AreLinks forced os ps o o.layout x y
 as_links forced os ps o x y h = record { same = h.same; one = h.one; other = h.other }
 
 pub orders_keep_referents : LinksKeepReferents → OrderKeepsReferents

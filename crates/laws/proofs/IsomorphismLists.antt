@@ -1,5 +1,7 @@
 -- Lists: the element that has a unit of all, and lists that exchanges renumber.
-use Rattle.std.proofs.Common.{◌≡◌, ℕ, zero, suc, ◌+◌, ◌-◌, ◌<◌, ◌≤◌, Bool, true, false, cond, eqb, nat_lt, List, [], ◌∷◌, ◌++◌, length, take, drop, get_or, set, Option, Some, refl, sym, ◌∙◌, ap, subst, arith, length-set, get_or-set_same, get_or-set_other}
+use Rattle.std.proofs.Common.{◌≡◌, ℕ, zero, suc, ◌+◌, ◌-◌, ◌<◌, ◌≤◌, Bool, true, false, cond, eqb, nat_lt, List, []}
+use Rattle.std.proofs.Common.{◌∷◌, ◌++◌, length, take, drop, get_or, set, Option, Some, refl, sym, ◌∙◌, ap, subst}
+use Rattle.std.proofs.Common.{arith, length-set, get_or-set_same, get_or-set_other}
 use Rattle.std.specs.Prelude.{slice_get, sum_by}
 use Rattle.std.specs.List.{swap}
 use Rattle.std.specs.List.Sorted.{SwapsInRange, apply_swaps}
@@ -50,7 +52,8 @@ module _ {A : Type 0} (f : A → ℕ) where
           }
 
   -- two units that are one
-  pub one_unit : (xs : List A) (i k : ℕ) (a b : A) (j l : ℕ) → slice_get xs i ≡ Some a → slice_get xs k ≡ Some b → j < f a → l < f b → sum_by f (take i xs) + j ≡ sum_by f (take k xs) + l → (i ≡ k) × (j ≡ l)
+  pub one_unit : (xs : List A) (i k : ℕ) (a b : A) (j l : ℕ) → slice_get xs i ≡ Some a → slice_get xs k ≡ Some b →
+      j < f a → l < f b → sum_by f (take i xs) + j ≡ sum_by f (take k xs) + l → (i ≡ k) × (j ≡ l)
   one_unit [] i k a b j l ea eb ha hb e = absurd (cc)
   one_unit (x ∷ xs) zero zero a b j l ea eb ha hb e = (refl, omega arith)
   one_unit (x ∷ xs) zero (suc k) a b j l ea eb ha hb e =
@@ -93,7 +96,8 @@ get_between (x ∷ before) a after = get_between before a after
 abbrev exchanged : ℕ → ℕ → ℕ → ℕ
 exchanged a b i = cond (eqb i a) b (cond (eqb i b) a i)
 
-by_place : (a b i : ℕ) (P : ℕ → Type 0) → (i ≡ a → P b) → ((i ≡ a → ⊥) → i ≡ b → P a) → ((i ≡ a → ⊥) → (i ≡ b → ⊥) → P i) → P (exchanged a b i)
+by_place : (a b i : ℕ) (P : ℕ → Type 0) → (i ≡ a → P b) → ((i ≡ a → ⊥) → i ≡ b → P a) →
+    ((i ≡ a → ⊥) → (i ≡ b → ⊥) → P i) → P (exchanged a b i)
 by_place a b i P first second other = by_tests (eqb i a) refl (eqb i b) refl
   where
     by_tests : (t : Bool) → eqb i a ≡ t → (u : Bool) → eqb i b ≡ u → P (cond t b (cond u a i))
@@ -121,17 +125,23 @@ module _ (xs : List Contents) (a b : ℕ) (inside : a < length xs) (inside_too :
       found : (m : ℕ) → m < length xs → get_or (set w b (get_or xs a k)) m k ≡ k → slice_get (swap xs a b) m ≡ Some k
       found m h g =
           slice_get-get_or (swap xs a b) m k (omega (arith, length-swap xs a b))
-          ∙ ap (λ (c : Contents). let o : Option Contents = Some c in o) (ap (λ (l : List Contents). get_or l m k) (sym (swap_is xs a b k inside inside_too)) ∙ g)
+          ∙ ap (λ (c : Contents). let o : Option Contents = Some c in o)
+          (ap (λ (l : List Contents). get_or l m k) (sym (swap_is xs a b k inside inside_too)) ∙ g)
 
       at_a : i ≡ a → slice_get (swap xs a b) b ≡ Some k
-      at_a f = found b inside_too (get_or-set_same w b (get_or xs a k) k (omega (arith, length-set xs a (get_or xs b k))) ∙ ap (λ m. get_or xs m k) (sym f) ∙ here)
+      at_a f =
+          found b inside_too (get_or-set_same w b (get_or xs a k) k (omega (arith, length-set xs a (get_or xs b k)))
+          ∙ ap (λ m. get_or xs m k) (sym f) ∙ here)
 
       at_b : (i ≡ a → ⊥) → i ≡ b → slice_get (swap xs a b) a ≡ Some k
       at_b n f =
-          found a inside (get_or-set_other w b a (get_or xs a k) k (λ g. n (f ∙ sym g)) ∙ get_or-set_same xs a (get_or xs b k) k inside ∙ ap (λ m. get_or xs m k) (sym f) ∙ here)
+          found a inside (get_or-set_other w b a (get_or xs a k) k (λ g. n (f ∙ sym g))
+          ∙ get_or-set_same xs a (get_or xs b k) k inside ∙ ap (λ m. get_or xs m k) (sym f) ∙ here)
 
       elsewhere : (i ≡ a → ⊥) → (i ≡ b → ⊥) → slice_get (swap xs a b) i ≡ Some k
-      elsewhere n m = found i (slice_get_within xs i k e) (get_or-set_other w b i (get_or xs a k) k m ∙ get_or-set_other xs a i (get_or xs b k) k n ∙ here)
+      elsewhere n m =
+          found i (slice_get_within xs i k e)
+          (get_or-set_other w b i (get_or xs a k) k m ∙ get_or-set_other xs a i (get_or xs b k) k n ∙ here)
 
   at_old_place : (i : ℕ) (k : Contents) → slice_get (swap xs a b) i ≡ Some k → slice_get xs (exchanged a b i) ≡ Some k
   at_old_place i k e =
@@ -149,8 +159,8 @@ module _ (xs : List Contents) (a b : ℕ) (inside : a < length xs) (inside_too :
     back = λ i k e. (at_old_place i k e, exchanged_twice a b i);
   }
 
-then_renumbered : (xs ys zs : List Contents) (to from to_next from_next : ℕ → ℕ) → AreRenumbered xs ys to from → AreRenumbered ys zs to_next from_next →
-    AreRenumbered xs zs (λ i. to_next (to i)) (λ i. from (from_next i))
+then_renumbered : (xs ys zs : List Contents) (to from to_next from_next : ℕ → ℕ) → AreRenumbered xs ys to from →
+    AreRenumbered ys zs to_next from_next → AreRenumbered xs zs (λ i. to_next (to i)) (λ i. from (from_next i))
 then_renumbered xs ys zs to from to_next from_next one two = record {
   there = λ i k e. let first = one.there i k e in let second = two.there (to i) k first.0 in (second.0, ap from second.1 ∙ first.1);
   back = λ i k e. let second = two.back i k e in let first = one.back (from_next i) k second.0 in (first.0, ap to_next first.1 ∙ second.1);
@@ -160,7 +170,8 @@ exchanged_long : (xs : List Contents) (ms : List (ℕ × ℕ)) → length (apply
 exchanged_long xs [] = refl
 exchanged_long xs (p ∷ ms) = length-swap (apply_swaps xs ms) p.0 p.1 ∙ exchanged_long xs ms
 
-renumbered : (xs : List Contents) (ms : List (ℕ × ℕ)) → SwapsInRange (length xs) ms → (to : ℕ → ℕ) × (from : ℕ → ℕ) × AreRenumbered xs (apply_swaps xs ms) to from
+renumbered : (xs : List Contents) (ms : List (ℕ × ℕ)) → SwapsInRange (length xs) ms →
+    (to : ℕ → ℕ) × (from : ℕ → ℕ) × AreRenumbered xs (apply_swaps xs ms) to from
 renumbered xs [] h = ((λ i. i), (λ i. i), record { there = λ i k e. (e, refl); back = λ i k e. (e, refl) })
 renumbered xs (p ∷ ms) h =
     let rest = renumbered xs ms h.2 in
@@ -170,9 +181,11 @@ renumbered xs (p ∷ ms) h =
     let inside_too : p.1 < length ys = omega (arith, h.1, long) in (
       (λ i. exchanged p.0 p.1 (rest.0 i)),
       (λ i. rest.1 (exchanged p.0 p.1 i)),
-      then_renumbered xs ys (swap ys p.0 p.1) rest.0 rest.1 (exchanged p.0 p.1) (exchanged p.0 p.1) rest.2 (renumbered_once ys p.0 p.1 inside inside_too),
+      then_renumbered xs ys (swap ys p.0 p.1) rest.0 rest.1 (exchanged p.0 p.1) (exchanged p.0 p.1) rest.2
+          (renumbered_once ys p.0 p.1 inside inside_too),
     )
 
 pub orders_renumbered : OrdersAreRenumbered
 orders_renumbered os ps same =
-    subst (λ (ks : List Contents). (to : ℕ → ℕ) × (from : ℕ → ℕ) × AreRenumbered os ks to from) (sym same.is) (renumbered os same.moves same.below)
+    subst (λ (ks : List Contents). (to : ℕ → ℕ) × (from : ℕ → ℕ) × AreRenumbered os ks to from) (sym same.is)
+    (renumbered os same.moves same.below)

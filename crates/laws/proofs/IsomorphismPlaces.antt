@@ -1,5 +1,7 @@
 -- The places of a link: each is loaded, no two at one address, and each byte that is loaded has one.
-use Rattle.std.proofs.Common.{◌≡◌, ◌≢◌, ℕ, zero, suc, ◌+◌, ◌-◌, ◌%◌, ◌<◌, ◌≤◌, ◌⊎◌, inl, inr, Bool, true, false, cond, ◌||◌, eqb, nat_lt, List, [], ◌∷◌, take, drop, Option, Some, None, refl, sym, ◌∙◌, ap, subst, arith}
+use Rattle.std.proofs.Common.{◌≡◌, ◌≢◌, ℕ, zero, suc, ◌+◌, ◌-◌, ◌%◌, ◌<◌, ◌≤◌, ◌⊎◌, inl, inr, Bool, true}
+use Rattle.std.proofs.Common.{false, cond, ◌||◌, eqb, nat_lt, List, [], ◌∷◌, take, drop, Option, Some}
+use Rattle.std.proofs.Common.{None, refl, sym, ◌∙◌, ap, subst, arith}
 use Rattle.std.specs.Prelude.{slice_get, sum_by, bytes_eq, Ok}
 use Rattle.std.specs.List.{AllByRecursion}
 use Rattle.std.proofs.lemmas.Bool.{ltb-true, ltb-false, eqb-true}
@@ -37,7 +39,8 @@ use Rattle.link_laws.proofs.MoveLemmas.{data_begun}
 use Rattle.link_laws.proofs.CommonLemmas.{commons_have_room}
 use Rattle.link_laws.proofs.RelocatedLemmas.{objects_fill}
 use Rattle.laws.specs.Core.{Space, has_segment, first_address, bytes_of, is_in, core}
-use Rattle.laws.specs.Isomorphism.{Place, of_object, of_common, IsInObject, IsInCommon, IsPlaceOf, segment_at, value_in, address_at, LiesAt, PlacesLieApart, BytesHavePlaces}
+use Rattle.laws.specs.Isomorphism.{Place, of_object, of_common, IsInObject, IsInCommon, IsPlaceOf, segment_at, value_in}
+use Rattle.laws.specs.Isomorphism.{address_at, LiesAt, PlacesLieApart, BytesHavePlaces}
 use Rattle.laws.proofs.CoreLemmas.{IsWithin, within, within_back, segments_apart, IsByteOf, core_back}
 use Rattle.laws.proofs.NameListLemmas.{AreOnce, new_once}
 use Rattle.laws.proofs.OperandLemmas.{byte_in}
@@ -53,7 +56,9 @@ place_once (m ∷ ns) (suc i) n once e = by_test (bytes_eq n m) refl (place_once
   where
     among : (ns : List (List ℕ)) (i : ℕ) → slice_get ns i ≡ Some n → is_among ns n ≡ true
     among [] i e = absurd (cc)
-    among (k ∷ ns) zero e = let same : k ≡ n = same_Some k n e in ap (λ (t : Bool). t || is_among ns n) (ap (λ (j : List ℕ). bytes_eq n j) same ∙ own_name n)
+    among (k ∷ ns) zero e =
+        let same : k ≡ n = same_Some k n e in
+        ap (λ (t : Bool). t || is_among ns n) (ap (λ (j : List ℕ). bytes_eq n j) same ∙ own_name n)
     among (k ∷ ns) (suc i) e = ap (λ (t : Bool). bytes_eq n k || t) (among ns i e) ∙ or_true (bytes_eq n k)
       where
         or_true : (t : Bool) → (t || true) ≡ true
@@ -65,7 +70,8 @@ place_once (m ∷ ns) (suc i) n once e = by_test (bytes_eq n m) refl (place_once
         let bad : true ≡ false = sym (among ns i e) ∙ ap (λ (k : List ℕ). is_among ns k) same ∙ once.0 in cc)
     by_test false f rest = ap (λ (t : Bool). cond t 0 (place_of n ns + 1)) f ∙ omega arith
 
-module _ (forced : List (List ℕ)) (os : List Contents) (o : Choices) (x : Outcome) (kept : o.keep ≢ Nothing) (lays : lays_commons o ≡ true) (linked : link forced os o ≡ Ok x) where
+module _ (forced : List (List ℕ)) (os : List Contents) (o : Choices) (x : Outcome) (kept : o.keep ≢ Nothing)
+    (lays : lays_commons o ≡ true) (linked : link forced os o ≡ Ok x) where
   abbrev ms : List Mention
   ms = mentions forced os
 
@@ -113,7 +119,8 @@ module _ (forced : List (List ℕ)) (os : List Contents) (o : Choices) (x : Outc
           by_test true e = refl
           by_test false e = absurd (let bad : None ≡ Some has.row =
               ap (λ (t : Bool). let r : Option Symbol = cond t (Some (external_row p name)) None in r) (sym e)
-              ∙ sym (entry_in_table p os name kept) ∙ ap (λ (f : Contents). entry_of f.symbols name) (made_file p os x linked) ∙ has.found in cc)
+              ∙ sym (entry_in_table p os name kept)
+              ∙ ap (λ (f : Contents). entry_of f.symbols name) (made_file p os x linked) ∙ has.found in cc)
 
       found : entry_of x.file.symbols name ≡ Some (external_row p name)
       found = ap (λ (f : Contents). entry_of f.symbols name) (sym (made_file p os x linked)) ∙ entry_there p os name kept among
@@ -121,7 +128,8 @@ module _ (forced : List (List ℕ)) (os : List Contents) (o : Choices) (x : Outc
       final_is : final p name ≡ bound_at BssSeg (plus p.at.data_end (common_offset ms name))
       final_is =
           ap (λ (s : State). final_by p name s) is_state
-          ∙ (λ i. let f : Final = cond (c.sized i) (cond o.relocatable (waiting 0) (reserved_or_waiting p.at name)) (cond (lays i) (bound_at BssSeg (plus p.at.data_end (common_offset ms name))) (waiting size)) in f)
+          ∙ (λ i. let f : Final = cond (c.sized i) (cond o.relocatable (waiting 0) (reserved_or_waiting p.at name))
+          (cond (lays i) (bound_at BssSeg (plus p.at.data_end (common_offset ms name))) (waiting size)) in f)
 
       ends : p.at.data_end ≡ data_end
       ends =
@@ -131,8 +139,10 @@ module _ (forced : List (List ℕ)) (os : List Contents) (o : Choices) (x : Outc
       value : (external_row p name).value ≡ data_end + sum_by room (take (place_of name names) names)
       value =
           ap (λ (f : Final). f.written) final_is
-          ∙ small p.at.data_end (sum_by room (take (place_of name names) names)) (room name) (sum_by room names) (commons_laid o ms) (total BssSeg os)
-          (unit_inside room names (place_of name names) name (get_place names name among)) (ap (λ (t : Bool). cond t (commons_total ms) 0) lays) (made_fits p os x linked)
+          ∙ small p.at.data_end (sum_by room (take (place_of name names) names)) (room name) (sum_by room names)
+          (commons_laid o ms) (total BssSeg os)
+          (unit_inside room names (place_of name names) name
+          (get_place names name among)) (ap (λ (t : Bool). cond t (commons_total ms) 0) lays) (made_fits p os x linked)
           ∙ ap (λ (n : ℕ). n + sum_by room (take (place_of name names) names)) ends
         where
           small : (d a r t l b : ℕ) → a + r ≤ t → l ≡ t → d + l + b ≤ 65535 → plus d a ≡ d + a
@@ -145,7 +155,8 @@ module _ (forced : List (List ℕ)) (os : List Contents) (o : Choices) (x : Outc
       ∙ ap (λ (t : Bool). cond t (commons_total ms) 0 + total BssSeg os) lays
 
   bss_base : base_in x.file.header (total BssSeg os) BssSeg ≡ data_end + sum_by room names
-  bss_base = rest (data_start_in x.file.header + x.file.header.data_size) x.file.header.bss_size (sum_by room names) (total BssSeg os) bss_is
+  bss_base =
+      rest (data_start_in x.file.header + x.file.header.data_size) x.file.header.bss_size (sum_by room names) (total BssSeg os) bss_is
     where
       rest : (e b r t : ℕ) → b ≡ r + t → e + (b - t) ≡ e + r
       rest e b r t f = omega arith
@@ -153,24 +164,32 @@ module _ (forced : List (List ℕ)) (os : List Contents) (o : Choices) (x : Outc
   module _ (good : AllByRecursion IsObject os) where
     -- each place is in its segment
 
-    object_in : (number : ℕ) (segment : Segment) (n : ℕ) (space : Space) → IsInObject os number segment n → has_segment x.file.header.magic segment space ≡ true →
+    object_in : (number : ℕ) (segment : Segment) (n : ℕ) (space : Space) → IsInObject os number segment n →
+        has_segment x.file.header.magic segment space ≡ true →
         is_in x.file.header space segment (address_at x.file os (of_object number segment n)) ≡ true
     object_in number Undefined n space is has = absurd (omega (arith, is.inside))
     object_in number Absolute n space is has = absurd (omega (arith, is.inside))
     object_in number Other n space is has = absurd (omega (arith, is.inside))
-    object_in number TextSeg n space is has = byte_in forced os o x good linked (take number os) is.object (drop (suc number) os) (cut os number is.object is.is) space TextSeg has n is.inside
-    object_in number DataSeg n space is has = byte_in forced os o x good linked (take number os) is.object (drop (suc number) os) (cut os number is.object is.is) space DataSeg has n is.inside
-    object_in number BssSeg n space is has = byte_in forced os o x good linked (take number os) is.object (drop (suc number) os) (cut os number is.object is.is) space BssSeg has n is.inside
+    object_in number TextSeg n space is has =
+        byte_in forced os o x good linked (take number os) is.object (drop (suc number) os)
+        (cut os number is.object is.is) space TextSeg has n is.inside
+    object_in number DataSeg n space is has =
+        byte_in forced os o x good linked (take number os) is.object (drop (suc number) os)
+        (cut os number is.object is.is) space DataSeg has n is.inside
+    object_in number BssSeg n space is has =
+        byte_in forced os o x good linked (take number os) is.object (drop (suc number) os)
+        (cut os number is.object is.is) space BssSeg has n is.inside
 
-    common_in : (name : List ℕ) (n : ℕ) (space : Space) → IsInCommon forced os name n → has_segment x.file.header.magic BssSeg space ≡ true →
-        is_in x.file.header space BssSeg (address_at x.file os (of_common name n)) ≡ true
+    common_in : (name : List ℕ) (n : ℕ) (space : Space) → IsInCommon forced os name n → has_segment x.file.header.magic
+        BssSeg space ≡ true → is_in x.file.header space BssSeg (address_at x.file os (of_common name n)) ≡ true
     common_in name n space is has =
         let b = begins name is.size is.is in
         within_back x.file.header space BssSeg (address_at x.file os (of_common name n)) (record {
           has = has;
           from = over data_end (sum_by room (take (place_of name names) names)) n (value_in (entry_of x.file.symbols name)) b.value;
           before =
-              under data_end (sum_by room (take (place_of name names) names)) n (value_in (entry_of x.file.symbols name)) (room name) (is.size + is.size % 2) (sum_by room names) x.file.header.bss_size (total BssSeg os)
+              under data_end (sum_by room (take (place_of name names) names)) n (value_in (entry_of x.file.symbols name))
+              (room name) (is.size + is.size % 2) (sum_by room names) x.file.header.bss_size (total BssSeg os)
               b.value b.room_is is.inside (unit_inside room names (place_of name names) name b.known) bss_is;
         })
       where
@@ -180,26 +199,33 @@ module _ (forced : List (List ℕ)) (os : List Contents) (o : Choices) (x : Outc
         under : (e t n v r s all b more : ℕ) → v ≡ e + t → r ≡ s → n < s → t + r ≤ all → b ≡ all + more → v + n < e + b
         under e t n v r s all b more f g h k l = omega arith
 
-    pub place_in : (place : Place) (space : Space) (address : ℕ) → LiesAt forced os x.file place space address → is_in x.file.header space (segment_at place) address ≡ true
-    place_in (of_object number segment n) space address l = ap (λ (a : ℕ). is_in x.file.header space segment a) l.at ∙ object_in number segment n space l.is l.in
+    pub place_in : (place : Place) (space : Space) (address : ℕ) → LiesAt forced os x.file place space address →
+        is_in x.file.header space (segment_at place) address ≡ true
+    place_in (of_object number segment n) space address l =
+        ap (λ (a : ℕ). is_in x.file.header space segment a) l.at ∙ object_in number segment n space l.is l.in
     place_in (of_common name n) space address l = ap (λ (a : ℕ). is_in x.file.header space BssSeg a) l.at ∙ common_in name n space l.is l.in
 
     -- no two lie at one address
 
     -- an object's bss comes after the commons
-    object_or_common : (i : ℕ) (segment : Segment) (n : ℕ) (name : List ℕ) (m : ℕ) → IsInCommon forced os name m → segment ≡ BssSeg → address_at x.file os (of_object i segment n) ≡ address_at x.file os (of_common name m) → ⊥
+    object_or_common : (i : ℕ) (segment : Segment) (n : ℕ) (name : List ℕ) (m : ℕ) → IsInCommon forced os name m →
+        segment ≡ BssSeg → address_at x.file os (of_object i segment n) ≡ address_at x.file os (of_common name m) → ⊥
     object_or_common i segment n name m c same e =
         let b = begins name c.size c.is in
-        far data_end (sum_by room names) (value_in (entry_of x.file.symbols name)) m (sum_by room (take (place_of name names) names)) (room name) (c.size + c.size % 2)
-        (base_in x.file.header (total BssSeg os) BssSeg) (total BssSeg (take i os)) n bss_base (ap (λ (s : Segment). base_in x.file.header (total BssSeg os) s + total s (take i os) + n) (sym same) ∙ e)
+        far data_end (sum_by room names) (value_in (entry_of x.file.symbols name)) m
+        (sum_by room (take (place_of name names) names)) (room name) (c.size + c.size % 2)
+        (base_in x.file.header (total BssSeg os) BssSeg) (total BssSeg (take i os)) n bss_base
+        (ap (λ (s : Segment). base_in x.file.header (total BssSeg os) s + total s (take i os) + n) (sym same) ∙ e)
         b.value b.room_is c.inside (unit_inside room names (place_of name names) name b.known)
       where
         far : (e all v m t r s base before n : ℕ) → base ≡ e + all → base + before + n ≡ v + m → v ≡ e + t → r ≡ s → m < s → t + r ≤ all → ⊥
         far e all v m t r s base before n f q g h k l = omega arith
 
-    apart_in : (one two : Place) → IsPlaceOf forced os one → IsPlaceOf forced os two → segment_at one ≡ segment_at two → address_at x.file os one ≡ address_at x.file os two → one ≡ two
+    apart_in : (one two : Place) → IsPlaceOf forced os one → IsPlaceOf forced os two → segment_at one ≡ segment_at two →
+        address_at x.file os one ≡ address_at x.file os two → one ≡ two
     apart_in (of_object i segment n) (of_object j segment_too m) is is_too same e =
-        let there : base_in x.file.header (total BssSeg os) segment + total segment (take i os) + n ≡ base_in x.file.header (total BssSeg os) segment + total segment (take j os) + m =
+        let there : base_in x.file.header (total BssSeg os) segment + total segment (take i os) + n
+        ≡ base_in x.file.header (total BssSeg os) segment + total segment (take j os) + m =
         e ∙ ap (λ (s : Segment). base_in x.file.header (total BssSeg os) s + total s (take j os) + m) (sym same) in
         let inside : m < size_of segment is_too.object = subst (λ (s : Segment). m < size_of s is_too.object) (sym same) is_too.inside in
         let r = one_unit (size_of segment) os i j is.object is_too.object n m is.is is_too.is is.inside inside
@@ -209,12 +235,16 @@ module _ (forced : List (List ℕ)) (os : List Contents) (o : Choices) (x : Outc
         without : (b t n u m : ℕ) → b + t + n ≡ b + u + m → t + n ≡ u + m
         without b t n u m f = omega arith
     apart_in (of_object i segment n) (of_common name m) is is_too same e = absurd (object_or_common i segment n name m is_too same e)
-    apart_in (of_common name m) (of_object i segment n) is is_too same e = absurd (object_or_common i segment n name m is (sym same) (sym e))
+    apart_in (of_common name m) (of_object i segment n) is is_too same e =
+        absurd (object_or_common i segment n name m is (sym same) (sym e))
     apart_in (of_common name n) (of_common other m) is is_too same e =
         let b = begins name is.size is.is in
         let c = begins other is_too.size is_too.is in
-        let r = one_unit room names (place_of name names) (place_of other names) name other n m b.known c.known (less n (room name) (is.size + is.size % 2) b.room_is is.inside) (less m (room other) (is_too.size + is_too.size % 2) c.room_is is_too.inside)
-        (without data_end (sum_by room (take (place_of name names) names)) n (sum_by room (take (place_of other names) names)) m (value_in (entry_of x.file.symbols name)) (value_in (entry_of x.file.symbols other)) b.value c.value e) in
+        let r = one_unit room names (place_of name names) (place_of other names) name other n m b.known c.known
+        (less n (room name) (is.size + is.size % 2) b.room_is is.inside)
+        (less m (room other) (is_too.size + is_too.size % 2) c.room_is is_too.inside)
+        (without data_end (sum_by room (take (place_of name names) names)) n (sum_by room (take (place_of other names) names))
+        m (value_in (entry_of x.file.symbols name)) (value_in (entry_of x.file.symbols other)) b.value c.value e) in
         let named : name ≡ other = same_Some name other (sym b.known ∙ ap (λ (q : ℕ). slice_get names q) r.0 ∙ c.known) in
         λ q. of_common (named q) (r.1 q)
       where
@@ -224,25 +254,31 @@ module _ (forced : List (List ℕ)) (os : List Contents) (o : Choices) (x : Outc
         without : (d t n u m v w : ℕ) → v ≡ d + t → w ≡ d + u → v + n ≡ w + m → t + n ≡ u + m
         without d t n u m v w f g h = omega arith
 
-    lie_apart : (one two : Place) (space : Space) (address : ℕ) → LiesAt forced os x.file one space address → LiesAt forced os x.file two space address → one ≡ two
+    lie_apart : (one two : Place) (space : Space) (address : ℕ) → LiesAt forced os x.file one space address →
+        LiesAt forced os x.file two space address → one ≡ two
     lie_apart one two space address l k =
-        apart_in one two l.is k.is (segments_apart x.file.header space (segment_at one) (segment_at two) address (place_in one space address l) (place_in two space address k)) (sym l.at ∙ k.at)
+        apart_in one two l.is k.is (segments_apart x.file.header space (segment_at one) (segment_at two) address
+        (place_in one space address l) (place_in two space address k)) (sym l.at ∙ k.at)
 
     -- each byte has a place
 
     full : HoldsObjects x.file os
     full = objects_fill forced os o x good linked
 
-    of_segment : (segment : Segment) (space : Space) (address : ℕ) → base_in x.file.header (total BssSeg os) segment ≡ first_address x.file.header segment → bytes_of x.file.header segment ≡ total segment os →
+    of_segment : (segment : Segment) (space : Space) (address : ℕ) → base_in x.file.header (total BssSeg os) segment
+        ≡ first_address x.file.header segment → bytes_of x.file.header segment ≡ total segment os →
         is_in x.file.header space segment address ≡ true → (place : Place) × LiesAt forced os x.file place space address
     of_segment segment space address start size inside =
         let w = within x.file.header space segment address inside in
-        let u = unit_at (size_of segment) os (address - first_address x.file.header segment) (below address (first_address x.file.header segment) (bytes_of x.file.header segment) (total segment os) w.from w.before size) in (
+        let u = unit_at (size_of segment) os (address - first_address x.file.header segment) (below address
+        (first_address x.file.header segment) (bytes_of x.file.header segment) (total segment os) w.from w.before size) in (
           of_object u.i segment u.j,
           record {
             is = record { object = u.element; is = u.is; inside = u.inside };
             «in» = w.has;
-            at = sums address (first_address x.file.header segment) (base_in x.file.header (total BssSeg os) segment) (total segment (take u.i os)) u.j w.from start u.place;
+            at =
+                sums address (first_address x.file.header segment) (base_in x.file.header (total BssSeg os) segment)
+                (total segment (take u.i os)) u.j w.from start u.place;
           },
         )
       where
@@ -256,21 +292,30 @@ module _ (forced : List (List ℕ)) (os : List Contents) (o : Choices) (x : Outc
     is_common : (name : List ℕ) (j : ℕ) → j < room name → (size : ℕ) × (IsCommon forced os name size) × (room name ≡ size + size % 2)
     is_common name j h = by_state (state ms name) refl (has_state ms name) h
       where
-        by_state : (st : State) → state ms name ≡ st → HasState ms name st → j < common_size (state ms name) → (size : ℕ) × (IsCommon forced os name size) × (room name ≡ size + size % 2)
+        by_state : (st : State) → state ms name ≡ st → HasState ms name st → j < common_size (state ms name) →
+            (size : ℕ) × (IsCommon forced os name size) × (room name ≡ size + size % 2)
         by_state (Defined segment offset) e has h = absurd (let none : common_size (state ms name) ≡ 0 = ap common_size e in omega arith)
-        by_state (Wanted size) e has h = (size, record { wanted = subst (λ (st : State). HasState ms name st) e (has_state ms name); sized = by_test (eqb size 0) refl }, ap common_size e)
+        by_state (Wanted size) e has h = (
+          size,
+          record { wanted = subst (λ (st : State). HasState ms name st) e (has_state ms name); sized = by_test (eqb size 0) refl },
+          ap common_size e,
+        )
           where
             by_test : (t : Bool) → eqb size 0 ≡ t → t ≡ false
             by_test false f = refl
-            by_test true f = absurd (let zero_is : size ≡ 0 = eqb-true size 0 f in let none : common_size (state ms name) ≡ size + size % 2 = ap common_size e in omega arith)
+            by_test true f =
+                absurd (let zero_is : size ≡ 0 = eqb-true size 0 f in
+                let none : common_size (state ms name) ≡ size + size % 2 = ap common_size e in omega arith)
 
-    of_bss : (space : Space) (address : ℕ) → is_in x.file.header space BssSeg address ≡ true → (place : Place) × LiesAt forced os x.file place space address
+    of_bss : (space : Space) (address : ℕ) → is_in x.file.header space BssSeg address ≡ true →
+        (place : Place) × LiesAt forced os x.file place space address
     of_bss space address inside = by_test (nat_lt (address - data_end) (sum_by room names)) refl
       where
         w : IsWithin x.file.header space BssSeg address
         w = within x.file.header space BssSeg address inside
 
-        by_test : (t : Bool) → nat_lt (address - data_end) (sum_by room names) ≡ t → (place : Place) × LiesAt forced os x.file place space address
+        by_test : (t : Bool) → nat_lt (address - data_end) (sum_by room names) ≡ t →
+            (place : Place) × LiesAt forced os x.file place space address
         by_test true e =
             let u = unit_at room names (address - data_end) (ltb-true (address - data_end) (sum_by room names) e) in
             let c = is_common u.element u.j u.inside in
@@ -280,7 +325,9 @@ module _ (forced : List (List ℕ)) (os : List Contents) (o : Choices) (x : Outc
               record {
                 is = record { size = c.0; is = c.1; inside = less u.j (room u.element) (c.0 + c.0 % 2) c.2 u.inside };
                 «in» = w.has;
-                at = sums address data_end (sum_by room (take u.i names)) u.j (value_in (entry_of x.file.symbols u.element)) w.from u.place (b.value ∙ ap (λ (q : ℕ). data_end + sum_by room (take q names)) same);
+                at =
+                    sums address data_end (sum_by room (take u.i names)) u.j (value_in (entry_of x.file.symbols u.element))
+                    w.from u.place (b.value ∙ ap (λ (q : ℕ). data_end + sum_by room (take q names)) same);
               },
             )
           where
@@ -291,12 +338,16 @@ module _ (forced : List (List ℕ)) (os : List Contents) (o : Choices) (x : Outc
             sums a d t j v f g h = omega arith
         by_test false e =
             let u = unit_at (size_of BssSeg) os (address - data_end - sum_by room names)
-            (below address data_end (sum_by room names) (total BssSeg os) x.file.header.bss_size w.from w.before bss_is (ltb-false (address - data_end) (sum_by room names) e)) in (
+            (below address data_end (sum_by room names) (total BssSeg os) x.file.header.bss_size w.from w.before bss_is
+            (ltb-false (address - data_end) (sum_by room names) e)) in (
               of_object u.i BssSeg u.j,
               record {
                 is = record { object = u.element; is = u.is; inside = u.inside };
                 «in» = w.has;
-                at = sums address data_end (sum_by room names) (total BssSeg (take u.i os)) u.j (base_in x.file.header (total BssSeg os) BssSeg) w.from (ltb-false (address - data_end) (sum_by room names) e) u.place bss_base;
+                at =
+                    sums address data_end (sum_by room names) (total BssSeg (take u.i os)) u.j
+                    (base_in x.file.header (total BssSeg os) BssSeg) w.from
+                    (ltb-false (address - data_end) (sum_by room names) e) u.place bss_base;
               },
             )
           where
@@ -306,10 +357,12 @@ module _ (forced : List (List ℕ)) (os : List Contents) (o : Choices) (x : Outc
             sums : (a d r t j b : ℕ) → d ≤ a → r ≤ a - d → a - d - r ≡ t + j → b ≡ d + r → a ≡ b + t + j
             sums a d r t j b f g h k = omega arith
 
-    has_place : (space : Space) (address byte : ℕ) → core x.file space address ≡ Some byte → (place : Place) × LiesAt forced os x.file place space address
+    has_place : (space : Space) (address byte : ℕ) → core x.file space address ≡ Some byte →
+        (place : Place) × LiesAt forced os x.file place space address
     has_place space address byte e = by_case (core_back x.file space address byte e)
       where
-        by_case : IsByteOf x.file space address byte TextSeg ⊎ (IsByteOf x.file space address byte DataSeg ⊎ IsByteOf x.file space address byte BssSeg) → (place : Place) × LiesAt forced os x.file place space address
+        by_case : IsByteOf x.file space address byte TextSeg ⊎ (IsByteOf x.file space address byte DataSeg
+            ⊎ IsByteOf x.file space address byte BssSeg) → (place : Place) × LiesAt forced os x.file place space address
         by_case (inl b) = of_segment TextSeg space address refl full.text b.in
         by_case (inr (inl b)) = of_segment DataSeg space address refl full.data b.in
         by_case (inr (inr b)) = of_bss space address b.in

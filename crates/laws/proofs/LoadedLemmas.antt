@@ -1,5 +1,6 @@
 -- What a link puts into the core: words, zeros, and nothing else.
-use Rattle.std.proofs.Common.{◌≡◌, ◌≢◌, ℕ, zero, suc, ◌+◌, ◌-◌, ◌*◌, ◌/◌, ◌%◌, ◌<◌, ◌≤◌, ◌⊎◌, inl, inr, Bool, true, false, cond, eqb, List, [], ◌∷◌, ◌++◌, length, Some, refl, sym, ◌∙◌, ap, subst, arith}
+use Rattle.std.proofs.Common.{◌≡◌, ◌≢◌, ℕ, zero, suc, ◌+◌, ◌-◌, ◌*◌, ◌/◌, ◌%◌, ◌<◌, ◌≤◌, ◌⊎◌, inl, inr, Bool, true}
+use Rattle.std.proofs.Common.{false, cond, eqb, List, [], ◌∷◌, ◌++◌, length, Some, refl, sym, ◌∙◌, ap, subst, arith}
 use Rattle.std.specs.Prelude.{slice_get, nat_lt, Ok}
 use Rattle.std.specs.List.{AllByRecursion}
 use Rattle.std.proofs.lemmas.List.Sums.{sum_by-append}
@@ -37,7 +38,8 @@ use Rattle.link_laws.proofs.RelocatedLemmas.{words_relocated, objects_fill}
 use Rattle.link_laws.proofs.MoveLemmas.{data_begun}
 use Rattle.link_laws.proofs.CommonLemmas.{commons_have_room}
 use Rattle.link_laws.proofs.LinkedTheorem.{linked_exactly}
-use Rattle.laws.specs.Core.{Space, of_instructions, of_data, has_one_space, has_segment, first_address, bytes_of, segment_byte, is_in, core, IsWordAt}
+use Rattle.laws.specs.Core.{Space, of_instructions, of_data, has_one_space, has_segment, first_address}
+use Rattle.laws.specs.Core.{bytes_of, segment_byte, is_in, core, IsWordAt}
 use Rattle.laws.specs.CoreLaws.{space_of, IsPlace, IsLoaded, IsZero, IsOfWord}
 use Rattle.laws.proofs.ByteLemmas.{low_byte, high_byte}
 use Rattle.laws.proofs.CoreLemmas.{IsWithin, within, within_back, core_at, IsByteOf, core_back, one_space}
@@ -60,9 +62,12 @@ module _ (h : Header) (os before : List Contents) (k : Contents) where
   address_of segment n = base_in h (total BssSeg os) segment + total segment before + n
 
   pub place_at : (segment : Segment) → HasPlace segment → (n : ℕ) → IsPlace h os before k segment n (address_of segment n)
-  place_at TextSeg has n = record { sum = refl; symbol = place_sum (own k TextSeg) n (base_in h (total BssSeg os) TextSeg + total TextSeg before) }
-  place_at DataSeg has n = record { sum = refl; symbol = place_sum (own k DataSeg) n (base_in h (total BssSeg os) DataSeg + total DataSeg before) }
-  place_at BssSeg has n = record { sum = refl; symbol = place_sum (own k BssSeg) n (base_in h (total BssSeg os) BssSeg + total BssSeg before) }
+  place_at TextSeg has n =
+      record { sum = refl; symbol = place_sum (own k TextSeg) n (base_in h (total BssSeg os) TextSeg + total TextSeg before) }
+  place_at DataSeg has n =
+      record { sum = refl; symbol = place_sum (own k DataSeg) n (base_in h (total BssSeg os) DataSeg + total DataSeg before) }
+  place_at BssSeg has n =
+      record { sum = refl; symbol = place_sum (own k BssSeg) n (base_in h (total BssSeg os) BssSeg + total BssSeg before) }
   place_at Undefined has n = absurd has
   place_at Absolute has n = absurd has
   place_at Other has n = absurd has
@@ -77,7 +82,8 @@ words_have_place Other has = absurd has
 
 -- the magic of a link
 
-pub magic_is : (forced : List (List ℕ)) (os : List Contents) (o : Choices) (x : Outcome) → link forced os o ≡ Ok x → magic_of o.layout ≡ x.file.header.magic
+pub magic_is : (forced : List (List ℕ)) (os : List Contents) (o : Choices) (x : Outcome) → link forced os o ≡ Ok x →
+    magic_of o.layout ≡ x.file.header.magic
 magic_is forced os o x linked = ap (λ (f : Contents). f.header.magic) (made_file (plan forced os o) os x linked)
 
 found_by : (layout : Layout) (segment : Segment) → HasPlace segment → has_segment (magic_of layout) segment (space_of segment) ≡ true
@@ -94,11 +100,14 @@ found_by layout Undefined has = absurd has
 found_by layout Absolute has = absurd has
 found_by layout Other has = absurd has
 
-found_in : (forced : List (List ℕ)) (os : List Contents) (o : Choices) (x : Outcome) → link forced os o ≡ Ok x → (segment : Segment) → HasPlace segment → has_segment x.file.header.magic segment (space_of segment) ≡ true
-found_in forced os o x linked segment has = ap (λ (m : ℕ). has_segment m segment (space_of segment)) (sym (magic_is forced os o x linked)) ∙ found_by o.layout segment has
+found_in : (forced : List (List ℕ)) (os : List Contents) (o : Choices) (x : Outcome) → link forced os o ≡ Ok x →
+    (segment : Segment) → HasPlace segment → has_segment x.file.header.magic segment (space_of segment) ≡ true
+found_in forced os o x linked segment has =
+    ap (λ (m : ℕ). has_segment m segment (space_of segment)) (sym (magic_is forced os o x linked))
+    ∙ found_by o.layout segment has
 
-pub spaces_are_one : (forced : List (List ℕ)) (os : List Contents) (o : Choices) (x : Outcome) → o.layout ≢ Split → link forced os o ≡ Ok x →
-    (address : ℕ) → core x.file of_instructions address ≡ core x.file of_data address
+pub spaces_are_one : (forced : List (List ℕ)) (os : List Contents) (o : Choices) (x : Outcome) → o.layout ≢ Split →
+    link forced os o ≡ Ok x → (address : ℕ) → core x.file of_instructions address ≡ core x.file of_data address
 spaces_are_one forced os o x apart linked = one_space x.file (ap has_one_space (sym (magic_is forced os o x linked)) ∙ one o.layout apart)
   where
     one : (layout : Layout) → layout ≢ Split → has_one_space (magic_of layout) ≡ true
@@ -108,7 +117,8 @@ spaces_are_one forced os o x apart linked = one_space x.file (ap has_one_space (
 
 -- a word of a segment stands in its core
 module _ (file : Contents) (space : Space) where
-  bytes : (segment : Segment) → HasWords segment → (n w : ℕ) → slice_get (segment_words segment file) n ≡ Some w → (segment_byte file segment (2 * n) ≡ Some (w % 256)) × (segment_byte file segment (2 * n + 1) ≡ Some (w / 256))
+  bytes : (segment : Segment) → HasWords segment → (n w : ℕ) → slice_get (segment_words segment file) n ≡ Some w →
+      (segment_byte file segment (2 * n) ≡ Some (w % 256)) × (segment_byte file segment (2 * n + 1) ≡ Some (w / 256))
   bytes TextSeg has n w e = (low_byte file.text_words n w e, high_byte file.text_words n w e)
   bytes DataSeg has n w e = (low_byte file.data_words n w e, high_byte file.data_words n w e)
   bytes Undefined has n w e = absurd has
@@ -116,7 +126,8 @@ module _ (file : Contents) (space : Space) where
   bytes BssSeg has n w e = absurd has
   bytes Other has n w e = absurd has
 
-  word_there : (segment : Segment) → HasWords segment → has_segment file.header.magic segment space ≡ true → 2 * length (segment_words segment file) ≡ bytes_of file.header segment →
+  word_there : (segment : Segment) → HasWords segment → has_segment file.header.magic segment space ≡ true →
+      2 * length (segment_words segment file) ≡ bytes_of file.header segment →
       (n w : ℕ) → slice_get (segment_words segment file) n ≡ Some w → IsWordAt file space (first_address file.header segment + 2 * n) w
   word_there segment has there long n w e =
       let both = bytes segment has n w e in
@@ -124,11 +135,21 @@ module _ (file : Contents) (space : Space) where
       record {
         low =
             core_at file space (first_address file.header segment + 2 * n) (w % 256) segment
-            (within_back file.header space segment (first_address file.header segment + 2 * n) (record { has = there; from = omega arith; before = low_in (first_address file.header segment) n (length (segment_words segment file)) (bytes_of file.header segment) inside long }))
+            (within_back file.header space segment (first_address file.header segment + 2 * n) (record {
+              has = there;
+              from = omega arith;
+              before = low_in (first_address file.header segment) n (length (segment_words segment file))
+                  (bytes_of file.header segment) inside long;
+            }))
             (ap (λ (m : ℕ). segment_byte file segment m) (back (first_address file.header segment) (2 * n)) ∙ both.0);
         high =
             core_at file space (first_address file.header segment + 2 * n + 1) (w / 256) segment
-            (within_back file.header space segment (first_address file.header segment + 2 * n + 1) (record { has = there; from = omega arith; before = high_in (first_address file.header segment) n (length (segment_words segment file)) (bytes_of file.header segment) inside long }))
+            (within_back file.header space segment (first_address file.header segment + 2 * n + 1) (record {
+              has = there;
+              from = omega arith;
+              before = high_in (first_address file.header segment) n (length (segment_words segment file))
+                  (bytes_of file.header segment) inside long;
+            }))
             (ap (λ (m : ℕ). segment_byte file segment m) (next (first_address file.header segment) (2 * n)) ∙ both.1);
       }
     where
@@ -145,16 +166,24 @@ module _ (file : Contents) (space : Space) where
       high_in f n l s g h = omega arith
 
 -- the objects' words fill whole words
-pub whole_words : (segment : Segment) → HasWords segment → (os : List Contents) → AllByRecursion IsObject os → 2 * (total segment os / 2) ≡ total segment os
-whole_words segment has os good = let e = made_length (λ (earlier : List Contents) (c : Contents) (w : ℕ) (r : Reloc). w) segment has [] os good in omega arith
+pub whole_words : (segment : Segment) → HasWords segment → (os : List Contents) → AllByRecursion IsObject os →
+    2 * (total segment os / 2) ≡ total segment os
+whole_words segment has os good =
+    let e = made_length (λ (earlier : List Contents) (c : Contents) (w : ℕ) (r : Reloc). w) segment has [] os good in
+    omega arith
 
 -- bss is loaded as zeros
-zero_at : (file : Contents) → has_segment file.header.magic BssSeg of_data ≡ true → (address : ℕ) → first_address file.header BssSeg ≤ address → address < first_address file.header BssSeg + file.header.bss_size → core file of_data address ≡ Some 0
-zero_at file has address from before = core_at file of_data address 0 BssSeg (within_back file.header of_data BssSeg address (record { has = has; from = from; before = before })) refl
+zero_at : (file : Contents) → has_segment file.header.magic BssSeg of_data ≡ true → (address : ℕ) →
+    first_address file.header BssSeg ≤ address → address < first_address file.header BssSeg + file.header.bss_size →
+    core file of_data address ≡ Some 0
+zero_at file has address from before =
+    core_at file of_data address 0 BssSeg
+    (within_back file.header of_data BssSeg address (record { has = has; from = from; before = before })) refl
 
 -- a relocated word is loaded
 
-module _ (forced : List (List ℕ)) (os : List Contents) (o : Choices) (x : Outcome) (good : AllByRecursion IsObject os) (linked : link forced os o ≡ Ok x) where
+module _ (forced : List (List ℕ)) (os : List Contents) (o : Choices) (x : Outcome) (good : AllByRecursion IsObject os)
+    (linked : link forced os o ≡ Ok x) where
   full : HoldsObjects x.file os
   full = objects_fill forced os o x good linked
 
@@ -178,7 +207,8 @@ module _ (forced : List (List ℕ)) (os : List Contents) (o : Choices) (x : Outc
     front : AllByRecursion IsObject before
     front = (all_split IsObject before (k ∷ after) (subst (λ (ys : List Contents). AllByRecursion IsObject ys) all good)).0
 
-    pub loaded_word : (rows : List Symbol) (segment : Segment) → HasWords segment → (i w : ℕ) (r : Reloc) → IsRelocated x.file rows os before k segment i w r → IsLoaded x.file rows os before k segment i w r
+    pub loaded_word : (rows : List Symbol) (segment : Segment) → HasWords segment → (i w : ℕ) (r : Reloc) →
+        IsRelocated x.file rows os before k segment i w r → IsLoaded x.file rows os before k segment i w r
     loaded_word rows segment has i w r is =
         let word : ℕ = minus (plus w is.added) (cond (is_pc_relative r) (move_in x.file.header os before k segment) 0) in
         record {
@@ -187,8 +217,10 @@ module _ (forced : List (List ℕ)) (os : List Contents) (o : Choices) (x : Outc
           added = is.added;
           is = is.is;
           word = subst (λ (a : ℕ). IsWordAt x.file (space_of segment) a word)
-              (sums (first_address x.file.header segment) (base_in x.file.header (total BssSeg os) segment) (total segment before) i (start segment has) (whole_words segment has before front))
-              (word_there x.file (space_of segment) segment has (found_in forced os o x linked segment (words_have_place segment has)) (segment_filled segment has) (total segment before / 2 + i) word is.word);
+              (sums (first_address x.file.header segment) (base_in x.file.header (total BssSeg os) segment)
+              (total segment before) i (start segment has) (whole_words segment has before front))
+              (word_there x.file (space_of segment) segment has (found_in forced os o x linked segment
+              (words_have_place segment has)) (segment_filled segment has) (total segment before / 2 + i) word is.word);
         }
       where
         sums : (f b t i : ℕ) → b ≡ f → 2 * (t / 2) ≡ t → f + 2 * (t / 2 + i) ≡ b + t + 2 * i
@@ -196,16 +228,21 @@ module _ (forced : List (List ℕ)) (os : List Contents) (o : Choices) (x : Outc
 
   -- zeros
 
-  pub bss_zero : (before : List Contents) (k : Contents) (after : List Contents) → os ≡ before ++ k ∷ after → (n : ℕ) → n < k.header.bss_size → IsZero x.file os before k n
+  pub bss_zero : (before : List Contents) (k : Contents) (after : List Contents) → os ≡ before ++ k ∷ after → (n : ℕ) →
+      n < k.header.bss_size → IsZero x.file os before k n
   bss_zero before k after all n h =
       let sum : total BssSeg os ≡ total BssSeg before + (0 + k.header.bss_size + total BssSeg after) =
-      ap (λ (ys : List Contents). total BssSeg ys) all ∙ sum_by-append (size_of BssSeg) before (k ∷ after) ∙ ap (λ (m : ℕ). total BssSeg before + m) (sum_by-append (size_of BssSeg) (k ∷ []) after) in
+      ap (λ (ys : List Contents). total BssSeg ys) all ∙ sum_by-append (size_of BssSeg) before (k ∷ after)
+      ∙ ap (λ (m : ℕ). total BssSeg before + m) (sum_by-append (size_of BssSeg) (k ∷ []) after) in
       let address : ℕ = address_of x.file.header os before k BssSeg n in
       record {
         address = address;
         place = place_at x.file.header os before k BssSeg tt n;
-        zero = zero_at x.file (found_in forced os o x linked BssSeg tt) address (over (data_start_in x.file.header + x.file.header.data_size) (x.file.header.bss_size - total BssSeg os) (total BssSeg before) n)
-            (under (data_start_in x.file.header + x.file.header.data_size) x.file.header.bss_size (total BssSeg os) (total BssSeg before) k.header.bss_size (total BssSeg after) n sum full.bss h);
+        zero =
+            zero_at x.file (found_in forced os o x linked BssSeg tt) address (over (data_start_in x.file.header
+            + x.file.header.data_size) (x.file.header.bss_size - total BssSeg os) (total BssSeg before) n)
+            (under (data_start_in x.file.header + x.file.header.data_size) x.file.header.bss_size (total BssSeg os)
+            (total BssSeg before) k.header.bss_size (total BssSeg after) n sum full.bss h);
       }
     where
       over : (e c t n : ℕ) → e ≤ e + c + t + n
@@ -215,14 +252,18 @@ module _ (forced : List (List ℕ)) (os : List Contents) (o : Choices) (x : Outc
       under e b all t s more n f g h = omega arith
 
 -- each byte of a common is a zero
-pub common_zero : (forced : List (List ℕ)) (os : List Contents) (o : Choices) (x : Outcome) → o.keep ≢ Nothing → lays_commons o ≡ true → link forced os o ≡ Ok x →
-    (name : List ℕ) (size : ℕ) → IsCommon forced os name size → (row : Symbol) → entry_of x.file.symbols name ≡ Some row → (n : ℕ) → n < size → core x.file of_data (row.value + n) ≡ Some 0
+pub common_zero : (forced : List (List ℕ)) (os : List Contents) (o : Choices) (x : Outcome) → o.keep ≢ Nothing →
+    lays_commons o ≡ true → link forced os o ≡ Ok x →
+    (name : List ℕ) (size : ℕ) → IsCommon forced os name size → (row : Symbol) →
+    entry_of x.file.symbols name ≡ Some row → (n : ℕ) → n < size → core x.file of_data (row.value + n) ≡ Some 0
 common_zero forced os o x others lays linked name size common row found n h =
     let room : HasRoom x.file os name size = commons_have_room forced os o x others lays linked name size common in
     let same : room.row ≡ row = same_Some room.row row (sym room.found ∙ found) in
     subst (λ (s : Symbol). core x.file of_data (s.value + n) ≡ Some 0) same
-    (zero_at x.file (found_in forced os o x linked BssSeg tt) (room.row.value + n) (over (data_start_in x.file.header + x.file.header.data_size) room.row.value n room.after)
-    (under (data_start_in x.file.header + x.file.header.data_size) x.file.header.bss_size (total BssSeg os) room.row.value size n room.before h))
+    (zero_at x.file (found_in forced os o x linked BssSeg tt) (room.row.value + n)
+    (over (data_start_in x.file.header + x.file.header.data_size) room.row.value n room.after)
+    (under (data_start_in x.file.header + x.file.header.data_size) x.file.header.bss_size
+    (total BssSeg os) room.row.value size n room.before h))
   where
     over : (e v n : ℕ) → e ≤ v → e ≤ v + n
     over e v n f = omega arith
@@ -255,8 +296,10 @@ part_at segment (k ∷ ks) n h = by_test (nat_lt n (size_of segment k)) refl (pa
     sums : (n s b j all : ℕ) → s ≤ n → n - s ≡ b + j → all ≡ 0 + s + b → n ≡ all + j
     sums n s b j all f g e = omega arith
 
-    by_test : (t : Bool) → nat_lt n (size_of segment k) ≡ t → (n - size_of segment k < total segment ks → IsPart segment ks (n - size_of segment k)) → IsPart segment (k ∷ ks) n
-    by_test true e more = record { before = []; k = k; after = ks; all = refl; j = n; place = omega arith; inside = ltb-true n (size_of segment k) e }
+    by_test : (t : Bool) → nat_lt n (size_of segment k) ≡ t →
+        (n - size_of segment k < total segment ks → IsPart segment ks (n - size_of segment k)) → IsPart segment (k ∷ ks) n
+    by_test true e more =
+        record { before = []; k = k; after = ks; all = refl; j = n; place = omega arith; inside = ltb-true n (size_of segment k) e }
     by_test false e more =
         let beyond : size_of segment k ≤ n = ltb-false n (size_of segment k) e in
         let p = more (rest n (size_of segment k) (total segment ks) (total segment (k ∷ ks)) whole h beyond) in
@@ -266,7 +309,9 @@ part_at segment (k ∷ ks) n h = by_test (nat_lt n (size_of segment k)) refl (pa
           after = p.after;
           all = ap (λ (ys : List Contents). k ∷ ys) p.all;
           j = p.j;
-          place = sums n (size_of segment k) (total segment p.before) p.j (total segment (k ∷ p.before)) beyond p.place (sum_by-append (size_of segment) (k ∷ []) p.before);
+          place =
+              sums n (size_of segment k) (total segment p.before) p.j (total segment (k ∷ p.before)) beyond p.place
+              (sum_by-append (size_of segment) (k ∷ []) p.before);
           inside = p.inside;
         }
 
@@ -275,7 +320,8 @@ element [] i h = absurd (omega arith)
 element (w ∷ ws) zero h = (w, refl)
 element (w ∷ ws) (suc i) h = element ws i (omega arith)
 
-object_long : (segment : Segment) → HasWords segment → (k : Contents) → IsObject k → 2 * length (segment_words segment k) ≡ size_of segment k
+object_long : (segment : Segment) → HasWords segment → (k : Contents) → IsObject k →
+    2 * length (segment_words segment k) ≡ size_of segment k
 object_long TextSeg has k h = h.fits.text
 object_long DataSeg has k h = h.fits.data
 object_long Undefined has k h = absurd has
@@ -284,12 +330,16 @@ object_long BssSeg has k h = absurd has
 object_long Other has k h = absurd has
 
 -- a byte of text or data is of a word of an object
-of_word : (h : Header) (os : List Contents) (space : Space) (segment : Segment) → HasWords segment → AllByRecursion IsObject os → base_in h (total BssSeg os) segment ≡ first_address h segment → bytes_of h segment ≡ total segment os →
-    (address : ℕ) → IsWithin h space segment address → IsOfWord h os space address
+of_word : (h : Header) (os : List Contents) (space : Space) (segment : Segment) → HasWords segment →
+    AllByRecursion IsObject os → base_in h (total BssSeg os) segment ≡ first_address h segment →
+    bytes_of h segment ≡ total segment os → (address : ℕ) → IsWithin h space segment address → IsOfWord h os space address
 of_word h os space segment has good start size address inside =
-    let p = part_at segment os (address - first_address h segment) (below address (first_address h segment) (bytes_of h segment) (total segment os) inside.from inside.before size) in
-    let object : IsObject p.k = (all_split IsObject p.before (p.k ∷ p.after) (subst (λ (ys : List Contents). AllByRecursion IsObject ys) p.all good)).1.0 in
-    let found = element (segment_words segment p.k) (p.j / 2) (half p.j (length (segment_words segment p.k)) (size_of segment p.k) p.inside (object_long segment has p.k object)) in
+    let p = part_at segment os (address - first_address h segment)
+    (below address (first_address h segment) (bytes_of h segment) (total segment os) inside.from inside.before size) in
+    let object : IsObject p.k =
+    (all_split IsObject p.before (p.k ∷ p.after) (subst (λ (ys : List Contents). AllByRecursion IsObject ys) p.all good)).1.0 in
+    let found = element (segment_words segment p.k) (p.j / 2)
+    (half p.j (length (segment_words segment p.k)) (size_of segment p.k) p.inside (object_long segment has p.k object)) in
     record {
       before = p.before;
       k = p.k;
@@ -300,7 +350,9 @@ of_word h os space segment has good start size address inside =
       i = p.j / 2;
       w = found.0;
       word = found.1;
-      at = either address (first_address h segment) (base_in h (total BssSeg os) segment) (total segment p.before) p.j inside.from start p.place;
+      at =
+          either address (first_address h segment) (base_in h (total BssSeg os) segment)
+          (total segment p.before) p.j inside.from start p.place;
     }
   where
     below : (a f s t : ℕ) → f ≤ a → a < f + s → s ≡ t → a - f < t
@@ -323,18 +375,21 @@ of_word h os space segment has good start size address inside =
         by_case (inl h) = inl (omega arith)
         by_case (inr h) = inr (omega arith)
 
-pub nothing_else : (forced : List (List ℕ)) (os : List Contents) (o : Choices) (x : Outcome) → AllByRecursion IsObject os → link forced os o ≡ Ok x →
-    (space : Space) (address byte : ℕ) → core x.file space address ≡ Some byte →
+pub nothing_else : (forced : List (List ℕ)) (os : List Contents) (o : Choices) (x : Outcome) → AllByRecursion IsObject os →
+    link forced os o ≡ Ok x → (space : Space) (address byte : ℕ) → core x.file space address ≡ Some byte →
     IsOfWord x.file.header os space address ⊎ ((is_in x.file.header space BssSeg address ≡ true) × (byte ≡ 0))
 nothing_else forced os o x good linked space address byte e = by_case (core_back x.file space address byte e)
   where
     full : HoldsObjects x.file os
     full = objects_fill forced os o x good linked
 
-    by_case : IsByteOf x.file space address byte TextSeg ⊎ (IsByteOf x.file space address byte DataSeg ⊎ IsByteOf x.file space address byte BssSeg) →
+    by_case : IsByteOf x.file space address byte TextSeg
+        ⊎ (IsByteOf x.file space address byte DataSeg ⊎ IsByteOf x.file space address byte BssSeg) →
         IsOfWord x.file.header os space address ⊎ ((is_in x.file.header space BssSeg address ≡ true) × (byte ≡ 0))
-    by_case (inl b) = inl (of_word x.file.header os space TextSeg tt good refl full.text address (within x.file.header space TextSeg address b.in))
-    by_case (inr (inl b)) = inl (of_word x.file.header os space DataSeg tt good refl full.data address (within x.file.header space DataSeg address b.in))
+    by_case (inl b) =
+        inl (of_word x.file.header os space TextSeg tt good refl full.text address (within x.file.header space TextSeg address b.in))
+    by_case (inr (inl b)) =
+        inl (of_word x.file.header os space DataSeg tt good refl full.data address (within x.file.header space DataSeg address b.in))
     by_case (inr (inr b)) = inr (b.in, same b.reads)
       where
         same : Some 0 ≡ Some byte → byte ≡ 0
@@ -342,15 +397,20 @@ nothing_else forced os o x good linked space address byte e = by_case (core_back
 
 -- no address is after the last
 
-file_short : (forced : List (List ℕ)) (os : List Contents) (o : Choices) (x : Outcome) → link forced os o ≡ Ok x → data_start_in x.file.header + x.file.header.data_size + x.file.header.bss_size ≤ 65535
+file_short : (forced : List (List ℕ)) (os : List Contents) (o : Choices) (x : Outcome) → link forced os o ≡ Ok x →
+    data_start_in x.file.header + x.file.header.data_size + x.file.header.bss_size ≤ 65535
 file_short forced os o x linked =
-    subst (λ (f : Contents). data_start_in f.header + f.header.data_size + f.header.bss_size ≤ 65535) (made_file (plan forced os o) os x linked)
-    (sums (data_base o.layout (total TextSeg os)) (data_start_in (linked_file (plan forced os o) os).header) (total DataSeg os) (commons_laid o (mentions forced os)) (total BssSeg os) (data_begun o.layout (total TextSeg os)) (made_fits (plan forced os o) os x linked))
+    subst (λ (f : Contents). data_start_in f.header + f.header.data_size + f.header.bss_size ≤ 65535)
+    (made_file (plan forced os o) os x linked)
+    (sums (data_base o.layout (total TextSeg os)) (data_start_in (linked_file (plan forced os o) os).header)
+    (total DataSeg os) (commons_laid o (mentions forced os)) (total BssSeg os) (data_begun o.layout (total TextSeg os))
+    (made_fits (plan forced os o) os x linked))
   where
     sums : (a b d c n : ℕ) → a ≡ b → a + d + c + n ≤ 65535 → b + d + (c + n) ≤ 65535
     sums a b d c n e h = omega arith
 
-pub addresses_fit : (forced : List (List ℕ)) (os : List Contents) (o : Choices) (x : Outcome) → link forced os o ≡ Ok x → x.file.header.text_size ≤ 65535 →
+pub addresses_fit : (forced : List (List ℕ)) (os : List Contents) (o : Choices) (x : Outcome) →
+    link forced os o ≡ Ok x → x.file.header.text_size ≤ 65535 →
     (space : Space) (address byte : ℕ) → core x.file space address ≡ Some byte → address < 65535
 addresses_fit forced os o x linked short space address byte e = by_case (core_back x.file space address byte e)
   where
@@ -363,25 +423,32 @@ addresses_fit forced os o x linked short space address byte e = by_case (core_ba
     in_bss : (a d s b : ℕ) → a < d + s + b → d + s + b ≤ 65535 → a < 65535
     in_bss a d s b h k = omega arith
 
-    by_case : IsByteOf x.file space address byte TextSeg ⊎ (IsByteOf x.file space address byte DataSeg ⊎ IsByteOf x.file space address byte BssSeg) → address < 65535
+    by_case : IsByteOf x.file space address byte TextSeg
+        ⊎ (IsByteOf x.file space address byte DataSeg ⊎ IsByteOf x.file space address byte BssSeg) → address < 65535
     by_case (inl b) = in_text address x.file.header.text_size (within x.file.header space TextSeg address b.in).before short
-    by_case (inr (inl b)) = in_data address (data_start_in x.file.header) x.file.header.data_size x.file.header.bss_size (within x.file.header space DataSeg address b.in).before (file_short forced os o x linked)
-    by_case (inr (inr b)) = in_bss address (data_start_in x.file.header) x.file.header.data_size x.file.header.bss_size (within x.file.header space BssSeg address b.in).before (file_short forced os o x linked)
+    by_case (inr (inl b)) =
+        in_data address (data_start_in x.file.header) x.file.header.data_size x.file.header.bss_size
+        (within x.file.header space DataSeg address b.in).before (file_short forced os o x linked)
+    by_case (inr (inr b)) =
+        in_bss address (data_start_in x.file.header) x.file.header.data_size x.file.header.bss_size
+        (within x.file.header space BssSeg address b.in).before (file_short forced os o x linked)
 
 -- each word of a link that keeps symbols is loaded
 
 pub words_loaded : (forced : List (List ℕ)) (before : List Contents) (k : Contents) (after : List Contents) (o : Choices) (x : Outcome) →
     AllByRecursion IsObject (before ++ k ∷ after) → o.keep ≢ Nothing → link forced (before ++ k ∷ after) o ≡ Ok x →
-    (segment : Segment) (i w : ℕ) (r : Reloc) → slice_get (segment_words segment k) i ≡ Some w → slice_get (segment_relocs segment k) i ≡ Some r →
-    IsLoaded x.file x.file.symbols (before ++ k ∷ after) before k segment i w r
+    (segment : Segment) (i w : ℕ) (r : Reloc) → slice_get (segment_words segment k) i ≡ Some w →
+    slice_get (segment_relocs segment k) i ≡ Some r → IsLoaded x.file x.file.symbols (before ++ k ∷ after) before k segment i w r
 words_loaded forced before k after o x good others linked Undefined i w r ew er = absurd (cc)
 words_loaded forced before k after o x good others linked Absolute i w r ew er = absurd (cc)
 words_loaded forced before k after o x good others linked BssSeg i w r ew er = absurd (cc)
 words_loaded forced before k after o x good others linked Other i w r ew er = absurd (cc)
 words_loaded forced before k after o x good others linked TextSeg i w r ew er =
-    loaded_word forced (before ++ k ∷ after) o x good linked before k after refl x.file.symbols TextSeg tt i w r (words_relocated forced before k after o x good others linked TextSeg i w r ew er)
+    loaded_word forced (before ++ k ∷ after) o x good linked before k after refl x.file.symbols TextSeg tt i w r
+    (words_relocated forced before k after o x good others linked TextSeg i w r ew er)
 words_loaded forced before k after o x good others linked DataSeg i w r ew er =
-    loaded_word forced (before ++ k ∷ after) o x good linked before k after refl x.file.symbols DataSeg tt i w r (words_relocated forced before k after o x good others linked DataSeg i w r ew er)
+    loaded_word forced (before ++ k ∷ after) o x good linked before k after refl x.file.symbols DataSeg tt i w r
+    (words_relocated forced before k after o x good others linked DataSeg i w r ew er)
 
 -- only text and data have words
 pub words_there : (segment : Segment) (k : Contents) (i w : ℕ) → slice_get (segment_words segment k) i ≡ Some w → HasWords segment
@@ -393,8 +460,10 @@ words_there BssSeg k i w e = absurd (cc)
 words_there Other k i w e = absurd (cc)
 
 -- each word of a link is relocated by the rows of its relation
-relocated_in : (forced : List (List ℕ)) (os : List Contents) (o : Choices) (x : Outcome) (l : IsLinkedFrom forced os o x) (before : List Contents) (k : Contents) (after : List Contents) → os ≡ before ++ k ∷ after →
-    (segment : Segment) (i w : ℕ) (r : Reloc) → slice_get (segment_words segment k) i ≡ Some w → slice_get (segment_relocs segment k) i ≡ Some r → IsRelocated x.file l.rows os before k segment i w r
+relocated_in : (forced : List (List ℕ)) (os : List Contents) (o : Choices) (x : Outcome) (l : IsLinkedFrom forced os o x)
+    (before : List Contents) (k : Contents) (after : List Contents) → os ≡ before ++ k ∷ after →
+    (segment : Segment) (i w : ℕ) (r : Reloc) → slice_get (segment_words segment k) i ≡ Some w →
+    slice_get (segment_relocs segment k) i ≡ Some r → IsRelocated x.file l.rows os before k segment i w r
 relocated_in forced os o x l before k after all TextSeg i w r ew er = l.text before k after all i w r ew er
 relocated_in forced os o x l before k after all DataSeg i w r ew er = l.data before k after all i w r ew er
 relocated_in forced os o x l before k after all Undefined i w r ew er = absurd (cc)
@@ -404,15 +473,17 @@ relocated_in forced os o x l before k after all Other i w r ew er = absurd (cc)
 
 pub words_of_rows : (forced : List (List ℕ)) (before : List Contents) (k : Contents) (after : List Contents) (o : Choices) (x : Outcome) →
     AllByRecursion IsObject (before ++ k ∷ after) → (l : IsLinkedFrom forced (before ++ k ∷ after) o x) →
-    (segment : Segment) (i w : ℕ) (r : Reloc) → slice_get (segment_words segment k) i ≡ Some w → slice_get (segment_relocs segment k) i ≡ Some r →
-    IsLoaded x.file l.rows (before ++ k ∷ after) before k segment i w r
+    (segment : Segment) (i w : ℕ) (r : Reloc) → slice_get (segment_words segment k) i ≡ Some w →
+    slice_get (segment_relocs segment k) i ≡ Some r → IsLoaded x.file l.rows (before ++ k ∷ after) before k segment i w r
 words_of_rows forced before k after o x good l segment i w r ew er =
     let os = before ++ k ∷ after in
-    loaded_word forced os o x good ((linked_exactly forced os o x good).1 l) before k after refl l.rows segment (words_there segment k i w ew) i w r (relocated_in forced os o x l before k after refl segment i w r ew er)
+    loaded_word forced os o x good ((linked_exactly forced os o x good).1 l) before k after refl l.rows segment
+    (words_there segment k i w ew) i w r (relocated_in forced os o x l before k after refl segment i w r ew er)
 
 -- neither magic, sizes nor words depend on the symbols that are kept
 pub kept_loaded : (forced : List (List ℕ)) (os : List Contents) (o : Choices) (keep : Keep) (x y : Outcome) →
-    link forced os o ≡ Ok x → link forced os (record o { keep = keep }) ≡ Ok y → (space : Space) (address : ℕ) → core y.file space address ≡ core x.file space address
+    link forced os o ≡ Ok x → link forced os (record o { keep = keep }) ≡ Ok y → (space : Space) (address : ℕ) →
+    core y.file space address ≡ core x.file space address
 kept_loaded forced os o keep x y linked other space address =
     sym (ap (λ (f : Contents). core f space address) (made_file (plan forced os (record o { keep = keep })) os y other))
     ∙ ap (λ (f : Contents). core f space address) (made_file (plan forced os o) os x linked)

@@ -3,7 +3,8 @@ use Rattle.std.proofs.Common.{◌≡◌, ℕ, Bool, true, false, cond, ◌&&◌,
 use Rattle.std.specs.Prelude.{bytes_eq, filter}
 use Rattle.std.specs.List.Sorted.{IsPermutation}
 use Rattle.std.proofs.lemmas.Bool.{or_left, or_right, or_parts}
-use Rattle.std.proofs.lemmas.List.Sorted.{IsPermutation-refl, IsPermutation-sym, IsPermutation-trans, IsPermutation-cons, IsPermutation-middle}
+use Rattle.std.proofs.lemmas.List.Sorted.{IsPermutation-refl, IsPermutation-sym, IsPermutation-trans}
+use Rattle.std.proofs.lemmas.List.Sorted.{IsPermutation-cons, IsPermutation-middle}
 use Rattle.std.proofs.lemmas.Slice.Eq.{bytes_eq-Decides}
 use Rattle.tool_options.specs.NameLists.{is_among, new_names}
 use Rattle.tool_options.proofs.NameListLemmas.{is_among-append}
@@ -30,7 +31,8 @@ around (y ∷ ys) x h = by_test (bytes_eq x y) refl h (around ys x)
   where
     by_test : (t : Bool) → bytes_eq x y ≡ t → (t || is_among ys x) ≡ true → (is_among ys x ≡ true → IsAround ys x) → IsAround (y ∷ ys) x
     by_test true e h rest = let same : x ≡ y = (bytes_eq-Decides x y).0 e in record { front = []; back = ys; all = λ i. sym same i ∷ ys }
-    by_test false e h rest = let r = rest h in record { front = y ∷ r.front; back = r.back; all = ap (λ (ns : List (List ℕ)). y ∷ ns) r.all }
+    by_test false e h rest =
+        let r = rest h in record { front = y ∷ r.front; back = r.back; all = ap (λ (ns : List (List ℕ)). y ∷ ns) r.all }
 
 -- without the name in the middle, no name stands twice, and that one not at all
 record IsLeft (front back : List (List ℕ)) (x : List ℕ) : Type 0 where
@@ -51,13 +53,15 @@ left_over (y ∷ front) back x h =
     }
 
 -- without it, both have the same names
-same_left : (xs front back : List (List ℕ)) (x : List ℕ) → is_among xs x ≡ false → is_among (front ++ back) x ≡ false → HaveSame (x ∷ xs) (front ++ x ∷ back) → HaveSame xs (front ++ back)
+same_left : (xs front back : List (List ℕ)) (x : List ℕ) → is_among xs x ≡ false → is_among (front ++ back) x ≡ false →
+    HaveSame (x ∷ xs) (front ++ x ∷ back) → HaveSame xs (front ++ back)
 same_left xs front back x none gone same n = by_test (bytes_eq n x) refl (same n ∙ is_among-append front (x ∷ back) n)
   where
     middle : (a b : Bool) → (a || (false || b)) ≡ (a || b)
     middle a b = refl
 
-    by_test : (t : Bool) → bytes_eq n x ≡ t → (t || is_among xs n) ≡ (is_among front n || (t || is_among back n)) → is_among xs n ≡ is_among (front ++ back) n
+    by_test : (t : Bool) → bytes_eq n x ≡ t → (t || is_among xs n) ≡ (is_among front n || (t || is_among back n)) →
+        is_among xs n ≡ is_among (front ++ back) n
     by_test true e h =
         let is : n ≡ x = (bytes_eq-Decides n x).0 e in
         ap (λ (m : List ℕ). is_among xs m) is ∙ none ∙ sym gone ∙ ap (λ (m : List ℕ). is_among (front ++ back) m) (sym is)
@@ -70,9 +74,11 @@ reordered [] (y ∷ ys) ex ey same = absurd (let bad : false ≡ true = same y �
 reordered (x ∷ xs) ys ex ey same =
     let a = around ys x (sym (same x) ∙ or_left (bytes_eq x x) (is_among xs x) (own_name x)) in
     let l = left_over a.front a.back x (subst AreOnce a.all ey) in
-    let rest = reordered xs (a.front ++ a.back) ex.1 l.once (same_left xs a.front a.back x ex.0 l.gone (λ n. same n ∙ ap (λ (ns : List (List ℕ)). is_among ns n) a.all)) in
+    let rest = reordered xs (a.front ++ a.back) ex.1 l.once
+    (same_left xs a.front a.back x ex.0 l.gone (λ n. same n ∙ ap (λ (ns : List (List ℕ)). is_among ns n) a.all)) in
     IsPermutation-trans (x ∷ xs) (x ∷ (a.front ++ a.back)) ys (IsPermutation-cons x xs (a.front ++ a.back) rest)
-    (IsPermutation-sym ys (x ∷ (a.front ++ a.back)) (subst (λ (ns : List (List ℕ)). IsPermutation ns (x ∷ (a.front ++ a.back))) (sym a.all) (IsPermutation-middle a.front x a.back)))
+    (IsPermutation-sym ys (x ∷ (a.front ++ a.back))
+    (subst (λ (ns : List (List ℕ)). IsPermutation ns (x ∷ (a.front ++ a.back))) (sym a.all) (IsPermutation-middle a.front x a.back)))
 
 -- the names kept by a test
 kept_among : (t : List ℕ → Bool) (xs : List (List ℕ)) (n : List ℕ) → is_among (filter t xs) n ≡ (t n && is_among xs n)
@@ -83,8 +89,8 @@ kept_among t [] n = by_test (t n)
     by_test false = refl
 kept_among t (x ∷ xs) n = by_tests (t x) refl (bytes_eq n x) refl (t n) refl (kept_among t xs n)
   where
-    by_tests : (a : Bool) → t x ≡ a → (u : Bool) → bytes_eq n x ≡ u → (b : Bool) → t n ≡ b → is_among (filter t xs) n ≡ (b && is_among xs n) →
-        is_among (cond a (x ∷ filter t xs) (filter t xs)) n ≡ (b && (u || is_among xs n))
+    by_tests : (a : Bool) → t x ≡ a → (u : Bool) → bytes_eq n x ≡ u → (b : Bool) → t n ≡ b → is_among (filter t xs) n
+        ≡ (b && is_among xs n) → is_among (cond a (x ∷ filter t xs) (filter t xs)) n ≡ (b && (u || is_among xs n))
     by_tests true ta true te true tb rest = or_left (bytes_eq n x) (is_among (filter t xs) n) te
     by_tests true ta true te false tb rest = absurd (let bad : true ≡ false = sym ta ∙ ap t (sym ((bytes_eq-Decides n x).0 te)) ∙ tb in cc)
     by_tests true ta false te b tb rest = ap (λ (u : Bool). u || is_among (filter t xs) n) te ∙ rest
@@ -105,20 +111,25 @@ kept_once t (x ∷ xs) h = by_test (t x) (kept_once t xs h.1)
     by_test false rest = rest
 
 -- the same test keeps the same names of both
-pub kept_reordered : (t : List ℕ → Bool) (xs ys : List (List ℕ)) → AreOnce xs → AreOnce ys → HaveSame xs ys → IsPermutation (filter t xs) (filter t ys)
+pub kept_reordered : (t : List ℕ → Bool) (xs ys : List (List ℕ)) → AreOnce xs → AreOnce ys → HaveSame xs ys →
+    IsPermutation (filter t xs) (filter t ys)
 kept_reordered t xs ys ex ey same =
-    reordered (filter t xs) (filter t ys) (kept_once t xs ex) (kept_once t ys ey) (λ n. kept_among t xs n ∙ ap (λ (b : Bool). t n && b) (same n) ∙ sym (kept_among t ys n))
+    reordered (filter t xs) (filter t ys) (kept_once t xs ex) (kept_once t ys ey)
+    (λ n. kept_among t xs n ∙ ap (λ (b : Bool). t n && b) (same n) ∙ sym (kept_among t ys n))
 
 -- new names are not among those seen, and stand once
 not_new : (seen xs : List (List ℕ)) (n : List ℕ) → is_among seen n ≡ true → is_among (new_names seen xs) n ≡ false
 not_new seen [] n h = refl
-not_new seen (x ∷ xs) n h = by_test (is_among seen x) refl (not_new (seen ++ x ∷ []) xs n (is_among-append seen (x ∷ []) n ∙ or_left (is_among seen n) (is_among (x ∷ []) n) h))
+not_new seen (x ∷ xs) n h =
+    by_test (is_among seen x) refl
+    (not_new (seen ++ x ∷ []) xs n (is_among-append seen (x ∷ []) n ∙ or_left (is_among seen n) (is_among (x ∷ []) n) h))
   where
     other : (t : Bool) → bytes_eq n x ≡ t → is_among seen x ≡ false → t ≡ false
     other true e f = absurd (let bad : true ≡ false = sym h ∙ ap (λ (m : List ℕ). is_among seen m) ((bytes_eq-Decides n x).0 e) ∙ f in cc)
     other false e f = refl
 
-    by_test : (t : Bool) → is_among seen x ≡ t → is_among (new_names (seen ++ x ∷ []) xs) n ≡ false → is_among (cond t (new_names (seen ++ x ∷ []) xs) (x ∷ new_names (seen ++ x ∷ []) xs)) n ≡ false
+    by_test : (t : Bool) → is_among seen x ≡ t → is_among (new_names (seen ++ x ∷ []) xs) n ≡ false →
+        is_among (cond t (new_names (seen ++ x ∷ []) xs) (x ∷ new_names (seen ++ x ∷ []) xs)) n ≡ false
     by_test true e rest = rest
     by_test false e rest = λ i. other (bytes_eq n x) refl e i || rest i
 
@@ -126,6 +137,11 @@ pub new_once : (seen xs : List (List ℕ)) → AreOnce (new_names seen xs)
 new_once seen [] = tt
 new_once seen (x ∷ xs) = by_test (is_among seen x) (new_once (seen ++ x ∷ []) xs)
   where
-    by_test : (t : Bool) → AreOnce (new_names (seen ++ x ∷ []) xs) → AreOnce (cond t (new_names (seen ++ x ∷ []) xs) (x ∷ new_names (seen ++ x ∷ []) xs))
+    by_test : (t : Bool) → AreOnce (new_names (seen ++ x ∷ []) xs) →
+        AreOnce (cond t (new_names (seen ++ x ∷ []) xs) (x ∷ new_names (seen ++ x ∷ []) xs))
     by_test true rest = rest
-    by_test false rest = (not_new (seen ++ x ∷ []) xs x (is_among-append seen (x ∷ []) x ∙ or_right (is_among seen x) (is_among (x ∷ []) x) (or_left (bytes_eq x x) false (own_name x))), rest)
+    by_test false rest = (
+      not_new (seen ++ x ∷ []) xs x (is_among-append seen (x ∷ []) x
+          ∙ or_right (is_among seen x) (is_among (x ∷ []) x) (or_left (bytes_eq x x) false (own_name x))),
+      rest,
+    )

@@ -1,5 +1,6 @@
 -- What words of a linked program find, beside what they find in their objects.
-use Rattle.std.proofs.Common.{◌≡◌, ◌≢◌, ℕ, ◌+◌, ◌*◌, ◌-◌, ◌%◌, ◌<◌, ◌≤◌, Bool, true, false, cond, not, ◌||◌, eqb, List, [], ◌∷◌, ◌++◌, Option, Some, None, refl, sym, ◌∙◌, ap, subst, arith}
+use Rattle.std.proofs.Common.{◌≡◌, ◌≢◌, ℕ, ◌+◌, ◌*◌, ◌-◌, ◌%◌, ◌<◌, ◌≤◌, Bool, true, false, cond, not, ◌||◌, eqb, List}
+use Rattle.std.proofs.Common.{[], ◌∷◌, ◌++◌, Option, Some, None, refl, sym, ◌∙◌, ap, subst, arith}
 use Rattle.std.specs.Prelude.{slice_get, bytes_eq, Ok}
 use Rattle.std.specs.List.{AllByRecursion}
 use Rattle.std.proofs.lemmas.List.Sums.{sum_by-append}
@@ -47,7 +48,8 @@ use Rattle.laws.proofs.LoadedLemmas.{address_of, place_at, words_there, words_lo
 
 -- sums
 
-by_pc : (pc : Bool) (start own n w more : ℕ) → operand pc (start + n) (minus (plus w more) (cond pc (minus start own) 0)) ≡ plus more (operand pc (own + n) w)
+by_pc : (pc : Bool) (start own n w more : ℕ) →
+    operand pc (start + n) (minus (plus w more) (cond pc (minus start own) 0)) ≡ plus more (operand pc (own + n) w)
 by_pc true start own n w more = beside start own n w more
   where
     beside : (start own n w more : ℕ) → plus (start + n + 2) (minus (plus w more) (minus start own)) ≡ plus more (plus (own + n + 2) w)
@@ -59,13 +61,16 @@ by_pc false start own n w more = alone w more
 
 -- a word that is loaded finds more by what was added to it
 module _ (file : Contents) (rows : List Symbol) (os before : List Contents) (k : Contents) where
-  pub loaded_finds : (segment : Segment) → HasWords segment → (i w : ℕ) (r : Reloc) (l : IsLoaded file rows os before k segment i w r) → FindsMore file os before k segment i w r l.added
+  pub loaded_finds : (segment : Segment) → HasWords segment → (i w : ℕ) (r : Reloc)
+      (l : IsLoaded file rows os before k segment i w r) → FindsMore file os before k segment i w r l.added
   loaded_finds TextSeg has i w r l = record {
     address = l.address;
     place = l.place;
     word = minus (plus w l.added) (cond (is_pc_relative r) (move_in file.header os before k TextSeg) 0);
     stands = l.word;
-    finds = ap (λ (a : ℕ). operand (is_pc_relative r) a (minus (plus w l.added) (cond (is_pc_relative r) (move_in file.header os before k TextSeg) 0))) l.place.sum
+    finds =
+        ap (λ (a : ℕ). operand (is_pc_relative r) a
+        (minus (plus w l.added) (cond (is_pc_relative r) (move_in file.header os before k TextSeg) 0))) l.place.sum
         ∙ by_pc (is_pc_relative r) (base_in file.header (total BssSeg os) TextSeg + total TextSeg before) (own k TextSeg) (2 * i) w l.added;
   }
   loaded_finds DataSeg has i w r l = record {
@@ -73,7 +78,9 @@ module _ (file : Contents) (rows : List Symbol) (os before : List Contents) (k :
     place = l.place;
     word = minus (plus w l.added) (cond (is_pc_relative r) (move_in file.header os before k DataSeg) 0);
     stands = l.word;
-    finds = ap (λ (a : ℕ). operand (is_pc_relative r) a (minus (plus w l.added) (cond (is_pc_relative r) (move_in file.header os before k DataSeg) 0))) l.place.sum
+    finds =
+        ap (λ (a : ℕ). operand (is_pc_relative r) a
+        (minus (plus w l.added) (cond (is_pc_relative r) (move_in file.header os before k DataSeg) 0))) l.place.sum
         ∙ by_pc (is_pc_relative r) (base_in file.header (total BssSeg os) DataSeg + total DataSeg before) (own k DataSeg) (2 * i) w l.added;
   }
   loaded_finds Undefined has i w r l = absurd has
@@ -86,8 +93,10 @@ module _ (file : Contents) (rows : List Symbol) (os before : List Contents) (k :
 reserved_written : (b : Bases) (name : List ℕ) → (reserved_or_waiting b name).address ≡ (reserved_or_waiting b name).written
 reserved_written b name = by_tests (bytes_eq name etext) (bytes_eq name edata) (bytes_eq name end_name)
   where
-    by_tests : (t d e : Bool) → (cond t (bound_at TextSeg b.text_end) (cond d (bound_at DataSeg b.data_end) (cond e (bound_at BssSeg b.bss_end) (waiting 0)))).address
-        ≡ (cond t (bound_at TextSeg b.text_end) (cond d (bound_at DataSeg b.data_end) (cond e (bound_at BssSeg b.bss_end) (waiting 0)))).written
+    by_tests : (t d e : Bool) → (cond t (bound_at TextSeg b.text_end)
+        (cond d (bound_at DataSeg b.data_end) (cond e (bound_at BssSeg b.bss_end) (waiting 0)))).address
+        ≡ (cond t (bound_at TextSeg b.text_end)
+        (cond d (bound_at DataSeg b.data_end) (cond e (bound_at BssSeg b.bss_end) (waiting 0)))).written
     by_tests true d e = refl
     by_tests false true e = refl
     by_tests false false true = refl
@@ -101,13 +110,19 @@ module _ (forced : List (List ℕ)) (os : List Contents) (o : Choices) (unkept :
   written_by : (name : List ℕ) (st : State) → (final_by p name st).address ≡ (final_by p name st).written
   written_by name (Defined segment offset) = refl
   written_by name (Wanted size) =
-      ap (λ (r : Bool). let f : Final = cond (eqb size 0) (cond o.relocatable (waiting 0) (reserved_or_waiting p.at name)) (cond (not r || o.force_commons) (bound_at BssSeg (plus p.at.data_end (common_offset p.mentions name))) (waiting size)) in f.address) unkept
+      ap (λ (r : Bool). let f : Final = cond (eqb size 0) (cond o.relocatable (waiting 0) (reserved_or_waiting p.at name))
+      (cond (not r || o.force_commons) (bound_at BssSeg (plus p.at.data_end (common_offset p.mentions name))) (waiting size)) in
+      f.address) unkept
       ∙ by_tests (eqb size 0) o.relocatable
-      ∙ sym (ap (λ (r : Bool). let f : Final = cond (eqb size 0) (cond o.relocatable (waiting 0) (reserved_or_waiting p.at name)) (cond (not r || o.force_commons) (bound_at BssSeg (plus p.at.data_end (common_offset p.mentions name))) (waiting size)) in f.written) unkept)
+      ∙ sym (ap (λ (r : Bool). let f : Final = cond (eqb size 0) (cond o.relocatable (waiting 0) (reserved_or_waiting p.at name))
+      (cond (not r || o.force_commons) (bound_at BssSeg (plus p.at.data_end (common_offset p.mentions name))) (waiting size)) in
+      f.written) unkept)
     where
       by_tests : (z r : Bool) →
-          (let f : Final = cond z (cond r (waiting 0) (reserved_or_waiting p.at name)) (bound_at BssSeg (plus p.at.data_end (common_offset p.mentions name))) in f.address)
-          ≡ (let f : Final = cond z (cond r (waiting 0) (reserved_or_waiting p.at name)) (bound_at BssSeg (plus p.at.data_end (common_offset p.mentions name))) in f.written)
+          (let f : Final = cond z (cond r (waiting 0) (reserved_or_waiting p.at name))
+          (bound_at BssSeg (plus p.at.data_end (common_offset p.mentions name))) in f.address)
+          ≡ (let f : Final = cond z (cond r (waiting 0) (reserved_or_waiting p.at name))
+          (bound_at BssSeg (plus p.at.data_end (common_offset p.mentions name))) in f.written)
       by_tests true true = refl
       by_tests true false = reserved_written p.at name
       by_tests false r = refl
@@ -115,16 +130,19 @@ module _ (forced : List (List ℕ)) (os : List Contents) (o : Choices) (unkept :
   value_in : (name : List ℕ) → address_in (external_row p name) ≡ (external_row p name).value
   value_in name = row_address forced os o name ∙ written_by name (state (mentions forced os) name)
 
-  value_given : (x : Outcome) → o.keep ≢ Nothing → link forced os o ≡ Ok x → (name : List ℕ) (row : Symbol) → entry_of x.file.symbols name ≡ Some row → address_in row ≡ row.value
+  value_given : (x : Outcome) → o.keep ≢ Nothing → link forced os o ≡ Ok x → (name : List ℕ) (row : Symbol) →
+      entry_of x.file.symbols name ≡ Some row → address_in row ≡ row.value
   value_given x others linked name row found =
-      by_test (is_among (names_by_first_mention (mentions forced os)) name) (sym (entry_in_table p os name others) ∙ ap (λ (f : Contents). entry_of f.symbols name) (made_file p os x linked) ∙ found)
+      by_test (is_among (names_by_first_mention (mentions forced os)) name) (sym (entry_in_table p os name others)
+      ∙ ap (λ (f : Contents). entry_of f.symbols name) (made_file p os x linked) ∙ found)
     where
       by_test : (t : Bool) → cond t (Some (external_row p name)) None ≡ Some row → address_in row ≡ row.value
       by_test true e = let same : external_row p name ≡ row = cc in subst (λ (s : Symbol). address_in s ≡ s.value) same (value_in name)
       by_test false e = absurd (cc)
 
 -- a word that refers to a name finds the address of the name's external symbol more
-pub record FindsAddress (file : Contents) (os before : List Contents) (k : Contents) (segment : Segment) (i w : ℕ) (r : Reloc) : Type 0 where
+pub record FindsAddress (file : Contents) (os before : List Contents) (k : Contents) (segment : Segment) (i w : ℕ)
+    (r : Reloc) : Type 0 where
   pub symbol : Symbol
   pub row : Symbol
   pub named : slice_get k.symbols (symbol_number r) ≡ Some symbol
@@ -133,23 +151,28 @@ pub record FindsAddress (file : Contents) (os before : List Contents) (k : Conte
 
 pub address_found : (forced : List (List ℕ)) (before : List Contents) (k : Contents) (after : List Contents) (o : Choices) (x : Outcome) →
     AllByRecursion IsObject (before ++ k ∷ after) → o.keep ≢ Nothing → link forced (before ++ k ∷ after) o ≡ Ok x →
-    (segment : Segment) (i w : ℕ) (r : Reloc) → slice_get (segment_words segment k) i ≡ Some w → slice_get (segment_relocs segment k) i ≡ Some r →
+    (segment : Segment) (i w : ℕ) (r : Reloc) → slice_get (segment_words segment k) i ≡ Some w →
+    slice_get (segment_relocs segment k) i ≡ Some r →
     kind_of r ≡ Some kinds.External → FindsAddress x.file (before ++ k ∷ after) before k segment i w r
 address_found forced before k after o x good others linked segment i w r ew er kind =
     let os = before ++ k ∷ after in
     let l = words_loaded forced before k after o x good others linked segment i w r ew er in
-    let is : IsAddressOf x.file.symbols k (symbol_number r) l.added = subst (λ (m : Option Kind). IsAdded x.file.header x.file.symbols os before k m (symbol_number r) l.added) kind l.is in
+    let is : IsAddressOf x.file.symbols k (symbol_number r) l.added =
+    subst (λ (m : Option Kind). IsAdded x.file.header x.file.symbols os before k m (symbol_number r) l.added) kind l.is in
     record {
       symbol = is.symbol;
       row = is.row;
       named = is.named;
       found = is.found;
-      more = subst (λ (a : ℕ). FindsMore x.file os before k segment i w r a) is.gives (loaded_finds x.file x.file.symbols os before k segment (words_there segment k i w ew) i w r l);
+      more =
+          subst (λ (a : ℕ). FindsMore x.file os before k segment i w r a) is.gives
+          (loaded_finds x.file x.file.symbols os before k segment (words_there segment k i w ew) i w r l);
     }
 
 pub names_found : (forced : List (List ℕ)) (before : List Contents) (k : Contents) (after : List Contents) (o : Choices) (x : Outcome) →
     AllByRecursion IsObject (before ++ k ∷ after) → o.keep ≢ Nothing → o.relocatable ≡ false → link forced (before ++ k ∷ after) o ≡ Ok x →
-    (segment : Segment) (i w : ℕ) (r : Reloc) → slice_get (segment_words segment k) i ≡ Some w → slice_get (segment_relocs segment k) i ≡ Some r →
+    (segment : Segment) (i w : ℕ) (r : Reloc) → slice_get (segment_words segment k) i ≡ Some w →
+    slice_get (segment_relocs segment k) i ≡ Some r →
     kind_of r ≡ Some kinds.External → FindsName x.file (before ++ k ∷ after) before k segment i w r
 names_found forced before k after o x good others unkept linked segment i w r ew er kind =
     let os = before ++ k ∷ after in
@@ -159,29 +182,40 @@ names_found forced before k after o x good others unkept linked segment i w r ew
       row = a.row;
       named = a.named;
       found = a.found;
-      more = subst (λ (n : ℕ). FindsMore x.file os before k segment i w r n) (value_given forced os o unkept x others linked a.symbol.name a.row a.found) a.more;
+      more =
+          subst (λ (n : ℕ). FindsMore x.file os before k segment i w r n)
+          (value_given forced os o unkept x others linked a.symbol.name a.row a.found) a.more;
     }
 
 -- segments
 
-meant_added : (h : Header) (rows : List Symbol) (os before : List Contents) (k : Contents) (kind : Kind) (meant : Segment) (number a : ℕ) → segment_meant kind ≡ Some meant → IsAdded h rows os before k (Some kind) number a → a ≡ move_in h os before k meant
-meant_added h rows os before k kinds.Absolute meant number a e is = is ∙ ap (λ (s : Segment). move_in h os before k s) (same_Some Absolute meant e)
-meant_added h rows os before k kinds.TextSeg meant number a e is = is ∙ ap (λ (s : Segment). move_in h os before k s) (same_Some TextSeg meant e)
-meant_added h rows os before k kinds.DataSeg meant number a e is = is ∙ ap (λ (s : Segment). move_in h os before k s) (same_Some DataSeg meant e)
-meant_added h rows os before k kinds.BssSeg meant number a e is = is ∙ ap (λ (s : Segment). move_in h os before k s) (same_Some BssSeg meant e)
+meant_added : (h : Header) (rows : List Symbol) (os before : List Contents) (k : Contents)
+    (kind : Kind) (meant : Segment) (number a : ℕ) → segment_meant kind ≡ Some meant →
+    IsAdded h rows os before k (Some kind) number a → a ≡ move_in h os before k meant
+meant_added h rows os before k kinds.Absolute meant number a e is =
+    is ∙ ap (λ (s : Segment). move_in h os before k s) (same_Some Absolute meant e)
+meant_added h rows os before k kinds.TextSeg meant number a e is =
+    is ∙ ap (λ (s : Segment). move_in h os before k s) (same_Some TextSeg meant e)
+meant_added h rows os before k kinds.DataSeg meant number a e is =
+    is ∙ ap (λ (s : Segment). move_in h os before k s) (same_Some DataSeg meant e)
+meant_added h rows os before k kinds.BssSeg meant number a e is =
+    is ∙ ap (λ (s : Segment). move_in h os before k s) (same_Some BssSeg meant e)
 meant_added h rows os before k kinds.External meant number a e is = absurd (cc)
 
 pub segments_found : (forced : List (List ℕ)) (before : List Contents) (k : Contents) (after : List Contents) (o : Choices) (x : Outcome) →
     AllByRecursion IsObject (before ++ k ∷ after) → link forced (before ++ k ∷ after) o ≡ Ok x →
-    (segment : Segment) (i w : ℕ) (r : Reloc) → slice_get (segment_words segment k) i ≡ Some w → slice_get (segment_relocs segment k) i ≡ Some r →
+    (segment : Segment) (i w : ℕ) (r : Reloc) → slice_get (segment_words segment k) i ≡ Some w →
+    slice_get (segment_relocs segment k) i ≡ Some r →
     (kind : Kind) (meant : Segment) → kind_of r ≡ Some kind → segment_meant kind ≡ Some meant →
     FindsMore x.file (before ++ k ∷ after) before k segment i w r (move_in x.file.header (before ++ k ∷ after) before k meant)
 segments_found forced before k after o x good linked segment i w r ew er kind meant e m =
     let os = before ++ k ∷ after in
     let from = (linked_exactly forced os o x good).0 linked in
     let l = words_of_rows forced before k after o x good from segment i w r ew er in
-    let is : IsAdded x.file.header from.rows os before k (Some kind) (symbol_number r) l.added = subst (λ (n : Option Kind). IsAdded x.file.header from.rows os before k n (symbol_number r) l.added) e l.is in
-    subst (λ (a : ℕ). FindsMore x.file os before k segment i w r a) (meant_added x.file.header from.rows os before k kind meant (symbol_number r) l.added m is)
+    let is : IsAdded x.file.header from.rows os before k (Some kind) (symbol_number r) l.added =
+    subst (λ (n : Option Kind). IsAdded x.file.header from.rows os before k n (symbol_number r) l.added) e l.is in
+    subst (λ (a : ℕ). FindsMore x.file os before k segment i w r a)
+    (meant_added x.file.header from.rows os before k kind meant (symbol_number r) l.added m is)
     (loaded_finds x.file from.rows os before k segment (words_there segment k i w ew) i w r l)
 
 -- calls
@@ -214,9 +248,11 @@ defined_address row Absolute e = ap (λ (t : ℕ). cond (eqb (t % 32) 0) 0 row.v
 defined_address row Other e = ap (λ (t : ℕ). cond (eqb (t % 32) 0) 0 row.value) e
 
 -- a byte of an object is in its segment of the program
-pub byte_in : (forced : List (List ℕ)) (os : List Contents) (o : Choices) (x : Outcome) → AllByRecursion IsObject os → link forced os o ≡ Ok x →
-    (front : List Contents) (c : Contents) (back : List Contents) → os ≡ front ++ c ∷ back → (space : Space) (segment : Segment) → is_usable_in x.file.header.magic segment space ≡ true → (n : ℕ) → n < size_of segment c →
-    is_in x.file.header space segment (address_of x.file.header os front c segment n) ≡ true
+pub byte_in : (forced : List (List ℕ)) (os : List Contents) (o : Choices) (x : Outcome) → AllByRecursion IsObject os →
+    link forced os o ≡ Ok x →
+    (front : List Contents) (c : Contents) (back : List Contents) → os ≡ front ++ c ∷ back →
+    (space : Space) (segment : Segment) → is_usable_in x.file.header.magic segment space ≡ true → (n : ℕ) →
+    n < size_of segment c → is_in x.file.header space segment (address_of x.file.header os front c segment n) ≡ true
 byte_in forced os o x good linked front c back all space segment there n inside = by_segment segment there inside
   where
     full : HoldsObjects x.file os
@@ -224,7 +260,8 @@ byte_in forced os o x good linked front c back all space segment there n inside 
 
     sum : (segment : Segment) → total segment os ≡ total segment front + (0 + size_of segment c + total segment back)
     sum segment =
-        ap (λ (ys : List Contents). total segment ys) all ∙ sum_by-append (size_of segment) front (c ∷ back) ∙ ap (λ (m : ℕ). total segment front + m) (sum_by-append (size_of segment) (c ∷ []) back)
+        ap (λ (ys : List Contents). total segment ys) all ∙ sum_by-append (size_of segment) front (c ∷ back)
+        ∙ ap (λ (m : ℕ). total segment front + m) (sum_by-append (size_of segment) (c ∷ []) back)
 
     over : (b t n : ℕ) → b ≤ b + t + n
     over b t n = omega arith
@@ -238,40 +275,55 @@ byte_in forced os o x good linked front c back all space segment there n inside 
     under_commons : (e b all t m more n : ℕ) → all ≡ t + (0 + m + more) → all ≤ b → n < m → e + (b - all) + t + n < e + b
     under_commons e b all t m more n f g h = omega arith
 
-    by_segment : (segment : Segment) → is_usable_in x.file.header.magic segment space ≡ true → n < size_of segment c → is_in x.file.header space segment (address_of x.file.header os front c segment n) ≡ true
+    by_segment : (segment : Segment) → is_usable_in x.file.header.magic segment space ≡ true → n < size_of segment c →
+        is_in x.file.header space segment (address_of x.file.header os front c segment n) ≡ true
     by_segment TextSeg has h = within_back x.file.header space TextSeg (address_of x.file.header os front c TextSeg n) (record {
       has = has;
       from = over 0 (total TextSeg front) n;
-      before = under 0 x.file.header.text_size (total TextSeg os) (total TextSeg front) c.header.text_size (total TextSeg back) n full.text (sum TextSeg) h;
+      before =
+          under 0 x.file.header.text_size (total TextSeg os) (total TextSeg front) c.header.text_size
+          (total TextSeg back) n full.text (sum TextSeg) h;
     })
     by_segment DataSeg has h = within_back x.file.header space DataSeg (address_of x.file.header os front c DataSeg n) (record {
       has = has;
       from = over (data_start_in x.file.header) (total DataSeg front) n;
-      before = under (data_start_in x.file.header) x.file.header.data_size (total DataSeg os) (total DataSeg front) c.header.data_size (total DataSeg back) n full.data (sum DataSeg) h;
+      before =
+          under (data_start_in x.file.header) x.file.header.data_size (total DataSeg os)
+          (total DataSeg front) c.header.data_size (total DataSeg back) n full.data (sum DataSeg) h;
     })
     by_segment BssSeg has h = within_back x.file.header space BssSeg (address_of x.file.header os front c BssSeg n) (record {
       has = has;
-      from = over_commons (data_start_in x.file.header + x.file.header.data_size) (x.file.header.bss_size - total BssSeg os) (total BssSeg front) n;
-      before = under_commons (data_start_in x.file.header + x.file.header.data_size) x.file.header.bss_size (total BssSeg os) (total BssSeg front) c.header.bss_size (total BssSeg back) n (sum BssSeg) full.bss h;
+      from =
+          over_commons (data_start_in x.file.header + x.file.header.data_size)
+          (x.file.header.bss_size - total BssSeg os) (total BssSeg front) n;
+      before =
+          under_commons (data_start_in x.file.header + x.file.header.data_size) x.file.header.bss_size (total BssSeg os)
+          (total BssSeg front) c.header.bss_size (total BssSeg back) n (sum BssSeg) full.bss h;
     })
     by_segment Undefined has h = absurd (omega arith)
     by_segment Absolute has h = absurd (omega arith)
     by_segment Other has h = absurd (omega arith)
 
-pub calls_arrive : (forced : List (List ℕ)) (os : List Contents) (o : Choices) (x : Outcome) → AllByRecursion IsObject os → o.keep ≢ Nothing → link forced os o ≡ Ok x → x.report.multiples ≡ [] →
-    (before : List Contents) (k : Contents) (after : List Contents) → os ≡ before ++ k ∷ after → (front : List Contents) (c : Contents) (back : List Contents) → os ≡ front ++ c ∷ back →
+pub calls_arrive : (forced : List (List ℕ)) (os : List Contents) (o : Choices) (x : Outcome) →
+    AllByRecursion IsObject os → o.keep ≢ Nothing → link forced os o ≡ Ok x → x.report.multiples ≡ [] →
+    (before : List Contents) (k : Contents) (after : List Contents) → os ≡ before ++ k ∷ after →
+    (front : List Contents) (c : Contents) (back : List Contents) → os ≡ front ++ c ∷ back →
     (from to : Segment) (i n : ℕ) (name : List ℕ) → Calls k from i name → Defines c name to n →
     (space : Space) → is_usable_in x.file.header.magic to space ≡ true → Arrives x.file space os before k from i front c to n
 calls_arrive forced os o x good others linked once before k after all front c back other from to i n name call d space usable =
     let finds : FindsAddress x.file os before k from i call.w call.r =
     subst (λ (ys : List Contents). FindsAddress x.file ys before k from i call.w call.r) (sym all)
-    (address_found forced before k after o x (subst (λ (ys : List Contents). AllByRecursion IsObject ys) all good) others (ap (λ (ys : List Contents). link forced ys o) (sym all) ∙ linked) from i call.w call.r call.word call.reloc call.kind) in
+    (address_found forced before k after o x (subst (λ (ys : List Contents). AllByRecursion IsObject ys) all good) others
+    (ap (λ (ys : List Contents). link forced ys o) (sym all) ∙ linked) from i call.w call.r call.word call.reloc call.kind) in
     let is : IsDefined x.file os front c d.symbol =
     subst (λ (ys : List Contents). IsDefined x.file ys front c d.symbol) (sym other)
-    (definitions_hold forced front c back o x others (ap (λ (ys : List Contents). link forced ys o) (sym other) ∙ linked) once d.number d.symbol d.stands d.outer d.inner) in
-    let there : IsPlace x.file.header os front c to n (address_of x.file.header os front c to n) = any_place x.file.header os front c to n in
+    (definitions_hold forced front c back o x others (ap (λ (ys : List Contents). link forced ys o) (sym other) ∙ linked)
+    once d.number d.symbol d.stands d.outer d.inner) in
+    let there : IsPlace x.file.header os front c to n (address_of x.file.header os front c to n) =
+    any_place x.file.header os front c to n in
     let same : finds.symbol ≡ call.symbol = same_Some finds.symbol call.symbol (sym finds.named ∙ call.named) in
-    let row : finds.row ≡ is.row = same_Some finds.row is.row (sym finds.found ∙ ap (λ (m : List ℕ). entry_of x.file.symbols m) (ap (λ (s : Symbol). s.name) same ∙ call.names ∙ sym d.names) ∙ is.found) in
+    let row : finds.row ≡ is.row = same_Some finds.row is.row (sym finds.found
+    ∙ ap (λ (m : List ℕ). entry_of x.file.symbols m) (ap (λ (s : Symbol). s.name) same ∙ call.names ∙ sym d.names) ∙ is.found) in
     let value : is.row.value ≡ address_of x.file.header os front c to n % 65536 =
     is.value ∙ (λ j. plus (d.value j) (move_in x.file.header os front c (d.is j))) ∙ there.symbol in
     record {
@@ -285,7 +337,8 @@ calls_arrive forced os o x good others linked once before k after all front c ba
       arrives =
           ap (λ (t : Bool). operand t finds.more.address finds.more.word) (sym call.pc)
           ∙ finds.more.finds
-          ∙ (λ j. plus ((ap address_in row ∙ defined_address is.row to (is.type_bits ∙ ap external_type d.is) ∙ value) j) ((ap (λ (t : Bool). operand t (own k from + 2 * i) call.w) call.pc ∙ call.just) j))
+          ∙ (λ j. plus ((ap address_in row ∙ defined_address is.row to (is.type_bits ∙ ap external_type d.is) ∙ value) j)
+          ((ap (λ (t : Bool). operand t (own k from + 2 * i) call.w) call.pc ∙ call.just) j))
           ∙ wrapped (address_of x.file.header os front c to n);
     }
   where

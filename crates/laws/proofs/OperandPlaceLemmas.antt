@@ -1,5 +1,7 @@
 -- What the operands of an instruction are in a program: the addresses of the bytes to which they refer.
-use Rattle.std.proofs.Common.{◌≡◌, ◌≢◌, ℕ, ◌+◌, ◌-◌, ◌*◌, ◌/◌, ◌%◌, ◌<◌, ◌≤◌, ◌⊎◌, inl, inr, Bool, true, false, nat_lt, if◌then◌else◌, List, [], ◌∷◌, ◌++◌, length, drop, Option, Some, None, refl, sym, ◌∙◌, ap, subst, arith}
+use Rattle.std.proofs.Common.{◌≡◌, ◌≢◌, ℕ, ◌+◌, ◌-◌, ◌*◌, ◌/◌, ◌%◌, ◌<◌, ◌≤◌, ◌⊎◌, inl, inr, Bool, true}
+use Rattle.std.proofs.Common.{false, nat_lt, if◌then◌else◌, List, [], ◌∷◌, ◌++◌, length, drop, Option}
+use Rattle.std.proofs.Common.{Some, None, refl, sym, ◌∙◌, ap, subst, arith}
 use Rattle.std.specs.Prelude.{slice_get, Ok}
 use Rattle.std.specs.List.{AllByRecursion}
 use Rattle.std.proofs.lemmas.Bool.Decides.{nat_tests}
@@ -29,7 +31,8 @@ use Rattle.link_laws.proofs.DefinedLemmas.{definitions_hold}
 use Rattle.link_laws.proofs.LinkedTheorem.{linked_exactly}
 use Rattle.instructions.specs.declared.operation.Operation.{Operation}
 use Rattle.instructions.specs.declared.mode.Mode.{Mode}
-use Rattle.instructions.specs.declared.mode.Mode.TheVariants.{Direct, Deferred, Increment, IncrementDeferred, Decrement, DecrementDeferred, Index, IndexDeferred}
+use Rattle.instructions.specs.declared.mode.Mode.TheVariants.{Direct, Deferred, Increment, IncrementDeferred, Decrement}
+use Rattle.instructions.specs.declared.mode.Mode.TheVariants.{DecrementDeferred, Index, IndexDeferred}
 use Rattle.instructions.specs.declared.mode.Register.{Register}
 use Rattle.instructions.specs.declared.mode.Addressing.{Addressing}
 use Rattle.instructions.specs.declared.mode.Addressing.TheVariants.{Immediate, Absolute, Relative, RelativeDeferred, Indexed}
@@ -45,7 +48,9 @@ use Rattle.laws.specs.Core.{Space, of_instructions, of_data, IsWordAt}
 use Rattle.laws.specs.CoreLaws.{space_of}
 use Rattle.laws.specs.Operands.{operand, FindsMore, segment_meant, Defines}
 use Rattle.laws.specs.OperandWords.{is_relative, machine_value, space_used}
-use Rattle.laws.specs.OperandPlaces.{addressing_of, within_text, kind_meant, IsNamedByte, IsAddress, HasOperand, IsOperand, OperandsStand, IsDirect, JumpsArrive, PointersToSegments, PointersToNames}
+use Rattle.laws.specs.OperandPlaces.{addressing_of, within_text, kind_meant, IsNamedByte, IsAddress, HasOperand}
+use Rattle.laws.specs.OperandPlaces.{IsOperand, OperandsStand, IsDirect, JumpsArrive, PointersToSegments}
+use Rattle.laws.specs.OperandPlaces.{PointersToNames}
 use Rattle.laws.proofs.InstructionLemmas.{relocs_long, reloc_inside}
 use Rattle.laws.proofs.LoadedLemmas.{address_of, words_there, words_of_rows}
 use Rattle.laws.proofs.OperandLemmas.{loaded_finds, address_found, names_found, segments_found, any_place, defined_address, byte_in}
@@ -67,16 +72,20 @@ module _ (file : Contents) (os before : List Contents) (k : Contents) (segment :
       operand (is_pc_relative r) f.address f.word ≡ plus n (operand (is_pc_relative r) (own k segment + 2 * i) w)
   same_found f g =
       let a : f.address ≡ g.address = f.place.sum ∙ sym g.place.sum in
-      let there : IsWordAt file (space_of segment) g.address f.word = subst (λ (p : ℕ). IsWordAt file (space_of segment) p f.word) a f.stands in
+      let there : IsWordAt file (space_of segment) g.address f.word =
+      subst (λ (p : ℕ). IsWordAt file (space_of segment) p f.word) a f.stands in
       let b : f.word ≡ g.word = one_word file (space_of segment) g.address f.word g.word there g.stands in
       (λ j. operand (is_pc_relative r) (a j) (b j)) ∙ g.finds
 
 -- numbers of bytes, moved
-moved_own : (number more start n place : ℕ) → number ≡ (start + n) % 65536 → plus (start + n) more ≡ place % 65536 → plus more number ≡ place % 65536
-moved_own number more start n place e there = let p : (start + n + more) % 65536 ≡ place % 65536 = there in let q : (more + number) % 65536 ≡ place % 65536 = omega arith in q
+moved_own : (number more start n place : ℕ) → number ≡ (start + n) % 65536 → plus (start + n) more ≡ place % 65536 →
+    plus more number ≡ place % 65536
+moved_own number more start n place e there =
+    let p : (start + n + more) % 65536 ≡ place % 65536 = there in
+    let q : (more + number) % 65536 ≡ place % 65536 = omega arith in q
 
-moved_name : (number more value first start n place : ℕ) → value ≡ plus first more → plus first number ≡ (start + n) % 65536 → plus (start + n) more ≡ place % 65536 →
-    plus value number ≡ place % 65536
+moved_name : (number more value first start n place : ℕ) → value ≡ plus first more →
+    plus first number ≡ (start + n) % 65536 → plus (start + n) more ≡ place % 65536 → plus value number ≡ place % 65536
 moved_name number more value first start n place e beyond there =
     let a : value ≡ (first + more) % 65536 = e in
     let b : (first + number) % 65536 ≡ (start + n) % 65536 = beyond in
@@ -84,9 +93,11 @@ moved_name number more value first start n place e beyond there =
     let q : (value + number) % 65536 ≡ place % 65536 = omega arith in
     q
 
-module _ (forced : List (List ℕ)) (os : List Contents) (o : Choices) (x : Outcome) (good : AllByRecursion IsObject os) (linked : link forced os o ≡ Ok x) where
+module _ (forced : List (List ℕ)) (os : List Contents) (o : Choices) (x : Outcome) (good : AllByRecursion IsObject os)
+    (linked : link forced os o ≡ Ok x) where
   -- a number that is the address of a byte
-  address_by : (front : List Contents) (c : Contents) (back : List Contents) → os ≡ front ++ c ∷ back → (to : Segment) (n : ℕ) (space : Space) (number : ℕ) →
+  address_by : (front : List Contents) (c : Contents) (back : List Contents) → os ≡ front ++ c ∷ back →
+      (to : Segment) (n : ℕ) (space : Space) (number : ℕ) →
       number ≡ address_of x.file.header os front c to n % 65536 → IsAddress x.file os front c to n space number
   address_by front c back all to n space number e = record {
     address = address_of x.file.header os front c to n;
@@ -96,27 +107,33 @@ module _ (forced : List (List ℕ)) (os : List Contents) (o : Choices) (x : Outc
   }
 
   -- the value of a name is that of its definition, moved
-  module _ (kept : o.keep ≢ Nothing) (once : x.report.multiples ≡ []) (front : List Contents) (c : Contents) (back : List Contents) (all : os ≡ front ++ c ∷ back) where
-    value_defined : (name : List ℕ) (to : Segment) (start : ℕ) → Defines c name to start → (row : Symbol) → entry_of x.file.symbols name ≡ Some row →
-        address_in row ≡ plus (own c to + start) (move_in x.file.header os front c to)
+  module _ (kept : o.keep ≢ Nothing) (once : x.report.multiples ≡ []) (front : List Contents) (c : Contents)
+      (back : List Contents) (all : os ≡ front ++ c ∷ back) where
+    value_defined : (name : List ℕ) (to : Segment) (start : ℕ) → Defines c name to start → (row : Symbol) →
+        entry_of x.file.symbols name ≡ Some row → address_in row ≡ plus (own c to + start) (move_in x.file.header os front c to)
     value_defined name to start d row found =
         let is : IsDefined x.file os front c d.symbol =
         subst (λ (ys : List Contents). IsDefined x.file ys front c d.symbol) (sym all)
-        (definitions_hold forced front c back o x kept (ap (λ (ys : List Contents). link forced ys o) (sym all) ∙ linked) once d.number d.symbol d.stands d.outer d.inner) in
-        let same : row ≡ is.row = same_Some row is.row (sym found ∙ ap (λ (m : List ℕ). entry_of x.file.symbols m) (sym d.names) ∙ is.found) in
+        (definitions_hold forced front c back o x kept (ap (λ (ys : List Contents). link forced ys o) (sym all) ∙ linked)
+        once d.number d.symbol d.stands d.outer d.inner) in
+        let same : row ≡ is.row =
+        same_Some row is.row (sym found ∙ ap (λ (m : List ℕ). entry_of x.file.symbols m) (sym d.names) ∙ is.found) in
         ap address_in same
         ∙ defined_address is.row to (is.type_bits ∙ ap external_type d.is)
         ∙ is.value
         ∙ (λ j. plus (d.value j) (move_in x.file.header os front c (d.is j)))
 
-    named_address : (k : Contents) (kind : Option Kind) (r : Reloc) (number found_number : ℕ) (to : Segment) (n : ℕ) (space : Space) (b : IsNamedByte k c kind r number to n) →
+    named_address : (k : Contents) (kind : Option Kind) (r : Reloc) (number found_number : ℕ) (to : Segment) (n : ℕ)
+        (space : Space) (b : IsNamedByte k c kind r number to n) →
         (symbol row : Symbol) → slice_get k.symbols (symbol_number r) ≡ Some symbol → entry_of x.file.symbols symbol.name ≡ Some row →
         found_number ≡ plus (address_in row) number → IsAddress x.file os front c to n space found_number
     named_address k kind r number found_number to n space b symbol row named found e =
         let same : symbol ≡ b.symbol = same_Some symbol b.symbol (sym named ∙ b.named) in
-        let there : entry_of x.file.symbols b.symbol.name ≡ Some row = ap (λ (s : Symbol). entry_of x.file.symbols s.name) (sym same) ∙ found in
+        let there : entry_of x.file.symbols b.symbol.name ≡ Some row =
+        ap (λ (s : Symbol). entry_of x.file.symbols s.name) (sym same) ∙ found in
         address_by front c back all to n space found_number
-        (e ∙ moved_name number (move_in x.file.header os front c to) (address_in row) (own c to + b.start) (own c to) n (address_of x.file.header os front c to n)
+        (e ∙ moved_name number (move_in x.file.header os front c to) (address_in row) (own c to + b.start) (own c to) n
+        (address_of x.file.header os front c to n)
         (value_defined b.symbol.name to b.start b.defined row there) b.byte (any_place x.file.header os front c to n).symbol)
 
 -- the relocation word of an operand word suits its addressing, or the word is a distance within the text
@@ -135,7 +152,8 @@ text_of (Some kinds.BssSeg) kind e = absurd cc
 text_of (Some kinds.External) kind e = absurd cc
 
 suits_by : (a : Addressing) (r : Reloc) (kind : Kind) (relative pc : Bool) → is_relative a ≡ relative → is_pc_relative r ≡ pc →
-    (if relative then (if pc then kind_of r else within_text (kind_of r)) else (if pc then None else kind_of r)) ≡ Some kind → Suits a r kind ⊎ IsDistance a r kind
+    (if relative then (if pc then kind_of r else within_text (kind_of r)) else (if pc then None else kind_of r)) ≡ Some kind →
+    Suits a r kind ⊎ IsDistance a r kind
 suits_by a r kind true true e f h = inl (f ∙ sym e, h)
 suits_by a r kind true false e f h = let t = text_of (kind_of r) kind h in inr (e, f, t.0, t.1)
 suits_by a r kind false true e f h = absurd cc
@@ -145,7 +163,8 @@ suits : (a : Addressing) (r : Reloc) (kind : Kind) → kind_meant a r ≡ Some k
 suits a r kind h = suits_by a r kind (is_relative a) (is_pc_relative r) refl refl h
 
 -- what the machine makes of a distance within the text is moved with the text
-distance_value : (a : Addressing) → is_relative a ≡ true → (i w address word move : ℕ) → operand false address word ≡ plus 0 (operand false (0 + 2 * i) w) →
+distance_value : (a : Addressing) → is_relative a ≡ true → (i w address word move : ℕ) →
+    operand false address word ≡ plus 0 (operand false (0 + 2 * i) w) →
     plus (0 + 2 * i) move ≡ address % 65536 → machine_value a (address + 2) word ≡ plus move (machine_value a (2 * i + 2) w)
 distance_value a e i w address word move f there = by_mode a e
   where
@@ -165,48 +184,58 @@ distance_value a e i w address word move f there = by_mode a e
 
 -- what the machine makes of a word whose pc bit suits its addressing
 suited_value : (a : Addressing) (r : Reloc) → is_pc_relative r ≡ is_relative a → (i w address word more : ℕ) →
-    operand (is_pc_relative r) address word ≡ plus more (operand (is_pc_relative r) (0 + 2 * i) w) → machine_value a (address + 2) word ≡ plus more (machine_value a (2 * i + 2) w)
+    operand (is_pc_relative r) address word ≡ plus more (operand (is_pc_relative r) (0 + 2 * i) w) →
+    machine_value a (address + 2) word ≡ plus more (machine_value a (2 * i + 2) w)
 suited_value a r e i w address word more f =
     let from_nothing : 0 + 2 * i ≡ 2 * i = omega arith in
     machine_is a (is_pc_relative r) e address word
     ∙ f
-    ∙ ap (λ (n : ℕ). plus more n) (sym (machine_is a (is_pc_relative r) e (0 + 2 * i) w) ∙ ap (λ (n : ℕ). machine_value a (n + 2) w) from_nothing)
+    ∙ ap (λ (n : ℕ). plus more n)
+    (sym (machine_is a (is_pc_relative r) e (0 + 2 * i) w) ∙ ap (λ (n : ℕ). machine_value a (n + 2) w) from_nothing)
 
-module _ (forced : List (List ℕ)) (before : List Contents) (k : Contents) (after : List Contents) (o : Choices) (x : Outcome) (good : AllByRecursion IsObject (before ++ k ∷ after)) (linked : link forced (before ++ k ∷ after) o ≡ Ok x) where
+module _ (forced : List (List ℕ)) (before : List Contents) (k : Contents) (after : List Contents) (o : Choices) (x : Outcome)
+    (good : AllByRecursion IsObject (before ++ k ∷ after)) (linked : link forced (before ++ k ∷ after) o ≡ Ok x) where
   abbrev os : List Contents
   os = before ++ k ∷ after
 
   -- the word at the place of word i of a segment of k
-  loaded_word : (segment : Segment) (i w : ℕ) (r : Reloc) → slice_get (segment_words segment k) i ≡ Some w → slice_get (segment_relocs segment k) i ≡ Some r →
+  loaded_word : (segment : Segment) (i w : ℕ) (r : Reloc) → slice_get (segment_words segment k) i ≡ Some w →
+      slice_get (segment_relocs segment k) i ≡ Some r →
       (more : ℕ) × FindsMore x.file (before ++ k ∷ after) before k segment i w r more
   loaded_word segment i w r ew er =
       let from : IsLinkedFrom forced (before ++ k ∷ after) o x = (linked_exactly forced (before ++ k ∷ after) o x good).0 linked in
       let l = words_of_rows forced before k after o x good from segment i w r ew er in
       (l.added, loaded_finds x.file from.rows (before ++ k ∷ after) before k segment (words_there segment k i w ew) i w r l)
 
-  module _ (operation : Operation) (a : Addressing) (i w : ℕ) (r : Reloc) (ew : slice_get k.text_words i ≡ Some w) (er : slice_get k.text_reloc i ≡ Some r) where
+  module _ (operation : Operation) (a : Addressing) (i w : ℕ) (r : Reloc) (ew : slice_get k.text_words i ≡ Some w)
+      (er : slice_get k.text_reloc i ≡ Some r) where
     found : (more : ℕ) × FindsMore x.file (before ++ k ∷ after) before k segs.TextSeg i w r more
     found = loaded_word segs.TextSeg i w r ew er
 
     -- a segment of k
     own_value : (kind : Kind) (to : Segment) → kind_meant a r ≡ Some kind → segment_meant kind ≡ Some to →
-        machine_value a (found.1.address + 2) found.1.word ≡ plus (move_in x.file.header (before ++ k ∷ after) before k to) (machine_value a (2 * i + 2) w)
+        machine_value a (found.1.address + 2) found.1.word
+        ≡ plus (move_in x.file.header (before ++ k ∷ after) before k to) (machine_value a (2 * i + 2) w)
     own_value kind to is meant = by_test (suits a r kind is)
       where
         by_test : Suits a r kind ⊎ IsDistance a r kind →
-            machine_value a (found.1.address + 2) found.1.word ≡ plus (move_in x.file.header (before ++ k ∷ after) before k to) (machine_value a (2 * i + 2) w)
+            machine_value a (found.1.address + 2) found.1.word
+            ≡ plus (move_in x.file.header (before ++ k ∷ after) before k to) (machine_value a (2 * i + 2) w)
         by_test (inl s) =
             let f = segments_found forced before k after o x good linked segs.TextSeg i w r ew er kind to s.1 meant in
             let more : ℕ = move_in x.file.header (before ++ k ∷ after) before k to in
-            suited_value a r s.0 i w found.1.address found.1.word more (same_found x.file (before ++ k ∷ after) before k segs.TextSeg i w r found.0 more found.1 f)
+            suited_value a r s.0 i w found.1.address found.1.word more
+            (same_found x.file (before ++ k ∷ after) before k segs.TextSeg i w r found.0 more found.1 f)
         by_test (inr d) =
             let f = segments_found forced before k after o x good linked segs.TextSeg i w r ew er kinds.Absolute segs.Absolute d.2 refl in
             let same = same_found x.file (before ++ k ∷ after) before k segs.TextSeg i w r found.0 0 found.1 f in
             let still : operand false found.1.address found.1.word ≡ plus 0 (operand false (0 + 2 * i) w) =
             subst (λ (pc : Bool). operand pc found.1.address found.1.word ≡ plus 0 (operand pc (0 + 2 * i) w)) d.1 same in
             let text : segs.TextSeg ≡ to = same_Some segs.TextSeg to (ap segment_meant (sym d.3) ∙ meant) in
-            subst (λ (s : Segment). machine_value a (found.1.address + 2) found.1.word ≡ plus (move_in x.file.header (before ++ k ∷ after) before k s) (machine_value a (2 * i + 2) w)) text
-            (distance_value a d.0 i w found.1.address found.1.word (move_in x.file.header (before ++ k ∷ after) before k segs.TextSeg) still found.1.place.symbol)
+            subst (λ (s : Segment). machine_value a (found.1.address + 2) found.1.word
+            ≡ plus (move_in x.file.header (before ++ k ∷ after) before k s) (machine_value a (2 * i + 2) w)) text
+            (distance_value a d.0 i w found.1.address found.1.word
+            (move_in x.file.header (before ++ k ∷ after) before k segs.TextSeg) still found.1.place.symbol)
 
     -- a name
     name_suits : kind_meant a r ≡ Some kinds.External → Suits a r kinds.External
@@ -226,9 +255,12 @@ module _ (forced : List (List ℕ)) (before : List Contents) (k : Contents) (aft
       place = found.1.place;
       word = found.1.word;
       stands = found.1.stands;
-      segments = λ to n b. address_by forced (before ++ k ∷ after) o x good linked before k after refl to n (space_used operation a) (machine_value a (found.1.address + 2) found.1.word)
+      segments =
+          λ to n b. address_by forced (before ++ k ∷ after) o x good linked before k after refl to n
+          (space_used operation a) (machine_value a (found.1.address + 2) found.1.word)
           (own_value b.meant to b.is b.segment
-          ∙ moved_own (machine_value a (2 * i + 2) w) (move_in x.file.header (before ++ k ∷ after) before k to) (own k to) n (address_of x.file.header (before ++ k ∷ after) before k to n) b.byte
+          ∙ moved_own (machine_value a (2 * i + 2) w) (move_in x.file.header (before ++ k ∷ after) before k to)
+          (own k to) n (address_of x.file.header (before ++ k ∷ after) before k to n) b.byte
           (any_place x.file.header (before ++ k ∷ after) before k to n).symbol);
       values = λ kept final is.
           let s = name_suits is in
@@ -238,15 +270,19 @@ module _ (forced : List (List ℕ)) (before : List Contents) (k : Contents) (aft
             row = f.row;
             named = f.named;
             found = f.found;
-            is = suited_value a r s.0 i w found.1.address found.1.word f.row.value (same_found x.file (before ++ k ∷ after) before k segs.TextSeg i w r found.0 f.row.value found.1 f.more);
+            is =
+                suited_value a r s.0 i w found.1.address found.1.word f.row.value
+                (same_found x.file (before ++ k ∷ after) before k segs.TextSeg i w r found.0 f.row.value found.1 f.more);
           };
       names = λ kept once front c back all to n b.
           let s = name_suits b.is in
           let f = address_found forced before k after o x good kept linked segs.TextSeg i w r ew er s.1 in
           let more : ℕ = address_in f.row in
-          named_address forced (before ++ k ∷ after) o x good linked kept once front c back all k (kind_meant a r) r (machine_value a (2 * i + 2) w) (machine_value a (found.1.address + 2) found.1.word)
+          named_address forced (before ++ k ∷ after) o x good linked kept once front c back all k (kind_meant a r) r
+          (machine_value a (2 * i + 2) w) (machine_value a (found.1.address + 2) found.1.word)
           to n (space_used operation a) b f.symbol f.row f.named f.found
-          (suited_value a r s.0 i w found.1.address found.1.word more (same_found x.file (before ++ k ∷ after) before k segs.TextSeg i w r found.0 more found.1 f.more));
+          (suited_value a r s.0 i w found.1.address found.1.word more
+          (same_found x.file (before ++ k ∷ after) before k segs.TextSeg i w r found.0 more found.1 f.more));
     }
 
 -- an operand that is used in some way has a word
@@ -274,19 +310,23 @@ takes_its_word (Some (operands.Backward v)) a e = absurd cc
 takes_its_word (Some (operands.Number v)) a e = absurd cc
 
 -- its word is in the text
-word_inside : (ws : List ℕ) (i w : ℕ) (following : List ℕ) → drop i ws ≡ w ∷ following → (instruction : Instruction) → instruction_of w ≡ Some instruction →
-    is_cut (instruction_of w) following ≡ false → (operand : Option Operand) (p : ℕ) → IsOperand instruction i operand p → takes_word operand ≡ true → p < length ws
+word_inside : (ws : List ℕ) (i w : ℕ) (following : List ℕ) → drop i ws ≡ w ∷ following → (instruction : Instruction) →
+    instruction_of w ≡ Some instruction →
+    is_cut (instruction_of w) following ≡ false → (operand : Option Operand) (p : ℕ) →
+    IsOperand instruction i operand p → takes_word operand ≡ true → p < length ws
 word_inside ws i w following here instruction is whole operand p place takes =
     let long : length (drop i ws) ≡ length (w ∷ following) = ap (λ (xs : List ℕ). length xs) here in
     let left = length-drop i ws in
-    let uncut : nat_lt (length following) (following_words instruction) ≡ false = ap (λ (q : Option Instruction). is_cut q following) (sym is) ∙ whole in
+    let uncut : nat_lt (length following) (following_words instruction) ≡ false =
+    ap (λ (q : Option Instruction). is_cut q following) (sym is) ∙ whole in
     let enough : following_words instruction ≤ length following = grind (arith, nat_tests) in
     by_place long left enough place
   where
     counts : (q : Option Operand) → operand ≡ q → word_count_of q ≡ 1
     counts q e = ap (λ (t : Bool). if t then 1 else 0) (ap takes_word (sym e) ∙ takes)
 
-    by_place : length (drop i ws) ≡ length (w ∷ following) → length (drop i ws) ≡ length ws - i → following_words instruction ≤ length following → IsOperand instruction i operand p → p < length ws
+    by_place : length (drop i ws) ≡ length (w ∷ following) → length (drop i ws) ≡ length ws - i →
+        following_words instruction ≤ length following → IsOperand instruction i operand p → p < length ws
     by_place long left enough (inl (e, at)) =
         let one = counts instruction.first e in
         let sum : word_count_of instruction.first + word_count_of instruction.second ≤ length following = enough in
@@ -298,31 +338,36 @@ word_inside ws i w following here instruction is whole operand p place takes =
 
 pub operands_stand : OperandsStand
 operands_stand forced before k after o x good linked i w following here instruction is whole operand p place a e =
-    let inside : p < length k.text_words = word_inside k.text_words i w following here instruction is whole operand p place (takes_its_word operand a e) in
+    let inside : p < length k.text_words =
+    word_inside k.text_words i w following here instruction is whole operand p place (takes_its_word operand a e) in
     let word = get_inside k.text_words p inside in
     let reloc = reloc_inside k.text_reloc p (omega (arith, inside, relocs_long k (all_split IsObject before (k ∷ after) good).1.0)) in
     operand_there forced before k after o x good linked instruction.row.operation a p word.0 reloc.0 word.1 reloc.1
 
 -- jumps and calls
 jump_space : (operation : Operation) (a : Addressing) → jumps operation ≡ true → IsDirect a → space_used operation a ≡ of_instructions
-jump_space operation a j (inl e) = ap (λ (b : Addressing). space_used operation b) e ∙ ap (λ (t : Bool). if t then of_instructions else of_data) j
-jump_space operation a j (inr e) = ap (λ (b : Addressing). space_used operation b) e ∙ ap (λ (t : Bool). if t then of_instructions else of_data) j
+jump_space operation a j (inl e) =
+    ap (λ (b : Addressing). space_used operation b) e ∙ ap (λ (t : Bool). if t then of_instructions else of_data) j
+jump_space operation a j (inr e) =
+    ap (λ (b : Addressing). space_used operation b) e ∙ ap (λ (t : Bool). if t then of_instructions else of_data) j
 
 pub jumps_arrive : JumpsArrive
-jumps_arrive forced before k after o x good kept linked once i w following here instruction is whole j operand p place a e direct u r ew er front c back all to n b =
+jumps_arrive forced before k after o x good kept linked once i w following here instruction is whole j operand p place a
+    e direct u r ew er front c back all to n b =
     let h = operand_there forced before k after o x good linked instruction.row.operation a p u r ew er in
     record {
       address = h.address;
       place = h.place;
       word = h.word;
       stands = h.stands;
-      arrives = subst (λ (space : Space). IsAddress x.file (before ++ k ∷ after) front c to n space (machine_value a (h.address + 2) h.word))
+      arrives =
+          subst (λ (space : Space). IsAddress x.file (before ++ k ∷ after) front c to n space (machine_value a (h.address + 2) h.word))
           (jump_space instruction.row.operation a j direct) (h.names kept once front c back all to n b);
     }
 
 -- pointers
-alone_value : (r : Reloc) (start address word more w : ℕ) → is_pc_relative r ≡ false → operand (is_pc_relative r) address word ≡ plus more (operand (is_pc_relative r) start w) →
-    operand false address word ≡ plus more (w % 65536)
+alone_value : (r : Reloc) (start address word more w : ℕ) → is_pc_relative r ≡ false → operand (is_pc_relative r)
+    address word ≡ plus more (operand (is_pc_relative r) start w) → operand false address word ≡ plus more (w % 65536)
 alone_value r start address word more w e f =
     subst (λ (pc : Bool). operand pc address word ≡ plus more (operand pc start w)) e f
     ∙ (let p : (more + (0 + w) % 65536) % 65536 ≡ (more + w % 65536) % 65536 = omega arith in p)
@@ -330,14 +375,18 @@ alone_value r start address word more w e f =
 pub pointers_to_segments : PointersToSegments
 pointers_to_segments forced before k after o x good linked from i w r ew er alone to n b =
     let f = segments_found forced before k after o x good linked from i w r ew er b.meant to b.is b.segment in
-    let value = alone_value r (own k from + 2 * i) f.address f.word (move_in x.file.header (before ++ k ∷ after) before k to) w alone f.finds in
+    let value =
+    alone_value r (own k from + 2 * i) f.address f.word (move_in x.file.header (before ++ k ∷ after) before k to) w alone f.finds in
     record {
       address = f.address;
       place = f.place;
       word = f.word;
       stands = f.stands;
-      points = λ space. address_by forced (before ++ k ∷ after) o x good linked before k after refl to n space (operand false f.address f.word)
-          (value ∙ moved_own (w % 65536) (move_in x.file.header (before ++ k ∷ after) before k to) (own k to) n (address_of x.file.header (before ++ k ∷ after) before k to n) b.byte
+      points =
+          λ space. address_by forced (before ++ k ∷ after) o x good linked before k after refl to n space
+          (operand false f.address f.word)
+          (value ∙ moved_own (w % 65536) (move_in x.file.header (before ++ k ∷ after) before k to) (own k to) n
+          (address_of x.file.header (before ++ k ∷ after) before k to n) b.byte
           (any_place x.file.header (before ++ k ∷ after) before k to n).symbol);
     }
 
@@ -350,6 +399,8 @@ pointers_to_names forced before k after o x good kept linked once from i w r ew 
       place = f.more.place;
       word = f.more.word;
       stands = f.more.stands;
-      points = λ space. named_address forced (before ++ k ∷ after) o x good linked kept once front c back all k (kind_of r) r (w % 65536) (operand false f.more.address f.more.word)
+      points =
+          λ space. named_address forced (before ++ k ∷ after) o x good linked kept once front c back all k (kind_of r) r
+          (w % 65536) (operand false f.more.address f.more.word)
           to n space b f.symbol f.row f.named f.found value;
     }

@@ -18,7 +18,8 @@ with_next address word = let e : (word + (address + 2)) % 65536 ≡ (address + 2
 alone : (word : ℕ) → word % 65536 ≡ plus 0 word
 alone word = let e : word % 65536 ≡ (0 + word) % 65536 = omega arith in e
 
-pub machine_is : (a : Addressing) (pc : Bool) → pc ≡ is_relative a → (address word : ℕ) → machine_value a (address + 2) word ≡ operand pc address word
+pub machine_is : (a : Addressing) (pc : Bool) → pc ≡ is_relative a → (address word : ℕ) →
+    machine_value a (address + 2) word ≡ operand pc address word
 machine_is Relative true e address word = with_next address word
 machine_is Relative false e address word = absurd cc
 machine_is RelativeDeferred true e address word = with_next address word
@@ -30,8 +31,8 @@ machine_is Immediate false e address word = alone word
 machine_is Indexed true e address word = absurd cc
 machine_is Indexed false e address word = alone word
 
-gives_more : (file : Contents) (os before : List Contents) (k : Contents) (i w : ℕ) (r : Reloc) (more : ℕ) (a : Addressing) → is_pc_relative r ≡ is_relative a →
-    FindsMore file os before k TextSeg i w r more → GivesMore file os before k a i w more
+gives_more : (file : Contents) (os before : List Contents) (k : Contents) (i w : ℕ) (r : Reloc) (more : ℕ) (a : Addressing) →
+    is_pc_relative r ≡ is_relative a → FindsMore file os before k TextSeg i w r more → GivesMore file os before k a i w more
 gives_more file os before k i w r more a e f =
     let from_nothing : 0 + 2 * i ≡ 2 * i = omega arith in
     record {
@@ -42,7 +43,8 @@ gives_more file os before k i w r more a e f =
       gives =
           machine_is a (is_pc_relative r) e f.address f.word
           ∙ f.finds
-          ∙ ap (λ (n : ℕ). plus more n) (sym (machine_is a (is_pc_relative r) e (0 + 2 * i) w) ∙ ap (λ (n : ℕ). machine_value a (n + 2) w) from_nothing);
+          ∙ ap (λ (n : ℕ). plus more n)
+          (sym (machine_is a (is_pc_relative r) e (0 + 2 * i) w) ∙ ap (λ (n : ℕ). machine_value a (n + 2) w) from_nothing);
     }
 
 pub operands_give_names : OperandsGiveNames

@@ -1,5 +1,6 @@
 -- What defines a name among the same objects in two orders.
-use Rattle.std.proofs.Common.{◌≡◌, ℕ, ◌+◌, Bool, true, false, cond, eqb, eqb-true, List, [], ◌∷◌, ◌++◌, map, length, Option, Some, refl, sym, ◌∙◌, ap, subst, append_assoc, ◌⊎◌, inl, inr}
+use Rattle.std.proofs.Common.{◌≡◌, ℕ, ◌+◌, Bool, true, false, cond, eqb, eqb-true, List, [], ◌∷◌, ◌++◌, map, length}
+use Rattle.std.proofs.Common.{Option, Some, refl, sym, ◌∙◌, ap, subst, append_assoc, ◌⊎◌, inl, inr}
 use Rattle.std.specs.Prelude.{bytes_eq, filter, slice_get}
 use Rattle.std.specs.List.{AllByRecursion}
 use Rattle.std.specs.List.Sorted.{IsPermutation}
@@ -40,7 +41,8 @@ first_in_front [] ns name g n f = absurd f
 first_in_front (m ∷ ms) ns name g n (inl f) = inl f
 first_in_front (m ∷ ms) ns name g n (inr f) = inr (f.0, first_in_front ms ns name g n f.1)
 
-first_after : (ms ns : List Mention) (name : List ℕ) (g : Segment) (n : ℕ) → AllByRecursion (LeavesOpen name) ms → IsFirst ns name g n → IsFirst (ms ++ ns) name g n
+first_after : (ms ns : List Mention) (name : List ℕ) (g : Segment) (n : ℕ) → AllByRecursion (LeavesOpen name) ms →
+    IsFirst ns name g n → IsFirst (ms ++ ns) name g n
 first_after [] ns name g n h f = f
 first_after (m ∷ ms) ns name g n h f = inr (h.0, first_after ms ns name g n h.1 f)
 
@@ -48,16 +50,21 @@ module _ (os : List Contents) (name : List ℕ) where
   -- what is found in one of two lists, or in neither
   searched_both : (ms ns : List Mention) → Searched os name ms → Searched os name ns → Searched os name (ms ++ ns)
   searched_both ms ns (inl h) (inl k) = inl (all_append (LeavesOpen name) ms ns h k)
-  searched_both ms ns (inl h) (inr d) = inr (record { segment = d.segment; offset = d.offset; said = d.said; first = first_after ms ns name d.segment d.offset h d.first })
-  searched_both ms ns (inr d) rest = inr (record { segment = d.segment; offset = d.offset; said = d.said; first = first_in_front ms ns name d.segment d.offset d.first })
+  searched_both ms ns (inl h) (inr d) =
+      inr (record { segment = d.segment; offset = d.offset; said = d.said; first = first_after ms ns name d.segment d.offset h d.first })
+  searched_both ms ns (inr d) rest =
+      inr (record { segment = d.segment; offset = d.offset; said = d.said; first = first_in_front ms ns name d.segment d.offset d.first })
 
-  search_symbols : (before : List Contents) (k : Contents) (after : List Contents) → os ≡ before ++ k ∷ after → (done ss : List Symbol) → k.symbols ≡ done ++ ss → Searched os name (map (mention before k) (filter is_external ss))
+  search_symbols : (before : List Contents) (k : Contents) (after : List Contents) → os ≡ before ++ k ∷ after →
+      (done ss : List Symbol) → k.symbols ≡ done ++ ss → Searched os name (map (mention before k) (filter is_external ss))
   search_symbols before k after all done [] e = inl tt
   search_symbols before k after all done (s ∷ ss) e =
       by_test (is_external s) refl (search_symbols before k after all (done ++ s ∷ []) ss (e ∙ sym (append_assoc done (s ∷ []) ss)))
     where
-      of_one : is_external s ≡ true → (u : Bool) → bytes_eq name s.name ≡ u → (st : State) → statement before k (segment_of s) s.value ≡ st → Searched os name (mention before k s ∷ [])
-      of_one te false ue st se = inl ((λ same g n f. absurd (let bad : true ≡ false = sym ((bytes_eq-Decides name s.name).1 same) ∙ ue in cc)), tt)
+      of_one : is_external s ≡ true → (u : Bool) → bytes_eq name s.name ≡ u → (st : State) →
+          statement before k (segment_of s) s.value ≡ st → Searched os name (mention before k s ∷ [])
+      of_one te false ue st se =
+          inl ((λ same g n f. absurd (let bad : true ≡ false = sym ((bytes_eq-Decides name s.name).1 same) ∙ ue in cc)), tt)
       of_one te true ue (Wanted n) se = inl ((λ same g m f. absurd (let bad : Wanted n ≡ Defined g m = sym se ∙ f in cc)), tt)
       of_one te true ue (Defined g n) se = inr (record {
         segment = g;
@@ -77,23 +84,29 @@ module _ (os : List Contents) (name : List ℕ) where
         first = inl ((bytes_eq-Decides name s.name).0 ue, se);
       })
 
-      by_test : (t : Bool) → is_external s ≡ t → Searched os name (map (mention before k) (filter is_external ss)) → Searched os name (map (mention before k) (cond t (s ∷ filter is_external ss) (filter is_external ss)))
+      by_test : (t : Bool) → is_external s ≡ t → Searched os name (map (mention before k) (filter is_external ss)) →
+          Searched os name (map (mention before k) (cond t (s ∷ filter is_external ss) (filter is_external ss)))
       by_test false te rest = rest
       by_test true te rest =
-          searched_both (mention before k s ∷ []) (map (mention before k) (filter is_external ss)) (of_one te (bytes_eq name s.name) refl (statement before k (segment_of s) s.value) refl) rest
+          searched_both (mention before k s ∷ []) (map (mention before k) (filter is_external ss))
+          (of_one te (bytes_eq name s.name) refl (statement before k (segment_of s) s.value) refl) rest
 
   search_objects : (before rest : List Contents) → os ≡ before ++ rest → Searched os name (blocks mentions_in before rest)
   search_objects before [] e = inl tt
   search_objects before (k ∷ ks) e =
-      searched_both (mentions_in before k) (blocks mentions_in (before ++ k ∷ []) ks) (search_symbols before k ks e [] k.symbols refl) (search_objects (before ++ k ∷ []) ks (e ∙ sym (append_assoc before (k ∷ []) ks)))
+      searched_both (mentions_in before k) (blocks mentions_in (before ++ k ∷ []) ks) (search_symbols before k ks e []
+      k.symbols refl) (search_objects (before ++ k ∷ []) ks (e ∙ sym (append_assoc before (k ∷ []) ks)))
 
   forced_open : (forced : List (List ℕ)) → AllByRecursion (LeavesOpen name) (map forced_mention forced)
   forced_open [] = tt
   forced_open (n ∷ ns) = ((λ same g m e. absurd (let bad : Wanted 0 ≡ Defined g m = e in cc)), forced_open ns)
 
 -- what defines a defined name
-pub definition_found : (forced : List (List ℕ)) (os : List Contents) (name : List ℕ) (g : Segment) (n : ℕ) → state (mentions forced os) name ≡ Defined g n → HasDefinition os name (mentions forced os)
-definition_found forced os name g n e = by_search (searched_both os name (map forced_mention forced) (blocks mentions_in [] os) (inl (forced_open os name forced)) (search_objects os name [] os refl))
+pub definition_found : (forced : List (List ℕ)) (os : List Contents) (name : List ℕ) (g : Segment) (n : ℕ) →
+    state (mentions forced os) name ≡ Defined g n → HasDefinition os name (mentions forced os)
+definition_found forced os name g n e =
+    by_search (searched_both os name (map forced_mention forced) (blocks mentions_in [] os)
+    (inl (forced_open os name forced)) (search_objects os name [] os refl))
   where
     defined : HasState (mentions forced os) name (Defined g n)
     defined = subst (λ (st : State). HasState (mentions forced os) name st) e (has_state (mentions forced os) name)
@@ -103,13 +116,24 @@ definition_found forced os name g n e = by_search (searched_both os name (map fo
     by_search (inl h) = absurd (none_first (mentions forced os) name g n h defined)
 
 -- a definition moves with its object, within its segment
-stated_again : (before front : List Contents) (k : Contents) (segment : Segment) (value : ℕ) (g : Segment) (n : ℕ) → statement before k segment value ≡ Defined g n → (m : ℕ) × (statement front k segment value ≡ Defined g m)
+stated_again : (before front : List Contents) (k : Contents) (segment : Segment) (value : ℕ) (g : Segment) (n : ℕ) →
+    statement before k segment value ≡ Defined g n → (m : ℕ) × (statement front k segment value ≡ Defined g m)
 stated_again before front k Undefined value g n e = absurd (let bad : Wanted value ≡ Defined g n = e in cc)
-stated_again before front k Absolute value g n e = let same : Absolute ≡ g = cc in (plus value (shift front k Absolute), ap (λ (s : Segment). Defined s (plus value (shift front k Absolute))) same)
-stated_again before front k TextSeg value g n e = let same : TextSeg ≡ g = cc in (plus value (shift front k TextSeg), ap (λ (s : Segment). Defined s (plus value (shift front k TextSeg))) same)
-stated_again before front k DataSeg value g n e = let same : DataSeg ≡ g = cc in (plus value (shift front k DataSeg), ap (λ (s : Segment). Defined s (plus value (shift front k DataSeg))) same)
-stated_again before front k BssSeg value g n e = let same : BssSeg ≡ g = cc in (plus value (shift front k BssSeg), ap (λ (s : Segment). Defined s (plus value (shift front k BssSeg))) same)
-stated_again before front k Other value g n e = let same : Absolute ≡ g = cc in (plus value (shift front k Absolute), ap (λ (s : Segment). Defined s (plus value (shift front k Absolute))) same)
+stated_again before front k Absolute value g n e =
+    let same : Absolute ≡ g = cc in
+    (plus value (shift front k Absolute), ap (λ (s : Segment). Defined s (plus value (shift front k Absolute))) same)
+stated_again before front k TextSeg value g n e =
+    let same : TextSeg ≡ g = cc in
+    (plus value (shift front k TextSeg), ap (λ (s : Segment). Defined s (plus value (shift front k TextSeg))) same)
+stated_again before front k DataSeg value g n e =
+    let same : DataSeg ≡ g = cc in
+    (plus value (shift front k DataSeg), ap (λ (s : Segment). Defined s (plus value (shift front k DataSeg))) same)
+stated_again before front k BssSeg value g n e =
+    let same : BssSeg ≡ g = cc in
+    (plus value (shift front k BssSeg), ap (λ (s : Segment). Defined s (plus value (shift front k BssSeg))) same)
+stated_again before front k Other value g n e =
+    let same : Absolute ≡ g = cc in
+    (plus value (shift front k Absolute), ap (λ (s : Segment). Defined s (plus value (shift front k Absolute))) same)
 
 -- the same symbol of the same object defines it in another order
 pub record IsSaidAgain (ps : List Contents) (name : List ℕ) (segment : Segment) (k : Contents) (s : Symbol) : Type 0 where
@@ -118,32 +142,51 @@ pub record IsSaidAgain (ps : List Contents) (name : List ℕ) (segment : Segment
   pub object : said.k ≡ k
   pub symbol : said.symbol ≡ s
 
-pub said_again : (os ps : List Contents) → IsPermutation os ps → (name : List ℕ) (segment : Segment) (n : ℕ) (d : IsSaid os name (Defined segment n)) → IsSaidAgain ps name segment d.k d.symbol
+pub said_again : (os ps : List Contents) → IsPermutation os ps → (name : List ℕ) (segment : Segment) (n : ℕ)
+    (d : IsSaid os name (Defined segment n)) → IsSaidAgain ps name segment d.k d.symbol
 said_again os ps same name segment n d =
     let there = placed_again os ps same d.before d.k d.after d.all in
     let moved = stated_again d.before there.before d.k (segment_of d.symbol) d.symbol.value segment n d.is in
     record {
       offset = moved.0;
-      said = record { before = there.before; k = d.k; after = there.after; all = there.all; number = d.number; symbol = d.symbol; stands = d.stands; outer = d.outer; names = d.names; is = moved.1 };
+      said = record {
+        before = there.before;
+        k = d.k;
+        after = there.after;
+        all = there.all;
+        number = d.number;
+        symbol = d.symbol;
+        stands = d.stands;
+        outer = d.outer;
+        names = d.names;
+        is = moved.1;
+      };
       object = refl;
       symbol = refl;
     }
 
 -- such a symbol is of no undefined type
-pub defines : (os : List Contents) (name : List ℕ) (segment : Segment) (n : ℕ) (d : IsSaid os name (Defined segment n)) → eqb (masked_type d.symbol) 0 ≡ false
+pub defines : (os : List Contents) (name : List ℕ) (segment : Segment) (n : ℕ) (d : IsSaid os name (Defined segment n)) →
+    eqb (masked_type d.symbol) 0 ≡ false
 defines os name segment n d = by_test (eqb (masked_type d.symbol) 0) refl
   where
     by_test : (t : Bool) → eqb (masked_type d.symbol) 0 ≡ t → t ≡ false
     by_test false e = refl
     by_test true e = absurd (let zero : segment_of d.symbol ≡ Undefined = ap segment_numbered (eqb-true (masked_type d.symbol) 0 e) in
-        let bad : Wanted d.symbol.value ≡ Defined segment n = sym (ap (λ (g : Segment). statement d.before d.k g d.symbol.value) zero) ∙ d.is in cc)
+        let bad : Wanted d.symbol.value ≡ Defined segment n =
+        sym (ap (λ (g : Segment). statement d.before d.k g d.symbol.value) zero) ∙ d.is in cc)
 
 -- where no name is multiply defined, it is the first definition of the name
-pub first_is_said : (forced : List (List ℕ)) (os : List Contents) → multiple_names (mentions forced os) ≡ [] → (name : List ℕ) (segment : Segment) (n : ℕ) → IsSaid os name (Defined segment n) → state (mentions forced os) name ≡ Defined segment n
+pub first_is_said : (forced : List (List ℕ)) (os : List Contents) → multiple_names (mentions forced os) ≡ [] →
+    (name : List ℕ) (segment : Segment) (n : ℕ) → IsSaid os name (Defined segment n) →
+    state (mentions forced os) name ≡ Defined segment n
 first_is_said forced os single name segment n d =
     let ms = mentions forced os in
-    let agree : AllByRecursion (AgreesIn ms) (mentions forced (d.before ++ d.k ∷ d.after)) = subst (λ (ks : List Contents). AllByRecursion (AgreesIn ms) (mentions forced ks)) d.all (none_differ ms ms single) in
-    let own : differs (first_definition ms d.symbol.name) (statement d.before d.k (segment_of d.symbol) d.symbol.value) ≡ false = of_entry (AgreesIn ms) forced d.before d.k d.after agree d.number d.symbol d.stands d.outer in
+    let agree : AllByRecursion (AgreesIn ms) (mentions forced (d.before ++ d.k ∷ d.after)) =
+    subst (λ (ks : List Contents). AllByRecursion (AgreesIn ms) (mentions forced ks)) d.all (none_differ ms ms single) in
+    let own : differs (first_definition ms d.symbol.name) (statement d.before d.k (segment_of d.symbol) d.symbol.value)
+    ≡ false = of_entry (AgreesIn ms) forced d.before d.k d.after agree d.number d.symbol d.stands d.outer in
     let first : first_definition ms name ≡ Some (segment, n) =
-    agrees_with (first_definition ms name) segment n (ap (λ (m : List ℕ). differs (first_definition ms m) (Defined segment n)) d.names ∙ ap (λ (st : State). differs (first_definition ms d.symbol.name) st) (sym d.is) ∙ own) in
+    agrees_with (first_definition ms name) segment n (ap (λ (m : List ℕ). differs (first_definition ms m) (Defined segment n))
+    d.names ∙ ap (λ (st : State). differs (first_definition ms d.symbol.name) st) (sym d.is) ∙ own) in
     ap (λ (f : Option Definition). state_by f (wanted_size ms name)) first

@@ -1,5 +1,6 @@
 -- Links of the same objects in two orders: refusals, sizes and reports.
-use Rattle.std.proofs.Common.{◌≡◌, ℕ, ◌+◌, ◌*◌, Bool, true, false, cond, ◌&&◌, eqb, List, [], length, Option, Some, None, refl, sym, ◌∙◌, ap, subst}
+use Rattle.std.proofs.Common.{◌≡◌, ℕ, ◌+◌, ◌*◌, Bool, true, false, cond, ◌&&◌, eqb, List, [], length}
+use Rattle.std.proofs.Common.{Option, Some, None, refl, sym, ◌∙◌, ap, subst}
 use Rattle.std.specs.Prelude.{bytes_eq, filter, nat_lt, Result, Ok, Err}
 use Rattle.std.specs.List.Sorted.{IsPermutation}
 use Rattle.std.proofs.lemmas.List.Concat.{length-flat_map}
@@ -28,7 +29,8 @@ use Rattle.link_laws.proofs.HasStateLemmas.{state_is}
 use Rattle.link_out.proofs.OutcomeLemmas.{made_file, made_report}
 use Rattle.link_laws.proofs.RefusalLemmas.{table_long}
 use Rattle.laws.specs.Orders.{AreOrders}
-use Rattle.laws.proofs.ReorderedMentions.{size_if_wanted, same_names, names_reordered, same_wants, same_total, same_commons, same_reserved, undefined_reordered}
+use Rattle.laws.proofs.ReorderedMentions.{size_if_wanted, same_names, names_reordered, same_wants, same_total}
+use Rattle.laws.proofs.ReorderedMentions.{same_commons, same_reserved, undefined_reordered}
 use Rattle.laws.proofs.ReorderedDefinitions.{definition_found, said_again, first_is_said}
 
 module _ (forced : List (List ℕ)) (os ps : List Contents) (o : Choices) (same : IsPermutation os ps) where
@@ -42,7 +44,9 @@ module _ (forced : List (List ℕ)) (os ps : List Contents) (o : Choices) (same 
   same_laid = ap (λ (n : ℕ). cond (lays_commons o) n 0) (same_commons forced os ps same)
 
   pub same_bases : (plan forced os o).at ≡ (plan forced ps o).at
-  same_bases = λ i. bases o.layout (same_total forced os ps same TextSeg i) (same_total forced os ps same DataSeg i) (same_laid i) (same_total forced os ps same BssSeg i)
+  same_bases =
+      λ i. bases o.layout (same_total forced os ps same TextSeg i) (same_total forced os ps same DataSeg i)
+      (same_laid i) (same_total forced os ps same BssSeg i)
 
   locals_counted : length (kept_locals o os) ≡ length (kept_locals o ps)
   locals_counted =
@@ -58,8 +62,10 @@ module _ (forced : List (List ℕ)) (os ps : List Contents) (o : Choices) (same 
 
   -- the same tests, without the one on far words
   refused_alike : (t u v w : Bool) (x y : Outcome) (fault : LinkFault) → v ≡ false →
-      (let a : Result Outcome LinkFault = cond t (Err DoesNotFit) (cond u (Err TooManySymbols) (cond v (Err SymbolNumber) (Ok x))) in a) ≡ Err fault →
-      (let a : Result Outcome LinkFault = cond t (Err DoesNotFit) (cond u (Err TooManySymbols) (cond w (Err SymbolNumber) (Ok y))) in a) ≡ Err fault
+      (let a : Result Outcome LinkFault = cond t (Err DoesNotFit) (cond u (Err TooManySymbols) (cond v (Err SymbolNumber) (Ok x))) in a)
+      ≡ Err fault →
+      (let a : Result Outcome LinkFault = cond t (Err DoesNotFit) (cond u (Err TooManySymbols) (cond w (Err SymbolNumber) (Ok y))) in a)
+      ≡ Err fault
   refused_alike true u v w x y fault e h = h
   refused_alike false true v w x y fault e h = h
   refused_alike false false false w x y fault e h = absurd (cc)
@@ -69,11 +75,15 @@ module _ (forced : List (List ℕ)) (os ps : List Contents) (o : Choices) (same 
   refused fault r h =
       subst (λ (n : ℕ). link_at n (length (table q ps)) ≡ Err fault) (ap (λ (b : Bases). b.bss_end) same_bases)
       (subst (λ (n : ℕ). link_at p.at.bss_end n ≡ Err fault) table_counted
-      (refused_alike (nat_lt 65535 p.at.bss_end) (nat_lt 5461 (length (table p os))) (o.relocatable && has_far_word p os) (o.relocatable && has_far_word q ps)
-      (record { file = linked_file p os; report = report_of p }) (record { file = linked_file q ps; report = report_of q }) fault (λ i. r i && has_far_word p os) h))
+      (refused_alike (nat_lt 65535 p.at.bss_end) (nat_lt 5461 (length (table p os)))
+      (o.relocatable && has_far_word p os) (o.relocatable && has_far_word q ps)
+      (record { file = linked_file p os; report = report_of p }) (record { file = linked_file q ps; report = report_of q })
+      fault (λ i. r i && has_far_word p os) h))
     where
       link_at : ℕ → ℕ → Result Outcome LinkFault
-      link_at end count = cond (nat_lt 65535 end) (Err DoesNotFit) (cond (nat_lt 5461 count) (Err TooManySymbols) (cond (o.relocatable && has_far_word q ps) (Err SymbolNumber) (Ok (record { file = linked_file q ps; report = report_of q }))))
+      link_at end count =
+          cond (nat_lt 65535 end) (Err DoesNotFit) (cond (nat_lt 5461 count) (Err TooManySymbols)
+          (cond (o.relocatable && has_far_word q ps) (Err SymbolNumber) (Ok (record { file = linked_file q ps; report = report_of q }))))
 
   same_header : (record (linked_header p os) { entry_point = (linked_header q ps).entry_point }) ≡ linked_header q ps
   same_header = λ i. record {
@@ -94,17 +104,23 @@ module _ (forced : List (List ℕ)) (os ps : List Contents) (o : Choices) (same 
   segment_if_defined (Defined segment offset) = Some segment
   segment_if_defined (Wanted size) = None
 
-  same_bound : (a b : Bases) (m n : ℕ) (name : List ℕ) (s t : State) → size_if_wanted s ≡ size_if_wanted t → segment_if_defined s ≡ segment_if_defined t → (final_at o a m name s).bound ≡ (final_at o b n name t).bound
+  same_bound : (a b : Bases) (m n : ℕ) (name : List ℕ) (s t : State) → size_if_wanted s ≡ size_if_wanted t →
+      segment_if_defined s ≡ segment_if_defined t → (final_at o a m name s).bound ≡ (final_at o b n name t).bound
   same_bound a b m n name (Defined g x) (Defined h y) e f = f
   same_bound a b m n name (Defined g x) (Wanted y) e f = absurd (cc)
   same_bound a b m n name (Wanted x) (Defined g y) e f = absurd (cc)
   same_bound a b m n name (Wanted x) (Wanted y) e f =
       let is : x ≡ y = cc in
-      ap (λ (z : ℕ). (final_at o a m name (Wanted z)).bound) is ∙ by_tests (eqb y 0) o.relocatable (lays_commons o) (bytes_eq name etext) (bytes_eq name edata) (bytes_eq name end_name)
+      ap (λ (z : ℕ). (final_at o a m name (Wanted z)).bound) is ∙ by_tests (eqb y 0) o.relocatable (lays_commons o)
+      (bytes_eq name etext) (bytes_eq name edata) (bytes_eq name end_name)
     where
       by_tests : (z r c t d u : Bool) →
-          (let f : Final = cond z (cond r (waiting 0) (cond t (bound_at TextSeg a.text_end) (cond d (bound_at DataSeg a.data_end) (cond u (bound_at BssSeg a.bss_end) (waiting 0))))) (cond c (bound_at BssSeg (plus a.data_end m)) (waiting y)) in f).bound
-          ≡ (let f : Final = cond z (cond r (waiting 0) (cond t (bound_at TextSeg b.text_end) (cond d (bound_at DataSeg b.data_end) (cond u (bound_at BssSeg b.bss_end) (waiting 0))))) (cond c (bound_at BssSeg (plus b.data_end n)) (waiting y)) in f).bound
+          (let f : Final = cond z (cond r (waiting 0) (cond t (bound_at TextSeg a.text_end)
+          (cond d (bound_at DataSeg a.data_end) (cond u (bound_at BssSeg a.bss_end) (waiting 0)))))
+          (cond c (bound_at BssSeg (plus a.data_end m)) (waiting y)) in f).bound
+          ≡ (let f : Final = cond z (cond r (waiting 0) (cond t (bound_at TextSeg b.text_end)
+          (cond d (bound_at DataSeg b.data_end) (cond u (bound_at BssSeg b.bss_end) (waiting 0)))))
+          (cond c (bound_at BssSeg (plus b.data_end n)) (waiting y)) in f).bound
       by_tests true true c t d u = refl
       by_tests true false c true d u = refl
       by_tests true false c false true u = refl
@@ -114,13 +130,17 @@ module _ (forced : List (List ℕ)) (os ps : List Contents) (o : Choices) (same 
       by_tests false r false t d u = refl
 
   module _ (single : multiple_names (mentions forced os) ≡ []) where
-    same_segments : (name : List ℕ) → segment_if_defined (state (mentions forced os) name) ≡ segment_if_defined (state (mentions forced ps) name)
+    same_segments : (name : List ℕ) →
+        segment_if_defined (state (mentions forced os) name) ≡ segment_if_defined (state (mentions forced ps) name)
     same_segments name = by_states (state (mentions forced os) name) refl (state (mentions forced ps) name) refl
       where
-        by_states : (s : State) → state (mentions forced os) name ≡ s → (t : State) → state (mentions forced ps) name ≡ t → segment_if_defined s ≡ segment_if_defined t
+        by_states : (s : State) → state (mentions forced os) name ≡ s → (t : State) →
+            state (mentions forced ps) name ≡ t → segment_if_defined s ≡ segment_if_defined t
         by_states (Wanted x) se (Wanted y) te = refl
-        by_states (Wanted x) se (Defined h y) te = absurd (let bad : Some x ≡ None = sym (ap size_if_wanted se) ∙ same_wants forced os ps same name ∙ ap size_if_wanted te in cc)
-        by_states (Defined g x) se (Wanted y) te = absurd (let bad : None ≡ Some y = sym (ap size_if_wanted se) ∙ same_wants forced os ps same name ∙ ap size_if_wanted te in cc)
+        by_states (Wanted x) se (Defined h y) te =
+            absurd (let bad : Some x ≡ None = sym (ap size_if_wanted se) ∙ same_wants forced os ps same name ∙ ap size_if_wanted te in cc)
+        by_states (Defined g x) se (Wanted y) te =
+            absurd (let bad : None ≡ Some y = sym (ap size_if_wanted se) ∙ same_wants forced os ps same name ∙ ap size_if_wanted te in cc)
         by_states (Defined g x) se (Defined h y) te =
             let d = definition_found forced ps name h y te in
             let e = said_again ps os (IsPermutation-sym os ps same) name d.segment d.offset d.said in
@@ -128,34 +148,46 @@ module _ (forced : List (List ℕ)) (os ps : List Contents) (o : Choices) (same 
             ∙ ap segment_if_defined (sym (state_is (mentions forced ps) name (Defined d.segment d.offset) d.first) ∙ te)
 
     same_bounds : (name : List ℕ) → (final p name).bound ≡ (final q name).bound
-    same_bounds name = same_bound p.at q.at (common_offset p.mentions name) (common_offset q.mentions name) name (state p.mentions name) (state q.mentions name) (same_wants forced os ps same name) (same_segments name)
+    same_bounds name =
+        same_bound p.at q.at (common_offset p.mentions name) (common_offset q.mentions name) name
+        (state p.mentions name) (state q.mentions name) (same_wants forced os ps same name) (same_segments name)
 
     same_entry : (entry : Option (List ℕ)) → entry_found_bad p entry ≡ entry_found_bad q entry
     same_entry None = refl
-    same_entry (Some name) = λ i. let r : Option (List ℕ) = cond (same_names forced os ps same name i && eqb (type_of (same_bounds name i)) 0o42) None (Some name) in r
+    same_entry (Some name) =
+        λ i. let r : Option (List ℕ) =
+        cond (same_names forced os ps same name i && eqb (type_of (same_bounds name i)) 0o42) None (Some name) in r
 
-pub refused_in_order : (forced : List (List ℕ)) (os ps : List Contents) (o : Choices) (fault : LinkFault) → IsPermutation os ps → o.relocatable ≡ false → link forced os o ≡ Err fault → link forced ps o ≡ Err fault
+pub refused_in_order : (forced : List (List ℕ)) (os ps : List Contents) (o : Choices) (fault : LinkFault) →
+    IsPermutation os ps → o.relocatable ≡ false → link forced os o ≡ Err fault → link forced ps o ≡ Err fault
 refused_in_order forced os ps o fault same r h = refused forced os ps o same fault r h
 
-pub sizes_kept : (forced : List (List ℕ)) (os ps : List Contents) (o : Choices) (x y : Outcome) → AreOrders forced os ps o x y → (record x.file.header { entry_point = y.file.header.entry_point }) ≡ y.file.header
+pub sizes_kept : (forced : List (List ℕ)) (os ps : List Contents) (o : Choices) (x y : Outcome) →
+    AreOrders forced os ps o x y → (record x.file.header { entry_point = y.file.header.entry_point }) ≡ y.file.header
 sizes_kept forced os ps o x y h =
-    subst (λ (f : Contents). (record x.file.header { entry_point = f.header.entry_point }) ≡ f.header) (made_file (plan forced ps o) ps y h.other)
-    (subst (λ (f : Contents). (record f.header { entry_point = (linked_header (plan forced ps o) ps).entry_point }) ≡ linked_header (plan forced ps o) ps) (made_file (plan forced os o) os x h.one)
+    subst (λ (f : Contents). (record x.file.header { entry_point = f.header.entry_point }) ≡ f.header)
+    (made_file (plan forced ps o) ps y h.other)
+    (subst (λ (f : Contents). (record f.header { entry_point = (linked_header (plan forced ps o) ps).entry_point })
+    ≡ linked_header (plan forced ps o) ps) (made_file (plan forced os o) os x h.one)
     (same_header forced os ps o h.same))
 
-pub reported_alike : (forced : List (List ℕ)) (os ps : List Contents) (o : Choices) (x y : Outcome) → AreOrders forced os ps o x y → (x.report.reserved ≡ y.report.reserved) × IsPermutation x.report.undefined y.report.undefined
+pub reported_alike : (forced : List (List ℕ)) (os ps : List Contents) (o : Choices) (x y : Outcome) → AreOrders forced
+    os ps o x y → (x.report.reserved ≡ y.report.reserved) × IsPermutation x.report.undefined y.report.undefined
 reported_alike forced os ps o x y h =
     let one = made_report (plan forced os o) os x h.one in
     let other = made_report (plan forced ps o) ps y h.other in (
       sym (ap (λ (f : ReportNames). f.reserved) one) ∙ same_reserved forced os ps h.same ∙ ap (λ (f : ReportNames). f.reserved) other,
-      subst (λ (f : ReportNames). IsPermutation x.report.undefined f.undefined) other (subst (λ (f : ReportNames). IsPermutation f.undefined (report_of (plan forced ps o)).undefined) one (by_test o.relocatable)),
+      subst (λ (f : ReportNames). IsPermutation x.report.undefined f.undefined) other
+          (subst (λ (f : ReportNames). IsPermutation f.undefined (report_of (plan forced ps o)).undefined) one (by_test o.relocatable)),
     )
   where
-    by_test : (r : Bool) → IsPermutation (cond r [] (undefined_names (mentions forced os))) (cond r [] (undefined_names (mentions forced ps)))
+    by_test : (r : Bool) →
+        IsPermutation (cond r [] (undefined_names (mentions forced os))) (cond r [] (undefined_names (mentions forced ps)))
     by_test true = IsPermutation-refl []
     by_test false = undefined_reordered forced os ps h.same
 
-pub entry_found : (forced : List (List ℕ)) (os ps : List Contents) (o : Choices) (x y : Outcome) → AreOrders forced os ps o x y → x.report.multiples ≡ [] → x.report.entry_bad ≡ y.report.entry_bad
+pub entry_found : (forced : List (List ℕ)) (os ps : List Contents) (o : Choices) (x y : Outcome) →
+    AreOrders forced os ps o x y → x.report.multiples ≡ [] → x.report.entry_bad ≡ y.report.entry_bad
 entry_found forced os ps o x y h none =
     let one = made_report (plan forced os o) os x h.one in
     let other = made_report (plan forced ps o) ps y h.other in

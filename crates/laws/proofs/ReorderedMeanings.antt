@@ -1,5 +1,6 @@
 -- What names mean, and what words refer to, in links of the same objects in two orders and two layouts.
-use Rattle.std.proofs.Common.{◌≡◌, ◌≢◌, ℕ, ◌+◌, Bool, true, false, cond, not, ◌||◌, eqb, List, [], ◌∷◌, ◌++◌, Option, Some, None, refl, sym, ◌∙◌, ap, subst, append_assoc, arith, eqb-true}
+use Rattle.std.proofs.Common.{◌≡◌, ◌≢◌, ℕ, ◌+◌, Bool, true, false, cond, not, ◌||◌, eqb, List, [], ◌∷◌, ◌++◌, Option}
+use Rattle.std.proofs.Common.{Some, None, refl, sym, ◌∙◌, ap, subst, append_assoc, arith, eqb-true}
 use Rattle.std.specs.Prelude.{bytes_eq, slice_get, Ok}
 use Rattle.std.specs.List.{AllByRecursion}
 use Rattle.std.specs.List.Sorted.{IsPermutation}
@@ -74,8 +75,10 @@ module _ (forced : List (List ℕ)) (os : List Contents) (o : Choices) where
   undefined_same name = by_tests o.relocatable (bytes_eq name etext) (bytes_eq name edata) (bytes_eq name end_name)
     where
       by_tests : (r t d e : Bool) →
-          row_at name (cond r (waiting 0) (cond t (bound_at TextSeg p.at.text_end) (cond d (bound_at DataSeg p.at.data_end) (cond e (bound_at BssSeg p.at.bss_end) (waiting 0)))))
-          ≡ cond r (shown name 0o40 0) (cond t (shown name 0o42 h.text_size) (cond d (shown name 0o43 (data_start_in h + h.data_size)) (cond e (shown name 0o44 (data_start_in h + h.data_size + h.bss_size)) (shown name 0o40 0))))
+          row_at name (cond r (waiting 0) (cond t (bound_at TextSeg p.at.text_end)
+          (cond d (bound_at DataSeg p.at.data_end) (cond e (bound_at BssSeg p.at.bss_end) (waiting 0)))))
+          ≡ cond r (shown name 0o40 0) (cond t (shown name 0o42 h.text_size) (cond d (shown name 0o43 (data_start_in h + h.data_size))
+          (cond e (shown name 0o44 (data_start_in h + h.data_size + h.bss_size)) (shown name 0o40 0))))
       by_tests true t d e = refl
       by_tests false true d e = refl
       by_tests false false true e = ap (λ (n : ℕ). shown name 0o43 n) data_ends
@@ -90,13 +93,15 @@ record HasPlace (b : Bases) (before : List Contents) (k : Contents) (segment : S
   type_bits : type_of (Some g) ≡ external_type segment
   value : plus (base b g) n ≡ plus own (move b before k segment)
 
-has_place : (b : Bases) (before : List Contents) (k : Contents) (segment : Segment) (value : ℕ) (g : Segment) (n : ℕ) → statement before k segment value ≡ Defined g n → HasPlace b before k segment value g n
+has_place : (b : Bases) (before : List Contents) (k : Contents) (segment : Segment) (value : ℕ) (g : Segment) (n : ℕ) →
+    statement before k segment value ≡ Defined g n → HasPlace b before k segment value g n
 has_place b before k segment value g n e = by_segment segment g n e
   where
     sums : (v b h : ℕ) → plus b (plus v h) ≡ plus v (plus b h)
     sums v b h = omega arith
 
-    at : (segment h : Segment) → type_of (Some h) ≡ external_type segment → base b h ≡ base b segment → (m : ℕ) → m ≡ plus value (shift before k segment) → HasPlace b before k segment value h m
+    at : (segment h : Segment) → type_of (Some h) ≡ external_type segment → base b h ≡ base b segment → (m : ℕ) →
+        m ≡ plus value (shift before k segment) → HasPlace b before k segment value h m
     at segment h t f m same = record {
       type_bits = t;
       value = (λ i. plus (f i) (same i)) ∙ sums value (base b segment) (shift before k segment);
@@ -104,28 +109,43 @@ has_place b before k segment value g n e = by_segment segment g n e
 
     by_segment : (segment g : Segment) (n : ℕ) → statement before k segment value ≡ Defined g n → HasPlace b before k segment value g n
     by_segment Undefined g n e = absurd (let bad : Wanted value ≡ Defined g n = e in cc)
-    by_segment Absolute g n e = let one : Absolute ≡ g = cc in let two : plus value (shift before k Absolute) ≡ n = cc in subst (λ (h : Segment). HasPlace b before k Absolute value h n) one (at Absolute Absolute refl refl n (sym two))
-    by_segment TextSeg g n e = let one : TextSeg ≡ g = cc in let two : plus value (shift before k TextSeg) ≡ n = cc in subst (λ (h : Segment). HasPlace b before k TextSeg value h n) one (at TextSeg TextSeg refl refl n (sym two))
-    by_segment DataSeg g n e = let one : DataSeg ≡ g = cc in let two : plus value (shift before k DataSeg) ≡ n = cc in subst (λ (h : Segment). HasPlace b before k DataSeg value h n) one (at DataSeg DataSeg refl refl n (sym two))
-    by_segment BssSeg g n e = let one : BssSeg ≡ g = cc in let two : plus value (shift before k BssSeg) ≡ n = cc in subst (λ (h : Segment). HasPlace b before k BssSeg value h n) one (at BssSeg BssSeg refl refl n (sym two))
-    by_segment Other g n e = let one : Absolute ≡ g = cc in let two : plus value (shift before k Absolute) ≡ n = cc in subst (λ (h : Segment). HasPlace b before k Other value h n) one (at Other Absolute refl refl n (sym two))
+    by_segment Absolute g n e =
+        let one : Absolute ≡ g = cc in let two : plus value (shift before k Absolute) ≡ n = cc in
+        subst (λ (h : Segment). HasPlace b before k Absolute value h n) one (at Absolute Absolute refl refl n (sym two))
+    by_segment TextSeg g n e =
+        let one : TextSeg ≡ g = cc in let two : plus value (shift before k TextSeg) ≡ n = cc in
+        subst (λ (h : Segment). HasPlace b before k TextSeg value h n) one (at TextSeg TextSeg refl refl n (sym two))
+    by_segment DataSeg g n e =
+        let one : DataSeg ≡ g = cc in let two : plus value (shift before k DataSeg) ≡ n = cc in
+        subst (λ (h : Segment). HasPlace b before k DataSeg value h n) one (at DataSeg DataSeg refl refl n (sym two))
+    by_segment BssSeg g n e =
+        let one : BssSeg ≡ g = cc in let two : plus value (shift before k BssSeg) ≡ n = cc in
+        subst (λ (h : Segment). HasPlace b before k BssSeg value h n) one (at BssSeg BssSeg refl refl n (sym two))
+    by_segment Other g n e =
+        let one : Absolute ≡ g = cc in let two : plus value (shift before k Absolute) ≡ n = cc in
+        subst (λ (h : Segment). HasPlace b before k Other value h n) one (at Other Absolute refl refl n (sym two))
 
 -- one of the links
-module _ (forced : List (List ℕ)) (os : List Contents) (o : Choices) (x : Outcome) (others : o.keep ≢ Nothing) (linked : link forced os o ≡ Ok x) where
-  missing_in : (name : List ℕ) → is_among (externals forced os) name ≡ true → IsWanted (mentions forced os) name 0 → state (mentions forced os) name ≡ Wanted 0 → Means forced os o x.file name missing
+module _ (forced : List (List ℕ)) (os : List Contents) (o : Choices) (x : Outcome) (others : o.keep ≢ Nothing)
+    (linked : link forced os o ≡ Ok x) where
+  missing_in : (name : List ℕ) → is_among (externals forced os) name ≡ true → IsWanted (mentions forced os) name 0 →
+      state (mentions forced os) name ≡ Wanted 0 → Means forced os o x.file name missing
   missing_in name known wanted st = (
     wanted,
     subst (λ (f : Contents). entry_of f.symbols name ≡ Some (undefined_row f.header o name)) (made_file (plan forced os o) os x linked)
-        (entry_there (plan forced os o) os name others known ∙ ap (λ (r : Symbol). let e : Option Symbol = Some r in e) (undefined_shown forced os o name st)),
+        (entry_there (plan forced os o) os name others known
+        ∙ ap (λ (r : Symbol). let e : Option Symbol = Some r in e) (undefined_shown forced os o name st)),
   )
 
-  common_in : lays_commons o ≡ true → (name : List ℕ) (size : ℕ) → IsWanted (mentions forced os) name size → eqb size 0 ≡ false → Means forced os o x.file name (common size)
+  common_in : lays_commons o ≡ true → (name : List ℕ) (size : ℕ) → IsWanted (mentions forced os) name size →
+      eqb size 0 ≡ false → Means forced os o x.file name (common size)
   common_in lays name size wanted sized =
       let is : IsCommon forced os name size = record { wanted = wanted; sized = sized } in
       (is, commons_have_room forced os o x others lays linked name size is)
 
   -- a definition that the state of its name is
-  defined_in : (name : List ℕ) (segment : Segment) (n : ℕ) (d : IsSaid os name (Defined segment n)) → state (mentions forced os) name ≡ Defined segment n → IsDefinedBy x.file os name d.k d.symbol
+  defined_in : (name : List ℕ) (segment : Segment) (n : ℕ) (d : IsSaid os name (Defined segment n)) →
+      state (mentions forced os) name ≡ Defined segment n → IsDefinedBy x.file os name d.k d.symbol
   defined_in name segment n d first = record {
     before = d.before;
     after = d.after;
@@ -147,9 +167,11 @@ module _ (forced : List (List ℕ)) (os : List Contents) (o : Choices) (x : Outc
       known : is_among (externals forced os) d.symbol.name ≡ true
       known = by_test (is_among (names_of (mentions forced os)) d.symbol.name) refl
         where
-          by_test : (t : Bool) → is_among (names_of (mentions forced os)) d.symbol.name ≡ t → is_among (externals forced os) d.symbol.name ≡ true
+          by_test : (t : Bool) → is_among (names_of (mentions forced os)) d.symbol.name ≡ t →
+              is_among (externals forced os) d.symbol.name ≡ true
           by_test true e = is_among-externals (mentions forced os) d.symbol.name ∙ e
-          by_test false e = absurd (let bad : Wanted 0 ≡ Defined segment n = sym (unmentioned (mentions forced os) d.symbol.name e) ∙ here in cc)
+          by_test false e =
+              absurd (let bad : Wanted 0 ≡ Defined segment n = sym (unmentioned (mentions forced os) d.symbol.name e) ∙ here in cc)
 
       final_is : final p d.symbol.name ≡ bound_at segment (plus (base p.at segment) n)
       final_is = ap (λ (s : State). final_by p d.symbol.name s) here
@@ -162,7 +184,9 @@ module _ (forced : List (List ℕ)) (os : List Contents) (o : Choices) (x : Outc
         row = external_row p d.symbol.name;
         found = entry_there p os d.symbol.name others known;
         type_bits = ap (λ (f : Final). type_of f.bound) final_is ∙ place.type_bits;
-        value = ap (λ (f : Final). f.written) final_is ∙ place.value ∙ ap (λ (m : ℕ). plus d.symbol.value m) (move_by_header forced os o d.before d.k (segment_of d.symbol));
+        value =
+            ap (λ (f : Final). f.written) final_is ∙ place.value
+            ∙ ap (λ (m : ℕ). plus d.symbol.value m) (move_by_header forced os o d.before d.k (segment_of d.symbol));
       }
 
 pub laid : (o : Choices) → o.relocatable ≡ false → lays_commons o ≡ true
@@ -172,18 +196,23 @@ laid o r = by_test o.relocatable r
     by_test false e = refl
     by_test true e = absurd (let bad : true ≡ false = e in cc)
 
-pub meanings_kept : (forced : List (List ℕ)) (os ps : List Contents) (o : Choices) (layout : Layout) (x y : Outcome) → AreLinks forced os ps o layout x y → o.keep ≢ Nothing → o.relocatable ≡ false →
+pub meanings_kept : (forced : List (List ℕ)) (os ps : List Contents) (o : Choices) (layout : Layout) (x y : Outcome) →
+    AreLinks forced os ps o layout x y → o.keep ≢ Nothing → o.relocatable ≡ false →
     x.report.multiples ≡ [] → (name : List ℕ) → is_among (externals forced os) name ≡ true → MeansTheSame forced os ps o x y name
-meanings_kept forced os ps o layout x y h others r none name known = by_state (state (mentions forced os) name) refl (state (mentions forced ps) name) refl (has_state (mentions forced os) name)
+meanings_kept forced os ps o layout x y h others r none name known =
+    by_state (state (mentions forced os) name) refl (state (mentions forced ps) name) refl (has_state (mentions forced os) name)
   where
     known_too : is_among (externals forced ps) name ≡ true
     known_too = sym (same_names forced os ps h.same name) ∙ known
 
-    by_size : (size : ℕ) (t : Bool) → eqb size 0 ≡ t → IsWanted (mentions forced os) name size → state (mentions forced os) name ≡ Wanted size → MeansTheSame forced os ps o x y name
+    by_size : (size : ℕ) (t : Bool) → eqb size 0 ≡ t → IsWanted (mentions forced os) name size →
+        state (mentions forced os) name ≡ Wanted size → MeansTheSame forced os ps o x y name
     by_size size false t wanted st = record {
       meaning = common size;
       one = common_in forced os o x others h.one (laid o r) name size wanted t;
-      other = common_in forced ps (record o { layout = layout }) y others h.other (laid o r) name size (wanted_too forced os ps h.same name size wanted) t;
+      other =
+          common_in forced ps (record o { layout = layout }) y others h.other (laid o r) name size
+          (wanted_too forced os ps h.same name size wanted) t;
     }
     by_size size true t wanted st =
         let zero : size ≡ 0 = eqb-true size 0 t in
@@ -192,16 +221,20 @@ meanings_kept forced os ps o layout x y h others r none name known = by_state (s
         record {
           meaning = missing;
           one = missing_in forced os o x others h.one name known here (state_is (mentions forced os) name (Wanted 0) here);
-          other = missing_in forced ps (record o { layout = layout }) y others h.other name known_too there (state_is (mentions forced ps) name (Wanted 0) there);
+          other =
+              missing_in forced ps (record o { layout = layout }) y others h.other name known_too there
+              (state_is (mentions forced ps) name (Wanted 0) there);
         }
 
     single : multiple_names (mentions forced os) ≡ []
     single = ap (λ (f : ReportNames). f.multiples) (made_report (plan forced os o) os x h.one) ∙ none
 
     -- the definition that is the first in the other order is one in this
-    by_state : (s : State) → state (mentions forced os) name ≡ s → (t : State) → state (mentions forced ps) name ≡ t → HasState (mentions forced os) name s → MeansTheSame forced os ps o x y name
+    by_state : (s : State) → state (mentions forced os) name ≡ s → (t : State) → state (mentions forced ps) name ≡ t →
+        HasState (mentions forced os) name s → MeansTheSame forced os ps o x y name
     by_state (Wanted size) e t f has = by_size size (eqb size 0) refl has e
-    by_state (Defined g n) e (Wanted size) f has = absurd (let bad : None ≡ Some size = sym (ap size_if_wanted e) ∙ same_wants forced os ps h.same name ∙ ap size_if_wanted f in cc)
+    by_state (Defined g n) e (Wanted size) f has =
+        absurd (let bad : None ≡ Some size = sym (ap size_if_wanted e) ∙ same_wants forced os ps h.same name ∙ ap size_if_wanted f in cc)
     by_state (Defined g n) e (Defined f m) t has =
         let d = definition_found forced ps name f m t in
         let again = said_again ps os (IsPermutation-sym os ps h.same) name d.segment d.offset d.said in
@@ -209,8 +242,11 @@ meanings_kept forced os ps o layout x y h others r none name known = by_state (s
           meaning = definition d.said.k d.said.symbol;
           one = subst (λ (k : Contents). IsDefinedBy x.file os name k d.said.symbol) again.object
               (subst (λ (s : Symbol). IsDefinedBy x.file os name again.said.k s) again.symbol
-              (defined_in forced os o x others h.one name d.segment again.offset again.said (first_is_said forced os single name d.segment again.offset again.said)));
-          other = defined_in forced ps (record o { layout = layout }) y others h.other name d.segment d.offset d.said (state_is (mentions forced ps) name (Defined d.segment d.offset) d.first);
+              (defined_in forced os o x others h.one name d.segment again.offset again.said
+              (first_is_said forced os single name d.segment again.offset again.said)));
+          other =
+              defined_in forced ps (record o { layout = layout }) y others h.other name d.segment d.offset d.said
+              (state_is (mentions forced ps) name (Defined d.segment d.offset) d.first);
         }
 
 -- the objects of the other order are objects too
@@ -221,21 +257,27 @@ objects_too os ps same good = from [] ps refl
     from done [] e = tt
     from done (k ∷ ks) e =
         let there = placed_again ps os (IsPermutation-sym os ps same) done k ks e in
-        let all : AllByRecursion IsObject (there.before ++ k ∷ there.after) = subst (λ (cs : List Contents). AllByRecursion IsObject cs) there.all good in
+        let all : AllByRecursion IsObject (there.before ++ k ∷ there.after) =
+        subst (λ (cs : List Contents). AllByRecursion IsObject cs) there.all good in
         ((all_split IsObject there.before (k ∷ there.after) all).1.0, from (done ++ k ∷ []) ks (e ∙ sym (append_assoc done (k ∷ []) ks)))
 
 pub referents_kept : LinksKeepReferents
 referents_kept forced os ps o layout x y h others nr none good before k after all front back all_too segment i w r ew er = record {
   one = subst (λ (ks : List Contents). IsRelocated x.file x.file.symbols ks before k segment i w r) (sym all)
-      (words_relocated forced before k after o x (subst (λ (ks : List Contents). AllByRecursion IsObject ks) all good) others (subst (λ (ks : List Contents). link forced ks o ≡ Ok x) all h.one) segment i w r ew er);
+      (words_relocated forced before k after o x (subst (λ (ks : List Contents). AllByRecursion IsObject ks) all good)
+      others (subst (λ (ks : List Contents). link forced ks o ≡ Ok x) all h.one) segment i w r ew er);
   other = subst (λ (ks : List Contents). IsRelocated y.file y.file.symbols ks front k segment i w r) (sym all_too)
-      (words_relocated forced front k back (record o { layout = layout }) y (subst (λ (ks : List Contents). AllByRecursion IsObject ks) all_too (objects_too os ps h.same good)) others (subst (λ (ks : List Contents). link forced ks (record o { layout = layout }) ≡ Ok y) all_too h.other) segment i w r ew er);
+      (words_relocated forced front k back (record o { layout = layout }) y
+      (subst (λ (ks : List Contents). AllByRecursion IsObject ks) all_too (objects_too os ps h.same good)) others
+      (subst (λ (ks : List Contents). link forced ks (record o { layout = layout }) ≡ Ok y) all_too h.other) segment i w r ew er);
   name = λ external s named. meanings_kept forced os ps o layout x y h others nr none s.name (known external s named);
 }
   where
-    known : kind_of r ≡ Some External → (s : Symbol) → slice_get k.symbols (symbol_number r) ≡ Some s → is_among (externals forced os) s.name ≡ true
+    known : kind_of r ≡ Some External → (s : Symbol) → slice_get k.symbols (symbol_number r) ≡ Some s →
+        is_among (externals forced os) s.name ≡ true
     known external s named =
         let names = names_of (mentions forced os) in
         let here : is_among names (name_in (slice_get k.symbols (symbol_number r))) ≡ true =
-        subst (λ (kind : Option Kind). RefersAmong names (referent_by k (symbol_number r) kind)) external (word_at forced os before k after all good segment i w r ew er).known in
+        subst (λ (kind : Option Kind). RefersAmong names (referent_by k (symbol_number r) kind)) external
+        (word_at forced os before k after all good segment i w r ew er).known in
         is_among-externals (mentions forced os) s.name ∙ ap (λ (slot : Option Symbol). is_among names (name_in slot)) (sym named) ∙ here

@@ -1,5 +1,7 @@
 -- What is said of names by the same objects in two orders.
-use Rattle.std.proofs.Common.{◌≡◌, ◌≢◌, ℕ, zero, suc, ◌+◌, ◌<◌, ◌≤◌, Bool, true, false, cond, not, ◌&&◌, ◌||◌, eqb, List, [], ◌∷◌, ◌++◌, map, length, Option, Some, None, refl, sym, ◌∙◌, ap, subst, append_assoc, arith, inl, inr}
+use Rattle.std.proofs.Common.{◌≡◌, ◌≢◌, ℕ, zero, suc, ◌+◌, ◌<◌, ◌≤◌, Bool, true, false, cond, not, ◌&&◌}
+use Rattle.std.proofs.Common.{◌||◌, eqb, List, [], ◌∷◌, ◌++◌, map, length, Option, Some, None, refl, sym}
+use Rattle.std.proofs.Common.{◌∙◌, ap, subst, append_assoc, arith, inl, inr}
 use Rattle.std.specs.Prelude.{bytes_eq, filter, slice_get, slice_index_or, sum_by}
 use Rattle.std.specs.List.{AllByRecursion, Contains}
 use Rattle.std.specs.List.Sorted.{IsPermutation}
@@ -17,7 +19,8 @@ use Rattle.link_session.specs.declared.state.State.{State}
 use Rattle.link_session.specs.declared.state.State.TheVariants.{Defined, Wanted}
 use Rattle.link_session.specs.Starts.{size_of, total, shift}
 use Rattle.tool_options.specs.NameLists.{is_among}
-use Rattle.link_session.specs.Mentions.{Mention, statement, mention, mentions, mentions_in, forced_mention, names_of, names_by_first_mention}
+use Rattle.link_session.specs.Mentions.{Mention, statement, mention, mentions, mentions_in, forced_mention}
+use Rattle.link_session.specs.Mentions.{names_of, names_by_first_mention}
 use Rattle.link_session.specs.States.{state}
 use Rattle.link_session.proofs.ListLemmas.{all_append, all_split}
 use Rattle.link_session.proofs.MentionLemmas.{is_among-externals}
@@ -39,10 +42,13 @@ pub record IsPlaced (os : List Contents) (k : Contents) : Type 0 where
 placed : (os : List Contents) (k : Contents) (i : ℕ) → i < length os → slice_index_or os i k ≡ k → IsPlaced os k
 placed [] k i h e = absurd (omega arith)
 placed (o ∷ os) k zero h e = record { before = []; after = os; all = λ i. e i ∷ os }
-placed (o ∷ os) k (suc i) h e = let r = placed os k i (omega arith) e in record { before = o ∷ r.before; after = r.after; all = ap (λ (ks : List Contents). o ∷ ks) r.all }
+placed (o ∷ os) k (suc i) h e =
+    let r = placed os k i (omega arith) e in
+    record { before = o ∷ r.before; after = r.after; all = ap (λ (ks : List Contents). o ∷ ks) r.all }
 
 -- it stands among them in another order too
-pub placed_again : (os ps : List Contents) → IsPermutation os ps → (before : List Contents) (k : Contents) (after : List Contents) → os ≡ before ++ k ∷ after → IsPlaced ps k
+pub placed_again : (os ps : List Contents) → IsPermutation os ps →
+    (before : List Contents) (k : Contents) (after : List Contents) → os ≡ before ++ k ∷ after → IsPlaced ps k
 placed_again os ps same before k after all =
     let first : Contains (k ∷ after) k = (0, omega arith, refl) in
     let here : Contains os k = subst (λ (ks : List Contents). Contains ks k) (sym all) (Contains-append_right before (k ∷ after) k first) in
@@ -53,19 +59,28 @@ placed_again os ps same before k after all =
 abbrev pub OfEach : (Mention → Type 0) → List Contents → Contents → Type 0
 OfEach P before k = (j : ℕ) (s : Symbol) → slice_get k.symbols j ≡ Some s → is_external s ≡ true → P (mention before k s)
 
-of_symbols : (P : Mention → Type 0) (before : List Contents) (k : Contents) → OfEach P before k → (done ss : List Symbol) → k.symbols ≡ done ++ ss → AllByRecursion P (map (mention before k) (filter is_external ss))
+of_symbols : (P : Mention → Type 0) (before : List Contents) (k : Contents) → OfEach P before k →
+    (done ss : List Symbol) → k.symbols ≡ done ++ ss → AllByRecursion P (map (mention before k) (filter is_external ss))
 of_symbols P before k each done [] e = tt
-of_symbols P before k each done (s ∷ ss) e = by_test (is_external s) refl (of_symbols P before k each (done ++ s ∷ []) ss (e ∙ sym (append_assoc done (s ∷ []) ss)))
+of_symbols P before k each done (s ∷ ss) e =
+    by_test (is_external s) refl (of_symbols P before k each (done ++ s ∷ []) ss (e ∙ sym (append_assoc done (s ∷ []) ss)))
   where
-    by_test : (t : Bool) → is_external s ≡ t → AllByRecursion P (map (mention before k) (filter is_external ss)) → AllByRecursion P (map (mention before k) (cond t (s ∷ filter is_external ss) (filter is_external ss)))
+    by_test : (t : Bool) → is_external s ≡ t → AllByRecursion P (map (mention before k) (filter is_external ss)) →
+        AllByRecursion P (map (mention before k) (cond t (s ∷ filter is_external ss) (filter is_external ss)))
     by_test false te rest = rest
-    by_test true te rest = (each (length done + 0) s (ap (λ (xs : List Symbol). slice_get xs (length done + 0)) e ∙ slice_get_after done (s ∷ ss) (length done) 0 refl) te, rest)
+    by_test true te rest = (
+      each (length done + 0) s (ap (λ (xs : List Symbol). slice_get xs (length done + 0)) e
+          ∙ slice_get_after done (s ∷ ss) (length done) 0 refl) te,
+      rest,
+    )
 
-of_objects : (P : Mention → Type 0) (os : List Contents) → ((before : List Contents) (k : Contents) (after : List Contents) → os ≡ before ++ k ∷ after → OfEach P before k) →
+of_objects : (P : Mention → Type 0) (os : List Contents) →
+    ((before : List Contents) (k : Contents) (after : List Contents) → os ≡ before ++ k ∷ after → OfEach P before k) →
     (before rest : List Contents) → os ≡ before ++ rest → AllByRecursion P (blocks mentions_in before rest)
 of_objects P os each before [] e = tt
 of_objects P os each before (k ∷ ks) e =
-    all_append P (mentions_in before k) (blocks mentions_in (before ++ k ∷ []) ks) (of_symbols P before k (each before k ks e) [] k.symbols refl)
+    all_append P (mentions_in before k) (blocks mentions_in (before ++ k ∷ []) ks)
+    (of_symbols P before k (each before k ks e) [] k.symbols refl)
     (of_objects P os each (before ++ k ∷ []) ks (e ∙ sym (append_assoc before (k ∷ []) ks)))
 
 -- what does not depend on where the object stands
@@ -79,7 +94,8 @@ IsOfOther name m = bytes_eq name m.name ≡ false
 open_anywhere : (name : List ℕ) → IsPlaceless (LeavesOpen name)
 open_anywhere name before front k s h same = by_segment (segment_of s) (h same)
   where
-    by_segment : (segment : Segment) → ((g : Segment) (n : ℕ) → statement before k segment s.value ≢ Defined g n) → (g : Segment) (n : ℕ) → statement front k segment s.value ≢ Defined g n
+    by_segment : (segment : Segment) → ((g : Segment) (n : ℕ) → statement before k segment s.value ≢ Defined g n) →
+        (g : Segment) (n : ℕ) → statement front k segment s.value ≢ Defined g n
     by_segment Undefined h g n e = absurd (let bad : Wanted s.value ≡ Defined g n = e in cc)
     by_segment Absolute h g n e = h Absolute (plus s.value (shift before k Absolute)) refl
     by_segment TextSeg h g n e = h TextSeg (plus s.value (shift before k TextSeg)) refl
@@ -90,7 +106,8 @@ open_anywhere name before front k s h same = by_segment (segment_of s) (h same)
 most_anywhere : (name : List ℕ) (most : ℕ) → IsPlaceless (WantsAtMost name most)
 most_anywhere name most before front k s h same = by_segment (segment_of s) (h same)
   where
-    by_segment : (segment : Segment) → ((n : ℕ) → statement before k segment s.value ≡ Wanted n → n ≤ most) → (n : ℕ) → statement front k segment s.value ≡ Wanted n → n ≤ most
+    by_segment : (segment : Segment) → ((n : ℕ) → statement before k segment s.value ≡ Wanted n → n ≤ most) → (n : ℕ) →
+        statement front k segment s.value ≡ Wanted n → n ≤ most
     by_segment Undefined h n e = h n e
     by_segment Absolute h n e = absurd (let bad : Defined Absolute (plus s.value (shift front k Absolute)) ≡ Wanted n = e in cc)
     by_segment TextSeg h n e = absurd (let bad : Defined TextSeg (plus s.value (shift front k TextSeg)) ≡ Wanted n = e in cc)
@@ -99,7 +116,8 @@ most_anywhere name most before front k s h same = by_segment (segment_of s) (h s
     by_segment Other h n e = absurd (let bad : Defined Absolute (plus s.value (shift front k Absolute)) ≡ Wanted n = e in cc)
 
 -- where no mention defines the name none is the first to
-pub none_first : (ms : List Mention) (name : List ℕ) (segment : Segment) (offset : ℕ) → AllByRecursion (LeavesOpen name) ms → IsFirst ms name segment offset → ⊥
+pub none_first : (ms : List Mention) (name : List ℕ) (segment : Segment) (offset : ℕ) →
+    AllByRecursion (LeavesOpen name) ms → IsFirst ms name segment offset → ⊥
 none_first [] name segment offset h f = f
 none_first (m ∷ ms) name segment offset h (inl f) = h.0 f.0 segment offset f.1
 none_first (m ∷ ms) name segment offset h (inr f) = none_first ms name segment offset h.1 f.1
@@ -120,19 +138,25 @@ size_if_wanted (Defined segment offset) = None
 module _ (forced : List (List ℕ)) (os ps : List Contents) (same : IsPermutation os ps) where
   in_other_order : (P : Mention → Type 0) → IsPlaceless P → AllByRecursion P (mentions forced os) → AllByRecursion P (mentions forced ps)
   in_other_order P placeless h =
-      all_append P (map forced_mention forced) (blocks mentions_in [] ps) (all_split P (map forced_mention forced) (blocks mentions_in [] os) h).0 (of_objects P ps each [] ps refl)
+      all_append P (map forced_mention forced) (blocks mentions_in [] ps)
+      (all_split P (map forced_mention forced) (blocks mentions_in [] os) h).0 (of_objects P ps each [] ps refl)
     where
       each : (before : List Contents) (k : Contents) (after : List Contents) → ps ≡ before ++ k ∷ after → OfEach P before k
       each before k after all j s e outer =
           let there = placed_again ps os (IsPermutation-sym os ps same) before k after all in
           placeless there.before before k s
-          (of_entry P forced there.before k there.after (subst (λ (ks : List Contents). AllByRecursion P (mentions forced ks)) there.all h) j s e outer)
+          (of_entry P forced there.before k there.after
+          (subst (λ (ks : List Contents). AllByRecursion P (mentions forced ks)) there.all h) j s e outer)
 
-  unnamed_too : (name : List ℕ) → is_among (names_of (mentions forced os)) name ≡ false → is_among (names_of (mentions forced ps)) name ≡ false
-  unnamed_too name h = all_others (mentions forced ps) name (in_other_order (IsOfOther name) (λ before front k s e. e) (unnamed (mentions forced os) name h))
+  unnamed_too : (name : List ℕ) → is_among (names_of (mentions forced os)) name ≡ false →
+      is_among (names_of (mentions forced ps)) name ≡ false
+  unnamed_too name h =
+      all_others (mentions forced ps) name
+      (in_other_order (IsOfOther name) (λ before front k s e. e) (unnamed (mentions forced os) name h))
 
 -- a name that is wanted is so in the other order, at the same size
-pub wanted_too : (forced : List (List ℕ)) (os ps : List Contents) → IsPermutation os ps → (name : List ℕ) (size : ℕ) → IsWanted (mentions forced os) name size → IsWanted (mentions forced ps) name size
+pub wanted_too : (forced : List (List ℕ)) (os ps : List Contents) → IsPermutation os ps → (name : List ℕ) (size : ℕ) →
+    IsWanted (mentions forced os) name size → IsWanted (mentions forced ps) name size
 wanted_too forced os ps same name size w = record {
   undefined = in_other_order forced os ps same (LeavesOpen name) (open_anywhere name) w.undefined;
   most = in_other_order forced os ps same (WantsAtMost name size) (most_anywhere name size) w.most;
@@ -148,16 +172,21 @@ module _ (forced : List (List ℕ)) (os ps : List Contents) (same : IsPermutatio
 
   -- the names are the same, in another order
   pub same_names : HaveSame (names_by_first_mention (mentions forced os)) (names_by_first_mention (mentions forced ps))
-  same_names name = is_among-externals ms name ∙ by_tests (is_among (names_of ms) name) refl (is_among (names_of ns) name) refl ∙ sym (is_among-externals ns name)
+  same_names name =
+      is_among-externals ms name ∙ by_tests (is_among (names_of ms) name) refl (is_among (names_of ns) name) refl
+      ∙ sym (is_among-externals ns name)
     where
       by_tests : (t : Bool) → is_among (names_of ms) name ≡ t → (u : Bool) → is_among (names_of ns) name ≡ u → t ≡ u
       by_tests true te true ue = refl
       by_tests false te false ue = refl
-      by_tests true te false ue = absurd (let bad : true ≡ false = sym te ∙ unnamed_too forced ps os (IsPermutation-sym os ps same) name ue in cc)
+      by_tests true te false ue =
+          absurd (let bad : true ≡ false = sym te ∙ unnamed_too forced ps os (IsPermutation-sym os ps same) name ue in cc)
       by_tests false te true ue = absurd (let bad : true ≡ false = sym ue ∙ unnamed_too forced os ps same name te in cc)
 
   pub names_reordered : IsPermutation (names_by_first_mention (mentions forced os)) (names_by_first_mention (mentions forced ps))
-  names_reordered = reordered (names_by_first_mention ms) (names_by_first_mention ns) (new_once [] (names_of ms)) (new_once [] (names_of ns)) same_names
+  names_reordered =
+      reordered (names_by_first_mention ms) (names_by_first_mention ns) (new_once [] (names_of ms))
+      (new_once [] (names_of ns)) same_names
 
   -- a name is wanted at the same size in both, or defined in both
   pub same_wants : (name : List ℕ) → size_if_wanted (state (mentions forced os) name) ≡ size_if_wanted (state (mentions forced ps) name)
@@ -171,14 +200,17 @@ module _ (forced : List (List ℕ)) (os ps : List Contents) (same : IsPermutatio
           let there = wanted_too forced os ps same name x h in
           ap (λ (n : ℕ). let r : Option ℕ = Some n in r) (equal x y (there.least y k.most) (k.least x there.most))
       by_states (Wanted x) h (Defined g n) k = absurd (none_first ns name g n (wanted_too forced os ps same name x h).undefined k)
-      by_states (Defined g n) h (Wanted y) k = absurd (none_first ms name g n (wanted_too forced ps os (IsPermutation-sym os ps same) name y k).undefined h)
+      by_states (Defined g n) h (Wanted y) k =
+          absurd (none_first ms name g n (wanted_too forced ps os (IsPermutation-sym os ps same) name y k).undefined h)
       by_states (Defined g n) h (Defined f m) k = refl
 
   pub same_total : (segment : Segment) → total segment os ≡ total segment ps
   same_total segment = sym (sum_by-IsPermutation (size_of segment) os ps same)
 
   -- what follows from the sizes that are wanted
-  by_wants : {A : Type 0} (of_state : State → A) (of_size : Option ℕ → A) → ((s : State) → of_state s ≡ of_size (size_if_wanted s)) → (name : List ℕ) → of_state (state ms name) ≡ of_state (state ns name)
+  by_wants : {A : Type 0} (of_state : State → A) (of_size : Option ℕ → A) →
+      ((s : State) → of_state s ≡ of_size (size_if_wanted s)) → (name : List ℕ) →
+      of_state (state ms name) ≡ of_state (state ns name)
   by_wants of_state of_size is name = is (state ms name) ∙ ap of_size (same_wants name) ∙ sym (is (state ns name))
 
   abbrev size_by : Option ℕ → ℕ
@@ -210,5 +242,7 @@ module _ (forced : List (List ℕ)) (os ps : List Contents) (same : IsPermutatio
 
   pub undefined_reordered : IsPermutation (undefined_names (mentions forced os)) (undefined_names (mentions forced ps))
   undefined_reordered =
-      subst (λ (f : List ℕ → Bool). IsPermutation (undefined_names ms) (filter f (names_by_first_mention ns))) (λ i n. same_undefined n i && not (is_among reserved_names n))
-      (kept_reordered (λ n. is_missing n (state ms n)) (names_by_first_mention ms) (names_by_first_mention ns) (new_once [] (names_of ms)) (new_once [] (names_of ns)) same_names)
+      subst (λ (f : List ℕ → Bool). IsPermutation (undefined_names ms) (filter f (names_by_first_mention ns)))
+      (λ i n. same_undefined n i && not (is_among reserved_names n))
+      (kept_reordered (λ n. is_missing n (state ms n)) (names_by_first_mention ms) (names_by_first_mention ns)
+      (new_once [] (names_of ms)) (new_once [] (names_of ns)) same_names)

@@ -1,5 +1,6 @@
 -- What a disassembly shows at a place of an object, and of a program.
-use Rattle.std.proofs.Common.{◌≡◌, ℕ, zero, suc, ◌+◌, ◌*◌, ◌/◌, ◌<◌, Bool, true, false, cond, if◌then◌else◌, List, [], ◌∷◌, ◌++◌, length, drop, Option, Some, None, refl, sym, ◌∙◌, ap, subst, arith}
+use Rattle.std.proofs.Common.{◌≡◌, ℕ, zero, suc, ◌+◌, ◌*◌, ◌/◌, ◌<◌, Bool, true, false, cond, if◌then◌else◌, List, []}
+use Rattle.std.proofs.Common.{◌∷◌, ◌++◌, length, drop, Option, Some, None, refl, sym, ◌∙◌, ap, subst, arith}
 use Rattle.std.specs.Prelude.{slice_get, slice_index}
 use Rattle.aout_core.specs.declared.symbol.Segment.TheVariants.{TextSeg}
 use Rattle.aout_core.specs.declared.reloc.Reloc.{Reloc}
@@ -45,20 +46,24 @@ at_head ws i w more e =
 
 -- a word that is not relocated is shown as its line
 not_moved : (file : Contents) (place : ℕ) (b : Bool) → b ≡ false →
-    (if b then Machine (Plain (slice_index file.text_words place)) else Machine (line_at file.text_words place)) ≡ Machine (line_at file.text_words place)
+    (if b then Machine (Plain (slice_index file.text_words place)) else Machine (line_at file.text_words place))
+    ≡ Machine (line_at file.text_words place)
 not_moved file place true e = absurd cc
 not_moved file place false e = refl
 
 text_by_test : (file : Contents) (place : ℕ) (r : Reloc) (b : Bool) → b ≡ false →
-    (if b then relocated_text file.symbols r (slice_index file.text_words place) (2 * place) else decoded_text Pdp11 file place) ≡ decoded_text Pdp11 file place
+    (if b then relocated_text file.symbols r (slice_index file.text_words place) (2 * place) else decoded_text Pdp11 file place)
+    ≡ decoded_text Pdp11 file place
 text_by_test file place r true e = absurd cc
 text_by_test file place r false e = refl
 
-text_decoded : (file : Contents) (place : ℕ) (r : Option Reloc) → is_relocated r ≡ false → text_by Pdp11 file place r ≡ decoded_text Pdp11 file place
+text_decoded : (file : Contents) (place : ℕ) (r : Option Reloc) → is_relocated r ≡ false →
+    text_by Pdp11 file place r ≡ decoded_text Pdp11 file place
 text_decoded file place None e = refl
 text_decoded file place (Some r) e = text_by_test file place r (is_relocated (Some r)) e
 
-shown_line : (file : Contents) (place : ℕ) → is_relocated (slice_get file.text_reloc place) ≡ false → IsShown file place (line_at file.text_words place)
+shown_line : (file : Contents) (place : ℕ) → is_relocated (slice_get file.text_reloc place) ≡ false →
+    IsShown file place (line_at file.text_words place)
 shown_line file place e = record {
   is = not_moved file place (is_relocated (slice_get file.text_reloc place)) e;
   shown = text_decoded file place (slice_get file.text_reloc place) e;
@@ -74,13 +79,16 @@ programs_show_instructions forced before k after o x good small final l i inside
     let f : List ℕ = drop (i + 1) k.text_words in
     let n : ℕ = total TextSeg before / 2 + i in
     let h : KeepsLineAt x.file l.rows (before ++ k ∷ after) before k i (slice_index k.text_words i) (drop (i + 1) k.text_words) =
-    instructions_stand forced before k after o x good small l i (slice_index k.text_words i) (drop (i + 1) k.text_words) (words_from k.text_words i inside) still whole in
+    instructions_stand forced before k after o x good small l i (slice_index k.text_words i) (drop (i + 1) k.text_words)
+    (words_from k.text_words i inside) still whole in
     let none : 2 * length x.file.text_reloc ≡ 0 = l.text_relocs ∙ ap (λ (b : Bool). cond b (total TextSeg (before ++ k ∷ after)) 0) final in
     record {
       line = line_at k.text_words i;
       other = line_at x.file.text_words (total TextSeg before / 2 + i);
       in_object = shown_line k i still;
       in_program = shown_line x.file (total TextSeg before / 2 + i) (no_reloc x.file.text_reloc (total TextSeg before / 2 + i) none);
-      alike = subst (λ (line : Line). AlikeLine (IsLinkedWord x.file l.rows (before ++ k ∷ after) before k) i (line_of (instruction_of (slice_index k.text_words i)) (slice_index k.text_words i) (drop (i + 1) k.text_words)) line)
+      alike =
+          subst (λ (line : Line). AlikeLine (IsLinkedWord x.file l.rows (before ++ k ∷ after) before k) i
+          (line_of (instruction_of (slice_index k.text_words i)) (slice_index k.text_words i) (drop (i + 1) k.text_words)) line)
           (sym (at_head x.file.text_words (total TextSeg before / 2 + i) (slice_index k.text_words i) h.more h.there)) h.alike;
     }

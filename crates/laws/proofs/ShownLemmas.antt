@@ -1,5 +1,6 @@
 -- What nm shows of a table: its locals and its externals apart, and the lines of one file.
-use Rattle.std.proofs.Common.{◌≡◌, ℕ, Bool, true, false, cond, not, ◌&&◌, ◌||◌, List, [], ◌∷◌, ◌++◌, filter, codes, refl, ◌∙◌, ap, append-nil}
+use Rattle.std.proofs.Common.{◌≡◌, ℕ, Bool, true, false, cond, not, ◌&&◌, ◌||◌, List, [], ◌∷◌}
+use Rattle.std.proofs.Common.{◌++◌, filter, codes, refl, ◌∙◌, ap, append-nil}
 use Rattle.std.specs.List.{AllByRecursion}
 use Rattle.std.proofs.lemmas.List.Elements.{filter-append}
 use Rattle.aout_core.specs.declared.symbol.Symbol.{Symbol}
@@ -19,7 +20,8 @@ module _ (t : Symbol → Bool) where
   no_local [] inner = refl
   no_local (s ∷ ss) inner = by_test (is_external s) inner (no_local ss)
     where
-      by_test : (e : Bool) → cond e (s ∷ filter is_external ss) (filter is_external ss) ≡ [] → (filter is_external ss ≡ [] → filter (λ s. is_external s && t s) ss ≡ []) →
+      by_test : (e : Bool) → cond e (s ∷ filter is_external ss) (filter is_external ss) ≡ [] →
+          (filter is_external ss ≡ [] → filter (λ s. is_external s && t s) ss ≡ []) →
           cond (e && t s) (s ∷ filter (λ s. is_external s && t s) ss) (filter (λ s. is_external s && t s) ss) ≡ []
       by_test true inner rest = absurd (cc)
       by_test false inner rest = rest inner
@@ -35,21 +37,26 @@ module _ (t : Symbol → Bool) where
       filter-append (λ s. is_external s && t s) locals rows ∙ (λ i. no_local locals inner i ++ each_external rows outer i)
   apart false locals rows inner outer = filter-append t locals rows
 
-module _ (n : NmOptions) (locals rows : List Symbol) (inner : filter is_external locals ≡ []) (outer : AllByRecursion (λ s. is_external s ≡ true) rows) where
-  pub undefined_apart : n.undefined ≡ true → filter (is_shown n) (locals ++ rows) ≡ listed_locals n (filter is_shown_undefined locals) ++ filter is_shown_undefined rows
+module _ (n : NmOptions) (locals rows : List Symbol) (inner : filter is_external locals ≡ [])
+    (outer : AllByRecursion (λ s. is_external s ≡ true) rows) where
+  pub undefined_apart : n.undefined ≡ true → filter (is_shown n) (locals ++ rows) ≡ listed_locals n
+      (filter is_shown_undefined locals) ++ filter is_shown_undefined rows
   undefined_apart u =
       apart (λ s. not n.undefined || is_shown_undefined s) n.external locals rows inner outer
-      ∙ ap (λ (b : Bool). cond n.external [] (filter (λ s. not b || is_shown_undefined s) locals) ++ filter (λ s. not b || is_shown_undefined s) rows) u
+      ∙ ap (λ (b : Bool). cond n.external [] (filter (λ s. not b || is_shown_undefined s) locals)
+      ++ filter (λ s. not b || is_shown_undefined s) rows) u
 
   pub all_apart : n.undefined ≡ false → filter (is_shown n) (locals ++ rows) ≡ listed_locals n locals ++ rows
   all_apart u =
       apart (λ s. not n.undefined || is_shown_undefined s) n.external locals rows inner outer
-      ∙ ap (λ (b : Bool). cond n.external [] (filter (λ s. not b || is_shown_undefined s) locals) ++ filter (λ s. not b || is_shown_undefined s) rows) u
+      ∙ ap (λ (b : Bool). cond n.external [] (filter (λ s. not b || is_shown_undefined s) locals)
+      ++ filter (λ s. not b || is_shown_undefined s) rows) u
       ∙ (λ i. cond n.external [] (all_pass locals i) ++ all_pass rows i)
 
 -- one file has no heading
 pub one_file : (n : NmOptions) (path : List ℕ) (c : Contents) → nm_text n ((path, c) ∷ []) ≡ lines n path (shown n c)
-one_file n path c = append-nil ((cond (not n.each_line && false) (path ++ codes ":\n") []) ++ lines n path (shown n c)) ∙ by_test n.each_line
+one_file n path c =
+    append-nil ((cond (not n.each_line && false) (path ++ codes ":\n") []) ++ lines n path (shown n c)) ∙ by_test n.each_line
   where
     by_test : (t : Bool) → (cond (not t && false) (path ++ codes ":\n") []) ++ lines n path (shown n c) ≡ lines n path (shown n c)
     by_test true = refl

@@ -1,5 +1,6 @@
 -- Names that one symbol defines at most are not multiply defined.
-use Rattle.std.proofs.Common.{◌≡◌, ℕ, suc, ◌+◌, ◌≤◌, Bool, true, false, cond, not, ◌&&◌, eqb, List, [], ◌∷◌, ◌++◌, map, length, Option, Some, refl, sym, ◌∙◌, ap, subst, arith}
+use Rattle.std.proofs.Common.{◌≡◌, ℕ, suc, ◌+◌, ◌≤◌, Bool, true, false, cond, not, ◌&&◌, eqb, List, [], ◌∷◌, ◌++◌}
+use Rattle.std.proofs.Common.{map, length, Option, Some, refl, sym, ◌∙◌, ap, subst, arith}
 use Rattle.std.specs.Prelude.{bytes_eq, filter, sum_by, Ok}
 use Rattle.std.specs.List.{AllByRecursion}
 use Rattle.std.specs.List.Sorted.{IsPermutation}
@@ -57,7 +58,8 @@ one_agrees name (m ∷ ms) h = by_test (bytes_eq name m.name) refl m.says refl h
     by_test false te s se h rest = ((λ same. absurd (let bad : true ≡ false = sym same ∙ te in cc)), rest (omega arith))
     by_test true te (Wanted size) se h rest = ((λ same. ap (λ (s : State). differs (first_definition ms name) s) se), rest (omega arith))
     by_test true te (Defined segment offset) se h rest = (
-      (λ same. ap (λ (s : State). differs (Some (segment, offset)) s) se ∙ own_again (Defined segment offset) (Some (segment, offset)) refl),
+      (λ same. ap (λ (s : State). differs (Some (segment, offset)) s) se
+          ∙ own_again (Defined segment offset) (Some (segment, offset)) refl),
       all_agree (Some (segment, offset)) name ms (omega arith),
     )
 
@@ -65,7 +67,8 @@ one_agrees name (m ∷ ms) h = by_test (bytes_eq name m.name) refl m.says refl h
 none_multiple : (ms : List Mention) → ((name : List ℕ) → definers name ms ≤ 1) → multiple_names ms ≡ []
 none_multiple ms h =
     no_multiples ms ms
-    (all_map (λ m. Agrees (first_definition ms m.name) m.name m) (AgreesIn ms) (λ m agrees. agrees (own_name m.name)) ms (of_each_name (λ name m. Agrees (first_definition ms name) name m) ms (λ name. one_agrees name ms (h name))))
+    (all_map (λ m. Agrees (first_definition ms m.name) m.name m) (AgreesIn ms) (λ m agrees. agrees (own_name m.name)) ms
+    (of_each_name (λ name m. Agrees (first_definition ms name) name m) ms (λ name. one_agrees name ms (h name))))
 
 definers-append : (name : List ℕ) (ms ns : List Mention) → definers name (ms ++ ns) ≡ definers name ms + definers name ns
 definers-append name [] ns = omega arith
@@ -81,16 +84,26 @@ module _ (name : List ℕ) where
       by_test false h = omega arith
 
   -- a symbol of a type other than 0 defines its name
-  defined_if : (before : List Contents) (k : Contents) (s : Symbol) → one_if_defined (statement before k (segment_of s) s.value) ≡ cond (not (eqb (masked_type s) 0)) 1 0
-  defined_if before k s = by_number (λ t segment. one_if_defined (statement before k segment s.value) ≡ cond (not t) 1 0) refl refl refl refl refl refl (masked_type s)
+  defined_if : (before : List Contents) (k : Contents) (s : Symbol) →
+      one_if_defined (statement before k (segment_of s) s.value) ≡ cond (not (eqb (masked_type s) 0)) 1 0
+  defined_if before k s =
+      by_number (λ t segment. one_if_defined (statement before k segment s.value) ≡ cond (not t) 1 0) refl refl refl
+      refl refl refl (masked_type s)
 
-  object_definers : (before : List Contents) (k : Contents) (ss : List Symbol) → definers name (map (mention before k) (filter is_external ss)) ≡ length (filter (defines name) ss)
+  object_definers : (before : List Contents) (k : Contents) (ss : List Symbol) →
+      definers name (map (mention before k) (filter is_external ss)) ≡ length (filter (defines name) ss)
   object_definers before k [] = refl
-  object_definers before k (s ∷ ss) = by_tests (is_external s) (not (eqb (masked_type s) 0)) (bytes_eq name s.name) refl (defined_if before k s) (object_definers before k ss)
+  object_definers before k (s ∷ ss) =
+      by_tests (is_external s) (not (eqb (masked_type s) 0)) (bytes_eq name s.name) refl (defined_if before k s)
+      (object_definers before k ss)
     where
       counted : (b : Bool) → bytes_eq name s.name ≡ b →
-          definers name (mention before k s ∷ map (mention before k) (filter is_external ss)) ≡ cond b (one_if_defined (statement before k (segment_of s) s.value)) 0 + definers name (map (mention before k) (filter is_external ss))
-      counted b be = ap (λ (c : Bool). cond c (one_if_defined (statement before k (segment_of s) s.value)) 0 + definers name (map (mention before k) (filter is_external ss))) be
+          definers name (mention before k s ∷ map (mention before k) (filter is_external ss))
+          ≡ cond b (one_if_defined (statement before k (segment_of s) s.value)) 0
+          + definers name (map (mention before k) (filter is_external ss))
+      counted b be =
+          ap (λ (c : Bool). cond c (one_if_defined (statement before k (segment_of s) s.value)) 0
+          + definers name (map (mention before k) (filter is_external ss))) be
 
       one_more : (n : ℕ) → 1 + n ≡ suc n
       one_more n = omega arith
@@ -98,8 +111,11 @@ module _ (name : List ℕ) where
       none_more : {m n : ℕ} → m ≡ n → 0 + m ≡ n
       none_more e = omega arith
 
-      by_tests : (t u b : Bool) → bytes_eq name s.name ≡ b → one_if_defined (statement before k (segment_of s) s.value) ≡ cond u 1 0 → definers name (map (mention before k) (filter is_external ss)) ≡ length (filter (defines name) ss) →
-          definers name (map (mention before k) (cond t (s ∷ filter is_external ss) (filter is_external ss))) ≡ length (cond (t && (u && b)) (s ∷ filter (defines name) ss) (filter (defines name) ss))
+      by_tests : (t u b : Bool) → bytes_eq name s.name ≡ b →
+          one_if_defined (statement before k (segment_of s) s.value) ≡ cond u 1 0 →
+          definers name (map (mention before k) (filter is_external ss)) ≡ length (filter (defines name) ss) →
+          definers name (map (mention before k) (cond t (s ∷ filter is_external ss) (filter is_external ss)))
+          ≡ length (cond (t && (u && b)) (s ∷ filter (defines name) ss) (filter (defines name) ss))
       by_tests false u b be e rest = rest
       by_tests true true true be e rest = counted true be ∙ (λ i. e i + rest i) ∙ one_more (length (filter (defines name) ss))
       by_tests true true false be e rest = counted false be ∙ none_more rest
@@ -112,16 +128,23 @@ module _ (name : List ℕ) where
   objects_definers : (before os : List Contents) → definers name (blocks mentions_in before os) ≡ sum_by defined_in os
   objects_definers before [] = refl
   objects_definers before (k ∷ ks) =
-      sums (definers name (mentions_in before k ++ blocks mentions_in (before ++ k ∷ []) ks)) (definers name (mentions_in before k)) (definers name (blocks mentions_in (before ++ k ∷ []) ks)) (defined_in k) (sum_by defined_in ks) (sum_by defined_in (k ∷ ks))
-      (definers-append name (mentions_in before k) (blocks mentions_in (before ++ k ∷ []) ks)) (object_definers before k k.symbols) (objects_definers (before ++ k ∷ []) ks) (sum_by-append defined_in (k ∷ []) ks ∙ omega arith)
+      sums (definers name (mentions_in before k ++ blocks mentions_in (before ++ k ∷ []) ks))
+      (definers name (mentions_in before k)) (definers name (blocks mentions_in (before ++ k ∷ []) ks))
+      (defined_in k) (sum_by defined_in ks) (sum_by defined_in (k ∷ ks))
+      (definers-append name (mentions_in before k) (blocks mentions_in (before ++ k ∷ []) ks)) (object_definers before k k.symbols)
+      (objects_definers (before ++ k ∷ []) ks) (sum_by-append defined_in (k ∷ []) ks ∙ omega arith)
     where
       sums : (d a b x y z : ℕ) → d ≡ a + b → a ≡ x → b ≡ y → z ≡ x + y → d ≡ z
       sums d a b x y z e f g h = omega arith
 
   all_definers : (forced : List (List ℕ)) (os : List Contents) → definers name (mentions forced os) ≡ sum_by defined_in os
-  all_definers forced os = definers-append name (map forced_mention forced) (blocks mentions_in [] os) ∙ (λ i. forced_none forced i + objects_definers [] os i) ∙ omega arith
+  all_definers forced os =
+      definers-append name (map forced_mention forced) (blocks mentions_in [] os)
+      ∙ (λ i. forced_none forced i + objects_definers [] os i) ∙ omega arith
 
-pub once_in_any_order : (forced : List (List ℕ)) (os ps : List Contents) (o : Choices) (y : Outcome) → IsPermutation os ps → DefineOnce os → link forced ps o ≡ Ok y → y.report.multiples ≡ []
+pub once_in_any_order : (forced : List (List ℕ)) (os ps : List Contents) (o : Choices) (y : Outcome) →
+    IsPermutation os ps → DefineOnce os → link forced ps o ≡ Ok y → y.report.multiples ≡ []
 once_in_any_order forced os ps o y same once linked =
     ap (λ (f : ReportNames). f.multiples) (sym (made_report (plan forced ps o) ps y linked))
-    ∙ none_multiple (mentions forced ps) (λ name. subst (λ (n : ℕ). n ≤ 1) (sym (sum_by-IsPermutation (defined_in name) os ps same) ∙ sym (all_definers name forced ps)) (once name))
+    ∙ none_multiple (mentions forced ps) (λ name. subst (λ (n : ℕ). n ≤ 1)
+    (sym (sum_by-IsPermutation (defined_in name) os ps same) ∙ sym (all_definers name forced ps)) (once name))

@@ -28,7 +28,8 @@ module _ (o : Choices) (ms : List Mention) where
     has_state ms n,
     (
       cond (lays_commons o) (room_of ms ns) 0,
-      both (room_of ms (n ∷ ns)) (room_for o (state ms n)) (common_size (state ms n)) (room_of ms ns) (lays_commons o) (sum_by-cons (λ m. common_size (state ms m)) n ns) (room_laid o (state ms n)),
+      both (room_of ms (n ∷ ns)) (room_for o (state ms n)) (common_size (state ms n)) (room_of ms ns) (lays_commons o)
+          (sum_by-cons (λ m. common_size (state ms m)) n ns) (room_laid o (state ms n)),
       names_take ns,
     ),
   )
@@ -37,11 +38,14 @@ module _ (o : Choices) (ms : List Mention) where
       both all r c rest true e f = omega arith
       both all r c rest false e f = omega arith
 
-pub sizes_are_sums : (forced : List (List ℕ)) (os : List Contents) (o : Choices) (x : Outcome) → link forced os o ≡ Ok x → HasSizes forced os o x.file
+pub sizes_are_sums : (forced : List (List ℕ)) (os : List Contents) (o : Choices) (x : Outcome) →
+    link forced os o ≡ Ok x → HasSizes forced os o x.file
 sizes_are_sums forced os o x linked =
     let commons : ℕ = commons_laid o (mentions forced os) in
     record {
       commons = commons;
       take = names_take o (mentions forced os) (externals forced os);
-      line = λ path. append-nil (size_line x.file.header ++ 10 ∷ []) ∙ ap (λ (c : Contents). size_line c.header ++ 10 ∷ []) (sym (made_file (plan forced os o) os x linked));
+      line =
+          λ path. append-nil (size_line x.file.header ++ 10 ∷ [])
+          ∙ ap (λ (c : Contents). size_line c.header ++ 10 ∷ []) (sym (made_file (plan forced os o) os x linked));
     }

@@ -1,5 +1,6 @@
 -- The file of a link of sound objects is sound: its words have 16 bits, and its names are names.
-use Rattle.std.proofs.Common.{◌≡◌, ℕ, ◌<◌, ◌≤◌, Bool, true, false, cond, ◌&&◌, ◌||◌, max, List, [], ◌∷◌, ◌++◌, map, length, Option, Some, None, Ok, refl, arith, subst}
+use Rattle.std.proofs.Common.{◌≡◌, ℕ, ◌<◌, ◌≤◌, Bool, true, false, cond, ◌&&◌, ◌||◌, max, List, [], ◌∷◌, ◌++◌}
+use Rattle.std.proofs.Common.{map, length, Option, Some, None, Ok, refl, arith, subst}
 use Rattle.std.proofs.lemmas.Bool.{ltb-false}
 use Rattle.std.specs.Prelude.{bytes_eq, eqb, filter}
 use Rattle.std.specs.List.{AllByRecursion, flat_map, list_any}
@@ -14,7 +15,8 @@ use Rattle.aout_core.specs.Words.{minus, plus}
 use Rattle.link_session.specs.Cells.{Referent, referent, to_name, to_segment, words_of}
 use Rattle.link_session.specs.Earlier.{with_earlier}
 use Rattle.tool_options.specs.NameLists.{is_among, new_names}
-use Rattle.link_session.specs.Mentions.{Mention, forced_mention, mention, mentions, mentions_in, names_by_first_mention, names_of, statement}
+use Rattle.link_session.specs.Mentions.{Mention, forced_mention, mention, mentions, mentions_in, names_by_first_mention}
+use Rattle.link_session.specs.Mentions.{names_of, statement}
 use Rattle.link_session.specs.Sessions.{IsObject}
 use Rattle.link_session.specs.Starts.{total}
 use Rattle.link_session.specs.States.{Definition, first_definition, size_wanted_by, state_by, wanted_size}
@@ -31,7 +33,9 @@ use Rattle.link_out.specs.function.Finals.{Final, bound_at, final, final_at, typ
 use Rattle.link_out.specs.function.Link.{Outcome, link}
 use Rattle.link_out.specs.function.Plans.{Plan, common_offset, plan}
 use Rattle.link_out.specs.function.Reports.{entry_word, is_in_text}
-use Rattle.link_out.specs.function.Tables.{external_row, external_rows, final_reloc, final_relocs, has_far_in, is_out_of_reach, local_rows, moved_local, moved_value, name_bits, referent_bits, row_of, segment_bits, table, waits_far}
+use Rattle.link_out.specs.function.Tables.{external_row, external_rows, final_reloc, final_relocs, has_far_in}
+use Rattle.link_out.specs.function.Tables.{is_out_of_reach, local_rows, moved_local, moved_value, name_bits}
+use Rattle.link_out.specs.function.Tables.{referent_bits, row_of, segment_bits, table, waits_far}
 use Rattle.link_out.specs.function.Words.{final_word, final_words}
 use Rattle.link_out.proofs.FitLemmas.{linked_fits}
 use Rattle.link_out.proofs.OutcomeLemmas.{IsMade, made}
@@ -42,7 +46,8 @@ all_mapped : {A B : Type 0} (P : B → Type 0) (f : A → B) → ((x : A) → P 
 all_mapped P f each [] = tt
 all_mapped P f each (x ∷ xs) = (each x, all_mapped P f each xs)
 
-all_images : {A B : Type 0} (Q : A → Type 0) (P : B → Type 0) (f : A → B) → ((x : A) → Q x → P (f x)) → (xs : List A) → AllByRecursion Q xs → AllByRecursion P (map f xs)
+all_images : {A B : Type 0} (Q : A → Type 0) (P : B → Type 0) (f : A → B) → ((x : A) → Q x → P (f x)) → (xs : List A) →
+    AllByRecursion Q xs → AllByRecursion P (map f xs)
 all_images Q P f each [] h = tt
 all_images Q P f each (x ∷ xs) h = (each x h.0, all_images Q P f each xs h.1)
 
@@ -55,17 +60,20 @@ all_picked P test (x ∷ xs) h = by_test (test x) (all_picked P test xs h.1)
     by_test false rest = rest
 
 -- what holds of all that is made of each object
-all_made_of : {B : Type 0} (P : B → Type 0) (Q : Contents → Type 0) (f : List Contents → Contents → List B) → ((earlier : List Contents) (o : Contents) → Q o → AllByRecursion P (f earlier o)) →
+all_made_of : {B : Type 0} (P : B → Type 0) (Q : Contents → Type 0) (f : List Contents → Contents → List B) →
+    ((earlier : List Contents) (o : Contents) → Q o → AllByRecursion P (f earlier o)) →
     (earlier os : List Contents) → AllByRecursion Q os → AllByRecursion P (flat_map (λ q. f q.0 q.1) (with_earlier earlier os))
 all_made_of P Q f each earlier [] h = tt
 all_made_of P Q f each earlier (o ∷ os) h =
-    all_append P (f earlier o) (flat_map (λ q. f q.0 q.1) (with_earlier (earlier ++ o ∷ []) os)) (each earlier o h.0) (all_made_of P Q f each (earlier ++ o ∷ []) os h.1)
+    all_append P (f earlier o) (flat_map (λ q. f q.0 q.1) (with_earlier (earlier ++ o ∷ []) os)) (each earlier o h.0)
+    (all_made_of P Q f each (earlier ++ o ∷ []) os h.1)
 
 none_of : {A : Type 0} (test : A → Bool) (xs : List A) → list_any test xs ≡ false → AllByRecursion (λ x. test x ≡ false) xs
 none_of test [] h = tt
 none_of test (x ∷ xs) h = by_test (test x) refl h (none_of test xs)
   where
-    by_test : (t : Bool) → test x ≡ t → t || list_any test xs ≡ false → (list_any test xs ≡ false → AllByRecursion (λ y. test y ≡ false) xs) → AllByRecursion (λ y. test y ≡ false) (x ∷ xs)
+    by_test : (t : Bool) → test x ≡ t → t || list_any test xs ≡ false →
+        (list_any test xs ≡ false → AllByRecursion (λ y. test y ≡ false) xs) → AllByRecursion (λ y. test y ≡ false) (x ∷ xs)
     by_test true e h rest = absurd (cc)
     by_test false e h rest = (e, rest h)
 
@@ -76,7 +84,8 @@ record IsSmall (m : Mention) : Type 0 where
   name : IsName m.name
   size : size_wanted_by m.says < 65536
 
-small_statement : (earlier : List Contents) (o : Contents) (segment : Segment) (value : ℕ) → value < 65536 → size_wanted_by (statement earlier o segment value) < 65536
+small_statement : (earlier : List Contents) (o : Contents) (segment : Segment) (value : ℕ) → value < 65536 →
+    size_wanted_by (statement earlier o segment value) < 65536
 small_statement earlier o Undefined value h = h
 small_statement earlier o Absolute value h = omega arith
 small_statement earlier o TextSeg value h = omega arith
@@ -84,7 +93,8 @@ small_statement earlier o DataSeg value h = omega arith
 small_statement earlier o BssSeg value h = omega arith
 small_statement earlier o Other value h = omega arith
 
-small_mentions : (forced : List (List ℕ)) (os : List Contents) → AllByRecursion IsName forced → AllByRecursion IsSound os → AllByRecursion IsSmall (mentions forced os)
+small_mentions : (forced : List (List ℕ)) (os : List Contents) → AllByRecursion IsName forced →
+    AllByRecursion IsSound os → AllByRecursion IsSmall (mentions forced os)
 small_mentions forced os names sound =
     all_append IsSmall (map forced_mention forced) (flat_map (λ p. mentions_in p.0 p.1) (with_earlier [] os))
     (all_images IsName IsSmall forced_mention (λ name h. record { name = h; size = omega arith }) forced names)
@@ -92,14 +102,17 @@ small_mentions forced os names sound =
   where
     by_object : (earlier : List Contents) (o : Contents) → IsSound o → AllByRecursion IsSmall (mentions_in earlier o)
     by_object earlier o h =
-        all_images IsSymbol IsSmall (mention earlier o) (λ s k. record { name = k.name; size = small_statement earlier o (segment_of s) s.value k.value }) (filter is_external o.symbols)
+        all_images IsSymbol IsSmall (mention earlier o)
+        (λ s k. record { name = k.name; size = small_statement earlier o (segment_of s) s.value k.value })
+        (filter is_external o.symbols)
         (all_picked IsSymbol is_external o.symbols h.symbols)
 
 names_kept : (seen names : List (List ℕ)) → AllByRecursion IsName names → AllByRecursion IsName (new_names seen names)
 names_kept seen [] h = tt
 names_kept seen (n ∷ ns) h = by_test (is_among seen n) (names_kept (seen ++ n ∷ []) ns h.1)
   where
-    by_test : (t : Bool) → AllByRecursion IsName (new_names (seen ++ n ∷ []) ns) → AllByRecursion IsName (cond t (new_names (seen ++ n ∷ []) ns) (n ∷ new_names (seen ++ n ∷ []) ns))
+    by_test : (t : Bool) → AllByRecursion IsName (new_names (seen ++ n ∷ []) ns) →
+        AllByRecursion IsName (cond t (new_names (seen ++ n ∷ []) ns) (n ∷ new_names (seen ++ n ∷ []) ns))
     by_test true rest = rest
     by_test false rest = (h.0, rest)
 
@@ -110,7 +123,8 @@ small_size : (ms : List Mention) (name : List ℕ) → AllByRecursion IsSmall ms
 small_size [] name h = omega arith
 small_size (m ∷ ms) name h = by_test (bytes_eq name m.name) (small_size ms name h.1)
   where
-    by_test : (t : Bool) → wanted_size ms name < 65536 → cond t (max (size_wanted_by m.says) (wanted_size ms name)) (wanted_size ms name) < 65536
+    by_test : (t : Bool) → wanted_size ms name < 65536 →
+        cond t (max (size_wanted_by m.says) (wanted_size ms name)) (wanted_size ms name) < 65536
     by_test true rest = omega (arith, h.0.size, rest)
     by_test false rest = rest
 
@@ -136,7 +150,8 @@ record AreEnds (b : Bases) : Type 0 where
   «data» : b.data_end < 65536
   bss : b.bss_end < 65536
 
-final_small : (o : Choices) (b : Bases) (offset : ℕ) (name : List ℕ) (definition : Option Definition) (size : ℕ) → AreEnds b → size < 65536 → IsFinal (final_at o b offset name (state_by definition size))
+final_small : (o : Choices) (b : Bases) (offset : ℕ) (name : List ℕ) (definition : Option Definition) (size : ℕ) →
+    AreEnds b → size < 65536 → IsFinal (final_at o b offset name (state_by definition size))
 final_small o b offset name (Some d) size ends h = bound_small d.0 (plus (base b d.0) d.1) (omega arith)
 final_small o b offset name None size ends h =
     either (eqb size 0) _ _
@@ -157,12 +172,15 @@ small_type (Some Other) = omega arith
 
 module _ (p : Plan) (ends : AreEnds p.at) (small : AllByRecursion IsSmall p.mentions) where
   final_is_small : (name : List ℕ) → IsFinal (final p name)
-  final_is_small name = final_small p.choices p.at (common_offset p.mentions name) name (first_definition p.mentions name) (wanted_size p.mentions name) ends (small_size p.mentions name small)
+  final_is_small name =
+      final_small p.choices p.at (common_offset p.mentions name) name (first_definition p.mentions name)
+      (wanted_size p.mentions name) ends (small_size p.mentions name small)
 
   external_sound : (name : List ℕ) → IsName name → IsSymbol (external_row p name)
   external_sound name h = record { name = h; type_bits = small_type (final p name).bound; value = (final_is_small name).written }
 
-  moved_small : (earlier : List Contents) (o : Contents) (segment : Segment) (value : ℕ) → value < 65536 → moved_value p.at earlier o segment value < 65536
+  moved_small : (earlier : List Contents) (o : Contents) (segment : Segment) (value : ℕ) → value < 65536 →
+      moved_value p.at earlier o segment value < 65536
   moved_small earlier o Undefined value h = h
   moved_small earlier o Absolute value h = h
   moved_small earlier o TextSeg value h = omega arith
@@ -171,11 +189,18 @@ module _ (p : Plan) (ends : AreEnds p.at) (small : AllByRecursion IsSmall p.ment
   moved_small earlier o Other value h = h
 
   locals_sound : (os : List Contents) → AllByRecursion IsSound os → AllByRecursion IsSymbol (local_rows p os)
-  locals_sound os sound = all_made_of IsSymbol IsSound (λ earlier o. map (moved_local p.at earlier o) (filter (is_kept_local p.choices.keep) o.symbols)) by_object [] os sound
+  locals_sound os sound =
+      all_made_of IsSymbol IsSound
+      (λ earlier o. map (moved_local p.at earlier o) (filter (is_kept_local p.choices.keep) o.symbols)) by_object [] os sound
     where
-      by_object : (earlier : List Contents) (o : Contents) → IsSound o → AllByRecursion IsSymbol (map (moved_local p.at earlier o) (filter (is_kept_local p.choices.keep) o.symbols))
+      by_object : (earlier : List Contents) (o : Contents) → IsSound o →
+          AllByRecursion IsSymbol (map (moved_local p.at earlier o) (filter (is_kept_local p.choices.keep) o.symbols))
       by_object earlier o h =
-          all_images IsSymbol IsSymbol (moved_local p.at earlier o) (λ s k. record { name = k.name; type_bits = k.type_bits; value = moved_small earlier o (segment_of s) s.value k.value }) (filter (is_kept_local p.choices.keep) o.symbols)
+          all_images IsSymbol IsSymbol (moved_local p.at earlier o) (λ s k. record {
+            name = k.name;
+            type_bits = k.type_bits;
+            value = moved_small earlier o (segment_of s) s.value k.value;
+          }) (filter (is_kept_local p.choices.keep) o.symbols)
           (all_picked IsSymbol (is_kept_local p.choices.keep) o.symbols h.symbols)
 
   kept_sound : (keep : Keep) (rows : List Symbol) → AllByRecursion IsSymbol rows → AllByRecursion IsSymbol (rows_kept keep rows)
@@ -203,10 +228,12 @@ module _ (p : Plan) (ends : AreEnds p.at) (small : AllByRecursion IsSmall p.ment
 minus_small : (a b : ℕ) → minus a b < 65536
 minus_small a b = omega arith
 
-words_small : (p : Plan) (segment : Segment) (os : List Contents) → AllByRecursion IsSound os → AllByRecursion IsWord (final_words p segment os)
+words_small : (p : Plan) (segment : Segment) (os : List Contents) → AllByRecursion IsSound os →
+    AllByRecursion IsWord (final_words p segment os)
 words_small p segment os sound =
     all_made_of IsWord IsSound (λ earlier o. map (λ wr. final_word p earlier o segment wr.0 wr.1) (words_of segment o))
-    (λ earlier o h. all_mapped IsWord (λ wr. final_word p earlier o segment wr.0 wr.1) (λ wr. minus_small _ _) (words_of segment o)) [] os sound
+    (λ earlier o h. all_mapped IsWord (λ wr. final_word p earlier o segment wr.0 wr.1)
+    (λ wr. minus_small _ _) (words_of segment o)) [] os sound
 
 abbrev IsRelocWord : Reloc → Type 0
 IsRelocWord r = IsWord r.0
@@ -230,16 +257,20 @@ module _ (p : Plan) (os : List Contents) where
 
   relocs_small : (segment : Segment) → has_far_in p os segment ≡ false → AllByRecursion IsRelocWord (final_relocs p os segment)
   relocs_small segment near =
-      all_made_of IsRelocWord (λ o. list_any (λ wr. is_out_of_reach p os (referent o wr.1)) (words_of segment o) ≡ false) (λ earlier o. map (λ wr. final_reloc p os o wr.1) (words_of segment o)) by_object [] os
+      all_made_of IsRelocWord (λ o. list_any (λ wr. is_out_of_reach p os (referent o wr.1)) (words_of segment o) ≡ false)
+      (λ earlier o. map (λ wr. final_reloc p os o wr.1) (words_of segment o)) by_object [] os
       (none_of (λ (o : Contents). list_any (λ wr. is_out_of_reach p os (referent o wr.1)) (words_of segment o)) os near)
     where
-      by_object : (earlier : List Contents) (o : Contents) → list_any (λ wr. is_out_of_reach p os (referent o wr.1)) (words_of segment o) ≡ false →
+      by_object : (earlier : List Contents) (o : Contents) →
+          list_any (λ wr. is_out_of_reach p os (referent o wr.1)) (words_of segment o) ≡ false →
           AllByRecursion IsRelocWord (map (λ wr. final_reloc p os o wr.1) (words_of segment o))
       by_object earlier o h =
-          all_images (λ (wr : ℕ × Reloc). is_out_of_reach p os (referent o wr.1) ≡ false) IsRelocWord (λ wr. final_reloc p os o wr.1) (λ wr k. let low = bits_small (referent o wr.1) k in omega arith) (words_of segment o)
+          all_images (λ (wr : ℕ × Reloc). is_out_of_reach p os (referent o wr.1) ≡ false) IsRelocWord
+          (λ wr. final_reloc p os o wr.1) (λ wr k. let low = bits_small (referent o wr.1) k in omega arith) (words_of segment o)
           (none_of (λ (wr : ℕ × Reloc). is_out_of_reach p os (referent o wr.1)) (words_of segment o) h)
 
-  relocs_kept_small : (t : Bool) (segment : Segment) → (t ≡ true → has_far_in p os segment ≡ false) → AllByRecursion IsRelocWord (cond t (final_relocs p os segment) [])
+  relocs_kept_small : (t : Bool) (segment : Segment) → (t ≡ true → has_far_in p os segment ≡ false) →
+      AllByRecursion IsRelocWord (cond t (final_relocs p os segment) [])
   relocs_kept_small true segment near = relocs_small segment (near refl)
   relocs_kept_small false segment near = tt
 
@@ -263,7 +294,8 @@ are_objects : (os : List Contents) → AllByRecursion IsSound os → AllByRecurs
 are_objects [] sound well = tt
 are_objects (o ∷ os) sound well = (record { fits = sound.0.fits; well = well.0 }, are_objects os sound.1 well.1)
 
-pub linked_sound : (forced : List (List ℕ)) (os : List Contents) (o : Choices) (x : Outcome) → AllByRecursion IsName forced → AllByRecursion IsSound os → AllByRecursion IsWellFormed os → total TextSeg os ≤ 65534 →
+pub linked_sound : (forced : List (List ℕ)) (os : List Contents) (o : Choices) (x : Outcome) →
+    AllByRecursion IsName forced → AllByRecursion IsSound os → AllByRecursion IsWellFormed os → total TextSeg os ≤ 65534 →
     link forced os o ≡ Ok x → IsSound x.file
 linked_sound forced os o x names sound well text linked =
     subst (λ (it : Outcome). IsSound it.file) m.outcome (record {
@@ -280,8 +312,12 @@ linked_sound forced os o x names sound well text linked =
       };
       text_words = words_small p TextSeg os sound;
       data_words = words_small p DataSeg os sound;
-      text_reloc = relocs_kept_small p os o.relocatable TextSeg (λ e. (neither o.relocatable (has_far_in p os TextSeg) (has_far_in p os DataSeg) m.near e).0);
-      data_reloc = relocs_kept_small p os o.relocatable DataSeg (λ e. (neither o.relocatable (has_far_in p os TextSeg) (has_far_in p os DataSeg) m.near e).1);
+      text_reloc =
+          relocs_kept_small p os o.relocatable TextSeg
+          (λ e. (neither o.relocatable (has_far_in p os TextSeg) (has_far_in p os DataSeg) m.near e).0);
+      data_reloc =
+          relocs_kept_small p os o.relocatable DataSeg
+          (λ e. (neither o.relocatable (has_far_in p os TextSeg) (has_far_in p os DataSeg) m.near e).1);
       symbols = table_sound p ends small os sound;
     })
   where

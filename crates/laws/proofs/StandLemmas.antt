@@ -43,9 +43,12 @@ instructions_stand forced before k after o x all small l i w f here still whole 
     let moves : ℕ → Bool = λ place. is_relocated (slice_get k.text_reloc place) in
     let none : 0 + i ≡ i = omega arith in
     let pairs : Pairs (IsLinkedWord x.file l.rows os before k) i (w ∷ f) (drop i vs) =
-    subst (λ m. Pairs (IsLinkedWord x.file l.rows os before k) m (w ∷ f) (drop i vs)) none (subst (λ ws. Pairs (IsLinkedWord x.file l.rows os before k) (0 + i) ws (drop i vs)) here (pairs_from P 0 i k.text_words vs (linked_pairs forced os o x all l before k after refl is))) in
+    subst (λ m. Pairs (IsLinkedWord x.file l.rows os before k) m (w ∷ f) (drop i vs)) none
+    (subst (λ ws. Pairs (IsLinkedWord x.file l.rows os before k) (0 + i) ws (drop i vs)) here
+    (pairs_from P 0 i k.text_words vs (linked_pairs forced os o x all l before k after refl is))) in
     let same : Pairs (Same moves) i (w ∷ f) (drop i vs) =
-    subst (λ m. Pairs (Same moves) m (w ∷ f) (drop i vs)) none (subst (λ ws. Pairs (Same moves) (0 + i) ws (drop i vs)) here (pairs_from (Same moves) 0 i k.text_words vs (linked_same forced os o x all l before k after refl is small))) in
+    subst (λ m. Pairs (Same moves) m (w ∷ f) (drop i vs)) none (subst (λ ws. Pairs (Same moves) (0 + i) ws (drop i vs)) here
+    (pairs_from (Same moves) 0 i k.text_words vs (linked_same forced os o x all l before k after refl is small))) in
     let here_long : length (drop i k.text_words) ≡ length (w ∷ f) = ap (λ (ws : List ℕ). length ws) here in
     let space = text_room forced os o x all l before k after refl is in
     let long : length (w ∷ f) ≤ length (drop i vs) =

@@ -1,5 +1,6 @@
 -- The symbols that nm -u shows of a linked file: some of the kept locals, and the names that are reported.
-use Rattle.std.proofs.Common.{◌≡◌, ◌≢◌, ◌⊎◌, ℕ, ◌-◌, Bool, true, false, cond, not, ◌&&◌, ◌||◌, eqb, eqb-true, List, [], ◌∷◌, ◌++◌, map, filter, IsPermutation, refl, sym, ◌∙◌, ap, subst, inl, inr}
+use Rattle.std.proofs.Common.{◌≡◌, ◌≢◌, ◌⊎◌, ℕ, ◌-◌, Bool, true, false, cond, not, ◌&&◌, ◌||◌, eqb, eqb-true, List, []}
+use Rattle.std.proofs.Common.{◌∷◌, ◌++◌, map, filter, IsPermutation, refl, sym, ◌∙◌, ap, subst, inl, inr}
 use Rattle.std.specs.Prelude.{bytes_eq, Ok}
 use Rattle.std.specs.List.{flat_map, AllByRecursion}
 use Rattle.std.proofs.lemmas.List.Elements.{filter-append}
@@ -42,10 +43,12 @@ small z v t d b r f = cond z (cond v 117 99) (cond t 116 (cond d 100 (cond b 98 
 -- the letter of a type that is not 0 is neither u nor U
 typed_shown : (s : Symbol) → eqb (masked_type s) 0 ≡ false → is_shown_undefined s ≡ false
 typed_shown s e =
-    by_tests (eqb (masked_type s) 0) e (is_external s) (eqb s.value 0) (eqb (masked_type s) 2) (eqb (masked_type s) 3) (eqb (masked_type s) 4) (eqb (masked_type s) 20) (eqb (masked_type s) 31)
+    by_tests (eqb (masked_type s) 0) e (is_external s) (eqb s.value 0) (eqb (masked_type s) 2) (eqb (masked_type s) 3)
+    (eqb (masked_type s) 4) (eqb (masked_type s) 20) (eqb (masked_type s) 31)
   where
     by_tests : (z : Bool) → z ≡ false → (x v t d b r f : Bool) →
-        (eqb (cond x (small z v t d b r f - 32) (small z v t d b r f)) 117 || eqb (cond x (small z v t d b r f - 32) (small z v t d b r f)) 85) ≡ false
+        (eqb (cond x (small z v t d b r f - 32) (small z v t d b r f)) 117
+        || eqb (cond x (small z v t d b r f - 32) (small z v t d b r f)) 85) ≡ false
     by_tests true e x v t d b r f = absurd (cc)
     by_tests false e true v true d b r f = refl
     by_tests false e false v true d b r f = refl
@@ -68,22 +71,27 @@ module _ (b : Bases) (earlier : List Contents) (k : Contents) where
   moved_shown [] = refl
   moved_shown (s ∷ ss) = by_test (eqb (masked_type s) 0) refl (moved_shown ss)
     where
-      by_test : (z : Bool) → eqb (masked_type s) 0 ≡ z → filter is_shown_undefined (map (moved_local b earlier k) ss) ≡ filter is_shown_undefined ss →
+      by_test : (z : Bool) → eqb (masked_type s) 0 ≡ z →
+          filter is_shown_undefined (map (moved_local b earlier k) ss) ≡ filter is_shown_undefined ss →
           filter is_shown_undefined (map (moved_local b earlier k) (s ∷ ss)) ≡ filter is_shown_undefined (s ∷ ss)
       by_test true e rest =
           let same : moved_local b earlier k s ≡ s =
-          ap (λ (n : ℕ). let r : Symbol = record s { value = moved_value b earlier k (segment_numbered n) s.value } in r) (eqb-true (masked_type s) 0 e) in
+          ap (λ (n : ℕ). let r : Symbol = record s { value = moved_value b earlier k (segment_numbered n) s.value } in r)
+          (eqb-true (masked_type s) 0 e) in
           λ i. cond (is_shown_undefined (same i)) (same i ∷ rest i) (rest i)
       by_test false e rest =
-          ap (λ (u : Bool). cond u (moved_local b earlier k s ∷ filter is_shown_undefined (map (moved_local b earlier k) ss)) (filter is_shown_undefined (map (moved_local b earlier k) ss))) (typed_shown (moved_local b earlier k s) e)
+          ap (λ (u : Bool). cond u (moved_local b earlier k s ∷ filter is_shown_undefined (map (moved_local b earlier k) ss))
+          (filter is_shown_undefined (map (moved_local b earlier k) ss))) (typed_shown (moved_local b earlier k s) e)
           ∙ rest
           ∙ sym (ap (λ (u : Bool). cond u (s ∷ filter is_shown_undefined ss) (filter is_shown_undefined ss)) (typed_shown s e))
 
 locals_shown : (b : Bases) (o : Choices) (earlier rest : List Contents) →
-    filter is_shown_undefined (flat_map (λ q. map (moved_local b q.0 q.1) (filter (is_kept_local o.keep) q.1.symbols)) (with_earlier earlier rest)) ≡ filter is_shown_undefined (kept_locals o rest)
+    filter is_shown_undefined (flat_map (λ q. map (moved_local b q.0 q.1) (filter (is_kept_local o.keep) q.1.symbols))
+    (with_earlier earlier rest)) ≡ filter is_shown_undefined (kept_locals o rest)
 locals_shown b o earlier [] = refl
 locals_shown b o earlier (k ∷ ks) =
-    filter-append is_shown_undefined (map (moved_local b earlier k) (filter (is_kept_local o.keep) k.symbols)) (flat_map (λ q. map (moved_local b q.0 q.1) (filter (is_kept_local o.keep) q.1.symbols)) (with_earlier (earlier ++ k ∷ []) ks))
+    filter-append is_shown_undefined (map (moved_local b earlier k) (filter (is_kept_local o.keep) k.symbols))
+    (flat_map (λ q. map (moved_local b q.0 q.1) (filter (is_kept_local o.keep) q.1.symbols)) (with_earlier (earlier ++ k ∷ []) ks))
     ∙ (λ i. moved_shown b earlier k (filter (is_kept_local o.keep) k.symbols) i ++ locals_shown b o (earlier ++ k ∷ []) ks i)
     ∙ sym (filter-append is_shown_undefined (filter (is_kept_local o.keep) k.symbols) (kept_locals o ks))
 
@@ -91,9 +99,12 @@ locals_shown b o earlier (k ∷ ks) =
 
 -- the row of a name that is reported, or of another
 abbrev IsToldBy : Bool → List ℕ → Final → Type 0
-IsToldBy missing name f = ((missing ≡ true) × (row_at name f ≡ undefined_symbol name)) ⊎ ((missing ≡ false) × (is_shown_undefined (row_at name f) ≡ false))
+IsToldBy missing name f =
+    ((missing ≡ true) × (row_at name f ≡ undefined_symbol name))
+    ⊎ ((missing ≡ false) × (is_shown_undefined (row_at name f) ≡ false))
 
-told_by : (p : Plan) (name : List ℕ) (st : State) → IsProper st → p.choices.relocatable ≡ false → IsToldBy (is_missing name st) name (final_by p name st)
+told_by : (p : Plan) (name : List ℕ) (st : State) → IsProper st → p.choices.relocatable ≡ false →
+    IsToldBy (is_missing name st) name (final_by p name st)
 told_by p name (Defined Undefined offset) h r = absurd h
 told_by p name (Defined Other offset) h r = absurd h
 told_by p name (Defined Absolute offset) h r = inr (refl, refl)
@@ -101,10 +112,12 @@ told_by p name (Defined TextSeg offset) h r = inr (refl, refl)
 told_by p name (Defined DataSeg offset) h r = inr (refl, refl)
 told_by p name (Defined BssSeg offset) h r = inr (refl, refl)
 told_by p name (Wanted size) h r =
-    by_tests (plus p.at.data_end (common_offset p.mentions name)) (eqb size 0) p.choices.relocatable r p.choices.force_commons (bytes_eq name etext) (bytes_eq name edata) (bytes_eq name end_name)
+    by_tests (plus p.at.data_end (common_offset p.mentions name)) (eqb size 0) p.choices.relocatable r
+    p.choices.force_commons (bytes_eq name etext) (bytes_eq name edata) (bytes_eq name end_name)
   where
     by_tests : (a : ℕ) (z r : Bool) → r ≡ false → (c t d e : Bool) → IsToldBy (z && not (t || (d || (e || false)))) name
-        (cond z (cond r (waiting 0) (cond t (bound_at TextSeg p.at.text_end) (cond d (bound_at DataSeg p.at.data_end) (cond e (bound_at BssSeg p.at.bss_end) (waiting 0))))) (cond (not r || c) (bound_at BssSeg a) (waiting size)))
+        (cond z (cond r (waiting 0) (cond t (bound_at TextSeg p.at.text_end) (cond d (bound_at DataSeg p.at.data_end)
+        (cond e (bound_at BssSeg p.at.bss_end) (waiting 0))))) (cond (not r || c) (bound_at BssSeg a) (waiting size)))
     by_tests a z true h c t d e = absurd (cc)
     by_tests a false false h c t d e = inr (refl, refl)
     by_tests a true false h c true d e = inr (refl, refl)
@@ -122,16 +135,20 @@ module _ (forced : List (List ℕ)) (os : List Contents) (o : Choices) where
   abbrev missing : List ℕ → Bool
   missing name = is_missing name (state ms name)
 
-  rows_shown : o.relocatable ≡ false → (names : List (List ℕ)) → filter is_shown_undefined (map (external_row p) names) ≡ map undefined_symbol (filter missing names)
+  rows_shown : o.relocatable ≡ false → (names : List (List ℕ)) →
+      filter is_shown_undefined (map (external_row p) names) ≡ map undefined_symbol (filter missing names)
   rows_shown plain [] = refl
   rows_shown plain (n ∷ ns) = by_row (told_by p n (state ms n) (state_is_proper forced os n) plain) (rows_shown plain ns)
     where
-      by_row : IsToldBy (missing n) n (final_by p n (state ms n)) → filter is_shown_undefined (map (external_row p) ns) ≡ map undefined_symbol (filter missing ns) →
+      by_row : IsToldBy (missing n) n (final_by p n (state ms n)) →
+          filter is_shown_undefined (map (external_row p) ns) ≡ map undefined_symbol (filter missing ns) →
           filter is_shown_undefined (map (external_row p) (n ∷ ns)) ≡ map undefined_symbol (filter missing (n ∷ ns))
       by_row (inl h) rest =
-          (λ i. cond (is_shown_undefined (h.1 i)) (h.1 i ∷ rest i) (rest i)) ∙ sym (ap (λ (u : Bool). map undefined_symbol (cond u (n ∷ filter missing ns) (filter missing ns))) h.0)
+          (λ i. cond (is_shown_undefined (h.1 i)) (h.1 i ∷ rest i) (rest i))
+          ∙ sym (ap (λ (u : Bool). map undefined_symbol (cond u (n ∷ filter missing ns) (filter missing ns))) h.0)
       by_row (inr h) rest =
-          ap (λ (u : Bool). cond u (external_row p n ∷ filter is_shown_undefined (map (external_row p) ns)) (filter is_shown_undefined (map (external_row p) ns))) h.1
+          ap (λ (u : Bool). cond u (external_row p n ∷ filter is_shown_undefined (map (external_row p) ns))
+          (filter is_shown_undefined (map (external_row p) ns))) h.1
           ∙ rest
           ∙ sym (ap (λ (u : Bool). map undefined_symbol (cond u (n ∷ filter missing ns) (filter missing ns))) h.0)
 
@@ -139,12 +156,17 @@ module _ (forced : List (List ℕ)) (os : List Contents) (o : Choices) where
   rows_outer [] = tt
   rows_outer (n ∷ ns) = (external_row_outer p n, rows_outer ns)
 
-  module _ (x : Outcome) (others : o.keep ≢ Nothing) (plain : o.relocatable ≡ false) (linked : link forced os o ≡ Ok x) (n : NmOptions) (u : n.undefined ≡ true) where
+  module _ (x : Outcome) (others : o.keep ≢ Nothing) (plain : o.relocatable ≡ false) (linked : link forced os o ≡ Ok x)
+      (n : NmOptions) (u : n.undefined ≡ true) where
     symbols_are : x.file.symbols ≡ local_rows p os ++ external_rows p
-    symbols_are = sym (ap (λ (f : Contents). f.symbols) (made_file p os x linked)) ∙ rows_kept-others o.keep (local_rows p os ++ external_rows p) others
+    symbols_are =
+        sym (ap (λ (f : Contents). f.symbols) (made_file p os x linked))
+        ∙ rows_kept-others o.keep (local_rows p os ++ external_rows p) others
 
     reported : undefined_names ms ≡ x.report.undefined
-    reported = ap (λ (r : Bool). cond r [] (undefined_names ms)) (sym plain) ∙ ap (λ (f : ReportNames). f.undefined) (made_report p os x linked)
+    reported =
+        ap (λ (r : Bool). cond r [] (undefined_names ms)) (sym plain)
+        ∙ ap (λ (f : ReportNames). f.undefined) (made_report p os x linked)
 
     passed : filter (is_shown n) x.file.symbols ≡ listed_locals n (undefined_locals o os) ++ map undefined_symbol x.report.undefined
     passed =
@@ -165,18 +187,23 @@ none_listed n locals (inr none) = ap (λ (ls : List Symbol). cond n.external [] 
     either true = refl
     either false = refl
 
-pub undefined_are_listed : (forced : List (List ℕ)) (os : List Contents) (o : Choices) (x : Outcome) → o.keep ≢ Nothing → o.relocatable ≡ false → link forced os o ≡ Ok x →
-    (n : NmOptions) → n.undefined ≡ true → (n.external ≡ true) ⊎ (undefined_locals o os ≡ []) → IsPermutation (map (λ s. s.name) (shown n x.file)) x.report.undefined
+pub undefined_are_listed : (forced : List (List ℕ)) (os : List Contents) (o : Choices) (x : Outcome) →
+    o.keep ≢ Nothing → o.relocatable ≡ false → link forced os o ≡ Ok x →
+    (n : NmOptions) → n.undefined ≡ true → (n.external ≡ true) ⊎ (undefined_locals o os ≡ []) →
+    IsPermutation (map (λ s. s.name) (shown n x.file)) x.report.undefined
 undefined_are_listed forced os o x others plain linked n u without =
     let all : List Symbol = filter (is_shown n) x.file.symbols in
     let names : map (λ (s : Symbol). s.name) all ≡ x.report.undefined =
     ap (λ (ss : List Symbol). map (λ (s : Symbol). s.name) ss) (passed forced os o x others plain linked n u)
-    ∙ ap (λ (ls : List Symbol). map (λ (s : Symbol). s.name) (ls ++ map undefined_symbol x.report.undefined)) (none_listed n (undefined_locals o os) without)
+    ∙ ap (λ (ls : List Symbol). map (λ (s : Symbol). s.name) (ls ++ map undefined_symbol x.report.undefined))
+    (none_listed n (undefined_locals o os) without)
     ∙ names_again x.report.undefined in
-    subst (λ (ns : List (List ℕ)). IsPermutation (map (λ (s : Symbol). s.name) (arranged n all)) ns) names (IsPermutation-map (λ (s : Symbol). s.name) (arranged n all) all (IsPermutation-sym all (arranged n all) (arranged_moves n all)))
+    subst (λ (ns : List (List ℕ)). IsPermutation (map (λ (s : Symbol). s.name) (arranged n all)) ns) names
+    (IsPermutation-map (λ (s : Symbol). s.name) (arranged n all) all (IsPermutation-sym all (arranged n all) (arranged_moves n all)))
 
-pub undefined_lines : (forced : List (List ℕ)) (os : List Contents) (o : Choices) (x : Outcome) → o.keep ≢ Nothing → o.relocatable ≡ false → link forced os o ≡ Ok x →
-    (n : NmOptions) (path : List ℕ) → n.undefined ≡ true →
-    nm_text n ((path, x.file) ∷ []) ≡ lines n path (arranged n (listed_locals n (undefined_locals o os) ++ map undefined_symbol x.report.undefined))
+pub undefined_lines : (forced : List (List ℕ)) (os : List Contents) (o : Choices) (x : Outcome) → o.keep ≢ Nothing →
+    o.relocatable ≡ false → link forced os o ≡ Ok x → (n : NmOptions) (path : List ℕ) → n.undefined ≡ true →
+    nm_text n ((path, x.file) ∷ [])
+    ≡ lines n path (arranged n (listed_locals n (undefined_locals o os) ++ map undefined_symbol x.report.undefined))
 undefined_lines forced os o x others plain linked n path u =
     one_file n path x.file ∙ ap (λ (ss : List Symbol). lines n path (arranged n ss)) (passed forced os o x others plain linked n u)

@@ -1,5 +1,6 @@
 -- The commons of a linked file: each has room of its own.
-use Rattle.std.proofs.Common.{◌≡◌, ◌≢◌, ℕ, ◌+◌, ◌-◌, ◌%◌, ◌≤◌, Bool, true, false, cond, ◌||◌, eqb, List, [], ◌∷◌, Some, refl, sym, ◌∙◌, ap, subst, arith, ◌⊎◌, inl, inr, take, add-one}
+use Rattle.std.proofs.Common.{◌≡◌, ◌≢◌, ℕ, ◌+◌, ◌-◌, ◌%◌, ◌≤◌, Bool, true, false, cond, ◌||◌, eqb, List, [], ◌∷◌, Some}
+use Rattle.std.proofs.Common.{refl, sym, ◌∙◌, ap, subst, arith, ◌⊎◌, inl, inr, take, add-one}
 use Rattle.std.specs.Prelude.{bytes_eq, Ok}
 use Rattle.std.proofs.lemmas.List.Sums.{sum_by-append}
 use Rattle.std.proofs.lemmas.Slice.Eq.{bytes_eq-Decides}
@@ -42,7 +43,8 @@ module _ (ms : List Mention) where
   abbrev before_in : List (List ℕ) → List ℕ → ℕ
   before_in ns name = room_of ms (take (place_of name ns) ns)
 
-  before_next : (n : List ℕ) (ns : List (List ℕ)) (name : List ℕ) → bytes_eq name n ≡ false → before_in (n ∷ ns) name ≡ size_at n + before_in ns name
+  before_next : (n : List ℕ) (ns : List (List ℕ)) (name : List ℕ) → bytes_eq name n ≡ false →
+      before_in (n ∷ ns) name ≡ size_at n + before_in ns name
   before_next n ns name e =
       ap (λ (t : Bool). room_of ms (take (cond t 0 (place_of name ns + 1)) (n ∷ ns))) e
       ∙ ap (λ (k : ℕ). room_of ms (take k (n ∷ ns))) (add-one (place_of name ns))
@@ -62,9 +64,15 @@ module _ (ms : List Mention) where
       next : (b s c t r all : ℕ) → b ≡ s + c → c + t ≤ r → all ≡ s + r → b + t ≤ all
       next b s c t r all e f g = omega arith
 
-      by_test : (t : Bool) → bytes_eq name n ≡ t → (t || is_among ns name) ≡ true → (is_among ns name ≡ true → before_in ns name + size_at name ≤ room_of ms ns) → before_in (n ∷ ns) name + size_at name ≤ room_of ms (n ∷ ns)
-      by_test true e h rest = first (before_in (n ∷ ns) name) (size_at n) (size_at name) (room_of ms ns) (room_of ms (n ∷ ns)) (before_first n ns name e) (ap (λ (k : List ℕ). common_size (state ms k)) ((bytes_eq-Decides name n).0 e)) (room_more n ns)
-      by_test false e h rest = next (before_in (n ∷ ns) name) (size_at n) (before_in ns name) (size_at name) (room_of ms ns) (room_of ms (n ∷ ns)) (before_next n ns name e) (rest h) (room_more n ns)
+      by_test : (t : Bool) → bytes_eq name n ≡ t → (t || is_among ns name) ≡ true →
+          (is_among ns name ≡ true → before_in ns name + size_at name ≤ room_of ms ns) →
+          before_in (n ∷ ns) name + size_at name ≤ room_of ms (n ∷ ns)
+      by_test true e h rest =
+          first (before_in (n ∷ ns) name) (size_at n) (size_at name) (room_of ms ns) (room_of ms (n ∷ ns)) (before_first n ns name e)
+          (ap (λ (k : List ℕ). common_size (state ms k)) ((bytes_eq-Decides name n).0 e)) (room_more n ns)
+      by_test false e h rest =
+          next (before_in (n ∷ ns) name) (size_at n) (before_in ns name) (size_at name) (room_of ms ns)
+          (room_of ms (n ∷ ns)) (before_next n ns name e) (rest h) (room_more n ns)
 
   -- two names' rooms lie apart
   abbrev Apart : List (List ℕ) → List ℕ → List ℕ → Type 0
@@ -88,11 +96,14 @@ module _ (ms : List Mention) where
           let two : b ≡ n = (bytes_eq-Decides b n).0 ue in
           absurd (let bad : true ≡ false = sym ((bytes_eq-Decides a b).1 (one ∙ sym two)) ∙ d in cc)
       by_tests true te false ue h k rest =
-          inl (front (before_in (n ∷ ns) a) (before_in (n ∷ ns) b) (size_at n) (size_at a) (before_in ns b) (before_first n ns a te) (ap (λ (m : List ℕ). common_size (state ms m)) ((bytes_eq-Decides a n).0 te)) (before_next n ns b ue))
+          inl (front (before_in (n ∷ ns) a) (before_in (n ∷ ns) b) (size_at n) (size_at a) (before_in ns b) (before_first n ns a te)
+          (ap (λ (m : List ℕ). common_size (state ms m)) ((bytes_eq-Decides a n).0 te)) (before_next n ns b ue))
       by_tests false te true ue h k rest =
-          inr (front (before_in (n ∷ ns) b) (before_in (n ∷ ns) a) (size_at n) (size_at b) (before_in ns a) (before_first n ns b ue) (ap (λ (m : List ℕ). common_size (state ms m)) ((bytes_eq-Decides b n).0 ue)) (before_next n ns a te))
+          inr (front (before_in (n ∷ ns) b) (before_in (n ∷ ns) a) (size_at n) (size_at b) (before_in ns a) (before_first n ns b ue)
+          (ap (λ (m : List ℕ). common_size (state ms m)) ((bytes_eq-Decides b n).0 ue)) (before_next n ns a te))
       by_tests false te false ue h k rest =
-          both (before_in (n ∷ ns) a) (before_in (n ∷ ns) b) (size_at n) (before_in ns a) (before_in ns b) (size_at a) (size_at b) (before_next n ns a te) (before_next n ns b ue) (rest h k)
+          both (before_in (n ∷ ns) a) (before_in (n ∷ ns) b) (size_at n) (before_in ns a) (before_in ns b) (size_at a)
+          (size_at b) (before_next n ns a te) (before_next n ns b ue) (rest h k)
 
 module _ (forced : List (List ℕ)) (os : List Contents) (o : Choices) (others : o.keep ≢ Nothing) (lays : lays_commons o ≡ true) where
   abbrev p : Plan
@@ -111,10 +122,12 @@ module _ (forced : List (List ℕ)) (os : List Contents) (o : Choices) (others :
           let zero : size ≡ 0 = cc in
           let bad : true ≡ false = sym (ap (λ (n : ℕ). eqb n 0) zero) ∙ c.sized in cc)
 
-  common_final : (name : List ℕ) (size : ℕ) → IsCommon forced os name size → final p name ≡ bound_at BssSeg (plus p.at.data_end (common_offset ms name))
+  common_final : (name : List ℕ) (size : ℕ) → IsCommon forced os name size →
+      final p name ≡ bound_at BssSeg (plus p.at.data_end (common_offset ms name))
   common_final name size c =
       ap (λ (s : State). final_by p name s) (state_is ms name (Wanted size) c.wanted)
-      ∙ (λ i. let f : Final = cond (c.sized i) (cond o.relocatable (waiting 0) (reserved_or_waiting p.at name)) (cond (lays i) (bound_at BssSeg (plus p.at.data_end (common_offset ms name))) (waiting size)) in f)
+      ∙ (λ i. let f : Final = cond (c.sized i) (cond o.relocatable (waiting 0) (reserved_or_waiting p.at name))
+      (cond (lays i) (bound_at BssSeg (plus p.at.data_end (common_offset ms name))) (waiting size)) in f)
 
   common_fits : (name : List ℕ) (size : ℕ) → IsCommon forced os name size → common_offset ms name + size ≤ commons_laid o ms
   common_fits name size c =
@@ -127,26 +140,35 @@ module _ (forced : List (List ℕ)) (os : List Contents) (o : Choices) (others :
       sums a s n t l h e f = omega arith
 
   -- the address does not wrap
-  common_place : p.at.bss_end ≤ 65535 → (name : List ℕ) (size : ℕ) → IsCommon forced os name size → plus p.at.data_end (common_offset ms name) ≡ p.at.data_end + common_offset ms name
-  common_place fits name size c = small p.at.data_end (common_offset ms name) size (commons_laid o ms) (total BssSeg os) (common_fits name size c) fits
+  common_place : p.at.bss_end ≤ 65535 → (name : List ℕ) (size : ℕ) → IsCommon forced os name size →
+      plus p.at.data_end (common_offset ms name) ≡ p.at.data_end + common_offset ms name
+  common_place fits name size c =
+      small p.at.data_end (common_offset ms name) size (commons_laid o ms) (total BssSeg os) (common_fits name size c) fits
     where
       small : (d a n l b : ℕ) → a + n ≤ l → d + l + b ≤ 65535 → plus d a ≡ d + a
       small d a n l b h k = omega arith
 
-  common_row : p.at.bss_end ≤ 65535 → (name : List ℕ) (size : ℕ) → IsCommon forced os name size → (external_row p name).value ≡ p.at.data_end + common_offset ms name
+  common_row : p.at.bss_end ≤ 65535 → (name : List ℕ) (size : ℕ) → IsCommon forced os name size →
+      (external_row p name).value ≡ p.at.data_end + common_offset ms name
   common_row fits name size c = ap (λ (f : Final). f.written) (common_final name size c) ∙ common_place fits name size c
 
   room_for : p.at.bss_end ≤ 65535 → (name : List ℕ) (size : ℕ) → IsCommon forced os name size → HasRoom (linked_file p os) os name size
   room_for fits name size c =
-      let start : p.at.data_end ≡ data_start_in (linked_file p os).header + total DataSeg os = ap (λ (n : ℕ). n + total DataSeg os) (data_begun o.layout (total TextSeg os)) in
-      let rest : (linked_file p os).header.bss_size - total BssSeg os ≡ commons_laid o ms = rest_back (commons_laid o ms) (total BssSeg os) in
+      let start : p.at.data_end ≡ data_start_in (linked_file p os).header + total DataSeg os =
+      ap (λ (n : ℕ). n + total DataSeg os) (data_begun o.layout (total TextSeg os)) in
+      let rest : (linked_file p os).header.bss_size - total BssSeg os ≡ commons_laid o ms =
+      rest_back (commons_laid o ms) (total BssSeg os) in
       record {
         row = external_row p name;
         found = entry_there p os name others (common_known name size c);
         type_bits = ap (λ (f : Final). type_of f.bound) (common_final name size c);
-        after = over (external_row p name).value p.at.data_end (common_offset ms name) (data_start_in (linked_file p os).header + total DataSeg os) (common_row fits name size c) start;
+        after =
+            over (external_row p name).value p.at.data_end (common_offset ms name)
+            (data_start_in (linked_file p os).header + total DataSeg os) (common_row fits name size c) start;
         before =
-            under (external_row p name).value p.at.data_end (common_offset ms name) (data_start_in (linked_file p os).header + total DataSeg os) size ((linked_file p os).header.bss_size - total BssSeg os) (commons_laid o ms)
+            under (external_row p name).value p.at.data_end (common_offset ms name)
+            (data_start_in (linked_file p os).header + total DataSeg os) size
+            ((linked_file p os).header.bss_size - total BssSeg os) (commons_laid o ms)
             (common_row fits name size c) start rest (common_fits name size c);
       }
     where
@@ -156,33 +178,46 @@ module _ (forced : List (List ℕ)) (os : List Contents) (o : Choices) (others :
       under : (v d a s n r l : ℕ) → v ≡ d + a → d ≡ s → r ≡ l → a + n ≤ l → v + n ≤ s + r
       under v d a s n r l e f g h = omega arith
 
-  rooms_apart : p.at.bss_end ≤ 65535 → (a b : List ℕ) (size more : ℕ) → IsCommon forced os a size → IsCommon forced os b more → bytes_eq a b ≡ false →
+  rooms_apart : p.at.bss_end ≤ 65535 → (a b : List ℕ) (size more : ℕ) → IsCommon forced os a size →
+      IsCommon forced os b more → bytes_eq a b ≡ false →
       ((external_row p a).value + size ≤ (external_row p b).value) ⊎ ((external_row p b).value + more ≤ (external_row p a).value)
   rooms_apart fits a b size more c d different =
-      lie (external_row p a).value (external_row p b).value p.at.data_end (common_offset ms a) (common_offset ms b) (common_size (state ms a)) (common_size (state ms b))
-      (common_row fits a size c) (common_row fits b more d) (ap common_size (state_is ms a (Wanted size) c.wanted)) (ap common_size (state_is ms b (Wanted more) d.wanted))
+      lie (external_row p a).value (external_row p b).value p.at.data_end (common_offset ms a) (common_offset ms b)
+      (common_size (state ms a)) (common_size (state ms b))
+      (common_row fits a size c) (common_row fits b more d) (ap common_size (state_is ms a (Wanted size) c.wanted))
+      (ap common_size (state_is ms b (Wanted more) d.wanted))
       (apart ms (names_by_first_mention ms) a b (common_known a size c) (common_known b more d) different)
     where
-      lie : (v w e x y s t : ℕ) → v ≡ e + x → w ≡ e + y → s ≡ size + size % 2 → t ≡ more + more % 2 → (x + s ≤ y) ⊎ (y + t ≤ x) → (v + size ≤ w) ⊎ (w + more ≤ v)
+      lie : (v w e x y s t : ℕ) → v ≡ e + x → w ≡ e + y → s ≡ size + size % 2 → t ≡ more + more % 2 →
+          (x + s ≤ y) ⊎ (y + t ≤ x) → (v + size ≤ w) ⊎ (w + more ≤ v)
       lie v w e x y s t f g h k (inl l) = inl (omega arith)
       lie v w e x y s t f g h k (inr l) = inr (omega arith)
 
 -- each common has its room between data and bss
-pub commons_have_room : (forced : List (List ℕ)) (os : List Contents) (o : Choices) (x : Outcome) → o.keep ≢ Nothing → lays_commons o ≡ true → link forced os o ≡ Ok x →
+pub commons_have_room : (forced : List (List ℕ)) (os : List Contents) (o : Choices) (x : Outcome) → o.keep ≢ Nothing →
+    lays_commons o ≡ true → link forced os o ≡ Ok x →
     (name : List ℕ) (size : ℕ) → IsCommon forced os name size → HasRoom x.file os name size
 commons_have_room forced os o x others lays linked name size c =
-    subst (λ (f : Contents). HasRoom f os name size) (made_file (plan forced os o) os x linked) (room_for forced os o others lays (made_fits (plan forced os o) os x linked) name size c)
+    subst (λ (f : Contents). HasRoom f os name size) (made_file (plan forced os o) os x linked)
+    (room_for forced os o others lays (made_fits (plan forced os o) os x linked) name size c)
 
 -- no two commons share a byte
-pub commons_lie_apart : (forced : List (List ℕ)) (os : List Contents) (o : Choices) (x : Outcome) → o.keep ≢ Nothing → lays_commons o ≡ true → link forced os o ≡ Ok x →
-    (a b : List ℕ) (size more : ℕ) → IsCommon forced os a size → IsCommon forced os b more → bytes_eq a b ≡ false → (p q : Symbol) → entry_of x.file.symbols a ≡ Some p → entry_of x.file.symbols b ≡ Some q →
+pub commons_lie_apart : (forced : List (List ℕ)) (os : List Contents) (o : Choices) (x : Outcome) → o.keep ≢ Nothing →
+    lays_commons o ≡ true → link forced os o ≡ Ok x →
+    (a b : List ℕ) (size more : ℕ) → IsCommon forced os a size → IsCommon forced os b more → bytes_eq a b ≡ false →
+    (p q : Symbol) → entry_of x.file.symbols a ≡ Some p → entry_of x.file.symbols b ≡ Some q →
     (p.value + size ≤ q.value) ⊎ (q.value + more ≤ p.value)
 commons_lie_apart forced os o x others lays linked a b size more c d different r s found there =
     let file = made_file (plan forced os o) os x linked in
-    let one : external_row (plan forced os o) a ≡ r = same a r (sym (entry_there (plan forced os o) os a others (common_known forced os o others lays a size c)) ∙ ap (λ (f : Contents). entry_of f.symbols a) file ∙ found) in
-    let two : external_row (plan forced os o) b ≡ s = same b s (sym (entry_there (plan forced os o) os b others (common_known forced os o others lays b more d)) ∙ ap (λ (f : Contents). entry_of f.symbols b) file ∙ there) in
+    let one : external_row (plan forced os o) a ≡ r =
+    same a r (sym (entry_there (plan forced os o) os a others (common_known forced os o others lays a size c))
+    ∙ ap (λ (f : Contents). entry_of f.symbols a) file ∙ found) in
+    let two : external_row (plan forced os o) b ≡ s =
+    same b s (sym (entry_there (plan forced os o) os b others (common_known forced os o others lays b more d))
+    ∙ ap (λ (f : Contents). entry_of f.symbols b) file ∙ there) in
     subst (λ (u : Symbol). (u.value + size ≤ s.value) ⊎ (s.value + more ≤ u.value)) one
-    (subst (λ (u : Symbol). ((external_row (plan forced os o) a).value + size ≤ u.value) ⊎ (u.value + more ≤ (external_row (plan forced os o) a).value)) two
+    (subst (λ (u : Symbol). ((external_row (plan forced os o) a).value + size ≤ u.value)
+    ⊎ (u.value + more ≤ (external_row (plan forced os o) a).value)) two
     (rooms_apart forced os o others lays (made_fits (plan forced os o) os x linked) a b size more c d different))
   where
     same : (n : List ℕ) (t : Symbol) → Some (external_row (plan forced os o) n) ≡ Some t → external_row (plan forced os o) n ≡ t

@@ -32,31 +32,40 @@ use Rattle.link_laws.proofs.ExternalLemmas.{entry_there}
 use Rattle.link_session.proofs.AgreementLemmas.{AgreesIn, none_differ, agrees_with}
 
 -- the mention that an entry makes agrees, where all do
-entry_agrees : (forced : List (List ℕ)) (before : List Contents) (k : Contents) (after : List Contents) → multiple_names (mentions forced (before ++ k ∷ after)) ≡ [] →
-    (j : ℕ) (s : Symbol) → slice_get k.symbols j ≡ Some s → is_external s ≡ true → AgreesIn (mentions forced (before ++ k ∷ after)) (mention before k s)
+entry_agrees : (forced : List (List ℕ)) (before : List Contents) (k : Contents) (after : List Contents) →
+    multiple_names (mentions forced (before ++ k ∷ after)) ≡ [] →
+    (j : ℕ) (s : Symbol) → slice_get k.symbols j ≡ Some s → is_external s ≡ true →
+    AgreesIn (mentions forced (before ++ k ∷ after)) (mention before k s)
 entry_agrees forced before k after single j s e outer =
     let all = mentions forced (before ++ k ∷ after) in
     of_entry (AgreesIn all) forced before k after (none_differ all all single) j s e outer
 
-module _ (forced : List (List ℕ)) (os : List Contents) (o : Choices) (others : o.keep ≢ Nothing) (before : List Contents) (k : Contents) (s : Symbol) where
+module _ (forced : List (List ℕ)) (os : List Contents) (o : Choices) (others : o.keep ≢ Nothing)
+    (before : List Contents) (k : Contents) (s : Symbol) where
   abbrev q : Plan
   q = plan forced os o
 
   -- a name with this first definition is among the names
-  defined_known : (segment : Segment) (offset : ℕ) → first_definition (mentions forced os) s.name ≡ Some (segment, offset) → is_among (names_by_first_mention (mentions forced os)) s.name ≡ true
+  defined_known : (segment : Segment) (offset : ℕ) → first_definition (mentions forced os) s.name ≡ Some (segment, offset) →
+      is_among (names_by_first_mention (mentions forced os)) s.name ≡ true
   defined_known segment offset e = by_test (is_among (names_of (mentions forced os)) s.name) refl
     where
-      by_test : (t : Bool) → is_among (names_of (mentions forced os)) s.name ≡ t → is_among (names_by_first_mention (mentions forced os)) s.name ≡ true
+      by_test : (t : Bool) → is_among (names_of (mentions forced os)) s.name ≡ t →
+          is_among (names_by_first_mention (mentions forced os)) s.name ≡ true
       by_test true h = is_among-externals (mentions forced os) s.name ∙ h
       by_test false h =
-          absurd (let bad : state_by (Some (segment, offset)) (wanted_size (mentions forced os) s.name) ≡ Wanted 0 = ap (λ (d : Option Definition). state_by d (wanted_size (mentions forced os) s.name)) (sym e) ∙ unmentioned (mentions forced os) s.name h in cc)
+          absurd (let bad : state_by (Some (segment, offset)) (wanted_size (mentions forced os) s.name)
+          ≡ Wanted 0 = ap (λ (d : Option Definition). state_by d (wanted_size (mentions forced os) s.name)) (sym e)
+          ∙ unmentioned (mentions forced os) s.name h in cc)
 
   -- the row of a name with this first definition
-  defined_row : (segment : Segment) (offset : ℕ) → first_definition (mentions forced os) s.name ≡ Some (segment, offset) → final q s.name ≡ bound_at segment (plus (base q.at segment) offset)
+  defined_row : (segment : Segment) (offset : ℕ) → first_definition (mentions forced os) s.name ≡ Some (segment, offset) →
+      final q s.name ≡ bound_at segment (plus (base q.at segment) offset)
   defined_row segment offset e = ap (λ (d : Option Definition). final_by q s.name (state_by d (wanted_size (mentions forced os) s.name))) e
 
   -- the entry of a name with this first definition
-  defined_at : (segment : Segment) (offset : ℕ) → external_type (segment_of s) ≡ type_of (Some segment) → plus (base q.at segment) offset ≡ plus s.value (move_in (linked_file q os).header os before k (segment_of s)) →
+  defined_at : (segment : Segment) (offset : ℕ) → external_type (segment_of s) ≡ type_of (Some segment) →
+      plus (base q.at segment) offset ≡ plus s.value (move_in (linked_file q os).header os before k (segment_of s)) →
       first_definition (mentions forced os) s.name ≡ Some (segment, offset) → IsDefined (linked_file q os) os before k s
   defined_at segment offset t v e = record {
     row = external_row q s.name;
@@ -65,33 +74,55 @@ module _ (forced : List (List ℕ)) (os : List Contents) (o : Choices) (others :
     value = ap (λ (f : Final). f.written) (defined_row segment offset e) ∙ v;
   }
 
-  move_at : (segment : Segment) {n : ℕ} → segment_of s ≡ segment → n ≡ plus s.value (move_in (linked_file q os).header os before k segment) → n ≡ plus s.value (move_in (linked_file q os).header os before k (segment_of s))
+  move_at : (segment : Segment) {n : ℕ} → segment_of s ≡ segment →
+      n ≡ plus s.value (move_in (linked_file q os).header os before k segment) →
+      n ≡ plus s.value (move_in (linked_file q os).header os before k (segment_of s))
   move_at segment same e = e ∙ ap (λ (g : Segment). plus s.value (move_in (linked_file q os).header os before k g)) (sym same)
 
   sum_placed : (v b h c : ℕ) → plus b h ≡ c → plus b (plus v h) ≡ plus v c
   sum_placed v b h c e = omega arith
 
-  placed : (segment : Segment) → plus (base q.at segment) (plus s.value (shift before k segment)) ≡ plus s.value (move_in (linked_file q os).header os before k segment)
-  placed segment = sum_placed s.value (base q.at segment) (shift before k segment) (move_in (linked_file q os).header os before k segment) (move_by_header forced os o before k segment)
+  placed : (segment : Segment) → plus (base q.at segment) (plus s.value (shift before k segment)) ≡ plus s.value
+      (move_in (linked_file q os).header os before k segment)
+  placed segment =
+      sum_placed s.value (base q.at segment) (shift before k segment)
+      (move_in (linked_file q os).header os before k segment) (move_by_header forced os o before k segment)
 
-  defined_by : (segment : Segment) → eqb (masked_type s) 0 ≡ false → segment_of s ≡ segment → differs (first_definition (mentions forced os) s.name) (statement before k segment s.value) ≡ false → IsDefined (linked_file q os) os before k s
+  defined_by : (segment : Segment) → eqb (masked_type s) 0 ≡ false → segment_of s ≡ segment →
+      differs (first_definition (mentions forced os) s.name) (statement before k segment s.value) ≡ false →
+      IsDefined (linked_file q os) os before k s
   defined_by Undefined inner same h = absurd (undefined_type (masked_type s) inner same)
     where
       undefined_type : (n : ℕ) → eqb n 0 ≡ false → segment_numbered n ≡ Undefined → ⊥
-      undefined_type = by_number (λ t segment. t ≡ false → segment ≡ Undefined → ⊥) (λ z e. absurd (cc)) (λ z e. absurd (cc)) (λ z e. absurd (cc)) (λ z e. absurd (cc)) (λ z e. absurd (cc)) (λ z e. absurd (cc))
-  defined_by Absolute inner same h = defined_at Absolute (plus s.value (shift before k Absolute)) (ap external_type same) (move_at Absolute same (sum_placed s.value 0 0 0 refl)) (agrees_with (first_definition (mentions forced os) s.name) Absolute (plus s.value (shift before k Absolute)) h)
-  defined_by Other inner same h = defined_at Absolute (plus s.value (shift before k Absolute)) (ap external_type same) (move_at Other same (sum_placed s.value 0 0 0 refl)) (agrees_with (first_definition (mentions forced os) s.name) Absolute (plus s.value (shift before k Absolute)) h)
-  defined_by TextSeg inner same h = defined_at TextSeg (plus s.value (shift before k TextSeg)) (ap external_type same) (move_at TextSeg same (placed TextSeg)) (agrees_with (first_definition (mentions forced os) s.name) TextSeg (plus s.value (shift before k TextSeg)) h)
-  defined_by DataSeg inner same h = defined_at DataSeg (plus s.value (shift before k DataSeg)) (ap external_type same) (move_at DataSeg same (placed DataSeg)) (agrees_with (first_definition (mentions forced os) s.name) DataSeg (plus s.value (shift before k DataSeg)) h)
-  defined_by BssSeg inner same h = defined_at BssSeg (plus s.value (shift before k BssSeg)) (ap external_type same) (move_at BssSeg same (placed BssSeg)) (agrees_with (first_definition (mentions forced os) s.name) BssSeg (plus s.value (shift before k BssSeg)) h)
+      undefined_type =
+          by_number (λ t segment. t ≡ false → segment ≡ Undefined → ⊥) (λ z e. absurd (cc)) (λ z e. absurd (cc))
+          (λ z e. absurd (cc)) (λ z e. absurd (cc)) (λ z e. absurd (cc)) (λ z e. absurd (cc))
+  defined_by Absolute inner same h =
+      defined_at Absolute (plus s.value (shift before k Absolute))
+      (ap external_type same) (move_at Absolute same (sum_placed s.value 0 0 0 refl))
+      (agrees_with (first_definition (mentions forced os) s.name) Absolute (plus s.value (shift before k Absolute)) h)
+  defined_by Other inner same h =
+      defined_at Absolute (plus s.value (shift before k Absolute))
+      (ap external_type same) (move_at Other same (sum_placed s.value 0 0 0 refl))
+      (agrees_with (first_definition (mentions forced os) s.name) Absolute (plus s.value (shift before k Absolute)) h)
+  defined_by TextSeg inner same h =
+      defined_at TextSeg (plus s.value (shift before k TextSeg)) (ap external_type same) (move_at TextSeg same (placed TextSeg))
+      (agrees_with (first_definition (mentions forced os) s.name) TextSeg (plus s.value (shift before k TextSeg)) h)
+  defined_by DataSeg inner same h =
+      defined_at DataSeg (plus s.value (shift before k DataSeg)) (ap external_type same) (move_at DataSeg same (placed DataSeg))
+      (agrees_with (first_definition (mentions forced os) s.name) DataSeg (plus s.value (shift before k DataSeg)) h)
+  defined_by BssSeg inner same h =
+      defined_at BssSeg (plus s.value (shift before k BssSeg)) (ap external_type same) (move_at BssSeg same (placed BssSeg))
+      (agrees_with (first_definition (mentions forced os) s.name) BssSeg (plus s.value (shift before k BssSeg)) h)
 
 -- where no name is multiply defined, each definition holds
-pub definitions_hold : (forced : List (List ℕ)) (before : List Contents) (k : Contents) (after : List Contents) (o : Choices) (x : Outcome) →
-    o.keep ≢ Nothing → link forced (before ++ k ∷ after) o ≡ Ok x → x.report.multiples ≡ [] →
+pub definitions_hold : (forced : List (List ℕ)) (before : List Contents) (k : Contents) (after : List Contents)
+    (o : Choices) (x : Outcome) → o.keep ≢ Nothing → link forced (before ++ k ∷ after) o ≡ Ok x → x.report.multiples ≡ [] →
     (j : ℕ) (s : Symbol) → slice_get k.symbols j ≡ Some s → is_external s ≡ true → eqb (masked_type s) 0 ≡ false →
     IsDefined x.file (before ++ k ∷ after) before k s
 definitions_hold forced before k after o x others linked none j s e outer inner =
     let os = before ++ k ∷ after in
-    let single : multiple_names (mentions forced os) ≡ [] = ap (λ (f : ReportNames). f.multiples) (made_report (plan forced os o) os x linked) ∙ none in
+    let single : multiple_names (mentions forced os) ≡ [] =
+    ap (λ (f : ReportNames). f.multiples) (made_report (plan forced os o) os x linked) ∙ none in
     subst (λ (f : Contents). IsDefined f os before k s) (made_file (plan forced os o) os x linked)
     (defined_by forced os o others before k s (segment_of s) inner refl (entry_agrees forced before k after single j s e outer))

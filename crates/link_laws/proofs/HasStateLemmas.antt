@@ -1,5 +1,6 @@
 -- What the mentions make of a name, told by the mentions alone, is its state.
-use Rattle.std.proofs.Common.{◌≡◌, ℕ, ◌≤◌, max, Bool, true, false, cond, List, [], ◌∷◌, Option, Some, None, refl, sym, ◌∙◌, ap, inl, inr, arith}
+use Rattle.std.proofs.Common.{◌≡◌, ℕ, ◌≤◌, max, Bool, true, false, cond, List, [], ◌∷◌, Option}
+use Rattle.std.proofs.Common.{Some, None, refl, sym, ◌∙◌, ap, inl, inr, arith}
 use Rattle.std.specs.Prelude.{bytes_eq}
 use Rattle.std.specs.List.{AllByRecursion}
 use Rattle.std.proofs.lemmas.Slice.Eq.{bytes_eq-Decides}
@@ -16,10 +17,13 @@ pub has_first : (ms : List Mention) (name : List ℕ) (d : Definition) → first
 has_first [] name d f = absurd (cc)
 has_first (m ∷ ms) name d f = by_test (bytes_eq name m.name) refl m.says refl f (has_first ms name d)
   where
-    by_test : (t : Bool) → bytes_eq name m.name ≡ t → (s : State) → m.says ≡ s → cond t (first_of (definition_by s) (first_definition ms name)) (first_definition ms name) ≡ Some d →
+    by_test : (t : Bool) → bytes_eq name m.name ≡ t → (s : State) → m.says ≡ s →
+        cond t (first_of (definition_by s) (first_definition ms name)) (first_definition ms name) ≡ Some d →
         (first_definition ms name ≡ Some d → IsFirst ms name d.0 d.1) → IsFirst (m ∷ ms) name d.0 d.1
-    by_test false te s se f rest = inr ((λ same segment offset e. absurd (let bad : false ≡ true = sym te ∙ (bytes_eq-Decides name m.name).1 same in cc)), rest f)
-    by_test true te (Wanted size) se f rest = inr ((λ same segment offset e. absurd (let bad : Wanted size ≡ Defined segment offset = sym se ∙ e in cc)), rest f)
+    by_test false te s se f rest =
+        inr ((λ same segment offset e. absurd (let bad : false ≡ true = sym te ∙ (bytes_eq-Decides name m.name).1 same in cc)), rest f)
+    by_test true te (Wanted size) se f rest =
+        inr ((λ same segment offset e. absurd (let bad : Wanted size ≡ Defined segment offset = sym se ∙ e in cc)), rest f)
     by_test true te (Defined segment offset) se f rest =
         let same : (segment, offset) ≡ d = cc in
         inl ((bytes_eq-Decides name m.name).0 te, se ∙ ap (λ (x : Definition). Defined x.0 x.1) same)
@@ -28,14 +32,18 @@ has_none : (ms : List Mention) (name : List ℕ) → first_definition ms name �
 has_none [] name f = tt
 has_none (m ∷ ms) name f = by_test (bytes_eq name m.name) refl m.says refl f (has_none ms name)
   where
-    by_test : (t : Bool) → bytes_eq name m.name ≡ t → (s : State) → m.says ≡ s → cond t (first_of (definition_by s) (first_definition ms name)) (first_definition ms name) ≡ None →
+    by_test : (t : Bool) → bytes_eq name m.name ≡ t → (s : State) → m.says ≡ s →
+        cond t (first_of (definition_by s) (first_definition ms name)) (first_definition ms name) ≡ None →
         (first_definition ms name ≡ None → AllByRecursion (LeavesOpen name) ms) → AllByRecursion (LeavesOpen name) (m ∷ ms)
-    by_test false te s se f rest = ((λ same segment offset e. absurd (let bad : false ≡ true = sym te ∙ (bytes_eq-Decides name m.name).1 same in cc)), rest f)
-    by_test true te (Wanted size) se f rest = ((λ same segment offset e. absurd (let bad : Wanted size ≡ Defined segment offset = sym se ∙ e in cc)), rest f)
+    by_test false te s se f rest =
+        ((λ same segment offset e. absurd (let bad : false ≡ true = sym te ∙ (bytes_eq-Decides name m.name).1 same in cc)), rest f)
+    by_test true te (Wanted size) se f rest =
+        ((λ same segment offset e. absurd (let bad : Wanted size ≡ Defined segment offset = sym se ∙ e in cc)), rest f)
     by_test true te (Defined segment offset) se f rest = absurd (cc)
 
 -- a mention that leaves the name open does not change its first definition
-passed_over : (m : Mention) (name : List ℕ) (rest : Option Definition) → LeavesOpen name m → cond (bytes_eq name m.name) (first_of (definition_by m.says) rest) rest ≡ rest
+passed_over : (m : Mention) (name : List ℕ) (rest : Option Definition) → LeavesOpen name m →
+    cond (bytes_eq name m.name) (first_of (definition_by m.says) rest) rest ≡ rest
 passed_over m name rest leaves = by_test (bytes_eq name m.name) refl m.says refl
   where
     by_test : (t : Bool) → bytes_eq name m.name ≡ t → (s : State) → m.says ≡ s → cond t (first_of (definition_by s) rest) rest ≡ rest
@@ -44,10 +52,12 @@ passed_over m name rest leaves = by_test (bytes_eq name m.name) refl m.says refl
     by_test true te (Defined segment offset) se = absurd (leaves ((bytes_eq-Decides name m.name).0 te) segment offset se)
 
 -- the other way round
-pub first_is : (ms : List Mention) (name : List ℕ) (segment : Segment) (offset : ℕ) → IsFirst ms name segment offset → first_definition ms name ≡ Some (segment, offset)
+pub first_is : (ms : List Mention) (name : List ℕ) (segment : Segment) (offset : ℕ) → IsFirst ms name segment offset →
+    first_definition ms name ≡ Some (segment, offset)
 first_is [] name segment offset h = absurd h
 first_is (m ∷ ms) name segment offset (inl h) =
-    ap (λ (t : Bool). cond t (first_of (definition_by m.says) (first_definition ms name)) (first_definition ms name)) ((bytes_eq-Decides name m.name).1 h.0)
+    ap (λ (t : Bool). cond t (first_of (definition_by m.says) (first_definition ms name)) (first_definition ms name))
+    ((bytes_eq-Decides name m.name).1 h.0)
     ∙ ap (λ (s : State). first_of (definition_by s) (first_definition ms name)) h.1
 first_is (m ∷ ms) name segment offset (inr h) = passed_over m name (first_definition ms name) h.0 ∙ first_is ms name segment offset h.1
 
@@ -66,10 +76,15 @@ most_wanted (m ∷ ms) name n h = by_test (bytes_eq name m.name) refl m.says ref
     next : (a w n : ℕ) → max a w ≤ n → w ≤ n
     next a w n h = omega arith
 
-    by_test : (t : Bool) → bytes_eq name m.name ≡ t → (s : State) → m.says ≡ s → cond t (max (size_wanted_by s) (wanted_size ms name)) (wanted_size ms name) ≤ n →
+    by_test : (t : Bool) → bytes_eq name m.name ≡ t → (s : State) → m.says ≡ s →
+        cond t (max (size_wanted_by s) (wanted_size ms name)) (wanted_size ms name) ≤ n →
         (wanted_size ms name ≤ n → AllByRecursion (WantsAtMost name n) ms) → AllByRecursion (WantsAtMost name n) (m ∷ ms)
-    by_test false te s se h rest = ((λ same size e. absurd (let bad : false ≡ true = sym te ∙ (bytes_eq-Decides name m.name).1 same in cc)), rest h)
-    by_test true te s se h rest = ((λ same size e. first (size_wanted_by s) (wanted_size ms name) n size h (ap size_wanted_by (sym se ∙ e))), rest (next (size_wanted_by s) (wanted_size ms name) n h))
+    by_test false te s se h rest =
+        ((λ same size e. absurd (let bad : false ≡ true = sym te ∙ (bytes_eq-Decides name m.name).1 same in cc)), rest h)
+    by_test true te s se h rest = (
+      (λ same size e. first (size_wanted_by s) (wanted_size ms name) n size h (ap size_wanted_by (sym se ∙ e))),
+      rest (next (size_wanted_by s) (wanted_size ms name) n h),
+    )
 
 least_wanted : (ms : List Mention) (name : List ℕ) (n : ℕ) → AllByRecursion (WantsAtMost name n) ms → wanted_size ms name ≤ n
 least_wanted [] name n h = omega arith
@@ -78,7 +93,8 @@ least_wanted (m ∷ ms) name n h = by_test (bytes_eq name m.name) refl m.says re
     both : (a w n : ℕ) → a ≤ n → w ≤ n → max a w ≤ n
     both a w n e f = omega arith
 
-    by_test : (t : Bool) → bytes_eq name m.name ≡ t → (s : State) → m.says ≡ s → wanted_size ms name ≤ n → cond t (max (size_wanted_by s) (wanted_size ms name)) (wanted_size ms name) ≤ n
+    by_test : (t : Bool) → bytes_eq name m.name ≡ t → (s : State) → m.says ≡ s → wanted_size ms name ≤ n →
+        cond t (max (size_wanted_by s) (wanted_size ms name)) (wanted_size ms name) ≤ n
     by_test false te s se rest = rest
     by_test true te (Wanted size) se rest = both size (wanted_size ms name) n (h.0 ((bytes_eq-Decides name m.name).0 te) size se) rest
     by_test true te (Defined segment offset) se rest = both 0 (wanted_size ms name) n (omega arith) rest
@@ -88,15 +104,21 @@ pub has_state : (ms : List Mention) (name : List ℕ) → HasState ms name (stat
 has_state ms name = by_first (first_definition ms name) refl
   where
     by_first : (d : Option Definition) → first_definition ms name ≡ d → HasState ms name (state_by d (wanted_size ms name))
-    by_first None e = record { undefined = has_none ms name e; most = most_wanted ms name (wanted_size ms name) (omega arith); least = least_wanted ms name }
+    by_first None e = record {
+      undefined = has_none ms name e;
+      most = most_wanted ms name (wanted_size ms name) (omega arith);
+      least = least_wanted ms name;
+    }
     by_first (Some d) e = has_first ms name d e
 
 -- at most one state holds of a name
 pub state_is : (ms : List Mention) (name : List ℕ) (st : State) → HasState ms name st → state ms name ≡ st
-state_is ms name (Defined segment offset) h = ap (λ (d : Option Definition). state_by d (wanted_size ms name)) (first_is ms name segment offset h)
+state_is ms name (Defined segment offset) h =
+    ap (λ (d : Option Definition). state_by d (wanted_size ms name)) (first_is ms name segment offset h)
 state_is ms name (Wanted size) h =
     ap (λ (d : Option Definition). state_by d (wanted_size ms name)) (none_is ms name h.undefined)
-    ∙ ap Wanted (same (wanted_size ms name) size (least_wanted ms name size h.most) (h.least (wanted_size ms name) (most_wanted ms name (wanted_size ms name) (omega arith))))
+    ∙ ap Wanted (same (wanted_size ms name) size (least_wanted ms name size h.most)
+    (h.least (wanted_size ms name) (most_wanted ms name (wanted_size ms name) (omega arith))))
   where
     same : (a b : ℕ) → a ≤ b → b ≤ a → a ≡ b
     same a b e f = omega arith

@@ -1,5 +1,7 @@
 -- The kept locals and the relocation words are those that the relation of linking tells, and no others.
-use Rattle.std.proofs.Common.{◌≡◌, ℕ, zero, suc, ◌+◌, ◌*◌, ◌/◌, ◌%◌, ◌≤◌, Bool, true, false, cond, ◌&&◌, ◌||◌, eqb, List, [], ◌∷◌, ◌++◌, map, length, Option, Some, None, refl, sym, ◌∙◌, ap, subst, arith, append_assoc}
+use Rattle.std.proofs.Common.{◌≡◌, ℕ, zero, suc, ◌+◌, ◌*◌, ◌/◌, ◌%◌, ◌≤◌, Bool, true, false, cond, ◌&&◌}
+use Rattle.std.proofs.Common.{◌||◌, eqb, List, [], ◌∷◌, ◌++◌, map, length, Option, Some, None, refl}
+use Rattle.std.proofs.Common.{sym, ◌∙◌, ap, subst, arith, append_assoc}
 use Rattle.std.specs.Prelude.{bytes_eq, filter, slice_get, nat_lt}
 use Rattle.std.specs.List.{flat_map, list_any, AllByRecursion}
 use Rattle.std.proofs.lemmas.Bool.{ltb-false, ltb-true}
@@ -28,7 +30,9 @@ use Rattle.link_session.proofs.MentionLemmas.{is_among-externals}
 use Rattle.tool_options.specs.Choices.{Choices, lays_commons}
 use Rattle.link_out.specs.function.Plans.{Plan, plan, common_offset}
 use Rattle.link_out.specs.function.Finals.{final, final_by, type_of, bound_at, waiting, etext, edata, end_name}
-use Rattle.link_out.specs.function.Tables.{is_kept_local, moved_value, moved_local, local_rows, external_row, external_rows, row_of, name_bits, referent_bits, final_reloc, final_relocs, waits_far, is_out_of_reach, has_far_in}
+use Rattle.link_out.specs.function.Tables.{is_kept_local, moved_value, moved_local, local_rows, external_row}
+use Rattle.link_out.specs.function.Tables.{external_rows, row_of, name_bits, referent_bits, final_reloc, final_relocs}
+use Rattle.link_out.specs.function.Tables.{waits_far, is_out_of_reach, has_far_in}
 use Rattle.link_out.specs.function.Link.{linked_header}
 use Rattle.link_laws.specs.relation.Relocated.{entry_of}
 use Rattle.link_laws.specs.relation.LinkedTable.{moved_value_in, moved_local_in, moved_locals_in}
@@ -43,7 +47,8 @@ use Rattle.link_session.proofs.NeighbourLemmas.{blocks}
 
 module _ (forced : List (List ℕ)) (os : List Contents) (o : Choices) where
   value_same : (earlier : List Contents) (k : Contents) (segment : Segment) (value : ℕ) →
-      moved_value_in (linked_header (plan forced os o) os) os earlier k segment value ≡ moved_value (plan forced os o).at earlier k segment value
+      moved_value_in (linked_header (plan forced os o) os) os earlier k segment value
+      ≡ moved_value (plan forced os o).at earlier k segment value
   value_same earlier k Undefined value = refl
   value_same earlier k Absolute value = refl
   value_same earlier k Other value = refl
@@ -51,7 +56,8 @@ module _ (forced : List (List ℕ)) (os : List Contents) (o : Choices) where
   value_same earlier k DataSeg value = ap (λ (n : ℕ). plus value n) (sym (move_by_header forced os o earlier k DataSeg))
   value_same earlier k BssSeg value = ap (λ (n : ℕ). plus value n) (sym (move_by_header forced os o earlier k BssSeg))
 
-  local_same : (earlier : List Contents) (k : Contents) (s : Symbol) → moved_local_in (linked_header (plan forced os o) os) os earlier k s ≡ moved_local (plan forced os o).at earlier k s
+  local_same : (earlier : List Contents) (k : Contents) (s : Symbol) →
+      moved_local_in (linked_header (plan forced os o) os) os earlier k s ≡ moved_local (plan forced os o).at earlier k s
   local_same earlier k s = ap (λ (v : ℕ). let t : Symbol = record s { value = v } in t) (value_same earlier k (segment_of s) s.value)
 
   -- the kept locals, moved by the file's own header, are those of the link
@@ -72,10 +78,13 @@ final_place p name (Defined Absolute n) h = tt
 final_place p name (Defined TextSeg n) h = tt
 final_place p name (Defined DataSeg n) h = tt
 final_place p name (Defined BssSeg n) h = tt
-final_place p name (Wanted size) h = by_tests (plus p.at.data_end (common_offset p.mentions name)) (eqb size 0) p.choices.relocatable (lays_commons p.choices) (bytes_eq name etext) (bytes_eq name edata) (bytes_eq name end_name)
+final_place p name (Wanted size) h =
+    by_tests (plus p.at.data_end (common_offset p.mentions name)) (eqb size 0) p.choices.relocatable
+    (lays_commons p.choices) (bytes_eq name etext) (bytes_eq name edata) (bytes_eq name end_name)
   where
     by_tests : (a : ℕ) (z r c t d e : Bool) →
-        IsPlace (cond z (cond r (waiting 0) (cond t (bound_at TextSeg p.at.text_end) (cond d (bound_at DataSeg p.at.data_end) (cond e (bound_at BssSeg p.at.bss_end) (waiting 0))))) (cond c (bound_at BssSeg a) (waiting size))).bound
+        IsPlace (cond z (cond r (waiting 0) (cond t (bound_at TextSeg p.at.text_end) (cond d (bound_at DataSeg p.at.data_end)
+        (cond e (bound_at BssSeg p.at.bss_end) (waiting 0))))) (cond c (bound_at BssSeg a) (waiting size))).bound
     by_tests a true true c t d e = tt
     by_tests a true false c true d e = tt
     by_tests a true false c false true e = tt
@@ -84,7 +93,8 @@ final_place p name (Wanted size) h = by_tests (plus p.at.data_end (common_offset
     by_tests a false r true t d e = tt
     by_tests a false r false t d e = tt
 
-bits_same : (name : List ℕ) (value : ℕ) (b : Option Segment) → IsPlace b → (n : ℕ) → row_bits (record { name = name; type_bits = type_of b; value = value }) n ≡ name_bits b n
+bits_same : (name : List ℕ) (value : ℕ) (b : Option Segment) → IsPlace b → (n : ℕ) →
+    row_bits (record { name = name; type_bits = type_of b; value = value }) n ≡ name_bits b n
 bits_same name value None h n = refl
 bits_same name value (Some Undefined) h n = absurd h
 bits_same name value (Some Other) h n = absurd h
@@ -130,16 +140,20 @@ module _ (forced : List (List ℕ)) (os : List Contents) (o : Choices) where
   there : (name : List ℕ) → is_among (names_of (mentions forced os)) name ≡ true → entry_of rows name ≡ Some (external_row p name)
   there name known =
       entry_among p (names_by_first_mention (mentions forced os)) name
-      ∙ ap (λ (t : Bool). let r : Option Symbol = cond t (Some (external_row p name)) None in r) (is_among-externals (mentions forced os) name ∙ known)
+      ∙ ap (λ (t : Bool). let r : Option Symbol = cond t (Some (external_row p name)) None in r)
+      (is_among-externals (mentions forced os) name ∙ known)
 
   number_same : (name : List ℕ) → locals + place_of name (map (λ s. s.name) rows) ≡ row_of p os name
-  number_same name = ap (λ (names : List (List ℕ)). locals + place_of name names) (names_of_rows p (names_by_first_mention (mentions forced os)))
+  number_same name =
+      ap (λ (names : List (List ℕ)). locals + place_of name names) (names_of_rows p (names_by_first_mention (mentions forced os)))
 
   placed : (name : List ℕ) → IsPlace (final p name).bound
   placed name = final_place p name (state (mentions forced os) name) (state_is_proper forced os name)
 
-  bits_by : (k : Contents) (kind : Option Kind) (number n : ℕ) → kind_fault k.symbols n kind number ≡ None → RefersAmong (names_of (mentions forced os)) (referent_by k number kind) →
-      is_out_of_reach p os (referent_by k number kind) ≡ false → AreBits rows locals k kind number (referent_bits p os (referent_by k number kind))
+  bits_by : (k : Contents) (kind : Option Kind) (number n : ℕ) → kind_fault k.symbols n kind number ≡ None →
+      RefersAmong (names_of (mentions forced os)) (referent_by k number kind) →
+      is_out_of_reach p os (referent_by k number kind) ≡ false →
+      AreBits rows locals k kind number (referent_bits p os (referent_by k number kind))
   bits_by k None number n h known near = absurd (cc)
   bits_by k (Some kinds.Absolute) number n h known near = refl
   bits_by k (Some kinds.TextSeg) number n h known near = refl
@@ -147,21 +161,27 @@ module _ (forced : List (List ℕ)) (os : List Contents) (o : Choices) where
   bits_by k (Some kinds.BssSeg) number n h known near = refl
   bits_by k (Some kinds.External) number n h known near = by_slot (slice_get k.symbols number) refl h known near
     where
-      by_slot : (slot : Option Symbol) → slice_get k.symbols number ≡ slot → cond (is_wanted slot) None (Some (ObjectFault.BadSymbolNumber n)) ≡ None → is_among (names_of (mentions forced os)) (name_in slot) ≡ true →
-          waits_far (final p (name_in slot)).bound (row_of p os (name_in slot)) ≡ false → IsNamedBy rows locals k number (name_bits (final p (name_in slot)).bound (row_of p os (name_in slot)))
+      by_slot : (slot : Option Symbol) → slice_get k.symbols number ≡ slot → cond (is_wanted slot) None
+          (Some (ObjectFault.BadSymbolNumber n)) ≡ None → is_among (names_of (mentions forced os)) (name_in slot) ≡ true →
+          waits_far (final p (name_in slot)).bound (row_of p os (name_in slot)) ≡ false →
+          IsNamedBy rows locals k number (name_bits (final p (name_in slot)).bound (row_of p os (name_in slot)))
       by_slot None e h known near = absurd (cc)
       by_slot (Some s) e h known near = record {
         symbol = s;
         row = external_row p s.name;
         named = e;
         found = there s.name known;
-        are = sym (ap (λ (m : ℕ). row_bits (external_row p s.name) m) (number_same s.name) ∙ bits_same s.name (final p s.name).written (final p s.name).bound (placed s.name) (row_of p os s.name));
+        are =
+            sym (ap (λ (m : ℕ). row_bits (external_row p s.name) m) (number_same s.name)
+            ∙ bits_same s.name (final p s.name).written (final p s.name).bound (placed s.name) (row_of p os s.name));
         near = λ z. subst (λ (m : ℕ). m ≤ 4095) (sym (number_same s.name))
-            (near_of (eqb (type_of (final p s.name).bound % 32) 0) (row_of p os s.name) (sym (far_same (final p s.name).bound (placed s.name) (row_of p os s.name)) ∙ near) z);
+            (near_of (eqb (type_of (final p s.name).bound % 32) 0) (row_of p os s.name)
+            (sym (far_same (final p s.name).bound (placed s.name) (row_of p os s.name)) ∙ near) z);
       }
 
   -- no other bits, and none that are too large
-  bits_are : (k : Contents) (kind : Option Kind) (number bits : ℕ) → RefersAmong (names_of (mentions forced os)) (referent_by k number kind) → AreBits rows locals k kind number bits →
+  bits_are : (k : Contents) (kind : Option Kind) (number bits : ℕ) →
+      RefersAmong (names_of (mentions forced os)) (referent_by k number kind) → AreBits rows locals k kind number bits →
       (bits ≡ referent_bits p os (referent_by k number kind)) × (is_out_of_reach p os (referent_by k number kind) ≡ false)
   bits_are k None number bits known is = absurd is
   bits_are k (Some kinds.Absolute) number bits known is = (is, refl)
@@ -170,14 +190,17 @@ module _ (forced : List (List ℕ)) (os : List Contents) (o : Choices) where
   bits_are k (Some kinds.BssSeg) number bits known is = (is, refl)
   bits_are k (Some kinds.External) number bits known is =
       let name = is.symbol.name in
-      let mentioned : is_among (names_of (mentions forced os)) name ≡ true = ap (λ (s : Option Symbol). is_among (names_of (mentions forced os)) (name_in s)) (sym is.named) ∙ known in
+      let mentioned : is_among (names_of (mentions forced os)) name ≡ true =
+      ap (λ (s : Option Symbol). is_among (names_of (mentions forced os)) (name_in s)) (sym is.named) ∙ known in
       let same : is.row ≡ external_row p name = inside is.row (external_row p name) (sym is.found ∙ there name mentioned) in
       let here : bits ≡ name_bits (final p name).bound (row_of p os name) =
-      is.are ∙ (λ i. row_bits (same i) (number_same name i)) ∙ bits_same name (final p name).written (final p name).bound (placed name) (row_of p os name) in
+      is.are ∙ (λ i. row_bits (same i) (number_same name i))
+      ∙ bits_same name (final p name).written (final p name).bound (placed name) (row_of p os name) in
       let near : (eqb (type_of (final p name).bound % 32) 0 ≡ true) → row_of p os name ≤ 4095 =
       λ z. subst (λ (m : ℕ). m ≤ 4095) (number_same name) (is.near (ap (λ (r : Symbol). eqb (r.type_bits % 32) 0) same ∙ z)) in
       let far : waits_far (final p name).bound (row_of p os name) ≡ false =
-      far_same (final p name).bound (placed name) (row_of p os name) ∙ far_of (eqb (type_of (final p name).bound % 32) 0) (row_of p os name) near in (
+      far_same (final p name).bound (placed name) (row_of p os name)
+      ∙ far_of (eqb (type_of (final p name).bound % 32) 0) (row_of p os name) near in (
         here ∙ ap (λ (s : Option Symbol). name_bits (final p (name_in s)).bound (row_of p os (name_in s))) (sym is.named),
         ap (λ (s : Option Symbol). waits_far (final p (name_in s)).bound (row_of p os (name_in s))) is.named ∙ far,
       )
@@ -188,16 +211,22 @@ module _ (forced : List (List ℕ)) (os : List Contents) (o : Choices) where
   -- relocation words
 
   -- the relocation words of the link are those that the relation allows
-  pub kept_by : (file : Contents) (segment : Segment) → HasWords segment → AllByRecursion IsObject os → segment_relocs segment file ≡ final_relocs p os segment → has_far_in p os segment ≡ false → AreKept file rows locals os segment
+  pub kept_by : (file : Contents) (segment : Segment) → HasWords segment → AllByRecursion IsObject os →
+      segment_relocs segment file ≡ final_relocs p os segment → has_far_in p os segment ≡ false →
+      AreKept file rows locals os segment
   kept_by file segment has good relocs near before k after all i w r ew er =
       let word = word_at forced os before k after all good segment i w r ew er in
       record {
         bits = referent_bits p os (referent k r);
-        are = bits_by k (kind_of r) (symbol_number r) word.number word.fine word.known (none_far segment near before k after all i (w, r) word.stands);
+        are =
+            bits_by k (kind_of r) (symbol_number r) word.number word.fine word.known
+            (none_far segment near before k after all i (w, r) word.stands);
         word =
             ap (λ (rs : List Reloc). slice_get rs (total segment before / 2 + i)) relocs
-            ∙ ap (λ (xs : List Contents). slice_get (blocks (λ earlier c. map (λ wr. final_reloc p os c wr.1) (words_of segment c)) [] xs) (total segment before / 2 + i)) all
-            ∙ made_found (λ earlier c w r. final_reloc p os c r) segment has before k after (front_objects forced os before k after all good) i w r word.stands;
+            ∙ ap (λ (xs : List Contents). slice_get (blocks (λ earlier c. map (λ wr. final_reloc p os c wr.1) (words_of segment c)) [] xs)
+            (total segment before / 2 + i)) all
+            ∙ made_found (λ earlier c w r. final_reloc p os c r) segment has before k after
+            (front_objects forced os before k after all good) i w r word.stands;
       }
     where
       any_at : {A : Type 0} (t : A → Bool) (xs : List A) (i : ℕ) (x : A) → list_any t xs ≡ false → slice_get xs i ≡ Some x → t x ≡ false
@@ -213,15 +242,18 @@ module _ (forced : List (List ℕ)) (os : List Contents) (o : Choices) where
           rest true v h = absurd (cc)
           rest false v h = h
 
-      none_far : (segment : Segment) → has_far_in p os segment ≡ false → (before : List Contents) (k : Contents) (after : List Contents) → os ≡ before ++ k ∷ after →
+      none_far : (segment : Segment) → has_far_in p os segment ≡ false →
+          (before : List Contents) (k : Contents) (after : List Contents) → os ≡ before ++ k ∷ after →
           (i : ℕ) (wr : ℕ × Reloc) → slice_get (words_of segment k) i ≡ Some wr → is_out_of_reach p os (referent k wr.1) ≡ false
       none_far segment h before k after all i wr e =
           any_at (λ wr. is_out_of_reach p os (referent k wr.1)) (words_of segment k) i wr
           (either (list_any (λ (c : Contents). list_any (λ wr. is_out_of_reach p os (referent c wr.1)) (words_of segment c)) before)
           (list_any (λ wr. is_out_of_reach p os (referent k wr.1)) (words_of segment k))
           (list_any (λ (c : Contents). list_any (λ wr. is_out_of_reach p os (referent c wr.1)) (words_of segment c)) after)
-          (sym (ap (λ (xs : List Contents). list_any (λ (c : Contents). list_any (λ wr. is_out_of_reach p os (referent c wr.1)) (words_of segment c)) xs) all
-          ∙ list_any-append (λ (c : Contents). list_any (λ wr. is_out_of_reach p os (referent c wr.1)) (words_of segment c)) before (k ∷ after)) ∙ h)) e
+          (sym (ap (λ (xs : List Contents).
+          list_any (λ (c : Contents). list_any (λ wr. is_out_of_reach p os (referent c wr.1)) (words_of segment c)) xs) all
+          ∙ list_any-append (λ (c : Contents). list_any (λ wr. is_out_of_reach p os (referent c wr.1)) (words_of segment c))
+          before (k ∷ after)) ∙ h)) e
         where
           either : (a b c : Bool) → (a || (b || c)) ≡ false → b ≡ false
           either true b c h = absurd (cc)
@@ -229,7 +261,8 @@ module _ (forced : List (List ℕ)) (os : List Contents) (o : Choices) where
           either false false c h = refl
 
   -- the relation allows no others, and none whose number is too large
-  pub kept_whole : (file : Contents) (segment : Segment) → HasWords segment → AllByRecursion IsObject os → 2 * length (segment_relocs segment file) ≡ total segment os → AreKept file rows locals os segment →
+  pub kept_whole : (file : Contents) (segment : Segment) → HasWords segment → AllByRecursion IsObject os →
+      2 * length (segment_relocs segment file) ≡ total segment os → AreKept file rows locals os segment →
       (segment_relocs segment file ≡ final_relocs p os segment) × (has_far_in p os segment ≡ false)
   kept_whole file segment has good long kept = (
     made_whole (λ earlier c w r. final_reloc p os c r) segment has os good (segment_relocs segment file) long
@@ -239,7 +272,8 @@ module _ (forced : List (List ℕ)) (os : List Contents) (o : Choices) where
     none_in [] os refl,
   )
     where
-      facts : (before : List Contents) (k : Contents) (after : List Contents) → os ≡ before ++ k ∷ after → (i w : ℕ) (r : Reloc) → slice_get (words_of segment k) i ≡ Some (w, r) →
+      facts : (before : List Contents) (k : Contents) (after : List Contents) → os ≡ before ++ k ∷ after →
+          (i w : ℕ) (r : Reloc) → slice_get (words_of segment k) i ≡ Some (w, r) →
           (bits : ℕ) × (slice_get (segment_relocs segment file) (total segment before / 2 + i) ≡ Some (record { 0 = r.0 % 2 + bits }))
           × ((bits ≡ referent_bits p os (referent k r)) × (is_out_of_reach p os (referent k r) ≡ false))
       facts before k after all i w r e =
@@ -248,12 +282,15 @@ module _ (forced : List (List ℕ)) (os : List Contents) (o : Choices) where
           let h = kept before k after all i w r back.0 back.1 in
           (h.bits, h.word, bits_are k (kind_of r) (symbol_number r) h.bits word.known h.are)
 
-      none_any : {A : Type 0} (t : A → Bool) (xs : List A) → ((i : ℕ) (x : A) → slice_get xs i ≡ Some x → t x ≡ false) → list_any t xs ≡ false
+      none_any : {A : Type 0} (t : A → Bool) (xs : List A) → ((i : ℕ) (x : A) → slice_get xs i ≡ Some x → t x ≡ false) →
+          list_any t xs ≡ false
       none_any t [] h = refl
       none_any t (x ∷ xs) h = (λ i. h 0 x refl i || none_any t xs (λ j y e. h (suc j) y e) i)
 
-      none_in : (before rest : List Contents) → os ≡ before ++ rest → list_any (λ (c : Contents). list_any (λ wr. is_out_of_reach p os (referent c wr.1)) (words_of segment c)) rest ≡ false
+      none_in : (before rest : List Contents) → os ≡ before ++ rest →
+          list_any (λ (c : Contents). list_any (λ wr. is_out_of_reach p os (referent c wr.1)) (words_of segment c)) rest ≡ false
       none_in before [] all = refl
       none_in before (k ∷ ks) all =
-          λ j. none_any (λ wr. is_out_of_reach p os (referent k wr.1)) (words_of segment k) (λ i wr e. (facts before k ks all i wr.0 wr.1 e).2.1) j
+          λ j. none_any (λ wr. is_out_of_reach p os (referent k wr.1)) (words_of segment k)
+          (λ i wr e. (facts before k ks all i wr.0 wr.1 e).2.1) j
           || none_in (before ++ k ∷ []) ks (all ∙ sym (append_assoc before (k ∷ []) ks)) j

@@ -1,5 +1,6 @@
 -- The rows of the externals are those that the relation of linking tells, and no others.
-use Rattle.std.proofs.Common.{◌≡◌, ℕ, ◌+◌, ◌-◌, ◌%◌, ◌≤◌, Bool, true, false, cond, eqb, List, [], ◌∷◌, map, refl, sym, ◌∙◌, ap, subst, arith}
+use Rattle.std.proofs.Common.{◌≡◌, ℕ, ◌+◌, ◌-◌, ◌%◌, ◌≤◌, Bool, true, false, cond, eqb, List, []}
+use Rattle.std.proofs.Common.{◌∷◌, map, refl, sym, ◌∙◌, ap, subst, arith}
 use Rattle.std.specs.Prelude.{bytes_eq}
 use Rattle.aout_core.specs.declared.header.Header.{Header}
 use Rattle.aout_core.specs.declared.symbol.Symbol.{Symbol}
@@ -41,28 +42,40 @@ module _ (h : Header) (bss : ℕ) (o : Choices) (b : Bases) (tells : Tells h bss
   undefined_same name = by_tests o.relocatable (bytes_eq name etext) (bytes_eq name edata) (bytes_eq name end_name)
     where
       by_tests : (r t d e : Bool) →
-          (let s : Symbol = cond r (record { name = name; type_bits = 32; value = 0 }) (cond t (record { name = name; type_bits = 34; value = h.text_size }) (cond d (record { name = name; type_bits = 35; value = data_start_in h + h.data_size })
-          (cond e (record { name = name; type_bits = 36; value = data_start_in h + h.data_size + h.bss_size }) (record { name = name; type_bits = 32; value = 0 })))) in s)
-          ≡ row_at name (cond r (waiting 0) (cond t (bound_at TextSeg b.text_end) (cond d (bound_at DataSeg b.data_end) (cond e (bound_at BssSeg b.bss_end) (waiting 0)))))
+          (let s : Symbol = cond r (record { name = name; type_bits = 32; value = 0 }) (cond t (record {
+            name = name;
+            type_bits = 34;
+            value = h.text_size;
+          }) (cond d (record { name = name; type_bits = 35; value = data_start_in h + h.data_size })
+          (cond e (record { name = name; type_bits = 36; value = data_start_in h + h.data_size + h.bss_size })
+          (record { name = name; type_bits = 32; value = 0 })))) in s)
+          ≡ row_at name (cond r (waiting 0) (cond t (bound_at TextSeg b.text_end)
+          (cond d (bound_at DataSeg b.data_end) (cond e (bound_at BssSeg b.bss_end) (waiting 0)))))
       by_tests true t d e = refl
       by_tests false true d e = ap (λ (n : ℕ). let s : Symbol = record { name = name; type_bits = 34; value = n } in s) tells.text_end
       by_tests false false true e = ap (λ (n : ℕ). let s : Symbol = record { name = name; type_bits = 35; value = n } in s) tells.data_end
-      by_tests false false false true = ap (λ (n : ℕ). let s : Symbol = record { name = name; type_bits = 36; value = n } in s) tells.bss_end
+      by_tests false false false true =
+          ap (λ (n : ℕ). let s : Symbol = record { name = name; type_bits = 36; value = n } in s) tells.bss_end
       by_tests false false false false = refl
 
   -- the row of a name in a state is that of its final name
-  row_same : (at offset : ℕ) → (lays_commons o ≡ true → at ≡ plus b.data_end offset) → (name : List ℕ) (st : State) → IsProper st → row_for h bss o at name st ≡ row_at name (final_at o b offset name st)
+  row_same : (at offset : ℕ) → (lays_commons o ≡ true → at ≡ plus b.data_end offset) → (name : List ℕ) (st : State) →
+      IsProper st → row_for h bss o at name st ≡ row_at name (final_at o b offset name st)
   row_same at offset lies name (Defined Undefined n) p = absurd p
   row_same at offset lies name (Defined Other n) p = absurd p
   row_same at offset lies name (Defined Absolute n) p = refl
   row_same at offset lies name (Defined TextSeg n) p = refl
-  row_same at offset lies name (Defined DataSeg n) p = ap (λ (s : ℕ). let r : Symbol = record { name = name; type_bits = 35; value = plus s n } in r) tells.data_start
-  row_same at offset lies name (Defined BssSeg n) p = ap (λ (s : ℕ). let r : Symbol = record { name = name; type_bits = 36; value = plus s n } in r) tells.bss_start
+  row_same at offset lies name (Defined DataSeg n) p =
+      ap (λ (s : ℕ). let r : Symbol = record { name = name; type_bits = 35; value = plus s n } in r) tells.data_start
+  row_same at offset lies name (Defined BssSeg n) p =
+      ap (λ (s : ℕ). let r : Symbol = record { name = name; type_bits = 36; value = plus s n } in r) tells.bss_start
   row_same at offset lies name (Wanted size) p = by_tests (eqb size 0) (lays_commons o) lies
     where
       by_tests : (z c : Bool) → (c ≡ true → at ≡ plus b.data_end offset) →
-          (let s : Symbol = cond z (undefined_row h o name) (cond c (record { name = name; type_bits = 36; value = at }) (record { name = name; type_bits = 32; value = size })) in s)
-          ≡ row_at name (cond z (cond o.relocatable (waiting 0) (reserved_or_waiting b name)) (cond c (bound_at BssSeg (plus b.data_end offset)) (waiting size)))
+          (let s : Symbol = cond z (undefined_row h o name) (cond c (record { name = name; type_bits = 36; value = at })
+          (record { name = name; type_bits = 32; value = size })) in s)
+          ≡ row_at name (cond z (cond o.relocatable (waiting 0) (reserved_or_waiting b name))
+          (cond c (bound_at BssSeg (plus b.data_end offset)) (waiting size)))
       by_tests true c lies = undefined_same name
       by_tests false true lies = ap (λ (n : ℕ). let s : Symbol = record { name = name; type_bits = 36; value = n } in s) (lies refl)
       by_tests false false lies = refl
@@ -81,13 +94,15 @@ pub record Lies (o : Choices) (b : Bases) (at offset end rest : ℕ) : Type 0 wh
   pub here : lays_commons o ≡ true → at ≡ b.data_end + offset
   pub ends : at + cond (lays_commons o) rest 0 ≡ end
 
-lies_at : (o : Choices) (b : Bases) (at offset end rest : ℕ) → Lies o b at offset end rest → end ≤ 65535 → lays_commons o ≡ true → at ≡ plus b.data_end offset
+lies_at : (o : Choices) (b : Bases) (at offset end rest : ℕ) → Lies o b at offset end rest → end ≤ 65535 →
+    lays_commons o ≡ true → at ≡ plus b.data_end offset
 lies_at o b at offset end rest l short lays = small at b.data_end offset end (cond (lays_commons o) rest 0) (l.here lays) l.ends short
   where
     small : (a d n e r : ℕ) → a ≡ d + n → a + r ≡ e → e ≤ 65535 → a ≡ (d + n) % 65536
     small a d n e r f g s = omega arith
 
-lies_next : (o : Choices) (b : Bases) (at offset end rest : ℕ) (st : State) → Lies o b at offset end (common_size st + rest) → Lies o b (at + room_for o st) (offset + common_size st) end rest
+lies_next : (o : Choices) (b : Bases) (at offset end rest : ℕ) (st : State) →
+    Lies o b at offset end (common_size st + rest) → Lies o b (at + room_for o st) (offset + common_size st) end rest
 lies_next o b at offset end rest st l = by_test (lays_commons o) refl (room_laid o st) l.here l.ends
   where
     sum : (a r c d n : ℕ) → r ≡ c → a ≡ d + n → a + r ≡ d + (n + c)
@@ -96,19 +111,27 @@ lies_next o b at offset end rest st l = by_test (lays_commons o) refl (room_laid
     all : (a r c x e : ℕ) → r ≡ c → a + (c + x) ≡ e → (a + r) + x ≡ e
     all a r c x e f g = omega arith
 
-    by_test : (c : Bool) → lays_commons o ≡ c → room_for o st ≡ cond c (common_size st) 0 → (lays_commons o ≡ true → at ≡ b.data_end + offset) → at + cond (lays_commons o) (common_size st + rest) 0 ≡ end → Lies o b (at + room_for o st) (offset + common_size st) end rest
+    by_test : (c : Bool) → lays_commons o ≡ c → room_for o st ≡ cond c (common_size st) 0 →
+        (lays_commons o ≡ true → at ≡ b.data_end + offset) → at + cond (lays_commons o) (common_size st + rest) 0 ≡ end →
+        Lies o b (at + room_for o st) (offset + common_size st) end rest
     by_test true c r here ends = record {
       here = λ lays. sum at (room_for o st) (common_size st) b.data_end offset r (here lays);
-      ends = ap (λ (t : Bool). (at + room_for o st) + cond t rest 0) c ∙ all at (room_for o st) (common_size st) rest end r (sym (ap (λ (t : Bool). at + cond t (common_size st + rest) 0) c) ∙ ends);
+      ends =
+          ap (λ (t : Bool). (at + room_for o st) + cond t rest 0) c ∙ all at (room_for o st) (common_size st) rest end r
+          (sym (ap (λ (t : Bool). at + cond t (common_size st + rest) 0) c) ∙ ends);
     }
     by_test false c r here ends = record {
       here = λ lays. absurd (let bad : true ≡ false = sym lays ∙ c in cc);
-      ends = ap (λ (t : Bool). (at + room_for o st) + cond t rest 0) c ∙ all at (room_for o st) 0 0 end r (sym (ap (λ (t : Bool). at + cond t (common_size st + rest) 0) c) ∙ ends);
+      ends =
+          ap (λ (t : Bool). (at + room_for o st) + cond t rest 0) c
+          ∙ all at (room_for o st) 0 0 end r (sym (ap (λ (t : Bool). at + cond t (common_size st + rest) 0) c) ∙ ends);
     }
 
-module _ (h : Header) (bss : ℕ) (o : Choices) (b : Bases) (tells : Tells h bss b) (ms : List Mention) (proper : (name : List ℕ) → IsProper (state ms name)) (end : ℕ) (short : end ≤ 65535) where
+module _ (h : Header) (bss : ℕ) (o : Choices) (b : Bases) (tells : Tells h bss b) (ms : List Mention)
+    (proper : (name : List ℕ) → IsProper (state ms name)) (end : ℕ) (short : end ≤ 65535) where
   -- the rows of names with these commons before them
-  pub are_rows : (names : List (List ℕ)) (at offset : ℕ) → Lies o b at offset end (room_in (named_by ms names)) → AreRows h bss o ms at (rows_at names (finals_from o b offset (named_by ms names))) end
+  pub are_rows : (names : List (List ℕ)) (at offset : ℕ) → Lies o b at offset end (room_in (named_by ms names)) →
+      AreRows h bss o ms at (rows_at names (finals_from o b offset (named_by ms names))) end
   are_rows [] at offset l = nothing at end (lays_commons o) l.ends
     where
       nothing : (a e : ℕ) (c : Bool) → a + cond c 0 0 ≡ e → a ≡ e
@@ -118,22 +141,30 @@ module _ (h : Header) (bss : ℕ) (o : Choices) (b : Bases) (tells : Tells h bss
     state ms n,
     has_state ms n,
     sym (row_same h bss o b tells at offset (lies_at o b at offset end (room_in (named_by ms (n ∷ ns))) l short) n (state ms n) (proper n)),
-    are_rows ns (at + room_for o (state ms n)) (offset + common_size (state ms n)) (lies_next o b at offset end (room_in (named_by ms ns)) (state ms n) l),
+    are_rows ns (at + room_for o (state ms n)) (offset + common_size (state ms n))
+        (lies_next o b at offset end (room_in (named_by ms ns)) (state ms n) l),
   )
 
   -- and no others
-  pub rows_are : (rs : List Symbol) (at offset : ℕ) → Lies o b at offset end (room_in (named_by ms (map (λ s. s.name) rs))) → AreRows h bss o ms at rs end → rs ≡ rows_at (map (λ s. s.name) rs) (finals_from o b offset (named_by ms (map (λ s. s.name) rs)))
+  pub rows_are : (rs : List Symbol) (at offset : ℕ) →
+      Lies o b at offset end (room_in (named_by ms (map (λ s. s.name) rs))) → AreRows h bss o ms at rs end →
+      rs ≡ rows_at (map (λ s. s.name) rs) (finals_from o b offset (named_by ms (map (λ s. s.name) rs)))
   rows_are [] at offset l are = refl
   rows_are (r ∷ rs) at offset l are =
       let st : state ms r.name ≡ are.0 = state_is ms r.name are.0 are.1 in
       let here : r ≡ row_at r.name (final_at o b offset r.name (state ms r.name)) =
-      are.2 ∙ ap (λ (s : State). row_for h bss o at r.name s) (sym st) ∙ row_same h bss o b tells at offset (lies_at o b at offset end (room_in (named_by ms (map (λ s. s.name) (r ∷ rs)))) l short) r.name (state ms r.name) (proper r.name) in
-      let rest : AreRows h bss o ms (at + room_for o (state ms r.name)) rs end = subst (λ (s : State). AreRows h bss o ms (at + room_for o s) rs end) (sym st) are.3 in
-      let more = rows_are rs (at + room_for o (state ms r.name)) (offset + common_size (state ms r.name)) (lies_next o b at offset end (room_in (named_by ms (map (λ s. s.name) rs))) (state ms r.name) l) rest in
+      are.2 ∙ ap (λ (s : State). row_for h bss o at r.name s) (sym st) ∙ row_same h bss o b tells at offset
+      (lies_at o b at offset end (room_in (named_by ms (map (λ s. s.name) (r ∷ rs)))) l short) r.name
+      (state ms r.name) (proper r.name) in
+      let rest : AreRows h bss o ms (at + room_for o (state ms r.name)) rs end =
+      subst (λ (s : State). AreRows h bss o ms (at + room_for o s) rs end) (sym st) are.3 in
+      let more = rows_are rs (at + room_for o (state ms r.name)) (offset + common_size (state ms r.name))
+      (lies_next o b at offset end (room_in (named_by ms (map (λ s. s.name) rs))) (state ms r.name) l) rest in
       λ i. here i ∷ more i
 
 -- rows end after the room of their commons
-pub rows_end : (h : Header) (bss : ℕ) (o : Choices) (ms : List Mention) (rs : List Symbol) (at end : ℕ) → AreRows h bss o ms at rs end → at + cond (lays_commons o) (room_in (named_by ms (map (λ s. s.name) rs))) 0 ≡ end
+pub rows_end : (h : Header) (bss : ℕ) (o : Choices) (ms : List Mention) (rs : List Symbol) (at end : ℕ) →
+    AreRows h bss o ms at rs end → at + cond (lays_commons o) (room_in (named_by ms (map (λ s. s.name) rs))) 0 ≡ end
 rows_end h bss o ms [] at end are = nothing at end (lays_commons o) are
   where
     nothing : (a e : ℕ) (c : Bool) → a ≡ e → a + cond c 0 0 ≡ e
@@ -142,7 +173,8 @@ rows_end h bss o ms [] at end are = nothing at end (lays_commons o) are
 rows_end h bss o ms (r ∷ rs) at end are =
     let st : state ms r.name ≡ are.0 = state_is ms r.name are.0 are.1 in
     let rest = rows_end h bss o ms rs (at + room_for o are.0) end are.3 in
-    both at (room_for o are.0) (common_size (state ms r.name)) (room_in (named_by ms (map (λ s. s.name) rs))) end (lays_commons o) (room_laid o are.0 ∙ ap (λ (s : State). cond (lays_commons o) (common_size s) 0) (sym st)) rest
+    both at (room_for o are.0) (common_size (state ms r.name)) (room_in (named_by ms (map (λ s. s.name) rs))) end
+    (lays_commons o) (room_laid o are.0 ∙ ap (λ (s : State). cond (lays_commons o) (common_size s) 0) (sym st)) rest
   where
     both : (a r c x e : ℕ) (t : Bool) → r ≡ cond t c 0 → (a + r) + cond t x 0 ≡ e → a + cond t (c + x) 0 ≡ e
     both a r c x e true f g = omega arith

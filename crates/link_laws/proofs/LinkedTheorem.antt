@@ -1,5 +1,6 @@
 -- The relation of linking holds exactly of what a link answers, and of one file and report at most.
-use Rattle.std.proofs.Common.{◌≡◌, ◌↔◌, ℕ, ◌+◌, ◌-◌, ◌*◌, ◌≤◌, Bool, true, false, cond, ◌&&◌, ◌||◌, List, [], ◌∷◌, ◌++◌, map, length, Option, Some, None, refl, sym, ◌∙◌, ap, subst, arith}
+use Rattle.std.proofs.Common.{◌≡◌, ◌↔◌, ℕ, ◌+◌, ◌-◌, ◌*◌, ◌≤◌, Bool, true, false, cond, ◌&&◌, ◌||◌, List, [], ◌∷◌, ◌++◌}
+use Rattle.std.proofs.Common.{map, length, Option, Some, None, refl, sym, ◌∙◌, ap, subst, arith}
 use Rattle.std.specs.Prelude.{Result, Ok}
 use Rattle.std.specs.List.{AllByRecursion}
 use Rattle.std.proofs.lemmas.Bool.{ltb-false}
@@ -17,7 +18,8 @@ use Rattle.link_out.specs.declared.linked.LinkFault.{LinkFault}
 use Rattle.tool_options.specs.Choices.{Choices, lays_commons}
 use Rattle.link_out.specs.Layouts.{data_base}
 use Rattle.link_out.specs.function.Plans.{Plan, plan, commons_laid}
-use Rattle.link_out.specs.function.Tables.{local_rows, external_row, external_rows, rows_kept, table, final_reloc, final_relocs, has_far_in, has_far_word}
+use Rattle.link_out.specs.function.Tables.{local_rows, external_row, external_rows, rows_kept, table, final_reloc}
+use Rattle.link_out.specs.function.Tables.{final_relocs, has_far_in, has_far_word}
 use Rattle.link_out.specs.function.Words.{final_words}
 use Rattle.link_out.specs.function.Reports.{report_of, reserved_names, undefined_names, entry_word, entry_found_bad}
 use Rattle.link_out.specs.internal.InOrder.{finals_from, room_in}
@@ -39,7 +41,8 @@ use Rattle.link_laws.proofs.SegmentLemmas.{made_length}
 use Rattle.link_laws.proofs.RelocatedLemmas.{AreThere, relocated_at, relocated_whole, file_filled}
 use Rattle.link_laws.proofs.LinkedRows.{Tells, Lies, are_rows, rows_are, rows_end, rows_at, rows_for_finals}
 use Rattle.link_laws.proofs.LinkedRelocs.{locals_same, kept_by, kept_whole}
-use Rattle.link_laws.proofs.LinkedReports.{others_of, others_picked, others_are, reserved_picked, reserved_are, undefined_picked, undefined_are}
+use Rattle.link_laws.proofs.LinkedReports.{others_of, others_picked, others_are, reserved_picked, reserved_are}
+use Rattle.link_laws.proofs.LinkedReports.{undefined_picked, undefined_are}
 
 module _ (forced : List (List ℕ)) (os : List Contents) (o : Choices) where
   abbrev p : Plan
@@ -66,7 +69,9 @@ module _ (forced : List (List ℕ)) (os : List Contents) (o : Choices) where
         data_start = start;
         data_end = ap (λ (n : ℕ). n + total DataSeg os) start;
         bss_start = λ i. start i + total DataSeg os + rest_back (commons_laid o ms) bss i;
-        bss_end = sums (data_start_in (header_with s e)) (data_base o.layout (total TextSeg os)) (total DataSeg os) (commons_laid o ms) bss start;
+        bss_end =
+            sums (data_start_in (header_with s e)) (data_base o.layout (total TextSeg os)) (total DataSeg os)
+            (commons_laid o ms) bss start;
       }
     where
       sums : (a b d c n : ℕ) → a ≡ b → a + d + (c + n) ≡ b + d + c + n
@@ -79,7 +84,8 @@ module _ (forced : List (List ℕ)) (os : List Contents) (o : Choices) where
   proper name = state_is_proper forced os name
 
   there : AreThere forced os o (external_rows p)
-  there name known = entry_among p names name ∙ ap (λ (t : Bool). let r : Option Symbol = cond t (Some (external_row p name)) None in r) known
+  there name known =
+      entry_among p names name ∙ ap (λ (t : Bool). let r : Option Symbol = cond t (Some (external_row p name)) None in r) known
 
   either : (a b : Bool) → (a || b) ≡ false → (a ≡ false) × (b ≡ false)
   either true b h = absurd (cc)
@@ -116,7 +122,9 @@ module _ (forced : List (List ℕ)) (os : List Contents) (o : Choices) where
     }
 
     shown : AreRows h bss o ms at (external_rows p) end
-    shown = subst (λ (rs : List Symbol). AreRows h bss o ms at rs end) rows_finals (are_rows h bss o p.at told ms proper end short names at 0 lies)
+    shown =
+        subst (λ (rs : List Symbol). AreRows h bss o ms at rs end) rows_finals
+        (are_rows h bss o p.at told ms proper end short names at 0 lies)
 
     -- no word is far where relocation is kept
     near : o.relocatable ≡ true → (has_far_in p os TextSeg ≡ false) × (has_far_in p os DataSeg ≡ false)
@@ -132,7 +140,9 @@ module _ (forced : List (List ℕ)) (os : List Contents) (o : Choices) where
       picked = others_picked ms;
       multiples = refl;
       reserved = reserved_picked ms;
-      undefined = λ r. subst (λ (t : Bool). ArePicked (λ name. IsWanted ms name 0 × (is_among reserved_names name ≡ false)) (externals forced os) (cond t [] (undefined_names ms))) (sym r) (undefined_picked ms (externals forced os));
+      undefined =
+          λ r. subst (λ (t : Bool). ArePicked (λ name. IsWanted ms name 0 × (is_among reserved_names name ≡ false))
+          (externals forced os) (cond t [] (undefined_names ms))) (sym r) (undefined_picked ms (externals forced os));
       none = λ r. ap (λ (t : Bool). let ns : List (List ℕ) = cond t [] (undefined_names ms) in ns) r;
     }
 
@@ -152,13 +162,25 @@ module _ (forced : List (List ℕ)) (os : List Contents) (o : Choices) where
       are_rows = shown;
       table = ap (λ (ls : List Symbol). rows_kept o.keep (ls ++ external_rows p)) (sym (locals_same forced os o));
       text = λ before k after all i w r ew er. relocated_at forced os o (external_rows p) there good before k after all TextSeg i w r ew er;
-      «data» = λ before k after all i w r ew er. relocated_at forced os o (external_rows p) there good before k after all DataSeg i w r ew er;
-      text_relocs = relocs_long o.relocatable (final_relocs p os TextSeg) (total TextSeg os) (made_length (λ earlier c w r. final_reloc p os c r) TextSeg tt [] os good);
-      data_relocs = relocs_long o.relocatable (final_relocs p os DataSeg) (total DataSeg os) (made_length (λ earlier c w r. final_reloc p os c r) DataSeg tt [] os good);
-      text_kept = λ r. subst (λ (n : ℕ). AreKept (linked_file p os) (external_rows p) n os TextSeg) (ap (λ (ls : List Symbol). length ls) (sym (locals_same forced os o)))
-          (kept_by forced os o (linked_file p os) TextSeg tt good (ap (λ (t : Bool). let rs : List Reloc = cond t (final_relocs p os TextSeg) [] in rs) r) (near r).0);
-      data_kept = λ r. subst (λ (n : ℕ). AreKept (linked_file p os) (external_rows p) n os DataSeg) (ap (λ (ls : List Symbol). length ls) (sym (locals_same forced os o)))
-          (kept_by forced os o (linked_file p os) DataSeg tt good (ap (λ (t : Bool). let rs : List Reloc = cond t (final_relocs p os DataSeg) [] in rs) r) (near r).1);
+      «data» =
+          λ before k after all i w r ew er.
+          relocated_at forced os o (external_rows p) there good before k after all DataSeg i w r ew er;
+      text_relocs =
+          relocs_long o.relocatable (final_relocs p os TextSeg) (total TextSeg os)
+          (made_length (λ earlier c w r. final_reloc p os c r) TextSeg tt [] os good);
+      data_relocs =
+          relocs_long o.relocatable (final_relocs p os DataSeg) (total DataSeg os)
+          (made_length (λ earlier c w r. final_reloc p os c r) DataSeg tt [] os good);
+      text_kept =
+          λ r. subst (λ (n : ℕ). AreKept (linked_file p os) (external_rows p) n os TextSeg)
+          (ap (λ (ls : List Symbol). length ls) (sym (locals_same forced os o)))
+          (kept_by forced os o (linked_file p os) TextSeg tt good
+          (ap (λ (t : Bool). let rs : List Reloc = cond t (final_relocs p os TextSeg) [] in rs) r) (near r).0);
+      data_kept =
+          λ r. subst (λ (n : ℕ). AreKept (linked_file p os) (external_rows p) n os DataSeg)
+          (ap (λ (ls : List Symbol). length ls) (sym (locals_same forced os o)))
+          (kept_by forced os o (linked_file p os) DataSeg tt good
+          (ap (λ (t : Bool). let rs : List Reloc = cond t (final_relocs p os DataSeg) [] in rs) r) (near r).1);
       entry = entry_made p (external_rows p) (entry_among p names) o.entry;
       report = reported;
     }
@@ -172,9 +194,14 @@ module _ (forced : List (List ℕ)) (os : List Contents) (o : Choices) where
     -- the rows' commons and the objects' bytes are bss
     bss_same : g.bss_size ≡ commons_laid o ms + bss
     bss_same =
-        let room : (data_start_in g + g.data_size) + cond (lays_commons o) (room_in (named_by ms (map (λ s. s.name) l.rows))) 0 ≡ base_in g bss BssSeg = rows_end g bss o ms l.rows (data_start_in g + g.data_size) (base_in g bss BssSeg) l.are_rows in
-        let laid : cond (lays_commons o) (room_in (named_by ms (map (λ s. s.name) l.rows))) 0 ≡ commons_laid o ms = ap (λ (ns : List (List ℕ)). cond (lays_commons o) (room_in (named_by ms ns)) 0) l.names ∙ ap (λ (n : ℕ). cond (lays_commons o) n 0) (room-commons ms) in
-        sums (data_start_in g + g.data_size) (cond (lays_commons o) (room_in (named_by ms (map (λ s. s.name) l.rows))) 0) (commons_laid o ms) g.bss_size bss room laid l.holds.bss
+        let room : (data_start_in g + g.data_size)
+        + cond (lays_commons o) (room_in (named_by ms (map (λ s. s.name) l.rows))) 0 ≡ base_in g bss BssSeg =
+        rows_end g bss o ms l.rows (data_start_in g + g.data_size) (base_in g bss BssSeg) l.are_rows in
+        let laid : cond (lays_commons o) (room_in (named_by ms (map (λ s. s.name) l.rows))) 0 ≡ commons_laid o ms =
+        ap (λ (ns : List (List ℕ)). cond (lays_commons o) (room_in (named_by ms ns)) 0) l.names
+        ∙ ap (λ (n : ℕ). cond (lays_commons o) n 0) (room-commons ms) in
+        sums (data_start_in g + g.data_size) (cond (lays_commons o) (room_in (named_by ms (map (λ s. s.name) l.rows))) 0)
+        (commons_laid o ms) g.bss_size bss room laid l.holds.bss
       where
         sums : (a r c b n : ℕ) → a + r ≡ a + (b - n) → r ≡ c → n ≤ b → b ≡ c + n
         sums a r c b n e f k = omega arith
@@ -196,8 +223,12 @@ module _ (forced : List (List ℕ)) (os : List Contents) (o : Choices) where
 
     rows_same : l.rows ≡ external_rows p
     rows_same =
-        rows_are g bss o p.at told_back ms proper (base_in g bss BssSeg) (less (data_start_in g + g.data_size) g.bss_size bss l.header.short) l.rows (data_start_in g + g.data_size) 0
-        (record { here = λ lays. told_back.data_end ∙ omega arith; ends = rows_end g bss o ms l.rows (data_start_in g + g.data_size) (base_in g bss BssSeg) l.are_rows }) l.are_rows
+        rows_are g bss o p.at told_back ms proper (base_in g bss BssSeg)
+        (less (data_start_in g + g.data_size) g.bss_size bss l.header.short) l.rows (data_start_in g + g.data_size) 0
+        (record {
+          here = λ lays. told_back.data_end ∙ omega arith;
+          ends = rows_end g bss o ms l.rows (data_start_in g + g.data_size) (base_in g bss BssSeg) l.are_rows;
+        }) l.are_rows
         ∙ ap (λ (ns : List (List ℕ)). rows_at ns (finals_from o p.at 0 (named_by ms ns))) l.names
         ∙ rows_finals
       where
@@ -212,16 +243,22 @@ module _ (forced : List (List ℕ)) (os : List Contents) (o : Choices) where
 
     entry_same : (g.entry_point ≡ entry_word p o.entry) × (x.report.entry_bad ≡ entry_found_bad p o.entry)
     entry_same = entry_once (external_rows p) o.entry g.entry_point (entry_word p o.entry) x.report.entry_bad (entry_found_bad p o.entry)
-        (subst (λ (rs : List Symbol). IsEntry rs o.entry g.entry_point x.report.entry_bad) rows_same l.entry) (entry_made p (external_rows p) (entry_among p names) o.entry)
+        (subst (λ (rs : List Symbol). IsEntry rs o.entry g.entry_point x.report.entry_bad) rows_same
+        l.entry) (entry_made p (external_rows p) (entry_among p names) o.entry)
 
     header_same : g ≡ linked_header p os
-    header_same = sizes ∙ (λ i. header_with ((l.header.symbol_size ∙ ap (λ (ss : List Symbol). 12 * length ss) symbols_same) i) (entry_same.0 i))
+    header_same =
+        sizes ∙ (λ i. header_with ((l.header.symbol_size ∙ ap (λ (ss : List Symbol). 12 * length ss) symbols_same) i) (entry_same.0 i))
 
     text_same : x.file.text_words ≡ final_words p TextSeg os
-    text_same = relocated_whole forced os o (external_rows p) there good x.file header_same TextSeg tt l.holds.text_words (subst (λ (rs : List Symbol). AreRelocated x.file rs os TextSeg) rows_same l.text)
+    text_same =
+        relocated_whole forced os o (external_rows p) there good x.file header_same TextSeg tt l.holds.text_words
+        (subst (λ (rs : List Symbol). AreRelocated x.file rs os TextSeg) rows_same l.text)
 
     data_same : x.file.data_words ≡ final_words p DataSeg os
-    data_same = relocated_whole forced os o (external_rows p) there good x.file header_same DataSeg tt l.holds.data_words (subst (λ (rs : List Symbol). AreRelocated x.file rs os DataSeg) rows_same l.data)
+    data_same =
+        relocated_whole forced os o (external_rows p) there good x.file header_same DataSeg tt l.holds.data_words
+        (subst (λ (rs : List Symbol). AreRelocated x.file rs os DataSeg) rows_same l.data)
 
     record AreSame : Type 0 where
       text : x.file.text_reloc ≡ cond o.relocatable (final_relocs p os TextSeg) []
@@ -237,14 +274,23 @@ module _ (forced : List (List ℕ)) (os : List Contents) (o : Choices) where
 
         by_test : (t : Bool) → o.relocatable ≡ t → AreSame
         by_test false e = record {
-          text = none x.file.text_reloc (l.text_relocs ∙ ap (λ (t : Bool). cond t (total TextSeg os) 0) e) ∙ sym (ap (λ (t : Bool). let rs : List Reloc = cond t (final_relocs p os TextSeg) [] in rs) e);
-          «data» = none x.file.data_reloc (l.data_relocs ∙ ap (λ (t : Bool). cond t (total DataSeg os) 0) e) ∙ sym (ap (λ (t : Bool). let rs : List Reloc = cond t (final_relocs p os DataSeg) [] in rs) e);
+          text =
+              none x.file.text_reloc (l.text_relocs ∙ ap (λ (t : Bool). cond t (total TextSeg os) 0) e)
+              ∙ sym (ap (λ (t : Bool). let rs : List Reloc = cond t (final_relocs p os TextSeg) [] in rs) e);
+          «data» =
+              none x.file.data_reloc (l.data_relocs ∙ ap (λ (t : Bool). cond t (total DataSeg os) 0) e)
+              ∙ sym (ap (λ (t : Bool). let rs : List Reloc = cond t (final_relocs p os DataSeg) [] in rs) e);
           near = ap (λ (t : Bool). t && has_far_word p os) e;
         }
         by_test true e =
             let count : length (moved_locals_in g os o) ≡ length (local_rows p os) = ap (λ (ls : List Symbol). length ls) locals_back in
-            let text = kept_whole forced os o x.file TextSeg tt good (l.text_relocs ∙ ap (λ (t : Bool). cond t (total TextSeg os) 0) e) (subst (λ (rs : List Symbol). AreKept x.file rs (length (local_rows p os)) os TextSeg) rows_same (subst (λ (n : ℕ). AreKept x.file l.rows n os TextSeg) count (l.text_kept e))) in
-            let datas = kept_whole forced os o x.file DataSeg tt good (l.data_relocs ∙ ap (λ (t : Bool). cond t (total DataSeg os) 0) e) (subst (λ (rs : List Symbol). AreKept x.file rs (length (local_rows p os)) os DataSeg) rows_same (subst (λ (n : ℕ). AreKept x.file l.rows n os DataSeg) count (l.data_kept e))) in
+            let text = kept_whole forced os o x.file TextSeg tt good (l.text_relocs ∙ ap (λ (t : Bool). cond t (total TextSeg os) 0) e)
+            (subst (λ (rs : List Symbol). AreKept x.file rs (length (local_rows p os)) os TextSeg) rows_same
+            (subst (λ (n : ℕ). AreKept x.file l.rows n os TextSeg) count (l.text_kept e))) in
+            let datas =
+            kept_whole forced os o x.file DataSeg tt good (l.data_relocs ∙ ap (λ (t : Bool). cond t (total DataSeg os) 0) e)
+            (subst (λ (rs : List Symbol). AreKept x.file rs (length (local_rows p os)) os DataSeg) rows_same
+            (subst (λ (n : ℕ). AreKept x.file l.rows n os DataSeg) count (l.data_kept e))) in
             record {
               text = text.0 ∙ sym (ap (λ (t : Bool). let rs : List Reloc = cond t (final_relocs p os TextSeg) [] in rs) e);
               «data» = datas.0 ∙ sym (ap (λ (t : Bool). let rs : List Reloc = cond t (final_relocs p os DataSeg) [] in rs) e);
@@ -260,7 +306,8 @@ module _ (forced : List (List ℕ)) (os : List Contents) (o : Choices) where
 
     report_same : report_of p ≡ x.report
     report_same = λ i. record {
-      multiples = sym (l.report.multiples ∙ ap (λ (ks : List Mention). map (λ m. m.name) ks) (others_are ms l.report.others l.report.picked)) i;
+      multiples =
+          sym (l.report.multiples ∙ ap (λ (ks : List Mention). map (λ m. m.name) ks) (others_are ms l.report.others l.report.picked)) i;
       reserved = sym (reserved_are ms x.report.reserved l.report.reserved) i;
       entry_bad = sym entry_same.1 i;
       undefined = sym undefined_same i;
@@ -285,14 +332,17 @@ module _ (forced : List (List ℕ)) (os : List Contents) (o : Choices) where
     }
 
 -- the relation of linking holds of what a link gives, and of nothing else
-pub linked_exactly : (forced : List (List ℕ)) (os : List Contents) (o : Choices) (x : Outcome) → AllByRecursion IsObject os → (link forced os o ≡ Ok x) ↔ IsLinkedFrom forced os o x
+pub linked_exactly : (forced : List (List ℕ)) (os : List Contents) (o : Choices) (x : Outcome) →
+    AllByRecursion IsObject os → (link forced os o ≡ Ok x) ↔ IsLinkedFrom forced os o x
 linked_exactly forced os o x good = (
-  (λ h. let m = made (plan forced os o) os x h in subst (λ (y : Outcome). IsLinkedFrom forced os o y) m.outcome (linked forced os o good x m)),
+  (λ h. let m = made (plan forced os o) os x h in
+      subst (λ (y : Outcome). IsLinkedFrom forced os o y) m.outcome (linked forced os o good x m)),
   (λ l. is_made (plan forced os o) os x (answered forced os o good x l)),
 )
 
 -- it holds of one file and one report
-pub linked_once : (forced : List (List ℕ)) (os : List Contents) (o : Choices) (x y : Outcome) → AllByRecursion IsObject os → IsLinkedFrom forced os o x → IsLinkedFrom forced os o y → x ≡ y
+pub linked_once : (forced : List (List ℕ)) (os : List Contents) (o : Choices) (x y : Outcome) →
+    AllByRecursion IsObject os → IsLinkedFrom forced os o x → IsLinkedFrom forced os o y → x ≡ y
 linked_once forced os o x y good h k = same x y (sym ((linked_exactly forced os o x good).1 h) ∙ (linked_exactly forced os o y good).1 k)
   where
     same : (x y : Outcome) → (let r : Result Outcome LinkFault = Ok x in r) ≡ Ok y → x ≡ y

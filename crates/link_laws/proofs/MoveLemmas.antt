@@ -30,7 +30,8 @@ data_begun Pure t = refl
 data_begun Split t = refl
 
 -- how far a segment moves, by the header of the linked file
-pub move_by_header : (forced : List (List ℕ)) (os : List Contents) (o : Choices) (before : List Contents) (k : Contents) (segment : Segment) →
+pub move_by_header : (forced : List (List ℕ)) (os : List Contents) (o : Choices) (before : List Contents) (k : Contents)
+    (segment : Segment) →
     move (plan forced os o).at before k segment ≡ move_in (linked_file (plan forced os o) os).header os before k segment
 move_by_header forced os o before k Undefined = refl
 move_by_header forced os o before k Absolute = refl
@@ -41,5 +42,6 @@ move_by_header forced os o before k DataSeg =
     ∙ sum_moved (data_start_in (linked_file (plan forced os o) os).header) (total DataSeg before) (own k DataSeg)
 move_by_header forced os o before k BssSeg =
     let c = commons_laid o (mentions forced os) in
-    (λ i. plus (data_begun o.layout (total TextSeg os) i + total DataSeg os + sym (rest_back c (total BssSeg os)) i) (minus (total BssSeg before) (own k BssSeg)))
+    (λ i. plus (data_begun o.layout (total TextSeg os) i + total DataSeg os + sym (rest_back c (total BssSeg os)) i)
+    (minus (total BssSeg before) (own k BssSeg)))
     ∙ sum_moved (base_in (linked_file (plan forced os o) os).header (total BssSeg os) BssSeg) (total BssSeg before) (own k BssSeg)

@@ -1,5 +1,7 @@
 -- A link is refused exactly where an end, a count or a number is too large.
-use Rattle.std.proofs.Common.{◌≡◌, ◌↔◌, ℕ, zero, suc, ◌+◌, ◌<◌, ◌≤◌, Bool, true, false, cond, ◌&&◌, ◌||◌, eqb, eqb-true, List, [], ◌∷◌, ◌++◌, map, length, Option, Some, None, refl, sym, ◌∙◌, ap, subst, arith, inl, inr, ◌⊎◌, length-append}
+use Rattle.std.proofs.Common.{◌≡◌, ◌↔◌, ℕ, zero, suc, ◌+◌, ◌<◌, ◌≤◌, Bool, true, false, cond, ◌&&◌, ◌||◌, eqb}
+use Rattle.std.proofs.Common.{eqb-true, List, [], ◌∷◌, ◌++◌, map, length, Option, Some, None, refl, sym, ◌∙◌}
+use Rattle.std.proofs.Common.{ap, subst, arith, inl, inr, ◌⊎◌, length-append}
 use Rattle.std.specs.Prelude.{filter, slice_get, nat_lt, Result, Ok, Err}
 use Rattle.std.specs.List.{flat_map, list_any, AllByRecursion}
 use Rattle.std.proofs.lemmas.Bool.{ltb-false, ltb-true}
@@ -31,7 +33,9 @@ use Rattle.tool_options.specs.Choices.{Choices, lays_commons}
 use Rattle.link_out.specs.Layouts.{data_base}
 use Rattle.link_out.specs.function.Plans.{Plan, plan, common_size, common_offset}
 use Rattle.link_out.specs.function.Finals.{final, final_by, bound_at, waiting, reserved_or_waiting}
-use Rattle.link_out.specs.function.Tables.{is_kept_local, rows_kept, moved_local, local_rows, external_row, external_rows, table, row_of, waits_far, is_out_of_reach, has_far_in, has_far_word}
+use Rattle.link_out.specs.function.Tables.{is_kept_local, rows_kept, moved_local, local_rows, external_row}
+use Rattle.link_out.specs.function.Tables.{external_rows, table, row_of, waits_far, is_out_of_reach, has_far_in}
+use Rattle.link_out.specs.function.Tables.{has_far_word}
 use Rattle.link_out.specs.function.Reports.{report_of}
 use Rattle.link_out.specs.internal.InOrder.{room_in}
 use Rattle.link_laws.specs.relation.NameStates.{HasState, IsWanted}
@@ -72,20 +76,30 @@ is_over m n h = by_test (nat_lt m n) refl
 
 -- commons
 
-commons_take : (o : Choices) (ms : List Mention) (names : List (List ℕ)) → CommonsTake o ms names (cond (lays_commons o) (room_in (named_by ms names)) 0)
+commons_take : (o : Choices) (ms : List Mention) (names : List (List ℕ)) →
+    CommonsTake o ms names (cond (lays_commons o) (room_in (named_by ms names)) 0)
 commons_take o ms [] = nothing (lays_commons o)
   where
     nothing : (c : Bool) → (let none : ℕ = cond c 0 0 in none) ≡ 0
     nothing true = refl
     nothing false = refl
-commons_take o ms (n ∷ ns) =
-    (state ms n, has_state ms n, (cond (lays_commons o) (room_in (named_by ms ns)) 0, both (room_for o (state ms n)) (common_size (state ms n)) (room_in (named_by ms ns)) (lays_commons o) (room_laid o (state ms n)), commons_take o ms ns))
+commons_take o ms (n ∷ ns) = (
+  state ms n,
+  has_state ms n,
+  (
+    cond (lays_commons o) (room_in (named_by ms ns)) 0,
+    both (room_for o (state ms n)) (common_size (state ms n)) (room_in (named_by ms ns)) (lays_commons o)
+        (room_laid o (state ms n)),
+    commons_take o ms ns,
+  ),
+)
   where
     both : (r c x : ℕ) (t : Bool) → r ≡ cond t c 0 → cond t (c + x) 0 ≡ r + cond t x 0
     both r c x true e = omega arith
     both r c x false e = omega arith
 
-commons_are : (o : Choices) (ms : List Mention) (names : List (List ℕ)) (room : ℕ) → CommonsTake o ms names room → room ≡ cond (lays_commons o) (room_in (named_by ms names)) 0
+commons_are : (o : Choices) (ms : List Mention) (names : List (List ℕ)) (room : ℕ) → CommonsTake o ms names room →
+    room ≡ cond (lays_commons o) (room_in (named_by ms names)) 0
 commons_are o ms [] room take = take ∙ nothing (lays_commons o)
   where
     nothing : (c : Bool) → (let none : ℕ = 0 in none) ≡ cond c 0 0
@@ -93,7 +107,9 @@ commons_are o ms [] room take = take ∙ nothing (lays_commons o)
     nothing false = refl
 commons_are o ms (n ∷ ns) room take =
     let st : state ms n ≡ take.0 = state_is ms n take.0 take.1 in
-    both room (room_for o take.0) (common_size (state ms n)) take.2.0 (room_in (named_by ms ns)) (lays_commons o) take.2.1 (room_laid o take.0 ∙ ap (λ (s : State). cond (lays_commons o) (common_size s) 0) (sym st)) (commons_are o ms ns take.2.0 take.2.2)
+    both room (room_for o take.0) (common_size (state ms n)) take.2.0 (room_in (named_by ms ns)) (lays_commons o)
+    take.2.1 (room_laid o take.0 ∙ ap (λ (s : State). cond (lays_commons o) (common_size s) 0) (sym st))
+    (commons_are o ms ns take.2.0 take.2.2)
   where
     both : (a r c y x : ℕ) (t : Bool) → a ≡ r + y → r ≡ cond t c 0 → y ≡ cond t x 0 → a ≡ cond t (c + x) 0
     both a r c y x true e f g = omega arith
@@ -101,11 +117,14 @@ commons_are o ms (n ∷ ns) room take =
 
 -- lists
 
-any_index : {A : Type 0} (t : A → Bool) (xs : List A) → list_any t xs ≡ true → (i : ℕ) × ((x : A) × (slice_get xs i ≡ Some x) × (t x ≡ true))
+any_index : {A : Type 0} (t : A → Bool) (xs : List A) → list_any t xs ≡ true →
+    (i : ℕ) × ((x : A) × (slice_get xs i ≡ Some x) × (t x ≡ true))
 any_index t [] h = absurd (cc)
 any_index {A = A} t (x ∷ xs) h = by_test (t x) refl h (any_index t xs)
   where
-    by_test : (u : Bool) → t x ≡ u → (u || list_any t xs) ≡ true → (list_any t xs ≡ true → (i : ℕ) × ((y : A) × (slice_get xs i ≡ Some y) × (t y ≡ true))) → (i : ℕ) × ((y : A) × (slice_get (x ∷ xs) i ≡ Some y) × (t y ≡ true))
+    by_test : (u : Bool) → t x ≡ u → (u || list_any t xs) ≡ true →
+        (list_any t xs ≡ true → (i : ℕ) × ((y : A) × (slice_get xs i ≡ Some y) × (t y ≡ true))) →
+        (i : ℕ) × ((y : A) × (slice_get (x ∷ xs) i ≡ Some y) × (t y ≡ true))
     by_test true e h rest = (zero, (x, refl, e))
     by_test false e h rest = let r = rest h in (suc r.0, (r.1.0, r.1.1, r.1.2))
 
@@ -118,11 +137,13 @@ any_here t (a ∷ xs) (suc i) x e h = or_true (t a) (list_any t xs) (any_here t 
     or_true true v h = refl
     or_true false v h = h
 
-any_split : (t : Contents → Bool) (xs : List Contents) → list_any t xs ≡ true → (before : List Contents) × ((k : Contents) × ((after : List Contents) × (xs ≡ before ++ k ∷ after) × (t k ≡ true)))
+any_split : (t : Contents → Bool) (xs : List Contents) → list_any t xs ≡ true →
+    (before : List Contents) × ((k : Contents) × ((after : List Contents) × (xs ≡ before ++ k ∷ after) × (t k ≡ true)))
 any_split t [] h = absurd (cc)
 any_split t (x ∷ xs) h = by_test (t x) refl h (any_split t xs)
   where
-    by_test : (u : Bool) → t x ≡ u → (u || list_any t xs) ≡ true → (list_any t xs ≡ true → (before : List Contents) × ((k : Contents) × ((after : List Contents) × (xs ≡ before ++ k ∷ after) × (t k ≡ true)))) →
+    by_test : (u : Bool) → t x ≡ u → (u || list_any t xs) ≡ true → (list_any t xs ≡ true → (before : List Contents)
+        × ((k : Contents) × ((after : List Contents) × (xs ≡ before ++ k ∷ after) × (t k ≡ true)))) →
         (before : List Contents) × ((k : Contents) × ((after : List Contents) × (x ∷ xs ≡ before ++ k ∷ after) × (t k ≡ true)))
     by_test true e h rest = ([], (x, (xs, refl, e)))
     by_test false e h rest = let r = rest h in (x ∷ r.0, (r.1.0, (r.1.1.0, ap (λ (ys : List Contents). x ∷ ys) r.1.1.1, r.1.1.2)))
@@ -143,22 +164,29 @@ module _ (forced : List (List ℕ)) (os : List Contents) (o : Choices) where
   ends_here = record {
     commons = cond (lays_commons o) (room_in (named_by ms names)) 0;
     take = commons_take o ms names;
-    is = ap (λ (n : ℕ). data_base o.layout (total TextSeg os) + total DataSeg os + cond (lays_commons o) n 0 + total BssSeg os) (sym (room-commons ms));
+    is =
+        ap (λ (n : ℕ). data_base o.layout (total TextSeg os) + total DataSeg os + cond (lays_commons o) n 0 + total BssSeg os)
+        (sym (room-commons ms));
   }
 
   ends_is : (end : ℕ) → EndsAt forced os o end → end ≡ p.at.bss_end
   ends_is end e =
       e.is
-      ∙ ap (λ (n : ℕ). data_base o.layout (total TextSeg os) + total DataSeg os + n + total BssSeg os) (commons_are o ms names e.commons e.take)
-      ∙ ap (λ (n : ℕ). data_base o.layout (total TextSeg os) + total DataSeg os + cond (lays_commons o) n 0 + total BssSeg os) (room-commons ms)
+      ∙ ap (λ (n : ℕ). data_base o.layout (total TextSeg os) + total DataSeg os + n + total BssSeg os)
+      (commons_are o ms names e.commons e.take)
+      ∙ ap (λ (n : ℕ). data_base o.layout (total TextSeg os) + total DataSeg os + cond (lays_commons o) n 0 + total BssSeg os)
+      (room-commons ms)
 
   -- the entries
 
   -- how many locals are kept of some of the objects
-  pub locals_long : (earlier rest : List Contents) → length (flat_map (λ q. map (moved_local p.at q.0 q.1) (filter (is_kept_local o.keep) q.1.symbols)) (with_earlier earlier rest)) ≡ length (kept_locals o rest)
+  pub locals_long : (earlier rest : List Contents) →
+      length (flat_map (λ q. map (moved_local p.at q.0 q.1) (filter (is_kept_local o.keep) q.1.symbols))
+      (with_earlier earlier rest)) ≡ length (kept_locals o rest)
   locals_long earlier [] = refl
   locals_long earlier (k ∷ ks) =
-      length-append (map (moved_local p.at earlier k) (filter (is_kept_local o.keep) k.symbols)) (flat_map (λ q. map (moved_local p.at q.0 q.1) (filter (is_kept_local o.keep) q.1.symbols)) (with_earlier (earlier ++ k ∷ []) ks))
+      length-append (map (moved_local p.at earlier k) (filter (is_kept_local o.keep) k.symbols))
+      (flat_map (λ q. map (moved_local p.at q.0 q.1) (filter (is_kept_local o.keep) q.1.symbols)) (with_earlier (earlier ++ k ∷ []) ks))
       ∙ (λ i. length-map (filter (is_kept_local o.keep) k.symbols) (moved_local p.at earlier k) i + locals_long (earlier ++ k ∷ []) ks i)
       ∙ sym (length-append (filter (is_kept_local o.keep) k.symbols) (kept_locals o ks))
 
@@ -172,7 +200,8 @@ module _ (forced : List (List ℕ)) (os : List Contents) (o : Choices) where
   pub table_long : length (table p os) ≡ entry_count forced os o
   table_long =
       kept_long o.keep (local_rows p os ++ external_rows p)
-      ∙ ap (λ (n : ℕ). entries o.keep n) (length-append (local_rows p os) (external_rows p) ∙ (λ i. locals_long [] os i + length-map names (external_row p) i))
+      ∙ ap (λ (n : ℕ). entries o.keep n)
+      (length-append (local_rows p os) (external_rows p) ∙ (λ i. locals_long [] os i + length-map names (external_row p) i))
 
   number_same : (name : List ℕ) → row_of p os name ≡ length (kept_locals o os) + place_of name (externals forced os)
   number_same name = ap (λ (n : ℕ). n + place_of name names) (locals_long [] os)
@@ -180,23 +209,31 @@ module _ (forced : List (List ℕ)) (os : List Contents) (o : Choices) where
   -- far words
 
   -- a name that waits at a far row is wanted and has no address
-  far_state : (name : List ℕ) (n : ℕ) (st : State) → o.relocatable ≡ true → HasState ms name st → waits_far (final_by p name st).bound n ≡ true → (size : ℕ) × IsWanted ms name size × ((size ≡ 0) ⊎ (lays_commons o ≡ false)) × (4095 < n)
+  far_state : (name : List ℕ) (n : ℕ) (st : State) → o.relocatable ≡ true →
+      HasState ms name st → waits_far (final_by p name st).bound n ≡ true →
+      (size : ℕ) × IsWanted ms name size × ((size ≡ 0) ⊎ (lays_commons o ≡ false)) × (4095 < n)
   far_state name n (Defined segment offset) r h e = absurd (false_true e)
   far_state name n (Wanted size) r h e = by_tests (eqb size 0) refl o.relocatable r (lays_commons o) refl e
     where
       by_tests : (z : Bool) → eqb size 0 ≡ z → (r : Bool) → r ≡ true → (c : Bool) → lays_commons o ≡ c →
-          waits_far (cond z (cond r (waiting 0) (reserved_or_waiting p.at name)) (cond c (bound_at BssSeg (plus p.at.data_end (common_offset ms name))) (waiting size))).bound n ≡ true →
+          waits_far (cond z (cond r (waiting 0) (reserved_or_waiting p.at name))
+          (cond c (bound_at BssSeg (plus p.at.data_end (common_offset ms name))) (waiting size))).bound n ≡ true →
           (size : ℕ) × IsWanted ms name size × ((size ≡ 0) ⊎ (lays_commons o ≡ false)) × (4095 < n)
       by_tests true ze true re c ce e = (size, h, inl (eqb-true size 0 ze), ltb-true 4095 n e)
       by_tests true ze false re c ce e = absurd (false_true re)
       by_tests false ze r re true ce e = absurd (false_true e)
       by_tests false ze r re false ce e = (size, h, inr ce, ltb-true 4095 n e)
 
-  state_far : (name : List ℕ) (n size : ℕ) → o.relocatable ≡ true → IsWanted ms name size → (size ≡ 0) ⊎ (lays_commons o ≡ false) → 4095 < n → waits_far (final p name).bound n ≡ true
-  state_far name n size r h w far = ap (λ (s : State). waits_far (final_by p name s).bound n) (state_is ms name (Wanted size) h) ∙ by_tests (eqb size 0) refl o.relocatable r (lays_commons o) refl w
+  state_far : (name : List ℕ) (n size : ℕ) → o.relocatable ≡ true → IsWanted ms name size →
+      (size ≡ 0) ⊎ (lays_commons o ≡ false) → 4095 < n → waits_far (final p name).bound n ≡ true
+  state_far name n size r h w far =
+      ap (λ (s : State). waits_far (final_by p name s).bound n) (state_is ms name (Wanted size) h)
+      ∙ by_tests (eqb size 0) refl o.relocatable r (lays_commons o) refl w
     where
-      by_tests : (z : Bool) → eqb size 0 ≡ z → (r : Bool) → r ≡ true → (c : Bool) → lays_commons o ≡ c → (size ≡ 0) ⊎ (lays_commons o ≡ false) →
-          waits_far (cond z (cond r (waiting 0) (reserved_or_waiting p.at name)) (cond c (bound_at BssSeg (plus p.at.data_end (common_offset ms name))) (waiting size))).bound n ≡ true
+      by_tests : (z : Bool) → eqb size 0 ≡ z → (r : Bool) → r ≡ true → (c : Bool) → lays_commons o ≡ c →
+          (size ≡ 0) ⊎ (lays_commons o ≡ false) →
+          waits_far (cond z (cond r (waiting 0) (reserved_or_waiting p.at name))
+          (cond c (bound_at BssSeg (plus p.at.data_end (common_offset ms name))) (waiting size))).bound n ≡ true
       by_tests true ze true re c ce w = is_over 4095 n far
       by_tests true ze false re c ce w = absurd (false_true re)
       by_tests false ze r re false ce w = is_over 4095 n far
@@ -212,15 +249,18 @@ module _ (forced : List (List ℕ)) (os : List Contents) (o : Choices) where
     named : slice_get k.symbols (symbol_number r) ≡ Some symbol
     far : waits_far (final p symbol.name).bound (row_of p os symbol.name) ≡ true
 
-  is_far : (k : Contents) (r : Reloc) (n : ℕ) → kind_fault k.symbols n (kind_of r) (symbol_number r) ≡ None → is_out_of_reach p os (referent k r) ≡ true → IsFar k r
+  is_far : (k : Contents) (r : Reloc) (n : ℕ) → kind_fault k.symbols n (kind_of r) (symbol_number r) ≡ None →
+      is_out_of_reach p os (referent k r) ≡ true → IsFar k r
   is_far k r n fine e = by_kind (kind_of r) refl fine e
     where
-      by_slot : kind_of r ≡ Some kinds.External → (slot : Option Symbol) → slice_get k.symbols (symbol_number r) ≡ slot → cond (is_wanted slot) None (Some (ObjectFault.BadSymbolNumber n)) ≡ None →
+      by_slot : kind_of r ≡ Some kinds.External → (slot : Option Symbol) → slice_get k.symbols (symbol_number r) ≡ slot →
+          cond (is_wanted slot) None (Some (ObjectFault.BadSymbolNumber n)) ≡ None →
           waits_far (final p (name_in slot)).bound (row_of p os (name_in slot)) ≡ true → IsFar k r
       by_slot ke None se h f = absurd (fault_none _ h)
       by_slot ke (Some s) se h f = record { kind = ke; symbol = s; named = se; far = f }
 
-      by_kind : (kind : Option Kind) → kind_of r ≡ kind → kind_fault k.symbols n kind (symbol_number r) ≡ None → is_out_of_reach p os (referent_by k (symbol_number r) kind) ≡ true → IsFar k r
+      by_kind : (kind : Option Kind) → kind_of r ≡ kind → kind_fault k.symbols n kind (symbol_number r) ≡ None →
+          is_out_of_reach p os (referent_by k (symbol_number r) kind) ≡ true → IsFar k r
       by_kind None ke h f = absurd (fault_none _ h)
       by_kind (Some kinds.Absolute) ke h f = absurd (false_true f)
       by_kind (Some kinds.TextSeg) ke h f = absurd (false_true f)
@@ -231,8 +271,11 @@ module _ (forced : List (List ℕ)) (os : List Contents) (o : Choices) where
   far_by : (name : List ℕ) → 4095 < row_of p os name → 4095 < length (kept_locals o os) + place_of name (externals forced os)
   far_by name far = subst (λ (n : ℕ). 4095 < n) (number_same name) far
 
-  far_word : (before : List Contents) (k : Contents) (after : List Contents) → os ≡ before ++ k ∷ after → (segment : Segment) (i w : ℕ) (r : Reloc) → slice_get (segment_words segment k) i ≡ Some w → slice_get (segment_relocs segment k) i ≡ Some r →
-      (f : IsFar k r) → (size : ℕ) × IsWanted ms f.symbol.name size × ((size ≡ 0) ⊎ (lays_commons o ≡ false)) × (4095 < row_of p os f.symbol.name) → HasFarWord 4095 forced os o
+  far_word : (before : List Contents) (k : Contents) (after : List Contents) → os ≡ before ++ k ∷ after →
+      (segment : Segment) (i w : ℕ) (r : Reloc) → slice_get (segment_words segment k) i ≡ Some w →
+      slice_get (segment_relocs segment k) i ≡ Some r →
+      (f : IsFar k r) → (size : ℕ) × IsWanted ms f.symbol.name size × ((size ≡ 0) ⊎ (lays_commons o ≡ false))
+      × (4095 < row_of p os f.symbol.name) → HasFarWord 4095 forced os o
   far_word before k after all segment i w r word reloc f (size, wanted, waits, far) =
       record {
         before = before;
@@ -254,19 +297,25 @@ module _ (forced : List (List ℕ)) (os : List Contents) (o : Choices) where
         far = far_by f.symbol.name far;
       }
 
-  far_in : AllByRecursion IsObject os → o.relocatable ≡ true → (segment : Segment) → has_far_in p os segment ≡ true → HasFarWord 4095 forced os o
+  far_in : AllByRecursion IsObject os → o.relocatable ≡ true → (segment : Segment) → has_far_in p os segment ≡ true →
+      HasFarWord 4095 forced os o
   far_in good rel segment h = by_object (any_split (IsFarIn segment) os h)
     where
       by_index : (before : List Contents) (k : Contents) (after : List Contents) → os ≡ before ++ k ∷ after →
-          (i : ℕ) × ((wr : ℕ × Reloc) × (slice_get (words_of segment k) i ≡ Some wr) × (is_out_of_reach p os (referent k wr.1) ≡ true)) → HasFarWord 4095 forced os o
+          (i : ℕ) × ((wr : ℕ × Reloc) × (slice_get (words_of segment k) i ≡ Some wr)
+          × (is_out_of_reach p os (referent k wr.1) ≡ true)) → HasFarWord 4095 forced os o
       by_index before k after all (i, ((w, r), at, out)) =
           let back = words_back segment k i (w, r) at in
           let word = word_at forced os before k after all good segment i w r back.0 back.1 in
           let f = is_far k r word.number word.fine out in
-          far_word before k after all segment i w r back.0 back.1 f (far_state f.symbol.name (row_of p os f.symbol.name) (state ms f.symbol.name) rel (has_state ms f.symbol.name) f.far)
+          far_word before k after all segment i w r back.0 back.1 f
+          (far_state f.symbol.name (row_of p os f.symbol.name) (state ms f.symbol.name) rel (has_state ms f.symbol.name) f.far)
 
-      by_object : (before : List Contents) × ((k : Contents) × ((after : List Contents) × (os ≡ before ++ k ∷ after) × (IsFarIn segment k ≡ true))) → HasFarWord 4095 forced os o
-      by_object (before, (k, (after, all, far))) = by_index before k after all (any_index (λ wr. is_out_of_reach p os (referent k wr.1)) (words_of segment k) far)
+      by_object : (before : List Contents)
+          × ((k : Contents) × ((after : List Contents) × (os ≡ before ++ k ∷ after) × (IsFarIn segment k ≡ true))) →
+          HasFarWord 4095 forced os o
+      by_object (before, (k, (after, all, far))) =
+          by_index before k after all (any_index (λ wr. is_out_of_reach p os (referent k wr.1)) (words_of segment k) far)
 
   far_found : AllByRecursion IsObject os → o.relocatable ≡ true → has_far_word p os ≡ true → HasFarWord 4095 forced os o
   far_found good rel h = by_text (has_far_in p os TextSeg) refl h
@@ -282,7 +331,8 @@ module _ (forced : List (List ℕ)) (os : List Contents) (o : Choices) where
       reach =
           (λ i. is_out_of_reach p os (referent_by f.k (symbol_number f.r) (f.kind i)))
           ∙ ap (λ (s : Option Symbol). waits_far (final p (name_in s)).bound (row_of p os (name_in s))) f.named
-          ∙ state_far f.symbol.name (row_of p os f.symbol.name) f.size rel f.wanted f.waits (subst (λ (n : ℕ). 4095 < n) (sym (number_same f.symbol.name)) f.far)
+          ∙ state_far f.symbol.name (row_of p os f.symbol.name) f.size rel f.wanted f.waits
+          (subst (λ (n : ℕ). 4095 < n) (sym (number_same f.symbol.name)) f.far)
 
       or_middle : (a b c : Bool) → b ≡ true → (a || (b || c)) ≡ true
       or_middle true b c h = refl
@@ -294,9 +344,11 @@ module _ (forced : List (List ℕ)) (os : List Contents) (o : Choices) where
           ap (λ (xs : List Contents). list_any (IsFarIn f.segment) xs) f.all
           ∙ list_any-append (IsFarIn f.segment) f.before (f.k ∷ f.after)
           ∙ or_middle (list_any (IsFarIn f.segment) f.before) (IsFarIn f.segment f.k) (list_any (IsFarIn f.segment) f.after)
-          (any_here (λ wr. is_out_of_reach p os (referent f.k wr.1)) (words_of f.segment f.k) f.i (f.w, f.r) (word_at forced os f.before f.k f.after f.all good f.segment f.i f.w f.r f.word f.reloc).stands reach)
+          (any_here (λ wr. is_out_of_reach p os (referent f.k wr.1)) (words_of f.segment f.k) f.i (f.w, f.r)
+          (word_at forced os f.before f.k f.after f.all good f.segment f.i f.w f.r f.word f.reloc).stands reach)
 
-      by_segment : (segment : Segment) → slice_get (segment_words segment f.k) f.i ≡ Some f.w → has_far_in p os segment ≡ true → has_far_word p os ≡ true
+      by_segment : (segment : Segment) → slice_get (segment_words segment f.k) f.i ≡ Some f.w →
+          has_far_in p os segment ≡ true → has_far_word p os ≡ true
       by_segment Undefined w h = absurd (none_word f.w w)
       by_segment Absolute w h = absurd (none_word f.w w)
       by_segment BssSeg w h = absurd (none_word f.w w)
@@ -311,22 +363,38 @@ module _ (forced : List (List ℕ)) (os : List Contents) (o : Choices) where
   -- refusals
 
   abbrev made_by : Bool → Bool → Bool → Result Outcome LinkFault
-  made_by t u v = cond t (Err DoesNotFit) (cond u (Err TooManySymbols) (cond v (Err SymbolNumber) (Ok (record { file = linked_file p os; report = report_of p }))))
+  made_by t u v =
+      cond t (Err DoesNotFit)
+      (cond u (Err TooManySymbols) (cond v (Err SymbolNumber) (Ok (record { file = linked_file p os; report = report_of p }))))
 
   refused_by : AllByRecursion IsObject os → (fault : LinkFault) → link forced os o ≡ Err fault → IsRefused forced os o fault
-  refused_by good fault h = by_tests (nat_lt 65535 p.at.bss_end) refl (nat_lt 5461 (length (table p os))) refl o.relocatable refl (has_far_word p os) refl h
+  refused_by good fault h =
+      by_tests (nat_lt 65535 p.at.bss_end) refl (nat_lt 5461 (length (table p os))) refl o.relocatable refl (has_far_word p os) refl h
     where
-      by_tests : (t : Bool) → nat_lt 65535 p.at.bss_end ≡ t → (u : Bool) → nat_lt 5461 (length (table p os)) ≡ u → (r : Bool) → o.relocatable ≡ r → (v : Bool) → has_far_word p os ≡ v → made_by t u (r && v) ≡ Err fault → IsRefused forced os o fault
+      by_tests : (t : Bool) → nat_lt 65535 p.at.bss_end ≡ t → (u : Bool) → nat_lt 5461 (length (table p os)) ≡ u →
+          (r : Bool) → o.relocatable ≡ r → (v : Bool) → has_far_word p os ≡ v → made_by t u (r && v) ≡ Err fault →
+          IsRefused forced os o fault
       by_tests true te u ue r re v ve h =
           let same : DoesNotFit ≡ fault = same_fault DoesNotFit fault h in
           subst (λ (f : LinkFault). IsRefused forced os o f) same (p.at.bss_end, ends_here, ltb-true 65535 p.at.bss_end te)
       by_tests false te true ue r re v ve h =
           let same : TooManySymbols ≡ fault = same_fault TooManySymbols fault h in
-          subst (λ (f : LinkFault). IsRefused forced os o f) same (p.at.bss_end, ends_here, ltb-false 65535 p.at.bss_end te, subst (λ (n : ℕ). 5461 < n) table_long (ltb-true 5461 (length (table p os)) ue))
+          subst (λ (f : LinkFault). IsRefused forced os o f) same (
+            p.at.bss_end,
+            ends_here,
+            ltb-false 65535 p.at.bss_end te,
+            subst (λ (n : ℕ). 5461 < n) table_long (ltb-true 5461 (length (table p os)) ue),
+          )
       by_tests false te false ue true re true ve h =
           let same : SymbolNumber ≡ fault = same_fault SymbolNumber fault h in
-          subst (λ (f : LinkFault). IsRefused forced os o f) same
-          (p.at.bss_end, ends_here, ltb-false 65535 p.at.bss_end te, subst (λ (n : ℕ). n ≤ 5461) table_long (ltb-false 5461 (length (table p os)) ue), re, far_found good re ve)
+          subst (λ (f : LinkFault). IsRefused forced os o f) same (
+            p.at.bss_end,
+            ends_here,
+            ltb-false 65535 p.at.bss_end te,
+            subst (λ (n : ℕ). n ≤ 5461) table_long (ltb-false 5461 (length (table p os)) ue),
+            re,
+            far_found good re ve,
+          )
       by_tests false te false ue true re false ve h = absurd (made_refused _ fault h)
       by_tests false te false ue false re v ve h = absurd (made_refused _ fault h)
 
@@ -334,13 +402,18 @@ module _ (forced : List (List ℕ)) (os : List Contents) (o : Choices) where
   short_by end e l = not_over 65535 p.at.bss_end (subst (λ (n : ℕ). n ≤ 65535) (ends_is end e) l)
 
   refused_is : AllByRecursion IsObject os → (fault : LinkFault) → IsRefused forced os o fault → link forced os o ≡ Err fault
-  refused_is good DoesNotFit h = λ i. made_by (is_over 65535 p.at.bss_end (subst (λ (n : ℕ). 65535 < n) (ends_is h.0 h.1) h.2) i) (nat_lt 5461 (length (table p os))) (o.relocatable && has_far_word p os)
+  refused_is good DoesNotFit h =
+      λ i. made_by (is_over 65535 p.at.bss_end (subst (λ (n : ℕ). 65535 < n) (ends_is h.0 h.1) h.2) i)
+      (nat_lt 5461 (length (table p os))) (o.relocatable && has_far_word p os)
   refused_is good TooManySymbols h =
-      λ i. made_by (short_by h.0 h.1 h.2 i) (is_over 5461 (length (table p os)) (subst (λ (n : ℕ). 5461 < n) (sym table_long) h.3) i) (o.relocatable && has_far_word p os)
+      λ i. made_by (short_by h.0 h.1 h.2 i) (is_over 5461 (length (table p os))
+      (subst (λ (n : ℕ). 5461 < n) (sym table_long) h.3) i) (o.relocatable && has_far_word p os)
   refused_is good SymbolNumber h =
-      λ i. made_by (short_by h.0 h.1 h.2 i) (not_over 5461 (length (table p os)) (subst (λ (n : ℕ). n ≤ 5461) (sym table_long) h.3) i) (h.4 i && far_back good h.4 h.5 i)
+      λ i. made_by (short_by h.0 h.1 h.2 i) (not_over 5461 (length (table p os))
+      (subst (λ (n : ℕ). n ≤ 5461) (sym table_long) h.3) i) (h.4 i && far_back good h.4 h.5 i)
   refused_is good Memory h = absurd h
 
 -- a link is refused with a fault if and only if the relation of refusals holds of it
-pub refused_exactly : (forced : List (List ℕ)) (os : List Contents) (o : Choices) (fault : LinkFault) → AllByRecursion IsObject os → (link forced os o ≡ Err fault) ↔ IsRefused forced os o fault
+pub refused_exactly : (forced : List (List ℕ)) (os : List Contents) (o : Choices) (fault : LinkFault) →
+    AllByRecursion IsObject os → (link forced os o ≡ Err fault) ↔ IsRefused forced os o fault
 refused_exactly forced os o fault good = (refused_by forced os o good fault, refused_is forced os o good fault)

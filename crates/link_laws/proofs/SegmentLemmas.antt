@@ -1,5 +1,6 @@
 -- The words of a segment of the objects, one after another, and what is made of each.
-use Rattle.std.proofs.Common.{◌≡◌, ℕ, zero, suc, ◌+◌, ◌*◌, ◌/◌, List, [], ◌∷◌, ◌++◌, map, length, Option, Some, None, refl, sym, ◌∙◌, ap, subst, arith, length-append, append_assoc, append-nil, inl, inr, ◌⊎◌}
+use Rattle.std.proofs.Common.{◌≡◌, ℕ, zero, suc, ◌+◌, ◌*◌, ◌/◌, List, [], ◌∷◌, ◌++◌, map, length, Option, Some, None}
+use Rattle.std.proofs.Common.{refl, sym, ◌∙◌, ap, subst, arith, length-append, append_assoc, append-nil, inl, inr, ◌⊎◌}
 use Rattle.std.specs.Prelude.{slice_get}
 use Rattle.std.specs.List.{AllByRecursion}
 use Rattle.std.proofs.lemmas.List.{length-map}
@@ -36,10 +37,12 @@ HasWords _ = ⊥
 object_words : (segment : Segment) → HasWords segment → (o : Contents) → IsObject o → 2 * length (words_of segment o) ≡ size_of segment o
 object_words TextSeg has o h =
     let relocs : 2 * length o.text_reloc ≡ o.header.text_size = h.fits.text_relocation ∙ with_all o h.well o.header.text_size in
-    ap (λ (n : ℕ). 2 * n) (zip_length o.text_words o.text_reloc (both_as_long (length o.text_words) (length o.text_reloc) o.header.text_size h.fits.text relocs)) ∙ h.fits.text
+    ap (λ (n : ℕ). 2 * n) (zip_length o.text_words o.text_reloc
+    (both_as_long (length o.text_words) (length o.text_reloc) o.header.text_size h.fits.text relocs)) ∙ h.fits.text
 object_words DataSeg has o h =
     let relocs : 2 * length o.data_reloc ≡ o.header.data_size = h.fits.data_relocation ∙ with_all o h.well o.header.data_size in
-    ap (λ (n : ℕ). 2 * n) (zip_length o.data_words o.data_reloc (both_as_long (length o.data_words) (length o.data_reloc) o.header.data_size h.fits.data relocs)) ∙ h.fits.data
+    ap (λ (n : ℕ). 2 * n) (zip_length o.data_words o.data_reloc
+    (both_as_long (length o.data_words) (length o.data_reloc) o.header.data_size h.fits.data relocs)) ∙ h.fits.data
 object_words Undefined has o h = absurd has
 object_words Absolute has o h = absurd has
 object_words BssSeg has o h = absurd has
@@ -54,24 +57,29 @@ module _ {A : Type 0} (g : List Contents → Contents → ℕ → Reloc → A) (
   made earlier o = map (λ wr. g earlier o wr.0 wr.1) (words_of segment o)
 
   -- one is made for each word of the objects
-  pub made_length : HasWords segment → (earlier os : List Contents) → AllByRecursion IsObject os → 2 * length (blocks made earlier os) ≡ total segment os
+  pub made_length : HasWords segment → (earlier os : List Contents) → AllByRecursion IsObject os →
+      2 * length (blocks made earlier os) ≡ total segment os
   made_length has earlier [] h = refl
   made_length has earlier (o ∷ os) h =
       let here : length (made earlier o) ≡ length (words_of segment o) = length-map (words_of segment o) (λ wr. g earlier o wr.0 wr.1) in
       let size : 2 * length (words_of segment o) ≡ size_of segment o = object_words segment has o h.0 in
       let rest : 2 * length (blocks made (earlier ++ o ∷ []) os) ≡ total segment os = made_length has (earlier ++ o ∷ []) os h.1 in
-      let both : length (blocks made earlier (o ∷ os)) ≡ length (made earlier o) + length (blocks made (earlier ++ o ∷ []) os) = length-append (made earlier o) (blocks made (earlier ++ o ∷ []) os) in
-      sums (length (blocks made earlier (o ∷ os))) (length (made earlier o)) (length (words_of segment o)) (length (blocks made (earlier ++ o ∷ []) os)) (size_of segment o) (total segment os) both here size rest
+      let both : length (blocks made earlier (o ∷ os)) ≡ length (made earlier o) + length (blocks made (earlier ++ o ∷ []) os) =
+      length-append (made earlier o) (blocks made (earlier ++ o ∷ []) os) in
+      sums (length (blocks made earlier (o ∷ os))) (length (made earlier o)) (length (words_of segment o))
+      (length (blocks made (earlier ++ o ∷ []) os)) (size_of segment o) (total segment os) both here size rest
       ∙ sym (sum_by-append (size_of segment) (o ∷ []) os)
     where
       sums : (n a w b s t : ℕ) → n ≡ a + b → a ≡ w → 2 * w ≡ s → 2 * b ≡ t → 2 * n ≡ (0 + s) + t
       sums n a w b s t e f g h = omega arith
 
   -- what is made of a word stands after what is made of those of the objects before
-  pub made_found : HasWords segment → (before : List Contents) (k : Contents) (after : List Contents) → AllByRecursion IsObject before → (i w : ℕ) (r : Reloc) → slice_get (words_of segment k) i ≡ Some (w, r) →
+  pub made_found : HasWords segment → (before : List Contents) (k : Contents) (after : List Contents) →
+      AllByRecursion IsObject before → (i w : ℕ) (r : Reloc) → slice_get (words_of segment k) i ≡ Some (w, r) →
       slice_get (blocks made [] (before ++ k ∷ after)) (total segment before / 2 + i) ≡ Some (g before k w r)
   made_found has before k after good i w r e =
-      let n : length (blocks made [] before) ≡ total segment before / 2 = half (length (blocks made [] before)) (total segment before) (made_length has [] before good) in
+      let n : length (blocks made [] before) ≡ total segment before / 2 =
+      half (length (blocks made [] before)) (total segment before) (made_length has [] before good) in
       ap (λ (ws : List A). slice_get ws (total segment before / 2 + i)) (blocks-append made [] before (k ∷ after))
       ∙ slice_get_after (blocks made [] before) (blocks made before (k ∷ after)) (total segment before / 2) i n
       ∙ get_append (made before k) (blocks made (before ++ k ∷ []) after) i (g before k w r)
@@ -89,13 +97,16 @@ module _ {A : Type 0} (g : List Contents → Contents → ℕ → Reloc → A) (
 
   in_block : (before rest : List Contents) (i : ℕ) (y : A) → slice_get (blocks made before rest) i ≡ Some y → IsInBlock before rest i y
   in_block before [] i y e = absurd (cc)
-  in_block before (k ∷ ks) i y e = by_block (get_either (made before k) (blocks made (before ++ k ∷ []) ks) i y e) (λ j f. in_block (before ++ k ∷ []) ks j y f)
+  in_block before (k ∷ ks) i y e =
+      by_block (get_either (made before k) (blocks made (before ++ k ∷ []) ks) i y e) (λ j f. in_block (before ++ k ∷ []) ks j y f)
     where
       sums : (i m j b n a : ℕ) → i ≡ m + j → j ≡ b + n → a ≡ m + b → i ≡ a + n
       sums i m j b n a e f g = omega arith
 
-      by_block : (slice_get (made before k) i ≡ Some y) ⊎ ((j : ℕ) × (i ≡ length (made before k) + j) × (slice_get (blocks made (before ++ k ∷ []) ks) j ≡ Some y)) →
-          ((j : ℕ) → slice_get (blocks made (before ++ k ∷ []) ks) j ≡ Some y → IsInBlock (before ++ k ∷ []) ks j y) → IsInBlock before (k ∷ ks) i y
+      by_block : (slice_get (made before k) i ≡ Some y)
+          ⊎ ((j : ℕ) × (i ≡ length (made before k) + j) × (slice_get (blocks made (before ++ k ∷ []) ks) j ≡ Some y)) →
+          ((j : ℕ) → slice_get (blocks made (before ++ k ∷ []) ks) j ≡ Some y → IsInBlock (before ++ k ∷ []) ks j y) →
+          IsInBlock before (k ∷ ks) i y
       by_block (inl h) rest = record {
         earlier = [];
         k = k;
@@ -113,29 +124,37 @@ module _ {A : Type 0} (g : List Contents → Contents → ℕ → Reloc → A) (
             later = b.later;
             split = ap (λ (xs : List Contents). k ∷ xs) b.split;
             j = b.j;
-            place = sums i (length (made before k)) h.0 (length (blocks made (before ++ k ∷ []) b.earlier)) b.j (length (blocks made before (k ∷ b.earlier))) h.1 b.place (length-append (made before k) (blocks made (before ++ k ∷ []) b.earlier));
+            place =
+                sums i (length (made before k)) h.0 (length (blocks made (before ++ k ∷ []) b.earlier)) b.j
+                (length (blocks made before (k ∷ b.earlier))) h.1 b.place
+                (length-append (made before k) (blocks made (before ++ k ∷ []) b.earlier));
             found = ap (λ (es : List Contents). slice_get (made es b.k) b.j) (sym (append_assoc before (k ∷ []) b.earlier)) ∙ b.found;
           }
 
   -- a list of that length with each of these at its place is this one
   pub made_whole : HasWords segment → (os : List Contents) → AllByRecursion IsObject os → (xs : List A) → 2 * length xs ≡ total segment os →
-      ((before : List Contents) (k : Contents) (after : List Contents) → os ≡ before ++ k ∷ after → (i w : ℕ) (r : Reloc) → slice_get (words_of segment k) i ≡ Some (w, r) →
-      slice_get xs (total segment before / 2 + i) ≡ Some (g before k w r)) →
+      ((before : List Contents) (k : Contents) (after : List Contents) → os ≡ before ++ k ∷ after → (i w : ℕ) (r : Reloc) →
+      slice_get (words_of segment k) i ≡ Some (w, r) → slice_get xs (total segment before / 2 + i) ≡ Some (g before k w r)) →
       xs ≡ blocks made [] os
-  made_whole has os good xs long each = same_elements xs (blocks made [] os) (both_as_long (length xs) (length (blocks made [] os)) (total segment os) long (made_length has [] os good)) found
+  made_whole has os good xs long each =
+      same_elements xs (blocks made [] os)
+      (both_as_long (length xs) (length (blocks made [] os)) (total segment os) long (made_length has [] os good)) found
     where
       found : (i : ℕ) (y : A) → slice_get (blocks made [] os) i ≡ Some y → slice_get xs i ≡ Some y
       found i y e =
           let b = in_block [] os i y e in
-          let front : AllByRecursion IsObject b.earlier = (all_split IsObject b.earlier (b.k ∷ b.later) (subst (λ (zs : List Contents). AllByRecursion IsObject zs) b.split good)).0 in
-          let n : length (blocks made [] b.earlier) ≡ total segment b.earlier / 2 = half (length (blocks made [] b.earlier)) (total segment b.earlier) (made_length has [] b.earlier front) in
+          let front : AllByRecursion IsObject b.earlier =
+          (all_split IsObject b.earlier (b.k ∷ b.later) (subst (λ (zs : List Contents). AllByRecursion IsObject zs) b.split good)).0 in
+          let n : length (blocks made [] b.earlier) ≡ total segment b.earlier / 2 =
+          half (length (blocks made [] b.earlier)) (total segment b.earlier) (made_length has [] b.earlier front) in
           let back = get_back (λ wr. g b.earlier b.k wr.0 wr.1) (words_of segment b.k) b.j y b.found in
           ap (λ (m : ℕ). slice_get xs m) (b.place ∙ ap (λ (m : ℕ). m + b.j) n)
           ∙ each b.earlier b.k b.later b.split b.j back.0.0 back.0.1 back.1
           ∙ ap (λ (z : A). let o : Option A = Some z in o) (sym back.2)
 
 -- the kind and number of a word of an object are fine
-no_fault : (symbols : List Symbol) (n : ℕ) (rs : List Reloc) (i : ℕ) (r : Reloc) → first_bad_word symbols n rs ≡ None → slice_get rs i ≡ Some r → (m : ℕ) × (word_fault symbols m r ≡ None)
+no_fault : (symbols : List Symbol) (n : ℕ) (rs : List Reloc) (i : ℕ) (r : Reloc) → first_bad_word symbols n rs ≡ None →
+    slice_get rs i ≡ Some r → (m : ℕ) × (word_fault symbols m r ≡ None)
 no_fault symbols n [] i r h e = absurd (cc)
 no_fault symbols n (a ∷ rs) zero r h e =
     let same : a ≡ r = cc in
@@ -144,7 +163,8 @@ no_fault symbols n (a ∷ rs) zero r h e =
     by_first : (x y : Option ObjectFault) → first_of x y ≡ None → x ≡ None
     by_first None y h = refl
     by_first (Some f) y h = absurd (cc)
-no_fault symbols n (a ∷ rs) (suc i) r h e = no_fault symbols (n + 1) rs i r (by_first (word_fault symbols n a) (first_bad_word symbols (n + 1) rs) h) e
+no_fault symbols n (a ∷ rs) (suc i) r h e =
+    no_fault symbols (n + 1) rs i r (by_first (word_fault symbols n a) (first_bad_word symbols (n + 1) rs) h) e
   where
     by_first : (x y : Option ObjectFault) → first_of x y ≡ None → y ≡ None
     by_first None y h = h
@@ -158,7 +178,8 @@ pub record IsWord (forced : List (List ℕ)) (os : List Contents) (k : Contents)
   pub known : RefersAmong (names_of (mentions forced os)) (referent k r)
 
 -- a word and its relocation word, by their place
-pub words_back : (segment : Segment) (k : Contents) (i : ℕ) (z : ℕ × Reloc) → slice_get (words_of segment k) i ≡ Some z → (slice_get (segment_words segment k) i ≡ Some z.0) × (slice_get (segment_relocs segment k) i ≡ Some z.1)
+pub words_back : (segment : Segment) (k : Contents) (i : ℕ) (z : ℕ × Reloc) → slice_get (words_of segment k) i ≡ Some z →
+    (slice_get (segment_words segment k) i ≡ Some z.0) × (slice_get (segment_relocs segment k) i ≡ Some z.1)
 words_back Undefined k i z e = absurd (cc)
 words_back Absolute k i z e = absurd (cc)
 words_back BssSeg k i z e = absurd (cc)
@@ -166,7 +187,8 @@ words_back Other k i z e = absurd (cc)
 words_back TextSeg k i z e = zip_back k.text_words k.text_reloc i z e
 words_back DataSeg k i z e = zip_back k.data_words k.data_reloc i z e
 
-module _ (forced : List (List ℕ)) (os before : List Contents) (k : Contents) (after : List Contents) (all : os ≡ before ++ k ∷ after) (good : AllByRecursion IsObject os) where
+module _ (forced : List (List ℕ)) (os before : List Contents) (k : Contents) (after : List Contents)
+    (all : os ≡ before ++ k ∷ after) (good : AllByRecursion IsObject os) where
   -- the objects before this one are objects
   pub front_objects : AllByRecursion IsObject before
   front_objects = (all_split IsObject before (k ∷ after) (subst (λ (xs : List Contents). AllByRecursion IsObject xs) all good)).0
@@ -174,24 +196,29 @@ module _ (forced : List (List ℕ)) (os before : List Contents) (k : Contents) (
   object : IsObject k
   object = (all_split IsObject before (k ∷ after) (subst (λ (xs : List Contents). AllByRecursion IsObject xs) all good)).1.0
 
-  refers : (segment : Segment) (i w : ℕ) (r : Reloc) → slice_get (words_of segment k) i ≡ Some (w, r) → RefersAmong (names_of (mentions forced os)) (referent k r)
+  refers : (segment : Segment) (i w : ℕ) (r : Reloc) → slice_get (words_of segment k) i ≡ Some (w, r) →
+      RefersAmong (names_of (mentions forced os)) (referent k r)
   refers segment i w r e =
       let refer : AllByRecursion (λ c. AllReferAmong (names_of (mentions forced os)) c (words_of segment c)) (before ++ k ∷ after) =
-      subst (λ (xs : List Contents). AllByRecursion (λ c. AllReferAmong (names_of (mentions forced os)) c (words_of segment c)) xs) all (objects_refer forced segment os (well_formed os good)) in
+      subst (λ (xs : List Contents). AllByRecursion (λ c. AllReferAmong (names_of (mentions forced os)) c (words_of segment c)) xs)
+      all (objects_refer forced segment os (well_formed os good)) in
       let here = all_split (λ c. AllReferAmong (names_of (mentions forced os)) c (words_of segment c)) before (k ∷ after) refer in
       all_get (λ wr. RefersAmong (names_of (mentions forced os)) (referent k wr.1)) (words_of segment k) i (w, r) here.1.0 e
 
   -- the word of an object at a place, and what its relocation word refers to
-  pub word_at : (segment : Segment) (i w : ℕ) (r : Reloc) → slice_get (segment_words segment k) i ≡ Some w → slice_get (segment_relocs segment k) i ≡ Some r → IsWord forced os k segment i w r
+  pub word_at : (segment : Segment) (i w : ℕ) (r : Reloc) → slice_get (segment_words segment k) i ≡ Some w →
+      slice_get (segment_relocs segment k) i ≡ Some r → IsWord forced os k segment i w r
   word_at Undefined i w r ew er = absurd (cc)
   word_at Absolute i w r ew er = absurd (cc)
   word_at BssSeg i w r ew er = absurd (cc)
   word_at Other i w r ew er = absurd (cc)
   word_at TextSeg i w r ew er =
       let stands = zip_get k.text_words k.text_reloc i w r ew er in
-      let fault = no_fault k.symbols 0 (k.text_reloc ++ k.data_reloc) i r (well_formed_parts k object.well).1 (get_append k.text_reloc k.data_reloc i r er) in
+      let fault = no_fault k.symbols 0 (k.text_reloc ++ k.data_reloc) i r (well_formed_parts k object.well).1
+      (get_append k.text_reloc k.data_reloc i r er) in
       record { stands = stands; number = fault.0; fine = fault.1; known = refers TextSeg i w r stands }
   word_at DataSeg i w r ew er =
       let stands = zip_get k.data_words k.data_reloc i w r ew er in
-      let fault = no_fault k.symbols 0 (k.text_reloc ++ k.data_reloc) (length k.text_reloc + i) r (well_formed_parts k object.well).1 (slice_get_after k.text_reloc k.data_reloc (length k.text_reloc) i refl ∙ er) in
+      let fault = no_fault k.symbols 0 (k.text_reloc ++ k.data_reloc) (length k.text_reloc + i) r
+      (well_formed_parts k object.well).1 (slice_get_after k.text_reloc k.data_reloc (length k.text_reloc) i refl ∙ er) in
       record { stands = stands; number = fault.0; fine = fault.1; known = refers DataSeg i w r stands }

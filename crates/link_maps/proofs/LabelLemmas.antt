@@ -1,5 +1,7 @@
 -- The nearest label, found among the labels of its segment.
-use Rattle.std.proofs.Common.{◌≡◌, ℕ, zero, suc, Bool, true, false, ◌&&◌, cond, List, [], ◌∷◌, filter, get_or, slice_get, nat_lt, nat_le, ◌==◌, if◌then◌else◌, Option, Some, None, refl, sym, ◌∙◌, ap, arith}
+use Rattle.std.proofs.Common.{◌≡◌, ℕ, zero, suc, Bool, true, false, ◌&&◌, cond, List, [], ◌∷◌, filter, get_or}
+use Rattle.std.proofs.Common.{slice_get, nat_lt, nat_le, ◌==◌, if◌then◌else◌, Option, Some, None, refl, sym, ◌∙◌, ap}
+use Rattle.std.proofs.Common.{arith}
 use Rattle.std.proofs.lemmas.Bool.Decides.{nat_tests}
 use Rattle.std.proofs.lemmas.List.Sorted.{IsStrictWeakOrder-flip, IsStrictWeakOrder-by_number, sorted_far}
 use Rattle.std.specs.Cmp.{IsStrictWeakOrder}
@@ -34,20 +36,25 @@ either_none (Some s) = refl
 either_three : (a b c : Symbol) (t u v : Bool) → nat_lt a.value b.value ≡ t → nat_lt b.value c.value ≡ u → nat_lt a.value c.value ≡ v →
     either (if t then Some b else Some a) (Some c) ≡ either (Some a) (if u then Some c else Some b)
 either_three a b c true true false below next far = absurd (grind (arith, nat_tests))
-either_three a b c true true true below next far = ap (λ (x : Bool). if x then Some c else Some b) next ∙ sym (ap (λ (x : Bool). if x then Some c else Some a) far)
-either_three a b c true false v below next far = ap (λ (x : Bool). if x then Some c else Some b) next ∙ sym (ap (λ (x : Bool). if x then Some b else Some a) below)
+either_three a b c true true true below next far =
+    ap (λ (x : Bool). if x then Some c else Some b) next ∙ sym (ap (λ (x : Bool). if x then Some c else Some a) far)
+either_three a b c true false v below next far =
+    ap (λ (x : Bool). if x then Some c else Some b) next ∙ sym (ap (λ (x : Bool). if x then Some b else Some a) below)
 either_three a b c false true v below next far = refl
 either_three a b c false false true below next far = absurd (grind (arith, nat_tests))
-either_three a b c false false false below next far = ap (λ (x : Bool). if x then Some c else Some a) far ∙ sym (ap (λ (x : Bool). if x then Some b else Some a) below)
+either_three a b c false false false below next far =
+    ap (λ (x : Bool). if x then Some c else Some a) far ∙ sym (ap (λ (x : Bool). if x then Some b else Some a) below)
 
 either_assoc : (x y z : Option Symbol) → either (either x y) z ≡ either x (either y z)
 either_assoc x y None = refl
 either_assoc x None (Some c) = refl
 either_assoc None (Some b) (Some c) = either_none (either (Some b) (Some c))
-either_assoc (Some a) (Some b) (Some c) = either_three a b c (nat_lt a.value b.value) (nat_lt b.value c.value) (nat_lt a.value c.value) refl refl refl
+either_assoc (Some a) (Some b) (Some c) =
+    either_three a b c (nat_lt a.value b.value) (nat_lt b.value c.value) (nat_lt a.value c.value) refl refl refl
 
 -- a label goes before or after one of the labels
-goes_after : (a b : Bool) (s y : Symbol) (rest more : Option Symbol) → nat_lt s.value y.value ≡ true → more ≡ either (if a then None else Some s) rest →
+goes_after : (a b : Bool) (s y : Symbol) (rest more : Option Symbol) → nat_lt s.value y.value ≡ true →
+    more ≡ either (if a then None else Some s) rest →
     (if b then more else Some y) ≡ either (if a then None else Some s) (if b then rest else Some y)
 goes_after a true s y rest more higher is = is
 goes_after true false s y rest more higher is = refl
@@ -62,20 +69,27 @@ goes_before false false s y rest lower clash = sym (ap (λ (x : Bool). if x then
 below_both : (address s y : ℕ) → nat_lt s y ≡ false → nat_lt address s ≡ false → nat_lt address y ≡ false
 below_both address s y lower above = grind (arith, nat_tests)
 
-inserted_first : (address : ℕ) (s : Symbol) (ys : List Symbol) → first_from address (inserted is_higher s ys) ≡ either (up_to address s) (first_from address ys)
+inserted_first : (address : ℕ) (s : Symbol) (ys : List Symbol) →
+    first_from address (inserted is_higher s ys) ≡ either (up_to address s) (first_from address ys)
 inserted_first address s [] = refl
 inserted_first address s (y ∷ ys) = by_test (nat_lt s.value y.value) refl (inserted_first address s ys)
   where
-    by_test : (t : Bool) → nat_lt s.value y.value ≡ t → first_from address (inserted is_higher s ys) ≡ either (up_to address s) (first_from address ys) →
+    by_test : (t : Bool) → nat_lt s.value y.value ≡ t →
+        first_from address (inserted is_higher s ys) ≡ either (up_to address s) (first_from address ys) →
         first_from address (cond t (y ∷ inserted is_higher s ys) (s ∷ (y ∷ ys))) ≡ either (up_to address s) (first_from address (y ∷ ys))
     by_test true higher rest =
-        goes_after (nat_lt address s.value) (nat_lt address y.value) s y (first_from address ys) (first_from address (inserted is_higher s ys)) higher rest
+        goes_after (nat_lt address s.value) (nat_lt address y.value) s y (first_from address ys)
+        (first_from address (inserted is_higher s ys)) higher rest
     by_test false lower rest =
-        goes_before (nat_lt address s.value) (nat_lt address y.value) s y (first_from address ys) lower (below_both address s.value y.value lower)
+        goes_before (nat_lt address s.value) (nat_lt address y.value) s y (first_from address ys) lower
+        (below_both address s.value y.value lower)
 
 -- one more label
-nearer_is : (segment : Segment) (address : ℕ) (best : Option Symbol) (s : Symbol) → is_of segment s ≡ true → nearer segment address best s ≡ either best (up_to address s)
-nearer_is segment address best s is = ap (λ (x : Bool). if (x && nat_le s.value address) && is_nearer best s then Some s else best) is ∙ by_test (nat_le s.value address) (nat_lt address s.value) refl refl
+nearer_is : (segment : Segment) (address : ℕ) (best : Option Symbol) (s : Symbol) → is_of segment s ≡ true →
+    nearer segment address best s ≡ either best (up_to address s)
+nearer_is segment address best s is =
+    ap (λ (x : Bool). if (x && nat_le s.value address) && is_nearer best s then Some s else best) is
+    ∙ by_test (nat_le s.value address) (nat_lt address s.value) refl refl
   where
     by_test : (t u : Bool) → nat_le s.value address ≡ t → nat_lt address s.value ≡ u →
         (if t && is_nearer best s then Some s else best) ≡ either best (if u then None else Some s)
@@ -87,7 +101,8 @@ nearer_is segment address best s is = ap (λ (x : Bool). if (x && nat_le s.value
 nearest_sorted : (segment : Segment) (address : ℕ) (best : Option Symbol) (ss : List Symbol) →
     nearest segment address best ss ≡ either best (first_from address (in_order is_higher (filter (is_of segment) ss)))
 nearest_sorted segment address best [] = refl
-nearest_sorted segment address best (s ∷ ss) = nearest_sorted segment address (nearer segment address best s) ss ∙ by_test (is_of segment s) refl
+nearest_sorted segment address best (s ∷ ss) =
+    nearest_sorted segment address (nearer segment address best s) ss ∙ by_test (is_of segment s) refl
   where
     rest : List Symbol
     rest = in_order is_higher (filter (is_of segment) ss)
@@ -100,7 +115,8 @@ nearest_sorted segment address best (s ∷ ss) = nearest_sorted segment address 
         ∙ either_assoc best (up_to address s) (first_from address rest)
         ∙ ap (either best) (sym (inserted_first address s rest))
     by_test false other =
-        ap (λ (x : Bool). either (if (x && nat_le s.value address) && is_nearer best s then Some s else best) (first_from address rest)) other
+        ap (λ (x : Bool). either (if (x && nat_le s.value address) && is_nearer best s then Some s else best)
+        (first_from address rest)) other
 
 pub nearest_among : (segment : Segment) (address : ℕ) (symbols labels : List Symbol) → AreLabels segment symbols labels →
     first_from address labels ≡ nearest segment address None symbols
@@ -110,8 +126,10 @@ nearest_among segment address symbols labels h =
     ∙ sym (nearest_sorted segment address None symbols)
 
 -- the label before a line
-pub line_label : (o : Contents) (part : Part) (line address : ℕ) (labels : List Symbol) (found : Option Before) → AreLabels (segment_of_part part) o.symbols labels →
-    address ≡ plus line (own o (segment_of_part part)) → found ≡ before address (first_from address labels) → found ≡ before_line o part line
+pub line_label : (o : Contents) (part : Part) (line address : ℕ) (labels : List Symbol) (found : Option Before) →
+    AreLabels (segment_of_part part) o.symbols labels →
+    address ≡ plus line (own o (segment_of_part part)) → found ≡ before address (first_from address labels) →
+    found ≡ before_line o part line
 line_label o part line address labels found h at is =
     is
     ∙ ap (before address) (nearest_among (segment_of_part part) address o.symbols labels h)
@@ -121,17 +139,24 @@ line_label o part line address labels found h at is =
 pub higher_order : IsStrictWeakOrder is_higher
 higher_order = IsStrictWeakOrder-flip _ (IsStrictWeakOrder-by_number (λ (s : Symbol). s.value))
 
-pub fall_apart : (address : ℕ) (labels : List Symbol) → IsSortedBy is_higher labels → IsPartitionedBy (λ (s : Symbol). nat_lt address s.value) labels
+pub fall_apart : (address : ℕ) (labels : List Symbol) → IsSortedBy is_higher labels →
+    IsPartitionedBy (λ (s : Symbol). nat_lt address s.value) labels
 fall_apart address labels fall i j d le inside above =
-    let order : nat_lt (get_or labels i d).value (get_or labels j d).value ≡ false = sorted_far is_higher higher_order labels fall i j d le inside in
+    let order : nat_lt (get_or labels i d).value (get_or labels j d).value ≡ false =
+    sorted_far is_higher higher_order labels fall i j d le inside in
     grind (arith, nat_tests)
 
 pub first_at : (address : ℕ) (labels : List Symbol) (place : ℕ) →
-    IsPartitionPoint (λ (s : Symbol). nat_lt address s.value ≡ true) (λ (s : Symbol). nat_lt address s.value ≡ false) labels place → slice_get labels place ≡ first_from address labels
+    IsPartitionPoint (λ (s : Symbol). nat_lt address s.value ≡ true) (λ (s : Symbol). nat_lt address s.value ≡ false)
+    labels place → slice_get labels place ≡ first_from address labels
 first_at address [] place h = refl
-first_at address (s ∷ ss) zero h = sym (ap (λ (x : Bool). if x then first_from address ss else Some s) (h.1 0 s (omega arith) (omega arith)))
+first_at address (s ∷ ss) zero h =
+    sym (ap (λ (x : Bool). if x then first_from address ss else Some s) (h.1 0 s (omega arith) (omega arith)))
 first_at address (s ∷ ss) (suc place) h =
-    first_at address ss place ((λ k d low high. h.0 (suc k) d (omega arith) (omega arith)), (λ k d low high. h.1 (suc k) d (omega arith) (omega arith)))
+    first_at address ss place (
+      (λ k d low high. h.0 (suc k) d (omega arith) (omega arith)),
+      (λ k d low high. h.1 (suc k) d (omega arith) (omega arith)),
+    )
     ∙ sym (ap (λ (x : Bool). if x then first_from address ss else Some s) (h.0 0 s (omega arith) (omega arith)))
 
 -- what a comparison of two addresses says

@@ -1,5 +1,6 @@
 -- The object with a number, among those that a session took and those that are left.
-use Rattle.std.proofs.Common.{◌≡◌, ℕ, zero, suc, ◌+◌, ◌<◌, ◌≤◌, List, [], ◌∷◌, ◌++◌, length, get_or, slice_get, Some, None, sym, ◌∙◌, ap, arith}
+use Rattle.std.proofs.Common.{◌≡◌, ℕ, zero, suc, ◌+◌, ◌<◌, ◌≤◌, List, [], ◌∷◌, ◌++◌, length, get_or}
+use Rattle.std.proofs.Common.{slice_get, Some, None, sym, ◌∙◌, ap, arith}
 use Rattle.std.proofs.lemmas.List.{map-append, length-map}
 use Rattle.std.proofs.lemmas.Option.{slice_get_past}
 use Rattle.aout_core.specs.Contents.{Contents}
@@ -21,8 +22,10 @@ after es ls i k at =
     ∙ slice_get_after (objects es) (objects ls) (length es) k (length-map es (λ (x : Labelled). x.object))
 
 -- one that is left
-pub object_left : (es ls : List Labelled) (i k : ℕ) (e : Labelled) → i ≡ length es + k → k < length ls → e ≡ get_or ls k e → Some e.object ≡ slice_get (objects (es ++ ls)) i
+pub object_left : (es ls : List Labelled) (i k : ℕ) (e : Labelled) → i ≡ length es + k → k < length ls →
+    e ≡ get_or ls k e → Some e.object ≡ slice_get (objects (es ++ ls)) i
 object_left es ls i k e at inside is = sym (after es ls i k at ∙ object_at ls k e inside is)
 
 pub no_object : (es ls : List Labelled) (i k : ℕ) → i ≡ length es + k → length ls ≤ k → None ≡ slice_get (objects (es ++ ls)) i
-no_object es ls i k at past = sym (after es ls i k at ∙ slice_get_past (objects ls) k (omega (arith, past, length-map ls (λ (x : Labelled). x.object))))
+no_object es ls i k at past =
+    sym (after es ls i k at ∙ slice_get_past (objects ls) k (omega (arith, past, length-map ls (λ (x : Labelled). x.object))))

@@ -13,12 +13,14 @@ cut_step : (u v : Use) (vs : List Use) (b : Bool) →
     by_name (v ∷ vs) ≡ (v ∷ take (more_of_name v vs) vs) ∷ by_name (drop (more_of_name v vs) vs) →
     (if b then (u ∷ v ∷ take (more_of_name v vs) vs) ∷ by_name (drop (more_of_name v vs) vs)
     else (u ∷ []) ∷ (v ∷ take (more_of_name v vs) vs) ∷ by_name (drop (more_of_name v vs) vs))
-    ≡ take (suc (if b then suc (more_of_name v vs) else 0)) (u ∷ v ∷ vs) ∷ by_name (drop (suc (if b then suc (more_of_name v vs) else 0)) (u ∷ v ∷ vs))
+    ≡ take (suc (if b then suc (more_of_name v vs) else 0)) (u ∷ v ∷ vs) ∷
+    by_name (drop (suc (if b then suc (more_of_name v vs) else 0)) (u ∷ v ∷ vs))
 cut_step u v vs true h = refl
 cut_step u v vs false h = ap (λ (gs : List (List Use)). (u ∷ []) ∷ gs) (sym h)
 
 -- the first name, and those after it
-cut_name : (u : Use) (us : List Use) → by_name (u ∷ us) ≡ take (uses_of_name (u ∷ us)) (u ∷ us) ∷ by_name (drop (uses_of_name (u ∷ us)) (u ∷ us))
+cut_name : (u : Use) (us : List Use) →
+    by_name (u ∷ us) ≡ take (uses_of_name (u ∷ us)) (u ∷ us) ∷ by_name (drop (uses_of_name (u ∷ us)) (u ∷ us))
 cut_name u [] = refl
 cut_name u (v ∷ vs) = ap (with_use u) (cut_name v vs) ∙ cut_step u v vs (is_same_name u v) (cut_name v vs)
 
@@ -26,7 +28,8 @@ cut : (us : List Use) → 0 < length us → by_name us ≡ take (uses_of_name us
 cut [] some = absurd (omega (arith, some))
 cut (u ∷ us) some = cut_name u us
 
-names_more : {A : Type 0} (f : List Use → A) (whole so_far : List A) (rest : List Use) → 0 < length rest → so_far ++ map f (by_name rest) ≡ whole →
+names_more : {A : Type 0} (f : List Use → A) (whole so_far : List A) (rest : List Use) → 0 < length rest →
+    so_far ++ map f (by_name rest) ≡ whole →
     (so_far ++ f (take (uses_of_name rest) rest) ∷ []) ++ map f (by_name (drop (uses_of_name rest) rest)) ≡ whole
 names_more f whole so_far rest some h =
     append_assoc so_far (f (take (uses_of_name rest) rest) ∷ []) (map f (by_name (drop (uses_of_name rest) rest)))
@@ -55,7 +58,8 @@ pub name_of_front : (rest front : List Use) (n : ℕ) (u : Use) → 0 < n → fr
 name_of_front rest front n u some at is =
     ap name_in (is ∙ sym (first_of_front rest n some) ∙ ap (λ (us : List Use). slice_get us 0) (sym at))
 
-module _ (rest front back : List Use) (n : ℕ) (some : 0 < length rest) (is : n ≡ uses_of_name rest) (at : front ≡ take n rest) (last : back ≡ drop n rest) where
+module _ (rest front back : List Use) (n : ℕ) (some : 0 < length rest) (is : n ≡ uses_of_name rest)
+    (at : front ≡ take n rest) (last : back ≡ drop n rest) where
   pub names_cut : {A : Type 0} (f : List Use → A) (whole so_far : List A) → so_far ++ map f (by_name rest) ≡ whole →
       (so_far ++ f front ∷ []) ++ map f (by_name back) ≡ whole
   names_cut f whole so_far h =
@@ -78,7 +82,8 @@ alone (u ∷ v ∷ vs) one = absurd (omega (arith, one))
 
 -- where the name of the first use ends
 module _ (us : List Use) (k : ℕ) (h : k + uses_of_name (drop k us) ≡ uses_of_name us) where
-  pub last_of_name : (a b : Use) → k + 1 < length us → a ≡ get_or us k a → b ≡ get_or us (k + 1) b → is_same_name a b ≡ false → k + 1 ≡ uses_of_name us
+  pub last_of_name : (a b : Use) → k + 1 < length us → a ≡ get_or us k a → b ≡ get_or us (k + 1) b →
+      is_same_name a b ≡ false → k + 1 ≡ uses_of_name us
   last_of_name a b inside is_a is_b other =
       let two : drop k us ≡ a ∷ b ∷ drop (k + 1 + 1) us =
       drop_more us k a (omega (arith, inside)) ∙ ap (λ (x : Use). x ∷ drop (k + 1) us) (sym is_a)

@@ -1,5 +1,6 @@
 -- The uses of names in lists of objects.
-use Rattle.std.proofs.Common.{◌≡◌, ℕ, ◌+◌, ◌<◌, List, [], ◌∷◌, ◌++◌, map, length, drop, get_or, sym, ◌∙◌, ap, arith, append_assoc, length-append}
+use Rattle.std.proofs.Common.{◌≡◌, ℕ, ◌+◌, ◌<◌, List, [], ◌∷◌, ◌++◌, map, length, drop, get_or, sym}
+use Rattle.std.proofs.Common.{◌∙◌, ap, arith, append_assoc, length-append}
 use Rattle.std.proofs.lemmas.List.{drop_more, map-append, length-map}
 use Rattle.aout_core.specs.Contents.{Contents}
 use Rattle.link_session.specs.Labelled.{Labelled, objects}
@@ -7,13 +8,15 @@ use Rattle.link_maps.specs.Members.{Member}
 use Rattle.link_maps.specs.Uses.{Use, uses_in, uses_from, forced_use, uses}
 
 -- one more object
-pub uses_more : (es : List Labelled) (i n m : ℕ) (e : Labelled) (old new whole : List Use) → i < length es → e ≡ get_or es i e → m ≡ n + 1 → new ≡ old ++ uses_in n e.object →
+pub uses_more : (es : List Labelled) (i n m : ℕ) (e : Labelled) (old new whole : List Use) → i < length es →
+    e ≡ get_or es i e → m ≡ n + 1 → new ≡ old ++ uses_in n e.object →
     old ++ uses_from n (objects (drop i es)) ≡ whole → new ++ uses_from m (objects (drop (i + 1) es)) ≡ whole
 uses_more es i n m e old new whole inside is next put so_far =
     ap (λ (l : List Use). l ++ uses_from m (objects (drop (i + 1) es))) put
     ∙ ap (λ (k : ℕ). (old ++ uses_in n e.object) ++ uses_from k (objects (drop (i + 1) es))) next
     ∙ append_assoc old (uses_in n e.object) (uses_from (n + 1) (objects (drop (i + 1) es)))
-    ∙ ap (λ (l : List Labelled). old ++ uses_from n (objects l)) (sym (drop_more es i e inside ∙ ap (λ (x : Labelled). x ∷ drop (i + 1) es) (sym is)))
+    ∙ ap (λ (l : List Labelled). old ++ uses_from n (objects l))
+    (sym (drop_more es i e inside ∙ ap (λ (x : Labelled). x ∷ drop (i + 1) es) (sym is)))
     ∙ so_far
 
 pub one_longer : (old new : List Member) (m : Member) → new ≡ old ++ m ∷ [] → length new ≡ length old + 1
@@ -28,7 +31,8 @@ uses_from-append k (o ∷ os) ps =
     ∙ ap (λ (n : ℕ). (uses_in k o ++ uses_from (k + 1) os) ++ uses_from n ps) same
 
 -- the forced names, the objects of a session, and those that are left
-pub uses_joined : (forced : List (List ℕ)) (es ls : List Labelled) (n : ℕ) (first second third : List Use) → n ≡ length es → first ≡ map forced_use forced →
+pub uses_joined : (forced : List (List ℕ)) (es ls : List Labelled) (n : ℕ) (first second third : List Use) →
+    n ≡ length es → first ≡ map forced_use forced →
     second ≡ first ++ uses_from 0 (objects es) → third ≡ second ++ uses_from n (objects ls) → third ≡ uses forced (objects (es ++ ls))
 uses_joined forced es ls n first second third many start kept left =
     let count : n ≡ 0 + length (objects es) = omega (arith, many, length-map es (λ (e : Labelled). e.object)) in

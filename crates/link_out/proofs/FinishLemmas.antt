@@ -40,8 +40,10 @@ use Rattle.link_out.proofs.ObjectLemmas.{linked_object}
 use Rattle.link_out.proofs.OutcomeLemmas.{passed_link, refused_link}
 
 -- the parts of a file are those of the link
-pub linked_parts : (p : Plan) (os : List Contents) (c : Contents) → c.header ≡ linked_header p os → c.text_words ≡ final_words p TextSeg os → c.data_words ≡ final_words p DataSeg os →
-    c.text_reloc ≡ cond p.choices.relocatable (final_relocs p os TextSeg) [] → c.data_reloc ≡ cond p.choices.relocatable (final_relocs p os DataSeg) [] → c.symbols ≡ table p os → c ≡ linked_file p os
+pub linked_parts : (p : Plan) (os : List Contents) (c : Contents) → c.header ≡ linked_header p os →
+    c.text_words ≡ final_words p TextSeg os → c.data_words ≡ final_words p DataSeg os →
+    c.text_reloc ≡ cond p.choices.relocatable (final_relocs p os TextSeg) [] → c.data_reloc ≡ cond p.choices.relocatable
+    (final_relocs p os DataSeg) [] → c.symbols ≡ table p os → c ≡ linked_file p os
 linked_parts p os c header text datas text_reloc data_reloc symbols =
     λ i. let d : Contents = record {
       header = header i;
@@ -74,7 +76,8 @@ module _ (p : code.Plan) where
   pub header_planned : (rows entry : ℕ) → rows ≡ length (table planned os) → entry ≡ entry_word planned o.entry →
       header_of o p.bases rows entry ≡ linked_header planned os
   header_planned rows entry many address =
-      (λ i. header_of o (p.at i) (many i) (address i)) ∙ (λ i. record (linked_header planned os) { data_size = of_data i; bss_size = of_bss i })
+      (λ i. header_of o (p.at i) (many i) (address i))
+      ∙ (λ i. record (linked_header planned os) { data_size = of_data i; bss_size = of_bss i })
     where
       of_data : planned.at.data_end - planned.at.data_start ≡ total DataSeg os
       of_data = omega arith
@@ -83,8 +86,8 @@ module _ (p : code.Plan) where
       of_bss = omega arith
 
   -- what `words_of` computes cell by cell
-  pub words_planned : (segment : Segment) (names : List Final) (cs : List Cell) → names ≡ finals planned → cs ≡ cells planned.mentions segment os →
-      map (word_of_cell p.bases names segment) cs ≡ final_words planned segment os
+  pub words_planned : (segment : Segment) (names : List Final) (cs : List Cell) → names ≡ finals planned →
+      cs ≡ cells planned.mentions segment os → map (word_of_cell p.bases names segment) cs ≡ final_words planned segment os
   words_planned segment names cs named image =
       (λ i. map (word_of_cell (p.at i) (named i) segment) (image i))
       ∙ final_words-cells planned segment os (objects_refer p.session.now.forced segment os well)
@@ -109,14 +112,16 @@ module _ (p : code.Plan) where
       names ≡ finals planned → cs ≡ cells planned.mentions TextSeg os → o.relocatable ≡ true →
       list_any (λ (c : Cell). is_far names locals c.target) cs ≡ false
   near_text names locals cs passed named image kept =
-      far_planned TextSeg names locals cs passed named image ∙ (or_parts (has_far_in planned os TextSeg) (has_far_in planned os DataSeg) (passed.near kept)).0
+      far_planned TextSeg names locals cs passed named image
+      ∙ (or_parts (has_far_in planned os TextSeg) (has_far_in planned os DataSeg) (passed.near kept)).0
 
   -- the same of data
   pub near_data : (names : List Final) (locals : ℕ) (cs : List Cell) → IsPassed planned os locals →
       names ≡ finals planned → cs ≡ cells planned.mentions DataSeg os → o.relocatable ≡ true →
       list_any (λ (c : Cell). is_far names locals c.target) cs ≡ false
   near_data names locals cs passed named image kept =
-      far_planned DataSeg names locals cs passed named image ∙ (or_parts (has_far_in planned os TextSeg) (has_far_in planned os DataSeg) (passed.near kept)).1
+      far_planned DataSeg names locals cs passed named image
+      ∙ (or_parts (has_far_in planned os TextSeg) (has_far_in planned os DataSeg) (passed.near kept)).1
 
 -- if the end of bss fits a word, the other ends do
 pub short_ends : (p : code.Plan) → p.bases.bss_end ≤ 65535 → AreShort p.bases
@@ -131,19 +136,22 @@ module _ (p : code.Plan) (s : Kept) (o : Choices) (session : p.session.now ≡ s
   by_plan = λ i. link (session i).forced (objects (session i).entries) (options i)
 
   -- `finish` returns the fault that refuses the link
-  pub ends_refused : (r : Result Linked LinkFault) (fault : LinkFault) → r ≡ Err fault → link_by (plan_in p) (objects_in p) ≡ Err fault → IsLinkOf r result
+  pub ends_refused : (r : Result Linked LinkFault) (fault : LinkFault) → r ≡ Err fault →
+      link_by (plan_in p) (objects_in p) ≡ Err fault → IsLinkOf r result
   ends_refused r fault is h =
       subst (λ (x : Result Linked LinkFault). IsLinkOf x result) (sym is)
       (subst (λ (x : Result Outcome LinkFault). IsLinkOf (Err fault) x) by_plan (refused_link (plan_in p) (objects_in p) fault h))
 
   -- it returns `Memory` only for a link that there is
-  pub ends_without_memory : (r : Result Linked LinkFault) (locals : ℕ) → r ≡ Err Memory → IsPassed (plan_in p) (objects_in p) locals → IsLinkOf r result
+  pub ends_without_memory : (r : Result Linked LinkFault) (locals : ℕ) → r ≡ Err Memory →
+      IsPassed (plan_in p) (objects_in p) locals → IsLinkOf r result
   ends_without_memory r locals is h =
       subst (λ (x : Result Linked LinkFault). IsLinkOf x result) (sym is)
       (subst (λ (x : Result Outcome LinkFault). IsOk x) (sym (passed_link (plan_in p) (objects_in p) locals h) ∙ by_plan) refl)
 
   -- the file and the report that it returns are those of the link
-  pub ends_linked : (linked : Linked) (locals : ℕ) → IsPassed (plan_in p) (objects_in p) locals → linked.file ≡ linked_file (plan_in p) (objects_in p) →
+  pub ends_linked : (linked : Linked) (locals : ℕ) → IsPassed (plan_in p) (objects_in p) locals →
+      linked.file ≡ linked_file (plan_in p) (objects_in p) →
       report_names linked.report ≡ report_of (plan_in p) → result ≡ Ok (outcome_of linked)
   ends_linked linked locals h file report =
       sym by_plan
@@ -151,7 +159,9 @@ module _ (p : code.Plan) (s : Kept) (o : Choices) (session : p.session.now ≡ s
       ∙ (λ i. let x : Outcome = record { file = sym file i; report = sym report i } in Ok x)
 
   -- with relocation the file is an object
-  pub ends_object : (linked : Linked) → linked.file ≡ linked_file (plan_in p) (objects_in p) → o.relocatable ≡ true → IsWellFormed linked.file
+  pub ends_object : (linked : Linked) → linked.file ≡ linked_file (plan_in p) (objects_in p) → o.relocatable ≡ true →
+      IsWellFormed linked.file
   ends_object linked file kept =
       subst IsWellFormed (sym file)
-      (linked_object p.session.now.forced (objects_in p) p.options.now p.allowed (ap (λ (c : Choices). c.relocatable) options ∙ kept) (well_formed (objects_in p) p.good))
+      (linked_object p.session.now.forced (objects_in p) p.options.now p.allowed
+      (ap (λ (c : Choices). c.relocatable) options ∙ kept) (well_formed (objects_in p) p.good))

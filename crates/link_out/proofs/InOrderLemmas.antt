@@ -1,5 +1,6 @@
 -- Commons, final names and undefined names, name by name.
-use Rattle.std.proofs.Common.{◌≡◌, ℕ, ◌+◌, Bool, true, false, cond, ◌||◌, List, [], ◌∷◌, ◌++◌, map, take, length, refl, sym, ◌∙◌, ap, arith, append_assoc}
+use Rattle.std.proofs.Common.{◌≡◌, ℕ, ◌+◌, Bool, true, false, cond, ◌||◌, List, [], ◌∷◌, ◌++◌, map, take}
+use Rattle.std.proofs.Common.{length, refl, sym, ◌∙◌, ap, arith, append_assoc}
 use Rattle.std.specs.Prelude.{bytes_eq}
 use Rattle.std.proofs.Math.Seq.{take-append_seam}
 use Rattle.std.proofs.lemmas.List.Sums.{sum_by-append}
@@ -24,14 +25,17 @@ named_by ms names = map {B = List ℕ × State} (λ n. (n, state ms n)) names
 -- the room of all names
 room-named : (ms : List Mention) (names : List (List ℕ)) → room_in (named_by ms names) ≡ room_of ms names
 room-named ms [] = refl
-room-named ms (n ∷ ns) = ap (λ (k : ℕ). common_size (state ms n) + k) (room-named ms ns) ∙ sym (sum_by-append (λ m. common_size (state ms m)) (n ∷ []) ns ∙ omega arith)
+room-named ms (n ∷ ns) =
+    ap (λ (k : ℕ). common_size (state ms n) + k) (room-named ms ns)
+    ∙ sym (sum_by-append (λ m. common_size (state ms m)) (n ∷ []) ns ∙ omega arith)
 
 -- the space of all commons, name by name
 pub room-commons : (ms : List Mention) → room_in (named_states ms) ≡ commons_total ms
 room-commons ms = room-named ms (names_by_first_mention ms)
 
 -- a name stands after those that it is not among
-place_after : (before after : List (List ℕ)) (name : List ℕ) → is_among before name ≡ false → place_of name (before ++ name ∷ after) ≡ length before
+place_after : (before after : List (List ℕ)) (name : List ℕ) → is_among before name ≡ false →
+    place_of name (before ++ name ∷ after) ≡ length before
 place_after [] after name h = ap (λ (t : Bool). cond t 0 (place_of name after + 1)) (own_name name)
 place_after (x ∷ xs) after name h = by_test (bytes_eq name x) h (place_after xs after name)
   where
@@ -41,17 +45,20 @@ place_after (x ∷ xs) after name h = by_test (bytes_eq name x) h (place_after x
     by_test false h rest = let shorter = rest h in omega arith
 
 -- the commons before a name are those of the names before it
-offset_after : (ms : List Mention) (before after : List (List ℕ)) (name : List ℕ) → is_among before name ≡ false → before ++ name ∷ after ≡ names_by_first_mention ms → common_offset ms name ≡ room_of ms before
+offset_after : (ms : List Mention) (before after : List (List ℕ)) (name : List ℕ) → is_among before name ≡ false →
+    before ++ name ∷ after ≡ names_by_first_mention ms → common_offset ms name ≡ room_of ms before
 offset_after ms before after name new all =
     ap (λ (names : List (List ℕ)). room_of ms (take (place_of name names) names)) (sym all)
     ∙ ap (λ (k : ℕ). room_of ms (take k (before ++ name ∷ after))) (place_after before after name new)
     ∙ ap (λ (names : List (List ℕ)). room_of ms names) (take-append_seam before (name ∷ after))
 
-room_more : (ms : List Mention) (before : List (List ℕ)) (name : List ℕ) → room_of ms (before ++ name ∷ []) ≡ room_of ms before + common_size (state ms name)
+room_more : (ms : List Mention) (before : List (List ℕ)) (name : List ℕ) →
+    room_of ms (before ++ name ∷ []) ≡ room_of ms before + common_size (state ms name)
 room_more ms before name = sum_by-append (λ n. common_size (state ms n)) before (name ∷ []) ∙ omega arith
 
 -- what is not seen is not before
-not_before : (seen before : List (List ℕ)) (name : List ℕ) → (is_among before name ≡ true → is_among seen name ≡ true) → is_among seen name ≡ false → is_among before name ≡ false
+not_before : (seen before : List (List ℕ)) (name : List ℕ) → (is_among before name ≡ true → is_among seen name ≡ true) →
+    is_among seen name ≡ false → is_among before name ≡ false
 not_before seen before name h e = by_test (is_among before name) h
   where
     by_test : (t : Bool) → (t ≡ true → is_among seen name ≡ true) → t ≡ false
@@ -67,28 +74,38 @@ or_still : (a s x : Bool) → (a ≡ true → s ≡ true) → a ≡ true → (s 
 or_still a s x h e = let yes = h e in rw yes refl
 
 -- what becomes of the new names among these, where those before have so much room
-finals_new : (p : Plan) (seen before names : List (List ℕ)) → ((n : List ℕ) → is_among before n ≡ true → is_among seen n ≡ true) → before ++ new_names seen names ≡ names_by_first_mention p.mentions →
-    finals_from p.choices p.at (room_of p.mentions before) (named_by p.mentions (new_names seen names)) ≡ map (final p) (new_names seen names)
+finals_new : (p : Plan) (seen before names : List (List ℕ)) →
+    ((n : List ℕ) → is_among before n ≡ true → is_among seen n ≡ true) →
+    before ++ new_names seen names ≡ names_by_first_mention p.mentions →
+    finals_from p.choices p.at (room_of p.mentions before) (named_by p.mentions (new_names seen names))
+    ≡ map (final p) (new_names seen names)
 finals_new p seen before [] within all = refl
 finals_new p seen before (x ∷ xs) within all =
     by_test (is_among seen x) refl all
-    (finals_new p (seen ++ x ∷ []) before xs (λ n h. is_among-append seen (x ∷ []) n ∙ or_still (is_among before n) (is_among seen n) (is_among (x ∷ []) n) (within n) h))
-    (finals_new p (seen ++ x ∷ []) (before ++ x ∷ []) xs (λ n h. is_among-append seen (x ∷ []) n ∙ or_more (is_among before n) (is_among seen n) (is_among (x ∷ []) n) (within n) (sym (is_among-append before (x ∷ []) n) ∙ h)))
+    (finals_new p (seen ++ x ∷ []) before xs (λ n h. is_among-append seen (x ∷ []) n
+    ∙ or_still (is_among before n) (is_among seen n) (is_among (x ∷ []) n) (within n) h))
+    (finals_new p (seen ++ x ∷ []) (before ++ x ∷ []) xs (λ n h. is_among-append seen (x ∷ []) n ∙ or_more (is_among before n)
+    (is_among seen n) (is_among (x ∷ []) n) (within n) (sym (is_among-append before (x ∷ []) n) ∙ h)))
   where
     rest : List (List ℕ)
     rest = new_names (seen ++ x ∷ []) xs
 
     by_test : (t : Bool) → is_among seen x ≡ t → before ++ cond t rest (x ∷ rest) ≡ names_by_first_mention p.mentions →
-        (before ++ rest ≡ names_by_first_mention p.mentions → finals_from p.choices p.at (room_of p.mentions before) (named_by p.mentions rest) ≡ map (final p) rest) →
-        ((before ++ x ∷ []) ++ rest ≡ names_by_first_mention p.mentions → finals_from p.choices p.at (room_of p.mentions (before ++ x ∷ [])) (named_by p.mentions rest) ≡ map (final p) rest) →
-        finals_from p.choices p.at (room_of p.mentions before) (named_by p.mentions (cond t rest (x ∷ rest))) ≡ map (final p) (cond t rest (x ∷ rest))
+        (before ++ rest ≡ names_by_first_mention p.mentions →
+        finals_from p.choices p.at (room_of p.mentions before) (named_by p.mentions rest) ≡ map (final p) rest) →
+        ((before ++ x ∷ []) ++ rest ≡ names_by_first_mention p.mentions →
+        finals_from p.choices p.at (room_of p.mentions (before ++ x ∷ [])) (named_by p.mentions rest) ≡ map (final p) rest) →
+        finals_from p.choices p.at (room_of p.mentions before) (named_by p.mentions (cond t rest (x ∷ rest)))
+        ≡ map (final p) (cond t rest (x ∷ rest))
     by_test true e all same more = same all
     by_test false e all same more =
         let offset = offset_after p.mentions before rest x (not_before seen before x (within x) e) all in
         let head : final_at p.choices p.at (room_of p.mentions before) x (state p.mentions x) ≡ final p x =
         ap (λ (k : ℕ). final_at p.choices p.at k x (state p.mentions x)) (sym offset) in
-        let tail : finals_from p.choices p.at (room_of p.mentions before + common_size (state p.mentions x)) (named_by p.mentions rest) ≡ map (final p) rest =
-        ap (λ (k : ℕ). finals_from p.choices p.at k (named_by p.mentions rest)) (sym (room_more p.mentions before x)) ∙ more (append_assoc before (x ∷ []) rest ∙ all) in
+        let tail : finals_from p.choices p.at (room_of p.mentions before + common_size (state p.mentions x))
+        (named_by p.mentions rest) ≡ map (final p) rest =
+        ap (λ (k : ℕ). finals_from p.choices p.at k (named_by p.mentions rest)) (sym (room_more p.mentions before x))
+        ∙ more (append_assoc before (x ∷ []) rest ∙ all) in
         λ i. head i ∷ tail i
 
 -- what becomes of all names

@@ -21,10 +21,15 @@ pub record IsMade (p : Plan) (os : List Contents) (x : Outcome) : Type 0 where
 
 -- what a link that is made has passed, and what it gives
 pub made : (p : Plan) (os : List Contents) (x : Outcome) → link_by p os ≡ Ok x → IsMade p os x
-made p os x h = by_tests (nat_lt 65535 p.at.bss_end) refl (nat_lt 5461 (length (table p os))) refl (p.choices.relocatable && has_far_word p os) refl h
+made p os x h =
+    by_tests (nat_lt 65535 p.at.bss_end) refl (nat_lt 5461 (length (table p os))) refl
+    (p.choices.relocatable && has_far_word p os) refl h
   where
-    by_tests : (t : Bool) → nat_lt 65535 p.at.bss_end ≡ t → (u : Bool) → nat_lt 5461 (length (table p os)) ≡ u → (v : Bool) → p.choices.relocatable && has_far_word p os ≡ v →
-        (let r : Result Outcome LinkFault = cond t (Err DoesNotFit) (cond u (Err TooManySymbols) (cond v (Err SymbolNumber) (Ok (record { file = linked_file p os; report = report_of p })))) in r) ≡ Ok x → IsMade p os x
+    by_tests : (t : Bool) → nat_lt 65535 p.at.bss_end ≡ t → (u : Bool) → nat_lt 5461 (length (table p os)) ≡ u →
+        (v : Bool) → p.choices.relocatable && has_far_word p os ≡ v →
+        (let r : Result Outcome LinkFault = cond t (Err DoesNotFit) (cond u (Err TooManySymbols)
+        (cond v (Err SymbolNumber) (Ok (record { file = linked_file p os; report = report_of p })))) in r) ≡ Ok x →
+        IsMade p os x
     by_tests true te u ue v ve h = absurd (cc)
     by_tests false te true ue v ve h = absurd (cc)
     by_tests false te false ue true ve h = absurd (cc)
@@ -33,7 +38,9 @@ made p os x h = by_tests (nat_lt 65535 p.at.bss_end) refl (nat_lt 5461 (length (
 -- the other way round
 pub is_made : (p : Plan) (os : List Contents) (x : Outcome) → IsMade p os x → link_by p os ≡ Ok x
 is_made p os x m =
-    λ i. let r : Result Outcome LinkFault = cond (m.short i) (Err DoesNotFit) (cond (m.few i) (Err TooManySymbols) (cond (m.near i) (Err SymbolNumber) (Ok (m.outcome i)))) in r
+    λ i. let r : Result Outcome LinkFault =
+    cond (m.short i) (Err DoesNotFit)
+    (cond (m.few i) (Err TooManySymbols) (cond (m.near i) (Err SymbolNumber) (Ok (m.outcome i)))) in r
 
 -- its file
 pub made_file : (p : Plan) (os : List Contents) (x : Outcome) → link_by p os ≡ Ok x → linked_file p os ≡ x.file
@@ -78,7 +85,8 @@ never_memory p os =
     (nat_lt 65535 p.at.bss_end) (nat_lt 5461 (length (table p os))) (p.choices.relocatable && has_far_word p os)
   where
     by_tests : (x : Outcome) (t u v : Bool) →
-        (let r : Result Outcome LinkFault = cond t (Err DoesNotFit) (cond u (Err TooManySymbols) (cond v (Err SymbolNumber) (Ok x))) in r) ≡ Err Memory → ⊥
+        (let r : Result Outcome LinkFault = cond t (Err DoesNotFit) (cond u (Err TooManySymbols) (cond v (Err SymbolNumber) (Ok x))) in r)
+        ≡ Err Memory → ⊥
     by_tests x true u v h = cc
     by_tests x false true v h = cc
     by_tests x false false true h = cc

@@ -1,5 +1,6 @@
 -- What is out of reach by the states of the names is so by what becomes of them.
-use Rattle.std.proofs.Common.{◌≡◌, ℕ, ◌+◌, Bool, true, false, cond, not, ◌&&◌, ◌||◌, eqb, List, length, Option, Some, None, refl, sym, ◌∙◌, ap}
+use Rattle.std.proofs.Common.{◌≡◌, ℕ, ◌+◌, Bool, true, false, cond, not, ◌&&◌, ◌||◌, eqb, List}
+use Rattle.std.proofs.Common.{length, Option, Some, None, refl, sym, ◌∙◌, ap}
 use Rattle.std.specs.Prelude.{slice_get, option_map, if◌then◌else◌}
 use Rattle.std.specs.List.{list_any, AllByRecursion}
 use Rattle.std.proofs.lemmas.Option.{slice_get-map}
@@ -37,7 +38,8 @@ module _ (p : Plan) (kept : p.choices.relocatable ≡ true) where
     where
       by_tests : (t r l : Bool) → r ≡ true →
           cond (not t && l) (Some BssSeg) None
-          ≡ (if t then (if r then waiting 0 else reserved_or_waiting p.at name) else (if l then bound_at BssSeg (plus p.at.data_end (common_offset p.mentions name)) else waiting size)).bound
+          ≡ (if t then (if r then waiting 0 else reserved_or_waiting p.at name)
+          else (if l then bound_at BssSeg (plus p.at.data_end (common_offset p.mentions name)) else waiting size)).bound
       by_tests true true l e = refl
       by_tests false r true e = refl
       by_tests false r false e = refl
@@ -46,7 +48,8 @@ module _ (p : Plan) (kept : p.choices.relocatable ≡ true) where
   abbrev named : List ℕ → List ℕ × State
   named n = (n, state p.mentions n)
 
-  bound_at_place : (i : ℕ) → kept_bound_of (lays_commons p.choices) (slice_get (named_states p.mentions) i) ≡ bound_of (slice_get (finals p) i)
+  bound_at_place : (i : ℕ) →
+      kept_bound_of (lays_commons p.choices) (slice_get (named_states p.mentions) i) ≡ bound_of (slice_get (finals p) i)
   bound_at_place i =
       ap (kept_bound_of (lays_commons p.choices)) (slice_get-map named (names_by_first_mention p.mentions) i)
       ∙ by_name (slice_get (names_by_first_mention p.mentions) i)
@@ -63,21 +66,29 @@ module _ (p : Plan) (kept : p.choices.relocatable ≡ true) where
   out_far locals targets.BssSeg = refl
   out_far locals (targets.External i) = ap (λ (b : Option Segment). waits_far b (locals + i)) (bound_at_place i)
 
-  out_far_in : (os : List Contents) (segment : Segment) (locals : ℕ) → locals ≡ length (local_rows p os) → AllByRecursion (λ o. AllReferAmong (names_of p.mentions) o (words_of segment o)) os →
-      list_any (λ (c : Cell). is_out (named_states p.mentions) (lays_commons p.choices) locals c.target) (cells p.mentions segment os) ≡ has_far_in p os segment
+  out_far_in : (os : List Contents) (segment : Segment) (locals : ℕ) → locals ≡ length (local_rows p os) →
+      AllByRecursion (λ o. AllReferAmong (names_of p.mentions) o (words_of segment o)) os →
+      list_any (λ (c : Cell). is_out (named_states p.mentions) (lays_commons p.choices) locals c.target)
+      (cells p.mentions segment os) ≡ has_far_in p os segment
   out_far_in os segment locals many refer =
-      (λ i. list_any (λ (c : Cell). is_out (named_states p.mentions) (lays_commons p.choices) (many i) c.target) (cells p.mentions segment os))
+      (λ i. list_any (λ (c : Cell). is_out (named_states p.mentions) (lays_commons p.choices) (many i) c.target)
+      (cells p.mentions segment os))
       ∙ (λ i. list_any (λ (c : Cell). out_far (length (local_rows p os)) c.target i) (cells p.mentions segment os))
       ∙ has_far_in-cells p segment os refer
 
 -- the words of a session's objects, from its cells of text and of data
-pub far_word : (forced : List (List ℕ)) (os : List Contents) (o : Choices) (locals : ℕ) (text datas : List Cell) (commons in_text in_data : Bool) → o.relocatable ≡ true →
-    locals ≡ length (local_rows (plan forced os o) os) → AllByRecursion IsObject os → commons ≡ lays_commons o → text ≡ (image forced os).text_cells → datas ≡ (image forced os).data_cells →
+pub far_word : (forced : List (List ℕ)) (os : List Contents) (o : Choices) (locals : ℕ) (text datas : List Cell)
+    (commons in_text in_data : Bool) → o.relocatable ≡ true →
+    locals ≡ length (local_rows (plan forced os o) os) → AllByRecursion IsObject os → commons ≡ lays_commons o →
+    text ≡ (image forced os).text_cells → datas ≡ (image forced os).data_cells →
     in_text ≡ list_any (λ (c : Cell). is_out (image forced os).externals commons locals c.target) text →
-    in_data ≡ list_any (λ (c : Cell). is_out (image forced os).externals commons locals c.target) datas → (in_text || in_data) ≡ has_far_word (plan forced os o) os
+    in_data ≡ list_any (λ (c : Cell). is_out (image forced os).externals commons locals c.target) datas →
+    (in_text || in_data) ≡ has_far_word (plan forced os o) os
 far_word forced os o locals text datas commons in_text in_data kept many good laid t d far_text far_data =
     let p = plan forced os o in
     let well : AllByRecursion IsWellFormed os = well_formed os good in
     (λ i. far_text i || far_data i)
-    ∙ (λ i. list_any (λ (c : Cell). is_out (image forced os).externals (laid i) locals c.target) (t i) || list_any (λ (c : Cell). is_out (image forced os).externals (laid i) locals c.target) (d i))
-    ∙ (λ i. out_far_in p kept os TextSeg locals many (objects_refer forced TextSeg os well) i || out_far_in p kept os DataSeg locals many (objects_refer forced DataSeg os well) i)
+    ∙ (λ i. list_any (λ (c : Cell). is_out (image forced os).externals (laid i) locals c.target) (t i)
+    || list_any (λ (c : Cell). is_out (image forced os).externals (laid i) locals c.target) (d i))
+    ∙ (λ i. out_far_in p kept os TextSeg locals many (objects_refer forced TextSeg os well) i
+    || out_far_in p kept os DataSeg locals many (objects_refer forced DataSeg os well) i)

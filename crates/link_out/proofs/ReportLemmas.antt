@@ -1,5 +1,6 @@
 -- A report has a text exactly where it has something to tell.
-use Rattle.std.proofs.Common.{◌≡◌, ℕ, ◌<◌, Bool, true, false, cond, eqb, eqb-true, append-nil, List, [], ◌∷◌, ◌++◌, Option, Some, None, length, refl, sym, ◌∙◌, ap, append_assoc, arith, length-append}
+use Rattle.std.proofs.Common.{◌≡◌, ℕ, ◌<◌, Bool, true, false, cond, eqb, eqb-true, append-nil, List, [], ◌∷◌, ◌++◌}
+use Rattle.std.proofs.Common.{Option, Some, None, length, refl, sym, ◌∙◌, ap, append_assoc, arith, length-append}
 use Rattle.std.specs.Prelude.{codes, ◌==◌, ◌&&◌, is_none}
 use Rattle.std.specs.List.{flat_map}
 use Rattle.std.proofs.lemmas.List.Concat.{flat_map-append}
@@ -19,7 +20,12 @@ counted n h = by_test (eqb n 0) refl
 -- a line, and what stands after it
 line_counts : (name text lines more : List ℕ) → 0 < length (name ++ text ++ 10 ∷ [] ++ lines ++ more)
 line_counts name text lines more =
-    omega (arith, length-append (name ++ text ++ 10 ∷ [] ++ lines) more, length-append (name ++ text ++ 10 ∷ []) lines, length-append (name ++ text) (10 ∷ []))
+    omega (
+      arith,
+      length-append (name ++ text ++ 10 ∷ [] ++ lines) more,
+      length-append (name ++ text ++ 10 ∷ []) lines,
+      length-append (name ++ text) (10 ∷ []),
+    )
 
 -- the status by the parts of the report
 pub status_by_silence : (f : ReportNames) → status_of f ≡ status (is_silent f)
@@ -31,28 +37,33 @@ status_by_silence f = by_parts f.multiples f.reserved f.entry_bad f.undefined
     rest : Option (List ℕ) → List (List ℕ) → List ℕ
     rest e u = entry_lines e ++ undefined_lines u
 
-    by_parts : (m r : List (List ℕ)) (e : Option (List ℕ)) (u : List (List ℕ)) → status_of (found m r e u) ≡ status (is_silent (found m r e u))
+    by_parts : (m r : List (List ℕ)) (e : Option (List ℕ)) (u : List (List ℕ)) →
+        status_of (found m r e u) ≡ status (is_silent (found m r e u))
     by_parts [] [] None [] = refl
     by_parts [] [] None (n ∷ ns) =
         let said = counted (length (report_text (found [] [] None (n ∷ ns)))) (omega arith) in
         let known = counted (length (n ∷ ns)) (omega arith) in
         ap status said ∙ sym (ap status known)
     by_parts [] [] (Some name) u =
-        let h : 0 < length (name ++ codes ": Entry point not in text" ++ 10 ∷ [] ++ [] ++ undefined_lines u) = line_counts name (codes ": Entry point not in text") [] (undefined_lines u) in
+        let h : 0 < length (name ++ codes ": Entry point not in text" ++ 10 ∷ [] ++ [] ++ undefined_lines u) =
+        line_counts name (codes ": Entry point not in text") [] (undefined_lines u) in
         ap status (counted (length (report_text (found [] [] (Some name) u))) (rw append-nil at h))
     by_parts [] (n ∷ ns) e u =
-        let said = counted (length (report_text (found [] (n ∷ ns) e u))) (line_counts n (codes ": Multiply defined") (multiple_lines ns) (rest e u)) in
+        let said = counted (length (report_text (found [] (n ∷ ns) e u)))
+        (line_counts n (codes ": Multiply defined") (multiple_lines ns) (rest e u)) in
         let known = counted (length (n ∷ ns)) (omega arith) in
         ap status said ∙ sym (ap (λ (b : Bool). status (b && (is_none e && eqb (length u) 0))) known)
     by_parts (n ∷ ns) r e u =
-        let said = counted (length (report_text (found (n ∷ ns) r e u))) (line_counts n (codes ": Multiply defined") (multiple_lines (ns ++ r)) (rest e u)) in
+        let said = counted (length (report_text (found (n ∷ ns) r e u)))
+        (line_counts n (codes ": Multiply defined") (multiple_lines (ns ++ r)) (rest e u)) in
         let known = counted (length (n ∷ ns)) (omega arith) in
         ap status said ∙ sym (ap (λ (b : Bool). status (b && (eqb (length r) 0 && (is_none e && eqb (length u) 0)))) known)
 
 -- a line is a name and the text after it
 multiple_line : (names : List (List ℕ)) → flat_map (λ n. n ++ codes ": Multiply defined\n") names ≡ multiple_lines names
 multiple_line [] = refl
-multiple_line (n ∷ ns) = rw (multiple_line ns) (ap (λ l. l ++ multiple_lines ns) (sym (append_assoc n (codes ": Multiply defined") (10 ∷ []))))
+multiple_line (n ∷ ns) =
+    rw (multiple_line ns) (ap (λ l. l ++ multiple_lines ns) (sym (append_assoc n (codes ": Multiply defined") (10 ∷ []))))
 
 -- the lines of the two lists of names, as they are written one after the other
 pub both_multiple : (m r : List (List ℕ)) →
@@ -65,6 +76,7 @@ pub entry_line : (name : List ℕ) → name ++ codes ": Entry point not in text\
 entry_line name = sym (append_assoc name (codes ": Entry point not in text") (10 ∷ []))
 
 -- the lines of undefined names, if there are any
-pub undefined_line : (names : List (List ℕ)) → (length names == 0) ≡ false → codes "Undefined:\n" ++ flat_map (λ n. n ++ codes "\n") names ≡ undefined_lines names
+pub undefined_line : (names : List (List ℕ)) → (length names == 0) ≡ false →
+    codes "Undefined:\n" ++ flat_map (λ n. n ++ codes "\n") names ≡ undefined_lines names
 undefined_line [] h = absurd (cc)
 undefined_line (n ∷ ns) h = refl

@@ -1,5 +1,6 @@
 -- The names of a report, and the address of the entry point.
-use Rattle.std.proofs.Common.{◌≡◌, ℕ, ◌+◌, ◌<◌, ◌≤◌, ◌⊎◌, inl, inr, Bool, true, false, cond, ◌&&◌, ◌||◌, eqb, List, [], ◌∷◌, map, length, position, Some, None, refl, sym, ◌∙◌, ap, arith, nat_lt}
+use Rattle.std.proofs.Common.{◌≡◌, ℕ, ◌+◌, ◌<◌, ◌≤◌, ◌⊎◌, inl, inr, Bool, true, false, cond, ◌&&◌, ◌||◌, eqb, List, []}
+use Rattle.std.proofs.Common.{◌∷◌, map, length, position, Some, None, refl, sym, ◌∙◌, ap, arith, nat_lt}
 use Rattle.std.specs.Prelude.{bytes_eq, filter}
 use Rattle.std.proofs.lemmas.List.Recursion.{is_position_or_len}
 use Rattle.std.proofs.lemmas.Bool.{le-ltb, lt-ltb, cases_lt}
@@ -22,17 +23,22 @@ use Rattle.link_out.specs.internal.InOrder.{missing_among}
 use Rattle.link_out.proofs.InOrderLemmas.{named_by}
 
 -- the state of a name that is found, and of one that is not
-pub found_known : (ms : List Mention) (name : List ℕ) (i : ℕ) → Some i ≡ position (bytes_eq name) (names_by_first_mention ms) → state_at (named_states ms) i ≡ state ms name
+pub found_known : (ms : List Mention) (name : List ℕ) (i : ℕ) →
+    Some i ≡ position (bytes_eq name) (names_by_first_mention ms) → state_at (named_states ms) i ≡ state ms name
 found_known ms name i h =
     ap (state_at (named_states ms)) (found_place (named_states ms) name i (h ∙ ap (position (bytes_eq name)) (sym (keys-named_states ms))))
     ∙ state_for-named_states ms name
 
 -- a name that no mention has is wanted at size 0
-pub missing_known : (ms : List Mention) (name : List ℕ) → None ≡ position (bytes_eq name) (names_by_first_mention ms) → Wanted 0 ≡ state ms name
-missing_known ms name h = missing_state (named_states ms) name (h ∙ ap (position (bytes_eq name)) (sym (keys-named_states ms))) ∙ state_for-named_states ms name
+pub missing_known : (ms : List Mention) (name : List ℕ) → None ≡ position (bytes_eq name) (names_by_first_mention ms) →
+    Wanted 0 ≡ state ms name
+missing_known ms name h =
+    missing_state (named_states ms) name (h ∙ ap (position (bytes_eq name)) (sym (keys-named_states ms)))
+    ∙ state_for-named_states ms name
 
 -- the names that are reported, from the names with their states
-missing-named : (ms : List Mention) (names : List (List ℕ)) → missing_among (named_by ms names) ≡ filter (λ n. is_missing n (state ms n)) names
+missing-named : (ms : List Mention) (names : List (List ℕ)) →
+    missing_among (named_by ms names) ≡ filter (λ n. is_missing n (state ms n)) names
 missing-named ms [] = refl
 missing-named ms (n ∷ ns) = by_test (is_missing n (state ms n)) (missing-named ms ns)
   where
@@ -42,7 +48,8 @@ missing-named ms (n ∷ ns) = by_test (is_missing n (state ms n)) (missing-named
     missed : List (List ℕ)
     missed = filter (λ (m : List ℕ). is_missing m (state ms m)) ns
 
-    by_test : (t : Bool) → map (λ (e : List ℕ × State). e.0) known ≡ missed → map (λ (e : List ℕ × State). e.0) (cond t ((n, state ms n) ∷ known) known) ≡ cond t (n ∷ missed) missed
+    by_test : (t : Bool) → map (λ (e : List ℕ × State). e.0) known ≡ missed →
+        map (λ (e : List ℕ × State). e.0) (cond t ((n, state ms n) ∷ known) known) ≡ cond t (n ∷ missed) missed
     by_test true h = ap (λ (l : List (List ℕ)). n ∷ l) h
     by_test false h = h
 
@@ -61,43 +68,53 @@ among-place : (name : List ℕ) (names : List (List ℕ)) → is_among names nam
 among-place name [] = refl
 among-place name (n ∷ ns) = by_test (bytes_eq name n) (among-place name ns)
   where
-    by_test : (t : Bool) → is_among ns name ≡ nat_lt (place_of name ns) (length ns) → (t || is_among ns name) ≡ nat_lt (cond t 0 (place_of name ns + 1)) (length (n ∷ ns))
+    by_test : (t : Bool) → is_among ns name ≡ nat_lt (place_of name ns) (length ns) →
+        (t || is_among ns name) ≡ nat_lt (cond t 0 (place_of name ns + 1)) (length (n ∷ ns))
     by_test true h = sym (lt-ltb 0 (length (n ∷ ns)) (omega arith))
     by_test false h =
         let longer : length ns + 1 ≡ length (n ∷ ns) = omega arith in
         h ∙ sym (one_more (place_of name ns) (length ns)) ∙ ap (λ k. nat_lt (place_of name ns + 1) k) longer
 
 -- the position of a name in a list, by whether it is among them
-pub position-place : (name : List ℕ) (names : List (List ℕ)) → position (bytes_eq name) names ≡ cond (is_among names name) (Some (place_of name names)) None
+pub position-place : (name : List ℕ) (names : List (List ℕ)) →
+    position (bytes_eq name) names ≡ cond (is_among names name) (Some (place_of name names)) None
 position-place name names =
-    ap (λ (k : ℕ). cond (nat_lt k (length names)) (Some k) None) (sym (is_position_or_len (place_of name) (bytes_eq name) refl (λ n ns. ap (λ (k : ℕ). cond (bytes_eq name n) 0 k) (omega arith)) names))
+    ap (λ (k : ℕ). cond (nat_lt k (length names)) (Some k) None) (sym (is_position_or_len (place_of name)
+    (bytes_eq name) refl (λ n ns. ap (λ (k : ℕ). cond (bytes_eq name n) 0 k) (omega arith)) names))
     ∙ ap (λ (t : Bool). cond t (Some (place_of name names)) None) (sym (among-place name names))
 
 -- the address of a name in text, from the final names
-address-found : (p : Plan) (fs : List Final) (name : List ℕ) → fs ≡ finals p → text_address_at fs (position (bytes_eq name) (names_by_first_mention p.mentions)) ≡ cond (is_in_text p name) (Some (final p name).address) None
+address-found : (p : Plan) (fs : List Final) (name : List ℕ) → fs ≡ finals p → text_address_at fs
+    (position (bytes_eq name) (names_by_first_mention p.mentions)) ≡ cond (is_in_text p name) (Some (final p name).address) None
 address-found p fs name same =
     ap (λ (gs : List Final). text_address_at gs (position (bytes_eq name) (names_by_first_mention p.mentions))) same
-    ∙ ap (text_address_at (finals p)) (position-place name (names_by_first_mention p.mentions)) ∙ by_test (is_among (names_by_first_mention p.mentions) name) refl
+    ∙ ap (text_address_at (finals p)) (position-place name (names_by_first_mention p.mentions))
+    ∙ by_test (is_among (names_by_first_mention p.mentions) name) refl
   where
     by_test : (t : Bool) → is_among (names_by_first_mention p.mentions) name ≡ t →
-        text_address_at (finals p) (cond t (Some (place_of name (names_by_first_mention p.mentions))) None) ≡ cond (t && eqb (type_of (final p name).bound) 34) (Some (final p name).address) None
+        text_address_at (finals p) (cond t (Some (place_of name (names_by_first_mention p.mentions))) None)
+        ≡ cond (t && eqb (type_of (final p name).bound) 34) (Some (final p name).address) None
     by_test true h = ap text_address (mapped_at_place (final p) (names_by_first_mention p.mentions) name h)
     by_test false h = refl
 
 -- what is told of an entry point that has an address, and of one that has none
-pub entry_at : (p : Plan) (fs : List Final) (name : List ℕ) (address : ℕ) → fs ≡ finals p → Some address ≡ text_address_at fs (position (bytes_eq name) (names_by_first_mention p.mentions)) →
+pub entry_at : (p : Plan) (fs : List Final) (name : List ℕ) (address : ℕ) → fs ≡ finals p →
+    Some address ≡ text_address_at fs (position (bytes_eq name) (names_by_first_mention p.mentions)) →
     (address ≡ entry_word p (Some name)) × (None ≡ entry_found_bad p (Some name))
 entry_at p fs name address same h = by_test (is_in_text p name) (h ∙ address-found p fs name same)
   where
-    by_test : (t : Bool) → Some address ≡ cond t (Some (final p name).address) None → (address ≡ cond t (final p name).address 0) × (None ≡ cond t None (Some name))
+    by_test : (t : Bool) → Some address ≡ cond t (Some (final p name).address) None →
+        (address ≡ cond t (final p name).address 0) × (None ≡ cond t None (Some name))
     by_test true e = (cc, refl)
     by_test false e = absurd (cc)
 
 -- an entry name that is not in text: the entry word is 0, and the name is reported
-pub entry_nowhere : (p : Plan) (fs : List Final) (name : List ℕ) → fs ≡ finals p → None ≡ text_address_at fs (position (bytes_eq name) (names_by_first_mention p.mentions)) →
+pub entry_nowhere : (p : Plan) (fs : List Final) (name : List ℕ) → fs ≡ finals p →
+    None ≡ text_address_at fs (position (bytes_eq name) (names_by_first_mention p.mentions)) →
     (0 ≡ entry_word p (Some name)) × (Some name ≡ entry_found_bad p (Some name))
 entry_nowhere p fs name same h = by_test (is_in_text p name) (h ∙ address-found p fs name same)
   where
-    by_test : (t : Bool) → None ≡ cond t (Some (final p name).address) None → (0 ≡ cond t (final p name).address 0) × (Some name ≡ cond t None (Some name))
+    by_test : (t : Bool) → None ≡ cond t (Some (final p name).address) None →
+        (0 ≡ cond t (final p name).address 0) × (Some name ≡ cond t None (Some name))
     by_test true e = absurd (cc)
     by_test false e = (refl, refl)

@@ -1,5 +1,6 @@
 -- The rows of the table, object by object and name by name, are those of the whole list.
-use Rattle.std.proofs.Common.{◌≡◌, ℕ, ◌+◌, ◌%◌, ◌⊎◌, inl, inr, Bool, true, false, List, [], ◌∷◌, ◌++◌, map, length, drop, refl, sym, subst, ◌∙◌, ap, arith, length-append, append-nil, drop_of_length-le, ◌≤◌}
+use Rattle.std.proofs.Common.{◌≡◌, ℕ, ◌+◌, ◌%◌, ◌⊎◌, inl, inr, Bool, true, false, List, [], ◌∷◌, ◌++◌, map, length}
+use Rattle.std.proofs.Common.{drop, refl, sym, subst, ◌∙◌, ap, arith, length-append, append-nil, drop_of_length-le, ◌≤◌}
 use Rattle.std.specs.Prelude.{filter, cond, nat_lt, Option, IsNone, IsTrue, IfSome, ◌↔◌}
 use Rattle.std.specs.List.{flat_map}
 use Rattle.std.proofs.lemmas.List.{length-map}
@@ -23,7 +24,8 @@ use Rattle.link_out.specs.Layouts.{Bases}
 use Rattle.link_out.specs.function.Finals.{Final, final}
 use Rattle.link_out.specs.internal.FromCells.{finals}
 use Rattle.link_out.specs.function.Plans.{Plan}
-use Rattle.link_out.specs.function.Tables.{is_kept_local, moved_value, moved_local, local_rows, external_row, external_rows, rows_kept, table}
+use Rattle.link_out.specs.function.Tables.{is_kept_local, moved_value, moved_local, local_rows, external_row}
+use Rattle.link_out.specs.function.Tables.{external_rows, rows_kept, table}
 use Rattle.link_out.specs.internal.Rows.{moves_by, value_moved, symbol_moved, rows_in, rows_from, rows_with, kept_count}
 use Rattle.link_session.proofs.StartLemmas.{next_starts-after}
 
@@ -38,7 +40,8 @@ module _ (b : Bases) (earlier : List Contents) (o : Contents) where
   value_moved-local : (segment : Segment) (v : ℕ) → value_moved moves segment v ≡ moved_value b earlier o segment v
   value_moved-local segments.TextSeg v = moved_from v 0 (total segments.TextSeg earlier) 0
   value_moved-local segments.DataSeg v = moved_from v b.data_start (total segments.DataSeg earlier) o.header.text_size
-  value_moved-local segments.BssSeg v = moved_from v b.bss_start (total segments.BssSeg earlier) (plus o.header.text_size o.header.data_size)
+  value_moved-local segments.BssSeg v =
+      moved_from v b.bss_start (total segments.BssSeg earlier) (plus o.header.text_size o.header.data_size)
   value_moved-local segments.Undefined v = refl
   value_moved-local segments.Absolute v = refl
   value_moved-local segments.Other v = refl
@@ -55,17 +58,25 @@ rows_from-local_rows p os = from [] os
         ≡ flat_map (λ q. map (moved_local p.at q.0 q.1) (filter (is_kept_local p.choices.keep) q.1.symbols)) (with_earlier earlier os)
     from earlier [] = refl
     from earlier (o ∷ os) =
-        (λ i. symbols_moved p.at earlier o (filter (is_kept_local p.choices.keep) o.symbols) i ++ rows_from p.at p.choices.keep (next_starts-after earlier o i) os)
-        ∙ ap (λ (l : List Symbol). map (moved_local p.at earlier o) (filter (is_kept_local p.choices.keep) o.symbols) ++ l) (from (earlier ++ o ∷ []) os)
+        (λ i. symbols_moved p.at earlier o (filter (is_kept_local p.choices.keep) o.symbols) i
+        ++ rows_from p.at p.choices.keep (next_starts-after earlier o i) os)
+        ∙ ap (λ (l : List Symbol). map (moved_local p.at earlier o) (filter (is_kept_local p.choices.keep) o.symbols) ++ l)
+        (from (earlier ++ o ∷ []) os)
 
 length-rows_from : (b : Bases) (keep : Keep) (s : Starts) (os : List Contents) → length (rows_from b keep s os) ≡ kept_count keep os
 length-rows_from b keep s [] = refl
 length-rows_from b keep s (o ∷ os) =
     let m = moves_by b (shifts_at s o.header) in
-    omega (arith, length-append (rows_in keep m o.symbols) (rows_from b keep (next_starts s o.header) os), length-map (filter (is_kept_local keep) o.symbols) (symbol_moved m), length-rows_from b keep (next_starts s o.header) os)
+    omega (
+      arith,
+      length-append (rows_in keep m o.symbols) (rows_from b keep (next_starts s o.header) os),
+      length-map (filter (is_kept_local keep) o.symbols) (symbol_moved m),
+      length-rows_from b keep (next_starts s o.header) os,
+    )
 
 length-local_rows : (p : Plan) (os : List Contents) → length (local_rows p os) ≡ kept_count p.choices.keep os
-length-local_rows p os = ap (λ (l : List Symbol). length l) (sym (rows_from-local_rows p os)) ∙ length-rows_from p.at p.choices.keep no_starts os
+length-local_rows p os =
+    ap (λ (l : List Symbol). length l) (sym (rows_from-local_rows p os)) ∙ length-rows_from p.at p.choices.keep no_starts os
 
 -- nothing is kept
 nothing_kept : (symbols : List Symbol) → filter (is_kept_local keeps.Nothing) symbols ≡ []
@@ -75,7 +86,8 @@ nothing_kept (s ∷ ss) = by_test (is_kept_local keeps.Nothing s) (no_local s) (
     no_local : (s : Symbol) → is_kept_local keeps.Nothing s ≡ false
     no_local s = grind arith
 
-    by_test : (t : Bool) → t ≡ false → filter (is_kept_local keeps.Nothing) ss ≡ [] → cond t (s ∷ filter (is_kept_local keeps.Nothing) ss) (filter (is_kept_local keeps.Nothing) ss) ≡ []
+    by_test : (t : Bool) → t ≡ false → filter (is_kept_local keeps.Nothing) ss ≡ [] →
+        cond t (s ∷ filter (is_kept_local keeps.Nothing) ss) (filter (is_kept_local keeps.Nothing) ss) ≡ []
     by_test true e h = absurd (cc)
     by_test false e h = h
 
@@ -92,7 +104,8 @@ rows_kept-others keeps.Nothing rows h = absurd (h refl)
 
 -- the rows of all objects, with none left
 pub rows_all : (b : Bases) (keep : Keep) (s : Starts) (rows : List Symbol) (es : List Labelled) (i : ℕ) → length es ≤ i →
-    rows_from b keep no_starts (objects es) ≡ rows ++ rows_from b keep s (objects (drop i es)) → rows ≡ rows_from b keep no_starts (objects es)
+    rows_from b keep no_starts (objects es) ≡ rows ++ rows_from b keep s (objects (drop i es)) →
+    rows ≡ rows_from b keep no_starts (objects es)
 rows_all b keep s rows es i «end» so_far =
     sym (append-nil rows)
     ∙ ap (λ (left : List Labelled). rows ++ rows_from b keep s (objects left)) (sym (drop_of_length-le es «end»))
@@ -106,7 +119,8 @@ rows_none (e ∷ es) [] (inr h) = refl
 rows_none (e ∷ es) (f ∷ fs) (inr h) = absurd (omega arith)
 
 -- no row is left to be put if the names or their values are at an end
-pub rows_put : (es : Named) (fs : List Final) (all rows : List Symbol) → (es ≡ []) ⊎ (length fs ≡ 0) → all ≡ rows ++ rows_with es fs → rows ≡ all
+pub rows_put : (es : Named) (fs : List Final) (all rows : List Symbol) → (es ≡ []) ⊎ (length fs ≡ 0) →
+    all ≡ rows ++ rows_with es fs → rows ≡ all
 rows_put es fs all rows none so_far = sym (append-nil rows) ∙ ap (λ (l : List Symbol). rows ++ l) (sym (rows_none es fs none)) ∙ sym so_far
 
 -- the externals with what becomes of them in a link
@@ -118,16 +132,16 @@ rows_planned p = from (names_by_first_mention p.mentions)
     from (n ∷ ns) = ap (λ (l : List Symbol). external_row p n ∷ l) (from ns)
 
 -- the whole table, of the locals and the externals
-pub table_whole : (p : Plan) (os : List Contents) (keep : Keep) (locals rows : List Symbol) → p.choices.keep ≡ keep → (keep ≡ keeps.Nothing → ⊥) →
-    locals ≡ local_rows p os → rows ≡ locals ++ external_rows p → rows ≡ table p os
+pub table_whole : (p : Plan) (os : List Contents) (keep : Keep) (locals rows : List Symbol) → p.choices.keep ≡ keep →
+    (keep ≡ keeps.Nothing → ⊥) → locals ≡ local_rows p os → rows ≡ locals ++ external_rows p → rows ≡ table p os
 table_whole p os keep locals rows same others here put =
     put
     ∙ ap (λ (l : List Symbol). l ++ external_rows p) here
     ∙ sym (rows_kept-others p.choices.keep (local_rows p os ++ external_rows p) (λ e. others (sym same ∙ e)))
 
 -- how long the table is
-table_length : (p : Plan) (os : List Contents) (keep : Keep) (count : ℕ) → p.choices.keep ≡ keep → (keep ≡ keeps.Nothing → ⊥) → count ≡ length (names_by_first_mention p.mentions) →
-    length (table p os) ≡ kept_count keep os + count
+table_length : (p : Plan) (os : List Contents) (keep : Keep) (count : ℕ) → p.choices.keep ≡ keep → (keep ≡ keeps.Nothing → ⊥) →
+    count ≡ length (names_by_first_mention p.mentions) → length (table p os) ≡ kept_count keep os + count
 table_length p os keep count same others names =
     ap (λ (l : List Symbol). length l) (rows_kept-others p.choices.keep (local_rows p os ++ external_rows p) (λ e. others (sym same ∙ e)))
     ∙ length-append (local_rows p os) (external_rows p)
@@ -135,14 +149,20 @@ table_length p os keep count same others names =
     ∙ (λ i. kept_count (same i) os + sym names i)
 
 -- the table is too long if and only if the kept locals and the externals are too many
-pub many_rows : (p : Plan) (os : List Contents) (keep : Keep) (count : ℕ) (r : Option ℕ) → p.choices.keep ≡ keep → (keep ≡ keeps.Nothing → ⊥) → count ≡ length (names_by_first_mention p.mentions) →
+pub many_rows : (p : Plan) (os : List Contents) (keep : Keep) (count : ℕ) (r : Option ℕ) → p.choices.keep ≡ keep →
+    (keep ≡ keeps.Nothing → ⊥) → count ≡ length (names_by_first_mention p.mentions) →
     (IsNone r ↔ IsTrue (nat_lt 5461 (kept_count keep os + count))) → (IsNone r ↔ IsTrue (nat_lt 5461 (length (table p os))))
-many_rows p os keep count r same others names h = subst (λ (n : ℕ). IsNone r ↔ IsTrue (nat_lt 5461 n)) (sym (table_length p os keep count same others names)) h
+many_rows p os keep count r same others names h =
+    subst (λ (n : ℕ). IsNone r ↔ IsTrue (nat_lt 5461 n)) (sym (table_length p os keep count same others names)) h
 
 -- how many locals are kept
-pub locals_counted : (p : Plan) (os : List Contents) (keep : Keep) (r : Option ℕ) → p.choices.keep ≡ keep → IfSome r (λ n. n ≡ kept_count keep os) → IfSome r (λ n. n ≡ length (local_rows p os))
-locals_counted p os keep r same h = subst (λ (m : ℕ). IfSome r (λ n. n ≡ m)) (sym (length-local_rows p os ∙ ap (λ (k : Keep). kept_count k os) same)) h
+pub locals_counted : (p : Plan) (os : List Contents) (keep : Keep) (r : Option ℕ) → p.choices.keep ≡ keep →
+    IfSome r (λ n. n ≡ kept_count keep os) → IfSome r (λ n. n ≡ length (local_rows p os))
+locals_counted p os keep r same h =
+    subst (λ (m : ℕ). IfSome r (λ n. n ≡ m)) (sym (length-local_rows p os ∙ ap (λ (k : Keep). kept_count k os) same)) h
 
 -- a link that keeps no symbols has no locals
-pub none_counted : (p : Plan) (os : List Contents) (keep : Keep) → p.choices.keep ≡ keep → keep ≡ keeps.Nothing → 0 ≡ length (local_rows p os)
-none_counted p os keep same nothing = sym (length-local_rows p os ∙ ap (λ (k : Keep). kept_count k os) (same ∙ nothing) ∙ nothing_counted os)
+pub none_counted : (p : Plan) (os : List Contents) (keep : Keep) → p.choices.keep ≡ keep → keep ≡ keeps.Nothing →
+    0 ≡ length (local_rows p os)
+none_counted p os keep same nothing =
+    sym (length-local_rows p os ∙ ap (λ (k : Keep). kept_count k os) (same ∙ nothing) ∙ nothing_counted os)

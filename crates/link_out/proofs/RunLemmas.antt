@@ -1,5 +1,6 @@
 -- What edits of a session do, one alone and one after the other.
-use Rattle.std.proofs.Common.{◌≡◌, ℕ, Bool, true, false, if◌then◌else◌, nat_lt, length, List, [], ◌∷◌, ◌++◌, map, Option, None, Some, Result, Ok, Err, String, Vec, refl, sym, subst, ◌∙◌, ap, inr}
+use Rattle.std.proofs.Common.{◌≡◌, ℕ, Bool, true, false, if◌then◌else◌, nat_lt, length, List, [], ◌∷◌, ◌++◌, map}
+use Rattle.std.proofs.Common.{Option, None, Some, Result, Ok, Err, String, Vec, refl, sym, subst, ◌∙◌, ap, inr}
 use Rattle.std.specs.Prelude.{IfErr, IsOk}
 use Rattle.std.proofs.lemmas.List.{append_assoc, map-append}
 use Rattle.std.specs.declared.alloc.Global.{Global}
@@ -13,7 +14,8 @@ use Rattle.link_session.specs.Labelled.{Labelled, objects}
 use Rattle.link_session.specs.Undo.{Kept}
 use Rattle.link_session.specs.Sessions.{Adds, Withdraws, IsCause, labelled}
 use Rattle.link_session.specs.Limits.{refusal}
-use Rattle.link_session.specs.Edits.{Change, addition, withdrawal, added, last_of, without_last, kept_unless, kept_after, answer_by, withdrawn_answer, answer_to, survivors_from, answers_from}
+use Rattle.link_session.specs.Edits.{Change, addition, withdrawal, added, last_of, without_last, kept_unless}
+use Rattle.link_session.specs.Edits.{kept_after, answer_by, withdrawn_answer, answer_to, survivors_from, answers_from}
 use Rattle.link_out.specs.declared.edit.Edit.{Edit}
 use Rattle.link_out.specs.declared.edit.Reply.{Reply}
 use Rattle.link_out.specs.declared.edit.Reply.TheVariants as replies
@@ -42,12 +44,16 @@ limit_is None cause h other = absurd (other h)
 limit_is (Some limit) cause h other = ap Some (sym h)
 
 -- memory runs out for an object that is within all limits
-pub within_limits : (forced : List (List ℕ)) (os : List Contents) (o : Contents) → IsCause (refusal forced os o) Memory → refusal forced os o ≡ None
+pub within_limits : (forced : List (List ℕ)) (os : List Contents) (o : Contents) →
+    IsCause (refusal forced os o) Memory → refusal forced os o ≡ None
 within_limits forced os o h =
-    by_tests (nat_lt 65534 (total TextSeg (os ++ o ∷ []))) (nat_lt 65534 (total DataSeg (os ++ o ∷ []))) (nat_lt 65534 (total BssSeg (os ++ o ∷ []))) (nat_lt 65535 (length (externals forced (os ++ o ∷ [])))) h
+    by_tests (nat_lt 65534 (total TextSeg (os ++ o ∷ []))) (nat_lt 65534 (total DataSeg (os ++ o ∷ [])))
+    (nat_lt 65534 (total BssSeg (os ++ o ∷ []))) (nat_lt 65535 (length (externals forced (os ++ o ∷ [])))) h
   where
     limit_by : Bool → Bool → Bool → Bool → Option AddFault
-    limit_by text datas bss names = if text then Some TextFull else (if datas then Some DataFull else (if bss then Some BssFull else (if names then Some NamesFull else None)))
+    limit_by text datas bss names =
+        if text then Some TextFull
+        else (if datas then Some DataFull else (if bss then Some BssFull else (if names then Some NamesFull else None)))
 
     by_tests : (text datas bss names : Bool) → IsCause (limit_by text datas bss names) Memory → limit_by text datas bss names ≡ None
     by_tests true datas bss names h = absurd (cc)
@@ -57,10 +63,12 @@ within_limits forced os o h =
     by_tests false false false false h = refl
 
 -- an addition that was refused, for another cause than memory
-pub refused_done : (old new : Kept) (e : Labelled) (cause : AddFault) → IsCause (refusal old.forced (objects old.entries) e.object) cause → (cause ≡ Memory → ⊥) → new ≡ old →
+pub refused_done : (old new : Kept) (e : Labelled) (cause : AddFault) →
+    IsCause (refusal old.forced (objects old.entries) e.object) cause → (cause ≡ Memory → ⊥) → new ≡ old →
     IsDone old new (addition e) (replies.Refused cause)
 refused_done old new e cause h other same =
-    let limit : refusal old.forced (objects old.entries) e.object ≡ Some cause = limit_is (refusal old.forced (objects old.entries) e.object) cause h other in
+    let limit : refusal old.forced (objects old.entries) e.object ≡ Some cause =
+    limit_is (refusal old.forced (objects old.entries) e.object) cause h other in
     record {
       forced = ap (λ (k : Kept). k.forced) same;
       kept = ap (λ (k : Kept). k.entries) same ∙ ap (λ r. kept_unless r old.entries e) (sym limit);
@@ -107,7 +115,8 @@ answers-one_more forced kept [] c = refl
 answers-one_more forced kept (d ∷ cs) c = ap (λ xs. answer_to forced kept d ∷ xs) (answers-one_more forced (kept_after forced kept d) cs c)
 
 -- the changes before an addition that is accepted were made
-pub stopped_among : (old mid new : Kept) (before : List Edit) (edit : Edit) (left all : List Edit) (replies : Option (Vec Reply Global)) → AreDone old mid (map change_of before) replies → all ≡ before ++ edit ∷ left →
+pub stopped_among : (old mid new : Kept) (before : List Edit) (edit : Edit) (left all : List Edit)
+    (replies : Option (Vec Reply Global)) → AreDone old mid (map change_of before) replies → all ≡ before ++ edit ∷ left →
     new ≡ mid → answer_to mid.forced mid.entries (change_of edit) ≡ added → StopsAmong old new (map change_of all)
 stopped_among old mid new before edit left all replies h order same is = record {
   before = map change_of before;
@@ -125,11 +134,13 @@ if_error (Ok x) P h = tt
 if_error (Err e) P h = h
 
 -- a list so far, and what is left after one more of its items
-pub one_more : {A : Type 0} (all before left later : List A) (x : A) → all ≡ before ++ left → left ≡ x ∷ later → all ≡ (before ++ x ∷ []) ++ later
+pub one_more : {A : Type 0} (all before left later : List A) (x : A) → all ≡ before ++ left → left ≡ x ∷ later →
+    all ≡ (before ++ x ∷ []) ++ later
 one_more {A} all before left later x order split = order ∙ ap (λ (l : List A). before ++ l) split ∙ sym (append_assoc before (x ∷ []) later)
 
 -- one more edit
-pub one_more_done : (old new last : Kept) (edits : List Edit) (edit : Edit) (replies next : Option (Vec Reply Global)) → AreDone old new (map change_of edits) replies →
+pub one_more_done : (old new last : Kept) (edits : List Edit) (edit : Edit) (replies next : Option (Vec Reply Global)) →
+    AreDone old new (map change_of edits) replies →
     IsReplied new last (change_of edit) replies next → AreDone old last (map change_of (edits ++ edit ∷ [])) next
 one_more_done old new last edits edit replies next h one =
     let cs = map change_of edits in
@@ -157,11 +168,16 @@ module _ (old new : Kept) (cs : List Change) (o : Choices) (replies : Option (Ve
   same_link = λ i. link (done.forced i) (objects (done.kept i)) o
 
   -- the run that ends with this link
-  pub linked_last : (r : Result (Vec Reply Global × Linked) RunFault) → IsLinkedWith replies (link new.forced (objects new.entries) o) r → IsRunFrom old cs o r
-  linked_last r h = by_link r (link old.forced (objects (survivors_from old.forced old.entries cs)) o) (subst (λ x. IsLinkedWith replies x r) same_link h)
+  pub linked_last : (r : Result (Vec Reply Global × Linked) RunFault) →
+      IsLinkedWith replies (link new.forced (objects new.entries) o) r → IsRunFrom old cs o r
+  linked_last r h =
+      by_link r (link old.forced (objects (survivors_from old.forced old.entries cs)) o)
+      (subst (λ x. IsLinkedWith replies x r) same_link h)
     where
-      by_link : (r : Result (Vec Reply Global × Linked) RunFault) (x : Result Outcome LinkFault) → IsLinkedWith replies x r → IsRunOf r (answers_from old.forced old.entries cs) x
-      by_link (Ok run) x (is, made) = (ap (map answer_of) (subst (λ (rs : Option (Vec Reply Global)). Lists rs done.told) is done.lists) ∙ done.answers, made)
+      by_link : (r : Result (Vec Reply Global × Linked) RunFault) (x : Result Outcome LinkFault) →
+          IsLinkedWith replies x r → IsRunOf r (answers_from old.forced old.entries cs) x
+      by_link (Ok run) x (is, made) =
+          (ap (map answer_of) (subst (λ (rs : Option (Vec Reply Global)). Lists rs done.told) is done.lists) ∙ done.answers, made)
       by_link (Err faults.Memory) x h = tt
       by_link (Err (faults.Link links.Memory)) x h = h
       by_link (Err (faults.Link links.DoesNotFit)) x h = h
@@ -169,7 +185,8 @@ module _ (old new : Kept) (cs : List Change) (o : Choices) (replies : Option (Ve
       by_link (Err (faults.Link links.SymbolNumber)) x h = h
 
   -- the run that ends without memory for its link
-  pub out_of_memory : (r : Result (Vec Reply Global × Linked) RunFault) → IsLinkedWith replies (link new.forced (objects new.entries) o) r → r ≡ Err faults.Memory → RunsOut old new cs o
+  pub out_of_memory : (r : Result (Vec Reply Global × Linked) RunFault) →
+      IsLinkedWith replies (link new.forced (objects new.entries) o) r → r ≡ Err faults.Memory → RunsOut old new cs o
   out_of_memory r h is = inr (record {
     kept = done.kept;
     link = subst IsOk same_link (subst (IsLinkedWith replies (link new.forced (objects new.entries) o)) is h);

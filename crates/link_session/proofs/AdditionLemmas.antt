@@ -18,20 +18,26 @@ use Rattle.link_session.specs.declared.state.State.{State}
 use Rattle.link_session.specs.declared.relocate.Shifts.{Shifts}
 use Rattle.link_session.specs.Starts.{shift, shift_by}
 use Rattle.tool_options.specs.NameLists.{new_names}
-use Rattle.link_session.specs.Mentions.{Mention, mention, statement, statement_by, mentions, mentions_in, externals_in, names_of, names_by_first_mention, place_of}
+use Rattle.link_session.specs.Mentions.{Mention, mention, statement, statement_by, mentions, mentions_in, externals_in}
+use Rattle.link_session.specs.Mentions.{names_of, names_by_first_mention, place_of}
 use Rattle.link_session.specs.States.{Definition, state, state_by, first_definition, wanted_size, multiple_names}
-use Rattle.link_session.specs.Cells.{Referent, to_segment, to_name, referent, referent_by, segment_target, name_target, name_in, target_of, target_shift, offset_in, if_pc, cell, words_of, cells}
+use Rattle.link_session.specs.Cells.{Referent, to_segment, to_name, referent, referent_by, segment_target, name_target}
+use Rattle.link_session.specs.Cells.{name_in, target_of, target_shift, offset_in, if_pc, cell, words_of, cells}
 use Rattle.link_session.specs.Image.{named_states, image}
 use Rattle.link_session.specs.Sessions.{IsObject}
 use Rattle.link_session.specs.Image.{state_in, state_at}
-use Rattle.link_session.specs.internal.Additions.{state_for, place_in, with_mentions, all_clashes, bound_by, binding_at, binding, bound_or, settled_cell, mention_by, mentions_by, reference, own_cell, own_cells, next_shifts, next_mentions, next_named, joined_image}
+use Rattle.link_session.specs.internal.Additions.{state_for, place_in, with_mentions, all_clashes, bound_by, binding_at}
+use Rattle.link_session.specs.internal.Additions.{binding, bound_or, settled_cell, mention_by, mentions_by, reference}
+use Rattle.link_session.specs.internal.Additions.{own_cell, own_cells, next_shifts, next_mentions, next_named}
+use Rattle.link_session.specs.internal.Additions.{joined_image}
 use Rattle.link_session.proofs.StateLemmas.{first_definition-append}
 use Rattle.link_session.proofs.MentionLemmas.{names_by_first_mention-append, is_among-externals, get_place}
 use Rattle.link_session.proofs.CellLemmas.{rebound, bound, RefersAmong, AllReferAmong, cells_more, all_made}
 use Rattle.link_session.proofs.MarkLemmas.{awaited, bound-awaited}
 use Rattle.link_session.proofs.WellFormedLemmas.{objects_refer}
 use Rattle.link_session.proofs.UpdateLemmas.{image_own}
-use Rattle.link_session.proofs.MentionedLemmas.{keys-named_states, state_for-named_states, with_mentions-named_states, all_clashes-named_states}
+use Rattle.link_session.proofs.MentionedLemmas.{keys-named_states, state_for-named_states, with_mentions-named_states}
+use Rattle.link_session.proofs.MentionedLemmas.{all_clashes-named_states}
 use Rattle.link_session.proofs.TotalLemmas.{text_total, data_total}
 use Rattle.link_session.proofs.ListLemmas.{all_map, get_append, index_get, get_mapped}
 
@@ -42,7 +48,9 @@ rebinding (Some d) c = Some (record c { value = plus c.value d.1; target = segme
 
 -- a cell that waits for an external waits for one of the names, without a definition
 abbrev pub WaitsAmong : List Mention → Target → Type 0
-WaitsAmong ms (targets.External i) = (name : List ℕ) × (slice_get (names_by_first_mention ms) i ≡ Some name) × (first_definition ms name ≡ None) × (place_of name (names_by_first_mention ms) ≡ i)
+WaitsAmong ms (targets.External i) =
+    (name : List ℕ) × (slice_get (names_by_first_mention ms) i ≡ Some name) × (first_definition ms name ≡ None)
+    × (place_of name (names_by_first_mention ms) ≡ i)
 WaitsAmong ms _ = ⊤
 
 segment_waits : (ms : List Mention) (segment : Segment) → WaitsAmong ms (segment_target segment)
@@ -57,28 +65,34 @@ referent_waits : (ms : List Mention) (q : Referent) → RefersAmong (names_of ms
 referent_waits ms (to_segment segment) h = segment_waits ms segment
 referent_waits ms (to_name name) h = by_definition (first_definition ms name) refl
   where
-    by_definition : (d : Option Definition) → first_definition ms name ≡ d → WaitsAmong ms (name_target (state_by d (wanted_size ms name)) (place_of name (names_by_first_mention ms)))
+    by_definition : (d : Option Definition) → first_definition ms name ≡ d →
+        WaitsAmong ms (name_target (state_by d (wanted_size ms name)) (place_of name (names_by_first_mention ms)))
     by_definition (Some d) e = segment_waits ms d.0
     by_definition None e = (name, get_place (names_by_first_mention ms) name (is_among-externals ms name ∙ h), e, refl)
 
 -- so do all cells of the objects
-pub cells_wait : (ms : List Mention) (segment : Segment) (os : List Contents) → AllByRecursion (λ o. AllReferAmong (names_of ms) o (words_of segment o)) os →
+pub cells_wait : (ms : List Mention) (segment : Segment) (os : List Contents) →
+    AllByRecursion (λ o. AllReferAmong (names_of ms) o (words_of segment o)) os →
     AllByRecursion (λ c. WaitsAmong ms c.target) (cells ms segment os)
 cells_wait ms segment os h =
-    all_made (λ c. WaitsAmong ms c.target) (λ earlier o wr. cell ms earlier o segment wr.0 wr.1) (names_of ms) segment (λ earlier o wr k. referent_waits ms (referent o wr.1) k) os h
+    all_made (λ c. WaitsAmong ms c.target) (λ earlier o wr. cell ms earlier o segment wr.0 wr.1) (names_of ms) segment
+    (λ earlier o wr k. referent_waits ms (referent o wr.1) k) os h
 
 -- such a cell is bound by the states after more mentions just where one of these defines its name
-pub binding-awaited : (ms ns : List Mention) (c : Cell) → WaitsAmong ms c.target → binding (named_states (ms ++ ns)) c ≡ rebinding (awaited (names_by_first_mention ms) ns c.target) c
+pub binding-awaited : (ms ns : List Mention) (c : Cell) → WaitsAmong ms c.target →
+    binding (named_states (ms ++ ns)) c ≡ rebinding (awaited (names_by_first_mention ms) ns c.target) c
 binding-awaited ms ns c h = by_target c.target h
   where
-    by_target : (t : Target) → WaitsAmong ms t → binding_at (named_states (ms ++ ns)) t c ≡ rebinding (awaited (names_by_first_mention ms) ns t) c
+    by_target : (t : Target) → WaitsAmong ms t →
+        binding_at (named_states (ms ++ ns)) t c ≡ rebinding (awaited (names_by_first_mention ms) ns t) c
     by_target targets.Absolute h = refl
     by_target targets.TextSeg h = refl
     by_target targets.DataSeg h = refl
     by_target targets.BssSeg h = refl
     by_target (targets.External i) h =
         let more : slice_get (names_by_first_mention (ms ++ ns)) i ≡ Some h.0 =
-        ap (λ (l : List (List ℕ)). slice_get l i) (names_by_first_mention-append ms ns) ∙ get_append (names_by_first_mention ms) (new_names (names_of ms) (names_of ns)) i h.0 h.1 in
+        ap (λ (l : List (List ℕ)). slice_get l i) (names_by_first_mention-append ms ns)
+        ∙ get_append (names_by_first_mention ms) (new_names (names_of ms) (names_of ns)) i h.0 h.1 in
         let at : state_at (named_states (ms ++ ns)) i ≡ state (ms ++ ns) h.0 =
         ap state_in (get_mapped {B = List ℕ × State} (λ n. (n, state (ms ++ ns) n)) (names_by_first_mention (ms ++ ns)) i h.0 more) in
         let first : first_definition (ms ++ ns) h.0 ≡ first_definition ns h.0 =
@@ -91,35 +105,42 @@ binding-awaited ms ns c h = by_target c.target h
         by_definition None = refl
         by_definition (Some d) = refl
 
-settled_cell-bound : (ms ns : List Mention) (c : Cell) → WaitsAmong ms c.target → settled_cell (named_states (ms ++ ns)) c ≡ bound (names_by_first_mention ms) ns c
+settled_cell-bound : (ms ns : List Mention) (c : Cell) → WaitsAmong ms c.target →
+    settled_cell (named_states (ms ++ ns)) c ≡ bound (names_by_first_mention ms) ns c
 settled_cell-bound ms ns c h =
-    ap (λ (b : Option Cell). bound_or b c) (binding-awaited ms ns c h) ∙ by_definition (awaited (names_by_first_mention ms) ns c.target) ∙ sym (bound-awaited (names_by_first_mention ms) ns c)
+    ap (λ (b : Option Cell). bound_or b c) (binding-awaited ms ns c h)
+    ∙ by_definition (awaited (names_by_first_mention ms) ns c.target) ∙ sym (bound-awaited (names_by_first_mention ms) ns c)
   where
     by_definition : (d : Option Definition) → bound_or (rebinding d c) c ≡ rebound d c
     by_definition None = refl
     by_definition (Some d) = refl
 
-all_settled : (ms ns : List Mention) (cs : List Cell) → AllByRecursion (λ c. WaitsAmong ms c.target) cs → map (settled_cell (named_states (ms ++ ns))) cs ≡ map (bound (names_by_first_mention ms) ns) cs
+all_settled : (ms ns : List Mention) (cs : List Cell) → AllByRecursion (λ c. WaitsAmong ms c.target) cs →
+    map (settled_cell (named_states (ms ++ ns))) cs ≡ map (bound (names_by_first_mention ms) ns) cs
 all_settled ms ns [] h = refl
 all_settled ms ns (c ∷ cs) h = λ i. settled_cell-bound ms ns c h.0 i ∷ all_settled ms ns cs h.1 i
 
 -- the cells that are settled are those of the same objects under more mentions
-pub cells_settled : (ms ns : List Mention) (segment : Segment) (os : List Contents) → AllByRecursion (λ o. AllReferAmong (names_of ms) o (words_of segment o)) os →
+pub cells_settled : (ms ns : List Mention) (segment : Segment) (os : List Contents) →
+    AllByRecursion (λ o. AllReferAmong (names_of ms) o (words_of segment o)) os →
     map (settled_cell (named_states (ms ++ ns))) (cells ms segment os) ≡ cells (ms ++ ns) segment os
-cells_settled ms ns segment os h = all_settled ms ns (cells ms segment os) (cells_wait ms segment os h) ∙ sym (cells_more ms ns segment os h)
+cells_settled ms ns segment os h =
+    all_settled ms ns (cells ms segment os) (cells_wait ms segment os h) ∙ sym (cells_more ms ns segment os h)
 
 -- what is added to the addresses of an object after these
 abbrev shifts_after : List Contents → Contents → Shifts
 shifts_after os o = record { text = shift os o segments.TextSeg; «data» = shift os o segments.DataSeg; bss = shift os o segments.BssSeg }
 
-pub next_shifts-after : (forced : List (List ℕ)) (os : List Contents) (o : Contents) → AllByRecursion IsObject os → next_shifts (image forced os) o ≡ shifts_after os o
+pub next_shifts-after : (forced : List (List ℕ)) (os : List Contents) (o : Contents) → AllByRecursion IsObject os →
+    next_shifts (image forced os) o ≡ shifts_after os o
 next_shifts-after forced os o h = λ i. record {
   text = minus (text_total (mentions forced os) os h i) 0;
   «data» = minus (data_total (mentions forced os) os h i) o.header.text_size;
   bss = shift os o segments.BssSeg;
 }
 
-pub next_mentions-in : (forced : List (List ℕ)) (os : List Contents) (o : Contents) → AllByRecursion IsObject os → next_mentions (image forced os) o ≡ mentions_in os o
+pub next_mentions-in : (forced : List (List ℕ)) (os : List Contents) (o : Contents) → AllByRecursion IsObject os →
+    next_mentions (image forced os) o ≡ mentions_in os o
 next_mentions-in forced os o h = ap (λ (s : Shifts). mentions_by s o.symbols) (next_shifts-after forced os o h) ∙ each (externals_in o)
   where
     says : (segment : Segment) (value : ℕ) → statement_by (shift_by (shifts_after os o)) segment value ≡ statement os o segment value
@@ -134,8 +155,11 @@ next_mentions-in forced os o h = ap (λ (s : Shifts). mentions_by s o.symbols) (
     each [] = refl
     each (s ∷ ss) = λ i. record { name = s.name; says = says (segment_of s) s.value i } ∷ each ss i
 
-pub next_named-states : (forced : List (List ℕ)) (os : List Contents) (o : Contents) → AllByRecursion IsObject os → next_named (image forced os) o ≡ named_states (mentions forced os ++ mentions_in os o)
-next_named-states forced os o h = ap (λ (ms : List Mention). with_mentions (named_states (mentions forced os)) ms) (next_mentions-in forced os o h) ∙ with_mentions-named_states (mentions forced os) (mentions_in os o)
+pub next_named-states : (forced : List (List ℕ)) (os : List Contents) (o : Contents) → AllByRecursion IsObject os →
+    next_named (image forced os) o ≡ named_states (mentions forced os ++ mentions_in os o)
+next_named-states forced os o h =
+    ap (λ (ms : List Mention). with_mentions (named_states (mentions forced os)) ms) (next_mentions-in forced os o h)
+    ∙ with_mentions-named_states (mentions forced os) (mentions_in os o)
 
 -- an object's own cell is the cell of the word
 own_cell-is : (ms : List Mention) (os : List Contents) (o : Contents) (segment : Segment) (w : ℕ) (r : Reloc) →
@@ -146,11 +170,19 @@ own_cell-is ms os o segment w r = λ i. record {
   pc = is_pc_relative r;
 }
   where
-    of_name : (name : List ℕ) → (let p : ℕ × Target = (offset_in (state_for (named_states ms) name), name_target (state_for (named_states ms) name) (place_in (named_states ms) name)) in p)
+    of_name : (name : List ℕ) → (let p : ℕ × Target = (
+      offset_in (state_for (named_states ms) name),
+      name_target (state_for (named_states ms) name) (place_in (named_states ms) name),
+    ) in p)
         ≡ (target_shift ms os o (to_name name), target_of ms (to_name name))
-    of_name name = λ i. (offset_in (state_for-named_states ms name i), name_target (state_for-named_states ms name i) (place_of name (keys-named_states ms i)))
+    of_name name =
+        λ i. (
+          offset_in (state_for-named_states ms name i),
+          name_target (state_for-named_states ms name i) (place_of name (keys-named_states ms i)),
+        )
 
-    by_kind : (kind : Option Kind) → reference (named_states ms) o.symbols (shifts_after os o) (symbol_number r) kind ≡ (target_shift ms os o (referent_by o (symbol_number r) kind), target_of ms (referent_by o (symbol_number r) kind))
+    by_kind : (kind : Option Kind) → reference (named_states ms) o.symbols (shifts_after os o) (symbol_number r) kind
+        ≡ (target_shift ms os o (referent_by o (symbol_number r) kind), target_of ms (referent_by o (symbol_number r) kind))
     by_kind None = refl
     by_kind (Some kinds.Absolute) = refl
     by_kind (Some kinds.TextSeg) = refl
@@ -159,7 +191,8 @@ own_cell-is ms os o segment w r = λ i. record {
     by_kind (Some kinds.External) = of_name (name_in (slice_get o.symbols (symbol_number r)))
 
 own_cells-are : (ms : List Mention) (os : List Contents) (o : Contents) (segment : Segment) (words : List (ℕ × Reloc)) →
-    map (λ (wr : ℕ × Reloc). own_cell (named_states ms) o.symbols (shifts_after os o) (shift os o segment) wr.0 wr.1) words ≡ map (λ wr. cell ms os o segment wr.0 wr.1) words
+    map (λ (wr : ℕ × Reloc). own_cell (named_states ms) o.symbols (shifts_after os o) (shift os o segment) wr.0 wr.1) words
+    ≡ map (λ wr. cell ms os o segment wr.0 wr.1) words
 own_cells-are ms os o segment [] = refl
 own_cells-are ms os o segment (wr ∷ words) = λ i. own_cell-is ms os o segment wr.0 wr.1 i ∷ own_cells-are ms os o segment words i
 
@@ -167,18 +200,27 @@ pub well_formed : (os : List Contents) → AllByRecursion IsObject os → AllByR
 well_formed os h = all_map IsObject IsWellFormed (λ o k. k.well) os h
 
 -- the law of the addition
-pub joined_image-is : (forced : List (List ℕ)) (os : List Contents) (o : Contents) → AllByRecursion IsObject os → joined_image (image forced os) o ≡ image forced (os ++ o ∷ [])
+pub joined_image-is : (forced : List (List ℕ)) (os : List Contents) (o : Contents) → AllByRecursion IsObject os →
+    joined_image (image forced os) o ≡ image forced (os ++ o ∷ [])
 joined_image-is forced os o h =
     (λ i. record {
-      text_cells = map (settled_cell (named i)) (image forced os).text_cells ++ own_cells (named i) o.symbols (shifts i) (shifts i).text o.text_words o.text_reloc;
-      data_cells = map (settled_cell (named i)) (image forced os).data_cells ++ own_cells (named i) o.symbols (shifts i) (shifts i).data o.data_words o.data_reloc;
+      text_cells =
+          map (settled_cell (named i)) (image forced os).text_cells
+          ++ own_cells (named i) o.symbols (shifts i) (shifts i).text o.text_words o.text_reloc;
+      data_cells =
+          map (settled_cell (named i)) (image forced os).data_cells
+          ++ own_cells (named i) o.symbols (shifts i) (shifts i).data o.data_words o.data_reloc;
       bss_total = (image forced os).bss_total + o.header.bss_size;
       externals = named i;
       multiples = clashes i;
     })
     ∙ (λ i. record {
-      text_cells = cells_settled (mentions forced os) (mentions_in os o) segments.TextSeg os (objects_refer forced segments.TextSeg os good) i ++ own_cells-are (mentions forced os ++ mentions_in os o) os o segments.TextSeg (words_of segments.TextSeg o) i;
-      data_cells = cells_settled (mentions forced os) (mentions_in os o) segments.DataSeg os (objects_refer forced segments.DataSeg os good) i ++ own_cells-are (mentions forced os ++ mentions_in os o) os o segments.DataSeg (words_of segments.DataSeg o) i;
+      text_cells =
+          cells_settled (mentions forced os) (mentions_in os o) segments.TextSeg os (objects_refer forced segments.TextSeg os good) i
+          ++ own_cells-are (mentions forced os ++ mentions_in os o) os o segments.TextSeg (words_of segments.TextSeg o) i;
+      data_cells =
+          cells_settled (mentions forced os) (mentions_in os o) segments.DataSeg os (objects_refer forced segments.DataSeg os good) i
+          ++ own_cells-are (mentions forced os ++ mentions_in os o) os o segments.DataSeg (words_of segments.DataSeg o) i;
       bss_total = (image forced os).bss_total + o.header.bss_size;
       externals = named_states (mentions forced os ++ mentions_in os o);
       multiples = multiple_names (mentions forced os ++ mentions_in os o);
@@ -194,7 +236,9 @@ joined_image-is forced os o h =
     shifts : next_shifts (image forced os) o ≡ shifts_after os o
     shifts = next_shifts-after forced os o h
 
-    clashes : (image forced os).multiples ++ all_clashes (image forced os).externals (next_mentions (image forced os) o) ≡ multiple_names (mentions forced os ++ mentions_in os o)
+    clashes : (image forced os).multiples ++ all_clashes (image forced os).externals (next_mentions (image forced os) o)
+        ≡ multiple_names (mentions forced os ++ mentions_in os o)
     clashes =
-        ap (λ (xs : List Mention). multiple_names (mentions forced os) ++ all_clashes (named_states (mentions forced os)) xs) (next_mentions-in forced os o h)
+        ap (λ (xs : List Mention). multiple_names (mentions forced os) ++ all_clashes (named_states (mentions forced os)) xs)
+        (next_mentions-in forced os o h)
         ∙ sym (all_clashes-named_states (mentions forced os) (mentions_in os o))

@@ -1,5 +1,6 @@
 -- The marks of mentions bring the earlier states back, lie inside the image, and are few.
-use Rattle.std.proofs.Common.{◌≡◌, ℕ, zero, suc, ◌≤◌, ◌<◌, Bool, true, false, cond, ◌&&◌, List, [], ◌∷◌, take, length, refl, ◌∙◌, ap, arith, length-append, nat_lt}
+use Rattle.std.proofs.Common.{◌≡◌, ℕ, zero, suc, ◌≤◌, ◌<◌, Bool, true, false, cond, ◌&&◌, List, [], ◌∷◌, take}
+use Rattle.std.proofs.Common.{length, refl, ◌∙◌, ap, arith, length-append, nat_lt}
 use Rattle.std.specs.List.{AllByRecursion}
 use Rattle.std.specs.Map.{keys_of}
 use Rattle.std.proofs.lemmas.Bool.{ltb-true, ltb-false}
@@ -42,10 +43,12 @@ length-with_state (e ∷ es) zero s = refl
 length-with_state (e ∷ es) (suc i) s = ap suc (length-with_state es i s)
 
 -- the names that were there before, after one more mention
-front_mentioned : (kept : ℕ) (es : Named) (m : Mention) → kept ≤ length es → take kept (with_mention es m) ≡ take kept (with_state es (place_in es m.name) (next_state es m))
+front_mentioned : (kept : ℕ) (es : Named) (m : Mention) → kept ≤ length es →
+    take kept (with_mention es m) ≡ take kept (with_state es (place_in es m.name) (next_state es m))
 front_mentioned kept es m h =
     ap (λ (l : Named). take kept l) (with_mention-is es m)
-    ∙ take_grown (with_state es (place_in es m.name) (next_state es m)) (cond (is_among (keys_of es) m.name) [] ((m.name, next_state es m) ∷ [])) kept (omega (arith, length-with_state es (place_in es m.name) (next_state es m)))
+    ∙ take_grown (with_state es (place_in es m.name) (next_state es m)) (cond (is_among (keys_of es) m.name) []
+    ((m.name, next_state es m) ∷ [])) kept (omega (arith, length-with_state es (place_in es m.name) (next_state es m)))
 
 longer : (es : Named) (m : Mention) → length es ≤ length (with_mention es m)
 longer es m =
@@ -53,35 +56,45 @@ longer es m =
       arith,
       ap (λ (l : Named). length l) (with_mention-is es m),
       length-with_state es (place_in es m.name) (next_state es m),
-      length-append (with_state es (place_in es m.name) (next_state es m)) (cond (is_among (keys_of es) m.name) [] ((m.name, next_state es m) ∷ [])),
+      length-append (with_state es (place_in es m.name) (next_state es m))
+          (cond (is_among (keys_of es) m.name) [] ((m.name, next_state es m) ∷ [])),
     )
 
 abbrev with_named : Image → Named → Image
 with_named m es = record m { externals = es }
 
 -- one mention is put back
-mention_back : (m : Image) (kept : ℕ) (es : Named) (k : Mention) → kept ≤ length es → put_all_back (state_mark kept es k) (with_named m (take kept (with_mention es k))) ≡ with_named m (take kept es)
+mention_back : (m : Image) (kept : ℕ) (es : Named) (k : Mention) → kept ≤ length es →
+    put_all_back (state_mark kept es k) (with_named m (take kept (with_mention es k))) ≡ with_named m (take kept es)
 mention_back m kept es k h =
-    ap (λ (l : Named). put_all_back (state_mark kept es k) (with_named m l)) (front_mentioned kept es k h) ∙ by_place (nat_lt (place_in es k.name) kept) refl
+    ap (λ (l : Named). put_all_back (state_mark kept es k) (with_named m l)) (front_mentioned kept es k h)
+    ∙ by_place (nat_lt (place_in es k.name) kept) refl
   where
     by_change : (u : Bool) → changes (state_for es k.name) k.says ≡ u → place_in es k.name < kept →
-        put_all_back (cond u (StateWas (place_in es k.name) (state_for es k.name) ∷ []) []) (with_named m (take kept (with_state es (place_in es k.name) (next_state es k)))) ≡ with_named m (take kept es)
+        put_all_back (cond u (StateWas (place_in es k.name) (state_for es k.name) ∷ []) [])
+        (with_named m (take kept (with_state es (place_in es k.name) (next_state es k)))) ≡ with_named m (take kept es)
     by_change true e lt = ap (with_named m) (back_state es kept (place_in es k.name) (next_state es k) lt)
     by_change false e lt =
-        ap (λ (s : State). with_named m (take kept (with_state es (place_in es k.name) s))) (unchanged (state_for es k.name) k.says e) ∙ ap (λ (l : Named). with_named m (take kept l)) (same_state es (place_in es k.name))
+        ap (λ (s : State). with_named m (take kept (with_state es (place_in es k.name) s))) (unchanged (state_for es k.name) k.says e)
+        ∙ ap (λ (l : Named). with_named m (take kept l)) (same_state es (place_in es k.name))
 
     by_place : (t : Bool) → nat_lt (place_in es k.name) kept ≡ t →
-        put_all_back (cond (t && changes (state_for es k.name) k.says) (StateWas (place_in es k.name) (state_for es k.name) ∷ []) []) (with_named m (take kept (with_state es (place_in es k.name) (next_state es k))))
+        put_all_back (cond (t && changes (state_for es k.name) k.says) (StateWas (place_in es k.name) (state_for es k.name) ∷ []) [])
+        (with_named m (take kept (with_state es (place_in es k.name) (next_state es k))))
         ≡ with_named m (take kept es)
     by_place true e = by_change (changes (state_for es k.name) k.says) refl (ltb-true (place_in es k.name) kept e)
-    by_place false e = ap (with_named m) (take_with_state es kept (place_in es k.name) (next_state es k) (ltb-false (place_in es k.name) kept e))
+    by_place false e =
+        ap (with_named m) (take_with_state es kept (place_in es k.name) (next_state es k) (ltb-false (place_in es k.name) kept e))
 
 -- all mentions are put back
-pub mentions_back : (m : Image) (kept : ℕ) (es : Named) (ms : List Mention) → kept ≤ length es → put_all_back (state_marks kept es ms) (with_named m (take kept (with_mentions es ms))) ≡ with_named m (take kept es)
+pub mentions_back : (m : Image) (kept : ℕ) (es : Named) (ms : List Mention) → kept ≤ length es →
+    put_all_back (state_marks kept es ms) (with_named m (take kept (with_mentions es ms))) ≡ with_named m (take kept es)
 mentions_back m kept es [] h = refl
 mentions_back m kept es (k ∷ ms) h =
-    put_all_back-append (state_mark kept es k) (state_marks kept (with_mention es k) ms) (with_named m (take kept (with_mentions (with_mention es k) ms)))
-    ∙ ap (λ (n : Image). put_all_back (state_mark kept es k) n) (mentions_back m kept (with_mention es k) ms (let l = longer es k in omega arith))
+    put_all_back-append (state_mark kept es k) (state_marks kept (with_mention es k) ms)
+    (with_named m (take kept (with_mentions (with_mention es k) ms)))
+    ∙ ap (λ (n : Image). put_all_back (state_mark kept es k) n)
+    (mentions_back m kept (with_mention es k) ms (let l = longer es k in omega arith))
     ∙ mention_back m kept es k h
 
 -- Where the marks lie.
@@ -89,9 +102,12 @@ mentions_back m kept es (k ∷ ms) h =
 pub states_inside : (m : Image) (es : Named) (ms : List Mention) → AllByRecursion (IsInside m) (state_marks (length m.externals) es ms)
 states_inside m es [] = tt
 states_inside m es (k ∷ ms) =
-    all_append (IsInside m) (state_mark (length m.externals) es k) (state_marks (length m.externals) (with_mention es k) ms) (by_place (nat_lt (place_in es k.name) (length m.externals)) refl (changes (state_for es k.name) k.says)) (states_inside m (with_mention es k) ms)
+    all_append (IsInside m) (state_mark (length m.externals) es k) (state_marks (length m.externals) (with_mention es k) ms)
+    (by_place (nat_lt (place_in es k.name) (length m.externals)) refl (changes (state_for es k.name) k.says))
+    (states_inside m (with_mention es k) ms)
   where
-    by_place : (t : Bool) → nat_lt (place_in es k.name) (length m.externals) ≡ t → (u : Bool) → AllByRecursion (IsInside m) (cond (t && u) (StateWas (place_in es k.name) (state_for es k.name) ∷ []) [])
+    by_place : (t : Bool) → nat_lt (place_in es k.name) (length m.externals) ≡ t → (u : Bool) →
+        AllByRecursion (IsInside m) (cond (t && u) (StateWas (place_in es k.name) (state_for es k.name) ∷ []) [])
     by_place true e true = (ltb-true (place_in es k.name) (length m.externals) e, tt)
     by_place true e false = tt
     by_place false e u = tt

@@ -1,5 +1,6 @@
 -- The marks of a chain bring its cells back.
-use Rattle.std.proofs.Common.{◌≡◌, ◌<◌, ◌⊎◌, inl, inr, ℕ, zero, suc, Bool, true, false, cond, ◌||◌, List, [], ◌∷◌, ◌++◌, length, Option, Some, slice_index_or, refl, sym, ap, ◌∙◌, subst, arith}
+use Rattle.std.proofs.Common.{◌≡◌, ◌<◌, ◌⊎◌, inl, inr, ℕ, zero, suc, Bool, true, false, cond, ◌||◌, List, [], ◌∷◌, ◌++◌}
+use Rattle.std.proofs.Common.{length, Option, Some, slice_index_or, refl, sym, ap, ◌∙◌, subst, arith}
 use Rattle.std.specs.Prelude.{slice_get}
 use Rattle.std.specs.List.{AllByRecursion}
 use Rattle.std.proofs.lemmas.Bool.{cases_eq}
@@ -15,9 +16,11 @@ use Rattle.link_session.specs.internal.Chains.{Link, is_on, IsWithin, bound_to, 
 use Rattle.link_session.proofs.UndoLemmas.{put_back_all, put_back-old, AreOf, IsMarked, text_writes, data_writes}
 use Rattle.link_session.proofs.ChainLemmas.{length-bound_where, other_number}
 
-get_unbound : (test : ℕ → Bool) (segment : Segment) (offset : ℕ) (cs : List Cell) (i : ℕ) → test i ≡ false → slice_get (bound_where test segment offset cs) i ≡ slice_get cs i
+get_unbound : (test : ℕ → Bool) (segment : Segment) (offset : ℕ) (cs : List Cell) (i : ℕ) → test i ≡ false →
+    slice_get (bound_where test segment offset cs) i ≡ slice_get cs i
 get_unbound test segment offset [] i h = refl
-get_unbound test segment offset (c ∷ cs) zero h = ap (λ (t : Bool). let o : Option Cell = Some (cond t (bound_to segment offset c) c) in o) h
+get_unbound test segment offset (c ∷ cs) zero h =
+    ap (λ (t : Bool). let o : Option Cell = Some (cond t (bound_to segment offset c) c) in o) h
 get_unbound test segment offset (c ∷ cs) (suc i) h = get_unbound (λ n. test (suc n)) segment offset cs i h
 
 get_inside : (cs : List Cell) (i : ℕ) → i < length cs → slice_get cs i ≡ Some (slice_index_or cs i nowhere)
@@ -43,7 +46,8 @@ module _ (texts datas : List Cell) where
   text_marked [] i e = absurd (cc)
   text_marked (InText j ∷ ps) i e = by_order (cases_eq i j) (text_marked ps i)
     where
-      by_order : (i ≡ j) ⊎ (i ≡ j → ⊥) → (is_on ps (InText i) ≡ true → IsMarked i (text_writes (marks_of texts datas ps))) → (j ≡ i) ⊎ IsMarked i (text_writes (marks_of texts datas ps))
+      by_order : (i ≡ j) ⊎ (i ≡ j → ⊥) → (is_on ps (InText i) ≡ true → IsMarked i (text_writes (marks_of texts datas ps))) →
+          (j ≡ i) ⊎ IsMarked i (text_writes (marks_of texts datas ps))
       by_order (inl same) rest = inl (sym same)
       by_order (inr ne) rest = inr (rest (ap (λ (t : Bool). t || is_on ps (InText i)) (sym (other_number i j ne)) ∙ e))
   text_marked (InData j ∷ ps) i e = text_marked ps i e
@@ -53,7 +57,8 @@ module _ (texts datas : List Cell) where
   data_marked (InText j ∷ ps) i e = data_marked ps i e
   data_marked (InData j ∷ ps) i e = by_order (cases_eq i j) (data_marked ps i)
     where
-      by_order : (i ≡ j) ⊎ (i ≡ j → ⊥) → (is_on ps (InData i) ≡ true → IsMarked i (data_writes (marks_of texts datas ps))) → (j ≡ i) ⊎ IsMarked i (data_writes (marks_of texts datas ps))
+      by_order : (i ≡ j) ⊎ (i ≡ j → ⊥) → (is_on ps (InData i) ≡ true → IsMarked i (data_writes (marks_of texts datas ps))) →
+          (j ≡ i) ⊎ IsMarked i (data_writes (marks_of texts datas ps))
       by_order (inl same) rest = inl (sym same)
       by_order (inr ne) rest = inr (rest (ap (λ (t : Bool). t || is_on ps (InData i)) (sym (other_number i j ne)) ∙ e))
 
@@ -74,23 +79,32 @@ module _ (texts datas : List Cell) where
 
   module _ (segment : Segment) (offset : ℕ) (ps : List Place) (h : Inside ps) where
     text_back : put_back_all (text_writes (marks_of texts datas ps)) (bound_where (λ i. is_on ps (InText i)) segment offset texts) ≡ texts
-    text_back = put_back-old (text_writes (marks_of texts datas ps)) texts (bound_where (λ i. is_on ps (InText i)) segment offset texts) (texts_are_old ps h) (length-bound_where (λ i. is_on ps (InText i)) segment offset texts)
+    text_back =
+        put_back-old (text_writes (marks_of texts datas ps)) texts (bound_where (λ i. is_on ps (InText i)) segment offset texts)
+        (texts_are_old ps h) (length-bound_where (λ i. is_on ps (InText i)) segment offset texts)
         (λ i. by_test i (is_on ps (InText i)) refl)
       where
-        by_test : (i : ℕ) (t : Bool) → is_on ps (InText i) ≡ t → (slice_get (bound_where (λ j. is_on ps (InText j)) segment offset texts) i ≡ slice_get texts i) ⊎ IsMarked i (text_writes (marks_of texts datas ps))
+        by_test : (i : ℕ) (t : Bool) → is_on ps (InText i) ≡ t →
+            (slice_get (bound_where (λ j. is_on ps (InText j)) segment offset texts) i ≡ slice_get texts i)
+            ⊎ IsMarked i (text_writes (marks_of texts datas ps))
         by_test i true e = inr (text_marked ps i e)
         by_test i false e = inl (get_unbound (λ j. is_on ps (InText j)) segment offset texts i e)
 
     data_back : put_back_all (data_writes (marks_of texts datas ps)) (bound_where (λ i. is_on ps (InData i)) segment offset datas) ≡ datas
-    data_back = put_back-old (data_writes (marks_of texts datas ps)) datas (bound_where (λ i. is_on ps (InData i)) segment offset datas) (datas_are_old ps h) (length-bound_where (λ i. is_on ps (InData i)) segment offset datas)
+    data_back =
+        put_back-old (data_writes (marks_of texts datas ps)) datas (bound_where (λ i. is_on ps (InData i)) segment offset datas)
+        (datas_are_old ps h) (length-bound_where (λ i. is_on ps (InData i)) segment offset datas)
         (λ i. by_test i (is_on ps (InData i)) refl)
       where
-        by_test : (i : ℕ) (t : Bool) → is_on ps (InData i) ≡ t → (slice_get (bound_where (λ j. is_on ps (InData j)) segment offset datas) i ≡ slice_get datas i) ⊎ IsMarked i (data_writes (marks_of texts datas ps))
+        by_test : (i : ℕ) (t : Bool) → is_on ps (InData i) ≡ t →
+            (slice_get (bound_where (λ j. is_on ps (InData j)) segment offset datas) i ≡ slice_get datas i)
+            ⊎ IsMarked i (data_writes (marks_of texts datas ps))
         by_test i true e = inr (data_marked ps i e)
         by_test i false e = inl (get_unbound (λ j. is_on ps (InData j)) segment offset datas i e)
 
     -- the marks of a chain put back in an image in which it was bound
-    pub chain_back : (m : Image) → m.text_cells ≡ bound_where (λ i. is_on ps (InText i)) segment offset texts → m.data_cells ≡ bound_where (λ i. is_on ps (InData i)) segment offset datas →
+    pub chain_back : (m : Image) → m.text_cells ≡ bound_where (λ i. is_on ps (InText i)) segment offset texts →
+        m.data_cells ≡ bound_where (λ i. is_on ps (InData i)) segment offset datas →
         put_all_back (marks_of texts datas ps) m ≡ (record m { text_cells = texts; data_cells = datas })
     chain_back m t d = only_cells ps m ∙ (λ i. record m {
       text_cells = (ap (put_back_all (text_writes (marks_of texts datas ps))) t ∙ text_back) i;
@@ -98,10 +112,12 @@ module _ (texts datas : List Cell) where
     })
 
     -- they lie inside the image
-    pub chain_inside : (m : Image) → length m.text_cells ≡ length texts → length m.data_cells ≡ length datas → AllByRecursion (IsInside m) (marks_of texts datas ps)
+    pub chain_inside : (m : Image) → length m.text_cells ≡ length texts → length m.data_cells ≡ length datas →
+        AllByRecursion (IsInside m) (marks_of texts datas ps)
     chain_inside m t d = each ps h
       where
-        each : (qs : List Place) → AllByRecursion (IsWithin (length texts) (length datas)) qs → AllByRecursion (IsInside m) (marks_of texts datas qs)
+        each : (qs : List Place) → AllByRecursion (IsWithin (length texts) (length datas)) qs →
+            AllByRecursion (IsInside m) (marks_of texts datas qs)
         each [] k = tt
         each (InText i ∷ qs) k = (subst (λ (n : ℕ). i < n) (sym t) k.0, each qs k.1)
         each (InData i ∷ qs) k = (subst (λ (n : ℕ). i < n) (sym d) k.0, each qs k.1)

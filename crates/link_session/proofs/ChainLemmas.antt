@@ -1,5 +1,7 @@
 -- Chains as lists of places.
-use Rattle.std.proofs.Common.{◌≡◌, ◌≢◌, ◌<◌, ◌≤◌, ◌+◌, ◌⊎◌, inl, inr, ℕ, zero, suc, Bool, true, false, cond, ◌||◌, List, [], ◌∷◌, ◌++◌, map, length, Some, None, nat_eq, slice_index_or, slice_set, eqb, refl, sym, ap, ◌∙◌, subst, arith}
+use Rattle.std.proofs.Common.{◌≡◌, ◌≢◌, ◌<◌, ◌≤◌, ◌+◌, ◌⊎◌, inl, inr, ℕ, zero, suc, Bool, true, false, cond}
+use Rattle.std.proofs.Common.{◌||◌, List, [], ◌∷◌, ◌++◌, map, length, Some, None, nat_eq, slice_index_or, slice_set}
+use Rattle.std.proofs.Common.{eqb, refl, sym, ap, ◌∙◌, subst, arith}
 use Rattle.std.proofs.lemmas.List.{length-map}
 use Rattle.std.specs.List.{IsDistinct, list_any, AllByRecursion}
 use Rattle.std.proofs.lemmas.Bool.{cases_eq, or_parts}
@@ -13,50 +15,62 @@ use Rattle.link_session.specs.declared.cell.Target.{Target}
 use Rattle.link_session.specs.declared.mark.Place.{Place}
 use Rattle.link_session.specs.declared.mark.Place.TheVariants.{InText, InData}
 use Rattle.link_session.specs.Marks.{same_place}
-use Rattle.link_session.specs.internal.Chains.{Link, link_at, IsChain, is_on, AreApart, IsWithin, bound_to, bound_one, bound_where, nowhere, walk}
+use Rattle.link_session.specs.internal.Chains.{Link, link_at, IsChain, is_on, AreApart, IsWithin, bound_to}
+use Rattle.link_session.specs.internal.Chains.{bound_one, bound_where, nowhere, walk}
 use Rattle.link_session.specs.Cells.{segment_target}
 
 -- One cell.
 
-bound_one-set : (segment : Segment) (offset i : ℕ) (cs : List Cell) (d : Cell) → i < length cs → slice_set cs i (bound_to segment offset (slice_index_or cs i d)) ≡ bound_one segment offset i cs
+bound_one-set : (segment : Segment) (offset i : ℕ) (cs : List Cell) (d : Cell) → i < length cs →
+    slice_set cs i (bound_to segment offset (slice_index_or cs i d)) ≡ bound_one segment offset i cs
 bound_one-set segment offset i [] d h = absurd (omega arith)
 bound_one-set segment offset zero (c ∷ cs) d h = refl
 bound_one-set segment offset (suc i) (c ∷ cs) d h = ap (λ (l : List Cell). c ∷ l) (bound_one-set segment offset i cs d (omega arith))
 
 -- the cell at an index bound
 pub bound_at : (segment : Segment) (offset i : ℕ) (target : Target) (cs : List Cell) → i < length cs → target ≡ segment_target segment →
-    slice_set cs i (record { value = plus (slice_index_or cs i nowhere).value offset; target = target; pc = (slice_index_or cs i nowhere).pc }) ≡ bound_one segment offset i cs
+    slice_set cs i (record {
+      value = plus (slice_index_or cs i nowhere).value offset;
+      target = target;
+      pc = (slice_index_or cs i nowhere).pc;
+    }) ≡ bound_one segment offset i cs
 bound_at segment offset i target cs h t =
-    (λ k. slice_set cs i (record { value = plus (slice_index_or cs i nowhere).value offset; target = t k; pc = (slice_index_or cs i nowhere).pc }))
+    (λ k. slice_set cs i
+    (record { value = plus (slice_index_or cs i nowhere).value offset; target = t k; pc = (slice_index_or cs i nowhere).pc }))
     ∙ bound_one-set segment offset i cs nowhere h
 
 -- one more cell is bound
-pub bound_where-one : (segment : Segment) (offset : ℕ) (f g : ℕ → Bool) (i : ℕ) → f i ≡ false → g i ≡ true → ((j : ℕ) → i ≢ j → f j ≡ g j) → (cs : List Cell) →
+pub bound_where-one : (segment : Segment) (offset : ℕ) (f g : ℕ → Bool) (i : ℕ) → f i ≡ false → g i ≡ true →
+    ((j : ℕ) → i ≢ j → f j ≡ g j) → (cs : List Cell) →
     bound_one segment offset i (bound_where f segment offset cs) ≡ bound_where g segment offset cs
 bound_where-one segment offset f g i off on others [] = refl
 bound_where-one segment offset f g zero off on others (c ∷ cs) =
     rw (off, on) (λ k. bound_to segment offset c ∷ bound_where (λ n. others (suc n) (λ e. omega arith) k) segment offset cs)
 bound_where-one segment offset f g (suc i) off on others (c ∷ cs) =
-    λ k. cond (others 0 (λ e. omega arith) k) (bound_to segment offset c) c ∷ bound_where-one segment offset (λ n. f (suc n)) (λ n. g (suc n)) i off on (λ j ne. others (suc j) (λ e. ne (omega arith))) cs k
+    λ k. cond (others 0 (λ e. omega arith) k) (bound_to segment offset c) c ∷ bound_where-one segment offset
+    (λ n. f (suc n)) (λ n. g (suc n)) i off on (λ j ne. others (suc j) (λ e. ne (omega arith))) cs k
 
 pub none_bound : (segment : Segment) (offset : ℕ) (cs : List Cell) → cs ≡ bound_where (λ i. false) segment offset cs
 none_bound segment offset [] = refl
 none_bound segment offset (c ∷ cs) = ap (λ (l : List Cell). c ∷ l) (none_bound segment offset cs)
 
-pub length-bound_where : (test : ℕ → Bool) (segment : Segment) (offset : ℕ) (cs : List Cell) → length (bound_where test segment offset cs) ≡ length cs
+pub length-bound_where : (test : ℕ → Bool) (segment : Segment) (offset : ℕ) (cs : List Cell) →
+    length (bound_where test segment offset cs) ≡ length cs
 length-bound_where test segment offset [] = refl
 length-bound_where test segment offset (c ∷ cs) = ap suc (length-bound_where (λ i. test (suc i)) segment offset cs)
 
 -- the cell at an index
 pub index_where : (test : ℕ → Bool) (segment : Segment) (offset : ℕ) (cs : List Cell) (i : ℕ) → (test i ≡ true → i < length cs) →
-    slice_index_or (bound_where test segment offset cs) i nowhere ≡ cond (test i) (bound_to segment offset (slice_index_or cs i nowhere)) (slice_index_or cs i nowhere)
+    slice_index_or (bound_where test segment offset cs) i nowhere
+    ≡ cond (test i) (bound_to segment offset (slice_index_or cs i nowhere)) (slice_index_or cs i nowhere)
 index_where test segment offset [] i h = by_test (test i) refl
   where
     by_test : (t : Bool) → test i ≡ t → nowhere ≡ cond t (bound_to segment offset nowhere) nowhere
     by_test true e = let below = h e in absurd (omega arith)
     by_test false e = refl
 index_where test segment offset (c ∷ cs) zero h = refl
-index_where test segment offset (c ∷ cs) (suc i) h = index_where (λ n. test (suc n)) segment offset cs i (λ e. let below = h e in omega arith)
+index_where test segment offset (c ∷ cs) (suc i) h =
+    index_where (λ n. test (suc n)) segment offset cs i (λ e. let below = h e in omega arith)
 
 -- Places.
 
@@ -68,7 +82,8 @@ on_last [] p q = by_test (same_place p q)
     by_test false = refl
 on_last (x ∷ ps) p q = by_test (same_place p x) (on_last ps p q)
   where
-    by_test : (t : Bool) → is_on (ps ++ q ∷ []) p ≡ (is_on ps p || same_place p q) → (t || is_on (ps ++ q ∷ []) p) ≡ ((t || is_on ps p) || same_place p q)
+    by_test : (t : Bool) → is_on (ps ++ q ∷ []) p ≡ (is_on ps p || same_place p q) →
+        (t || is_on (ps ++ q ∷ []) p) ≡ ((t || is_on ps p) || same_place p q)
     by_test true h = refl
     by_test false h = h
 
@@ -156,7 +171,8 @@ numbers_apart t d (InData i) (InData j) h k e = by_order (cases_eq i j)
     by_order (inl same) = absurd (let yes : nat_eq i j ≡ true = rw same (own_number j) in cc)
     by_order (inr ne) = other_number (t + i) (t + j) (λ same. ne (omega arith))
 
-all_apart : (t d : ℕ) (p : Place) → IsWithin t d p → (ps : List Place) → AllByRecursion (IsWithin t d) ps → is_on ps p ≡ false → AllByRecursion (λ y. eqb (number t p) y ≡ false) (map (number t) ps)
+all_apart : (t d : ℕ) (p : Place) → IsWithin t d p → (ps : List Place) → AllByRecursion (IsWithin t d) ps →
+    is_on ps p ≡ false → AllByRecursion (λ y. eqb (number t p) y ≡ false) (map (number t) ps)
 all_apart t d p h [] k e = tt
 all_apart t d p h (q ∷ ps) k e =
     let parts = or_parts (same_place p q) (is_on ps p) e in (numbers_apart t d p q h k.0 parts.0, all_apart t d p h ps k.1 parts.1)
@@ -209,11 +225,13 @@ chain-unique ts ds head (p ∷ ps) (q ∷ qs) a b =
     let tail = chain-unique ts ds (link_at ts ds q) ps qs (subst (λ (r : Place). IsChain ts ds (link_at ts ds r) ps) same a.1) b.1 in
     λ j. same j ∷ tail j
 
-pub walk-is : (n : ℕ) (ts ds : List Link) (next : Link) (rest : List Place) → IsChain ts ds next rest → length rest ≤ n → walk n ts ds next ≡ rest
+pub walk-is : (n : ℕ) (ts ds : List Link) (next : Link) (rest : List Place) → IsChain ts ds next rest →
+    length rest ≤ n → walk n ts ds next ≡ rest
 walk-is zero ts ds next [] c h = refl
 walk-is zero ts ds next (p ∷ ps) c h = absurd (omega arith)
 walk-is (suc n) ts ds next [] c h = ap (walk (suc n) ts ds) c
-walk-is (suc n) ts ds next (p ∷ ps) c h = ap (walk (suc n) ts ds) c.0 ∙ ap (λ (l : List Place). p ∷ l) (walk-is n ts ds (link_at ts ds p) ps c.1 (omega arith))
+walk-is (suc n) ts ds next (p ∷ ps) c h =
+    ap (walk (suc n) ts ds) c.0 ∙ ap (λ (l : List Place). p ∷ l) (walk-is n ts ds (link_at ts ds p) ps c.1 (omega arith))
 
 -- the first place of what is ahead
 pub record Ahead (ts ds : List Link) (rest : List Place) (p : Place) : Type 0 where
@@ -221,11 +239,16 @@ pub record Ahead (ts ds : List Link) (rest : List Place) (p : Place) : Type 0 wh
   pub is : rest ≡ p ∷ tail
   pub goes_on : IsChain ts ds (link_at ts ds p) tail
 
-pub next_ahead : (ts ds : List Link) (next : Link) (rest : List Place) (p : Place) → IsChain ts ds next rest → next ≡ Some p → Ahead ts ds rest p
+pub next_ahead : (ts ds : List Link) (next : Link) (rest : List Place) (p : Place) → IsChain ts ds next rest →
+    next ≡ Some p → Ahead ts ds rest p
 next_ahead ts ds next [] p c e = absurd (let bad = sym c ∙ e in cc)
 next_ahead ts ds next (q ∷ rest) p c e =
     let same : q ≡ p = (let b = sym c.0 ∙ e in cc) in
-    record { tail = rest; is = ap (λ (r : Place). r ∷ rest) same; goes_on = subst (λ (r : Place). IsChain ts ds (link_at ts ds r) rest) same c.1 }
+    record {
+      tail = rest;
+      is = ap (λ (r : Place). r ∷ rest) same;
+      goes_on = subst (λ (r : Place). IsChain ts ds (link_at ts ds r) rest) same c.1;
+    }
 
 pub none_ahead : (ts ds : List Link) (next : Link) (rest : List Place) → IsChain ts ds next rest → next ≡ None → rest ≡ []
 none_ahead ts ds next [] c e = refl

@@ -1,5 +1,7 @@
 -- All chains of an image: while a name is bound, while names are added, and while the cells of an object are put last.
-use Rattle.std.proofs.Common.{◌≡◌, ◌≢◌, ◌<◌, ◌+◌, ◌||◌, ◌⊎◌, inl, inr, ℕ, zero, suc, Bool, true, false, cond, List, [], ◌∷◌, ◌++◌, map, length, Some, None, nat_eq, slice_index_or, slice_set, refl, sym, ap, ◌∙◌, subst, arith, length-append, append_assoc, append-nil}
+use Rattle.std.proofs.Common.{◌≡◌, ◌≢◌, ◌<◌, ◌+◌, ◌||◌, ◌⊎◌, inl, inr, ℕ, zero, suc, Bool, true, false, cond, List, []}
+use Rattle.std.proofs.Common.{◌∷◌, ◌++◌, map, length, Some, None, nat_eq, slice_index_or, slice_set, refl, sym, ap, ◌∙◌}
+use Rattle.std.proofs.Common.{subst, arith, length-append, append_assoc, append-nil}
 use Rattle.std.specs.Prelude.{⊤}
 use Rattle.std.specs.List.{AllByRecursion}
 use Rattle.std.proofs.lemmas.Bool.{cases_eq}
@@ -13,7 +15,9 @@ use Rattle.link_session.specs.declared.mark.Place.{Place}
 use Rattle.link_session.specs.declared.mark.Place.TheVariants.{InText, InData}
 use Rattle.link_session.specs.Image.{Named, state_at}
 use Rattle.link_session.specs.internal.Additions.{bound_by, bound_or}
-use Rattle.link_session.specs.internal.Chains.{Link, IsChain, is_on, AreApart, IsWithin, IsBoundTo, bound_where, bound_if, marks_of, waits_at, Tells, Waits, head_for, with_head, threaded, AreChained}
+use Rattle.link_session.specs.internal.Chains.{Link, IsChain, is_on, AreApart, IsWithin, IsBoundTo, bound_where}
+use Rattle.link_session.specs.internal.Chains.{bound_if, marks_of, waits_at, Tells, Waits, head_for, with_head}
+use Rattle.link_session.specs.internal.Chains.{threaded, AreChained}
 use Rattle.link_session.proofs.ListLemmas.{all_split}
 use Rattle.link_session.proofs.ChainLemmas.{length-bound_where, on_either, apart_parts, apart_from, own_number, chain-unique, none_ahead}
 use Rattle.link_session.specs.internal.Settled.{settled_at}
@@ -27,7 +31,8 @@ index_set_same (y ∷ xs) zero x d h = refl
 index_set_same (y ∷ xs) (suc k) x d h = index_set_same xs k x d (omega arith)
 
 -- the same also where there is no head, if there is nothing to put then
-index_set_link : (heads : List Link) (k : ℕ) (link : Link) → (slice_index_or heads k None ≡ None → link ≡ None) → slice_index_or (slice_set heads k link) k None ≡ link
+index_set_link : (heads : List Link) (k : ℕ) (link : Link) → (slice_index_or heads k None ≡ None → link ≡ None) →
+    slice_index_or (slice_set heads k link) k None ≡ link
 index_set_link [] k link h = sym (h refl)
 index_set_link (y ∷ heads) zero link h = refl
 index_set_link (y ∷ heads) (suc k) link h = index_set_link heads k link h
@@ -51,7 +56,8 @@ nothing_after (p ∷ done) rest e = absurd (cc)
 
 module _ (texts datas : List Cell) (ts ds heads : List Link) (a : AreChained texts datas ts ds heads) where
   -- the first part of the chain of a name is bound, and the chain begins after it
-  module _ (k : ℕ) (segment : Segment) (offset : ℕ) (next : Link) (marks : List Mark) (new_texts new_datas : List Cell) (new_marks : List Mark)
+  module _ (k : ℕ) (segment : Segment) (offset : ℕ) (next : Link) (marks : List Mark) (new_texts new_datas : List Cell)
+      (new_marks : List Mark)
       (w : IsBoundTo ts ds (slice_index_or heads k None) next segment offset texts datas marks new_texts new_datas new_marks) where
     all_places : (a.each k).places ≡ w.done ++ w.rest
     all_places = chain-unique ts ds (slice_index_or heads k None) (a.each k).places (w.done ++ w.rest) (a.each k).visits w.visits
@@ -68,9 +74,12 @@ module _ (texts datas : List Cell) (ts ds heads : List Link) (a : AreChained tex
     abbrev bound_datas : List Cell
     bound_datas = bound_where (λ i. is_on w.done (InData i)) segment offset datas
 
-    inside_still : (ps : List Place) → AllByRecursion (IsWithin (length texts) (length datas)) ps → AllByRecursion (IsWithin (length bound_texts) (length bound_datas)) ps
+    inside_still : (ps : List Place) → AllByRecursion (IsWithin (length texts) (length datas)) ps →
+        AllByRecursion (IsWithin (length bound_texts) (length bound_datas)) ps
     inside_still ps h =
-        subst (λ (P : Type 0). P) (λ i. AllByRecursion (IsWithin (sym (length-bound_where (λ j. is_on w.done (InText j)) segment offset texts) i) (sym (length-bound_where (λ j. is_on w.done (InData j)) segment offset datas) i)) ps) h
+        subst (λ (P : Type 0). P)
+        (λ i. AllByRecursion (IsWithin (sym (length-bound_where (λ j. is_on w.done (InText j)) segment offset texts) i)
+        (sym (length-bound_where (λ j. is_on w.done (InData j)) segment offset datas) i)) ps) h
 
     on_all : (p : Place) → is_on w.done p ≡ true → is_on (w.done ++ w.rest) p ≡ true
     on_all p e = on_either w.done w.rest p ∙ ap (λ (t : Bool). t || is_on w.rest p) e
@@ -84,9 +93,13 @@ module _ (texts datas : List Cell) (ts ds heads : List Link) (a : AreChained tex
       visits = w.ahead;
       apart = (apart_parts w.done w.rest w.apart).1;
       inside = inside_still w.rest (all_split (IsWithin (length texts) (length datas)) w.done w.rest w.inside).1;
-      text = rest_tells segment offset k (λ i. is_on w.done (InText i)) (λ i. is_on (w.done ++ w.rest) (InText i)) (λ i. is_on w.rest (InText i))
+      text =
+          rest_tells segment offset k (λ i. is_on w.done (InText i)) (λ i. is_on (w.done ++ w.rest) (InText i))
+          (λ i. is_on w.rest (InText i))
           (λ i. apart_from w.done w.rest w.apart (InText i)) (λ i. on_rest (InText i)) texts text_told;
-      «data» = rest_tells segment offset k (λ i. is_on w.done (InData i)) (λ i. is_on (w.done ++ w.rest) (InData i)) (λ i. is_on w.rest (InData i))
+      «data» =
+          rest_tells segment offset k (λ i. is_on w.done (InData i)) (λ i. is_on (w.done ++ w.rest) (InData i))
+          (λ i. is_on w.rest (InData i))
           (λ i. apart_from w.done w.rest w.apart (InData i)) (λ i. on_rest (InData i)) datas data_told;
     }
 
@@ -96,9 +109,13 @@ module _ (texts datas : List Cell) (ts ds heads : List Link) (a : AreChained tex
       visits = (a.each j).visits;
       apart = (a.each j).apart;
       inside = inside_still (a.each j).places (a.each j).inside;
-      text = other_tells segment offset k j ne (λ i. is_on w.done (InText i)) (λ i. is_on (w.done ++ w.rest) (InText i)) (λ i. is_on (a.each j).places (InText i))
+      text =
+          other_tells segment offset k j ne (λ i. is_on w.done (InText i)) (λ i. is_on (w.done ++ w.rest) (InText i))
+          (λ i. is_on (a.each j).places (InText i))
           (λ i. on_all (InText i)) texts text_told (a.each j).text;
-      «data» = other_tells segment offset k j ne (λ i. is_on w.done (InData i)) (λ i. is_on (w.done ++ w.rest) (InData i)) (λ i. is_on (a.each j).places (InData i))
+      «data» =
+          other_tells segment offset k j ne (λ i. is_on w.done (InData i)) (λ i. is_on (w.done ++ w.rest) (InData i))
+          (λ i. is_on (a.each j).places (InData i))
           (λ i. on_all (InData i)) datas data_told (a.each j).data;
     }
 
@@ -111,7 +128,9 @@ module _ (texts datas : List Cell) (ts ds heads : List Link) (a : AreChained tex
     by_order j (inl same) =
         subst (λ (n : ℕ). Waits ts ds (slice_index_or (slice_set heads k next) n None) bound_texts bound_datas n) same
         (subst (λ (l : Link). Waits ts ds l bound_texts bound_datas k) (sym head_set) own_chain)
-    by_order j (inr ne) = subst (λ (l : Link). Waits ts ds l bound_texts bound_datas j) (sym (index_set_other heads k j next None ne)) (other_chain j ne)
+    by_order j (inr ne) =
+        subst (λ (l : Link). Waits ts ds l bound_texts bound_datas j) (sym (index_set_other heads k j next None ne))
+        (other_chain j ne)
 
     bound_chained : AreChained bound_texts bound_datas ts ds (slice_set heads k next)
     bound_chained = record {
@@ -125,7 +144,8 @@ module _ (texts datas : List Cell) (ts ds heads : List Link) (a : AreChained tex
 
   -- the whole chain is bound, and cut
   pub bound_whole : (k : ℕ) (segment : Segment) (offset : ℕ) →
-      IsBoundTo ts ds (slice_index_or heads k None) None segment offset texts datas [] (map (bound_if k segment offset) texts) (map (bound_if k segment offset) datas) (marks_of texts datas (a.each k).places)
+      IsBoundTo ts ds (slice_index_or heads k None) None segment offset texts datas [] (map (bound_if k segment offset) texts)
+      (map (bound_if k segment offset) datas) (marks_of texts datas (a.each k).places)
   bound_whole k segment offset = record {
     done = (a.each k).places;
     rest = [];
@@ -138,14 +158,19 @@ module _ (texts datas : List Cell) (ts ds heads : List Link) (a : AreChained tex
     marked = refl;
   }
 
-  cut_one : (k : ℕ) (segment : Segment) (offset : ℕ) → AreChained (map (bound_if k segment offset) texts) (map (bound_if k segment offset) datas) ts ds (slice_set heads k None)
+  cut_one : (k : ℕ) (segment : Segment) (offset : ℕ) → AreChained (map (bound_if k segment offset) texts)
+      (map (bound_if k segment offset) datas) ts ds (slice_set heads k None)
   cut_one k segment offset =
-      cut_to k segment offset None [] (map (bound_if k segment offset) texts) (map (bound_if k segment offset) datas) (marks_of texts datas (a.each k).places) (bound_whole k segment offset)
+      cut_to k segment offset None [] (map (bound_if k segment offset) texts) (map (bound_if k segment offset) datas)
+      (marks_of texts datas (a.each k).places) (bound_whole k segment offset)
 
   -- the same by the state of the name
-  pub cut_named : (es : Named) (k : ℕ) (segment : Segment) (offset : ℕ) → state_at es k ≡ Defined segment offset → AreChained (map (settled_at es k) texts) (map (settled_at es k) datas) ts ds (slice_set heads k None)
+  pub cut_named : (es : Named) (k : ℕ) (segment : Segment) (offset : ℕ) → state_at es k ≡ Defined segment offset →
+      AreChained (map (settled_at es k) texts) (map (settled_at es k) datas) ts ds (slice_set heads k None)
   cut_named es k segment offset at =
-      subst (λ (P : Type 0). P) (λ i. AreChained (map (λ (c : Cell). cond (waits_at k c.target) (bound_or (bound_by (sym at i) c) c) c) texts) (map (λ (c : Cell). cond (waits_at k c.target) (bound_or (bound_by (sym at i) c) c) c) datas) ts ds (slice_set heads k None))
+      subst (λ (P : Type 0). P)
+      (λ i. AreChained (map (λ (c : Cell). cond (waits_at k c.target) (bound_or (bound_by (sym at i) c) c) c) texts)
+      (map (λ (c : Cell). cond (waits_at k c.target) (bound_or (bound_by (sym at i) c) c) c) datas) ts ds (slice_set heads k None))
       (cut_one k segment offset)
 
   -- one more name has an empty chain
@@ -161,12 +186,14 @@ abbrev pub WaitsBelow : ℕ → Target → Type 0
 WaitsBelow n (targets.External k) = k < n
 WaitsBelow n _ = ⊤
 
-head_there : (heads : List Link) (k : ℕ) (link : Link) (t : Target) → t ≡ targets.External k → WaitsBelow (length heads) t → slice_index_or (with_head t link heads) k None ≡ link
+head_there : (heads : List Link) (k : ℕ) (link : Link) (t : Target) → t ≡ targets.External k →
+    WaitsBelow (length heads) t → slice_index_or (with_head t link heads) k None ≡ link
 head_there heads k link t e h =
     let below : k < length heads = subst (WaitsBelow (length heads)) e h in
     ap (λ (u : Target). slice_index_or (with_head u link heads) k None) e ∙ index_set_same heads k link None below
 
-head_elsewhere : (heads : List Link) (k : ℕ) (link : Link) (t : Target) → waits_at k t ≡ false → slice_index_or (with_head t link heads) k None ≡ slice_index_or heads k None
+head_elsewhere : (heads : List Link) (k : ℕ) (link : Link) (t : Target) → waits_at k t ≡ false →
+    slice_index_or (with_head t link heads) k None ≡ slice_index_or heads k None
 head_elsewhere heads k link targets.Absolute e = refl
 head_elsewhere heads k link targets.TextSeg e = refl
 head_elsewhere heads k link targets.DataSeg e = refl
@@ -189,65 +216,86 @@ length-with_head heads (targets.External i) link = same heads i
     same (h ∷ hs) zero = refl
     same (h ∷ hs) (suc i) = ap suc (same hs i)
 
-module _ (texts datas : List Cell) (ts ds heads : List Link) (c : Cell) (a : AreChained texts datas ts ds heads) (h : WaitsBelow (length heads) c.target) where
+module _ (texts datas : List Cell) (ts ds heads : List Link) (c : Cell) (a : AreChained texts datas ts ds heads)
+    (h : WaitsBelow (length heads) c.target) where
   -- a cell of text is put last, and in front of its chain
-  pub one_text : AreChained (texts ++ c ∷ []) datas (ts ++ head_for c.target heads ∷ []) ds (with_head c.target (Some (InText (length texts))) heads)
+  pub one_text : AreChained (texts ++ c ∷ []) datas (ts ++ head_for c.target heads ∷ []) ds
+      (with_head c.target (Some (InText (length texts))) heads)
   one_text = record {
     text = (let e = a.text in omega (arith, length-append ts (head_for c.target heads ∷ []), length-append texts (c ∷ [])));
     «data» = a.data;
     each = λ k. by_test k (waits_at k c.target) refl;
   }
     where
-      by_test : (k : ℕ) (t : Bool) → waits_at k c.target ≡ t → Waits (ts ++ head_for c.target heads ∷ []) ds (slice_index_or (with_head c.target (Some (InText (length texts))) heads) k None) (texts ++ c ∷ []) datas k
+      by_test : (k : ℕ) (t : Bool) → waits_at k c.target ≡ t → Waits (ts ++ head_for c.target heads ∷ []) ds
+          (slice_index_or (with_head c.target (Some (InText (length texts))) heads) k None) (texts ++ c ∷ []) datas k
       by_test k true e =
           let name = waits_is k c.target e in
-          subst (λ (P : Type 0). P) (λ i. Waits (ts ++ sym (ap (λ (t : Target). head_for t heads) name) i ∷ []) ds (sym (head_there heads k (Some (InText (length texts))) c.target name h) i) (texts ++ c ∷ []) datas k)
+          subst (λ (P : Type 0). P) (λ i. Waits (ts ++ sym (ap (λ (t : Target). head_for t heads) name) i ∷ []) ds
+          (sym (head_there heads k (Some (InText (length texts))) c.target name h) i) (texts ++ c ∷ []) datas k)
           (push_text ts ds (slice_index_or heads k None) texts datas k c (a.each k) a.text e)
       by_test k false e =
-          subst (λ (l : Link). Waits (ts ++ head_for c.target heads ∷ []) ds l (texts ++ c ∷ []) datas k) (sym (head_elsewhere heads k (Some (InText (length texts))) c.target e))
+          subst (λ (l : Link). Waits (ts ++ head_for c.target heads ∷ []) ds l (texts ++ c ∷ []) datas k)
+          (sym (head_elsewhere heads k (Some (InText (length texts))) c.target e))
           (pass_text ts ds (slice_index_or heads k None) texts datas k c (a.each k) (head_for c.target heads) a.text e)
 
   -- the same for a cell of data
-  pub one_data : AreChained texts (datas ++ c ∷ []) ts (ds ++ head_for c.target heads ∷ []) (with_head c.target (Some (InData (length datas))) heads)
+  pub one_data : AreChained texts (datas ++ c ∷ []) ts (ds ++ head_for c.target heads ∷ [])
+      (with_head c.target (Some (InData (length datas))) heads)
   one_data = record {
     text = a.text;
     «data» = (let e = a.data in omega (arith, length-append ds (head_for c.target heads ∷ []), length-append datas (c ∷ [])));
     each = λ k. by_test k (waits_at k c.target) refl;
   }
     where
-      by_test : (k : ℕ) (t : Bool) → waits_at k c.target ≡ t → Waits ts (ds ++ head_for c.target heads ∷ []) (slice_index_or (with_head c.target (Some (InData (length datas))) heads) k None) texts (datas ++ c ∷ []) k
+      by_test : (k : ℕ) (t : Bool) → waits_at k c.target ≡ t → Waits ts (ds ++ head_for c.target heads ∷ [])
+          (slice_index_or (with_head c.target (Some (InData (length datas))) heads) k None) texts (datas ++ c ∷ []) k
       by_test k true e =
           let name = waits_is k c.target e in
-          subst (λ (P : Type 0). P) (λ i. Waits ts (ds ++ sym (ap (λ (t : Target). head_for t heads) name) i ∷ []) (sym (head_there heads k (Some (InData (length datas))) c.target name h) i) texts (datas ++ c ∷ []) k)
+          subst (λ (P : Type 0). P) (λ i. Waits ts (ds ++ sym (ap (λ (t : Target). head_for t heads) name) i ∷ [])
+          (sym (head_there heads k (Some (InData (length datas))) c.target name h) i) texts (datas ++ c ∷ []) k)
           (push_data ts ds (slice_index_or heads k None) texts datas k c (a.each k) a.data e)
       by_test k false e =
-          subst (λ (l : Link). Waits ts (ds ++ head_for c.target heads ∷ []) l texts (datas ++ c ∷ []) k) (sym (head_elsewhere heads k (Some (InData (length datas))) c.target e))
+          subst (λ (l : Link). Waits ts (ds ++ head_for c.target heads ∷ []) l texts (datas ++ c ∷ []) k)
+          (sym (head_elsewhere heads k (Some (InData (length datas))) c.target e))
           (pass_data ts ds (slice_index_or heads k None) texts datas k c (a.each k) (head_for c.target heads) a.data e)
 
 -- all cells of text of an object are put last
-pub all_text : (texts datas : List Cell) (ts ds heads : List Link) (cs : List Cell) → AreChained texts datas ts ds heads → AllByRecursion (λ c. WaitsBelow (length heads) c.target) cs →
-    AreChained (texts ++ cs) datas (ts ++ (threaded (λ i. InText i) (length texts) cs heads).0) ds (threaded (λ i. InText i) (length texts) cs heads).1
-all_text texts datas ts ds heads [] a h = subst (λ (P : Type 0). P) (λ i. AreChained (sym (append-nil texts) i) datas (sym (append-nil ts) i) ds heads) a
+pub all_text : (texts datas : List Cell) (ts ds heads : List Link) (cs : List Cell) →
+    AreChained texts datas ts ds heads → AllByRecursion (λ c. WaitsBelow (length heads) c.target) cs →
+    AreChained (texts ++ cs) datas (ts ++ (threaded (λ i. InText i) (length texts) cs heads).0) ds
+    (threaded (λ i. InText i) (length texts) cs heads).1
+all_text texts datas ts ds heads [] a h =
+    subst (λ (P : Type 0). P) (λ i. AreChained (sym (append-nil texts) i) datas (sym (append-nil ts) i) ds heads) a
 all_text texts datas ts ds heads (c ∷ cs) a h =
     let p : Place = InText (length texts) in
     let links : List Link → List Link = λ l. l in
     let n : length (texts ++ c ∷ []) ≡ length texts + 1 = length-append texts (c ∷ []) in
     subst (λ (P : Type 0). P) (λ i. AreChained (append_assoc texts (c ∷ []) cs i) datas
-    ((ap (λ (m : ℕ). (ts ++ head_for c.target heads ∷ []) ++ (threaded (λ j. InText j) m cs (with_head c.target (Some (InText (length texts))) heads)).0) n
-    ∙ append_assoc ts (head_for c.target heads ∷ []) (threaded (λ j. InText j) (length texts + 1) cs (with_head c.target (Some (InText (length texts))) heads)).0) i)
+    ((ap (λ (m : ℕ). (ts ++ head_for c.target heads ∷ [])
+    ++ (threaded (λ j. InText j) m cs (with_head c.target (Some (InText (length texts))) heads)).0) n
+    ∙ append_assoc ts (head_for c.target heads ∷ [])
+    (threaded (λ j. InText j) (length texts + 1) cs (with_head c.target (Some (InText (length texts))) heads)).0) i)
     ds (threaded (λ j. InText j) (n i) cs (with_head c.target (Some (InText (length texts))) heads)).1)
-    (all_text (texts ++ c ∷ []) datas (ts ++ head_for c.target heads ∷ []) ds (with_head c.target (Some p) heads) cs (one_text texts datas ts ds heads c a h.0)
+    (all_text (texts ++ c ∷ []) datas (ts ++ head_for c.target heads ∷ []) ds (with_head c.target (Some p) heads) cs
+    (one_text texts datas ts ds heads c a h.0)
     (subst (λ (m : ℕ). AllByRecursion (λ (x : Cell). WaitsBelow m x.target) cs) (sym (length-with_head heads c.target (Some p))) h.1))
 
-pub all_data : (texts datas : List Cell) (ts ds heads : List Link) (cs : List Cell) → AreChained texts datas ts ds heads → AllByRecursion (λ c. WaitsBelow (length heads) c.target) cs →
-    AreChained texts (datas ++ cs) ts (ds ++ (threaded (λ i. InData i) (length datas) cs heads).0) (threaded (λ i. InData i) (length datas) cs heads).1
-all_data texts datas ts ds heads [] a h = subst (λ (P : Type 0). P) (λ i. AreChained texts (sym (append-nil datas) i) ts (sym (append-nil ds) i) heads) a
+pub all_data : (texts datas : List Cell) (ts ds heads : List Link) (cs : List Cell) →
+    AreChained texts datas ts ds heads → AllByRecursion (λ c. WaitsBelow (length heads) c.target) cs →
+    AreChained texts (datas ++ cs) ts (ds ++ (threaded (λ i. InData i) (length datas) cs heads).0)
+    (threaded (λ i. InData i) (length datas) cs heads).1
+all_data texts datas ts ds heads [] a h =
+    subst (λ (P : Type 0). P) (λ i. AreChained texts (sym (append-nil datas) i) ts (sym (append-nil ds) i) heads) a
 all_data texts datas ts ds heads (c ∷ cs) a h =
     let p : Place = InData (length datas) in
     let n : length (datas ++ c ∷ []) ≡ length datas + 1 = length-append datas (c ∷ []) in
     subst (λ (P : Type 0). P) (λ i. AreChained texts (append_assoc datas (c ∷ []) cs i) ts
-    ((ap (λ (m : ℕ). (ds ++ head_for c.target heads ∷ []) ++ (threaded (λ j. InData j) m cs (with_head c.target (Some (InData (length datas))) heads)).0) n
-    ∙ append_assoc ds (head_for c.target heads ∷ []) (threaded (λ j. InData j) (length datas + 1) cs (with_head c.target (Some (InData (length datas))) heads)).0) i)
+    ((ap (λ (m : ℕ). (ds ++ head_for c.target heads ∷ [])
+    ++ (threaded (λ j. InData j) m cs (with_head c.target (Some (InData (length datas))) heads)).0) n
+    ∙ append_assoc ds (head_for c.target heads ∷ [])
+    (threaded (λ j. InData j) (length datas + 1) cs (with_head c.target (Some (InData (length datas))) heads)).0) i)
     (threaded (λ j. InData j) (n i) cs (with_head c.target (Some (InData (length datas))) heads)).1)
-    (all_data texts (datas ++ c ∷ []) ts (ds ++ head_for c.target heads ∷ []) (with_head c.target (Some p) heads) cs (one_data texts datas ts ds heads c a h.0)
+    (all_data texts (datas ++ c ∷ []) ts (ds ++ head_for c.target heads ∷ []) (with_head c.target (Some p) heads) cs
+    (one_data texts datas ts ds heads c a h.0)
     (subst (λ (m : ℕ). AllByRecursion (λ (x : Cell). WaitsBelow m x.target) cs) (sym (length-with_head heads c.target (Some p))) h.1))

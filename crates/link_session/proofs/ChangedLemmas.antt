@@ -1,5 +1,6 @@
 -- A state that mentions change does not come back.
-use Rattle.std.proofs.Common.{◌≡◌, ◌≢◌, ℕ, max, Bool, true, false, cond, List, [], ◌∷◌, ◌++◌, Option, refl, sym, ap, ◌∙◌, arith, append_assoc, append-nil}
+use Rattle.std.proofs.Common.{◌≡◌, ◌≢◌, ℕ, max, Bool, true, false, cond, List, [], ◌∷◌, ◌++◌, Option}
+use Rattle.std.proofs.Common.{refl, sym, ap, ◌∙◌, arith, append_assoc, append-nil}
 use Rattle.std.proofs.lemmas.Bool.{eqb-true}
 use Rattle.link_session.specs.declared.state.State.{State}
 use Rattle.link_session.specs.declared.state.State.TheVariants.{Defined, Wanted}
@@ -12,7 +13,8 @@ use Rattle.link_session.proofs.DifferenceLemmas.{own_state}
 use Rattle.link_session.proofs.UpdateLemmas.{definition_same}
 
 is_same : (s t : State) → same_state s t ≡ true → t ≡ s
-is_same (Defined segment offset) (Defined again place) e = ap (λ (d : Option Definition). state_by d 0) (sym (definition_same again place (segment, offset) e))
+is_same (Defined segment offset) (Defined again place) e =
+    ap (λ (d : Option Definition). state_by d 0) (sym (definition_same again place (segment, offset) e))
 is_same (Defined segment offset) (Wanted size) e = absurd (cc)
 is_same (Wanted size) (Defined segment offset) e = absurd (cc)
 is_same (Wanted size) (Wanted more) e = let same : size ≡ more = eqb-true size more e in ap (λ (n : ℕ). Wanted n) (sym same)
@@ -22,25 +24,32 @@ never_back : (s first later : State) → updated_state (updated_state s first) l
 never_back (Defined segment offset) first later e = refl
 never_back (Wanted size) (Defined segment offset) later e = absurd (cc)
 never_back (Wanted size) (Wanted more) (Defined segment offset) e = absurd (cc)
-never_back (Wanted size) (Wanted more) (Wanted last) e = let most : max (max size more) last ≡ size = cc in ap (λ (n : ℕ). Wanted n) (omega arith)
+never_back (Wanted size) (Wanted more) (Wanted last) e =
+    let most : max (max size more) last ≡ size = cc in ap (λ (n : ℕ). Wanted n) (omega arith)
 
 -- one mention, and those after it
-one_by_one : (earlier : List Mention) (m : Mention) (ms : List Mention) (name : List ℕ) → state (earlier ++ (m ∷ ms)) name ≡ state ((earlier ++ m ∷ []) ++ ms) name
+one_by_one : (earlier : List Mention) (m : Mention) (ms : List Mention) (name : List ℕ) →
+    state (earlier ++ (m ∷ ms)) name ≡ state ((earlier ++ m ∷ []) ++ ms) name
 one_by_one earlier m ms name = ap (λ (l : List Mention). state l name) (sym (append_assoc earlier (m ∷ []) ms))
 
-pub none_changed : (earlier ms : List Mention) (name : List ℕ) → state (earlier ++ ms) name ≡ state earlier name → states_changed earlier ms name ≡ []
+pub none_changed : (earlier ms : List Mention) (name : List ℕ) → state (earlier ++ ms) name ≡ state earlier name →
+    states_changed earlier ms name ≡ []
 none_changed earlier [] name e = refl
 none_changed earlier (m ∷ ms) name e =
-    let split : state (earlier ++ m ∷ []) name ≡ updated_state (state earlier name) (state (m ∷ []) name) = state-append earlier (m ∷ []) name in
-    let last : state ((earlier ++ m ∷ []) ++ ms) name ≡ updated_state (updated_state (state earlier name) (state (m ∷ []) name)) (state ms name) =
+    let split : state (earlier ++ m ∷ []) name ≡ updated_state (state earlier name) (state (m ∷ []) name) =
+    state-append earlier (m ∷ []) name in
+    let last : state ((earlier ++ m ∷ []) ++ ms) name
+    ≡ updated_state (updated_state (state earlier name) (state (m ∷ []) name)) (state ms name) =
     state-append (earlier ++ m ∷ []) ms name ∙ ap (λ (s : State). updated_state s (state ms name)) split in
     let stays : state (earlier ++ m ∷ []) name ≡ state earlier name =
     split ∙ never_back (state earlier name) (state (m ∷ []) name) (state ms name) (sym last ∙ sym (one_by_one earlier m ms name) ∙ e) in
     let here : state_changed earlier m name ≡ [] =
-    ap (λ (s : State). cond (same_state (state earlier name) s) [] (state earlier name ∷ [])) stays ∙ ap (λ (t : Bool). cond t [] (state earlier name ∷ [])) (own_state (state earlier name)) in
+    ap (λ (s : State). cond (same_state (state earlier name) s) [] (state earlier name ∷ [])) stays
+    ∙ ap (λ (t : Bool). cond t [] (state earlier name ∷ [])) (own_state (state earlier name)) in
     λ i. here i ++ none_changed (earlier ++ m ∷ []) ms name (sym (one_by_one earlier m ms name) ∙ e ∙ sym stays) i
 
-pub first_changed : (earlier ms : List Mention) (name : List ℕ) → state (earlier ++ ms) name ≢ state earlier name → (later : List State) × (states_changed earlier ms name ≡ state earlier name ∷ later)
+pub first_changed : (earlier ms : List Mention) (name : List ℕ) → state (earlier ++ ms) name ≢ state earlier name →
+    (later : List State) × (states_changed earlier ms name ≡ state earlier name ∷ later)
 first_changed earlier [] name other = absurd (other (ap (λ (l : List Mention). state l name) (append-nil earlier)))
 first_changed earlier (m ∷ ms) name other =
     by_test (same_state (state earlier name) (state (earlier ++ m ∷ []) name)) refl (λ ne. first_changed (earlier ++ m ∷ []) ms name ne)
@@ -49,7 +58,8 @@ first_changed earlier (m ∷ ms) name other =
     rest = states_changed (earlier ++ m ∷ []) ms name
 
     by_test : (t : Bool) → same_state (state earlier name) (state (earlier ++ m ∷ []) name) ≡ t →
-        (state ((earlier ++ m ∷ []) ++ ms) name ≢ state (earlier ++ m ∷ []) name → (later : List State) × (rest ≡ state (earlier ++ m ∷ []) name ∷ later)) →
+        (state ((earlier ++ m ∷ []) ++ ms) name ≢ state (earlier ++ m ∷ []) name →
+        (later : List State) × (rest ≡ state (earlier ++ m ∷ []) name ∷ later)) →
         (later : List State) × (cond t [] (state earlier name ∷ []) ++ rest ≡ state earlier name ∷ later)
     by_test false e h = (rest, refl)
     by_test true e h =

@@ -1,5 +1,6 @@
 -- A chain has as many places as cells that wait for its external, and each name that is bound leaves so many fewer cells to bind.
-use Rattle.std.proofs.Common.{◌≡◌, ◌≢◌, ◌<◌, ◌+◌, ◌⊎◌, inl, inr, ℕ, zero, suc, Bool, true, false, cond, ◌||◌, List, [], ◌∷◌, map, length, is_some, refl, sym, ap, ◌∙◌, arith}
+use Rattle.std.proofs.Common.{◌≡◌, ◌≢◌, ◌<◌, ◌+◌, ◌⊎◌, inl, inr, ℕ, zero, suc, Bool, true, false, cond, ◌||◌, List}
+use Rattle.std.proofs.Common.{[], ◌∷◌, map, length, is_some, refl, sym, ap, ◌∙◌, arith}
 use Rattle.std.specs.List.{AllByRecursion}
 use Rattle.std.proofs.lemmas.Bool.{cases_eq}
 use Rattle.aout_core.specs.declared.symbol.Segment.{Segment}
@@ -27,7 +28,8 @@ count_where test (c ∷ cs) = cond (test 0) 1 0 + count_where (λ i. test (suc i
 count_same : (f g : ℕ → Bool) → ((i : ℕ) → f i ≡ g i) → (cs : List Cell) → count_where f cs ≡ count_where g cs
 count_same f g h cs = λ i. count_where (λ n. h n i) cs
 
-count_one : (f g : ℕ → Bool) (i : ℕ) (cs : List Cell) → i < length cs → f i ≡ false → g i ≡ true → ((j : ℕ) → i ≢ j → f j ≡ g j) → count_where g cs ≡ 1 + count_where f cs
+count_one : (f g : ℕ → Bool) (i : ℕ) (cs : List Cell) → i < length cs → f i ≡ false → g i ≡ true →
+    ((j : ℕ) → i ≢ j → f j ≡ g j) → count_where g cs ≡ 1 + count_where f cs
 count_one f g i [] lt off on others = absurd (omega arith)
 count_one f g zero (c ∷ cs) lt off on others =
     let rest = count_same (λ n. f (suc n)) (λ n. g (suc n)) (λ n. others (suc n) (λ e. omega arith)) cs in rw (off, on) (omega arith)
@@ -41,7 +43,8 @@ count_none [] = refl
 count_none (c ∷ cs) = let rest = count_none cs in omega arith
 
 -- places apart and within the cells are so many
-pub places_counted : (ps : List Place) (texts datas : List Cell) → AreApart ps → AllByRecursion (IsWithin (length texts) (length datas)) ps →
+pub places_counted : (ps : List Place) (texts datas : List Cell) → AreApart ps →
+    AllByRecursion (IsWithin (length texts) (length datas)) ps →
     length ps ≡ count_where (λ i. is_on ps (InText i)) texts + count_where (λ i. is_on ps (InData i)) datas
 places_counted [] texts datas a h = let t = count_none texts in let d = count_none datas in omega arith
 places_counted (InText i ∷ ps) texts datas a h =
@@ -60,16 +63,24 @@ places_counted (InData i ∷ ps) texts datas a h =
 waiting_counted : (test : ℕ → Bool) (k : ℕ) (cs : List Cell) → Tells test k cs → count_where test cs ≡ length (waiting_for k cs)
 waiting_counted test k [] h = refl
 waiting_counted test k (c ∷ cs) h =
-    let rest = waiting_counted (λ i. test (suc i)) k cs h.1 in ap (λ (t : Bool). cond t 1 0 + count_where (λ i. test (suc i)) cs) h.0 ∙ by_test (waits_at k c.target) rest
+    let rest = waiting_counted (λ i. test (suc i)) k cs h.1 in
+    ap (λ (t : Bool). cond t 1 0 + count_where (λ i. test (suc i)) cs) h.0 ∙ by_test (waits_at k c.target) rest
   where
-    by_test : (t : Bool) → count_where (λ i. test (suc i)) cs ≡ length (waiting_for k cs) → cond t 1 0 + count_where (λ i. test (suc i)) cs ≡ length (cond t (c ∷ waiting_for k cs) (waiting_for k cs))
+    by_test : (t : Bool) → count_where (λ i. test (suc i)) cs ≡ length (waiting_for k cs) →
+        cond t 1 0 + count_where (λ i. test (suc i)) cs ≡ length (cond t (c ∷ waiting_for k cs) (waiting_for k cs))
     by_test true h = omega arith
     by_test false h = omega arith
 
 -- a chain has as many places as cells that wait
-pub chain_counted : (ts ds : List Link) (head : Link) (texts datas : List Cell) (k : ℕ) → (w : Waits ts ds head texts datas k) → length w.places ≡ length (waiting_for k texts) + length (waiting_for k datas)
+pub chain_counted : (ts ds : List Link) (head : Link) (texts datas : List Cell) (k : ℕ) →
+    (w : Waits ts ds head texts datas k) → length w.places ≡ length (waiting_for k texts) + length (waiting_for k datas)
 chain_counted ts ds head texts datas k w =
-    omega (arith, places_counted w.places texts datas w.apart w.inside, waiting_counted (λ i. is_on w.places (InText i)) k texts w.text, waiting_counted (λ i. is_on w.places (InData i)) k datas w.data)
+    omega (
+      arith,
+      places_counted w.places texts datas w.apart w.inside,
+      waiting_counted (λ i. is_on w.places (InText i)) k texts w.text,
+      waiting_counted (λ i. is_on w.places (InData i)) k datas w.data,
+    )
 
 segment_stays : (es : Named) (segment : Segment) (c : Cell) → is_some (binding_at es (segment_target segment) c) ≡ false
 segment_stays es segments.Undefined c = refl
@@ -99,18 +110,25 @@ fewer_to_bind es k segment offset at (c ∷ cs) = by_test (waits_at k c.target) 
     rest : List Cell
     rest = map (settled_at es k) cs
 
-    by_test : (t : Bool) → waits_at k c.target ≡ t → length (to_bind es cs) ≡ length (waiting_for k cs) + length (to_bind es (map (settled_at es k) cs)) →
-        length (to_bind es (c ∷ cs)) ≡ length (cond t (c ∷ waiting_for k cs) (waiting_for k cs)) + length (to_bind es (cond t (bound_or (bound_by (state_at es k) c) c) c ∷ map (settled_at es k) cs))
+    by_test : (t : Bool) → waits_at k c.target ≡ t →
+        length (to_bind es cs) ≡ length (waiting_for k cs) + length (to_bind es (map (settled_at es k) cs)) →
+        length (to_bind es (c ∷ cs)) ≡ length (cond t (c ∷ waiting_for k cs) (waiting_for k cs))
+        + length (to_bind es (cond t (bound_or (bound_by (state_at es k) c) c) c ∷ map (settled_at es k) cs))
     by_test true e h =
-        let binds : is_some (binding es c) ≡ true = ap (λ (t : Target). is_some (binding_at es t c)) (waits_is k c.target e) ∙ ap (λ (s : State). is_some (bound_by s c)) at in
-        let bound : bound_or (bound_by (state_at es k) c) c ≡ bound_to segment offset c = ap (λ (s : State). bound_or (bound_by s c) c) at in
+        let binds : is_some (binding es c) ≡ true = ap (λ (t : Target). is_some (binding_at es t c)) (waits_is k c.target e)
+        ∙ ap (λ (s : State). is_some (bound_by s c)) at in
+        let bound : bound_or (bound_by (state_at es k) c) c ≡ bound_to segment offset c =
+        ap (λ (s : State). bound_or (bound_by s c) c) at in
         let stays : is_some (binding es (bound_to segment offset c)) ≡ false = segment_stays es segment (bound_to segment offset c) in
         ap (λ (t : Bool). length (cond t (c ∷ to_bind es cs) (to_bind es cs))) binds
-        ∙ (let sum : suc (length (to_bind es cs)) ≡ suc (length (waiting_for k cs)) + length (to_bind es (map (settled_at es k) cs)) = omega arith in sum)
-        ∙ ap (λ (t : Bool). suc (length (waiting_for k cs)) + length (cond t (bound_to segment offset c ∷ to_bind es (map (settled_at es k) cs)) (to_bind es (map (settled_at es k) cs)))) (sym stays)
+        ∙ (let sum : suc (length (to_bind es cs))
+        ≡ suc (length (waiting_for k cs)) + length (to_bind es (map (settled_at es k) cs)) = omega arith in sum)
+        ∙ ap (λ (t : Bool). suc (length (waiting_for k cs)) + length (cond t (bound_to segment offset c ∷
+        to_bind es (map (settled_at es k) cs)) (to_bind es (map (settled_at es k) cs)))) (sym stays)
         ∙ ap (λ (b : Cell). suc (length (waiting_for k cs)) + length (to_bind es (b ∷ map (settled_at es k) cs))) (sym bound)
     by_test false e h = by_binding (is_some (binding es c))
       where
-        by_binding : (t : Bool) → length (cond t (c ∷ to_bind es cs) (to_bind es cs)) ≡ length (waiting_for k cs) + length (cond t (c ∷ to_bind es (map (settled_at es k) cs)) (to_bind es (map (settled_at es k) cs)))
+        by_binding : (t : Bool) → length (cond t (c ∷ to_bind es cs) (to_bind es cs)) ≡ length (waiting_for k cs)
+            + length (cond t (c ∷ to_bind es (map (settled_at es k) cs)) (to_bind es (map (settled_at es k) cs)))
         by_binding true = omega arith
         by_binding false = h

@@ -20,7 +20,8 @@ unsettled es k (c ∷ cs) h = λ i. one i ∷ unsettled es k cs h.1 i
     one = ap (λ (t : Bool). cond t (bound_or (bound_by (state_at es k) c) c) c) h.0
 
 -- no cell waits for the external whose head this is
-module _ (es : Named) (k : ℕ) (texts datas : List Cell) (ts ds : List Link) (head : Link) (empty : head ≡ None) (waits : Waits ts ds head texts datas k) where
+module _ (es : Named) (k : ℕ) (texts datas : List Cell) (ts ds : List Link) (head : Link) (empty : head ≡ None)
+    (waits : Waits ts ds head texts datas k) where
   none : waits.places ≡ []
   none = no_places ts ds head waits.places empty waits.visits
 

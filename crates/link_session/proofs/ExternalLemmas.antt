@@ -5,4 +5,6 @@ use Rattle.std.proofs.iter.runs.Sources.{from_front, as_is}
 use Rattle.link_session.specs.Image.{Named, GivesInOrder}
 
 pub gives_in_order : GivesInOrder
-gives_in_order p s = as_is p p.from (from_front (YieldsFirst (λ (left : Named). left)) (λ x. x) (λ (left : Named). left) (λ s t h. ap length h.0) (λ s x t h. h) p s)
+gives_in_order p s =
+    as_is p p.from (from_front (YieldsFirst (λ (left : Named). left)) (λ x. x) (λ (left : Named). left)
+    (λ s t h. ap length h.0) (λ s x t h. h) p s)

@@ -1,5 +1,6 @@
 -- How many marks there are once chains are bound, and that they are no more than an addition may leave.
-use Rattle.std.proofs.Common.{◌≡◌, ◌≤◌, ◌+◌, ℕ, Bool, cond, List, [], ◌∷◌, ◌++◌, map, length, Option, Some, None, is_some, Result, Ok, Err, refl, sym, ap, ◌∙◌, arith, length-append}
+use Rattle.std.proofs.Common.{◌≡◌, ◌≤◌, ◌+◌, ℕ, Bool, cond, List, [], ◌∷◌, ◌++◌, map, length, Option, Some, None}
+use Rattle.std.proofs.Common.{is_some, Result, Ok, Err, refl, sym, ap, ◌∙◌, arith, length-append}
 use Rattle.std.specs.Prelude.{filter, OnOk}
 use Rattle.std.specs.List.{AllByRecursion}
 use Rattle.std.proofs.lemmas.List.{length-map}
@@ -31,15 +32,19 @@ use Rattle.link_session.proofs.AdditionLemmas.{WaitsAmong, rebinding, cells_wait
 use Rattle.link_session.proofs.CountLemmas.{chain_counted, fewer_to_bind}
 
 -- the marks of a chain
-pub chain_noted : (ts ds : List Link) (head : Link) (texts datas : List Cell) (k : ℕ) (w : Waits ts ds head texts datas k) (old new : List Mark) → new ≡ old ++ marks_of texts datas w.places → NotesWaiting k texts datas old new
+pub chain_noted : (ts ds : List Link) (head : Link) (texts datas : List Cell) (k : ℕ) (w : Waits ts ds head texts datas k)
+    (old new : List Mark) → new ≡ old ++ marks_of texts datas w.places → NotesWaiting k texts datas old new
 chain_noted ts ds head texts datas k w old new e =
     ap (λ (ks : List Mark). length ks) e
     ∙ length-append old (marks_of texts datas w.places)
-    ∙ ap (λ (n : ℕ). length old + n) (length-map w.places (λ (p : Place). CellWas p (cell_at texts datas p)) ∙ chain_counted ts ds head texts datas k w)
+    ∙ ap (λ (n : ℕ). length old + n)
+    (length-map w.places (λ (p : Place). CellWas p (cell_at texts datas p)) ∙ chain_counted ts ds head texts datas k w)
 
 -- of a defined name these are the cells that it binds
-pub defined_noted : (es : Named) (k : ℕ) (segment : Segment) (offset : ℕ) → state_at es k ≡ Defined segment offset → (texts datas new_texts new_datas : List Cell) (old new : List Mark) →
-    new_texts ≡ map (settled_at es k) texts → new_datas ≡ map (settled_at es k) datas → NotesWaiting k texts datas old new → NotesBound es texts datas new_texts new_datas old new
+pub defined_noted : (es : Named) (k : ℕ) (segment : Segment) (offset : ℕ) → state_at es k ≡ Defined segment offset →
+    (texts datas new_texts new_datas : List Cell) (old new : List Mark) →
+    new_texts ≡ map (settled_at es k) texts → new_datas ≡ map (settled_at es k) datas →
+    NotesWaiting k texts datas old new → NotesBound es texts datas new_texts new_datas old new
 defined_noted es k segment offset at texts datas new_texts new_datas old new t d e =
     let ft = fewer_to_bind es k segment offset at texts in
     let fd = fewer_to_bind es k segment offset at datas in
@@ -48,8 +53,10 @@ defined_noted es k segment offset at texts datas new_texts new_datas old new t d
     omega (arith, e)
 
 -- the same where a call that may fail has bound and marked them
-pub defined_noted_ok : {T E : Type 0} (r : Result T E) (es : Named) (k : ℕ) (segment : Segment) (offset : ℕ) → state_at es k ≡ Defined segment offset → (texts datas new_texts new_datas : List Cell) (old new : List Mark) →
-    OnOk r (new_texts ≡ map (bound_if k segment offset) texts) → OnOk r (new_datas ≡ map (bound_if k segment offset) datas) → OnOk r (NotesWaiting k texts datas old new) → OnOk r (NotesBound es texts datas new_texts new_datas old new)
+pub defined_noted_ok : {T E : Type 0} (r : Result T E) (es : Named) (k : ℕ) (segment : Segment) (offset : ℕ) →
+    state_at es k ≡ Defined segment offset → (texts datas new_texts new_datas : List Cell) (old new : List Mark) →
+    OnOk r (new_texts ≡ map (bound_if k segment offset) texts) → OnOk r (new_datas ≡ map (bound_if k segment offset) datas) →
+    OnOk r (NotesWaiting k texts datas old new) → OnOk r (NotesBound es texts datas new_texts new_datas old new)
 defined_noted_ok (Err e) es k segment offset at texts datas new_texts new_datas old new t d h = tt
 defined_noted_ok (Ok x) es k segment offset at texts datas new_texts new_datas old new t d h =
     defined_noted es k segment offset at texts datas new_texts new_datas old new (t ∙ settles texts) (d ∙ settles datas) h
@@ -59,7 +66,8 @@ defined_noted_ok (Ok x) es k segment offset at texts datas new_texts new_datas o
 
 -- marks after marks
 pub noted_then : (es : Named) (texts datas mid_texts mid_datas new_texts new_datas : List Cell) (old mid new : List Mark) →
-    NotesBound es texts datas mid_texts mid_datas old mid → NotesBound es mid_texts mid_datas new_texts new_datas mid new → NotesBound es texts datas new_texts new_datas old new
+    NotesBound es texts datas mid_texts mid_datas old mid → NotesBound es mid_texts mid_datas new_texts new_datas mid new →
+    NotesBound es texts datas new_texts new_datas old new
 noted_then es texts datas mid_texts mid_datas new_texts new_datas old mid new a b = omega (arith, a, b)
 
 -- to be bound are the cells that wait for a name of the object
@@ -77,16 +85,19 @@ to_bind_wait ms os o (c ∷ cs) h =
     waiting : List Cell
     waiting = filter (λ c. is_defined_by (names_by_first_mention ms) o c.target) cs
 
-    by_definition : length rest ≡ length waiting → (d : Option Definition) → length (cond (is_some (rebinding d c)) (c ∷ rest) rest) ≡ length (cond (is_some d) (c ∷ waiting) waiting)
+    by_definition : length rest ≡ length waiting → (d : Option Definition) →
+        length (cond (is_some (rebinding d c)) (c ∷ rest) rest) ≡ length (cond (is_some d) (c ∷ waiting) waiting)
     by_definition e None = e
     by_definition e (Some d) = omega (arith, e)
 
 -- marks that take an object back are no more than it may leave
-pub taken_few : (forced : List (List ℕ)) (os : List Contents) (o : Contents) (heads : List Link) (marks : List Mark) → AllByRecursion IsObject os → TakesBack (image forced os) o heads marks →
-    length marks ≤ most_marks forced os o
+pub taken_few : (forced : List (List ℕ)) (os : List Contents) (o : Contents) (heads : List Link) (marks : List Mark) →
+    AllByRecursion IsObject os → TakesBack (image forced os) o heads marks → length marks ≤ most_marks forced os o
 taken_few forced os o heads marks h b = let few = b.few in omega (arith, waiting segments.TextSeg, waiting segments.DataSeg)
   where
-    waiting : (segment : Segment) → length (to_bind (next_named (image forced os) o) (cells (mentions forced os) segment os)) ≡ waiting_in (externals forced os) o (cells (mentions forced os) segment os)
+    waiting : (segment : Segment) → length (to_bind (next_named (image forced os) o) (cells (mentions forced os) segment os))
+        ≡ waiting_in (externals forced os) o (cells (mentions forced os) segment os)
     waiting segment =
         ap (λ (es : Named). length (to_bind es (cells (mentions forced os) segment os))) (next_named-states forced os o h)
-        ∙ to_bind_wait (mentions forced os) os o (cells (mentions forced os) segment os) (cells_wait (mentions forced os) segment os (objects_refer forced segment os (well_formed os h)))
+        ∙ to_bind_wait (mentions forced os) os o (cells (mentions forced os) segment os)
+        (cells_wait (mentions forced os) segment os (objects_refer forced segment os (well_formed os h)))

@@ -1,5 +1,7 @@
 -- The heads of chains while names are bound, while externals are added, and while they are cut to an earlier length.
-use Rattle.std.proofs.Common.{◌≡◌, ◌≤◌, ◌+◌, ◌-◌, ℕ, zero, suc, List, [], ◌∷◌, ◌++◌, map, take, length, replicate, Some, None, slice_set, refl, sym, ap, ◌∙◌, subst, arith, length-append, append-nil, append_assoc}
+use Rattle.std.proofs.Common.{◌≡◌, ◌≤◌, ◌+◌, ◌-◌, ℕ, zero, suc, List, [], ◌∷◌, ◌++◌, map, take, length}
+use Rattle.std.proofs.Common.{replicate, Some, None, slice_set, refl, sym, ap, ◌∙◌, subst, arith, length-append}
+use Rattle.std.proofs.Common.{append-nil, append_assoc}
 use Rattle.std.proofs.lemmas.List.{length-replicate, take_at}
 use Rattle.link_session.specs.declared.cell.Cell.{Cell}
 use Rattle.link_session.specs.declared.state.State.{State}
@@ -27,34 +29,43 @@ length-cut_by_state (Wanted size) k heads = refl
 
 pub length-cut_heads : (es : Named) (ks : List ℕ) (heads : List Link) → length (cut_heads es ks heads) ≡ length heads
 length-cut_heads es [] heads = refl
-length-cut_heads es (k ∷ ks) heads = length-cut_heads es ks (cut_by_state (state_at es k) k heads) ∙ length-cut_by_state (state_at es k) k heads
+length-cut_heads es (k ∷ ks) heads =
+    length-cut_heads es ks (cut_by_state (state_at es k) k heads) ∙ length-cut_by_state (state_at es k) k heads
 
 -- the chains of several names are bound, and cut
 pub cut_all : (es : Named) (ks : List ℕ) (texts datas : List Cell) (ts ds heads : List Link) → AreChained texts datas ts ds heads →
     AreChained (map (settled_over es ks) texts) (map (settled_over es ks) datas) ts ds (cut_heads es ks heads)
-cut_all es [] texts datas ts ds heads a = subst (λ (P : Type 0). P) (λ i. AreChained (sym (none_left es texts) i) (sym (none_left es datas) i) ts ds heads) a
+cut_all es [] texts datas ts ds heads a =
+    subst (λ (P : Type 0). P) (λ i. AreChained (sym (none_left es texts) i) (sym (none_left es datas) i) ts ds heads) a
 cut_all es (k ∷ ks) texts datas ts ds heads a =
-    subst (λ (P : Type 0). P) (λ i. AreChained (sym (all_one es k ks texts) i) (sym (all_one es k ks datas) i) ts ds (cut_heads es ks (cut_by_state (state_at es k) k heads)))
-    (cut_all es ks (map (settled_at es k) texts) (map (settled_at es k) datas) ts ds (cut_by_state (state_at es k) k heads) (one (state_at es k) refl))
+    subst (λ (P : Type 0). P) (λ i. AreChained (sym (all_one es k ks texts) i) (sym (all_one es k ks datas) i) ts ds
+    (cut_heads es ks (cut_by_state (state_at es k) k heads)))
+    (cut_all es ks (map (settled_at es k) texts) (map (settled_at es k) datas) ts ds
+    (cut_by_state (state_at es k) k heads) (one (state_at es k) refl))
   where
-    one : (s : State) → state_at es k ≡ s → AreChained (map (settled_at es k) texts) (map (settled_at es k) datas) ts ds (cut_by_state s k heads)
+    one : (s : State) → state_at es k ≡ s →
+        AreChained (map (settled_at es k) texts) (map (settled_at es k) datas) ts ds (cut_by_state s k heads)
     one (Defined segment offset) e = cut_named texts datas ts ds heads a es k segment offset e
-    one (Wanted size) e = subst (λ (P : Type 0). P) (λ i. AreChained (unsettled es k size e texts i) (unsettled es k size e datas i) ts ds heads) a
+    one (Wanted size) e =
+        subst (λ (P : Type 0). P) (λ i. AreChained (unsettled es k size e texts i) (unsettled es k size e datas i) ts ds heads) a
 
 -- Names that are added.
 
-pub more_heads : (n : ℕ) (texts datas : List Cell) (ts ds heads : List Link) → AreChained texts datas ts ds heads → AreChained texts datas ts ds (heads ++ replicate n None)
+pub more_heads : (n : ℕ) (texts datas : List Cell) (ts ds heads : List Link) → AreChained texts datas ts ds heads →
+    AreChained texts datas ts ds (heads ++ replicate n None)
 more_heads zero texts datas ts ds heads a = subst (λ (hs : List Link). AreChained texts datas ts ds hs) (sym (append-nil heads)) a
 more_heads (suc n) texts datas ts ds heads a =
     subst (λ (hs : List Link). AreChained texts datas ts ds hs) (append_assoc heads (None ∷ []) (replicate n None))
     (more_heads n texts datas ts ds (heads ++ None ∷ []) (one_more_head texts datas ts ds heads a))
 
-pub grown_chained : (n : ℕ) (texts datas : List Cell) (ts ds heads : List Link) → AreChained texts datas ts ds heads → AreChained texts datas ts ds (grown_heads n heads)
+pub grown_chained : (n : ℕ) (texts datas : List Cell) (ts ds heads : List Link) → AreChained texts datas ts ds heads →
+    AreChained texts datas ts ds (grown_heads n heads)
 grown_chained n texts datas ts ds heads a = more_heads (n - length heads) texts datas ts ds heads a
 
 pub length-grown_heads : (n : ℕ) (heads : List Link) → length heads ≤ n → length (grown_heads n heads) ≡ n
 length-grown_heads n heads h =
-    let none : Link = None in omega (arith, length-append heads (replicate (n - length heads) none), length-replicate (n - length heads) none)
+    let none : Link = None in
+    omega (arith, length-append heads (replicate (n - length heads) none), length-replicate (n - length heads) none)
 
 -- externals without heads before
 pub grown_none : (n : ℕ) → grown_heads n [] ≡ replicate n None
@@ -68,7 +79,8 @@ cut_grown n k heads e = take_at heads (replicate (n - length heads) None) k e
 
 pub length-threaded_heads : (at : ℕ → Place) (n : ℕ) (cs : List Cell) (heads : List Link) → length (threaded at n cs heads).1 ≡ length heads
 length-threaded_heads at n [] heads = refl
-length-threaded_heads at n (c ∷ cs) heads = length-threaded_heads at (n + 1) cs (with_head c.target (Some (at n)) heads) ∙ length-with_head heads c.target (Some (at n))
+length-threaded_heads at n (c ∷ cs) heads =
+    length-threaded_heads at (n + 1) cs (with_head c.target (Some (at n)) heads) ∙ length-with_head heads c.target (Some (at n))
 
 -- Heads that are put back.
 

@@ -6,21 +6,25 @@ use Rattle.link_session.specs.declared.mark.Mark.{Mark}
 use Rattle.link_session.specs.Image.{image}
 use Rattle.link_session.specs.Sessions.{IsObject}
 use Rattle.link_session.specs.internal.Chains.{heads_back}
-use Rattle.link_session.specs.internal.Threads.{Threads, bound_heads, next_threads, forced_threads, threads_of, undo_threads, UndoesThreads, IsThreaded, KeepsThreads}
+use Rattle.link_session.specs.internal.Threads.{Threads, bound_heads, next_threads, forced_threads, threads_of}
+use Rattle.link_session.specs.internal.Threads.{undo_threads, UndoesThreads, IsThreaded, KeepsThreads}
 use Rattle.link_session.proofs.AdditionLemmas.{joined_image-is}
 use Rattle.link_session.proofs.JournalLemmas.{journal_empty, journal_push, journal_pop}
 use Rattle.link_session.proofs.HistoryLemmas.{threads_push, threaded_of}
 use Rattle.link_session.proofs.WithdrawalLemmas.{threads_back}
 
 -- kept threads hold the chains of the image
-pub kept_threaded : (forced : List (List ℕ)) (os : List Contents) (journal : List (List Mark)) (t : Threads) → AllByRecursion IsObject os → KeepsThreads forced os journal t → IsThreaded (image forced os) t
-kept_threaded forced os journal t good k = subst (λ (u : Threads). IsThreaded (image forced os) u) (sym k.threads) (threaded_of forced os good)
+pub kept_threaded : (forced : List (List ℕ)) (os : List Contents) (journal : List (List Mark)) (t : Threads) →
+    AllByRecursion IsObject os → KeepsThreads forced os journal t → IsThreaded (image forced os) t
+kept_threaded forced os journal t good k =
+    subst (λ (u : Threads). IsThreaded (image forced os) u) (sym k.threads) (threaded_of forced os good)
 
 pub forced_kept : (forced : List (List ℕ)) → KeepsThreads forced [] [] (forced_threads forced)
 forced_kept forced = record { threads = refl; undoes = journal_empty (UndoesThreads forced) }
 
 module _ (forced : List (List ℕ)) (os : List Contents) (o : Contents) (journal : List (List Mark)) (marks : List Mark) (t : Threads) where
-  pub kept_push : AllByRecursion IsObject os → KeepsThreads forced os journal t → heads_back marks (bound_heads (image forced os) o t.heads) ≡ t.heads →
+  pub kept_push : AllByRecursion IsObject os → KeepsThreads forced os journal t →
+      heads_back marks (bound_heads (image forced os) o t.heads) ≡ t.heads →
       KeepsThreads forced (os ++ o ∷ []) (journal ++ marks ∷ []) (next_threads (image forced os) o t)
   kept_push good k back = record { threads = longer; undoes = journal_push (UndoesThreads forced) os o journal marks k.undoes undoes_last }
     where
@@ -33,7 +37,11 @@ module _ (forced : List (List ℕ)) (os : List Contents) (o : Contents) (journal
           ∙ threads_back (image forced os) o t (kept_threaded forced os journal t good k) marks back
           ∙ k.threads
 
-  pub kept_pop : KeepsThreads forced (os ++ o ∷ []) (journal ++ marks ∷ []) t → KeepsThreads forced os journal (undo_threads marks (image forced (os ++ o ∷ [])) (image forced os) t)
+  pub kept_pop : KeepsThreads forced (os ++ o ∷ []) (journal ++ marks ∷ []) t →
+      KeepsThreads forced os journal (undo_threads marks (image forced (os ++ o ∷ [])) (image forced os) t)
   kept_pop k =
       let pop = journal_pop (UndoesThreads forced) os o journal marks k.undoes in
-      record { threads = ap (λ (u : Threads). undo_threads marks (image forced (os ++ o ∷ [])) (image forced os) u) k.threads ∙ pop.1; undoes = pop.0 }
+      record {
+        threads = ap (λ (u : Threads). undo_threads marks (image forced (os ++ o ∷ [])) (image forced os) u) k.threads ∙ pop.1;
+        undoes = pop.0;
+      }

@@ -1,5 +1,6 @@
 -- How many names the entries of an object add, and the limits of an image.
-use Rattle.std.proofs.Common.{◌≡◌, ℕ, ◌≤◌, Bool, true, false, cond, not, ◌&&◌, ◌||◌, is_some, Some, List, [], ◌∷◌, ◌++◌, map, length, refl, ap, arith}
+use Rattle.std.proofs.Common.{◌≡◌, ℕ, ◌≤◌, Bool, true, false, cond, not, ◌&&◌, ◌||◌, is_some, Some}
+use Rattle.std.proofs.Common.{List, [], ◌∷◌, ◌++◌, map, length, refl, ap, arith}
 use Rattle.std.specs.Prelude.{bytes_eq, filter}
 use Rattle.std.specs.List.{list_any}
 use Rattle.std.specs.Map.{keys_of, lookup}
@@ -16,17 +17,20 @@ pub found-is_among : (es : Named) (name : List ℕ) → is_some (lookup (bytes_e
 found-is_among [] name = refl
 found-is_among (e ∷ es) name = by_test (bytes_eq name e.0) (found-is_among es name)
   where
-    by_test : (t : Bool) → is_some (lookup (bytes_eq name) es) ≡ is_among (keys_of es) name → is_some (cond t (Some e.1) (lookup (bytes_eq name) es)) ≡ (t || is_among (keys_of es) name)
+    by_test : (t : Bool) → is_some (lookup (bytes_eq name) es) ≡ is_among (keys_of es) name →
+        is_some (cond t (Some e.1) (lookup (bytes_eq name) es)) ≡ (t || is_among (keys_of es) name)
     by_test true h = refl
     by_test false h = h
 
 -- an external entry has the name
-pub external-is_among : (symbols : List Symbol) (name : List ℕ) → list_any (λ s. is_external s && bytes_eq name s.name) symbols ≡ is_among (external_names symbols) name
+pub external-is_among : (symbols : List Symbol) (name : List ℕ) →
+    list_any (λ s. is_external s && bytes_eq name s.name) symbols ≡ is_among (external_names symbols) name
 external-is_among [] name = refl
 external-is_among (s ∷ ss) name = by_test (is_external s) (external-is_among ss name)
   where
     by_test : (t : Bool) → list_any (λ s. is_external s && bytes_eq name s.name) ss ≡ is_among (external_names ss) name →
-        ((t && bytes_eq name s.name) || list_any (λ s. is_external s && bytes_eq name s.name) ss) ≡ is_among (map (λ (s : Symbol). s.name) (cond t (s ∷ filter is_external ss) (filter is_external ss))) name
+        ((t && bytes_eq name s.name) || list_any (λ s. is_external s && bytes_eq name s.name) ss)
+        ≡ is_among (map (λ (s : Symbol). s.name) (cond t (s ∷ filter is_external ss) (filter is_external ss))) name
     by_test true h = ap (λ (b : Bool). bytes_eq name s.name || b) h
     by_test false h = h
 
@@ -34,13 +38,15 @@ pub length-new_names : (seen xs : List (List ℕ)) → length (new_names seen xs
 length-new_names seen [] = omega arith
 length-new_names seen (x ∷ xs) = by_test (is_among seen x) (length-new_names (seen ++ x ∷ []) xs)
   where
-    by_test : (t : Bool) → length (new_names (seen ++ x ∷ []) xs) ≤ length xs → length (cond t (new_names (seen ++ x ∷ []) xs) (x ∷ new_names (seen ++ x ∷ []) xs)) ≤ length (x ∷ xs)
+    by_test : (t : Bool) → length (new_names (seen ++ x ∷ []) xs) ≤ length xs →
+        length (cond t (new_names (seen ++ x ∷ []) xs) (x ∷ new_names (seen ++ x ∷ []) xs)) ≤ length (x ∷ xs)
     by_test true h = omega arith
     by_test false h = omega arith
 
 -- no more names than entries
 pub new_count-le : (seen : List (List ℕ)) (symbols : List Symbol) → new_count seen symbols ≤ length (filter is_external symbols)
-new_count-le seen symbols = omega (arith, length-new_names seen (external_names symbols), length-map (filter is_external symbols) (λ (s : Symbol). s.name))
+new_count-le seen symbols =
+    omega (arith, length-new_names seen (external_names symbols), length-map (filter is_external symbols) (λ (s : Symbol). s.name))
 
 -- whether an entry is counted
 abbrev pub counts : List (List ℕ) → List Symbol → Symbol → Bool

@@ -35,7 +35,8 @@ abbrev pub awaited : List (List ℕ) → List Mention → Target → Option Defi
 awaited names later (targets.External i) = first_definition later (slice_index_or names i [])
 awaited names later _ = None
 
-pub bound-awaited : (names : List (List ℕ)) (later : List Mention) (c : Cell) → bound names later c ≡ rebound (awaited names later c.target) c
+pub bound-awaited : (names : List (List ℕ)) (later : List Mention) (c : Cell) →
+    bound names later c ≡ rebound (awaited names later c.target) c
 bound-awaited names later c = by_target c.target
   where
     by_target : (t : Target) → bound_at names later t c ≡ rebound (awaited names later t) c

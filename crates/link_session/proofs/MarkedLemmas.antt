@@ -1,5 +1,6 @@
 -- What marks hold of one place: those of chains and of mentions, and of two lists of marks together.
-use Rattle.std.proofs.Common.{◌≡◌, ℕ, Bool, true, false, not, ◌||◌, ◌&&◌, cond, List, [], ◌∷◌, ◌++◌, nat_eq, nat_lt, refl, sym, ap, ◌∙◌, subst}
+use Rattle.std.proofs.Common.{◌≡◌, ℕ, Bool, true, false, not, ◌||◌, ◌&&◌, cond, List, [], ◌∷◌, ◌++◌}
+use Rattle.std.proofs.Common.{nat_eq, nat_lt, refl, sym, ap, ◌∙◌, subst}
 use Rattle.aout_core.specs.declared.symbol.Segment.{Segment}
 use Rattle.aout_core.specs.declared.symbol.Segment.TheVariants as segments
 use Rattle.link_session.specs.declared.cell.Cell.{Cell}
@@ -25,7 +26,8 @@ cells_marked-append p (StateWas i s ∷ ks) ls = cells_marked-append p ks ls
 cells_marked-append p (CellWas q c ∷ ks) ls = by_test (same_place p q) (cells_marked-append p ks ls)
   where
     by_test : (t : Bool) → cells_marked p (ks ++ ls) ≡ cells_marked p ks ++ cells_marked p ls →
-        cond t (c ∷ cells_marked p (ks ++ ls)) (cells_marked p (ks ++ ls)) ≡ cond t (c ∷ cells_marked p ks) (cells_marked p ks) ++ cells_marked p ls
+        cond t (c ∷ cells_marked p (ks ++ ls)) (cells_marked p (ks ++ ls))
+        ≡ cond t (c ∷ cells_marked p ks) (cells_marked p ks) ++ cells_marked p ls
     by_test true h = ap (λ (l : List Cell). c ∷ l) h
     by_test false h = h
 
@@ -35,7 +37,8 @@ states_marked-append i (CellWas q c ∷ ks) ls = states_marked-append i ks ls
 states_marked-append i (StateWas j s ∷ ks) ls = by_test (nat_eq i j) (states_marked-append i ks ls)
   where
     by_test : (t : Bool) → states_marked i (ks ++ ls) ≡ states_marked i ks ++ states_marked i ls →
-        cond t (s ∷ states_marked i (ks ++ ls)) (states_marked i (ks ++ ls)) ≡ cond t (s ∷ states_marked i ks) (states_marked i ks) ++ states_marked i ls
+        cond t (s ∷ states_marked i (ks ++ ls)) (states_marked i (ks ++ ls))
+        ≡ cond t (s ∷ states_marked i ks) (states_marked i ks) ++ states_marked i ls
     by_test true h = ap (λ (l : List State). s ∷ l) h
     by_test false h = h
 
@@ -45,7 +48,8 @@ pub no_cells : (p : Place) (kept : ℕ) (es : Named) (ms : List Mention) → cel
 no_cells p kept es [] = refl
 no_cells p kept es (m ∷ ms) =
     cells_marked-append p (state_mark kept es m) (state_marks kept (with_mention es m) ms)
-    ∙ ap (λ (l : List Cell). l ++ cells_marked p (state_marks kept (with_mention es m) ms)) (by_test (nat_lt (place_in es m.name) kept && changes (state_for es m.name) m.says))
+    ∙ ap (λ (l : List Cell). l ++ cells_marked p (state_marks kept (with_mention es m) ms))
+    (by_test (nat_lt (place_in es m.name) kept && changes (state_for es m.name) m.says))
     ∙ no_cells p kept (with_mention es m) ms
   where
     by_test : (t : Bool) → cells_marked p (cond t (StateWas (place_in es m.name) (state_for es m.name) ∷ []) []) ≡ []
@@ -58,7 +62,8 @@ no_states i texts datas (p ∷ ps) = no_states i texts datas ps
 
 -- Marks of a chain.
 
-pub chain_marked : (texts datas : List Cell) (ps : List Place) → AreApart ps → (p : Place) → cells_marked p (marks_of texts datas ps) ≡ cond (is_on ps p) (cell_at texts datas p ∷ []) []
+pub chain_marked : (texts datas : List Cell) (ps : List Place) → AreApart ps → (p : Place) →
+    cells_marked p (marks_of texts datas ps) ≡ cond (is_on ps p) (cell_at texts datas p ∷ []) []
 chain_marked texts datas [] apart p = refl
 chain_marked texts datas (q ∷ ps) apart p = by_test (same_place p q) refl (chain_marked texts datas ps apart.1 p)
   where
@@ -99,7 +104,10 @@ bound_held k segment offset c false waits = none_held c
 bound_held k segment offset c true waits =
     let now : is_waiting c.target ≡ true = ap is_waiting (waits refl) in
     let binds : gets_bound c (bound_to segment offset c) ≡ true = λ i. now i && not (segment_ready segment i) in
-    record { holds = ap (λ (t : Bool). cond t (c ∷ []) []) (sym binds); stays = λ no. absurd (let bad : true ≡ false = sym binds ∙ no in cc) }
+    record {
+      holds = ap (λ (t : Bool). cond t (c ∷ []) []) (sym binds);
+      stays = λ no. absurd (let bad : true ≡ false = sym binds ∙ no in cc);
+    }
 
 -- one change after another
 pub held_then : (a b c : Cell) (ks ls : List Cell) → HoldBound a b ks → HoldBound b c ls → HoldBound a c (ks ++ ls)
@@ -119,6 +127,8 @@ held_then a b c ks ls r s = by_first (is_waiting a.target) refl (is_waiting b.ta
         let same : c ≡ b = s.stays second in
         let all : gets_bound a c ≡ true = ap (λ (x : Cell). gets_bound a x) same ∙ first in
         record {
-          holds = (λ i. (r.holds ∙ ap (λ (t : Bool). cond t (a ∷ []) []) first) i ++ (s.holds ∙ ap (λ (t : Bool). cond t (b ∷ []) []) second) i) ∙ ap (λ (t : Bool). cond t (a ∷ []) []) (sym all);
+          holds =
+              (λ i. (r.holds ∙ ap (λ (t : Bool). cond t (a ∷ []) []) first) i ++ (s.holds ∙ ap (λ (t : Bool). cond t (b ∷ []) []) second) i)
+              ∙ ap (λ (t : Bool). cond t (a ∷ []) []) (sym all);
           stays = λ no. absurd (let bad : true ≡ false = sym all ∙ no in cc);
         }

@@ -1,5 +1,6 @@
 -- The names and states after the mentions of an object.
-use Rattle.std.proofs.Common.{◌≡◌, ℕ, zero, suc, ◌+◌, Bool, true, false, cond, ◌||◌, List, [], ◌∷◌, ◌++◌, map, length, refl, sym, ◌∙◌, ap, arith, add-one, append_assoc, append-nil, length-append}
+use Rattle.std.proofs.Common.{◌≡◌, ℕ, zero, suc, ◌+◌, Bool, true, false, cond, ◌||◌, List, [], ◌∷◌, ◌++◌, map, length}
+use Rattle.std.proofs.Common.{refl, sym, ◌∙◌, ap, arith, add-one, append_assoc, append-nil, length-append}
 use Rattle.std.specs.Prelude.{bytes_eq}
 use Rattle.std.specs.Map.{keys_of}
 use Rattle.std.proofs.lemmas.List.{map-append, length-map}
@@ -31,12 +32,13 @@ keys-beside f [] = refl
 keys-beside f (n ∷ ns) = ap (λ (ks : List (List ℕ)). n ∷ ks) (keys-beside f ns)
 
 -- a name keeps its place and takes the state, or stands last
-pub insert_entry-is : (es : Named) (name : List ℕ) (s : State) → insert_entry bytes_eq es name s ≡ with_state es (place_in es name) s ++ cond (is_among (keys_of es) name) [] ((name, s) ∷ [])
+pub insert_entry-is : (es : Named) (name : List ℕ) (s : State) → insert_entry bytes_eq es name s ≡ with_state es
+    (place_in es name) s ++ cond (is_among (keys_of es) name) [] ((name, s) ∷ [])
 insert_entry-is [] name s = refl
 insert_entry-is (e ∷ es) name s = by_test (bytes_eq name e.0) (insert_entry-is es name s)
   where
-    by_test : (t : Bool) → insert_entry bytes_eq es name s ≡ with_state es (place_in es name) s ++ cond (is_among (keys_of es) name) [] ((name, s) ∷ []) →
-        cond t ((e.0, s) ∷ es) (e ∷ insert_entry bytes_eq es name s)
+    by_test : (t : Bool) → insert_entry bytes_eq es name s ≡ with_state es (place_in es name) s
+        ++ cond (is_among (keys_of es) name) [] ((name, s) ∷ []) → cond t ((e.0, s) ∷ es) (e ∷ insert_entry bytes_eq es name s)
         ≡ with_state (e ∷ es) (cond t 0 (place_of name (keys_of es) + 1)) s ++ cond (t || is_among (keys_of es) name) [] ((name, s) ∷ [])
     by_test true h = ap (λ (l : Named). (e.0, s) ∷ l) (sym (append-nil es))
     by_test false h = rw add-one (ap (λ (l : Named). e ∷ l) h)
@@ -44,13 +46,16 @@ insert_entry-is (e ∷ es) name s = by_test (bytes_eq name e.0) (insert_entry-is
 abbrev pub next_state : Named → Mention → State
 next_state es m = updated_state (state_for es m.name) m.says
 
-pub with_mention-is : (es : Named) (m : Mention) → with_mention es m ≡ with_state es (place_in es m.name) (next_state es m) ++ cond (is_among (keys_of es) m.name) [] ((m.name, next_state es m) ∷ [])
+pub with_mention-is : (es : Named) (m : Mention) → with_mention es m ≡ with_state es (place_in es m.name)
+    (next_state es m) ++ cond (is_among (keys_of es) m.name) [] ((m.name, next_state es m) ∷ [])
 with_mention-is es m = insert_entry-is es m.name (next_state es m)
 
-pub keys-with_mention : (es : Named) (m : Mention) → keys_of (with_mention es m) ≡ keys_of es ++ cond (is_among (keys_of es) m.name) [] (m.name ∷ [])
+pub keys-with_mention : (es : Named) (m : Mention) →
+    keys_of (with_mention es m) ≡ keys_of es ++ cond (is_among (keys_of es) m.name) [] (m.name ∷ [])
 keys-with_mention es m =
     ap keys_of (with_mention-is es m)
-    ∙ map-append (λ (e : List ℕ × State). e.0) (with_state es (place_in es m.name) (next_state es m)) (cond (is_among (keys_of es) m.name) [] ((m.name, next_state es m) ∷ []))
+    ∙ map-append (λ (e : List ℕ × State). e.0) (with_state es (place_in es m.name) (next_state es m))
+    (cond (is_among (keys_of es) m.name) [] ((m.name, next_state es m) ∷ []))
     ∙ (λ i. keys-with_state es (place_in es m.name) (next_state es m) i ++ last (is_among (keys_of es) m.name) i)
   where
     last : (t : Bool) → keys_of (cond t [] ((m.name, next_state es m) ∷ [])) ≡ cond t [] (m.name ∷ [])
@@ -58,7 +63,8 @@ keys-with_mention es m =
     last false = refl
 
 -- how many names there are after the mentions
-pub length-with_mentions : (es : Named) (ms : List Mention) → length (with_mentions es ms) ≡ length es + length (new_names (keys_of es) (names_of ms))
+pub length-with_mentions : (es : Named) (ms : List Mention) →
+    length (with_mentions es ms) ≡ length es + length (new_names (keys_of es) (names_of ms))
 length-with_mentions es [] = omega arith
 length-with_mentions es (m ∷ ms) =
     length-with_mentions (with_mention es m) ms
@@ -74,10 +80,12 @@ length-with_mentions es (m ∷ ms) =
 
     by_test : (t : Bool) → is_among (keys_of es) m.name ≡ t →
         (length es + length (cond t [] (m.name ∷ []))) + length (new_names (keys_of es ++ cond t [] (m.name ∷ [])) (names_of ms))
-        ≡ length es + length (cond t (new_names (keys_of es ++ m.name ∷ []) (names_of ms)) (m.name ∷ new_names (keys_of es ++ m.name ∷ []) (names_of ms)))
+        ≡ length es + length (cond t (new_names (keys_of es ++ m.name ∷ []) (names_of ms))
+        (m.name ∷ new_names (keys_of es ++ m.name ∷ []) (names_of ms)))
     by_test true h =
         let same : new_names (keys_of es ++ []) (names_of ms) ≡ new_names (keys_of es ++ m.name ∷ []) (names_of ms) =
-        rw append-nil (new_names-seen (keys_of es) (keys_of es ++ m.name ∷ []) (names_of ms) (λ n. sym (seen_again (keys_of es) m.name h n))) in
+        rw append-nil (new_names-seen (keys_of es) (keys_of es ++ m.name ∷ []) (names_of ms)
+        (λ n. sym (seen_again (keys_of es) m.name h n))) in
         let lengths = ap (λ (ns : List (List ℕ)). length ns) same in omega arith
     by_test false h = omega arith
 
@@ -85,14 +93,17 @@ length-with_mentions es (m ∷ ms) =
 pub keys-named_states : (ms : List Mention) → keys_of (named_states ms) ≡ names_by_first_mention ms
 keys-named_states ms = keys-beside (state ms) (names_by_first_mention ms)
 
-at_place : (f : List ℕ → State) (ns : List (List ℕ)) (name : List ℕ) → is_among ns name ≡ true → state_at (map {B = List ℕ × State} (λ n. (n, f n)) ns) (place_of name ns) ≡ f name
+at_place : (f : List ℕ → State) (ns : List (List ℕ)) (name : List ℕ) → is_among ns name ≡ true →
+    state_at (map {B = List ℕ × State} (λ n. (n, f n)) ns) (place_of name ns) ≡ f name
 at_place f ns name h = ap state_in (get_mapped {B = List ℕ × State} (λ n. (n, f n)) ns (place_of name ns) name (get_place ns name h))
 
-after_place : (f : List ℕ → State) (ns : List (List ℕ)) (name : List ℕ) → is_among ns name ≡ false → state_at (map {B = List ℕ × State} (λ n. (n, f n)) ns) (place_of name ns) ≡ Wanted 0
+after_place : (f : List ℕ → State) (ns : List (List ℕ)) (name : List ℕ) → is_among ns name ≡ false →
+    state_at (map {B = List ℕ × State} (λ n. (n, f n)) ns) (place_of name ns) ≡ Wanted 0
 after_place f [] name h = refl
 after_place f (n ∷ ns) name h = by_test (bytes_eq name n) h (after_place f ns name)
   where
-    by_test : (t : Bool) → (t || is_among ns name) ≡ false → (is_among ns name ≡ false → state_at (map {B = List ℕ × State} (λ k. (k, f k)) ns) (place_of name ns) ≡ Wanted 0) →
+    by_test : (t : Bool) → (t || is_among ns name) ≡ false →
+        (is_among ns name ≡ false → state_at (map {B = List ℕ × State} (λ k. (k, f k)) ns) (place_of name ns) ≡ Wanted 0) →
         state_at ((n, f n) ∷ map {B = List ℕ × State} (λ k. (k, f k)) ns) (cond t 0 (place_of name ns + 1)) ≡ Wanted 0
     by_test true h rest = absurd (cc)
     by_test false h rest = rw add-one (rest h)
@@ -100,11 +111,15 @@ after_place f (n ∷ ns) name h = by_test (bytes_eq name n) h (after_place f ns 
 -- the state found is the state of the name
 pub state_for-named_states : (ms : List Mention) (name : List ℕ) → state_for (named_states ms) name ≡ state ms name
 state_for-named_states ms name =
-    ap (λ (ns : List (List ℕ)). state_at (named_states ms) (place_of name ns)) (keys-named_states ms) ∙ by_test (is_among (names_by_first_mention ms) name) refl
+    ap (λ (ns : List (List ℕ)). state_at (named_states ms) (place_of name ns)) (keys-named_states ms)
+    ∙ by_test (is_among (names_by_first_mention ms) name) refl
   where
-    by_test : (t : Bool) → is_among (names_by_first_mention ms) name ≡ t → state_at (named_states ms) (place_of name (names_by_first_mention ms)) ≡ state ms name
+    by_test : (t : Bool) → is_among (names_by_first_mention ms) name ≡ t →
+        state_at (named_states ms) (place_of name (names_by_first_mention ms)) ≡ state ms name
     by_test true h = at_place (state ms) (names_by_first_mention ms) name h
-    by_test false h = after_place (state ms) (names_by_first_mention ms) name h ∙ sym (unmentioned ms name (sym (is_among-externals ms name) ∙ h))
+    by_test false h =
+        after_place (state ms) (names_by_first_mention ms) name h
+        ∙ sym (unmentioned ms name (sym (is_among-externals ms name) ∙ h))
 
 abbrev one : List ℕ → State → Named
 one name s = (name, s) ∷ []
@@ -113,9 +128,11 @@ one name s = (name, s) ∷ []
 pub with_mention-named_states : (ms : List Mention) (m : Mention) → with_mention (named_states ms) m ≡ named_states (ms ++ m ∷ [])
 with_mention-named_states ms m =
     with_mention-is (named_states ms) m
-    ∙ (λ i. with_state (named_states ms) (place_of m.name (keys-named_states ms i)) (updated_state (state_for-named_states ms m.name i) m.says)
+    ∙ (λ i. with_state (named_states ms) (place_of m.name (keys-named_states ms i))
+    (updated_state (state_for-named_states ms m.name i) m.says)
     ++ cond (is_among (keys-named_states ms i) m.name) [] (one m.name (updated_state (state_for-named_states ms m.name i) m.says)))
-    ∙ ap (λ (l : Named). with_state (named_states ms) (place_of m.name (names_by_first_mention ms)) (updated_state (state ms m.name) m.says) ++ l) (last (is_among (names_by_first_mention ms) m.name) refl)
+    ∙ ap (λ (l : Named). with_state (named_states ms) (place_of m.name (names_by_first_mention ms))
+    (updated_state (state ms m.name) m.says) ++ l) (last (is_among (names_by_first_mention ms) m.name) refl)
     ∙ sym (externals_mention ms m)
   where
     last : (t : Bool) → is_among (names_by_first_mention ms) m.name ≡ t →
@@ -123,20 +140,24 @@ with_mention-named_states ms m =
     last true h = let known : is_among (names_of ms) m.name ≡ true = sym (is_among-externals ms m.name) ∙ h in rw known refl
     last false h =
         let unknown : is_among (names_of ms) m.name ≡ false = sym (is_among-externals ms m.name) ∙ h in
-        let mention_of : updated_state (state ms m.name) m.says ≡ m.says = ap (λ (s : State). updated_state s m.says) (unmentioned ms m.name unknown) ∙ says_alone m.says in
+        let mention_of : updated_state (state ms m.name) m.says ≡ m.says =
+        ap (λ (s : State). updated_state s m.says) (unmentioned ms m.name unknown) ∙ says_alone m.says in
         rw (unknown, mention_of) refl
 
 -- several more mentions
 pub with_mentions-named_states : (ms ns : List Mention) → with_mentions (named_states ms) ns ≡ named_states (ms ++ ns)
 with_mentions-named_states ms [] = ap named_states (sym (append-nil ms))
 with_mentions-named_states ms (n ∷ ns) =
-    ap (λ (es : Named). with_mentions es ns) (with_mention-named_states ms n) ∙ with_mentions-named_states (ms ++ n ∷ []) ns ∙ ap named_states (append_assoc ms (n ∷ []) ns)
+    ap (λ (es : Named). with_mentions es ns) (with_mention-named_states ms n)
+    ∙ with_mentions-named_states (ms ++ n ∷ []) ns ∙ ap named_states (append_assoc ms (n ∷ []) ns)
 
 pub all_clashes-named_states : (ms ns : List Mention) → multiple_names (ms ++ ns) ≡ multiple_names ms ++ all_clashes (named_states ms) ns
 all_clashes-named_states ms [] = ap multiple_names (append-nil ms) ∙ sym (append-nil (multiple_names ms))
 all_clashes-named_states ms (n ∷ ns) =
     ap multiple_names (sym (append_assoc ms (n ∷ []) ns))
     ∙ all_clashes-named_states (ms ++ n ∷ []) ns
-    ∙ (λ i. (multiples_mention ms n ∙ ap (λ (s : State). multiple_names ms ++ cond (clashes s n.says) (n.name ∷ []) []) (sym (state_for-named_states ms n.name))) i
+    ∙ (λ i. (multiples_mention ms n ∙ ap (λ (s : State). multiple_names ms ++ cond (clashes s n.says) (n.name ∷ []) [])
+    (sym (state_for-named_states ms n.name))) i
     ++ all_clashes (sym (with_mention-named_states ms n) i) ns)
-    ∙ append_assoc (multiple_names ms) (cond (clashes (state_for (named_states ms) n.name) n.says) (n.name ∷ []) []) (all_clashes (with_mention (named_states ms) n) ns)
+    ∙ append_assoc (multiple_names ms) (cond (clashes (state_for (named_states ms) n.name) n.says) (n.name ∷ []) [])
+    (all_clashes (with_mention (named_states ms) n) ns)

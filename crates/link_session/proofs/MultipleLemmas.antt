@@ -19,21 +19,27 @@ differs_still front m back later =
     rw (first_definition-append (front ++ m ∷ back) later m.name, first_definition-append front (m ∷ back) m.name, own)
     (by_says m.says (first_definition front m.name) (first_definition back m.name) (first_definition later m.name))
   where
-    by_says : (s : State) (a b c : Option Definition) → differs (first_of (first_of a (first_of (definition_by s) b)) c) s ≡ differs (first_of a (first_of (definition_by s) b)) s
+    by_says : (s : State) (a b c : Option Definition) → differs (first_of (first_of a (first_of (definition_by s) b)) c)
+        s ≡ differs (first_of a (first_of (definition_by s) b)) s
     by_says (Wanted size) a b c = refl
     by_says (Defined segment offset) (Some d) b c = refl
     by_says (Defined segment offset) None b c = refl
 
 -- the multiples after more mentions: the earlier ones, and then those among the later mentions
 pub multiple_names-append : (ms ns : List Mention) →
-    multiple_names (ms ++ ns) ≡ multiple_names ms ++ map (λ m. m.name) (filter (λ m. differs (first_definition (ms ++ ns) m.name) m.says) ns)
+    multiple_names (ms ++ ns)
+    ≡ multiple_names ms ++ map (λ m. m.name) (filter (λ m. differs (first_definition (ms ++ ns) m.name) m.says) ns)
 multiple_names-append ms ns =
-    ap (λ (all : List Mention). map (λ m. m.name) all) (filter-append (λ m. differs (first_definition (ms ++ ns) m.name) m.says) ms ns ∙ rw (from [] ms) refl)
-    ∙ map-append (λ (m : Mention). m.name) (filter (λ m. differs (first_definition ms m.name) m.says) ms) (filter (λ m. differs (first_definition (ms ++ ns) m.name) m.says) ns)
+    ap (λ (all : List Mention). map (λ m. m.name) all)
+    (filter-append (λ m. differs (first_definition (ms ++ ns) m.name) m.says) ms ns ∙ rw (from [] ms) refl)
+    ∙ map-append (λ (m : Mention). m.name) (filter (λ m. differs (first_definition ms m.name) m.says) ms)
+    (filter (λ m. differs (first_definition (ms ++ ns) m.name) m.says) ns)
   where
-    from : (front back : List Mention) → filter (λ m. differs (first_definition ((front ++ back) ++ ns) m.name) m.says) back ≡ filter (λ m. differs (first_definition (front ++ back) m.name) m.says) back
+    from : (front back : List Mention) → filter (λ m. differs (first_definition ((front ++ back) ++ ns) m.name) m.says)
+        back ≡ filter (λ m. differs (first_definition (front ++ back) m.name) m.says) back
     from front [] = refl
     from front (m ∷ back) =
-        let rest : filter (λ m'. differs (first_definition ((front ++ m ∷ back) ++ ns) m'.name) m'.says) back ≡ filter (λ m'. differs (first_definition (front ++ m ∷ back) m'.name) m'.says) back =
+        let rest : filter (λ m'. differs (first_definition ((front ++ m ∷ back) ++ ns) m'.name) m'.says) back
+        ≡ filter (λ m'. differs (first_definition (front ++ m ∷ back) m'.name) m'.says) back =
         rw (append_assoc front (m ∷ []) back) at (from (front ++ m ∷ []) back) in
         rw (differs_still front m back ns, rest) refl

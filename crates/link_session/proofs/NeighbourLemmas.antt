@@ -1,5 +1,6 @@
 -- The mentions and names of objects after others, and of as long objects in their place.
-use Rattle.std.proofs.Common.{◌≡◌, ℕ, ◌+◌, max, Bool, true, false, cond, ◌||◌, List, [], ◌∷◌, ◌++◌, map, Option, None, refl, sym, ◌∙◌, ap, append_assoc, append-nil, arith}
+use Rattle.std.proofs.Common.{◌≡◌, ℕ, ◌+◌, max, Bool, true, false, cond, ◌||◌, List, [], ◌∷◌, ◌++◌, map, Option}
+use Rattle.std.proofs.Common.{None, refl, sym, ◌∙◌, ap, append_assoc, append-nil, arith}
 use Rattle.std.specs.Prelude.{bytes_eq}
 use Rattle.std.specs.List.{flat_map}
 use Rattle.std.proofs.lemmas.List.Concat.{flat_map-append}
@@ -39,7 +40,8 @@ start-append xs ys TextSeg = sum_by-append (size_of TextSeg) xs ys
 start-append xs ys DataSeg = sum_by-append (size_of DataSeg) xs ys
 start-append xs ys BssSeg = sum_by-append (size_of BssSeg) xs ys
 
-shift-start : (earlier : List Contents) (o : Contents) (segment : Segment) → shift earlier o segment ≡ minus (start earlier segment) (own o segment)
+shift-start : (earlier : List Contents) (o : Contents) (segment : Segment) →
+    shift earlier o segment ≡ minus (start earlier segment) (own o segment)
 shift-start earlier o Undefined = refl
 shift-start earlier o Absolute = refl
 shift-start earlier o Other = refl
@@ -59,36 +61,45 @@ as_long_self xs segment = refl
 
 -- only the sizes of earlier objects count
 pub shift_same : (xs ys : List Contents) (o : Contents) (segment : Segment) → AreAsLong xs ys → shift xs o segment ≡ shift ys o segment
-shift_same xs ys o segment h = shift-start xs o segment ∙ ap (λ (n : ℕ). minus n (own o segment)) (h segment) ∙ sym (shift-start ys o segment)
+shift_same xs ys o segment h =
+    shift-start xs o segment ∙ ap (λ (n : ℕ). minus n (own o segment)) (h segment) ∙ sym (shift-start ys o segment)
 
 -- a list made of blocks, one for each object, after these
 abbrev pub blocks : {A : Type 0} → (List Contents → Contents → List A) → List Contents → List Contents → List A
 blocks f earlier xs = flat_map (λ q. f q.0 q.1) (with_earlier earlier xs)
 
 -- it is the same after others of the same sizes
-pub blocks_same : {A : Type 0} (f : List Contents → Contents → List A) → ((xs ys : List Contents) (o : Contents) → AreAsLong xs ys → f xs o ≡ f ys o) →
+pub blocks_same : {A : Type 0} (f : List Contents → Contents → List A) →
+    ((xs ys : List Contents) (o : Contents) → AreAsLong xs ys → f xs o ≡ f ys o) →
     (xs ys os : List Contents) → AreAsLong xs ys → blocks f xs os ≡ blocks f ys os
 blocks_same f same xs ys [] h = refl
 blocks_same {A = A} f same xs ys (o ∷ os) h =
-    ap (λ (rest : List A). f xs o ++ rest) (blocks_same f same (xs ++ o ∷ []) (ys ++ o ∷ []) os (as_long_append xs ys (o ∷ []) (o ∷ []) h (as_long_self (o ∷ []))))
+    ap (λ (rest : List A). f xs o ++ rest)
+    (blocks_same f same (xs ++ o ∷ []) (ys ++ o ∷ []) os (as_long_append xs ys (o ∷ []) (o ∷ []) h (as_long_self (o ∷ []))))
     ∙ ap (λ (front : List A). front ++ blocks f (ys ++ o ∷ []) os) (same xs ys o h)
 
-pub blocks-append : {A : Type 0} (f : List Contents → Contents → List A) (earlier xs ys : List Contents) → blocks f earlier (xs ++ ys) ≡ blocks f earlier xs ++ blocks f (earlier ++ xs) ys
+pub blocks-append : {A : Type 0} (f : List Contents → Contents → List A) (earlier xs ys : List Contents) →
+    blocks f earlier (xs ++ ys) ≡ blocks f earlier xs ++ blocks f (earlier ++ xs) ys
 blocks-append f earlier xs ys =
-    ap (λ (ps : List (List Contents × Contents)). flat_map (λ q. f q.0 q.1) ps) (with_earlier-append earlier xs ys) ∙ flat_map-append _ (with_earlier earlier xs) (with_earlier (earlier ++ xs) ys)
+    ap (λ (ps : List (List Contents × Contents)). flat_map (λ q. f q.0 q.1) ps) (with_earlier-append earlier xs ys)
+    ∙ flat_map-append _ (with_earlier earlier xs) (with_earlier (earlier ++ xs) ys)
 
 -- an object that stands for several of the same sizes, with their blocks
-pub one_for_many : {A : Type 0} (f : List Contents → Contents → List A) → ((xs ys : List Contents) (o : Contents) → AreAsLong xs ys → f xs o ≡ f ys o) →
-    (bs os cs : List Contents) (m : Contents) → AreAsLong (m ∷ []) os → f bs m ≡ blocks f bs os → blocks f [] (bs ++ m ∷ cs) ≡ blocks f [] (bs ++ (os ++ cs))
+pub one_for_many : {A : Type 0} (f : List Contents → Contents → List A) →
+    ((xs ys : List Contents) (o : Contents) → AreAsLong xs ys → f xs o ≡ f ys o) →
+    (bs os cs : List Contents) (m : Contents) → AreAsLong (m ∷ []) os → f bs m ≡ blocks f bs os →
+    blocks f [] (bs ++ m ∷ cs) ≡ blocks f [] (bs ++ (os ++ cs))
 one_for_many {A = A} f same bs os cs m long middle =
     blocks-append f [] bs (m ∷ cs)
     ∙ ap (λ (rest : List A). blocks f [] bs ++ rest)
     (ap (λ (front : List A). front ++ blocks f (bs ++ m ∷ []) cs) middle
-    ∙ ap (λ (back : List A). blocks f bs os ++ back) (blocks_same f same (bs ++ m ∷ []) (bs ++ os) cs (as_long_append bs bs (m ∷ []) os (as_long_self bs) long))
+    ∙ ap (λ (back : List A). blocks f bs os ++ back)
+    (blocks_same f same (bs ++ m ∷ []) (bs ++ os) cs (as_long_append bs bs (m ∷ []) os (as_long_self bs) long))
     ∙ sym (blocks-append f bs os cs))
     ∙ sym (blocks-append f [] bs (os ++ cs))
 
-statement_same : (xs ys : List Contents) (o : Contents) (segment : Segment) (value : ℕ) → AreAsLong xs ys → statement xs o segment value ≡ statement ys o segment value
+statement_same : (xs ys : List Contents) (o : Contents) (segment : Segment) (value : ℕ) → AreAsLong xs ys →
+    statement xs o segment value ≡ statement ys o segment value
 statement_same xs ys o Undefined value h = refl
 statement_same xs ys o Absolute value h = refl
 statement_same xs ys o Other value h = refl
@@ -118,7 +129,8 @@ abbrev pub raise : List Contents → Mention → Mention
 raise bs m = record { name = m.name; says = raised bs m.says }
 
 -- a shift after further objects
-pub shift_raised : (bs earlier : List Contents) (o : Contents) (segment : Segment) (v : ℕ) → plus v (shift (bs ++ earlier) o segment) ≡ plus (start bs segment) (plus v (shift earlier o segment))
+pub shift_raised : (bs earlier : List Contents) (o : Contents) (segment : Segment) (v : ℕ) →
+    plus v (shift (bs ++ earlier) o segment) ≡ plus (start bs segment) (plus v (shift earlier o segment))
 shift_raised bs earlier o segment v =
     ap (λ (n : ℕ). plus v n) (shift-start (bs ++ earlier) o segment)
     ∙ sums (start (bs ++ earlier) segment) (start bs segment) (start earlier segment) (own o segment) (start-append bs earlier segment)
@@ -127,7 +139,8 @@ shift_raised bs earlier o segment v =
     sums : (T B S n : ℕ) → T ≡ B + S → plus v (minus T n) ≡ plus B (plus v (minus S n))
     sums T B S n e = omega arith
 
-statement_raised : (bs earlier : List Contents) (o : Contents) (segment : Segment) (value : ℕ) → statement (bs ++ earlier) o segment value ≡ raised bs (statement earlier o segment value)
+statement_raised : (bs earlier : List Contents) (o : Contents) (segment : Segment) (value : ℕ) →
+    statement (bs ++ earlier) o segment value ≡ raised bs (statement earlier o segment value)
 statement_raised bs earlier o Undefined value = refl
 statement_raised bs earlier o Absolute value = ap (λ (n : ℕ). Defined Absolute n) (shift_raised bs earlier o Absolute value)
 statement_raised bs earlier o Other value = ap (λ (n : ℕ). Defined Absolute n) (shift_raised bs earlier o Absolute value)
@@ -135,7 +148,8 @@ statement_raised bs earlier o TextSeg value = ap (λ (n : ℕ). Defined TextSeg 
 statement_raised bs earlier o DataSeg value = ap (λ (n : ℕ). Defined DataSeg n) (shift_raised bs earlier o DataSeg value)
 statement_raised bs earlier o BssSeg value = ap (λ (n : ℕ). Defined BssSeg n) (shift_raised bs earlier o BssSeg value)
 
-pub mentions_in_raised : (bs earlier : List Contents) (o : Contents) → mentions_in (bs ++ earlier) o ≡ map (raise bs) (mentions_in earlier o)
+pub mentions_in_raised : (bs earlier : List Contents) (o : Contents) →
+    mentions_in (bs ++ earlier) o ≡ map (raise bs) (mentions_in earlier o)
 mentions_in_raised bs earlier o = from (externals_in o)
   where
     from : (ss : List Symbol) → map (mention (bs ++ earlier) o) ss ≡ map (raise bs) (map (mention earlier o) ss)
@@ -161,11 +175,15 @@ pub names_of_raised : (bs : List Contents) (ms : List Mention) → names_of (map
 names_of_raised bs ms = names_of-map (raise bs) (λ (m : Mention). m.name) (λ m. refl) ms
 
 -- forced names say nothing
-pub forced_front : (forced : List (List ℕ)) (ms : List Mention) (name : List ℕ) → state (map forced_mention forced ++ ms) name ≡ state ms name
+pub forced_front : (forced : List (List ℕ)) (ms : List Mention) (name : List ℕ) →
+    state (map forced_mention forced ++ ms) name ≡ state ms name
 forced_front [] ms name = refl
-forced_front (n ∷ ns) ms name = by_test (bytes_eq name n) (first_definition (map forced_mention ns ++ ms) name) (wanted_size (map forced_mention ns ++ ms) name) ∙ forced_front ns ms name
+forced_front (n ∷ ns) ms name =
+    by_test (bytes_eq name n) (first_definition (map forced_mention ns ++ ms) name)
+    (wanted_size (map forced_mention ns ++ ms) name) ∙ forced_front ns ms name
   where
-    by_test : (t : Bool) (d : Option Definition) (size : ℕ) → state_by (cond t (first_of None d) d) (cond t (max 0 size) size) ≡ state_by d size
+    by_test : (t : Bool) (d : Option Definition) (size : ℕ) →
+        state_by (cond t (first_of None d) d) (cond t (max 0 size) size) ≡ state_by d size
     by_test true d size = ap (λ (k : ℕ). state_by d k) (omega arith)
     by_test false d size = refl
 
@@ -173,22 +191,27 @@ pub names_of_forced : (forced : List (List ℕ)) → names_of (map forced_mentio
 names_of_forced forced = names_of-map forced_mention (λ n. n) (λ n. refl) forced ∙ map-id forced
 
 -- names that are new to a shorter list, and of these the new ones
-pub new_of_new : (s t xs : List (List ℕ)) → ((n : List ℕ) → is_among t n ≡ true → is_among s n ≡ true) → new_names s (new_names t xs) ≡ new_names s xs
+pub new_of_new : (s t xs : List (List ℕ)) → ((n : List ℕ) → is_among t n ≡ true → is_among s n ≡ true) →
+    new_names s (new_names t xs) ≡ new_names s xs
 new_of_new s t [] h = refl
 new_of_new s t (x ∷ xs) h = by_test (is_among t x) refl (is_among s x) refl (λ a b f. new_of_new a b xs f)
   where
     by_test : (u : Bool) → is_among t x ≡ u → (v : Bool) → is_among s x ≡ v →
-        ((a b : List (List ℕ)) → ((n : List ℕ) → is_among b n ≡ true → is_among a n ≡ true) → new_names a (new_names b xs) ≡ new_names a xs) →
-        new_names s (cond u (new_names (t ++ x ∷ []) xs) (x ∷ new_names (t ++ x ∷ []) xs)) ≡ cond v (new_names (s ++ x ∷ []) xs) (x ∷ new_names (s ++ x ∷ []) xs)
+        ((a b : List (List ℕ)) → ((n : List ℕ) → is_among b n ≡ true → is_among a n ≡ true) →
+        new_names a (new_names b xs) ≡ new_names a xs) →
+        new_names s (cond u (new_names (t ++ x ∷ []) xs) (x ∷ new_names (t ++ x ∷ []) xs))
+        ≡ cond v (new_names (s ++ x ∷ []) xs) (x ∷ new_names (s ++ x ∷ []) xs)
     by_test true ue true ve rest =
         rest s (t ++ x ∷ []) (λ n e. h n (sym (seen_again t x ue n) ∙ e)) ∙ sym (new_names-seen (s ++ x ∷ []) s xs (seen_again s x ve))
     by_test true ue false ve rest = absurd (let bad : false ≡ true = sym ve ∙ h x ue in cc)
     by_test false ue v ve rest =
         let inner : new_names (s ++ x ∷ []) (new_names (t ++ x ∷ []) xs) ≡ new_names (s ++ x ∷ []) xs =
-        rest (s ++ x ∷ []) (t ++ x ∷ []) (λ n e. is_among-append s (x ∷ []) n ∙ either n (is_among t n) refl (is_among (x ∷ []) n) refl (sym (is_among-append t (x ∷ []) n) ∙ e)) in
+        rest (s ++ x ∷ []) (t ++ x ∷ []) (λ n e. is_among-append s (x ∷ []) n
+        ∙ either n (is_among t n) refl (is_among (x ∷ []) n) refl (sym (is_among-append t (x ∷ []) n) ∙ e)) in
         rw (ve, inner) refl
       where
-        either : (n : List ℕ) (p : Bool) → is_among t n ≡ p → (q : Bool) → is_among (x ∷ []) n ≡ q → (is_among t n || is_among (x ∷ []) n) ≡ true → (is_among s n || is_among (x ∷ []) n) ≡ true
+        either : (n : List ℕ) (p : Bool) → is_among t n ≡ p → (q : Bool) → is_among (x ∷ []) n ≡ q →
+            (is_among t n || is_among (x ∷ []) n) ≡ true → (is_among s n || is_among (x ∷ []) n) ≡ true
         either n true pe q qe e = or_left _ _ (h n pe)
         either n false pe true qe e = or_right _ _ qe
         either n false pe false qe e = absurd (let bad : (false || false) ≡ true = rw (pe, qe) at e in cc)
@@ -208,19 +231,24 @@ names_told_once forced front told back =
     let N = new_names [] (forced ++ told) in
     let seen : new_names A forced ≡ [] = all_seen A forced (λ n e. rw is_among-append (or_left _ _ e)) in
     let twice : (n : List ℕ) → is_among (A ++ forced) n ≡ is_among A n =
-    λ n. is_among-append A forced n ∙ ap (λ (t : Bool). t || is_among forced n) (is_among-append forced front n) ∙ absorbed (is_among forced n) (is_among front n) ∙ sym (is_among-append forced front n) in
+    λ n. is_among-append A forced n ∙ ap (λ (t : Bool). t || is_among forced n) (is_among-append forced front n)
+    ∙ absorbed (is_among forced n) (is_among front n) ∙ sym (is_among-append forced front n) in
     let first : new_names A N ≡ new_names A told =
-    new_of_new A [] (forced ++ told) (λ n e. absurd (cc)) ∙ new_names-append A forced told ∙ ap (λ (ns : List (List ℕ)). ns ++ new_names (A ++ forced) told) seen ∙ new_names-seen (A ++ forced) A told twice in
+    new_of_new A [] (forced ++ told) (λ n e. absurd (cc)) ∙ new_names-append A forced told
+    ∙ ap (λ (ns : List (List ℕ)). ns ++ new_names (A ++ forced) told) seen ∙ new_names-seen (A ++ forced) A told twice in
     let same : (n : List ℕ) → is_among (A ++ N) n ≡ is_among (A ++ told) n =
     λ n. is_among-append A N n
     ∙ ap (λ (t : Bool). t || is_among N n) (is_among-append forced front n)
-    ∙ ap (λ (t : Bool). (is_among forced n || is_among front n) || t) (is_among-new_names [] (forced ++ told) n ∙ is_among-append forced told n)
+    ∙ ap (λ (t : Bool). (is_among forced n || is_among front n) || t)
+    (is_among-new_names [] (forced ++ told) n ∙ is_among-append forced told n)
     ∙ merged (is_among forced n) (is_among front n) (is_among told n)
     ∙ ap (λ (t : Bool). t || is_among told n) (sym (is_among-append forced front n))
     ∙ sym (is_among-append A told n) in
     new_names-append [] A (N ++ back)
     ∙ ap (λ (ns : List (List ℕ)). new_names [] A ++ ns)
-    (new_names-append A N back ∙ ap (λ (ns : List (List ℕ)). ns ++ new_names (A ++ N) back) first ∙ ap (λ (ns : List (List ℕ)). new_names A told ++ ns) (new_names-seen (A ++ N) (A ++ told) back same) ∙ sym (new_names-append A told back))
+    (new_names-append A N back ∙ ap (λ (ns : List (List ℕ)). ns ++ new_names (A ++ N) back) first
+    ∙ ap (λ (ns : List (List ℕ)). new_names A told ++ ns) (new_names-seen (A ++ N) (A ++ told) back same)
+    ∙ sym (new_names-append A told back))
     ∙ sym (new_names-append [] A (told ++ back))
   where
     absorbed : (f g : Bool) → ((f || g) || f) ≡ (f || g)

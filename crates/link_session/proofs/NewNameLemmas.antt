@@ -1,5 +1,6 @@
 -- How many names an object adds, counted one symbol after the other.
-use Rattle.std.proofs.Common.{◌≡◌, ℕ, Bool, true, false, cond, not, ◌&&◌, ◌||◌, List, [], ◌∷◌, ◌++◌, map, refl, sym, ◌∙◌, ap, subst, length, append_assoc, append-nil}
+use Rattle.std.proofs.Common.{◌≡◌, ℕ, Bool, true, false, cond, not, ◌&&◌, ◌||◌, List, [], ◌∷◌, ◌++◌, map, refl}
+use Rattle.std.proofs.Common.{sym, ◌∙◌, ap, subst, length, append_assoc, append-nil}
 use Rattle.std.specs.Prelude.{filter}
 use Rattle.std.specs.Map.{keys_of}
 use Rattle.std.proofs.lemmas.List.{length-map}
@@ -14,24 +15,32 @@ use Rattle.tool_options.proofs.NameListLemmas.{is_among-append, seen_again, new_
 
 -- the new names so far, with those that are left
 new_step : (seen fresh : List (List ℕ)) (s : Symbol) (ss : List Symbol) →
-    fresh ++ new_names (seen ++ fresh) (external_names (s ∷ ss)) ≡ with_new seen fresh s ++ new_names (seen ++ with_new seen fresh s) (external_names ss)
+    fresh ++ new_names (seen ++ fresh) (external_names (s ∷ ss))
+    ≡ with_new seen fresh s ++ new_names (seen ++ with_new seen fresh s) (external_names ss)
 new_step seen fresh s ss = by_external (is_external s)
   where
     -- a name that is seen changes nothing
-    seen_name : is_among (seen ++ fresh) s.name ≡ true → new_names ((seen ++ fresh) ++ s.name ∷ []) (external_names ss) ≡ new_names (seen ++ fresh) (external_names ss)
+    seen_name : is_among (seen ++ fresh) s.name ≡ true →
+        new_names ((seen ++ fresh) ++ s.name ∷ []) (external_names ss) ≡ new_names (seen ++ fresh) (external_names ss)
     seen_name h = new_names-seen ((seen ++ fresh) ++ s.name ∷ []) (seen ++ fresh) (external_names ss) (seen_again (seen ++ fresh) s.name h)
 
     by_among : (t : Bool) (all : List (List ℕ)) → is_among (seen ++ fresh) s.name ≡ t →
-        fresh ++ cond t (new_names ((seen ++ fresh) ++ s.name ∷ []) (external_names ss)) (s.name ∷ new_names ((seen ++ fresh) ++ s.name ∷ []) (external_names ss)) ≡ all →
+        fresh ++ cond t (new_names ((seen ++ fresh) ++ s.name ∷ []) (external_names ss))
+        (s.name ∷ new_names ((seen ++ fresh) ++ s.name ∷ []) (external_names ss)) ≡ all →
         fresh ++ new_names (seen ++ fresh) (s.name ∷ external_names ss) ≡ all
     by_among t all e h =
-        subst (λ (b : Bool). fresh ++ cond b (new_names ((seen ++ fresh) ++ s.name ∷ []) (external_names ss)) (s.name ∷ new_names ((seen ++ fresh) ++ s.name ∷ []) (external_names ss)) ≡ all) (sym e) h
+        subst (λ (b : Bool). fresh ++ cond b (new_names ((seen ++ fresh) ++ s.name ∷ []) (external_names ss))
+        (s.name ∷ new_names ((seen ++ fresh) ++ s.name ∷ []) (external_names ss)) ≡ all) (sym e) h
 
-    known : is_among (seen ++ fresh) s.name ≡ true → fresh ++ new_names (seen ++ fresh) (s.name ∷ external_names ss) ≡ fresh ++ new_names (seen ++ fresh) (external_names ss)
-    known e = by_among true (fresh ++ new_names (seen ++ fresh) (external_names ss)) e (ap (λ (ns : List (List ℕ)). fresh ++ ns) (seen_name e))
+    known : is_among (seen ++ fresh) s.name ≡ true → fresh ++ new_names (seen ++ fresh) (s.name ∷ external_names ss)
+        ≡ fresh ++ new_names (seen ++ fresh) (external_names ss)
+    known e =
+        by_among true (fresh ++ new_names (seen ++ fresh) (external_names ss)) e
+        (ap (λ (ns : List (List ℕ)). fresh ++ ns) (seen_name e))
 
     unknown : is_among (seen ++ fresh) s.name ≡ false →
-        fresh ++ new_names (seen ++ fresh) (s.name ∷ external_names ss) ≡ (fresh ++ s.name ∷ []) ++ new_names (seen ++ (fresh ++ s.name ∷ [])) (external_names ss)
+        fresh ++ new_names (seen ++ fresh) (s.name ∷ external_names ss)
+        ≡ (fresh ++ s.name ∷ []) ++ new_names (seen ++ (fresh ++ s.name ∷ [])) (external_names ss)
     unknown e = by_among false ((fresh ++ s.name ∷ []) ++ new_names (seen ++ (fresh ++ s.name ∷ [])) (external_names ss)) e (
         ap (λ (l : List (List ℕ)). fresh ++ s.name ∷ new_names l (external_names ss)) (append_assoc seen fresh (s.name ∷ []))
         ∙ sym (append_assoc fresh (s.name ∷ []) (new_names (seen ++ (fresh ++ s.name ∷ [])) (external_names ss))))
@@ -42,12 +51,15 @@ new_step seen fresh s ss = by_external (is_external s)
     by_fresh : (f : Bool) → is_among fresh s.name ≡ f → is_among seen s.name ≡ false →
         fresh ++ new_names (seen ++ fresh) (s.name ∷ external_names ss)
         ≡ (fresh ++ cond f [] (s.name ∷ [])) ++ new_names (seen ++ (fresh ++ cond f [] (s.name ∷ []))) (external_names ss)
-    by_fresh true f e = known (among false true e f) ∙ (λ i. sym (append-nil fresh) i ++ new_names (seen ++ sym (append-nil fresh) i) (external_names ss))
+    by_fresh true f e =
+        known (among false true e f)
+        ∙ (λ i. sym (append-nil fresh) i ++ new_names (seen ++ sym (append-nil fresh) i) (external_names ss))
     by_fresh false f e = unknown (among false false e f)
 
     by_seen : (t : Bool) → is_among seen s.name ≡ t →
         fresh ++ new_names (seen ++ fresh) (s.name ∷ external_names ss)
-        ≡ cond (not t) (with_entered fresh s.name) fresh ++ new_names (seen ++ cond (not t) (with_entered fresh s.name) fresh) (external_names ss)
+        ≡ cond (not t) (with_entered fresh s.name) fresh
+        ++ new_names (seen ++ cond (not t) (with_entered fresh s.name) fresh) (external_names ss)
     by_seen true e = known (among true (is_among fresh s.name) e refl)
     by_seen false e = by_fresh (is_among fresh s.name) refl e
 
@@ -58,13 +70,16 @@ new_step seen fresh s ss = by_external (is_external s)
     by_external true = by_seen (is_among seen s.name) refl
     by_external false = refl
 
-pub all_new-is : (seen fresh : List (List ℕ)) (ss : List Symbol) → with_all_new seen fresh ss ≡ fresh ++ new_names (seen ++ fresh) (external_names ss)
+pub all_new-is : (seen fresh : List (List ℕ)) (ss : List Symbol) →
+    with_all_new seen fresh ss ≡ fresh ++ new_names (seen ++ fresh) (external_names ss)
 all_new-is seen fresh [] = sym (append-nil fresh)
 all_new-is seen fresh (s ∷ ss) = all_new-is seen (with_new seen fresh s) ss ∙ sym (new_step seen fresh s ss)
 
 -- there are as many as the symbols add
 pub length-all_new : (seen : List (List ℕ)) (ss : List Symbol) → length (with_all_new seen [] ss) ≡ new_count seen ss
-length-all_new seen ss = ap (λ (l : List (List ℕ)). length l) (all_new-is seen [] ss) ∙ ap (λ (l : List (List ℕ)). length (new_names l (external_names ss))) (append-nil seen)
+length-all_new seen ss =
+    ap (λ (l : List (List ℕ)). length l) (all_new-is seen [] ss)
+    ∙ ap (λ (l : List (List ℕ)). length (new_names l (external_names ss))) (append-nil seen)
 
 -- a name for each entry
 pub length-keys : (es : Named) → length es ≡ length (keys_of es)

@@ -1,5 +1,6 @@
 -- The place of a name in an image, and the state there.
-use Rattle.std.proofs.Common.{◌≡◌, ℕ, zero, suc, ◌+◌, ◌<◌, ◌≤◌, ◌⊎◌, inl, inr, Bool, true, false, cond, not, List, [], ◌∷◌, length, position, Some, None, refl, sym, ◌∙◌, ap, arith, add-one}
+use Rattle.std.proofs.Common.{◌≡◌, ℕ, zero, suc, ◌+◌, ◌<◌, ◌≤◌, ◌⊎◌, inl, inr, Bool, true, false, cond, not, List, []}
+use Rattle.std.proofs.Common.{◌∷◌, length, position, Some, None, refl, sym, ◌∙◌, ap, arith, add-one}
 use Rattle.std.specs.Prelude.{bytes_eq, slice_get, filter}
 use Rattle.std.specs.List.{position_or_len}
 use Rattle.indexmap.specs.IndexMap.{insert_entry, set_value_at}
@@ -17,7 +18,8 @@ pub place_is : (name : List ℕ) (names : List (List ℕ)) → position_or_len (
 place_is name [] = refl
 place_is name (n ∷ ns) = by_test (bytes_eq name n) (place_is name ns)
   where
-    by_test : (t : Bool) → position_or_len (bytes_eq name) ns ≡ place_of name ns → cond (not t) (1 + position_or_len (bytes_eq name) ns) 0 ≡ cond t 0 (place_of name ns + 1)
+    by_test : (t : Bool) → position_or_len (bytes_eq name) ns ≡ place_of name ns →
+        cond (not t) (1 + position_or_len (bytes_eq name) ns) 0 ≡ cond t 0 (place_of name ns + 1)
     by_test true h = refl
     by_test false h = omega arith
 
@@ -32,7 +34,8 @@ place_of-le name (n ∷ ns) = by_test (bytes_eq name n) (place_of-le name ns)
 found : (name : List ℕ) (names : List (List ℕ)) (i : ℕ) → position (bytes_eq name) names ≡ Some i → place_of name names ≡ i
 found name names i e = by_order (cases_lt (position_or_len (bytes_eq name) names) (length names))
   where
-    by_order : (position_or_len (bytes_eq name) names < length names) ⊎ (length names ≤ position_or_len (bytes_eq name) names) → place_of name names ≡ i
+    by_order : (position_or_len (bytes_eq name) names < length names)
+        ⊎ (length names ≤ position_or_len (bytes_eq name) names) → place_of name names ≡ i
     by_order (inl below) =
         let test = lt-ltb (position_or_len (bytes_eq name) names) (length names) below in
         let here : Some (position_or_len (bytes_eq name) names) ≡ Some i = rw test at e in
@@ -45,7 +48,8 @@ found name names i e = by_order (cases_lt (position_or_len (bytes_eq name) names
 missing : (name : List ℕ) (names : List (List ℕ)) → position (bytes_eq name) names ≡ None → place_of name names ≡ length names
 missing name names e = by_order (cases_lt (position_or_len (bytes_eq name) names) (length names))
   where
-    by_order : (position_or_len (bytes_eq name) names < length names) ⊎ (length names ≤ position_or_len (bytes_eq name) names) → place_of name names ≡ length names
+    by_order : (position_or_len (bytes_eq name) names < length names)
+        ⊎ (length names ≤ position_or_len (bytes_eq name) names) → place_of name names ≡ length names
     by_order (inl below) =
         let test = lt-ltb (position_or_len (bytes_eq name) names) (length names) below in
         absurd (let none : Some (position_or_len (bytes_eq name) names) ≡ None = rw test at e in cc)
@@ -71,7 +75,8 @@ pub known_state : (es : Named) (name : List ℕ) (was : State) → lookup (bytes
 known_state [] name was h = absurd (cc)
 known_state (e ∷ es) name was h = by_test (bytes_eq name e.0) h (known_state es name was)
   where
-    by_test : (t : Bool) → cond t (Some e.1) (lookup (bytes_eq name) es) ≡ Some was → (lookup (bytes_eq name) es ≡ Some was → was ≡ state_for es name) →
+    by_test : (t : Bool) → cond t (Some e.1) (lookup (bytes_eq name) es) ≡ Some was →
+        (lookup (bytes_eq name) es ≡ Some was → was ≡ state_for es name) →
         was ≡ state_at (e ∷ es) (cond t 0 (place_in es name + 1))
     by_test true h rest = let same : e.1 ≡ was = cc in sym same
     by_test false h rest = rw add-one (rest h)
@@ -80,13 +85,15 @@ pub unknown_state : (es : Named) (name : List ℕ) → lookup (bytes_eq name) es
 unknown_state [] name h = refl
 unknown_state (e ∷ es) name h = by_test (bytes_eq name e.0) h (unknown_state es name)
   where
-    by_test : (t : Bool) → cond t (Some e.1) (lookup (bytes_eq name) es) ≡ None → (lookup (bytes_eq name) es ≡ None → Wanted 0 ≡ state_for es name) →
+    by_test : (t : Bool) → cond t (Some e.1) (lookup (bytes_eq name) es) ≡ None →
+        (lookup (bytes_eq name) es ≡ None → Wanted 0 ≡ state_for es name) →
         Wanted 0 ≡ state_at (e ∷ es) (cond t 0 (place_in es name + 1))
     by_test true h rest = absurd (cc)
     by_test false h rest = rw add-one (rest h)
 
 -- a state that is written again at its place
-pub written_again : (es : Named) (name : List ℕ) (first then : State) → set_value_at (insert_entry bytes_eq es name first) (place_in es name) then ≡ insert_entry bytes_eq es name then
+pub written_again : (es : Named) (name : List ℕ) (first then : State) →
+    set_value_at (insert_entry bytes_eq es name first) (place_in es name) then ≡ insert_entry bytes_eq es name then
 written_again [] name first then = refl
 written_again (e ∷ es) name first then = by_test (bytes_eq name e.0) (written_again es name first then)
   where

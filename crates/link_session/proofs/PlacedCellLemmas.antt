@@ -9,7 +9,8 @@ use Rattle.aout_core.specs.declared.reloc.Kind.TheVariants as kinds
 use Rattle.aout_core.specs.declared.object.ObjectFault.{ObjectFault}
 use Rattle.aout_core.specs.Contents.{Contents}
 use Rattle.aout_core.specs.Words.{plus, minus}
-use Rattle.aout_core.specs.WellFormed.{kind_of, symbol_number, is_pc_relative, is_wanted, kind_fault, word_fault, first_bad_word, IsWellFormed}
+use Rattle.aout_core.specs.WellFormed.{kind_of, symbol_number, is_pc_relative, is_wanted, kind_fault}
+use Rattle.aout_core.specs.WellFormed.{word_fault, first_bad_word, IsWellFormed}
 use Rattle.link_session.specs.declared.cell.Cell.{Cell}
 use Rattle.link_session.specs.declared.cell.Target.{Target}
 use Rattle.link_session.specs.declared.relocate.Shifts.{Shifts}
@@ -37,39 +38,58 @@ fit symbols i number (Some kinds.External) h = by_test (is_wanted (slice_get sym
     by_test true h = refl
     by_test false h = absurd (cc)
 
-all_fit : (symbols : List Symbol) (i : ℕ) (rs : List Reloc) → first_bad_word symbols i rs ≡ None → AllByRecursion (λ r. IsFit symbols (symbol_number r) (kind_of r)) rs
+all_fit : (symbols : List Symbol) (i : ℕ) (rs : List Reloc) → first_bad_word symbols i rs ≡ None →
+    AllByRecursion (λ r. IsFit symbols (symbol_number r) (kind_of r)) rs
 all_fit symbols i [] h = tt
 all_fit symbols i (r ∷ rs) h =
     let both = first_of_none (word_fault symbols i r) (first_bad_word symbols (i + 1) rs) h in
     (fit symbols i (symbol_number r) (kind_of r) both.0, all_fit symbols (i + 1) rs both.1)
 
 module _ (es : Named) (symbols : List Symbol) (shifts : Shifts) where
-  placed_reference-is : (number : ℕ) (kind : Option Kind) → IsFit symbols number kind → placed_reference es (all_places es symbols) shifts number kind ≡ reference es symbols shifts number kind
+  placed_reference-is : (number : ℕ) (kind : Option Kind) → IsFit symbols number kind →
+      placed_reference es (all_places es symbols) shifts number kind ≡ reference es symbols shifts number kind
   placed_reference-is number None h = refl
   placed_reference-is number (Some kinds.Absolute) h = refl
   placed_reference-is number (Some kinds.TextSeg) h = refl
   placed_reference-is number (Some kinds.DataSeg) h = refl
   placed_reference-is number (Some kinds.BssSeg) h = refl
   placed_reference-is number (Some kinds.External) h =
-      ap (λ (k : ℕ). let r : ℕ × Target = (offset_in (state_at es k), name_target (state_at es k) k) in r) (wanted_place es symbols number h)
+      ap (λ (k : ℕ). let r : ℕ × Target = (offset_in (state_at es k), name_target (state_at es k) k) in r)
+      (wanted_place es symbols number h)
 
-  cell-is : (own_shift w : ℕ) (r : Reloc) → IsFit symbols (symbol_number r) (kind_of r) → placed_cell es (all_places es symbols) shifts own_shift w r ≡ own_cell es symbols shifts own_shift w r
+  cell-is : (own_shift w : ℕ) (r : Reloc) → IsFit symbols (symbol_number r) (kind_of r) →
+      placed_cell es (all_places es symbols) shifts own_shift w r ≡ own_cell es symbols shifts own_shift w r
   cell-is own_shift w r h =
-      ap (λ (p : ℕ × Target). let c : Cell = record { value = minus (plus w p.0) (if_pc r own_shift); target = p.1; pc = is_pc_relative r } in c) (placed_reference-is (symbol_number r) (kind_of r) h)
+      ap (λ (p : ℕ × Target). let c : Cell = record {
+        value = minus (plus w p.0) (if_pc r own_shift);
+        target = p.1;
+        pc = is_pc_relative r;
+      } in c) (placed_reference-is (symbol_number r) (kind_of r) h)
 
   cells-are : (own_shift : ℕ) (ws : List ℕ) (rs : List Reloc) → AllByRecursion (λ r. IsFit symbols (symbol_number r) (kind_of r)) rs →
       placed_cells es (all_places es symbols) shifts own_shift ws rs ≡ own_cells es symbols shifts own_shift ws rs
   cells-are own_shift [] rs h = refl
   cells-are own_shift (w ∷ ws) [] h = refl
-  cells-are own_shift (w ∷ ws) (r ∷ rs) h = let here = cell-is own_shift w r h.0 in let rest = cells-are own_shift ws rs h.1 in λ i. here i ∷ rest i
+  cells-are own_shift (w ∷ ws) (r ∷ rs) h =
+      let here = cell-is own_shift w r h.0 in let rest = cells-are own_shift ws rs h.1 in λ i. here i ∷ rest i
 
 -- the cells of an object's words
-module _ (es : Named) (o : Contents) (shifts : Shifts) (own_shift : ℕ) (well : IsWellFormed o) (places : List ℕ) (same : places ≡ all_places es o.symbols) where
-  both : AllByRecursion (λ r. IsFit o.symbols (symbol_number r) (kind_of r)) o.text_reloc × AllByRecursion (λ r. IsFit o.symbols (symbol_number r) (kind_of r)) o.data_reloc
-  both = all_split (λ r. IsFit o.symbols (symbol_number r) (kind_of r)) o.text_reloc o.data_reloc (all_fit o.symbols 0 (o.text_reloc ++ o.data_reloc) (well_formed_parts o well).1)
+module _ (es : Named) (o : Contents) (shifts : Shifts) (own_shift : ℕ) (well : IsWellFormed o) (places : List ℕ)
+    (same : places ≡ all_places es o.symbols) where
+  both : AllByRecursion (λ r. IsFit o.symbols (symbol_number r) (kind_of r)) o.text_reloc
+      × AllByRecursion (λ r. IsFit o.symbols (symbol_number r) (kind_of r)) o.data_reloc
+  both =
+      all_split (λ r. IsFit o.symbols (symbol_number r) (kind_of r)) o.text_reloc o.data_reloc
+      (all_fit o.symbols 0 (o.text_reloc ++ o.data_reloc) (well_formed_parts o well).1)
 
-  pub placed_texts : placed_cells es places shifts own_shift o.text_words o.text_reloc ≡ own_cells es o.symbols shifts own_shift o.text_words o.text_reloc
-  placed_texts = ap (λ (ps : List ℕ). placed_cells es ps shifts own_shift o.text_words o.text_reloc) same ∙ cells-are es o.symbols shifts own_shift o.text_words o.text_reloc both.0
+  pub placed_texts : placed_cells es places shifts own_shift o.text_words o.text_reloc
+      ≡ own_cells es o.symbols shifts own_shift o.text_words o.text_reloc
+  placed_texts =
+      ap (λ (ps : List ℕ). placed_cells es ps shifts own_shift o.text_words o.text_reloc) same
+      ∙ cells-are es o.symbols shifts own_shift o.text_words o.text_reloc both.0
 
-  pub placed_datas : placed_cells es places shifts own_shift o.data_words o.data_reloc ≡ own_cells es o.symbols shifts own_shift o.data_words o.data_reloc
-  placed_datas = ap (λ (ps : List ℕ). placed_cells es ps shifts own_shift o.data_words o.data_reloc) same ∙ cells-are es o.symbols shifts own_shift o.data_words o.data_reloc both.1
+  pub placed_datas : placed_cells es places shifts own_shift o.data_words o.data_reloc
+      ≡ own_cells es o.symbols shifts own_shift o.data_words o.data_reloc
+  placed_datas =
+      ap (λ (ps : List ℕ). placed_cells es ps shifts own_shift o.data_words o.data_reloc) same
+      ∙ cells-are es o.symbols shifts own_shift o.data_words o.data_reloc both.1

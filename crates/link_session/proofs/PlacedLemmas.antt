@@ -1,5 +1,6 @@
 -- The places of an object's symbols among the names.
-use Rattle.std.proofs.Common.{◌≡◌, ℕ, zero, suc, ◌+◌, ◌≤◌, Bool, true, false, cond, ◌&&◌, ◌||◌, eqb, List, [], ◌∷◌, ◌++◌, length, map, refl, sym, ◌∙◌, ap, arith}
+use Rattle.std.proofs.Common.{◌≡◌, ℕ, zero, suc, ◌+◌, ◌≤◌, Bool, true, false, cond, ◌&&◌, ◌||◌, eqb, List}
+use Rattle.std.proofs.Common.{[], ◌∷◌, ◌++◌, length, map, refl, sym, ◌∙◌, ap, arith}
 use Rattle.std.specs.Prelude.{bytes_eq, filter, slice_get, slice_index_or}
 use Rattle.std.specs.Map.{keys_of}
 use Rattle.std.proofs.lemmas.Bool.{or_left, or_right}
@@ -27,20 +28,24 @@ use Rattle.link_session.proofs.UpdateLemmas.{own_name}
 abbrev pub noted_places : Shifts → Named → List Symbol → List ℕ
 noted_places shifts es [] = []
 noted_places shifts es (s ∷ ss) =
-    cond (is_external s) (place_in es s.name ∷ noted_places shifts (with_mention es (mention_by shifts s)) ss) (no_place ∷ noted_places shifts es ss)
+    cond (is_external s) (place_in es s.name ∷ noted_places shifts (with_mention es (mention_by shifts s)) ss)
+    (no_place ∷ noted_places shifts es ss)
 
 -- a name that is there keeps its place
-kept_once : (es : Named) (m : Mention) (name : List ℕ) → is_among (keys_of es) name ≡ true → place_in (with_mention es m) name ≡ place_in es name
+kept_once : (es : Named) (m : Mention) (name : List ℕ) → is_among (keys_of es) name ≡ true →
+    place_in (with_mention es m) name ≡ place_in es name
 kept_once es m name h =
     ap (place_of name) (keys-with_mention es m) ∙ place_of-append (keys_of es) (cond (is_among (keys_of es) m.name) [] (m.name ∷ [])) name h
 
-still_among : (es : Named) (m : Mention) (name : List ℕ) → is_among (keys_of es) name ≡ true → is_among (keys_of (with_mention es m)) name ≡ true
+still_among : (es : Named) (m : Mention) (name : List ℕ) → is_among (keys_of es) name ≡ true →
+    is_among (keys_of (with_mention es m)) name ≡ true
 still_among es m name h =
     ap (λ (ns : List (List ℕ)). is_among ns name) (keys-with_mention es m)
     ∙ is_among-append (keys_of es) (cond (is_among (keys_of es) m.name) [] (m.name ∷ [])) name
     ∙ or_left _ _ h
 
-kept : (es : Named) (ms : List Mention) (name : List ℕ) → is_among (keys_of es) name ≡ true → place_in (with_mentions es ms) name ≡ place_in es name
+kept : (es : Named) (ms : List Mention) (name : List ℕ) → is_among (keys_of es) name ≡ true →
+    place_in (with_mentions es ms) name ≡ place_in es name
 kept es [] name h = refl
 kept es (m ∷ ms) name h = kept (with_mention es m) ms name (still_among es m name h) ∙ kept_once es m name h
 
@@ -49,7 +54,8 @@ place_last : (ns : List (List ℕ)) (name : List ℕ) → is_among ns name ≡ f
 place_last [] name h = ap (λ (t : Bool). cond t 0 1) (own_name name)
 place_last (n ∷ ns) name h = by_test (bytes_eq name n) h (place_last ns name)
   where
-    by_test : (t : Bool) → (t || is_among ns name) ≡ false → (is_among ns name ≡ false → place_of name (ns ++ name ∷ []) ≡ place_of name ns) →
+    by_test : (t : Bool) → (t || is_among ns name) ≡ false →
+        (is_among ns name ≡ false → place_of name (ns ++ name ∷ []) ≡ place_of name ns) →
         cond t 0 (place_of name (ns ++ name ∷ []) + 1) ≡ cond t 0 (place_of name ns + 1)
     by_test true h rest = absurd (cc)
     by_test false h rest = ap (λ (k : ℕ). k + 1) (rest h)
@@ -57,7 +63,8 @@ place_last (n ∷ ns) name h = by_test (bytes_eq name n) h (place_last ns name)
 mentioned_place : (es : Named) (m : Mention) → place_in (with_mention es m) m.name ≡ place_in es m.name
 mentioned_place es m = ap (place_of m.name) (keys-with_mention es m) ∙ by_test (is_among (keys_of es) m.name) refl
   where
-    by_test : (t : Bool) → is_among (keys_of es) m.name ≡ t → place_of m.name (keys_of es ++ cond t [] (m.name ∷ [])) ≡ place_of m.name (keys_of es)
+    by_test : (t : Bool) → is_among (keys_of es) m.name ≡ t →
+        place_of m.name (keys_of es ++ cond t [] (m.name ∷ [])) ≡ place_of m.name (keys_of es)
     by_test true h = place_of-append (keys_of es) [] m.name h
     by_test false h = place_last (keys_of es) m.name h
 
@@ -67,19 +74,23 @@ mentioned_among es m =
     ∙ is_among-append (keys_of es) (cond (is_among (keys_of es) m.name) [] (m.name ∷ [])) m.name
     ∙ by_test (is_among (keys_of es) m.name) refl
   where
-    by_test : (t : Bool) → is_among (keys_of es) m.name ≡ t → (is_among (keys_of es) m.name || is_among (cond t [] (m.name ∷ [])) m.name) ≡ true
+    by_test : (t : Bool) → is_among (keys_of es) m.name ≡ t →
+        (is_among (keys_of es) m.name || is_among (cond t [] (m.name ∷ [])) m.name) ≡ true
     by_test true h = or_left _ _ h
     by_test false h = or_right _ _ (or_left _ _ (own_name m.name))
 
 -- what is noted is where the names stand in the end
-pub noted-all : (shifts : Shifts) (es : Named) (ss : List Symbol) → noted_places shifts es ss ≡ all_places (with_mentions es (mentions_by shifts ss)) ss
+pub noted-all : (shifts : Shifts) (es : Named) (ss : List Symbol) →
+    noted_places shifts es ss ≡ all_places (with_mentions es (mentions_by shifts ss)) ss
 noted-all shifts es [] = refl
-noted-all shifts es (s ∷ ss) = by_test (is_external s) (noted-all shifts (with_mention es (mention_by shifts s)) ss) (noted-all shifts es ss)
+noted-all shifts es (s ∷ ss) =
+    by_test (is_external s) (noted-all shifts (with_mention es (mention_by shifts s)) ss) (noted-all shifts es ss)
   where
     with_test : Bool → Named
     with_test t = with_mentions es (map (mention_by shifts) (cond t (s ∷ filter is_external ss) (filter is_external ss)))
 
-    by_test : (t : Bool) → noted_places shifts (with_mention es (mention_by shifts s)) ss ≡ all_places (with_test true) ss → noted_places shifts es ss ≡ all_places (with_test false) ss →
+    by_test : (t : Bool) → noted_places shifts (with_mention es (mention_by shifts s)) ss ≡ all_places (with_test true) ss →
+        noted_places shifts es ss ≡ all_places (with_test false) ss →
         cond t (place_in es s.name ∷ noted_places shifts (with_mention es (mention_by shifts s)) ss) (no_place ∷ noted_places shifts es ss)
         ≡ cond t (place_in (with_test t) s.name) no_place ∷ all_places (with_test t) ss
     by_test true next same =
@@ -100,28 +111,37 @@ module _ (es : Named) (few : length es ≤ 65535) where
   nowhere : state_at es no_place ≡ Wanted 0
   nowhere = after_last es no_place few
 
-  pub settled_places : (ss : List Symbol) (cs : List Cell) → map (settled_over es (all_places es ss)) cs ≡ map (settled_over es (places_of es ss)) cs
+  pub settled_places : (ss : List Symbol) (cs : List Cell) →
+      map (settled_over es (all_places es ss)) cs ≡ map (settled_over es (places_of es ss)) cs
   settled_places [] cs = refl
   settled_places (s ∷ ss) cs = by_test (is_external s) (settled_places ss)
     where
-      by_test : (t : Bool) → ((l : List Cell) → map (settled_over es (all_places es ss)) l ≡ map (settled_over es (places_of es ss)) l) → map (settled_over es (cond t (place_in es s.name) no_place ∷ all_places es ss)) cs
-          ≡ map (settled_over es (map (place_in es) (map (λ (x : Symbol). x.name) (cond t (s ∷ filter is_external ss) (filter is_external ss))))) cs
+      by_test : (t : Bool) →
+          ((l : List Cell) → map (settled_over es (all_places es ss)) l ≡ map (settled_over es (places_of es ss)) l) →
+          map (settled_over es (cond t (place_in es s.name) no_place ∷ all_places es ss)) cs
+          ≡ map (settled_over es
+          (map (place_in es) (map (λ (x : Symbol). x.name) (cond t (s ∷ filter is_external ss) (filter is_external ss))))) cs
       by_test true rest =
-          all_one es (place_in es s.name) (all_places es ss) cs ∙ rest (map (settled_at es (place_in es s.name)) cs) ∙ sym (all_one es (place_in es s.name) (places_of es ss) cs)
+          all_one es (place_in es s.name) (all_places es ss) cs ∙ rest (map (settled_at es (place_in es s.name)) cs)
+          ∙ sym (all_one es (place_in es s.name) (places_of es ss) cs)
       by_test false rest =
-          all_one es no_place (all_places es ss) cs ∙ ap (λ (l : List Cell). map (settled_over es (all_places es ss)) l) (sym (unsettled es no_place 0 nowhere cs)) ∙ rest cs
+          all_one es no_place (all_places es ss) cs ∙ ap (λ (l : List Cell). map (settled_over es (all_places es ss)) l)
+          (sym (unsettled es no_place 0 nowhere cs)) ∙ rest cs
 
   pub cut_places : (ss : List Symbol) (heads : List Link) → cut_heads es (all_places es ss) heads ≡ cut_heads es (places_of es ss) heads
   cut_places [] heads = refl
   cut_places (s ∷ ss) heads = by_test (is_external s) (cut_places ss)
     where
-      by_test : (t : Bool) → ((l : List Link) → cut_heads es (all_places es ss) l ≡ cut_heads es (places_of es ss) l) → cut_heads es (cond t (place_in es s.name) no_place ∷ all_places es ss) heads
-          ≡ cut_heads es (map (place_in es) (map (λ (x : Symbol). x.name) (cond t (s ∷ filter is_external ss) (filter is_external ss)))) heads
+      by_test : (t : Bool) → ((l : List Link) → cut_heads es (all_places es ss) l ≡ cut_heads es (places_of es ss) l) →
+          cut_heads es (cond t (place_in es s.name) no_place ∷ all_places es ss) heads
+          ≡ cut_heads es
+          (map (place_in es) (map (λ (x : Symbol). x.name) (cond t (s ∷ filter is_external ss) (filter is_external ss)))) heads
       by_test true rest = rest (cut_by_state (state_at es (place_in es s.name)) (place_in es s.name) heads)
       by_test false rest = ap (λ (x : State). cut_heads es (all_places es ss) (cut_by_state x no_place heads)) nowhere ∙ rest heads
 
 -- the place of a symbol that a relocation word may refer to
-pub wanted_place : (es : Named) (ss : List Symbol) (i : ℕ) → is_wanted (slice_get ss i) ≡ true → slice_index_or (all_places es ss) i no_place ≡ place_in es (name_in (slice_get ss i))
+pub wanted_place : (es : Named) (ss : List Symbol) (i : ℕ) → is_wanted (slice_get ss i) ≡ true →
+    slice_index_or (all_places es ss) i no_place ≡ place_in es (name_in (slice_get ss i))
 wanted_place es [] i h = absurd (cc)
 wanted_place es (s ∷ ss) zero h = by_test (is_external s) h
   where

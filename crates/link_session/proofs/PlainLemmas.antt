@@ -1,5 +1,6 @@
 -- A mention that only says that a known name is wanted changes nothing.
-use Rattle.std.proofs.Common.{◌≡◌, ℕ, Bool, true, false, cond, List, [], ◌∷◌, Option, Some, None, is_some, position, refl, sym, ◌∙◌, ap, arith}
+use Rattle.std.proofs.Common.{◌≡◌, ℕ, Bool, true, false, cond, List, [], ◌∷◌, Option, Some, None}
+use Rattle.std.proofs.Common.{is_some, position, refl, sym, ◌∙◌, ap, arith}
 use Rattle.std.specs.Prelude.{bytes_eq, IfSome}
 use Rattle.std.specs.Map.{keys_of, lookup}
 use Rattle.indexmap.specs.IndexMap.{insert_entry}
@@ -25,9 +26,11 @@ put_again (e ∷ es) name was h = by_test (bytes_eq name e.0) h (put_again es na
     by_test true h rest = let same : e.1 ≡ was = cc in ap (λ (s : State). let l : Named = (e.0, s) ∷ es in l) (sym same)
     by_test false h rest = ap (λ (l : Named). e ∷ l) (rest h)
 
-known_alone : (es : Named) (name : List ℕ) (was : State) → lookup (bytes_eq name) es ≡ Some was → with_mention es (mention_of name (Wanted 0)) ≡ es
+known_alone : (es : Named) (name : List ℕ) (was : State) → lookup (bytes_eq name) es ≡ Some was →
+    with_mention es (mention_of name (Wanted 0)) ≡ es
 known_alone es name was h =
-    ap (λ (s : State). insert_entry bytes_eq es name s) (plain_alone (state_for es name) ∙ sym (known_state es name was h)) ∙ put_again es name was h
+    ap (λ (s : State). insert_entry bytes_eq es name s) (plain_alone (state_for es name) ∙ sym (known_state es name was h))
+    ∙ put_again es name was h
 
 -- of a name that is found
 module _ (es : Named) (name : List ℕ) where
@@ -38,7 +41,8 @@ module _ (es : Named) (name : List ℕ) where
   pub plain_names : (says : State) (at : Option ℕ) → says ≡ Wanted 0 → is_some at ≡ is_some (lookup (bytes_eq name) es) →
       IfSome at (λ _. with_mention es (mention_of name says) ≡ es)
   plain_names says None e found = tt
-  plain_names says (Some i) e found = ap (λ (s : State). with_mention es (mention_of name s)) e ∙ by_lookup (lookup (bytes_eq name) es) refl found
+  plain_names says (Some i) e found =
+      ap (λ (s : State). with_mention es (mention_of name s)) e ∙ by_lookup (lookup (bytes_eq name) es) refl found
     where
       by_lookup : (o : Option State) → lookup (bytes_eq name) es ≡ o → true ≡ is_some o → with_mention es (mention_of name (Wanted 0)) ≡ es
       by_lookup None known found = absurd (cc)

@@ -1,5 +1,6 @@
 -- The chains of externals while a cell is put last, in front of its chain, and how many places a chain has.
-use Rattle.std.proofs.Common.{◌≡◌, ◌<◌, ◌≤◌, ◌+◌, ℕ, suc, Bool, true, false, ◌||◌, List, [], ◌∷◌, ◌++◌, length, Some, None, slice_index_or, refl, sym, ap, ◌∙◌, subst, arith, length-append}
+use Rattle.std.proofs.Common.{◌≡◌, ◌<◌, ◌≤◌, ◌+◌, ℕ, suc, Bool, true, false, ◌||◌, List, [], ◌∷◌, ◌++◌, length, Some}
+use Rattle.std.proofs.Common.{None, slice_index_or, refl, sym, ap, ◌∙◌, subst, arith, length-append}
 use Rattle.std.specs.List.{AllByRecursion}
 use Rattle.std.proofs.Math.Seq.{get_or-append_seam}
 use Rattle.std.proofs.lemmas.List.{get_or_append_left}
@@ -13,17 +14,21 @@ use Rattle.link_session.proofs.ChainLemmas.{own_number, other_number}
 
 -- Links that grow.
 
-chain_grown_text : (ts ds : List Link) (x : Link) (d : ℕ) (head : Link) (ps : List Place) → AllByRecursion (IsWithin (length ts) d) ps → IsChain ts ds head ps → IsChain (ts ++ x ∷ []) ds head ps
+chain_grown_text : (ts ds : List Link) (x : Link) (d : ℕ) (head : Link) (ps : List Place) →
+    AllByRecursion (IsWithin (length ts) d) ps → IsChain ts ds head ps → IsChain (ts ++ x ∷ []) ds head ps
 chain_grown_text ts ds x d head [] h c = c
-chain_grown_text ts ds x d head (p ∷ ps) h c = (c.0, subst (λ (l : Link). IsChain (ts ++ x ∷ []) ds l ps) (sym (same p h.0)) (chain_grown_text ts ds x d (link_at ts ds p) ps h.1 c.1))
+chain_grown_text ts ds x d head (p ∷ ps) h c =
+    (c.0, subst (λ (l : Link). IsChain (ts ++ x ∷ []) ds l ps) (sym (same p h.0)) (chain_grown_text ts ds x d (link_at ts ds p) ps h.1 c.1))
   where
     same : (p : Place) → IsWithin (length ts) d p → link_at (ts ++ x ∷ []) ds p ≡ link_at ts ds p
     same (InText i) lt = get_or_append_left ts (x ∷ []) None i lt
     same (InData i) lt = refl
 
-chain_grown_data : (ts ds : List Link) (x : Link) (t : ℕ) (head : Link) (ps : List Place) → AllByRecursion (IsWithin t (length ds)) ps → IsChain ts ds head ps → IsChain ts (ds ++ x ∷ []) head ps
+chain_grown_data : (ts ds : List Link) (x : Link) (t : ℕ) (head : Link) (ps : List Place) →
+    AllByRecursion (IsWithin t (length ds)) ps → IsChain ts ds head ps → IsChain ts (ds ++ x ∷ []) head ps
 chain_grown_data ts ds x t head [] h c = c
-chain_grown_data ts ds x t head (p ∷ ps) h c = (c.0, subst (λ (l : Link). IsChain ts (ds ++ x ∷ []) l ps) (sym (same p h.0)) (chain_grown_data ts ds x t (link_at ts ds p) ps h.1 c.1))
+chain_grown_data ts ds x t head (p ∷ ps) h c =
+    (c.0, subst (λ (l : Link). IsChain ts (ds ++ x ∷ []) l ps) (sym (same p h.0)) (chain_grown_data ts ds x t (link_at ts ds p) ps h.1 c.1))
   where
     same : (p : Place) → IsWithin t (length ds) p → link_at ts (ds ++ x ∷ []) p ≡ link_at ts ds p
     same (InText i) lt = refl
@@ -33,9 +38,11 @@ chain_grown_data ts ds x t head (p ∷ ps) h c = (c.0, subst (λ (l : Link). IsC
 
 tells_same : (f g : ℕ → Bool) (k : ℕ) (cs : List Cell) → ((i : ℕ) → i < length cs → f i ≡ g i) → Tells f k cs → Tells g k cs
 tells_same f g k [] same h = tt
-tells_same f g k (c ∷ cs) same h = (sym (same 0 (omega arith)) ∙ h.0, tells_same (λ i. f (suc i)) (λ i. g (suc i)) k cs (λ i lt. same (suc i) (omega arith)) h.1)
+tells_same f g k (c ∷ cs) same h =
+    (sym (same 0 (omega arith)) ∙ h.0, tells_same (λ i. f (suc i)) (λ i. g (suc i)) k cs (λ i lt. same (suc i) (omega arith)) h.1)
 
-tells_push : (f : ℕ → Bool) (k : ℕ) (cs : List Cell) (c : Cell) → Tells f k cs → f (length cs) ≡ waits_at k c.target → Tells f k (cs ++ c ∷ [])
+tells_push : (f : ℕ → Bool) (k : ℕ) (cs : List Cell) (c : Cell) → Tells f k cs → f (length cs) ≡ waits_at k c.target →
+    Tells f k (cs ++ c ∷ [])
 tells_push f k [] c h e = (e, tt)
 tells_push f k (x ∷ cs) c h e = (h.0, tells_push (λ i. f (suc i)) k cs c h.1 e)
 
@@ -48,8 +55,10 @@ none_tells k [] h = tt
 none_tells k (c ∷ cs) h = (sym h.0, none_tells k cs h.1)
 
 -- a new name has an empty chain
-pub new_chain : (ts ds : List Link) (texts datas : List Cell) (k : ℕ) → NoneWaits k texts → NoneWaits k datas → Waits ts ds None texts datas k
-new_chain ts ds texts datas k t d = record { places = []; visits = refl; apart = tt; inside = tt; text = none_tells k texts t; «data» = none_tells k datas d }
+pub new_chain : (ts ds : List Link) (texts datas : List Cell) (k : ℕ) → NoneWaits k texts → NoneWaits k datas →
+    Waits ts ds None texts datas k
+new_chain ts ds texts datas k t d =
+    record { places = []; visits = refl; apart = tt; inside = tt; text = none_tells k texts t; «data» = none_tells k datas d }
 
 -- Places after the last cell.
 
@@ -81,56 +90,92 @@ module _ (ts ds : List Link) (head : Link) (texts datas : List Cell) (k : ℕ) (
   more_data = length-append datas (c ∷ [])
 
   -- a cell of text that waits for the external is put in front of its chain
-  pub push_text : length ts ≡ length texts → waits_at k c.target ≡ true → Waits (ts ++ head ∷ []) ds (Some (InText (length texts))) (texts ++ c ∷ []) datas k
+  pub push_text : length ts ≡ length texts → waits_at k c.target ≡ true →
+      Waits (ts ++ head ∷ []) ds (Some (InText (length texts))) (texts ++ c ∷ []) datas k
   push_text long waits =
       let within = subst (λ (n : ℕ). AllByRecursion (IsWithin n (length datas)) w.places) (sym long) w.inside in
-      let seam : link_at (ts ++ head ∷ []) ds (InText (length texts)) ≡ head = ap (λ (n : ℕ). slice_index_or (ts ++ head ∷ []) n None) (sym long) ∙ get_or-append_seam ts head [] None in record {
+      let seam : link_at (ts ++ head ∷ []) ds (InText (length texts)) ≡ head =
+      ap (λ (n : ℕ). slice_index_or (ts ++ head ∷ []) n None) (sym long) ∙ get_or-append_seam ts head [] None in record {
         places = InText (length texts) ∷ w.places;
-        visits = (refl, subst (λ (l : Link). IsChain (ts ++ head ∷ []) ds l w.places) (sym seam) (chain_grown_text ts ds head (length datas) head w.places within w.visits));
+        visits = (
+          refl,
+          subst (λ (l : Link). IsChain (ts ++ head ∷ []) ds l w.places) (sym seam)
+              (chain_grown_text ts ds head (length datas) head w.places within w.visits),
+        );
         apart = (new_text (length texts) (length datas) w.places w.inside, w.apart);
-        inside = (let more = more_text in omega arith, all_map (IsWithin (length texts) (length datas)) (IsWithin (length (texts ++ c ∷ [])) (length datas)) (wider (length texts) (length datas) (length (texts ++ c ∷ [])) (length datas) (let more = more_text in omega arith) (omega arith)) w.places w.inside);
+        inside = (
+          let more = more_text in omega arith,
+          all_map (IsWithin (length texts) (length datas)) (IsWithin (length (texts ++ c ∷ [])) (length datas))
+              (wider (length texts) (length datas) (length (texts ++ c ∷ [])) (length datas)
+              (let more = more_text in omega arith) (omega arith)) w.places w.inside,
+        );
         text = tells_push (λ i. is_on (InText (length texts) ∷ w.places) (InText i)) k texts c
             (tells_same (λ i. is_on w.places (InText i)) (λ i. is_on (InText (length texts) ∷ w.places) (InText i)) k texts
-            (λ i lt. let other = other_number i (length texts) (λ e. omega arith) in ap (λ (t : Bool). t || is_on w.places (InText i)) (sym other)) w.text)
+            (λ i lt. let other = other_number i (length texts) (λ e. omega arith) in
+            ap (λ (t : Bool). t || is_on w.places (InText i)) (sym other)) w.text)
             (ap (λ (t : Bool). t || is_on w.places (InText (length texts))) (own_number (length texts)) ∙ sym waits);
         «data» = w.data;
       }
 
   -- one that does not leaves it as it is
-  pub pass_text : (x : Link) → length ts ≡ length texts → waits_at k c.target ≡ false → Waits (ts ++ x ∷ []) ds head (texts ++ c ∷ []) datas k
+  pub pass_text : (x : Link) → length ts ≡ length texts → waits_at k c.target ≡ false →
+      Waits (ts ++ x ∷ []) ds head (texts ++ c ∷ []) datas k
   pass_text x long waits =
       let within = subst (λ (n : ℕ). AllByRecursion (IsWithin n (length datas)) w.places) (sym long) w.inside in record {
         places = w.places;
         visits = chain_grown_text ts ds x (length datas) head w.places within w.visits;
         apart = w.apart;
-        inside = all_map (IsWithin (length texts) (length datas)) (IsWithin (length (texts ++ c ∷ [])) (length datas)) (wider (length texts) (length datas) (length (texts ++ c ∷ [])) (length datas) (let more = more_text in omega arith) (omega arith)) w.places w.inside;
-        text = tells_push (λ i. is_on w.places (InText i)) k texts c w.text (new_text (length texts) (length datas) w.places w.inside ∙ sym waits);
+        inside =
+            all_map (IsWithin (length texts) (length datas)) (IsWithin (length (texts ++ c ∷ [])) (length datas))
+            (wider (length texts) (length datas) (length (texts ++ c ∷ [])) (length datas)
+            (let more = more_text in omega arith) (omega arith)) w.places w.inside;
+        text =
+            tells_push (λ i. is_on w.places (InText i)) k texts c w.text
+            (new_text (length texts) (length datas) w.places w.inside ∙ sym waits);
         «data» = w.data;
       }
 
   -- the same for a cell of data
-  pub push_data : length ds ≡ length datas → waits_at k c.target ≡ true → Waits ts (ds ++ head ∷ []) (Some (InData (length datas))) texts (datas ++ c ∷ []) k
+  pub push_data : length ds ≡ length datas → waits_at k c.target ≡ true →
+      Waits ts (ds ++ head ∷ []) (Some (InData (length datas))) texts (datas ++ c ∷ []) k
   push_data long waits =
       let within = subst (λ (n : ℕ). AllByRecursion (IsWithin (length texts) n) w.places) (sym long) w.inside in
-      let seam : link_at ts (ds ++ head ∷ []) (InData (length datas)) ≡ head = ap (λ (n : ℕ). slice_index_or (ds ++ head ∷ []) n None) (sym long) ∙ get_or-append_seam ds head [] None in record {
+      let seam : link_at ts (ds ++ head ∷ []) (InData (length datas)) ≡ head =
+      ap (λ (n : ℕ). slice_index_or (ds ++ head ∷ []) n None) (sym long) ∙ get_or-append_seam ds head [] None in record {
         places = InData (length datas) ∷ w.places;
-        visits = (refl, subst (λ (l : Link). IsChain ts (ds ++ head ∷ []) l w.places) (sym seam) (chain_grown_data ts ds head (length texts) head w.places within w.visits));
+        visits = (
+          refl,
+          subst (λ (l : Link). IsChain ts (ds ++ head ∷ []) l w.places) (sym seam)
+              (chain_grown_data ts ds head (length texts) head w.places within w.visits),
+        );
         apart = (new_data (length texts) (length datas) w.places w.inside, w.apart);
-        inside = (let more = more_data in omega arith, all_map (IsWithin (length texts) (length datas)) (IsWithin (length texts) (length (datas ++ c ∷ []))) (wider (length texts) (length datas) (length texts) (length (datas ++ c ∷ [])) (omega arith) (let more = more_data in omega arith)) w.places w.inside);
+        inside = (
+          let more = more_data in omega arith,
+          all_map (IsWithin (length texts) (length datas)) (IsWithin (length texts) (length (datas ++ c ∷ [])))
+              (wider (length texts) (length datas) (length texts) (length (datas ++ c ∷ [])) (omega arith)
+              (let more = more_data in omega arith)) w.places w.inside,
+        );
         text = w.text;
         «data» = tells_push (λ i. is_on (InData (length datas) ∷ w.places) (InData i)) k datas c
             (tells_same (λ i. is_on w.places (InData i)) (λ i. is_on (InData (length datas) ∷ w.places) (InData i)) k datas
-            (λ i lt. let other = other_number i (length datas) (λ e. omega arith) in ap (λ (t : Bool). t || is_on w.places (InData i)) (sym other)) w.data)
+            (λ i lt. let other = other_number i (length datas) (λ e. omega arith) in
+            ap (λ (t : Bool). t || is_on w.places (InData i)) (sym other)) w.data)
             (ap (λ (t : Bool). t || is_on w.places (InData (length datas))) (own_number (length datas)) ∙ sym waits);
       }
 
-  pub pass_data : (x : Link) → length ds ≡ length datas → waits_at k c.target ≡ false → Waits ts (ds ++ x ∷ []) head texts (datas ++ c ∷ []) k
+  pub pass_data : (x : Link) → length ds ≡ length datas → waits_at k c.target ≡ false →
+      Waits ts (ds ++ x ∷ []) head texts (datas ++ c ∷ []) k
   pass_data x long waits =
       let within = subst (λ (n : ℕ). AllByRecursion (IsWithin (length texts) n) w.places) (sym long) w.inside in record {
         places = w.places;
         visits = chain_grown_data ts ds x (length texts) head w.places within w.visits;
         apart = w.apart;
-        inside = all_map (IsWithin (length texts) (length datas)) (IsWithin (length texts) (length (datas ++ c ∷ []))) (wider (length texts) (length datas) (length texts) (length (datas ++ c ∷ [])) (omega arith) (let more = more_data in omega arith)) w.places w.inside;
+        inside =
+            all_map (IsWithin (length texts) (length datas)) (IsWithin (length texts) (length (datas ++ c ∷ [])))
+            (wider (length texts) (length datas) (length texts) (length (datas ++ c ∷ [])) (omega arith)
+            (let more = more_data in omega arith)) w.places w.inside;
         text = w.text;
-        «data» = tells_push (λ i. is_on w.places (InData i)) k datas c w.data (new_data (length texts) (length datas) w.places w.inside ∙ sym waits);
+        «data» =
+            tells_push (λ i. is_on w.places (InData i)) k datas c w.data
+            (new_data (length texts) (length datas) w.places w.inside ∙ sym waits);
       }

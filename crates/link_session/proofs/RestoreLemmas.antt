@@ -1,5 +1,6 @@
 -- The marks of one chain, and of several, bring cells and heads back.
-use Rattle.std.proofs.Common.{◌≡◌, ◌<◌, ℕ, zero, suc, Bool, true, ◌||◌, List, [], ◌∷◌, ◌++◌, map, length, None, slice_index_or, slice_set, refl, sym, ap, ◌∙◌, subst, arith, append-nil}
+use Rattle.std.proofs.Common.{◌≡◌, ◌<◌, ℕ, zero, suc, Bool, true, ◌||◌, List, [], ◌∷◌, ◌++◌, map, length, None}
+use Rattle.std.proofs.Common.{slice_index_or, slice_set, refl, sym, ap, ◌∙◌, subst, arith, append-nil}
 use Rattle.std.specs.List.{AllByRecursion}
 use Rattle.aout_core.specs.declared.symbol.Segment.{Segment}
 use Rattle.link_session.specs.declared.cell.Cell.{Cell}
@@ -9,38 +10,45 @@ use Rattle.link_session.specs.declared.mark.Place.{Place}
 use Rattle.link_session.specs.declared.mark.Place.TheVariants.{InText, InData}
 use Rattle.link_session.specs.Undo.{put_all_back, IsInside}
 use Rattle.link_session.specs.Marks.{cells_marked}
-use Rattle.link_session.specs.internal.Chains.{Link, is_on, IsWithin, IsBoundTo, Tells, bound_if, bound_where, cell_at, nowhere, marks_of, heads_back, AreChained}
+use Rattle.link_session.specs.internal.Chains.{Link, is_on, IsWithin, IsBoundTo, Tells, bound_if, bound_where, cell_at}
+use Rattle.link_session.specs.internal.Chains.{nowhere, marks_of, heads_back, AreChained}
 use Rattle.link_session.specs.internal.Restores.{Restores, LeavesMarks, HoldBound}
 use Rattle.link_session.proofs.ListLemmas.{all_append}
 use Rattle.link_session.proofs.ChainLemmas.{on_inside, on_either, apart_parts, chain-unique}
 use Rattle.link_session.proofs.WalkLemmas.{done_inside, cell_now, ended}
 use Rattle.link_session.proofs.MarkLemmas.{put_all_back-append}
-use Rattle.link_session.proofs.MarkedLemmas.{cells_marked-append, states_marked-append, no_states, chain_marked, none_held, bound_held, held_then}
+use Rattle.link_session.proofs.MarkedLemmas.{cells_marked-append, states_marked-append, no_states, chain_marked}
+use Rattle.link_session.proofs.MarkedLemmas.{none_held, bound_held, held_then}
 use Rattle.link_session.proofs.WaitLemmas.{bound_on_chain, heads_back-chain}
 use Rattle.link_session.proofs.CountLemmas.{waits_is}
 use Rattle.link_session.proofs.ChainBackLemmas.{chain_back, chain_inside, heads_back-append}
 
 -- the cell at an index that passes the test waits
-told : (test : ℕ → Bool) (k : ℕ) (cs : List Cell) → Tells test k cs → (i : ℕ) → i < length cs → test i ≡ true → (slice_index_or cs i nowhere).target ≡ External k
+told : (test : ℕ → Bool) (k : ℕ) (cs : List Cell) → Tells test k cs → (i : ℕ) → i < length cs → test i ≡ true →
+    (slice_index_or cs i nowhere).target ≡ External k
 told test k [] h i lt e = absurd (omega arith)
 told test k (c ∷ cs) h zero lt e = waits_is k c.target (sym h.0 ∙ e)
 told test k (c ∷ cs) h (suc i) lt e = told (λ n. test (suc n)) k cs h.1 i (omega arith) e
 
-module _ (ts ds : List Link) (texts datas : List Cell) (heads : List Link) (a : AreChained texts datas ts ds heads) (k : ℕ) (segment : Segment) (offset : ℕ) (next : Link) (marks : List Mark) (new_texts new_datas : List Cell) (new_marks : List Mark)
+module _ (ts ds : List Link) (texts datas : List Cell) (heads : List Link) (a : AreChained texts datas ts ds heads) (k : ℕ)
+    (segment : Segment) (offset : ℕ) (next : Link) (marks : List Mark) (new_texts new_datas : List Cell) (new_marks : List Mark)
     (w : IsBoundTo ts ds (slice_index_or heads k None) next segment offset texts datas marks new_texts new_datas new_marks) where
   abbrev inside_done : AllByRecursion (IsWithin (length texts) (length datas)) w.done
   inside_done = done_inside ts ds (slice_index_or heads k None) segment offset texts datas marks next new_texts new_datas new_marks w
 
   on_places : (p : Place) → is_on w.done p ≡ true → is_on (a.each k).places p ≡ true
   on_places p e =
-      ap (λ (ps : List Place). is_on ps p) (chain-unique ts ds (slice_index_or heads k None) (a.each k).places (w.done ++ w.rest) (a.each k).visits w.visits)
+      ap (λ (ps : List Place). is_on ps p)
+      (chain-unique ts ds (slice_index_or heads k None) (a.each k).places (w.done ++ w.rest) (a.each k).visits w.visits)
       ∙ on_either w.done w.rest p ∙ ap (λ (t : Bool). t || is_on w.rest p) e
 
   waits_there : (p : Place) → is_on w.done p ≡ true → (cell_at texts datas p).target ≡ External k
   waits_there (InText i) e =
-      told (λ j. is_on (a.each k).places (InText j)) k texts (a.each k).text i (on_inside (length texts) (length datas) w.done (InText i) inside_done e) (on_places (InText i) e)
+      told (λ j. is_on (a.each k).places (InText j)) k texts (a.each k).text i
+      (on_inside (length texts) (length datas) w.done (InText i) inside_done e) (on_places (InText i) e)
   waits_there (InData i) e =
-      told (λ j. is_on (a.each k).places (InData j)) k datas (a.each k).data i (on_inside (length texts) (length datas) w.done (InData i) inside_done e) (on_places (InData i) e)
+      told (λ j. is_on (a.each k).places (InData j)) k datas (a.each k).data i
+      (on_inside (length texts) (length datas) w.done (InData i) inside_done e) (on_places (InData i) e)
 
   -- the first part of one chain
   pub chain_left : LeavesMarks texts datas heads new_texts new_datas (slice_set heads k next) marks new_marks
@@ -53,7 +61,8 @@ module _ (ts ds : List Link) (texts datas : List Cell) (heads : List Link) (a : 
       inside = λ m mt md. chain_inside texts datas segment offset w.done inside_done m mt md;
       cells_are = λ p.
           let now = cell_now ts ds (slice_index_or heads k None) segment offset texts datas marks next new_texts new_datas new_marks w p in
-          subst (λ (P : Type 0). P) (λ i. HoldBound (cell_at texts datas p) (sym now i) (sym (chain_marked texts datas w.done (apart_parts w.done w.rest w.apart).0 p) i))
+          subst (λ (P : Type 0). P) (λ i. HoldBound (cell_at texts datas p) (sym now i)
+          (sym (chain_marked texts datas w.done (apart_parts w.done w.rest w.apart).0 p) i))
           (bound_held k segment offset (cell_at texts datas p) (is_on w.done p) (waits_there p));
       no_states = λ i. no_states i texts datas w.done;
     };
@@ -61,7 +70,9 @@ module _ (ts ds : List Link) (texts datas : List Cell) (heads : List Link) (a : 
 
   -- all of it
   all_done : next ≡ None → w.done ≡ (a.each k).places
-  all_done e = ended ts ds (slice_index_or heads k None) segment offset texts datas marks next new_texts new_datas new_marks w e (a.each k).places (a.each k).visits
+  all_done e =
+      ended ts ds (slice_index_or heads k None) segment offset texts datas marks next new_texts new_datas new_marks w e
+      (a.each k).places (a.each k).visits
 
   pub all_texts : next ≡ None → new_texts ≡ map (bound_if k segment offset) texts
   all_texts e =
@@ -77,8 +88,10 @@ module _ (ts ds : List Link) (texts datas : List Cell) (heads : List Link) (a : 
   all_marks e = w.marked ∙ ap (λ (ps : List Place). marks ++ marks_of texts datas ps) (all_done e)
 
 -- marks after marks
-pub restores_then : (texts datas mid_texts mid_datas new_texts new_datas : List Cell) (heads mid_heads new_heads : List Link) (ks ls : List Mark) → length mid_texts ≡ length texts → length mid_datas ≡ length datas →
-    Restores texts datas heads mid_texts mid_datas mid_heads ks → Restores mid_texts mid_datas mid_heads new_texts new_datas new_heads ls → Restores texts datas heads new_texts new_datas new_heads (ks ++ ls)
+pub restores_then : (texts datas mid_texts mid_datas new_texts new_datas : List Cell) (heads mid_heads new_heads : List Link)
+    (ks ls : List Mark) → length mid_texts ≡ length texts → length mid_datas ≡ length datas →
+    Restores texts datas heads mid_texts mid_datas mid_heads ks → Restores mid_texts mid_datas mid_heads new_texts
+    new_datas new_heads ls → Restores texts datas heads new_texts new_datas new_heads (ks ++ ls)
 restores_then texts datas mid_texts mid_datas new_texts new_datas heads mid_heads new_heads ks ls lt ld r s = record {
   cells = λ m mt md.
       put_all_back-append ks ls m
@@ -88,7 +101,8 @@ restores_then texts datas mid_texts mid_datas new_texts new_datas heads mid_head
   inside = λ m mt md. all_append (IsInside m) ks ls (r.inside m mt md) (s.inside m (mt ∙ sym lt) (md ∙ sym ld));
   cells_are = λ p.
       subst (HoldBound (cell_at texts datas p) (cell_at new_texts new_datas p)) (sym (cells_marked-append p ks ls))
-      (held_then (cell_at texts datas p) (cell_at mid_texts mid_datas p) (cell_at new_texts new_datas p) (cells_marked p ks) (cells_marked p ls) (r.cells_are p) (s.cells_are p));
+      (held_then (cell_at texts datas p) (cell_at mid_texts mid_datas p) (cell_at new_texts new_datas p)
+      (cells_marked p ks) (cells_marked p ls) (r.cells_are p) (s.cells_are p));
   no_states = λ i. states_marked-append i ks ls ∙ (λ j. r.no_states i j ++ s.no_states i j);
 }
 

@@ -7,10 +7,12 @@ use Rattle.aout_core.specs.Contents.{Contents}
 use Rattle.aout_core.specs.Words.{plus}
 use Rattle.link_session.specs.Starts.{total, size_of, starts_after, next_starts}
 
-next_total : (segment : Segment) (earlier : List Contents) (o : Contents) → plus (total segment earlier % 65536) (size_of segment o) ≡ total segment (earlier ++ o ∷ []) % 65536
+next_total : (segment : Segment) (earlier : List Contents) (o : Contents) →
+    plus (total segment earlier % 65536) (size_of segment o) ≡ total segment (earlier ++ o ∷ []) % 65536
 next_total segment earlier o = omega (arith, sum_by-append (size_of segment) earlier (o ∷ []))
 
-pub next_starts-after : (earlier : List Contents) (o : Contents) → next_starts (starts_after earlier) o.header ≡ starts_after (earlier ++ o ∷ [])
+pub next_starts-after : (earlier : List Contents) (o : Contents) →
+    next_starts (starts_after earlier) o.header ≡ starts_after (earlier ++ o ∷ [])
 next_starts-after earlier o = λ i. record {
   text = next_total segments.TextSeg earlier o i;
   «data» = next_total segments.DataSeg earlier o i;

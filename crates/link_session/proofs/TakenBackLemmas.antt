@@ -12,7 +12,8 @@ use Rattle.link_session.specs.Mentions.{externals_in}
 use Rattle.link_session.specs.Image.{Image}
 use Rattle.link_session.specs.Undo.{put_all_back, cut_to, undo, IsInside}
 use Rattle.link_session.specs.Image.{Named}
-use Rattle.link_session.specs.internal.Additions.{state_marks, settled_cell, all_clashes, mention_by, next_shifts, next_mentions, next_named, joined_image, entered}
+use Rattle.link_session.specs.internal.Additions.{state_marks, settled_cell, all_clashes, mention_by, next_shifts}
+use Rattle.link_session.specs.internal.Additions.{next_mentions, next_named, joined_image, entered}
 use Rattle.link_session.specs.internal.Chains.{Link, cell_at, heads_back}
 use Rattle.link_session.specs.internal.Counts.{NotesBound}
 use Rattle.link_session.specs.internal.Threads.{bound_heads, next_texts, next_datas}
@@ -30,7 +31,8 @@ module _ (m : Image) (o : Contents) where
   abbrev pub states : List Mark
   states = state_marks (length m.externals) m.externals (next_mentions m o)
 
-  module _ (heads new_heads : List Link) (texts datas : List Cell) (ks : List Mark) (r : Restores m.text_cells m.data_cells heads texts datas new_heads ks) where
+  module _ (heads new_heads : List Link) (texts datas : List Cell) (ks : List Mark)
+      (r : Restores m.text_cells m.data_cells heads texts datas new_heads ks) where
     -- cells, then states, in an image that is cut to the sizes of the old one
     cells_and_states : (n : Image) → n ≡ at texts datas (take (length m.externals) (next_named m o)) → put_all_back (states ++ ks) n ≡ m
     cells_and_states n e =
@@ -41,7 +43,8 @@ module _ (m : Image) (o : Contents) where
         ∙ ap (λ (es : Named). at m.text_cells m.data_cells es) (take-length m.externals)
 
     -- an object whose own cells are not yet put last is taken back
-    pub bound_alone : length texts ≡ length m.text_cells → length datas ≡ length m.data_cells → undo (states ++ ks) (record (entered m o) { text_cells = texts; data_cells = datas }) m ≡ m
+    pub bound_alone : length texts ≡ length m.text_cells → length datas ≡ length m.data_cells →
+        undo (states ++ ks) (record (entered m o) { text_cells = texts; data_cells = datas }) m ≡ m
     bound_alone t d = cells_and_states (cut_to m (record (entered m o) { text_cells = texts; data_cells = datas })) (λ i. record {
       text_cells = take_all (length m.text_cells) texts (omega (arith, t)) i;
       data_cells = take_all (length m.data_cells) datas (omega (arith, d)) i;
@@ -51,8 +54,10 @@ module _ (m : Image) (o : Contents) where
     })
 
     -- all that the object leaves
-    pub taken_back : texts ≡ map (settled_cell (next_named m o)) m.text_cells → datas ≡ map (settled_cell (next_named m o)) m.data_cells → new_heads ≡ bound_heads m o heads →
-        (marks : List Mark) → marks ≡ states ++ ks → NotesBound (next_named m o) m.text_cells m.data_cells texts datas states marks → TakesBack m o heads marks
+    pub taken_back : texts ≡ map (settled_cell (next_named m o)) m.text_cells →
+        datas ≡ map (settled_cell (next_named m o)) m.data_cells → new_heads ≡ bound_heads m o heads →
+        (marks : List Mark) → marks ≡ states ++ ks →
+        NotesBound (next_named m o) m.text_cells m.data_cells texts datas states marks → TakesBack m o heads marks
     taken_back t d hs marks e few = record {
       undoes = ap (λ (l : List Mark). undo l (joined_image m o) m) e ∙ cells_and_states (cut_to m (joined_image m o)) (λ i. record {
         text_cells = (cut_front (settled_cell (next_named m o)) m.text_cells (next_texts m o) ∙ sym t) i;
@@ -65,11 +70,23 @@ module _ (m : Image) (o : Contents) where
           (λ i. heads_back (e i) (sym hs i))
           ∙ heads_back-after_states (length m.externals) m.externals (next_mentions m o) ks new_heads
           ∙ r.heads_are;
-      inside = subst (λ (l : List Mark). AllByRecursion (IsInside m) l) (sym e) (all_append (IsInside m) states ks (states_inside m m.externals (next_mentions m o)) (r.inside m refl refl));
-      few = omega (arith, few, states_few (length m.externals) m.externals (next_mentions m o), length-map (externals_in o) (mention_by (next_shifts m o)));
+      inside =
+          subst (λ (l : List Mark). AllByRecursion (IsInside m) l) (sym e)
+          (all_append (IsInside m) states ks (states_inside m m.externals (next_mentions m o)) (r.inside m refl refl));
+      few =
+          omega (
+            arith,
+            few,
+            states_few (length m.externals) m.externals (next_mentions m o),
+            length-map (externals_in o) (mention_by (next_shifts m o)),
+          );
       cells_are = λ p.
           let held : cells_marked p marks ≡ cells_marked p ks =
-          ap (cells_marked p) e ∙ cells_marked-append p states ks ∙ ap (λ (l : List Cell). l ++ cells_marked p ks) (no_cells p (length m.externals) m.externals (next_mentions m o)) in
-          subst (λ (P : Type 0). P) (λ i. HoldBound (cell_at m.text_cells m.data_cells p) (cell_at (t i) (d i) p) (sym held i)) (r.cells_are p);
-      states_are = λ i. ap (states_marked i) e ∙ states_marked-append i states ks ∙ ap (λ (l : List State). states_marked i states ++ l) (r.no_states i) ∙ append-nil (states_marked i states);
+          ap (cells_marked p) e ∙ cells_marked-append p states ks ∙ ap (λ (l : List Cell). l ++ cells_marked p ks)
+          (no_cells p (length m.externals) m.externals (next_mentions m o)) in
+          subst (λ (P : Type 0). P)
+          (λ i. HoldBound (cell_at m.text_cells m.data_cells p) (cell_at (t i) (d i) p) (sym held i)) (r.cells_are p);
+      states_are =
+          λ i. ap (states_marked i) e ∙ states_marked-append i states ks
+          ∙ ap (λ (l : List State). states_marked i states ++ l) (r.no_states i) ∙ append-nil (states_marked i states);
     }

@@ -1,5 +1,6 @@
 -- Sizes, limits and shifts read off an image.
-use Rattle.std.proofs.Common.{◌≡◌, ℕ, ◌+◌, ◌*◌, ◌≤◌, Bool, true, false, cond, List, [], ◌∷◌, ◌++◌, length, Option, Some, None, refl, sym, ◌∙◌, ap, arith, length-append, nat_lt}
+use Rattle.std.proofs.Common.{◌≡◌, ℕ, ◌+◌, ◌*◌, ◌≤◌, Bool, true, false, cond, List, [], ◌∷◌, ◌++◌, length, Option}
+use Rattle.std.proofs.Common.{Some, None, refl, sym, ◌∙◌, ap, arith, length-append, nat_lt}
 use Rattle.std.specs.List.{flat_map, AllByRecursion}
 use Rattle.std.specs.Map.{keys_of}
 use Rattle.std.proofs.lemmas.Bool.{ltb-false, le-ltb}
@@ -42,7 +43,8 @@ text_beside o h = omega (arith, h.fits.text, h.fits.text_relocation, with_all o 
 data_beside : (o : Contents) → IsObject o → length o.data_words ≡ length o.data_reloc
 data_beside o h = omega (arith, h.fits.data, h.fits.data_relocation, with_all o h.well o.header.data_size)
 
-pub total-first : (segment : Segment) (o : Contents) (rest : List Contents) → total segment (o ∷ rest) ≡ size_of segment o + total segment rest
+pub total-first : (segment : Segment) (o : Contents) (rest : List Contents) →
+    total segment (o ∷ rest) ≡ size_of segment o + total segment rest
 total-first segment o rest = sum_by-append (size_of segment) (o ∷ []) rest ∙ omega arith
 
 -- an object has so many words
@@ -53,11 +55,20 @@ pub data_counted : (o : Contents) → IsObject o → 2 * length (words_of segmen
 data_counted o h = omega (arith, length-zip o.data_words o.data_reloc, data_beside o h, h.fits.data)
 
 -- a list made of blocks, one for each object, each as long as its words
-pub blocks_counted : {A : Type 0} (segment : Segment) (f : List Contents × Contents → List A) → ((q : List Contents × Contents) → length (f q) ≡ length (words_of segment q.1)) →
-    ((o : Contents) → IsObject o → 2 * length (words_of segment o) ≡ size_of segment o) → (earlier os : List Contents) → AllByRecursion IsObject os → 2 * length (flat_map f (with_earlier earlier os)) ≡ total segment os
+pub blocks_counted : {A : Type 0} (segment : Segment) (f : List Contents × Contents → List A) →
+    ((q : List Contents × Contents) → length (f q) ≡ length (words_of segment q.1)) →
+    ((o : Contents) → IsObject o → 2 * length (words_of segment o) ≡ size_of segment o) → (earlier os : List Contents) →
+    AllByRecursion IsObject os → 2 * length (flat_map f (with_earlier earlier os)) ≡ total segment os
 blocks_counted segment f same counted earlier [] h = refl
 blocks_counted segment f same counted earlier (o ∷ os) h =
-    omega (arith, length-append (f (earlier, o)) (flat_map f (with_earlier (earlier ++ o ∷ []) os)), same (earlier, o), counted o h.0, blocks_counted segment f same counted (earlier ++ o ∷ []) os h.1, total-first segment o os)
+    omega (
+      arith,
+      length-append (f (earlier, o)) (flat_map f (with_earlier (earlier ++ o ∷ []) os)),
+      same (earlier, o),
+      counted o h.0,
+      blocks_counted segment f same counted (earlier ++ o ∷ []) os h.1,
+      total-first segment o os,
+    )
 
 module _ (ms : List Mention) where
   cells_counted : (segment : Segment) (q : List Contents × Contents) → length (cells_in ms segment q.0 q.1) ≡ length (words_of segment q.1)
@@ -65,19 +76,26 @@ module _ (ms : List Mention) where
 
   -- two bytes for each cell
   pub text_total : (os : List Contents) → AllByRecursion IsObject os → 2 * length (cells ms segments.TextSeg os) ≡ total segments.TextSeg os
-  text_total os h = blocks_counted segments.TextSeg (λ q. cells_in ms segments.TextSeg q.0 q.1) (cells_counted segments.TextSeg) text_counted [] os h
+  text_total os h =
+      blocks_counted segments.TextSeg (λ q. cells_in ms segments.TextSeg q.0 q.1)
+      (cells_counted segments.TextSeg) text_counted [] os h
 
   pub data_total : (os : List Contents) → AllByRecursion IsObject os → 2 * length (cells ms segments.DataSeg os) ≡ total segments.DataSeg os
-  data_total os h = blocks_counted segments.DataSeg (λ q. cells_in ms segments.DataSeg q.0 q.1) (cells_counted segments.DataSeg) data_counted [] os h
+  data_total os h =
+      blocks_counted segments.DataSeg (λ q. cells_in ms segments.DataSeg q.0 q.1)
+      (cells_counted segments.DataSeg) data_counted [] os h
 
 total-push : (segment : Segment) (os : List Contents) (o : Contents) → total segment (os ++ o ∷ []) ≡ total segment os + size_of segment o
 total-push segment os o = sum_by-append (size_of segment) os (o ∷ []) ∙ omega arith
 
 abbrev limit : ℕ → ℕ → ℕ → ℕ → Option AddFault
-limit t d b n = cond (nat_lt 65534 t) (Some TextFull) (cond (nat_lt 65534 d) (Some DataFull) (cond (nat_lt 65534 b) (Some BssFull) (cond (nat_lt 65535 n) (Some NamesFull) None)))
+limit t d b n =
+    cond (nat_lt 65534 t) (Some TextFull)
+    (cond (nat_lt 65534 d) (Some DataFull) (cond (nat_lt 65534 b) (Some BssFull) (cond (nat_lt 65535 n) (Some NamesFull) None)))
 
 -- a limit is passed with one more object where its image says so
-pub refusal-next_limit : (forced : List (List ℕ)) (os : List Contents) (o : Contents) → AllByRecursion IsObject os → refusal forced os o ≡ next_limit (image forced os) o
+pub refusal-next_limit : (forced : List (List ℕ)) (os : List Contents) (o : Contents) → AllByRecursion IsObject os →
+    refusal forced os o ≡ next_limit (image forced os) o
 refusal-next_limit forced os o h = λ i. limit (text i) (datas i) (total-push segments.BssSeg os o i) (names i)
   where
     text : total segments.TextSeg (os ++ o ∷ []) ≡ 2 * length (image forced os).text_cells + o.header.text_size
@@ -87,12 +105,19 @@ refusal-next_limit forced os o h = λ i. limit (text i) (datas i) (total-push se
     datas = total-push segments.DataSeg os o ∙ ap (λ (n : ℕ). n + o.header.data_size) (sym (data_total (mentions forced os) os h))
 
     seen : (n : List ℕ) → is_among (names_of (mentions forced os)) n ≡ is_among (keys_of (image forced os).externals) n
-    seen n = sym (is_among-externals (mentions forced os) n) ∙ ap (λ (ns : List (List ℕ)). is_among ns n) (sym (keys-named_states (mentions forced os)))
+    seen n =
+        sym (is_among-externals (mentions forced os) n)
+        ∙ ap (λ (ns : List (List ℕ)). is_among ns n) (sym (keys-named_states (mentions forced os)))
 
-    new : new_names (names_of (mentions forced os)) (names_of (mentions_in os o)) ≡ new_names (keys_of (image forced os).externals) (external_names o.symbols)
-    new = ap (λ (ns : List (List ℕ)). new_names (names_of (mentions forced os)) ns) (names_of-map (mention os o) (λ (s : Symbol). s.name) (λ s. refl) (externals_in o)) ∙ new_names-seen (names_of (mentions forced os)) (keys_of (image forced os).externals) (external_names o.symbols) seen
+    new : new_names (names_of (mentions forced os)) (names_of (mentions_in os o))
+        ≡ new_names (keys_of (image forced os).externals) (external_names o.symbols)
+    new =
+        ap (λ (ns : List (List ℕ)). new_names (names_of (mentions forced os)) ns)
+        (names_of-map (mention os o) (λ (s : Symbol). s.name) (λ s. refl) (externals_in o))
+        ∙ new_names-seen (names_of (mentions forced os)) (keys_of (image forced os).externals) (external_names o.symbols) seen
 
-    names : length (externals forced (os ++ o ∷ [])) ≡ length (image forced os).externals + length (new_names (keys_of (image forced os).externals) (external_names o.symbols))
+    names : length (externals forced (os ++ o ∷ [])) ≡ length (image forced os).externals
+        + length (new_names (keys_of (image forced os).externals) (external_names o.symbols))
     names =
         ap (λ (ns : List (List ℕ)). length ns) (externals_push forced os o)
         ∙ length-append (externals forced os) (new_names (names_of (mentions forced os)) (names_of (mentions_in os o)))
@@ -112,25 +137,35 @@ within_limit t d b n h = by_text (nat_lt 65534 t) refl h
     by_names w true e h = absurd (cc)
     by_names w false e h = record { text = w.text; «data» = w.data; bss = w.bss; names = ltb-false 65535 n e }
 
-    by_bss : Within t d 0 0 → (u : Bool) → nat_lt 65534 b ≡ u → cond u (Some BssFull) (cond (nat_lt 65535 n) (Some NamesFull) None) ≡ None → Within t d b n
+    by_bss : Within t d 0 0 → (u : Bool) → nat_lt 65534 b ≡ u →
+        cond u (Some BssFull) (cond (nat_lt 65535 n) (Some NamesFull) None) ≡ None → Within t d b n
     by_bss w true e h = absurd (cc)
-    by_bss w false e h = by_names (record { text = w.text; «data» = w.data; bss = ltb-false 65534 b e; names = omega arith }) (nat_lt 65535 n) refl h
+    by_bss w false e h =
+        by_names (record { text = w.text; «data» = w.data; bss = ltb-false 65534 b e; names = omega arith }) (nat_lt 65535 n) refl h
 
-    by_data : Within t 0 0 0 → (u : Bool) → nat_lt 65534 d ≡ u → cond u (Some DataFull) (cond (nat_lt 65534 b) (Some BssFull) (cond (nat_lt 65535 n) (Some NamesFull) None)) ≡ None → Within t d b n
+    by_data : Within t 0 0 0 → (u : Bool) → nat_lt 65534 d ≡ u → cond u (Some DataFull)
+        (cond (nat_lt 65534 b) (Some BssFull) (cond (nat_lt 65535 n) (Some NamesFull) None)) ≡ None → Within t d b n
     by_data w true e h = absurd (cc)
-    by_data w false e h = by_bss (record { text = w.text; «data» = ltb-false 65534 d e; bss = omega arith; names = omega arith }) (nat_lt 65534 b) refl h
+    by_data w false e h =
+        by_bss (record { text = w.text; «data» = ltb-false 65534 d e; bss = omega arith; names = omega arith })
+        (nat_lt 65534 b) refl h
 
-    by_text : (u : Bool) → nat_lt 65534 t ≡ u → cond u (Some TextFull) (cond (nat_lt 65534 d) (Some DataFull) (cond (nat_lt 65534 b) (Some BssFull) (cond (nat_lt 65535 n) (Some NamesFull) None))) ≡ None → Within t d b n
+    by_text : (u : Bool) → nat_lt 65534 t ≡ u → cond u (Some TextFull) (cond (nat_lt 65534 d) (Some DataFull)
+        (cond (nat_lt 65534 b) (Some BssFull) (cond (nat_lt 65535 n) (Some NamesFull) None))) ≡ None → Within t d b n
     by_text true e h = absurd (cc)
-    by_text false e h = by_data (record { text = ltb-false 65534 t e; «data» = omega arith; bss = omega arith; names = omega arith }) (nat_lt 65534 d) refl h
+    by_text false e h =
+        by_data (record { text = ltb-false 65534 t e; «data» = omega arith; bss = omega arith; names = omega arith })
+        (nat_lt 65534 d) refl h
 
 pub limit_within : (t d b n : ℕ) → Within t d b n → limit t d b n ≡ None
 limit_within t d b n w = rw (le-ltb 65534 t w.text, le-ltb 65534 d w.data, le-ltb 65534 b w.bss, le-ltb 65535 n w.names) refl
 
 -- the image of objects that pass no limit is small
-pub image_small : (forced : List (List ℕ)) (os : List Contents) → AllByRecursion IsObject os → limit_passed forced os ≡ None → IsSmall (image forced os)
+pub image_small : (forced : List (List ℕ)) (os : List Contents) → AllByRecursion IsObject os →
+    limit_passed forced os ≡ None → IsSmall (image forced os)
 image_small forced os h none =
-    let w = within_limit (total segments.TextSeg os) (total segments.DataSeg os) (total segments.BssSeg os) (length (externals forced os)) none in record {
+    let w = within_limit (total segments.TextSeg os) (total segments.DataSeg os) (total segments.BssSeg os)
+    (length (externals forced os)) none in record {
       text = omega (arith, text_total (mentions forced os) os h, w.text);
       «data» = omega (arith, data_total (mentions forced os) os h, w.data);
       bss = w.bss;
@@ -138,9 +173,11 @@ image_small forced os h none =
     }
 
 -- without their last object they pass none either
-pub within_before : (forced : List (List ℕ)) (os : List Contents) (o : Contents) → limit_passed forced (os ++ o ∷ []) ≡ None → limit_passed forced os ≡ None
+pub within_before : (forced : List (List ℕ)) (os : List Contents) (o : Contents) →
+    limit_passed forced (os ++ o ∷ []) ≡ None → limit_passed forced os ≡ None
 within_before forced os o none =
-    let w = within_limit (total segments.TextSeg (os ++ o ∷ [])) (total segments.DataSeg (os ++ o ∷ [])) (total segments.BssSeg (os ++ o ∷ [])) (length (externals forced (os ++ o ∷ []))) none in
+    let w = within_limit (total segments.TextSeg (os ++ o ∷ [])) (total segments.DataSeg (os ++ o ∷ []))
+    (total segments.BssSeg (os ++ o ∷ [])) (length (externals forced (os ++ o ∷ []))) none in
     limit_within (total segments.TextSeg os) (total segments.DataSeg os) (total segments.BssSeg os) (length (externals forced os)) (record {
       text = omega (arith, total-push segments.TextSeg os o, w.text);
       «data» = omega (arith, total-push segments.DataSeg os o, w.data);

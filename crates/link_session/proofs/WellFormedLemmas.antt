@@ -1,5 +1,6 @@
 -- In an object every word that refers to a name refers to one that the object mentions.
-use Rattle.std.proofs.Common.{◌≡◌, ℕ, zero, suc, ◌+◌, Bool, true, false, cond, not, ◌&&◌, eqb, List, [], ◌∷◌, ◌++◌, map, Option, Some, None, refl}
+use Rattle.std.proofs.Common.{◌≡◌, ℕ, zero, suc, ◌+◌, Bool, true, false, cond, not, ◌&&◌, eqb, List}
+use Rattle.std.proofs.Common.{[], ◌∷◌, ◌++◌, map, Option, Some, None, refl}
 use Rattle.std.specs.Prelude.{zip, slice_get, filter}
 use Rattle.std.specs.List.{flat_map, AllByRecursion}
 use Rattle.std.proofs.lemmas.Bool.{or_left, or_right}
@@ -12,7 +13,8 @@ use Rattle.aout_core.specs.declared.reloc.Kind.{Kind}
 use Rattle.aout_core.specs.declared.reloc.Kind.TheVariants as kinds
 use Rattle.aout_core.specs.declared.object.ObjectFault.{ObjectFault}
 use Rattle.aout_core.specs.Contents.{Contents}
-use Rattle.aout_core.specs.WellFormed.{is_external, masked_type, kind_of, symbol_number, is_wanted, kind_fault, word_fault, first_of, first_bad_word, IsWellFormed}
+use Rattle.aout_core.specs.WellFormed.{is_external, masked_type, kind_of, symbol_number, is_wanted, kind_fault}
+use Rattle.aout_core.specs.WellFormed.{word_fault, first_of, first_bad_word, IsWellFormed}
 use Rattle.link_session.specs.Earlier.{with_earlier}
 use Rattle.tool_options.specs.NameLists.{is_among}
 use Rattle.link_session.specs.Mentions.{mention, mentions_in, mentions, names_of, forced_mention}
@@ -35,7 +37,8 @@ external_is_among earlier o (s ∷ ss) zero h = by_test (is_external s) h
 external_is_among earlier o (s ∷ ss) (suc i) h = by_test (is_external s) (external_is_among earlier o ss i h)
   where
     by_test : (t : Bool) → is_among (names_of (map (mention earlier o) (filter is_external ss))) (name_in (slice_get ss i)) ≡ true →
-        is_among (names_of (map (mention earlier o) (cond t (s ∷ filter is_external ss) (filter is_external ss)))) (name_in (slice_get ss i)) ≡ true
+        is_among (names_of (map (mention earlier o) (cond t (s ∷ filter is_external ss) (filter is_external ss))))
+        (name_in (slice_get ss i)) ≡ true
     by_test false h = h
     by_test true h = or_right _ _ h
 
@@ -47,7 +50,8 @@ word_refers earlier o i number (Some kinds.Absolute) h = tt
 word_refers earlier o i number (Some kinds.TextSeg) h = tt
 word_refers earlier o i number (Some kinds.DataSeg) h = tt
 word_refers earlier o i number (Some kinds.BssSeg) h = tt
-word_refers earlier o i number (Some kinds.External) h = external_is_among earlier o o.symbols number (by_test (is_wanted (slice_get o.symbols number)) h)
+word_refers earlier o i number (Some kinds.External) h =
+    external_is_among earlier o o.symbols number (by_test (is_wanted (slice_get o.symbols number)) h)
   where
     by_test : (t : Bool) → cond t None (Some (ObjectFault.BadSymbolNumber i)) ≡ None → t ≡ true
     by_test true h = refl
@@ -64,16 +68,19 @@ words_refer earlier o i (r ∷ rs) h =
     let both = first_of_none (word_fault o.symbols i r) (first_bad_word o.symbols (i + 1) rs) h in
     (word_refers earlier o i (symbol_number r) (kind_of r) both.0, words_refer earlier o (i + 1) rs both.1)
 
-all_zip : {A B : Type 0} (P : B → Type 0) (xs : List A) (ys : List B) → AllByRecursion P ys → AllByRecursion (λ (xy : A × B). P xy.1) (zip xs ys)
+all_zip : {A B : Type 0} (P : B → Type 0) (xs : List A) (ys : List B) → AllByRecursion P ys →
+    AllByRecursion (λ (xy : A × B). P xy.1) (zip xs ys)
 all_zip P [] ys h = tt
 all_zip P (x ∷ xs) [] h = tt
 all_zip P (x ∷ xs) (y ∷ ys) h = (h.0, all_zip P xs ys h.1)
 
 -- an object has its relocation words, and none of them is bad
-pub well_formed_parts : (o : Contents) → IsWellFormed o → (eqb o.header.flag 0 ≡ true) × (first_bad_word o.symbols 0 (o.text_reloc ++ o.data_reloc) ≡ None)
+pub well_formed_parts : (o : Contents) → IsWellFormed o →
+    (eqb o.header.flag 0 ≡ true) × (first_bad_word o.symbols 0 (o.text_reloc ++ o.data_reloc) ≡ None)
 well_formed_parts o h = by_tests (eqb o.header.magic 263) (eqb o.header.flag 0) h
   where
-    by_tests : (a b : Bool) → cond (not a) (Some ObjectFault.NotAnObject) (cond (not b) (Some ObjectFault.NoRelocation) (first_bad_word o.symbols 0 (o.text_reloc ++ o.data_reloc))) ≡ None →
+    by_tests : (a b : Bool) → cond (not a) (Some ObjectFault.NotAnObject)
+        (cond (not b) (Some ObjectFault.NoRelocation) (first_bad_word o.symbols 0 (o.text_reloc ++ o.data_reloc))) ≡ None →
         (b ≡ true) × (first_bad_word o.symbols 0 (o.text_reloc ++ o.data_reloc) ≡ None)
     by_tests false b h = absurd (cc)
     by_tests true false h = absurd (cc)
@@ -86,38 +93,56 @@ object_refers earlier o segment h = of_segment segment
     P : Reloc → Type 0
     P = λ r. RefersAmong (names_of (mentions_in earlier o)) (referent o r)
 
-    both : AllByRecursion (λ r. RefersAmong (names_of (mentions_in earlier o)) (referent o r)) o.text_reloc × AllByRecursion (λ r. RefersAmong (names_of (mentions_in earlier o)) (referent o r)) o.data_reloc
-    both = all_split (λ r. RefersAmong (names_of (mentions_in earlier o)) (referent o r)) o.text_reloc o.data_reloc (words_refer earlier o 0 (o.text_reloc ++ o.data_reloc) (well_formed_parts o h).1)
+    both : AllByRecursion (λ r. RefersAmong (names_of (mentions_in earlier o)) (referent o r)) o.text_reloc
+        × AllByRecursion (λ r. RefersAmong (names_of (mentions_in earlier o)) (referent o r)) o.data_reloc
+    both =
+        all_split (λ r. RefersAmong (names_of (mentions_in earlier o)) (referent o r)) o.text_reloc o.data_reloc
+        (words_refer earlier o 0 (o.text_reloc ++ o.data_reloc) (well_formed_parts o h).1)
 
     of_segment : (segment : Segment) → AllReferAmong (names_of (mentions_in earlier o)) o (words_of segment o)
-    of_segment segments.TextSeg = all_zip (λ r. RefersAmong (names_of (mentions_in earlier o)) (referent o r)) o.text_words o.text_reloc both.0
-    of_segment segments.DataSeg = all_zip (λ r. RefersAmong (names_of (mentions_in earlier o)) (referent o r)) o.data_words o.data_reloc both.1
+    of_segment segments.TextSeg =
+        all_zip (λ r. RefersAmong (names_of (mentions_in earlier o)) (referent o r)) o.text_words o.text_reloc both.0
+    of_segment segments.DataSeg =
+        all_zip (λ r. RefersAmong (names_of (mentions_in earlier o)) (referent o r)) o.data_words o.data_reloc both.1
     of_segment segments.Undefined = tt
     of_segment segments.Absolute = tt
     of_segment segments.BssSeg = tt
     of_segment segments.Other = tt
 
-refers_to_more : (names more : List (List ℕ)) → ((n : List ℕ) → is_among names n ≡ true → is_among more n ≡ true) → (q : Referent) → RefersAmong names q → RefersAmong more q
+refers_to_more : (names more : List (List ℕ)) → ((n : List ℕ) → is_among names n ≡ true → is_among more n ≡ true) →
+    (q : Referent) → RefersAmong names q → RefersAmong more q
 refers_to_more names more f (to_segment segment) h = tt
 refers_to_more names more f (to_name name) h = f name h
 
 -- in a list of objects every word refers to its object or to a name that the list mentions
 pub objects_refer : (forced : List (List ℕ)) (segment : Segment) (os : List Contents) → AllByRecursion IsWellFormed os →
     AllByRecursion (λ o. AllReferAmong (names_of (mentions forced os)) o (words_of segment o)) os
-objects_refer forced segment os h = from [] os h (λ n e. rw (names_of-append (map forced_mention forced) (flat_map (λ p. mentions_in p.0 p.1) (with_earlier [] os)), is_among-append) (or_right _ _ e))
+objects_refer forced segment os h =
+    from [] os h (λ n e. rw (
+      names_of-append (map forced_mention forced) (flat_map (λ p. mentions_in p.0 p.1) (with_earlier [] os)),
+      is_among-append,
+    ) (or_right _ _ e))
   where
     from : (earlier rest : List Contents) → AllByRecursion IsWellFormed rest →
-        ((n : List ℕ) → is_among (names_of (flat_map (λ p. mentions_in p.0 p.1) (with_earlier earlier rest))) n ≡ true → is_among (names_of (mentions forced os)) n ≡ true) →
+        ((n : List ℕ) → is_among (names_of (flat_map (λ p. mentions_in p.0 p.1) (with_earlier earlier rest))) n ≡ true →
+        is_among (names_of (mentions forced os)) n ≡ true) →
         AllByRecursion (λ o. AllReferAmong (names_of (mentions forced os)) o (words_of segment o)) rest
     from earlier [] h f = tt
     from earlier (o ∷ rest) h f =
         let here : AllReferAmong (names_of (mentions forced os)) o (words_of segment o) =
-        all_map (λ wr. RefersAmong (names_of (mentions_in earlier o)) (referent o wr.1)) (λ wr. RefersAmong (names_of (mentions forced os)) (referent o wr.1))
+        all_map (λ wr. RefersAmong (names_of (mentions_in earlier o)) (referent o wr.1))
+        (λ wr. RefersAmong (names_of (mentions forced os)) (referent o wr.1))
         (λ wr. refers_to_more (names_of (mentions_in earlier o)) (names_of (mentions forced os))
-        (λ n e. f n (rw (names_of-append (mentions_in earlier o) (flat_map (λ p. mentions_in p.0 p.1) (with_earlier (earlier ++ o ∷ []) rest)), is_among-append) (or_left _ _ e)))
+        (λ n e. f n (rw (
+          names_of-append (mentions_in earlier o) (flat_map (λ p. mentions_in p.0 p.1) (with_earlier (earlier ++ o ∷ []) rest)),
+          is_among-append,
+        ) (or_left _ _ e)))
         (referent o wr.1))
         (words_of segment o) (object_refers earlier o segment h.0) in (
           here,
           from (earlier ++ o ∷ []) rest h.1
-              (λ n e. f n (rw (names_of-append (mentions_in earlier o) (flat_map (λ p. mentions_in p.0 p.1) (with_earlier (earlier ++ o ∷ []) rest)), is_among-append) (or_right _ _ e))),
+              (λ n e. f n (rw (
+                names_of-append (mentions_in earlier o) (flat_map (λ p. mentions_in p.0 p.1) (with_earlier (earlier ++ o ∷ []) rest)),
+                is_among-append,
+              ) (or_right _ _ e))),
         )

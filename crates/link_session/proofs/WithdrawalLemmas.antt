@@ -1,5 +1,6 @@
 -- An addition that is taken back leaves the threads that there were.
-use Rattle.std.proofs.Common.{◌≡◌, ℕ, zero, suc, Bool, true, false, ◌&&◌, cond, List, [], ◌∷◌, ◌++◌, map, take, drop, length, refl, ap, ◌∙◌, arith, nat_lt}
+use Rattle.std.proofs.Common.{◌≡◌, ℕ, zero, suc, Bool, true, false, ◌&&◌, cond, List, [], ◌∷◌, ◌++◌, map}
+use Rattle.std.proofs.Common.{take, drop, length, refl, ap, ◌∙◌, arith, nat_lt}
 use Rattle.std.proofs.lemmas.List.{length-map, take_at, take_all}
 use Rattle.aout_core.specs.Contents.{Contents}
 use Rattle.link_session.specs.declared.mark.Mark.{Mark}
@@ -8,10 +9,12 @@ use Rattle.link_session.specs.declared.mark.Place.TheVariants.{InText, InData}
 use Rattle.link_session.specs.Mentions.{Mention}
 use Rattle.link_session.specs.Image.{Image}
 use Rattle.link_session.specs.Image.{Named}
-use Rattle.link_session.specs.internal.Additions.{place_in, state_for, with_mention, changes, state_mark, state_marks, settled_cell, next_named, joined_image}
+use Rattle.link_session.specs.internal.Additions.{place_in, state_for, with_mention, changes, state_mark, state_marks}
+use Rattle.link_session.specs.internal.Additions.{settled_cell, next_named, joined_image}
 use Rattle.link_session.specs.internal.Chains.{Link, threaded, unthreaded, heads_back}
 use Rattle.link_session.specs.internal.Settled.{places_of}
-use Rattle.link_session.specs.internal.Threads.{Threads, with_texts, next_texts, next_datas, bound_heads, next_heads, next_threads, cut_threads, undo_threads, IsThreaded}
+use Rattle.link_session.specs.internal.Threads.{Threads, with_texts, next_texts, next_datas, bound_heads, next_heads}
+use Rattle.link_session.specs.internal.Threads.{next_threads, cut_threads, undo_threads, IsThreaded}
 use Rattle.link_session.proofs.WaitLemmas.{unthreaded-threaded}
 use Rattle.link_session.proofs.ChainBackLemmas.{heads_back-append}
 use Rattle.link_session.proofs.HeadLemmas.{length-cut_heads, cut_grown, length-heads_back}
@@ -40,8 +43,10 @@ heads_back-states kept es (m ∷ ms) heads =
     by_tests true = refl
     by_tests false = refl
 
-pub heads_back-after_states : (kept : ℕ) (es : Named) (ms : List Mention) (ks : List Mark) (heads : List Link) → heads_back (state_marks kept es ms ++ ks) heads ≡ heads_back ks heads
-heads_back-after_states kept es ms ks heads = heads_back-append (state_marks kept es ms) ks heads ∙ heads_back-states kept es ms (heads_back ks heads)
+pub heads_back-after_states : (kept : ℕ) (es : Named) (ms : List Mention) (ks : List Mark) (heads : List Link) →
+    heads_back (state_marks kept es ms ++ ks) heads ≡ heads_back ks heads
+heads_back-after_states kept es ms ks heads =
+    heads_back-append (state_marks kept es ms) ks heads ∙ heads_back-states kept es ms (heads_back ks heads)
 
 module _ (m : Image) (o : Contents) (t : Threads) (h : IsThreaded m t) where
   abbrev es : Named
@@ -57,10 +62,13 @@ module _ (m : Image) (o : Contents) (t : Threads) (h : IsThreaded m t) where
   text_links = (threaded (λ i. InText i) (length t.text_links) (next_texts m o) (next_heads m o t.heads)).0
 
   abbrev data_links : List Link
-  data_links = (threaded (λ i. InData i) (length t.data_links) (next_datas m o) (with_texts (next_texts m o) (record t { heads = next_heads m o t.heads })).heads).0
+  data_links =
+      (threaded (λ i. InData i) (length t.data_links) (next_datas m o)
+      (with_texts (next_texts m o) (record t { heads = next_heads m o t.heads })).heads).0
 
   -- the object's own cells leave their chains, and the new names have no heads
-  heads_cut : (cut_threads (length m.text_cells) (length m.data_cells) (length m.externals) (joined_image m o) (next_threads m o t)).heads ≡ bound_heads m o t.heads
+  heads_cut : (cut_threads (length m.text_cells) (length m.data_cells) (length m.externals) (joined_image m o)
+      (next_threads m o t)).heads ≡ bound_heads m o t.heads
   heads_cut =
       (λ i. take (length m.externals) (unthreaded
       (drop_at (map (settled_cell es) m.text_cells) (next_texts m o) (length m.text_cells) (length-map m.text_cells (settled_cell es)) i)
@@ -69,12 +77,16 @@ module _ (m : Image) (o : Contents) (t : Threads) (h : IsThreaded m t) where
       (drop_at (map (settled_cell es) m.data_cells) (next_datas m o) (length m.data_cells) (length-map m.data_cells (settled_cell es)) i)
       (drop_at t.data_links data_links (length m.data_cells) h.chained.data i)
       (next_threads m o t).heads)))
-      ∙ ap (λ (hs : List Link). take (length m.externals) (unthreaded (next_texts m o) text_links hs)) (unthreaded-threaded (λ i. InData i) (length t.data_links) (next_datas m o) then.heads)
-      ∙ ap (λ (hs : List Link). take (length m.externals) hs) (unthreaded-threaded (λ i. InText i) (length t.text_links) (next_texts m o) (next_heads m o t.heads))
-      ∙ cut_grown (length es) (length m.externals) (bound_heads m o t.heads) (length-cut_heads es (places_of es o.symbols) t.heads ∙ h.heads)
+      ∙ ap (λ (hs : List Link). take (length m.externals) (unthreaded (next_texts m o) text_links hs))
+      (unthreaded-threaded (λ i. InData i) (length t.data_links) (next_datas m o) then.heads)
+      ∙ ap (λ (hs : List Link). take (length m.externals) hs)
+      (unthreaded-threaded (λ i. InText i) (length t.text_links) (next_texts m o) (next_heads m o t.heads))
+      ∙ cut_grown (length es) (length m.externals) (bound_heads m o t.heads)
+      (length-cut_heads es (places_of es o.symbols) t.heads ∙ h.heads)
 
   -- marks that bring the heads of the chains back, bring all threads back
-  pub threads_back : (marks : List Mark) → heads_back marks (bound_heads m o t.heads) ≡ t.heads → undo_threads marks (joined_image m o) m (next_threads m o t) ≡ t
+  pub threads_back : (marks : List Mark) → heads_back marks (bound_heads m o t.heads) ≡ t.heads →
+      undo_threads marks (joined_image m o) m (next_threads m o t) ≡ t
   threads_back marks back = λ i. record {
     text_links = take_at t.text_links text_links (length m.text_cells) h.chained.text i;
     data_links = take_at t.data_links data_links (length m.data_cells) h.chained.data i;
@@ -82,14 +94,17 @@ module _ (m : Image) (o : Contents) (t : Threads) (h : IsThreaded m t) where
   }
 
   -- the same before the object's own cells are put last: in an image with as many cells as before
-  pub heads_alone_back : (n : Image) (heads : List Link) (marks : List Mark) → length n.text_cells ≡ length m.text_cells → length n.data_cells ≡ length m.data_cells →
+  pub heads_alone_back : (n : Image) (heads : List Link) (marks : List Mark) →
+      length n.text_cells ≡ length m.text_cells → length n.data_cells ≡ length m.data_cells →
       heads_back marks heads ≡ t.heads → undo_threads marks n m (record t { heads = heads }) ≡ t
   heads_alone_back n heads marks texts datas back = λ i. record {
     text_links = (take_all (length m.text_cells) t.text_links (let e = h.chained.text in omega arith)) i;
     data_links = (take_all (length m.data_cells) t.data_links (let e = h.chained.data in omega arith)) i;
     heads = (
-        (λ j. heads_back marks (take (length m.externals) (unthreaded (drop_none n.text_cells (length m.text_cells) texts j) (drop (length m.text_cells) t.text_links)
+        (λ j. heads_back marks (take (length m.externals)
+        (unthreaded (drop_none n.text_cells (length m.text_cells) texts j) (drop (length m.text_cells) t.text_links)
         (unthreaded (drop_none n.data_cells (length m.data_cells) datas j) (drop (length m.data_cells) t.data_links) heads))))
-        ∙ ap (heads_back marks) (take_all (length m.externals) heads (let e = h.heads in omega (arith, length-heads_back marks heads, ap (λ (hs : List Link). length hs) back)))
+        ∙ ap (heads_back marks) (take_all (length m.externals) heads
+        (let e = h.heads in omega (arith, length-heads_back marks heads, ap (λ (hs : List Link). length hs) back)))
         ∙ back) i;
   }

@@ -64,7 +64,8 @@ first_more : (n : ℕ) (f rest : List ℕ) → IsColumn f → column (skip (gap 
 first_more n f rest h = rw (skip_column f (32 ∷ (replicate n 32 ++ rest)) h) (column_more f (replicate n 32 ++ rest) (ink f h))
 
 left_more : (n : ℕ) (f rest : List ℕ) → IsColumn f → skip (after_column (skip (gap n f rest))) ≡ skip rest
-left_more n f rest h = rw (skip_column f (32 ∷ (replicate n 32 ++ rest)) h, past_more f (replicate n 32 ++ rest) (ink f h)) (skip_blanks n rest)
+left_more n f rest h =
+    rw (skip_column f (32 ∷ (replicate n 32 ++ rest)) h, past_more f (replicate n 32 ++ rest) (ink f h)) (skip_blanks n rest)
 
 -- the last column that counts, and a remark
 first_last : (f t : List ℕ) → IsColumn f → column (skip (f ++ remarked t)) ≡ f
@@ -81,7 +82,8 @@ row_one f h =
     λ z. record { first = a z; second = column (two z); third = column (three z); fourth = column (four z) }
 
 pub row_two : (i : ℕ) (f g t : List ℕ) → IsColumn f → IsColumn g →
-    (let line = gap i f (g ++ remarked t) in row_of line ≡ record { first = f; second = g; third = column (from_third line); fourth = column (from_fourth line) })
+    (let line = gap i f (g ++ remarked t) in
+    row_of line ≡ record { first = f; second = g; third = column (from_third line); fourth = column (from_fourth line) })
 row_two i f g t hf hg =
     let line = gap i f (g ++ remarked t) in
     let a = first_more i f (g ++ remarked t) hf in
@@ -89,11 +91,13 @@ row_two i f g t hf hg =
     λ z. record { first = a z; second = b z; third = column (from_third line); fourth = column (from_fourth line) }
 
 pub row_three : (i j : ℕ) (f g k t : List ℕ) → IsColumn f → IsColumn g → IsColumn k →
-    (let line = gap i f (gap j g (k ++ remarked t)) in row_of line ≡ record { first = f; second = g; third = k; fourth = column (from_fourth line) })
+    (let line = gap i f (gap j g (k ++ remarked t)) in
+    row_of line ≡ record { first = f; second = g; third = k; fourth = column (from_fourth line) })
 row_three i j f g k t hf hg hk =
     let line = gap i f (gap j g (k ++ remarked t)) in
     let two : from_second line ≡ skip (gap j g (k ++ remarked t)) = left_more i f (gap j g (k ++ remarked t)) hf in
-    let three : from_third line ≡ skip (k ++ remarked t) = ap (λ (x : List ℕ). skip (after_column x)) two ∙ left_more j g (k ++ remarked t) hg in
+    let three : from_third line ≡ skip (k ++ remarked t) =
+    ap (λ (x : List ℕ). skip (after_column x)) two ∙ left_more j g (k ++ remarked t) hg in
     let a = first_more i f (gap j g (k ++ remarked t)) hf in
     let b : column (from_second line) ≡ g = ap column two ∙ first_more j g (k ++ remarked t) hg in
     let c : column (from_third line) ≡ k = ap column three ∙ first_last k t hk in
@@ -142,4 +146,6 @@ line_again (b ∷ bs) rest h =
 
 pub lines_again : (ls : List (List ℕ)) → AllByRecursion IsLine ls → lines_in (text_of ls) ≡ ls
 lines_again [] h = refl
-lines_again (l ∷ ls) h = ap lines_in (append_assoc l (10 ∷ []) (text_of ls)) ∙ line_again l (text_of ls) h.0 ∙ ap (λ (x : List (List ℕ)). l ∷ x) (lines_again ls h.1)
+lines_again (l ∷ ls) h =
+    ap lines_in (append_assoc l (10 ∷ []) (text_of ls)) ∙ line_again l (text_of ls) h.0
+    ∙ ap (λ (x : List (List ℕ)). l ∷ x) (lines_again ls h.1)

@@ -1,5 +1,6 @@
 -- The listing of a file says that file.
-use Rattle.std.proofs.Common.{◌≡◌, ℕ, ◌+◌, ◌*◌, ◌%◌, ◌<◌, Bool, true, false, cond, eqb, eqb-true, List, [], ◌∷◌, ◌++◌, length, refl, sym, ◌∙◌, ap, subst, arith}
+use Rattle.std.proofs.Common.{◌≡◌, ℕ, ◌+◌, ◌*◌, ◌%◌, ◌<◌, Bool, true, false, cond, eqb, eqb-true, List}
+use Rattle.std.proofs.Common.{[], ◌∷◌, ◌++◌, length, refl, sym, ◌∙◌, ap, subst, arith}
 use Rattle.std.specs.Prelude.{codes, map, ◌-◌, ◌&&◌, nat_eq, if◌then◌else◌, IsTrue, drop, slice_get, Option, Some, None, Result, Ok, Err}
 use Rattle.std.specs.List.{AllByRecursion, starts_with}
 use Rattle.std.specs.Cmp.Lexicographic.{pointwise}
@@ -18,7 +19,9 @@ use Rattle.listings.specs.Columns.{lines_in, Row, row_of, column, from_third, fr
 use Rattle.texts.specs.Names.{printable_name}
 use Rattle.aout_core.specs.Addresses.{data_start}
 use Rattle.listings.specs.Drafts.{Segment, Draft, empty_segment, empty_draft, finished}
-use Rattle.listings.specs.Listing.{Remarks, gap, wide, remarked, word_line, word_lines, symbol_lines, named_line, unusual, note_lines, head_lines, text_lines, data_lines, bss_lines, table_lines, listing_lines, listing}
+use Rattle.listings.specs.Listing.{Remarks, gap, wide, remarked, word_line, word_lines, symbol_lines, named_line}
+use Rattle.listings.specs.Listing.{unusual, note_lines, head_lines, text_lines, data_lines, bss_lines, table_lines}
+use Rattle.listings.specs.Listing.{listing_lines, listing}
 use Rattle.listings.specs.Reading.{◌>>=◌, in_column, named, is_label, row_read, lines_read, file_of, read}
 use Rattle.listings.proofs.OctalLemmas.{IsNumber, octal_again, short_again, octal_digits, short_digits}
 use Rattle.listings.proofs.ColumnLemmas.{IsColumn, ink, number_column, row_two, line_of_column, line_gap, line_last, lines_again}
@@ -26,7 +29,8 @@ use Rattle.aout_core.specs.declared.part.Part.{Part}
 use Rattle.aout_core.specs.declared.part.Part.TheVariants as parts
 use Rattle.listings.specs.Laws.{IsLine, IsLabel, AreRemarks}
 use Rattle.listings.proofs.NameLemmas.{name_column}
-use Rattle.listings.proofs.RowLemmas.{Reads, reads_nil, reads_one, reads_both, reads_more, entry_row, Enters, AreRelocs, line_with, line_alone, words_with, words_alone, symbols_read}
+use Rattle.listings.proofs.RowLemmas.{Reads, reads_nil, reads_one, reads_both, reads_more, entry_row, Enters, AreRelocs}
+use Rattle.listings.proofs.RowLemmas.{line_with, line_alone, words_with, words_alone, symbols_read}
 
 -- no line has a newline
 abbrev AreLines : List (List ℕ) → Type 0
@@ -44,7 +48,8 @@ short_column n = number_column (octal n) (short_digits n)
 
 word_line_is : (said : List ℕ) (at w : ℕ) (r : Option Reloc) → IsLine said → IsLine (word_line said at w r)
 word_line_is said at w None is =
-    subst IsLine (sym (line_alone said at w)) (line_gap 1 (six_digits at) (six_digits w ++ remarked said) (octal_column at) (line_last (six_digits w) said (octal_column w) is))
+    subst IsLine (sym (line_alone said at w)) (line_gap 1 (six_digits at) (six_digits w ++ remarked said)
+    (octal_column at) (line_last (six_digits w) said (octal_column w) is))
 word_line_is said at w (Some r) is =
     let k = octal r.0 in
     subst IsLine (sym (line_with said at w r))
@@ -58,7 +63,8 @@ labels_are (l ∷ ls) h = (h.0.0, labels_are ls h.1)
 word_lines_are : (x : Remarks) (p : Part) (i at : ℕ) (ws : List ℕ) (rs : List Reloc) → AreRemarks x → AreLines (word_lines x p i at ws rs)
 word_lines_are x p i at [] rs are = labels_are (x.labels p i) (are.labels p i)
 word_lines_are x p i at (w ∷ ws) rs are =
-    lines_append (x.labels p i) (word_line (x.word p i) (at % 65536) w (slice_get rs 0) ∷ word_lines x p (i + 1) (at + 2) ws (drop 1 rs)) (labels_are (x.labels p i) (are.labels p i))
+    lines_append (x.labels p i) (word_line (x.word p i) (at % 65536) w (slice_get rs 0) ∷
+    word_lines x p (i + 1) (at + 2) ws (drop 1 rs)) (labels_are (x.labels p i) (are.labels p i))
     (word_line_is (x.word p i) (at % 65536) w (slice_get rs 0) (are.word p i), word_lines_are x p (i + 1) (at + 2) ws (drop 1 rs) are)
 
 symbol_lines_are : (x : Remarks) (n : ℕ) (ss : List Symbol) → AreRemarks x → AreLines (symbol_lines x n ss)
@@ -114,20 +120,29 @@ notes_are (n ∷ ns) h = ((omega arith, h.0), notes_are ns h.1)
 
 listing_lines_are : (x : Remarks) (c : Contents) → AreRemarks x → AreLines (listing_lines x c)
 listing_lines_are x c are =
-    lines_append (note_lines x.notes) (head_lines c.header ++ (text_lines x c ++ (data_lines x c ++ (bss_lines c.header ++ (table_lines x c ++ note_lines x.findings))))) (notes_are x.notes are.notes)
-    (lines_append (head_lines c.header) (text_lines x c ++ (data_lines x c ++ (bss_lines c.header ++ (table_lines x c ++ note_lines x.findings))))
+    lines_append (note_lines x.notes) (head_lines c.header
+    ++ (text_lines x c ++ (data_lines x c ++ (bss_lines c.header ++ (table_lines x c ++ note_lines x.findings)))))
+    (notes_are x.notes are.notes)
+    (lines_append (head_lines c.header)
+    (text_lines x c ++ (data_lines x c ++ (bss_lines c.header ++ (table_lines x c ++ note_lines x.findings))))
     (lines_append (unusual 0o407 (codes "magic") c.header.magic) (unusual 0 (codes "flag") c.header.flag)
     (unusual_are 0o407 c.header.magic (codes "magic") magic_column) (unusual_are 0 c.header.flag (codes "flag") flag_column))
     (lines_append (text_lines x c) (data_lines x c ++ (bss_lines c.header ++ (table_lines x c ++ note_lines x.findings)))
     (line_of_column (codes "text") text_column, word_lines_are x parts.Text 0 0 c.text_words c.text_reloc are)
-    (lines_append (data_lines x c) (bss_lines c.header ++ (table_lines x c ++ note_lines x.findings))
-    (line_of_column (codes "data") data_column, word_lines_are x parts.Data 0 (data_start c.header.magic c.header.text_size) c.data_words c.data_reloc are)
+    (lines_append (data_lines x c) (bss_lines c.header ++ (table_lines x c ++ note_lines x.findings)) (
+      line_of_column (codes "data") data_column,
+      word_lines_are x parts.Data 0 (data_start c.header.magic c.header.text_size) c.data_words c.data_reloc are,
+    )
     (lines_append (bss_lines c.header) (table_lines x c ++ note_lines x.findings) (
-      line_gap 0 (codes "bss") (octal c.header.bss_size) bss_column (line_of_column (octal c.header.bss_size) (ink (octal c.header.bss_size) (short_column c.header.bss_size))),
+      line_gap 0 (codes "bss") (octal c.header.bss_size) bss_column
+          (line_of_column (octal c.header.bss_size) (ink (octal c.header.bss_size) (short_column c.header.bss_size))),
       lines_append (unusual 0 (codes "entry") c.header.entry_point) (unusual 0 (codes "unused") c.header.unused)
           (unusual_are 0 c.header.entry_point (codes "entry") entry_column) (unusual_are 0 c.header.unused (codes "unused") unused_column),
     )
-    (lines_append (table_lines x c) (note_lines x.findings) (line_of_column (codes "symbols") symbols_column, symbol_lines_are x 0 c.symbols are) (notes_are x.findings are.findings))))))
+    (lines_append (table_lines x c) (note_lines x.findings) (
+      line_of_column (codes "symbols") symbols_column,
+      symbol_lines_are x 0 c.symbols are,
+    ) (notes_are x.findings are.findings))))))
 
 -- a row with a number in its second column is no label
 not_label : (f g k m : List ℕ) → IsNumber g → is_label (record { first = f; second = g; third = k; fourth = m }) ≡ false
@@ -146,10 +161,11 @@ unlabelled d f g k m h =
 
 -- a word of the header
 header_row : (d : Draft) (w : List ℕ) (n : ℕ) (put : ℕ → Draft) → IsColumn w → IsWord n →
-    ((k m : List ℕ) → row_read d (record { first = w; second = six_digits n; third = k; fourth = m }) ≡ (in_column 1 (number (six_digits n)) >>= (λ (x : ℕ). Ok (put x)))) →
-    row_read d (row_of (named_line w n)) ≡ Ok (put n)
+    ((k m : List ℕ) → row_read d (record { first = w; second = six_digits n; third = k; fourth = m })
+    ≡ (in_column 1 (number (six_digits n)) >>= (λ (x : ℕ). Ok (put x)))) → row_read d (row_of (named_line w n)) ≡ Ok (put n)
 header_row d w n put h small found =
-    ap (row_read d) (ap (λ (y : List ℕ). row_of (gap 0 w y)) (sym (append-nil (six_digits n))) ∙ row_two 0 w (six_digits n) [] h (octal_column n))
+    ap (row_read d) (ap (λ (y : List ℕ). row_of (gap 0 w y)) (sym (append-nil (six_digits n)))
+    ∙ row_two 0 w (six_digits n) [] h (octal_column n))
     ∙ found (column (from_third (gap 0 w (six_digits n ++ [])))) (column (from_fourth (gap 0 w (six_digits n ++ []))))
     ∙ ap (λ (x : Result ℕ Reason). in_column 1 x >>= (λ (y : ℕ). Ok (put y))) (octal_again n small)
 
@@ -161,7 +177,8 @@ short_row : (d : Draft) (w : List ℕ) (n : ℕ) (put : ℕ → Draft) → IsCol
 short_row d w n put h small even found =
     ap (row_read d) (ap (λ (y : List ℕ). row_of (gap 0 w y)) (sym (append-nil (octal n))) ∙ row_two 0 w (octal n) [] h (short_column n))
     ∙ found (column (from_third (gap 0 w (octal n ++ [])))) (column (from_fourth (gap 0 w (octal n ++ []))))
-    ∙ ap (λ (x : Result ℕ Reason). in_column 1 x >>= (λ (y : ℕ). if eqb (y % 2) 0 then Ok (put y) else Err (1, OddSize))) (short_again n small)
+    ∙ ap (λ (x : Result ℕ Reason). in_column 1 x >>= (λ (y : ℕ). if eqb (y % 2) 0 then Ok (put y) else Err (1, OddSize)))
+    (short_again n small)
     ∙ rw even refl
 
 -- what has been read after the magic number
@@ -175,14 +192,18 @@ whole_bss_by true false false s h = absurd (cc)
 whole_bss_by false q false s h = absurd (cc)
 
 whole_bss : (h : Header) → IsTrue (has_whole_sizes h) → eqb (h.bss_size % 2) 0 ≡ true
-whole_bss h whole = whole_bss_by (eqb (h.text_size % 2) 0) (eqb (h.data_size % 2) 0) (eqb (h.bss_size % 2) 0) (eqb (h.symbol_size % 12) 0) whole
+whole_bss h whole =
+    whole_bss_by (eqb (h.text_size % 2) 0) (eqb (h.data_size % 2) 0) (eqb (h.bss_size % 2) 0) (eqb (h.symbol_size % 12) 0) whole
 
 -- the magic number, which has to be one that a file has
 magic_row : (n : ℕ) → IsWord n → IsTrue (is_magic n) → row_read empty_draft (row_of (named_line (codes "magic") n)) ≡ Ok (with_magic n)
 magic_row n small is =
-    ap (row_read empty_draft) (ap (λ (y : List ℕ). row_of (gap 0 (codes "magic") y)) (sym (append-nil (six_digits n))) ∙ row_two 0 (codes "magic") (six_digits n) [] magic_column (octal_column n))
-    ∙ unlabelled empty_draft (codes "magic") (six_digits n) (column (from_third (gap 0 (codes "magic") (six_digits n ++ [])))) (column (from_fourth (gap 0 (codes "magic") (six_digits n ++ [])))) (octal_digits n)
-    ∙ ap (λ (x : Result ℕ Reason). in_column 1 x >>= (λ (y : ℕ). if is_magic y then Ok (with_magic y) else Err (1, NoMagic))) (octal_again n small)
+    ap (row_read empty_draft) (ap (λ (y : List ℕ). row_of (gap 0 (codes "magic") y)) (sym (append-nil (six_digits n)))
+    ∙ row_two 0 (codes "magic") (six_digits n) [] magic_column (octal_column n))
+    ∙ unlabelled empty_draft (codes "magic") (six_digits n) (column (from_third (gap 0 (codes "magic") (six_digits n ++ []))))
+    (column (from_fourth (gap 0 (codes "magic") (six_digits n ++ [])))) (octal_digits n)
+    ∙ ap (λ (x : Result ℕ Reason). in_column 1 x >>= (λ (y : ℕ). if is_magic y then Ok (with_magic y) else Err (1, NoMagic)))
+    (octal_again n small)
     ∙ rw is refl
 
 -- a word of the header that is left out, as the draft has it already
@@ -192,7 +213,8 @@ unusual_reads_by put usual n w true e found =
     rw e (subst (λ (y : ℕ). Reads (put usual) [] (put y)) (sym (eqb-true n usual e)) (reads_nil (put usual)))
 unusual_reads_by put usual n w false e found = rw e (reads_one (put usual) (put n) (named_line w n) found)
 
-unusual_reads : (put : ℕ → Draft) (usual n : ℕ) (w : List ℕ) → row_read (put usual) (row_of (named_line w n)) ≡ Ok (put n) → Reads (put usual) (unusual usual w n) (put n)
+unusual_reads : (put : ℕ → Draft) (usual n : ℕ) (w : List ℕ) →
+    row_read (put usual) (row_of (named_line w n)) ≡ Ok (put n) → Reads (put usual) (unusual usual w n) (put n)
 unusual_reads put usual n w found = unusual_reads_by put usual n w (eqb n usual) refl found
 
 notes_read : (d : Draft) (ns : List (List ℕ)) → Reads d (map (λ (note : List ℕ). 47 ∷ note) ns) d
@@ -209,10 +231,12 @@ head_draft c = with_flag c c.header.flag
 head_reads : (c : Contents) → IsSound c → Reads empty_draft (head_lines c.header) (head_draft c)
 head_reads c sound =
     let h = sound.header in
-    reads_both empty_draft (with_magic c.header.magic) (head_draft c) (unusual 0o407 (codes "magic") c.header.magic) (unusual 0 (codes "flag") c.header.flag)
+    reads_both empty_draft (with_magic c.header.magic) (head_draft c) (unusual 0o407 (codes "magic") c.header.magic)
+    (unusual 0 (codes "flag") c.header.flag)
     (unusual_reads with_magic 0o407 c.header.magic (codes "magic") (magic_row c.header.magic h.magic sound.fits.magic))
     (unusual_reads (with_flag c) 0 c.header.flag (codes "flag")
-    (header_row (with_magic c.header.magic) (codes "flag") c.header.flag (with_flag c) flag_column h.flag (λ k m. unlabelled (with_magic c.header.magic) (codes "flag") (six_digits c.header.flag) k m (octal_digits c.header.flag))))
+    (header_row (with_magic c.header.magic) (codes "flag") c.header.flag (with_flag c) flag_column h.flag
+    (λ k m. unlabelled (with_magic c.header.magic) (codes "flag") (six_digits c.header.flag) k m (octal_digits c.header.flag))))
 
 -- what has been read within the text, the data and the table
 abbrev in_text : Contents → Segment → Draft
@@ -248,17 +272,22 @@ bss_reads c sound =
     let data_draft = in_data c (data_segment c) in
     reads_more data_draft (with_bss c c.header.bss_size) (header_draft c) (gap 0 (codes "bss") (octal c.header.bss_size))
     (unusual 0 (codes "entry") c.header.entry_point ++ unusual 0 (codes "unused") c.header.unused)
-    (short_row data_draft (codes "bss") c.header.bss_size (with_bss c) bss_column h.bss_size (whole_bss c.header sound.fits.sizes) (λ k m. unlabelled data_draft (codes "bss") (octal c.header.bss_size) k m (short_digits c.header.bss_size)))
+    (short_row data_draft (codes "bss") c.header.bss_size (with_bss c) bss_column h.bss_size (whole_bss c.header sound.fits.sizes)
+    (λ k m. unlabelled data_draft (codes "bss") (octal c.header.bss_size) k m (short_digits c.header.bss_size)))
     (reads_both (with_bss c c.header.bss_size) (with_entry c c.header.entry_point) (header_draft c)
     (unusual 0 (codes "entry") c.header.entry_point) (unusual 0 (codes "unused") c.header.unused)
     (unusual_reads (with_entry c) 0 c.header.entry_point (codes "entry")
-    (header_row (with_bss c c.header.bss_size) (codes "entry") c.header.entry_point (with_entry c) entry_column h.entry_point (λ k m. unlabelled (with_bss c c.header.bss_size) (codes "entry") (six_digits c.header.entry_point) k m (octal_digits c.header.entry_point))))
+    (header_row (with_bss c c.header.bss_size) (codes "entry") c.header.entry_point (with_entry c) entry_column h.entry_point (λ k m.
+    unlabelled (with_bss c c.header.bss_size) (codes "entry") (six_digits c.header.entry_point) k m (octal_digits c.header.entry_point))))
     (unusual_reads (with_unused c) 0 c.header.unused (codes "unused")
-    (header_row (with_entry c c.header.entry_point) (codes "unused") c.header.unused (with_unused c) unused_column h.unused (λ k m. unlabelled (with_entry c c.header.entry_point) (codes "unused") (six_digits c.header.unused) k m (octal_digits c.header.unused)))))
+    (header_row (with_entry c c.header.entry_point) (codes "unused") c.header.unused (with_unused c) unused_column h.unused (λ k m.
+    unlabelled (with_entry c c.header.entry_point) (codes "unused") (six_digits c.header.unused) k m (octal_digits c.header.unused)))))
 
 -- the relocation of a segment is whole, or not there
-segment_reads : (x : Remarks) (p : Part) (put : Segment → Draft) (start flag at size : ℕ) (ws : List ℕ) (rs : List Reloc) (t : Bool) → AreRemarks x → eqb flag 0 ≡ t →
-    Enters put start flag → at ≡ start → 2 * length ws ≡ size → size < 65536 → 2 * length rs ≡ cond t size 0 → AllByRecursion IsWord ws → AreRelocs rs →
+segment_reads : (x : Remarks) (p : Part) (put : Segment → Draft) (start flag at size : ℕ) (ws : List ℕ)
+    (rs : List Reloc) (t : Bool) → AreRemarks x → eqb flag 0 ≡ t →
+    Enters put start flag → at ≡ start → 2 * length ws ≡ size → size < 65536 → 2 * length rs ≡ cond t size 0 →
+    AllByRecursion IsWord ws → AreRelocs rs →
     Reads (put empty_segment) (word_lines x p 0 at ws rs) (put (record { words = ws; relocs = rs }))
 segment_reads x p put start flag at size ws rs true are on enters place long small also words relocs =
     words_with x p 0 put start flag at empty_segment ws rs are enters on (omega arith) (omega arith) words relocs (omega arith)
@@ -266,28 +295,38 @@ segment_reads x p put start flag at size ws [] false are off enters place long s
     words_alone x p 0 put start flag at empty_segment ws are enters off (omega arith) words (omega arith)
 segment_reads x p put start flag at size ws (r ∷ rs) false are off enters place long small also words relocs = absurd (omega arith)
 
-body_reads : (x : Remarks) (c : Contents) → AreRemarks x → IsSound c → Reads (head_draft c) (text_lines x c ++ (data_lines x c ++ (bss_lines c.header ++ (table_lines x c ++ note_lines x.findings)))) (in_table c c.symbols)
+body_reads : (x : Remarks) (c : Contents) → AreRemarks x → IsSound c → Reads (head_draft c) (text_lines x c
+    ++ (data_lines x c ++ (bss_lines c.header ++ (table_lines x c ++ note_lines x.findings)))) (in_table c c.symbols)
 body_reads x c are sound =
     let fits = sound.fits in
     let flag = c.header.flag in
     let text : Reads (in_text c empty_segment) (word_lines x parts.Text 0 0 c.text_words c.text_reloc) (in_text c (text_segment c)) =
-    segment_reads x parts.Text (in_text c) 0 flag 0 c.header.text_size c.text_words c.text_reloc (eqb flag 0) are refl (λ s f g k m h. entry_row (in_text c s) f g k m h) refl
+    segment_reads x parts.Text (in_text c) 0 flag 0 c.header.text_size c.text_words c.text_reloc (eqb flag 0) are refl
+    (λ s f g k m h. entry_row (in_text c s) f g k m h) refl
     fits.text sound.header.text_size fits.text_relocation sound.text_words sound.text_reloc in
-    let data_rows : Reads (in_data c empty_segment) (word_lines x parts.Data 0 (data_start c.header.magic c.header.text_size) c.data_words c.data_reloc) (in_data c (data_segment c)) =
-    segment_reads x parts.Data (in_data c) (data_start c.header.magic (2 * length c.text_words)) flag (data_start c.header.magic c.header.text_size) c.header.data_size c.data_words c.data_reloc (eqb flag 0) are refl
-    (λ s f g k m h. entry_row (in_data c s) f g k m h) (ap (data_start c.header.magic) (sym fits.text)) fits.«data» sound.header.data_size fits.data_relocation sound.data_words sound.data_reloc in
+    let data_rows : Reads (in_data c empty_segment) (word_lines x parts.Data 0
+    (data_start c.header.magic c.header.text_size) c.data_words c.data_reloc) (in_data c (data_segment c)) =
+    segment_reads x parts.Data (in_data c) (data_start c.header.magic (2 * length c.text_words)) flag
+    (data_start c.header.magic c.header.text_size) c.header.data_size c.data_words c.data_reloc (eqb flag 0) are refl
+    (λ s f g k m h. entry_row (in_data c s) f g k m h) (ap (data_start c.header.magic) (sym fits.text)) fits.«data»
+    sound.header.data_size fits.data_relocation sound.data_words sound.data_reloc in
     let whole = fits.table in
     let small = sound.header.symbol_size in
-    let table : Reads (in_table c []) (symbol_lines x 0 c.symbols) (in_table c c.symbols) = symbols_read x (in_table c []) 0 [] c.symbols refl sound.symbols (omega arith) in
+    let table : Reads (in_table c []) (symbol_lines x 0 c.symbols) (in_table c c.symbols) =
+    symbols_read x (in_table c []) 0 [] c.symbols refl sound.symbols (omega arith) in
     let text_draft = in_text c (text_segment c) in
     let data_draft = in_data c (data_segment c) in
     let last = in_table c c.symbols in
-    reads_both (head_draft c) text_draft last (text_lines x c) (data_lines x c ++ (bss_lines c.header ++ (table_lines x c ++ note_lines x.findings)))
-    (reads_more (head_draft c) (in_text c empty_segment) text_draft (codes "text") (word_lines x parts.Text 0 0 c.text_words c.text_reloc) refl text)
+    reads_both (head_draft c) text_draft last (text_lines x c)
+    (data_lines x c ++ (bss_lines c.header ++ (table_lines x c ++ note_lines x.findings)))
+    (reads_more (head_draft c) (in_text c empty_segment) text_draft (codes "text")
+    (word_lines x parts.Text 0 0 c.text_words c.text_reloc) refl text)
     (reads_both text_draft data_draft last (data_lines x c) (bss_lines c.header ++ (table_lines x c ++ note_lines x.findings))
-    (reads_more text_draft (in_data c empty_segment) data_draft (codes "data") (word_lines x parts.Data 0 (data_start c.header.magic c.header.text_size) c.data_words c.data_reloc) refl data_rows)
+    (reads_more text_draft (in_data c empty_segment) data_draft (codes "data")
+    (word_lines x parts.Data 0 (data_start c.header.magic c.header.text_size) c.data_words c.data_reloc) refl data_rows)
     (reads_both data_draft (header_draft c) last (bss_lines c.header) (table_lines x c ++ note_lines x.findings) (bss_reads c sound)
-    (reads_both (header_draft c) last last (table_lines x c) (note_lines x.findings) (reads_more (header_draft c) (in_table c []) last (codes "symbols") (symbol_lines x 0 c.symbols) refl table) (notes_read last x.findings))))
+    (reads_both (header_draft c) last last (table_lines x c) (note_lines x.findings) (reads_more (header_draft c)
+    (in_table c []) last (codes "symbols") (symbol_lines x 0 c.symbols) refl table) (notes_read last x.findings))))
 
 finished_is : (c : Contents) → IsSound c → finished (in_table c c.symbols) ≡ c
 finished_is c sound =

@@ -14,7 +14,8 @@ use Rattle.listings.specs.internal.Lines.{Stops}
 use Rattle.listings.proofs.ListingLemmas.{listing_read}
 use Rattle.listings.specs.Columns.{row_of, lines_in, first_line, other_lines}
 
-lines_by : (b : ℕ) (bs : List ℕ) (t : Bool) → eqb b 10 ≡ t → lines_in bs ≡ first_line bs ∷ lines_in (other_lines bs) → lines_in (b ∷ bs) ≡ first_line (b ∷ bs) ∷ lines_in (other_lines (b ∷ bs))
+lines_by : (b : ℕ) (bs : List ℕ) (t : Bool) → eqb b 10 ≡ t → lines_in bs ≡ first_line bs ∷ lines_in (other_lines bs) →
+    lines_in (b ∷ bs) ≡ first_line (b ∷ bs) ∷ lines_in (other_lines (b ∷ bs))
 lines_by b bs true e h = rw e refl
 lines_by b bs false e h = rw (e, h) refl
 
@@ -29,7 +30,8 @@ lines_cut b (x ∷ bs) = lines_by b (x ∷ bs) (eqb b 10) refl (lines_cut x bs)
 
 -- reading of a text is reading of its first line, and then of the others
 lines_from : (n : ℕ) (d : Draft) (text : List ℕ) → 0 < length text →
-    lines_read n d (lines_in text) ≡ (in_line n (first_line text) (row_read d (row_of (first_line text))) >>= (λ e. lines_read (n + 1) e (lines_in (other_lines text))))
+    lines_read n d (lines_in text) ≡ (in_line n (first_line text) (row_read d (row_of (first_line text)))
+    >>= (λ e. lines_read (n + 1) e (lines_in (other_lines text))))
 lines_from n d [] more = absurd (omega arith)
 lines_from n d (b ∷ bs) more = ap (lines_read n d) (lines_cut b bs)
 
@@ -37,15 +39,18 @@ pub lines_on : (n : ℕ) (d next : Draft) (text line others : List ℕ) → 0 < 
     in_line n line (row_read d (row_of line)) ≡ Ok next → lines_read (n + 1) next (lines_in others) ≡ lines_read n d (lines_in text)
 lines_on n d next text line others more is rest found =
     ap (λ (x : List ℕ). lines_read (n + 1) next (lines_in x)) rest
-    ∙ ap (λ (x : Result Draft Fault). x >>= (λ e. lines_read (n + 1) e (lines_in (other_lines text)))) (sym found ∙ ap (λ (x : List ℕ). in_line n x (row_read d (row_of x))) is)
+    ∙ ap (λ (x : Result Draft Fault). x >>= (λ e. lines_read (n + 1) e (lines_in (other_lines text))))
+    (sym found ∙ ap (λ (x : List ℕ). in_line n x (row_read d (row_of x))) is)
     ∙ sym (lines_from n d text more)
 
-pub lines_stop : (n : ℕ) (d : Draft) (text line : List ℕ) (found : Result Draft Fault) (e : ListingFault) → 0 < length text → line ≡ first_line text →
+pub lines_stop : (n : ℕ) (d : Draft) (text line : List ℕ) (found : Result Draft Fault) (e : ListingFault) →
+    0 < length text → line ≡ first_line text →
     Stops e (in_line n line (row_read d (row_of line))) → lines_read n d (lines_in text) ≡ found → Stops e found
 lines_stop n d text line found Memory more is stops all = tt
 lines_stop n d text line found (Wrong fault) more is stops all =
     sym all ∙ lines_from n d text more
-    ∙ ap (λ (x : Result Draft Fault). x >>= (λ e. lines_read (n + 1) e (lines_in (other_lines text)))) (ap (λ (x : List ℕ). in_line n x (row_read d (row_of x))) (sym is) ∙ stops)
+    ∙ ap (λ (x : Result Draft Fault). x >>= (λ e. lines_read (n + 1) e (lines_in (other_lines text))))
+    (ap (λ (x : List ℕ). in_line n x (row_read d (row_of x))) (sym is) ∙ stops)
 
 -- a line that is read is a row that is read
 pub row_of_line : (n : ℕ) (line : List ℕ) (found : Result Draft Mistake) (e : Draft) → in_line n line found ≡ Ok e → found ≡ Ok e
@@ -67,7 +72,9 @@ same_file a b found ha hb = cc
 never : (a : Contents) (f : Fault) (found : Result Contents Fault) → found ≡ Ok a → found ≡ Err f → ⊥
 never a f found ha hf = absurd (cc)
 
-pub says_gives : (result : Result Contents ListingFault) (text : List ℕ) (x : Remarks) (c : Contents) → Says result (read text) → AreRemarks x → IsSound c → text ≡ listing x c → Gives result c
+pub says_gives : (result : Result Contents ListingFault) (text : List ℕ) (x : Remarks) (c : Contents) →
+    Says result (read text) → AreRemarks x → IsSound c → text ≡ listing x c → Gives result c
 says_gives (Ok file) text x c said are sound is = same_file file c (read text) said (ap read is ∙ listing_read x c are sound)
 says_gives (Err Memory) text x c said are sound is = refl
-says_gives (Err (Wrong fault)) text x c said are sound is = absurd (never c fault (read text) (ap read is ∙ listing_read x c are sound) said)
+says_gives (Err (Wrong fault)) text x c said are sound is =
+    absurd (never c fault (read text) (ap read is ∙ listing_read x c are sound) said)

@@ -1,5 +1,6 @@
 -- Rows that were written say what was written.
-use Rattle.std.proofs.Common.{◌≡◌, ℕ, ◌+◌, ◌*◌, ◌%◌, ◌<◌, true, false, eqb, List, [], ◌∷◌, ◌++◌, length, refl, sym, ◌∙◌, ap, subst, arith, append_assoc, length-append, replicate}
+use Rattle.std.proofs.Common.{◌≡◌, ℕ, ◌+◌, ◌*◌, ◌%◌, ◌<◌, true, false, eqb, List, [], ◌∷◌, ◌++◌, length, refl, sym}
+use Rattle.std.proofs.Common.{◌∙◌, ap, subst, arith, append_assoc, length-append, replicate}
 use Rattle.std.specs.Prelude.{ltb, leb, ◌-◌, Some, None, Result, Ok}
 use Rattle.std.specs.List.{AllByRecursion}
 use Rattle.std.proofs.lemmas.Bool.{lt-ltb, le-leb, ne_eqb, eq-eqb}
@@ -43,7 +44,8 @@ reads_more d e f l ls h b = reads_both d e f (l ∷ []) ls (reads_one d e l h) b
 
 -- a row that begins with a number belongs to the section
 pub entry_row : (d : Draft) (f g k m : List ℕ) → IsNumber f →
-    row_read d (record { first = f; second = g; third = k; fourth = m }) ≡ entry_in d.section d (record { first = f; second = g; third = k; fourth = m })
+    row_read d (record { first = f; second = g; third = k; fourth = m })
+    ≡ entry_in d.section d (record { first = f; second = g; third = k; fourth = m })
 entry_row d [] g k m h = absurd h
 entry_row d (b ∷ bs) g k m h =
     let low : leb 48 b ≡ true = le-leb 48 b h.0.0 in
@@ -103,8 +105,10 @@ labels_read d [] h = reads_nil d
 labels_read d (l ∷ ls) h = reads_more d d d l ls (h.0.1 d) (labels_read d ls h.1)
 
 -- the words of a segment with relocation
-pub words_with : (x : Remarks) (p : Part) (i : ℕ) (put : Segment → Draft) (start flag at : ℕ) (s : Segment) (ws : List ℕ) (rs : List Reloc) → AreRemarks x →
-    Enters put start flag → eqb flag 0 ≡ true → at ≡ start + 2 * length s.words → length rs ≡ length ws → AllByRecursion IsWord ws → AreRelocs rs →
+pub words_with : (x : Remarks) (p : Part) (i : ℕ) (put : Segment → Draft) (start flag at : ℕ) (s : Segment)
+    (ws : List ℕ) (rs : List Reloc) → AreRemarks x →
+    Enters put start flag → eqb flag 0 ≡ true → at ≡ start + 2 * length s.words → length rs ≡ length ws →
+    AllByRecursion IsWord ws → AreRelocs rs →
     length s.words + length ws < 32768 → Reads (put s) (word_lines x p i at ws rs) (put (joined s ws rs))
 words_with x p i put start flag at s [] [] are enters on place same words relocs room =
     subst (λ (t : Segment). Reads (put s) (x.labels p i) (put t)) (joined_nil s) (labels_read (put s) (x.labels p i) (are.labels p i))
@@ -123,12 +127,15 @@ words_with x p i put start flag at s (w ∷ ws) (r ∷ rs) are enters on place s
     let last = column (from_fourth form) in
     let found : row_read (put s) (row_of line) ≡ Ok (put t) =
     ap (λ (l : List ℕ). row_read (put s) (row_of l)) (line_with note here w r)
-    ∙ ap (row_read (put s)) (row_three 1 (wide 4 k) a b k note (number_column a (octal_digits here)) (number_column b (octal_digits w)) (number_column k (short_digits r.0)))
+    ∙ ap (row_read (put s)) (row_three 1 (wide 4 k) a b k note (number_column a (octal_digits here))
+    (number_column b (octal_digits w)) (number_column k (short_digits r.0)))
     ∙ enters s a b k last (octal_digits here)
     ∙ ap (λ (y : Result Segment Mistake). y >>= (λ u. Ok (put u)))
-    (word_found start flag here w s (r ∷ []) a b k last (octal_again here (omega arith)) (octal_again w words.0) (relocs_there flag r on relocs.0) place_here (omega arith)) in
+    (word_found start flag here w s (r ∷ []) a b k last (octal_again here (omega arith)) (octal_again w words.0)
+    (relocs_there flag r on relocs.0) place_here (omega arith)) in
     let long : length (s.words ++ w ∷ []) ≡ length s.words + 1 = length-append s.words (w ∷ []) in
-    let rest = words_with x p (i + 1) put start flag (at + 2) t ws rs are enters on (omega arith) (omega arith) words.1 relocs.1 (omega arith) in
+    let rest =
+    words_with x p (i + 1) put start flag (at + 2) t ws rs are enters on (omega arith) (omega arith) words.1 relocs.1 (omega arith) in
     let last_draft = put (joined s (w ∷ ws) (r ∷ rs)) in
     let others = word_lines x p (i + 1) (at + 2) ws rs in
     reads_both (put s) (put s) last_draft (x.labels p i) (line ∷ others) (labels_read (put s) (x.labels p i) (are.labels p i))
@@ -137,8 +144,8 @@ words_with x p i put start flag at s (w ∷ ws) (r ∷ rs) are enters on place s
 
 -- the words of a segment without relocation
 pub words_alone : (x : Remarks) (p : Part) (i : ℕ) (put : Segment → Draft) (start flag at : ℕ) (s : Segment) (ws : List ℕ) → AreRemarks x →
-    Enters put start flag → eqb flag 0 ≡ false → at ≡ start + 2 * length s.words → AllByRecursion IsWord ws → length s.words + length ws < 32768 →
-    Reads (put s) (word_lines x p i at ws []) (put (joined s ws []))
+    Enters put start flag → eqb flag 0 ≡ false → at ≡ start + 2 * length s.words → AllByRecursion IsWord ws →
+    length s.words + length ws < 32768 → Reads (put s) (word_lines x p i at ws []) (put (joined s ws []))
 words_alone x p i put start flag at s [] are enters off place words room =
     subst (λ (t : Segment). Reads (put s) (x.labels p i) (put t)) (joined_nil s) (labels_read (put s) (x.labels p i) (are.labels p i))
 words_alone x p i put start flag at s (w ∷ ws) are enters off place words room =
@@ -157,7 +164,8 @@ words_alone x p i put start flag at s (w ∷ ws) are enters off place words room
     ∙ ap (row_read (put s)) (row_two 1 a b note (number_column a (octal_digits here)) (number_column b (octal_digits w)))
     ∙ enters s a b third last (octal_digits here)
     ∙ ap (λ (y : Result Segment Mistake). y >>= (λ u. Ok (put u)))
-    (word_found start flag here w s [] a b third last (octal_again here (omega arith)) (octal_again w words.0) (relocs_none flag third off) place_here (omega arith)) in
+    (word_found start flag here w s [] a b third last (octal_again here (omega arith)) (octal_again w words.0)
+    (relocs_none flag third off) place_here (omega arith)) in
     let long : length (s.words ++ w ∷ []) ≡ length s.words + 1 = length-append s.words (w ∷ []) in
     let rest = words_alone x p (i + 1) put start flag (at + 2) t ws are enters off (omega arith) words.1 (omega arith) in
     let last_draft = put (joined s (w ∷ ws) []) in
@@ -175,10 +183,12 @@ symbol_found n done s f g k m hf hg hk hm place room =
     let fits : ltb (length done) 5461 ≡ true = lt-ltb (length done) 5461 room in
     rw (hf, hg, hk, hm, there, fits) refl
 
-pub symbols_read : (x : Remarks) (d : Draft) (n : ℕ) (done ss : List Symbol) → n ≡ length done → AllByRecursion IsSymbol ss → length done + length ss < 5462 →
+pub symbols_read : (x : Remarks) (d : Draft) (n : ℕ) (done ss : List Symbol) → n ≡ length done →
+    AllByRecursion IsSymbol ss → length done + length ss < 5462 →
     Reads (record d { section = InSymbols; symbols = done }) (symbol_lines x n ss) (record d { section = InSymbols; symbols = done ++ ss })
 symbols_read x d n done [] place are room =
-    subst (λ (y : List Symbol). Reads (record d { section = InSymbols; symbols = done }) [] (record d { section = InSymbols; symbols = y })) (sym (append-nil done))
+    subst (λ (y : List Symbol). Reads (record d { section = InSymbols; symbols = done }) []
+    (record d { section = InSymbols; symbols = y })) (sym (append-nil done))
     (reads_nil (record d { section = InSymbols; symbols = done }))
 symbols_read x d n done (s ∷ ss) place are room =
     let from : Draft = record d { section = InSymbols; symbols = done } in
@@ -190,11 +200,14 @@ symbols_read x d n done (s ∷ ss) place are room =
     let e = six_digits s.value in
     let found : row_read from (row_of (symbol_line x n s)) ≡ Ok next =
     ap (row_read from) (row_four (wide 4 a) (wide 8 b + (3 - length c)) 1 a b c e (x.symbol s)
-    (number_column a (short_digits n)) (name_column s.name) (number_column c (short_digits s.type_bits)) (number_column e (octal_digits s.value)))
+    (number_column a (short_digits n)) (name_column s.name) (number_column c (short_digits s.type_bits))
+    (number_column e (octal_digits s.value)))
     ∙ entry_row from a b c e (short_digits n)
     ∙ ap (λ (y : Result (List Symbol) Mistake). y >>= (λ ys. Ok (record from { symbols = ys })))
-    (symbol_found n done s a b c e (short_again n (omega arith)) (name_again s.name are.0.name) (short_again s.type_bits are.0.type_bits) (octal_again s.value are.0.value) place (omega arith)) in
+    (symbol_found n done s a b c e (short_again n (omega arith)) (name_again s.name are.0.name)
+    (short_again s.type_bits are.0.type_bits) (octal_again s.value are.0.value) place (omega arith)) in
     let long : length (done ++ s ∷ []) ≡ length done + 1 = length-append done (s ∷ []) in
     let rest = symbols_read x d (n + 1) (done ++ s ∷ []) ss (omega arith) are.1 (omega arith) in
     reads_more from next last (symbol_line x n s) (symbol_lines x (n + 1) ss) found
-    (subst (λ (y : List Symbol). Reads next (symbol_lines x (n + 1) ss) (record d { section = InSymbols; symbols = y })) (append_assoc done (s ∷ []) ss) rest)
+    (subst (λ (y : List Symbol). Reads next (symbol_lines x (n + 1) ss) (record d { section = InSymbols; symbols = y }))
+    (append_assoc done (s ∷ []) ss) rest)

@@ -1,5 +1,6 @@
 -- One more word of a segment is written.
-use Rattle.std.proofs.Common.{◌≡◌, ℕ, zero, suc, ◌+◌, ◌*◌, ◌%◌, ◌<◌, List, [], ◌∷◌, ◌++◌, drop, length, get_or, refl, sym, ◌∙◌, ap, arith, append_assoc, drop-drop}
+use Rattle.std.proofs.Common.{◌≡◌, ℕ, zero, suc, ◌+◌, ◌*◌, ◌%◌, ◌<◌, List, [], ◌∷◌, ◌++◌, drop, length, get_or}
+use Rattle.std.proofs.Common.{refl, sym, ◌∙◌, ap, arith, append_assoc, drop-drop}
 use Rattle.std.specs.Prelude.{Option, slice_get}
 use Rattle.std.proofs.lemmas.List.{drop_more}
 use Rattle.std.proofs.Math.Seq.{drop-length}
@@ -16,13 +17,16 @@ get_dropped (suc i) (r ∷ rs) = get_dropped i rs
 
 lines_step : (x : Remarks) (p : Part) (start i w : ℕ) (ws : List ℕ) (rs : List Reloc) → i < length ws → w ≡ get_or ws i 0 →
     word_lines x p i (start + 2 * i) (drop i ws) (drop i rs)
-    ≡ x.labels p i ++ (word_line (x.word p i) ((start + 2 * i) % 65536) w (slice_get rs i) ∷ word_lines x p (i + 1) (start + 2 * (i + 1)) (drop (i + 1) ws) (drop (i + 1) rs))
+    ≡ x.labels p i ++ (word_line (x.word p i) ((start + 2 * i) % 65536) w (slice_get rs i) ∷
+    word_lines x p (i + 1) (start + 2 * (i + 1)) (drop (i + 1) ws) (drop (i + 1) rs))
 lines_step x p start i w ws rs lt is =
     let next : start + 2 * i + 2 ≡ start + 2 * (i + 1) = omega arith in
     ap (λ (y : List ℕ). word_lines x p i (start + 2 * i) y (drop i rs)) (drop_more ws i 0 lt)
-    ∙ (λ k. x.labels p i ++ (word_line (x.word p i) ((start + 2 * i) % 65536) (sym is k) (get_dropped i rs k) ∷ word_lines x p (i + 1) (next k) (drop (i + 1) ws) (drop-drop 1 i rs k)))
+    ∙ (λ k. x.labels p i ++ (word_line (x.word p i) ((start + 2 * i) % 65536) (sym is k) (get_dropped i rs k) ∷
+    word_lines x p (i + 1) (next k) (drop (i + 1) ws) (drop-drop 1 i rs k)))
 
-pub put_step : (x : Remarks) (p : Part) (init items new : List ℕ) (at start i w : ℕ) (r : Option Reloc) (ws : List ℕ) (rs : List Reloc) → i < length ws → w ≡ get_or ws i 0 → r ≡ slice_get rs i →
+pub put_step : (x : Remarks) (p : Part) (init items new : List ℕ) (at start i w : ℕ) (r : Option Reloc) (ws : List ℕ)
+    (rs : List Reloc) → i < length ws → w ≡ get_or ws i 0 → r ≡ slice_get rs i →
     at ≡ (start + 2 * i) % 65536 → new ≡ items ++ (text_of (x.labels p i) ++ (word_line (x.word p i) at w r ++ 10 ∷ [])) →
     items ++ text_of (word_lines x p i (start + 2 * i) (drop i ws) (drop i rs)) ≡ init →
     new ++ text_of (word_lines x p (i + 1) (start + 2 * (i + 1)) (drop (i + 1) ws) (drop (i + 1) rs)) ≡ init
@@ -34,26 +38,32 @@ put_step x p init items new at start i w r ws rs lt is reloc place grown before 
     ∙ append_assoc items (labels ++ (line ++ 10 ∷ [])) (text_of others)
     ∙ ap (λ (y : List ℕ). items ++ y) (append_assoc labels (line ++ 10 ∷ []) (text_of others))
     ∙ (λ k. items ++ (labels ++ ((word_line (x.word p i) (place k) w (reloc k) ++ 10 ∷ []) ++ text_of others)))
-    ∙ ap (λ (y : List ℕ). items ++ y) (sym (two_texts (x.labels p i) (word_line (x.word p i) ((start + 2 * i) % 65536) w (slice_get rs i) ∷ others)))
+    ∙ ap (λ (y : List ℕ). items ++ y)
+    (sym (two_texts (x.labels p i) (word_line (x.word p i) ((start + 2 * i) % 65536) w (slice_get rs i) ∷ others)))
     ∙ ap (λ (y : List (List ℕ)). items ++ text_of y) (sym (lines_step x p start i w ws rs lt is))
     ∙ before
 
 -- the labels of the end
-pub put_end : (x : Remarks) (p : Part) (init items new : List ℕ) (start i : ℕ) (ws : List ℕ) (rs : List Reloc) → i ≡ length ws → new ≡ items ++ text_of (x.labels p (length ws)) →
+pub put_end : (x : Remarks) (p : Part) (init items new : List ℕ) (start i : ℕ) (ws : List ℕ) (rs : List Reloc) →
+    i ≡ length ws → new ≡ items ++ text_of (x.labels p (length ws)) →
     items ++ text_of (word_lines x p i (start + 2 * i) (drop i ws) (drop i rs)) ≡ init → new ≡ init
 put_end x p init items new start i ws rs end grown before =
     grown
     ∙ ap (λ (k : ℕ). items ++ text_of (x.labels p k)) (sym end)
-    ∙ ap (λ (y : List ℕ). items ++ text_of (word_lines x p i (start + 2 * i) y (drop i rs))) (sym (ap (λ (k : ℕ). drop k ws) end ∙ drop-length ws))
+    ∙ ap (λ (y : List ℕ). items ++ text_of (word_lines x p i (start + 2 * i) y (drop i rs)))
+    (sym (ap (λ (k : ℕ). drop k ws) end ∙ drop-length ws))
     ∙ before
 
 grown : (from next : List ℕ) (xs ys : List (List ℕ)) → next ≡ from ++ text_of xs → next ++ text_of ys ≡ from ++ text_of (xs ++ ys)
 grown from next xs ys e =
-    ap (λ (t : List ℕ). t ++ text_of ys) e ∙ append_assoc from (text_of xs) (text_of ys) ∙ ap (λ (t : List ℕ). from ++ t) (sym (two_texts xs ys))
+    ap (λ (t : List ℕ). t ++ text_of ys) e ∙ append_assoc from (text_of xs) (text_of ys)
+    ∙ ap (λ (t : List ℕ). from ++ t) (sym (two_texts xs ys))
 
 -- the parts of a listing, one after another
-pub whole : (t0 t1 t2 t3 t4 t5 t6 t7 : List ℕ) (n h x d b s f : List (List ℕ)) → t1 ≡ t0 ++ text_of n → t2 ≡ t1 ++ text_of h → t3 ≡ t2 ++ text_of x → t4 ≡ t3 ++ text_of d →
+pub whole : (t0 t1 t2 t3 t4 t5 t6 t7 : List ℕ) (n h x d b s f : List (List ℕ)) → t1 ≡ t0 ++ text_of n →
+    t2 ≡ t1 ++ text_of h → t3 ≡ t2 ++ text_of x → t4 ≡ t3 ++ text_of d →
     t5 ≡ t4 ++ text_of b → t6 ≡ t5 ++ text_of s → t7 ≡ t6 ++ text_of f → t7 ≡ t0 ++ text_of (n ++ (h ++ (x ++ (d ++ (b ++ (s ++ f))))))
 whole t0 t1 t2 t3 t4 t5 t6 t7 n h x d b s f e1 e2 e3 e4 e5 e6 e7 =
-    e7 ∙ grown t5 t6 s f e6 ∙ grown t4 t5 b (s ++ f) e5 ∙ grown t3 t4 d (b ++ (s ++ f)) e4 ∙ grown t2 t3 x (d ++ (b ++ (s ++ f))) e3 ∙ grown t1 t2 h (x ++ (d ++ (b ++ (s ++ f)))) e2
+    e7 ∙ grown t5 t6 s f e6 ∙ grown t4 t5 b (s ++ f) e5 ∙ grown t3 t4 d (b ++ (s ++ f)) e4
+    ∙ grown t2 t3 x (d ++ (b ++ (s ++ f))) e3 ∙ grown t1 t2 h (x ++ (d ++ (b ++ (s ++ f)))) e2
     ∙ grown t0 t1 n (h ++ (x ++ (d ++ (b ++ (s ++ f))))) e1

@@ -1,5 +1,6 @@
 -- Octal digits that are written from the last to the first.
-use Rattle.std.proofs.Common.{◌≡◌, ℕ, zero, suc, ◌+◌, ◌-◌, ◌*◌, ◌/◌, ◌%◌, ◌^◌, ◌<◌, ◌≤◌, ◌==◌, false, true, if◌then◌else◌, List, [], ◌∷◌, sym, ap, ◌∙◌, subst, arith, nat_lt}
+use Rattle.std.proofs.Common.{◌≡◌, ℕ, zero, suc, ◌+◌, ◌-◌, ◌*◌, ◌/◌, ◌%◌, ◌^◌, ◌<◌, ◌≤◌, ◌==◌, false, true}
+use Rattle.std.proofs.Common.{if◌then◌else◌, List, [], ◌∷◌, sym, ap, ◌∙◌, subst, arith, nat_lt}
 use Rattle.std.proofs.lemmas.Bool.{cond-true, cond-false}
 use Rattle.std.proofs.lemmas.Bool.Decides.{nat_tests}
 use Rattle.std.proofs.lemmas.Nat.{div_below}
@@ -24,7 +25,8 @@ pub first-digit : (n : ℕ) → octal n ≡ digits_left 21 n (digit n ∷ [])
 unfolding digits
 first-digit n = ap (λ g. if n / 8 == 0 then g ∷ [] else digits_onto 63 8 false (n / 8) (g ∷ [])) (glyph n)
 
-pub next-digit : (place rest : ℕ) (done : List ℕ) → 1 ≤ place → 8 ≤ rest → digits_left place rest done ≡ digits_left (place - 1) (rest / 8) (digit (rest / 8) ∷ done)
+pub next-digit : (place rest : ℕ) (done : List ℕ) → 1 ≤ place → 8 ≤ rest →
+    digits_left place rest done ≡ digits_left (place - 1) (rest / 8) (digit (rest / 8) ∷ done)
 next-digit place rest done room more =
     let test = not-zero (rest / 8) (omega arith) in
     let fuel : 42 + place ≡ suc (42 + (place - 1)) = omega arith in

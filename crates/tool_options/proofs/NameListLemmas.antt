@@ -34,15 +34,22 @@ new_first false true n m e = refl
 new_first false false n m e = e
 
 -- what is seen, or kept as new, is what is seen or mentioned
-pub is_among-new_names : (seen names : List (List ℕ)) (name : List ℕ) → (is_among seen name || is_among (new_names seen names) name) ≡ (is_among seen name || is_among names name)
+pub is_among-new_names : (seen names : List (List ℕ)) (name : List ℕ) →
+    (is_among seen name || is_among (new_names seen names) name) ≡ (is_among seen name || is_among names name)
 is_among-new_names seen [] name = refl
 is_among-new_names seen (x ∷ xs) name = by_test (is_among seen x) refl (is_among-new_names (seen ++ x ∷ []) xs name)
   where
     by_test : (t : Bool) → is_among seen x ≡ t →
-        (is_among (seen ++ x ∷ []) name || is_among (new_names (seen ++ x ∷ []) xs) name) ≡ (is_among (seen ++ x ∷ []) name || is_among xs name) →
-        (is_among seen name || is_among (cond t (new_names (seen ++ x ∷ []) xs) (x ∷ new_names (seen ++ x ∷ []) xs)) name) ≡ (is_among seen name || (bytes_eq name x || is_among xs name))
-    by_test true e shorter = seen_first (is_among seen name) (bytes_eq name x) (is_among (new_names (seen ++ x ∷ []) xs) name) (is_among xs name) (same_is_among seen x name e) (rw is_among-append at shorter)
-    by_test false e shorter = new_first (is_among seen name) (bytes_eq name x) (is_among (new_names (seen ++ x ∷ []) xs) name) (is_among xs name) (rw is_among-append at shorter)
+        (is_among (seen ++ x ∷ []) name || is_among (new_names (seen ++ x ∷ []) xs) name)
+        ≡ (is_among (seen ++ x ∷ []) name || is_among xs name) →
+        (is_among seen name || is_among (cond t (new_names (seen ++ x ∷ []) xs) (x ∷ new_names (seen ++ x ∷ []) xs)) name)
+        ≡ (is_among seen name || (bytes_eq name x || is_among xs name))
+    by_test true e shorter =
+        seen_first (is_among seen name) (bytes_eq name x) (is_among (new_names (seen ++ x ∷ []) xs) name)
+        (is_among xs name) (same_is_among seen x name e) (rw is_among-append at shorter)
+    by_test false e shorter =
+        new_first (is_among seen name) (bytes_eq name x) (is_among (new_names (seen ++ x ∷ []) xs) name)
+        (is_among xs name) (rw is_among-append at shorter)
 
 -- a name seen once more
 pub seen_again : (seen : List (List ℕ)) (x : List ℕ) → is_among seen x ≡ true → (n : List ℕ) → is_among (seen ++ x ∷ []) n ≡ is_among seen n

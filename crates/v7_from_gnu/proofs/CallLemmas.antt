@@ -11,11 +11,15 @@ use Rattle.v7_from_gnu.specs.Runs.{IsAnswer, IsCall, IsDone}
 use Rattle.v7_from_gnu.specs.declared.arguments.Call.{Call}
 
 -- nothing is asked for
-pub no_call : (words : List (List ℕ)) (h : History) (answer : Answer) → call_of words ≡ None → answer ≡ says_usage usage → IsAnswer words h h (Ok answer)
-no_call words h answer is e = inr (subst (λ call. IsCall call h h (Ok answer)) (sym is) (refl, inl (ap (λ (a : Answer). let ok : Result Answer Fault = Ok a in ok) e)))
+pub no_call : (words : List (List ℕ)) (h : History) (answer : Answer) → call_of words ≡ None →
+    answer ≡ says_usage usage → IsAnswer words h h (Ok answer)
+no_call words h answer is e =
+    inr (subst (λ call. IsCall call h h (Ok answer)) (sym is)
+    (refl, inl (ap (λ (a : Answer). let ok : Result Answer Fault = Ok a in ok) e)))
 
 -- a call is asked for, and done
-pub one_call : (words : List (List ℕ)) (call : Call) (old new : History) (result : Result Answer Fault) → call_of words ≡ Some call → IsDone call old new result → IsAnswer words old new result
+pub one_call : (words : List (List ℕ)) (call : Call) (old new : History) (result : Result Answer Fault) →
+    call_of words ≡ Some call → IsDone call old new result → IsAnswer words old new result
 one_call words call old new result is h = inr (subst (λ asked. IsCall asked old new result) (sym is) h)
 
 pub ruleset by_call = (no_call, one_call)

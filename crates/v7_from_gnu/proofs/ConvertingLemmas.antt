@@ -16,7 +16,8 @@ use Rattle.v7_from_gnu.specs.internal.Lists.{RefusedAs}
 use Rattle.v7_from_gnu.proofs.StepLemmas.{step_ends, step_fails}
 
 -- one is not converted
-pub converting_fails : (options : Options) (done : List Target) (all left later : List Source) (source : Source) (fault : Fault) → converted_from options [] all ≡ converted_from options done left → left ≡ source ∷ later →
+pub converting_fails : (options : Options) (done : List Target) (all left later : List Source) (source : Source)
+    (fault : Fault) → converted_from options [] all ≡ converted_from options done left → left ≡ source ∷ later →
     Faults (target_of options source) fault → Faults (converted_from options [] all) fault
 converting_fails options done all left later source fault inv e h =
     subst (λ r. Faults r fault) (sym (inv ∙ ap (converted_from options done) e)) (step_fails (target_of options source) _ fault h)
@@ -31,23 +32,31 @@ refusal_in (Err refusal) = refusal
 err_of : (r s : Refusal) → refuses r ≡ refuses s → r ≡ s
 err_of r s e = ap refusal_in e
 
-refused_with : (source : Source) (found : Result Contents Refusal) (refusal : Refusal) (fault : Fault) → (refuses refusal ≢ refuses refusals.Memory → refuses refusal ≡ found) → RefusedAs source refusal fault → Faults (target_with source found) fault
+refused_with : (source : Source) (found : Result Contents Refusal) (refusal : Refusal) (fault : Fault) →
+    (refuses refusal ≢ refuses refusals.Memory → refuses refusal ≡ found) → RefusedAs source refusal fault →
+    Faults (target_with source found) fault
 refused_with source found refusal fault gives (inl memory) = step_ends (target_with source found) fault memory
 refused_with source found refusal fault gives (inr (other, tells)) =
     subst (λ r. Faults (target_with source r) fault) (gives (λ e. other (err_of refusal refusals.Memory e))) tells
 
 -- the fault of a refusal is that of the file
-pub refused_faults : (options : Options) (source : Source) (bytes : List ℕ) (refusal : Refusal) (fault : Fault) → bytes ≡ source.bytes → (refuses refusal ≢ refuses refusals.Memory → refuses refusal ≡ converted options bytes) → RefusedAs source refusal fault → Faults (target_of options source) fault
+pub refused_faults : (options : Options) (source : Source) (bytes : List ℕ) (refusal : Refusal) (fault : Fault) →
+    bytes ≡ source.bytes → (refuses refusal ≢ refuses refusals.Memory → refuses refusal ≡ converted options bytes) →
+    RefusedAs source refusal fault → Faults (target_of options source) fault
 refused_faults options source bytes refusal fault same gives refused =
-    refused_with source (converted options source.bytes) refusal fault (subst (λ (b : List ℕ). refuses refusal ≢ refuses refusals.Memory → refuses refusal ≡ converted options b) same gives) refused
+    refused_with source (converted options source.bytes) refusal fault
+    (subst (λ (b : List ℕ). refuses refusal ≢ refuses refusals.Memory → refuses refusal ≡ converted options b) same gives) refused
 
 -- what is done with the objects is what is done with the files
-pub plan_ok : (options : Options) (is_quiet : Bool) (sources : List Source) (targets : List Target) (result : Result Plan Fault) → converted_from options [] sources ≡ Ok targets →
+pub plan_ok : (options : Options) (is_quiet : Bool) (sources : List Source) (targets : List Target)
+    (result : Result Plan Fault) → converted_from options [] sources ≡ Ok targets →
     IfOk result (λ plan. with_names options is_quiet targets ≡ Ok plan) → IfOk result (λ plan. outcome options is_quiet sources ≡ Ok plan)
 plan_ok options is_quiet sources targets (Ok plan) is h = subst (λ r. and_then r (with_names options is_quiet) ≡ Ok plan) (sym is) h
 plan_ok options is_quiet sources targets (Err fault) is h = h
 
-pub plan_err : (options : Options) (is_quiet : Bool) (sources : List Source) (targets : List Target) (result : Result Plan Fault) → converted_from options [] sources ≡ Ok targets →
-    IfErr result (λ fault. Faults (with_names options is_quiet targets) fault) → IfErr result (λ fault. Faults (outcome options is_quiet sources) fault)
+pub plan_err : (options : Options) (is_quiet : Bool) (sources : List Source) (targets : List Target)
+    (result : Result Plan Fault) → converted_from options [] sources ≡ Ok targets →
+    IfErr result (λ fault. Faults (with_names options is_quiet targets) fault) →
+    IfErr result (λ fault. Faults (outcome options is_quiet sources) fault)
 plan_err options is_quiet sources targets (Ok plan) is h = h
 plan_err options is_quiet sources targets (Err fault) is h = subst (λ r. Faults (and_then r (with_names options is_quiet)) fault) (sym is) h

@@ -34,7 +34,8 @@ step_ends (Ok x) fault h = h
 step_ends (Err a) fault h = inr h
 
 -- the first step has a fault
-pub step_fails : {A B : Type 0} (r : Result A Answer) (next : A → Result B Answer) (fault : Fault) → Faults r fault → Faults (and_then r next) fault
+pub step_fails : {A B : Type 0} (r : Result A Answer) (next : A → Result B Answer) (fault : Fault) → Faults r fault →
+    Faults (and_then r next) fault
 step_fails (Ok x) next fault h = step_ends (next x) fault h
 step_fails (Err a) next fault h = h
 

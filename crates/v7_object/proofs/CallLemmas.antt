@@ -10,11 +10,15 @@ use Rattle.v7_object.specs.Lines.{program, usage}
 use Rattle.v7_object.specs.Runs.{IsAnswer, IsCall, paths_in, shown_or}
 
 -- something is shown
-pub is_shown : (words : List (List ℕ)) (shown : Shown) (h : History) (answer : Answer) → shown_in words ≡ Some shown → answer ≡ shows program usage shown → IsAnswer words h h (Ok answer)
-is_shown words shown h answer is e = subst (λ call. IsCall (shown_or call (paths_in words)) h h (Ok answer)) (sym is) (refl, inl (ap (λ (a : Answer). let ok : Result Answer Fault = Ok a in ok) e))
+pub is_shown : (words : List (List ℕ)) (shown : Shown) (h : History) (answer : Answer) → shown_in words ≡ Some shown →
+    answer ≡ shows program usage shown → IsAnswer words h h (Ok answer)
+is_shown words shown h answer is e =
+    subst (λ call. IsCall (shown_or call (paths_in words)) h h (Ok answer)) (sym is)
+    (refl, inl (ap (λ (a : Answer). let ok : Result Answer Fault = Ok a in ok) e))
 
 -- nothing is shown
-pub is_not_shown : (words : List (List ℕ)) (old new : History) (result : Result Answer Fault) → shown_in words ≡ None → IsCall (paths_in words) old new result → IsAnswer words old new result
+pub is_not_shown : (words : List (List ℕ)) (old new : History) (result : Result Answer Fault) → shown_in words ≡ None →
+    IsCall (paths_in words) old new result → IsAnswer words old new result
 is_not_shown words old new result is h = subst (λ call. IsCall (shown_or call (paths_in words)) old new result) (sym is) h
 
 pub ruleset by_shown = (is_shown, is_not_shown)

@@ -26,7 +26,8 @@ use Rattle.link_out.proofs.partial_links.PartialLemmas.{partial_file, IsProper, 
 use Rattle.link_out.proofs.partial_links.PartialNames.{HasTable, has_table}
 use Rattle.link_out.proofs.ObjectLemmas.{linked_is_object, allowed_with}
 use Rattle.link_out.proofs.partial_links.SameLinks.{AreAlike, same_link, with_multiples}
-use Rattle.link_session.proofs.NeighbourLemmas.{as_long_append, as_long_self, start, forced_front, new_of_new, names_of_forced, mentions_after}
+use Rattle.link_session.proofs.NeighbourLemmas.{as_long_append, as_long_self, start, forced_front, new_of_new}
+use Rattle.link_session.proofs.NeighbourLemmas.{names_of_forced, mentions_after}
 use Rattle.link_out.proofs.partial_links.NeighbourMentions.{partial_as_long, names_same, states_same}
 use Rattle.link_out.proofs.partial_links.NeighbourCells.{HoldsAmong, cells_said, neighbour_text, neighbour_data}
 use Rattle.link_out.proofs.OutcomeLemmas.{made_file}
@@ -37,37 +38,48 @@ pub other_forced : (a b : List (List ℕ)) (xs : List Contents) (name : List ℕ
 other_forced a b xs name = forced_front a (mentions_after [] xs) name ∙ sym (forced_front b (mentions_after [] xs) name)
 
 -- the names after forced names that hold others, from the names after those
-more_forced : (own forced xs ys : List (List ℕ)) → IsPart own forced → new_names [] (own ++ xs) ≡ new_names [] (own ++ ys) → new_names [] (forced ++ xs) ≡ new_names [] (forced ++ ys)
+more_forced : (own forced xs ys : List (List ℕ)) → IsPart own forced →
+    new_names [] (own ++ xs) ≡ new_names [] (own ++ ys) → new_names [] (forced ++ xs) ≡ new_names [] (forced ++ ys)
 more_forced own forced xs ys part same =
     let inner : new_names own xs ≡ new_names own ys =
-    append_cancel_left (new_names [] own) (new_names own xs) (new_names own ys) (sym (new_names-append [] own xs) ∙ same ∙ new_names-append [] own ys) in
+    append_cancel_left (new_names [] own) (new_names own xs) (new_names own ys)
+    (sym (new_names-append [] own xs) ∙ same ∙ new_names-append [] own ys) in
     let outer : new_names forced xs ≡ new_names forced ys =
     sym (new_of_new forced own xs part) ∙ ap (λ (ns : List (List ℕ)). new_names forced ns) inner ∙ new_of_new forced own ys part in
     new_names-append [] forced xs ∙ ap (λ (ns : List (List ℕ)). new_names [] forced ++ ns) outer ∙ sym (new_names-append [] forced ys)
 
-names_split : (forced : List (List ℕ)) (xs : List Contents) → names_by_first_mention (mentions forced xs) ≡ new_names [] (forced ++ names_of (mentions_after [] xs))
-names_split forced xs = ap (λ (ns : List (List ℕ)). new_names [] ns) (names_of-append (map forced_mention forced) (mentions_after [] xs) ∙ ap (λ (ns : List (List ℕ)). ns ++ names_of (mentions_after [] xs)) (names_of_forced forced))
+names_split : (forced : List (List ℕ)) (xs : List Contents) →
+    names_by_first_mention (mentions forced xs) ≡ new_names [] (forced ++ names_of (mentions_after [] xs))
+names_split forced xs =
+    ap (λ (ns : List (List ℕ)). new_names [] ns) (names_of-append (map forced_mention forced) (mentions_after [] xs)
+    ∙ ap (λ (ns : List (List ℕ)). ns ++ names_of (mentions_after [] xs)) (names_of_forced forced))
 
-names_forced : (own forced : List (List ℕ)) (xs ys : List Contents) → IsPart own forced → names_by_first_mention (mentions own xs) ≡ names_by_first_mention (mentions own ys) →
+names_forced : (own forced : List (List ℕ)) (xs ys : List Contents) → IsPart own forced →
+    names_by_first_mention (mentions own xs) ≡ names_by_first_mention (mentions own ys) →
     names_by_first_mention (mentions forced xs) ≡ names_by_first_mention (mentions forced ys)
 names_forced own forced xs ys part same =
     names_split forced xs
-    ∙ more_forced own forced (names_of (mentions_after [] xs)) (names_of (mentions_after [] ys)) part (sym (names_split own xs) ∙ same ∙ names_split own ys)
+    ∙ more_forced own forced (names_of (mentions_after [] xs)) (names_of (mentions_after [] ys)) part
+    (sym (names_split own xs) ∙ same ∙ names_split own ys)
     ∙ sym (names_split forced ys)
 
 -- the file and the options of a partial link
-pub partial_options : (forced : List (List ℕ)) (os : List Contents) (o : Choices) (x : Outcome) → IsPartialLink forced os o x → (partial_file forced os o.keep o.entry ≡ x.file) × (o.keep ≢ Nothing)
+pub partial_options : (forced : List (List ℕ)) (os : List Contents) (o : Choices) (x : Outcome) →
+    IsPartialLink forced os o x → (partial_file forced os o.keep o.entry ≡ x.file) × (o.keep ≢ Nothing)
 partial_options forced os o x p =
     let options = allowed_with o p.relocatable p.allowed in
-    let same : o ≡ partly o.keep o.entry = λ i. record { layout = options.0 i; relocatable = p.relocatable i; keep = o.keep; entry = o.entry; force_commons = p.no_commons i } in
+    let same : o ≡ partly o.keep o.entry =
+    λ i. record { layout = options.0 i; relocatable = p.relocatable i; keep = o.keep; entry = o.entry; force_commons = p.no_commons i } in
     (ap (λ (c : Choices). linked_file (plan forced os c) os) (sym same) ∙ made_file (plan forced os o) os x p.linked, options.1)
 
-pub other_multiples : (names : List (List ℕ)) (r : Result Outcome LinkFault) → without_multiples (with_multiples names r) ≡ without_multiples r
+pub other_multiples : (names : List (List ℕ)) (r : Result Outcome LinkFault) →
+    without_multiples (with_multiples names r) ≡ without_multiples r
 other_multiples names (Err fault) = refl
 other_multiples names (Ok x) = refl
 
 -- a partial link with forced names of its own, among others
-module _ (own forced : List (List ℕ)) (part : IsPart own forced) (bs os cs : List Contents) (keep : Keep) (entry : Option (List ℕ)) (has : HasTable own os keep entry) where
+module _ (own forced : List (List ℕ)) (part : IsPart own forced) (bs os cs : List Contents) (keep : Keep)
+    (entry : Option (List ℕ)) (has : HasTable own os keep entry) where
   abbrev m : Contents
   m = partial_file own os keep entry
 
@@ -77,25 +89,35 @@ module _ (own forced : List (List ℕ)) (part : IsPart own forced) (bs os cs : L
 
   -- each name has the same state
   pub states_alike : (name : List ℕ) → state (mentions forced (bs ++ m ∷ cs)) name ≡ state (mentions forced (bs ++ (os ++ cs))) name
-  states_alike name = other_forced forced own (bs ++ m ∷ cs) name ∙ states_same own bs os cs keep entry has name ∙ other_forced own forced (bs ++ (os ++ cs)) name
+  states_alike name =
+      other_forced forced own (bs ++ m ∷ cs) name ∙ states_same own bs os cs keep entry has name
+      ∙ other_forced own forced (bs ++ (os ++ cs)) name
 
-  module _ (good_bs : AllByRecursion IsWellFormed bs) (good_os : AllByRecursion IsWellFormed os) (good_cs : AllByRecursion IsWellFormed cs) (holds : HoldsAmong (mentions forced (bs ++ m ∷ cs)) bs (mentions own os)) where
+  module _ (good_bs : AllByRecursion IsWellFormed bs) (good_os : AllByRecursion IsWellFormed os)
+      (good_cs : AllByRecursion IsWellFormed cs) (holds : HoldsAmong (mentions forced (bs ++ m ∷ cs)) bs (mentions own os)) where
     links_alike : AreAlike forced (bs ++ m ∷ cs) (bs ++ (os ++ cs))
     links_alike = record {
       names = names_alike;
       states_alike = states_alike;
-      as_long = as_long_append bs bs (m ∷ cs) (os ++ cs) (as_long_self bs) (as_long_append (m ∷ []) os cs cs (partial_as_long own bs os cs keep entry has) (as_long_self cs));
+      as_long =
+          as_long_append bs bs (m ∷ cs) (os ++ cs) (as_long_self bs)
+          (as_long_append (m ∷ []) os cs cs (partial_as_long own bs os cs keep entry has) (as_long_self cs));
       text = neighbour_text own os keep entry has bs (mentions forced (bs ++ m ∷ cs)) holds cs good_os
-          ∙ cells_said (mentions forced (bs ++ m ∷ cs)) (mentions forced (bs ++ (os ++ cs))) names_alike states_alike TextSeg (bs ++ (os ++ cs));
+          ∙ cells_said (mentions forced (bs ++ m ∷ cs))
+          (mentions forced (bs ++ (os ++ cs))) names_alike states_alike TextSeg (bs ++ (os ++ cs));
       «data» = neighbour_data own os keep entry has bs (mentions forced (bs ++ m ∷ cs)) holds cs good_os
-          ∙ cells_said (mentions forced (bs ++ m ∷ cs)) (mentions forced (bs ++ (os ++ cs))) names_alike states_alike DataSeg (bs ++ (os ++ cs));
+          ∙ cells_said (mentions forced (bs ++ m ∷ cs))
+          (mentions forced (bs ++ (os ++ cs))) names_alike states_alike DataSeg (bs ++ (os ++ cs));
       good_xs = all_append IsWellFormed bs (m ∷ cs) good_bs (linked_is_object own os keep entry false has good_os, good_cs);
       good_ys = all_append IsWellFormed bs (os ++ cs) good_bs (all_append IsWellFormed os cs good_os good_cs);
     }
 
     -- the link is the same but for the multiples reported
-    pub link_alike : (o : Choices) → KeepsNoMore o.keep keep → link forced (bs ++ m ∷ cs) o ≡ with_multiples (multiple_names (mentions forced (bs ++ m ∷ cs))) (link forced (bs ++ (os ++ cs)) o)
-    link_alike o less = same_link forced (bs ++ m ∷ cs) (bs ++ (os ++ cs)) links_alike o (λ ms ns at. same_rows own bs os cs keep entry has at o.keep less)
+    pub link_alike : (o : Choices) → KeepsNoMore o.keep keep → link forced (bs ++ m ∷ cs) o
+        ≡ with_multiples (multiple_names (mentions forced (bs ++ m ∷ cs))) (link forced (bs ++ (os ++ cs)) o)
+    link_alike o less =
+        same_link forced (bs ++ m ∷ cs) (bs ++ (os ++ cs)) links_alike o
+        (λ ms ns at. same_rows own bs os cs keep entry has at o.keep less)
 
 -- two ways to say where an offset lies after other objects
 pub start_after : (bs : List Contents) (segment : Segment) (offset : ℕ) → offset_after bs segment offset ≡ plus (start bs segment) offset
@@ -107,7 +129,8 @@ start_after bs DataSeg offset = refl
 start_after bs BssSeg offset = refl
 
 -- definitions that stand among all hold there
-pub stand_holds : (own forced : List (List ℕ)) (part : IsPart own forced) (bs os cs : List Contents) (keep : Keep) (entry : Option (List ℕ)) (has : HasTable own os keep entry) →
+pub stand_holds : (own forced : List (List ℕ)) (part : IsPart own forced) (bs os cs : List Contents) (keep : Keep)
+    (entry : Option (List ℕ)) (has : HasTable own os keep entry) →
     DefinitionsStand forced bs os cs → HoldsAmong (mentions forced (bs ++ partial_file own os keep entry ∷ cs)) bs (mentions own os)
 stand_holds own forced part bs os cs keep entry has stand name segment offset e =
     states_alike own forced part bs os cs keep entry has name
@@ -123,17 +146,21 @@ stands_for own forced bs os cs by o x good_bs good_os good_cs p less part stand 
     let file = partial_options own os by x p in
     let has : HasTable own os by.keep by.entry = has_table own os by.keep by.entry file.1 in
     subst (λ (f : Contents). without_multiples (link forced (bs ++ f ∷ cs) o) ≡ without_multiples (link forced (bs ++ (os ++ cs)) o)) file.0
-    (ap without_multiples (link_alike own forced part bs os cs by.keep by.entry has good_bs good_os good_cs (stand_holds own forced part bs os cs by.keep by.entry has stand) o less)
-    ∙ other_multiples (multiple_names (mentions forced (bs ++ partial_file own os by.keep by.entry ∷ cs))) (link forced (bs ++ (os ++ cs)) o))
+    (ap without_multiples (link_alike own forced part bs os cs by.keep by.entry has good_bs good_os good_cs
+    (stand_holds own forced part bs os cs by.keep by.entry has stand) o less)
+    ∙ other_multiples (multiple_names (mentions forced (bs ++ partial_file own os by.keep by.entry ∷ cs)))
+    (link forced (bs ++ (os ++ cs)) o))
 
 -- a definition stands where it did after nothing
-proper_start : (segment : Segment) (offset : ℕ) → IsProper (Defined segment offset) → Defined segment offset ≡ Defined segment (plus (start [] segment) offset)
+proper_start : (segment : Segment) (offset : ℕ) → IsProper (Defined segment offset) →
+    Defined segment offset ≡ Defined segment (plus (start [] segment) offset)
 proper_start segment offset h = by_segment segment h
   where
     kept : offset % 65536 ≡ offset → offset ≡ plus 0 offset
     kept h = omega arith
 
-    by_segment : (segment : Segment) → IsProper (Defined segment offset) → Defined segment offset ≡ Defined segment (plus (start [] segment) offset)
+    by_segment : (segment : Segment) → IsProper (Defined segment offset) →
+        Defined segment offset ≡ Defined segment (plus (start [] segment) offset)
     by_segment Undefined h = absurd h
     by_segment Other h = absurd h
     by_segment Absolute h = ap (λ (n : ℕ). Defined Absolute n) (kept h)
@@ -151,15 +178,21 @@ stand_alone forced os name segment offset e =
     ∙ ap (λ (n : ℕ). Defined segment n) (sym (start_after [] segment offset))
 
 -- alone the link of a partial link is that of its objects but for the multiples reported
-pub alone_alike : (own forced : List (List ℕ)) → IsPart own forced → (os : List Contents) (keep : Keep) (entry : Option (List ℕ)) (o : Choices) → AllByRecursion IsWellFormed os → keep ≢ Nothing → KeepsNoMore o.keep keep →
-    link forced (partial_file own os keep entry ∷ []) o ≡ with_multiples (multiple_names (mentions forced (partial_file own os keep entry ∷ []))) (link forced os o)
+pub alone_alike : (own forced : List (List ℕ)) → IsPart own forced → (os : List Contents) (keep : Keep)
+    (entry : Option (List ℕ)) (o : Choices) → AllByRecursion IsWellFormed os → keep ≢ Nothing → KeepsNoMore o.keep keep →
+    link forced (partial_file own os keep entry ∷ []) o
+    ≡ with_multiples (multiple_names (mentions forced (partial_file own os keep entry ∷ []))) (link forced os o)
 alone_alike own forced part os keep entry o good table less =
     let has : HasTable own os keep entry = has_table own os keep entry table in
-    link_alike own forced part [] os [] keep entry has tt good tt (stand_holds own forced part [] os [] keep entry has (stand_alone forced os)) o less
-    ∙ ap (λ (xs : List Contents). with_multiples (multiple_names (mentions forced (partial_file own os keep entry ∷ []))) (link forced xs o)) (append-nil os)
+    link_alike own forced part [] os [] keep entry has tt good tt
+    (stand_holds own forced part [] os [] keep entry has (stand_alone forced os)) o less
+    ∙ ap (λ (xs : List Contents). with_multiples (multiple_names (mentions forced (partial_file own os keep entry ∷ [])))
+    (link forced xs o)) (append-nil os)
 
 -- alone a partial link stands for its objects
 pub stands_always : (own forced : List (List ℕ)) (os : List Contents) (by o : Choices) (x : Outcome) → AllByRecursion IsWellFormed os →
-    IsPartialLink own os by x → KeepsNoMore o.keep by.keep → IsPart own forced → without_multiples (link forced (x.file ∷ []) o) ≡ without_multiples (link forced os o)
+    IsPartialLink own os by x → KeepsNoMore o.keep by.keep → IsPart own forced →
+    without_multiples (link forced (x.file ∷ []) o) ≡ without_multiples (link forced os o)
 stands_always own forced os by o x good p less part =
-    stands_for own forced [] os [] by o x tt good tt p less part (stand_alone forced os) ∙ ap (λ (xs : List Contents). without_multiples (link forced xs o)) (append-nil os)
+    stands_for own forced [] os [] by o x tt good tt p less part (stand_alone forced os)
+    ∙ ap (λ (xs : List Contents). without_multiples (link forced xs o)) (append-nil os)

@@ -25,12 +25,15 @@ use Rattle.link_out.proofs.partial_links.PartialLemmas.{partial_file}
 use Rattle.link_out.proofs.partial_links.PartialNames.{HasTable, has_table, told}
 use Rattle.link_out.proofs.partial_links.SameLinks.{with_multiples, own_multiples}
 use Rattle.link_session.proofs.NeighbourLemmas.{as_long_append, as_long_self, start, blocks_same, mentions_in_same, raise, raised}
-use Rattle.link_out.proofs.partial_links.NeighbourMentions.{partial_as_long, whole_said, back_said, front_said, mentions_of_whole, told_after, state_after}
-use Rattle.link_session.proofs.AgreementLemmas.{AgreesIn, not_multiple, one_definition, none_defines, no_definition, of_each_name, none_kept, own_again}
+use Rattle.link_out.proofs.partial_links.NeighbourMentions.{partial_as_long, whole_said, back_said, front_said}
+use Rattle.link_out.proofs.partial_links.NeighbourMentions.{mentions_of_whole, told_after, state_after}
+use Rattle.link_session.proofs.AgreementLemmas.{AgreesIn, not_multiple, one_definition, none_defines, no_definition}
+use Rattle.link_session.proofs.AgreementLemmas.{of_each_name, none_kept, own_again}
 use Rattle.link_out.proofs.partial_links.PartialAmong.{other_forced, states_alike, link_alike, start_after, stand_holds, partial_options}
 
 -- the objects define no multiple of all
-module _ (own forced : List (List ℕ)) (part : IsPart own forced) (bs os cs : List Contents) (keep : Keep) (entry : Option (List ℕ)) (table : keep ≢ Nothing) (single : DefinesNoMultiple forced bs os cs) where
+module _ (own forced : List (List ℕ)) (part : IsPart own forced) (bs os cs : List Contents) (keep : Keep)
+    (entry : Option (List ℕ)) (table : keep ≢ Nothing) (single : DefinesNoMultiple forced bs os cs) where
   abbrev has : HasTable own os keep entry
   has = has_table own os keep entry table
 
@@ -61,21 +64,27 @@ module _ (own forced : List (List ℕ)) (part : IsPart own forced) (bs os cs : L
   among_split_up : among ≡ fore ++ (one ++ back)
   among_split_up = mentions-append forced bs (partial_file own os keep entry ∷ cs)
       ∙ ap (λ (ms : List Mention). fore ++ (one ++ ms))
-      (blocks_same mentions_in mentions_in_same (bs ++ partial_file own os keep entry ∷ []) (bs ++ os) cs (as_long_append bs bs (partial_file own os keep entry ∷ []) os (as_long_self bs) (partial_as_long own bs os cs keep entry has)))
+      (blocks_same mentions_in mentions_in_same (bs ++ partial_file own os keep entry ∷ []) (bs ++ os) cs
+      (as_long_append bs bs (partial_file own os keep entry ∷ []) os (as_long_self bs) (partial_as_long own bs os cs keep entry has)))
 
   -- the first definition after the others
   inner_definition : (name : List ℕ) → first_definition inner name ≡ definition_by (raised bs (state (mentions [] os) name))
-  inner_definition name = definition_of inner name ∙ ap definition_by (state_after forced bs os cs keep entry later name ∙ ap (λ (s : State). raised bs s) (other_forced forced [] os name))
+  inner_definition name =
+      definition_of inner name ∙ ap definition_by
+      (state_after forced bs os cs keep entry later name ∙ ap (λ (s : State). raised bs s) (other_forced forced [] os name))
 
   not_defined : (s : State) → definition_by s ≡ None → definition_by (raised bs s) ≡ None
   not_defined (Wanted size) h = refl
   not_defined (Defined segment offset) h = absurd (cc)
 
-  inner_agrees_for : (name : List ℕ) (t : Bool) → is_among (multiple_names all) name ≡ t → AllByRecursion (λ m. bytes_eq name m.name ≡ true → AgreesIn all m) inner
+  inner_agrees_for : (name : List ℕ) (t : Bool) → is_among (multiple_names all) name ≡ t →
+      AllByRecursion (λ m. bytes_eq name m.name ≡ true → AgreesIn all m) inner
   inner_agrees_for name false h =
       let everywhere : AllByRecursion (λ m. bytes_eq name m.name ≡ true → AgreesIn all m) (fore ++ (inner ++ back)) =
-      subst (λ (ms : List Mention). AllByRecursion (λ m. bytes_eq name m.name ≡ true → AgreesIn all m) ms) all_split_up (not_multiple all all name h) in
-      (all_split (λ m. bytes_eq name m.name ≡ true → AgreesIn all m) inner back (all_split (λ m. bytes_eq name m.name ≡ true → AgreesIn all m) fore (inner ++ back) everywhere).1).0
+      subst (λ (ms : List Mention). AllByRecursion (λ m. bytes_eq name m.name ≡ true → AgreesIn all m) ms) all_split_up
+      (not_multiple all all name h) in
+      (all_split (λ m. bytes_eq name m.name ≡ true → AgreesIn all m) inner back
+      (all_split (λ m. bytes_eq name m.name ≡ true → AgreesIn all m) fore (inner ++ back) everywhere).1).0
   inner_agrees_for name true h =
       let nowhere : definition_by (state (mentions [] os) name) ≡ None = sym (definition_of (mentions [] os) name) ∙ single name h in
       all_map (λ m. bytes_eq name m.name ≡ true → definition_by m.says ≡ None) (λ m. bytes_eq name m.name ≡ true → AgreesIn all m)
@@ -84,23 +93,29 @@ module _ (own forced : List (List ℕ)) (part : IsPart own forced) (bs os cs : L
 
   inner_agrees : AllByRecursion (AgreesIn all) inner
   inner_agrees = all_map (λ m. bytes_eq m.name m.name ≡ true → AgreesIn all m) (AgreesIn all) (λ m f. f (own_name m.name)) inner
-      (of_each_name (λ name m. bytes_eq name m.name ≡ true → AgreesIn all m) inner (λ name. inner_agrees_for name (is_among (multiple_names all) name) refl))
+      (of_each_name (λ name m. bytes_eq name m.name ≡ true → AgreesIn all m) inner
+      (λ name. inner_agrees_for name (is_among (multiple_names all) name) refl))
 
   -- a definition of the objects is the first one of all
-  stands_inside : (name : List ℕ) (segment : Segment) (offset : ℕ) → state (mentions [] os) name ≡ Defined segment offset → first_definition all name ≡ Some (segment, plus (start bs segment) offset)
+  stands_inside : (name : List ℕ) (segment : Segment) (offset : ℕ) → state (mentions [] os) name ≡ Defined segment offset →
+      first_definition all name ≡ Some (segment, plus (start bs segment) offset)
   stands_inside name segment offset e =
-      let found : first_definition inner name ≡ Some (segment, plus (start bs segment) offset) = inner_definition name ∙ ap (λ (s : State). definition_by (raised bs s)) e in
+      let found : first_definition inner name ≡ Some (segment, plus (start bs segment) offset) =
+      inner_definition name ∙ ap (λ (s : State). definition_by (raised bs s)) e in
       let whole : first_definition all name ≡ first_of (first_definition fore name) (Some (segment, plus (start bs segment) offset)) =
       ap (λ (ms : List Mention). first_definition ms name) all_split_up
       ∙ first_definition-append fore (inner ++ back) name
-      ∙ ap (λ (x : Option Definition). first_of (first_definition fore name) x) (first_definition-append inner back name ∙ ap (λ (x : Option Definition). first_of x (first_definition back name)) found) in
+      ∙ ap (λ (x : Option Definition). first_of (first_definition fore name) x) (first_definition-append inner back name
+      ∙ ap (λ (x : Option Definition). first_of x (first_definition back name)) found) in
       by_front (first_definition fore name) found whole
     where
-      by_front : (x : Option Definition) → first_definition inner name ≡ Some (segment, plus (start bs segment) offset) → first_definition all name ≡ first_of x (Some (segment, plus (start bs segment) offset)) →
+      by_front : (x : Option Definition) → first_definition inner name ≡ Some (segment, plus (start bs segment) offset) →
+          first_definition all name ≡ first_of x (Some (segment, plus (start bs segment) offset)) →
           first_definition all name ≡ Some (segment, plus (start bs segment) offset)
       by_front None found w = w
       by_front (Some d) found w =
-          let agree : AllByRecursion (λ m. bytes_eq name m.name ≡ true → AgreesIn all m) inner = all_map (AgreesIn all) (λ m. bytes_eq name m.name ≡ true → AgreesIn all m) (λ m h k. h) inner inner_agrees in
+          let agree : AllByRecursion (λ m. bytes_eq name m.name ≡ true → AgreesIn all m) inner =
+          all_map (AgreesIn all) (λ m. bytes_eq name m.name ≡ true → AgreesIn all m) (λ m h k. h) inner inner_agrees in
           w ∙ one_definition all inner name (segment, plus (start bs segment) offset) d agree found w
 
   stand : DefinitionsStand forced bs os cs
@@ -109,7 +124,9 @@ module _ (own forced : List (List ℕ)) (part : IsPart own forced) (bs os cs : L
       ∙ ap (λ (n : ℕ). Defined segment n) (sym (start_after bs segment offset))
 
   definitions_alike : (name : List ℕ) → first_definition among name ≡ first_definition all name
-  definitions_alike name = definition_of among name ∙ ap definition_by (states_alike own forced part bs os cs keep entry has name) ∙ sym (definition_of all name)
+  definitions_alike name =
+      definition_of among name ∙ ap definition_by (states_alike own forced part bs os cs keep entry has name)
+      ∙ sym (definition_of all name)
 
   told_agree : (names : List (List ℕ)) → AllByRecursion (AgreesIn all) (map (raise bs) (map (told (mentions own os)) names))
   told_agree [] = tt
@@ -118,10 +135,13 @@ module _ (own forced : List (List ℕ)) (part : IsPart own forced) (bs os cs : L
       by_state : (s : State) → state (mentions own os) n ≡ s → differs (first_definition all n) (raised bs s) ≡ false
       by_state (Wanted size) e = refl
       by_state (Defined segment offset) e =
-          own_again (Defined segment (plus (start bs segment) offset)) (first_definition all n) (stands_inside n segment offset (other_forced [] own os n ∙ e))
+          own_again (Defined segment (plus (start bs segment) offset)) (first_definition all n)
+          (stands_inside n segment offset (other_forced [] own os n ∙ e))
 
   one_agrees : AllByRecursion (AgreesIn all) one
-  one_agrees = subst (λ (ms : List Mention). AllByRecursion (AgreesIn all) ms) (sym (told_after own bs os cs keep entry has)) (told_agree (names_by_first_mention (mentions own os)))
+  one_agrees =
+      subst (λ (ms : List Mention). AllByRecursion (AgreesIn all) ms) (sym (told_after own bs os cs keep entry has))
+      (told_agree (names_by_first_mention (mentions own os)))
 
   -- the multiples are the same, in the same order
   pub multiples_alike : multiple_names among ≡ multiple_names all
@@ -133,11 +153,14 @@ module _ (own forced : List (List ℕ)) (part : IsPart own forced) (bs os cs : L
       ∙ ap (λ (ms : List Mention). map (λ m. m.name) (filter (λ m. differs (first_definition all m.name) m.says) ms)) (sym all_split_up)
     where
       middle : (ms : List Mention) → AllByRecursion (AgreesIn all) ms →
-          filter (λ m. differs (first_definition all m.name) m.says) (fore ++ (ms ++ back)) ≡ filter (λ m. differs (first_definition all m.name) m.says) fore ++ filter (λ m. differs (first_definition all m.name) m.says) back
+          filter (λ m. differs (first_definition all m.name) m.says) (fore ++ (ms ++ back))
+          ≡ filter (λ m. differs (first_definition all m.name) m.says) fore
+          ++ filter (λ m. differs (first_definition all m.name) m.says) back
       middle ms h =
           filter-append (λ m. differs (first_definition all m.name) m.says) fore (ms ++ back)
           ∙ ap (λ (ns : List Mention). filter (λ m. differs (first_definition all m.name) m.says) fore ++ ns)
-          (filter-append (λ m. differs (first_definition all m.name) m.says) ms back ∙ ap (λ (ns : List Mention). ns ++ filter (λ m. differs (first_definition all m.name) m.says) back) (none_kept all ms h))
+          (filter-append (λ m. differs (first_definition all m.name) m.says) ms back
+          ∙ ap (λ (ns : List Mention). ns ++ filter (λ m. differs (first_definition all m.name) m.says) back) (none_kept all ms h))
 
 -- with the multiples, if the objects define none of the names that are multiply defined
 pub stands_among_others : (own forced : List (List ℕ)) (before os after : List Contents) (by o : Choices) (x : Outcome) →
@@ -148,6 +171,8 @@ stands_among_others own forced bs os cs by o x good_bs good_os good_cs p less pa
     let file = partial_options own os by x p in
     let has : HasTable own os by.keep by.entry = has_table own os by.keep by.entry file.1 in
     subst (λ (f : Contents). link forced (bs ++ f ∷ cs) o ≡ link forced (bs ++ (os ++ cs)) o) file.0
-    (link_alike own forced part bs os cs by.keep by.entry has good_bs good_os good_cs (stand_holds own forced part bs os cs by.keep by.entry has (stand own forced part bs os cs by.keep by.entry file.1 single)) o less
-    ∙ ap (λ (names : List (List ℕ)). with_multiples names (link forced (bs ++ (os ++ cs)) o)) (multiples_alike own forced part bs os cs by.keep by.entry file.1 single)
+    (link_alike own forced part bs os cs by.keep by.entry has good_bs good_os good_cs (stand_holds own forced part bs os
+    cs by.keep by.entry has (stand own forced part bs os cs by.keep by.entry file.1 single)) o less
+    ∙ ap (λ (names : List (List ℕ)). with_multiples names (link forced (bs ++ (os ++ cs)) o))
+    (multiples_alike own forced part bs os cs by.keep by.entry file.1 single)
     ∙ own_multiples forced (bs ++ (os ++ cs)) o)

@@ -1,5 +1,6 @@
 -- What a partial link tells: each name of its objects once, with its state.
-use Rattle.std.proofs.Common.{◌≡◌, ◌≢◌, ℕ, max, Bool, true, false, cond, ◌||◌, List, [], ◌∷◌, ◌++◌, map, Option, None, refl, sym, ◌∙◌, ap, arith}
+use Rattle.std.proofs.Common.{◌≡◌, ◌≢◌, ℕ, max, Bool, true, false, cond, ◌||◌, List, [], ◌∷◌, ◌++◌}
+use Rattle.std.proofs.Common.{map, Option, None, refl, sym, ◌∙◌, ap, arith}
 use Rattle.std.specs.Prelude.{bytes_eq, filter}
 use Rattle.std.proofs.lemmas.Slice.Eq.{bytes_eq-Decides}
 use Rattle.aout_core.specs.declared.symbol.Symbol.{Symbol}
@@ -30,7 +31,8 @@ HasTable forced os keep entry =
     let p = partial_plan forced os keep entry in table p os ≡ local_rows p os ++ external_rows p
 
 -- a file is linked with its table, unless nothing is to be kept
-pub has_table : (forced : List (List ℕ)) (os : List Contents) (keep : Keep) (entry : Option (List ℕ)) → keep ≢ Nothing → HasTable forced os keep entry
+pub has_table : (forced : List (List ℕ)) (os : List Contents) (keep : Keep) (entry : Option (List ℕ)) → keep ≢ Nothing →
+    HasTable forced os keep entry
 has_table forced os keep entry h = rows_kept-others keep (let p = partial_plan forced os keep entry in local_rows p os ++ external_rows p) h
 
 -- what a partial link mentions
@@ -41,10 +43,12 @@ told_alone forced os keep entry has =
     (ap (λ (ss : List Symbol). filter is_external ss) has ∙ externals_in_table (partial_plan forced os keep entry) os)
     ∙ from (names_by_first_mention (mentions forced os))
   where
-    from : (ns : List (List ℕ)) → map (mention [] (partial_file forced os keep entry)) (map (external_row (partial_plan forced os keep entry)) ns) ≡ map (told (mentions forced os)) ns
+    from : (ns : List (List ℕ)) → map (mention [] (partial_file forced os keep entry))
+        (map (external_row (partial_plan forced os keep entry)) ns) ≡ map (told (mentions forced os)) ns
     from [] = refl
     from (n ∷ ns) =
-        let head : mention [] (partial_file forced os keep entry) (external_row (partial_plan forced os keep entry) n) ≡ told (mentions forced os) n =
+        let head : mention [] (partial_file forced os keep entry) (external_row (partial_plan forced os keep entry) n)
+        ≡ told (mentions forced os) n =
         ap (λ (s : State). let m : Mention = record { name = n; says = s } in m)
         (row_says forced os keep entry n (state (mentions forced os) n) (state_is_proper forced os n)) in
         let tail = from ns in
@@ -55,9 +59,12 @@ abbrev pub said_once : Bool → State → State
 said_once t s = state_by (cond t (first_of (definition_by s) None) None) (cond t (max (size_wanted_by s) 0) 0)
 
 -- told names: those that are among them have their states, and no other is wanted
-state_told : (ms : List Mention) (ns : List (List ℕ)) (name : List ℕ) → state (map (told ms) ns) name ≡ cond (is_among ns name) (state ms name) (Wanted 0)
+state_told : (ms : List Mention) (ns : List (List ℕ)) (name : List ℕ) →
+    state (map (told ms) ns) name ≡ cond (is_among ns name) (state ms name) (Wanted 0)
 state_told ms [] name = refl
-state_told ms (n ∷ ns) name = state-append (told ms n ∷ []) (map (told ms) ns) name ∙ by_test (bytes_eq name n) refl (is_among ns name) (state_told ms ns name)
+state_told ms (n ∷ ns) name =
+    state-append (told ms n ∷ []) (map (told ms) ns) name
+    ∙ by_test (bytes_eq name n) refl (is_among ns name) (state_told ms ns name)
   where
     again : (s : State) (u : Bool) → updated_state (said_once true s) (cond u s (Wanted 0)) ≡ s
     again (Defined segment offset) u = refl

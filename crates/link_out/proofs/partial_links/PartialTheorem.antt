@@ -22,7 +22,8 @@ use Rattle.link_out.proofs.partial_links.PartialMultiples.{stands_among_others}
 -- the file of a link with relocation, with or without laid commons, is an object
 pub relocatable_is_object : (forced : List (List ℕ)) (os : List Contents) (o : Choices) (x : Outcome) → AllByRecursion IsWellFormed os →
     option_fault o.layout o.relocatable o.keep ≡ None → o.relocatable ≡ true → link forced os o ≡ Ok x → IsWellFormed x.file
-relocatable_is_object forced os o x good allowed r linked = subst (λ (c : Contents). IsWellFormed c) (made_file (plan forced os o) os x linked) (linked_object forced os o allowed r good)
+relocatable_is_object forced os o x good allowed r linked =
+    subst (λ (c : Contents). IsWellFormed c) (made_file (plan forced os o) os x linked) (linked_object forced os o allowed r good)
 
 -- it may be added to a session
 pub may_be_added : (forced : List (List ℕ)) (os : List Contents) (o : Choices) (x : Outcome) → AllByRecursion IsObject os →
@@ -33,12 +34,14 @@ may_be_added forced os o x good allowed r linked = record {
 }
 
 -- alone: the same file or the same refusal, and reports that differ at most in the multiples
-pub partial_stands_alone : (forced : List (List ℕ)) (os : List Contents) (by o : Choices) (x : Outcome) → AllByRecursion IsWellFormed os → IsPartialLink forced os by x → KeepsNoMore o.keep by.keep →
+pub partial_stands_alone : (forced : List (List ℕ)) (os : List Contents) (by o : Choices) (x : Outcome) →
+    AllByRecursion IsWellFormed os → IsPartialLink forced os by x → KeepsNoMore o.keep by.keep →
     without_multiples (link forced (x.file ∷ []) o) ≡ without_multiples (link forced os o)
 partial_stands_alone forced os by o x good p less = stands_always forced forced os by o x good p less (λ name e. e)
 
 -- among others, where no name is multiply defined: the same file and report, or the same refusal
-pub partial_stands_among : (forced : List (List ℕ)) (bs os cs : List Contents) (by o : Choices) (x : Outcome) → AllByRecursion IsWellFormed bs → AllByRecursion IsWellFormed os → AllByRecursion IsWellFormed cs →
+pub partial_stands_among : (forced : List (List ℕ)) (bs os cs : List Contents) (by o : Choices) (x : Outcome) →
+    AllByRecursion IsWellFormed bs → AllByRecursion IsWellFormed os → AllByRecursion IsWellFormed cs →
     IsPartialLink forced os by x → KeepsNoMore o.keep by.keep → multiple_names (mentions forced (bs ++ (os ++ cs))) ≡ [] →
     link forced (bs ++ x.file ∷ cs) o ≡ link forced (bs ++ (os ++ cs)) o
 partial_stands_among forced bs os cs by o x good_bs good_os good_cs p less single =

@@ -1,5 +1,6 @@
 -- Two lists of objects with the same names, states, sizes, cells and kept locals have the same link, but for the multiples.
-use Rattle.std.proofs.Common.{◌≡◌, ℕ, Bool, cond, not, ◌&&◌, eqb, List, ◌++◌, map, length, Option, Some, None, refl, sym, ◌∙◌, ap, take, true, false, [], ◌+◌, ◌*◌, ◌||◌}
+use Rattle.std.proofs.Common.{◌≡◌, ℕ, Bool, cond, not, ◌&&◌, eqb, List, ◌++◌, map, length, Option, Some, None}
+use Rattle.std.proofs.Common.{refl, sym, ◌∙◌, ap, take, true, false, [], ◌+◌, ◌*◌, ◌||◌}
 use Rattle.std.specs.Prelude.{filter, Ok, Err, nat_lt, Result, sum_by}
 use Rattle.std.specs.List.{list_any, AllByRecursion}
 use Rattle.aout_core.specs.declared.symbol.Symbol.{Symbol}
@@ -23,8 +24,10 @@ use Rattle.link_out.specs.Layouts.{Bases, bases, magic_of}
 use Rattle.link_out.specs.function.Plans.{Plan, plan, commons_laid, common_size, room_of, commons_total, common_offset}
 use Rattle.link_out.specs.function.Finals.{Final, final, type_of, final_by, waiting, reserved_or_waiting, bound_at}
 use Rattle.link_out.specs.function.Words.{final_words}
-use Rattle.link_out.specs.function.Tables.{rows_kept, local_rows, external_rows, table, final_relocs, has_far_in, has_far_word, external_row}
-use Rattle.link_out.specs.function.Reports.{report_of, is_in_text, entry_word, entry_found_bad, is_undefined, reserved_taken, undefined_names, reserved_names}
+use Rattle.link_out.specs.function.Tables.{rows_kept, local_rows, external_rows, table, final_relocs}
+use Rattle.link_out.specs.function.Tables.{has_far_in, has_far_word, external_row}
+use Rattle.link_out.specs.function.Reports.{report_of, is_in_text, entry_word, entry_found_bad, is_undefined}
+use Rattle.link_out.specs.function.Reports.{reserved_taken, undefined_names, reserved_names}
 use Rattle.link_out.specs.function.Link.{Outcome, linked_file, link_by, link}
 use Rattle.link_out.specs.internal.FromCells.{finals, word_of_cell, reloc_of_cell, is_far}
 use Rattle.link_out.proofs.CellWordLemmas.{final_words-cells}
@@ -32,7 +35,8 @@ use Rattle.link_out.proofs.CellRelocLemmas.{final_relocs-cells, has_far_in-cells
 use Rattle.link_session.proofs.NeighbourLemmas.{AreAsLong}
 
 -- two plans with the same options and bases, whose mentions give the same names and states
-module _ (o : Choices) (b : Bases) (ms ns : List Mention) (names : names_by_first_mention ms ≡ names_by_first_mention ns) (states_alike : (n : List ℕ) → states.state ms n ≡ states.state ns n) where
+module _ (o : Choices) (b : Bases) (ms ns : List Mention) (names : names_by_first_mention ms ≡ names_by_first_mention ns)
+    (states_alike : (n : List ℕ) → states.state ms n ≡ states.state ns n) where
   abbrev first : Plan
   first = record { choices = o; mentions = ms; at = b }
 
@@ -46,7 +50,9 @@ module _ (o : Choices) (b : Bases) (ms ns : List Mention) (names : names_by_firs
   same_total = same_room (names_by_first_mention ms) ∙ ap (λ (xs : List (List ℕ)). room_of ns xs) names
 
   same_offset : (name : List ℕ) → common_offset ms name ≡ common_offset ns name
-  same_offset name = same_room (take (place_of name (names_by_first_mention ms)) (names_by_first_mention ms)) ∙ ap (λ (xs : List (List ℕ)). room_of ns (take (place_of name xs) xs)) names
+  same_offset name =
+      same_room (take (place_of name (names_by_first_mention ms)) (names_by_first_mention ms))
+      ∙ ap (λ (xs : List (List ℕ)). room_of ns (take (place_of name xs) xs)) names
 
   same_final : (name : List ℕ) → final first name ≡ final second name
   same_final name = ap (λ (s : State). final_by first name s) (states_alike name) ∙ by_state (states.state ns name)
@@ -56,14 +62,20 @@ module _ (o : Choices) (b : Bases) (ms ns : List Mention) (names : names_by_firs
       by_state (Wanted size) = by_tests (eqb size 0) (lays_commons o)
         where
           by_tests : (t c : Bool) →
-              cond t (cond o.relocatable (waiting 0) (reserved_or_waiting b name)) (cond c (bound_at BssSeg (plus b.data_end (common_offset ms name))) (waiting size))
-              ≡ cond t (cond o.relocatable (waiting 0) (reserved_or_waiting b name)) (cond c (bound_at BssSeg (plus b.data_end (common_offset ns name))) (waiting size))
+              cond t (cond o.relocatable (waiting 0) (reserved_or_waiting b name))
+              (cond c (bound_at BssSeg (plus b.data_end (common_offset ms name))) (waiting size))
+              ≡ cond t (cond o.relocatable (waiting 0) (reserved_or_waiting b name))
+              (cond c (bound_at BssSeg (plus b.data_end (common_offset ns name))) (waiting size))
           by_tests true c = refl
           by_tests false true = ap (λ (k : ℕ). bound_at BssSeg (plus b.data_end k)) (same_offset name)
           by_tests false false = refl
 
   same_external_rows : external_rows first ≡ external_rows second
-  same_external_rows = ap (λ (f : List ℕ → Final). map (λ n. let s : Symbol = record { name = n; type_bits = type_of (f n).bound; value = (f n).written } in s) (names_by_first_mention ms)) (λ i n. same_final n i)
+  same_external_rows = ap (λ (f : List ℕ → Final). map (λ n. let s : Symbol = record {
+    name = n;
+    type_bits = type_of (f n).bound;
+    value = (f n).written;
+  } in s) (names_by_first_mention ms)) (λ i n. same_final n i)
       ∙ ap (λ (xs : List (List ℕ)). map (external_row second) xs) names
 
 -- the same answer, but for the multiples in its report
@@ -75,17 +87,20 @@ with_multiples names (Ok x) = Ok (record x { report = record x.report { multiple
 abbrev answer : Bool → Bool → Bool → Outcome → Result Outcome LinkFault
 answer t u v x = cond t (Err DoesNotFit) (cond u (Err TooManySymbols) (cond v (Err SymbolNumber) (Ok x)))
 
-answer_with : (names : List (List ℕ)) (t u v : Bool) (x : Outcome) → answer t u v (record x { report = record x.report { multiples = names } }) ≡ with_multiples names (answer t u v x)
+answer_with : (names : List (List ℕ)) (t u v : Bool) (x : Outcome) →
+    answer t u v (record x { report = record x.report { multiples = names } }) ≡ with_multiples names (answer t u v x)
 answer_with names true u v x = refl
 answer_with names false true v x = refl
 answer_with names false false true x = refl
 answer_with names false false false x = refl
 
 -- with its own multiples a link is what it is
-pub own_multiples : (forced : List (List ℕ)) (os : List Contents) (o : Choices) → with_multiples (states.multiple_names (mentions forced os)) (link forced os o) ≡ link forced os o
+pub own_multiples : (forced : List (List ℕ)) (os : List Contents) (o : Choices) →
+    with_multiples (states.multiple_names (mentions forced os)) (link forced os o) ≡ link forced os o
 own_multiples forced os o =
     let p = plan forced os o in
-    sym (answer_with (states.multiple_names p.mentions) (nat_lt 65535 p.at.bss_end) (nat_lt 5461 (length (table p os))) (o.relocatable && has_far_word p os) (record { file = linked_file p os; report = report_of p }))
+    sym (answer_with (states.multiple_names p.mentions) (nat_lt 65535 p.at.bss_end) (nat_lt 5461 (length (table p os)))
+    (o.relocatable && has_far_word p os) (record { file = linked_file p os; report = report_of p }))
 
 -- the objects of two links
 pub record AreAlike (forced : List (List ℕ)) (xs ys : List Contents) : Type 0 where
@@ -97,7 +112,9 @@ pub record AreAlike (forced : List (List ℕ)) (xs ys : List Contents) : Type 0 
   pub good_xs : AllByRecursion IsWellFormed xs
   pub good_ys : AllByRecursion IsWellFormed ys
 
-module _ (forced : List (List ℕ)) (xs ys : List Contents) (alike : AreAlike forced xs ys) (o : Choices) (locals : (ms ns : List Mention) (at : Bases) → local_rows (record { choices = o; mentions = ms; at = at }) xs ≡ local_rows (record { choices = o; mentions = ns; at = at }) ys) where
+module _ (forced : List (List ℕ)) (xs ys : List Contents) (alike : AreAlike forced xs ys) (o : Choices)
+    (locals : (ms ns : List Mention) (at : Bases) → local_rows (record { choices = o; mentions = ms; at = at }) xs
+    ≡ local_rows (record { choices = o; mentions = ns; at = at }) ys) where
   abbrev ms : List Mention
   ms = mentions forced xs
 
@@ -122,10 +139,13 @@ module _ (forced : List (List ℕ)) (xs ys : List Contents) (alike : AreAlike fo
   tables : table one xs ≡ table all ys
   tables =
       ap (λ (rows : List Symbol). rows_kept o.keep (rows ++ external_rows one)) same_locals
-      ∙ ap (λ (rows : List Symbol). rows_kept o.keep (local_rows all ys ++ rows)) (same_external_rows o b ms ns alike.names alike.states_alike)
+      ∙ ap (λ (rows : List Symbol). rows_kept o.keep (local_rows all ys ++ rows))
+      (same_external_rows o b ms ns alike.names alike.states_alike)
 
   lists : finals one ≡ finals all
-  lists = ap (λ (f : List ℕ → Final). map f (names_by_first_mention ms)) (λ i n. finals_alike n i) ∙ ap (λ (xs : List (List ℕ)). map (final all) xs) alike.names
+  lists =
+      ap (λ (f : List ℕ → Final). map f (names_by_first_mention ms)) (λ i n. finals_alike n i)
+      ∙ ap (λ (xs : List (List ℕ)). map (final all) xs) alike.names
 
   words : (segment : Segment) → cells ms segment xs ≡ cells ns segment ys → final_words one segment xs ≡ final_words all segment ys
   words segment same = sym (final_words-cells one segment xs (objects_refer forced segment xs alike.good_xs))
@@ -148,7 +168,9 @@ module _ (forced : List (List ℕ)) (xs ys : List Contents) (alike : AreAlike fo
 
   entries : (e : Option (List ℕ)) → entry_word one e ≡ entry_word all e
   entries None = refl
-  entries (Some name) = ap (λ (t : Bool). cond t (final one name).address 0) (in_text name) ∙ ap (λ (f : Final). cond (is_in_text all name) f.address 0) (finals_alike name)
+  entries (Some name) =
+      ap (λ (t : Bool). cond t (final one name).address 0) (in_text name)
+      ∙ ap (λ (f : Final). cond (is_in_text all name) f.address 0) (finals_alike name)
 
   bad_entries : (e : Option (List ℕ)) → entry_found_bad one e ≡ entry_found_bad all e
   bad_entries None = refl
@@ -158,7 +180,9 @@ module _ (forced : List (List ℕ)) (xs ys : List Contents) (alike : AreAlike fo
   taken = ap (λ (f : List ℕ → State). filter (λ n. not (is_undefined (f n))) reserved_names) (λ i n. alike.states_alike n i)
 
   undefined : undefined_names ms ≡ undefined_names ns
-  undefined = ap (λ (f : List ℕ → State). filter (λ n. is_undefined (f n) && not (is_among reserved_names n)) (names_by_first_mention ms)) (λ i n. alike.states_alike n i)
+  undefined =
+      ap (λ (f : List ℕ → State). filter (λ n. is_undefined (f n) && not (is_among reserved_names n)) (names_by_first_mention ms))
+      (λ i n. alike.states_alike n i)
       ∙ ap (λ (xs : List (List ℕ)). filter (λ n. is_undefined (states.state ns n) && not (is_among reserved_names n)) xs) alike.names
 
   reports : report_of one ≡ record (report_of all) { multiples = states.multiple_names ms }
@@ -193,5 +217,7 @@ module _ (forced : List (List ℕ)) (xs ys : List Contents) (alike : AreAlike fo
   pub same_link : link forced xs o ≡ with_multiples (states.multiple_names ms) (link forced ys o)
   same_link =
       ap (λ (at : Bases). link_by (record { choices = o; mentions = ms; at = at }) xs) same_bases
-      ∙ (λ i. answer (nat_lt 65535 b.bss_end) (nat_lt 5461 (length (tables i))) (o.relocatable && (fars TextSeg alike.text i || fars DataSeg alike.data i)) (record { file = files i; report = reports i }))
-      ∙ answer_with (states.multiple_names ms) (nat_lt 65535 b.bss_end) (nat_lt 5461 (length (table all ys))) (o.relocatable && has_far_word all ys) (record { file = linked_file all ys; report = report_of all })
+      ∙ (λ i. answer (nat_lt 65535 b.bss_end) (nat_lt 5461 (length (tables i))) (o.relocatable
+      && (fars TextSeg alike.text i || fars DataSeg alike.data i)) (record { file = files i; report = reports i }))
+      ∙ answer_with (states.multiple_names ms) (nat_lt 65535 b.bss_end) (nat_lt 5461 (length (table all ys)))
+      (o.relocatable && has_far_word all ys) (record { file = linked_file all ys; report = report_of all })

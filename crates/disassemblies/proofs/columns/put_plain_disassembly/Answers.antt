@@ -12,13 +12,16 @@ pub loop-rest-preserved : goal.loop-rest-preserved
 loop-rest-preserved c =
     let rest = c.loop-rest.rest.now in
     let some : 0 < length rest = search rules in
-    let shorter : length (take (length rest - c.length-count.result) (drop c.length-count.result rest)) ≤ length c.args.words.now = search rules in (
+    let shorter : length (take (length rest - c.length-count.result) (drop c.length-count.result rest))
+    ≤ length c.args.words.now = search rules in (
       λ whole.
           let put = c.put_plain_row.ensures whole in
           let so_far = c.loop-rest.invariant.0 put.0 in (
             so_far.0,
-            plain_more (c.args.text.now.bytes ++ plain_disassembly c.args.address c.args.words.now) c.loop-rest.text.bytes c.put_plain_row.new.text.bytes rest
-                c.loop-rest.next c.length-count.result c.decode-line.result some c.decode-line.ensures.line c.length-count.ensures put.1 so_far.1,
+            plain_more (c.args.text.now.bytes ++ plain_disassembly c.args.address c.args.words.now)
+                c.loop-rest.text.bytes c.put_plain_row.new.text.bytes rest
+                c.loop-rest.next c.length-count.result c.decode-line.result some c.decode-line.ensures.line
+                c.length-count.ensures put.1 so_far.1,
           ),
       shorter,
       λ none. absurd (omega (arith, some, c.loop-rest.invariant.1, ap length none)),

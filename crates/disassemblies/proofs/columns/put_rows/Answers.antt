@@ -19,9 +19,12 @@ loop-place-preserved c =
           let put = c.put_labelled_row.ensures whole in
           let so_far = c.loop-place.invariant.0 put.0 in (
             so_far.0,
-            line_more c.args.decoder file (λ place n. labelled_row c.args.decoder file place n) (labels file.symbols (2 * length file.text_words) 0) (c.args.text.now.bytes ++ disassembly c.args.decoder file) c.loop-place.text.bytes c.put_labelled_row.new.text.bytes
+            line_more c.args.decoder file (λ place n. labelled_row c.args.decoder file place n)
+                (labels file.symbols (2 * length file.text_words) 0) (c.args.text.now.bytes ++ disassembly c.args.decoder file)
+                c.loop-place.text.bytes c.put_labelled_row.new.text.bytes
                 c.loop-place.place c.length-count.result inside count
-                (put.1 ∙ ap (λ (f : Contents). c.loop-place.text.bytes ++ labelled_row c.args.decoder f c.loop-place.place c.length-count.result) c.requires)
+                (put.1 ∙ ap (λ (f : Contents). c.loop-place.text.bytes
+                ++ labelled_row c.args.decoder f c.loop-place.place c.length-count.result) c.requires)
                 so_far.1,
           ),
       fits,
@@ -37,6 +40,8 @@ returns c =
     let put = c.put_end_labels.ensures whole in
     let so_far = c.loop-place.invariant.0 put.0 in (
       so_far.0,
-      end_more c.args.decoder file (λ place n. labelled_row c.args.decoder file place n) end_labels (c.args.text.now.bytes ++ disassembly c.args.decoder file) c.loop-place.text.bytes c.put_end_labels.new.text.bytes
-          c.loop-place.place end (put.1 ∙ ap (λ (f : Contents). c.loop-place.text.bytes ++ labels f.symbols (2 * length f.text_words) 0) c.requires) so_far.1,
+      end_more c.args.decoder file (λ place n. labelled_row c.args.decoder file place n) end_labels
+          (c.args.text.now.bytes ++ disassembly c.args.decoder file) c.loop-place.text.bytes c.put_end_labels.new.text.bytes
+          c.loop-place.place end (put.1
+          ∙ ap (λ (f : Contents). c.loop-place.text.bytes ++ labels f.symbols (2 * length f.text_words) 0) c.requires) so_far.1,
     )

@@ -8,7 +8,8 @@ use Rattle.disassemblies.proofs.columns.put_rows.Given as goal
 abbrev pub invariant-loop-place : goal.invariant-loop-place
 invariant-loop-place l =
     (l.text.is_cut ≡ false → (l.initial.text.is_cut ≡ false)
-    × (l.text.bytes ++ lines_from l.decoder l.file (λ place n. labelled_row l.decoder l.file place n) (labels l.file.symbols (2 * length l.file.text_words) 0) (length l.file.text_words - l.place) l.place
+    × (l.text.bytes ++ lines_from l.decoder l.file (λ place n. labelled_row l.decoder l.file place n)
+    (labels l.file.symbols (2 * length l.file.text_words) 0) (length l.file.text_words - l.place) l.place
     ≡ l.initial.text.bytes ++ disassembly l.decoder l.file))
     × (l.place ≤ length l.file.text_words)
     × (l.end ≡ length l.file.text_words)

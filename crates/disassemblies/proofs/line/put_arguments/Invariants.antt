@@ -6,5 +6,6 @@ use Rattle.disassemblies.proofs.line.put_arguments.Given as goal
 abbrev pub invariant-loop-argument : goal.invariant-loop-argument
 invariant-loop-argument l =
     (l.text.is_cut ≡ false → (l.initial.text.is_cut ≡ false)
-    × (l.text.bytes ++ arguments_text l.file l.at (drop l.argument-index l.arguments) ≡ l.initial.text.bytes ++ arguments_text l.file l.place l.arguments))
+    × (l.text.bytes ++ arguments_text l.file l.at (drop l.argument-index l.arguments)
+    ≡ l.initial.text.bytes ++ arguments_text l.file l.place l.arguments))
     × (l.at ≡ l.place + l.argument-index)

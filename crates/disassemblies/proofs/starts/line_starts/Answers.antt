@@ -14,7 +14,8 @@ loop-place-preserved c =
     c.length-count.ensures ∙ ap unix_length c.unix_line_in.ensures.line in
     let inside : c.loop-place.place < length file.text_words = search rules in
     let fits : c.loop-place.place + c.length-count.result ≤ length file.text_words = search rules in (
-      line_more d file (λ place n. start n) [] (starts d file) c.loop-place.starts.items c.put_start.new.starts.items c.loop-place.place c.length-count.result
+      line_more d file (λ place n. start n) [] (starts d file) c.loop-place.starts.items c.put_start.new.starts.items
+          c.loop-place.place c.length-count.result
           inside count c.in_ok-put_start.ensures c.loop-place.invariant.0,
       fits,
       c.loop-place.invariant.2,
@@ -24,4 +25,5 @@ pub returns : goal.returns
 returns c =
     let file = c.args.file.now in
     let end : c.loop-place.place ≡ length file.text_words = omega (arith, c.loop-place.invariant.1, c.loop-place.invariant.2) in
-    end_more c.args.decoder file (λ place n. start n) [] (starts c.args.decoder file) c.loop-place.starts.items c.loop-place.starts.items c.loop-place.place end (sym (append-nil c.loop-place.starts.items)) c.loop-place.invariant.0
+    end_more c.args.decoder file (λ place n. start n) [] (starts c.args.decoder file) c.loop-place.starts.items
+    c.loop-place.starts.items c.loop-place.place end (sym (append-nil c.loop-place.starts.items)) c.loop-place.invariant.0

@@ -12,4 +12,5 @@ returns-clause-ok c =
     let e : Equals = record { name = c.extend_from_slice.new.self; number = c.args.number; other = c.found.result } in
     puts_name name c.args.number e c.args.names.now c.insert.new.self copied refl c.found.ensures
     (λ (k : List ℕ). c.in_ok-insert.ensures.updates.0 k
-    ∙ ap (λ (key : List ℕ). cond (pointwise nat_eq key k) (Some e) (get (pointwise nat_eq) c.args.names.now k)) (c.from_bytes.ensures ∙ ap (take 8) c.requires))
+    ∙ ap (λ (key : List ℕ). cond (pointwise nat_eq key k) (Some e) (get (pointwise nat_eq) c.args.names.now k))
+    (c.from_bytes.ensures ∙ ap (take 8) c.requires))

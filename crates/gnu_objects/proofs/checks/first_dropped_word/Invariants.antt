@@ -4,4 +4,5 @@ use Rattle.gnu_objects.proofs.checks.first_dropped_word.Given as goal
 
 -- the words so far refer to symbols that stay
 abbrev pub invariant-loop-n : goal.invariant-loop-n
-invariant-loop-n l = first_dropped_word l.strings l.symbols l.flags 0 l.words ≡ first_dropped_word l.strings l.symbols l.flags l.n (drop l.n l.words)
+invariant-loop-n l =
+    first_dropped_word l.strings l.symbols l.flags 0 l.words ≡ first_dropped_word l.strings l.symbols l.flags l.n (drop l.n l.words)

@@ -9,4 +9,5 @@ use Rattle.gnu_objects.proofs.clash.first_clash_of.Given as goal
 abbrev pub invariant-loop-n : goal.invariant-loop-n
 invariant-loop-n l =
     clashes_with l.file l.other.strings.now l.other.symbols.now
-    ≡ first_clash_from (strings_of l.file (header_in (take 16 l.file))) l.other.strings.now l.other.symbols.now l.n (drop l.n (symbols_of l.file (header_in (take 16 l.file))))
+    ≡ first_clash_from (strings_of l.file (header_in (take 16 l.file))) l.other.strings.now l.other.symbols.now l.n
+    (drop l.n (symbols_of l.file (header_in (take 16 l.file))))

@@ -11,5 +11,6 @@ returns-then-not-may_clash c =
 pub returns : goal.returns
 returns c =
     c.clash_among.ensures
-    ∙ (λ i. clash_among_files 0 c.args.files.now ((c.in_ok-other.ensures.strings ∙ c.strings.ensures) i) ((c.in_ok-other.ensures.symbols ∙ c.symbols.ensures.value) i))
+    ∙ (λ i. clash_among_files 0 c.args.files.now ((c.in_ok-other.ensures.strings ∙ c.strings.ensures) i)
+    ((c.in_ok-other.ensures.symbols ∙ c.symbols.ensures.value) i))
     ∙ same_clash 0 c.args.files.now c.args.file.now

@@ -9,4 +9,5 @@ returns-clause-value c = calls_found c.args.word c.call_in.result c.call_in.ensu
 
 pub returns-clause-small : goal.returns-clause-small
 returns-clause-small c =
-    subst (λ (o : Option CallRow). IfSome o (λ r. r.words ≤ 4)) (sym (calls_found c.args.word c.call_in.result c.call_in.ensures)) (call_small c.args.word)
+    subst (λ (o : Option CallRow). IfSome o (λ r. r.words ≤ 4))
+    (sym (calls_found c.args.word c.call_in.result c.call_in.ensures)) (call_small c.args.word)

@@ -8,6 +8,9 @@ pub loop-entry-preserved : goal.loop-entry-preserved
 loop-entry-preserved c = record {
   members = grind (arith, common_steps);
   uses =
-      uses_more c.args.entries.now c.loop-entry.entry-index (length c.loop-entry.members.items) (length c.put_entry.new.members.items) c.entry-item.result c.loop-entry.uses.items c.put_entry.new.uses.items _
-      c.loop-entry-test.true c.entry-item.is (one_longer c.loop-entry.members.items c.put_entry.new.members.items (member_of c.entry-item.result) c.in_ok-put_entry.ensures.members) c.in_ok-put_entry.ensures.uses c.loop-entry.invariant.uses;
+      uses_more c.args.entries.now c.loop-entry.entry-index (length c.loop-entry.members.items)
+      (length c.put_entry.new.members.items) c.entry-item.result c.loop-entry.uses.items c.put_entry.new.uses.items _
+      c.loop-entry-test.true c.entry-item.is (one_longer c.loop-entry.members.items c.put_entry.new.members.items
+      (member_of c.entry-item.result) c.in_ok-put_entry.ensures.members) c.in_ok-put_entry.ensures.uses
+      c.loop-entry.invariant.uses;
 }

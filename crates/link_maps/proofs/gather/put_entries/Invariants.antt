@@ -8,5 +8,6 @@ use Rattle.link_maps.proofs.gather.put_entries.Given as goal
 abbrev pub invariant-loop-entry : goal.invariant-loop-entry
 invariant-loop-entry l = record {
   members : l.members.items ++ map member_of (drop l.entry-index l.entries) ≡ l.initial.members.items ++ map member_of l.entries;
-  uses : l.uses.items ++ uses_from (length l.members.items) (objects (drop l.entry-index l.entries)) ≡ l.initial.uses.items ++ uses_from (length l.initial.members.items) (objects l.entries);
+  uses : l.uses.items ++ uses_from (length l.members.items) (objects (drop l.entry-index l.entries))
+      ≡ l.initial.uses.items ++ uses_from (length l.initial.members.items) (objects l.entries);
 }

@@ -8,5 +8,6 @@ use Rattle.link_maps.proofs.gather.put_left.Given as goal
 abbrev pub invariant-loop-one : goal.invariant-loop-one
 invariant-loop-one l = record {
   members : l.members.items ++ map member_of (drop l.one-index l.left) ≡ l.initial.members.items ++ map member_of l.left;
-  uses : l.uses.items ++ uses_from (length l.members.items) (objects (drop l.one-index l.left)) ≡ l.initial.uses.items ++ uses_from (length l.initial.members.items) (objects l.left);
+  uses : l.uses.items ++ uses_from (length l.members.items) (objects (drop l.one-index l.left))
+      ≡ l.initial.uses.items ++ uses_from (length l.initial.members.items) (objects l.left);
 }

@@ -8,5 +8,6 @@ pub returns : goal.returns
 returns c =
     c.label_at.ensures
     ∙ first_at c.args.address c.args.labels.now c.partition_point-place.result
-    (IsPartitionPoint-from_clause (λ (s : Symbol). nat_lt c.args.address s.value) c.args.labels.now c.partition_point-place.result c.partition_point-place.ensures.partitioned
+    (IsPartitionPoint-from_clause (λ (s : Symbol). nat_lt c.args.address s.value) c.args.labels.now
+    c.partition_point-place.result c.partition_point-place.ensures.partitioned
     (fall_apart c.args.address c.args.labels.now c.requires) (λ a r f called. search (rules, of_calls)))

@@ -16,7 +16,8 @@ loop-first-preserved c =
     let named : c.name_record.result ≡ record_of known front =
     c.name_record.ensures
     ∙ ap (record_with known front) (ap name_of c.first-in-Some.view_is
-    ∙ name_of_front rest front c.uses_of_name.result c.in-Some.first.now c.uses_of_name.ensures.some c.split_at.ensures.front c.in-Some.ensures.value) in
+    ∙ name_of_front rest front c.uses_of_name.result c.in-Some.first.now c.uses_of_name.ensures.some
+    c.split_at.ensures.front c.in-Some.ensures.value) in
     ap (λ (l : List NameRecord). l ++ map (record_of known) (by_name back))
     (c.in_ok-push.ensures.items ∙ ap (λ (r : NameRecord). c.loop-first.records.items ++ r ∷ []) named)
     ∙ names_cut rest front back c.uses_of_name.result some c.uses_of_name.ensures.value c.split_at.ensures.front c.split_at.ensures.back

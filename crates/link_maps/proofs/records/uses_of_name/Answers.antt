@@ -10,7 +10,8 @@ returns-clause-value c =
       | then-loop-last-test+else-is_same_name w ↦
           let inside : c.loop-last.last + 1 < length c.args.uses.now = search rules in
           let other : is_same_name w.index-uses-last.result w.index-uses-last-in-loop-last.result ≡ false = search rules in
-          last_of_name c.args.uses.now c.loop-last.last c.loop-last.invariant.1 w.index-uses-last.result w.index-uses-last-in-loop-last.result inside
+          last_of_name c.args.uses.now c.loop-last.last c.loop-last.invariant.1 w.index-uses-last.result
+          w.index-uses-last-in-loop-last.result inside
           w.index-uses-last.is w.index-uses-last-in-loop-last.is other
       | else-loop-last-test w ↦
           let end : length c.args.uses.now ≤ c.loop-last.last + 1 = search rules in

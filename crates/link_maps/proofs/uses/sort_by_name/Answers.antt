@@ -11,4 +11,5 @@ pub returns : goal.returns
 returns c =
     let keys = answers_always _ _ _ (λ f a r next called. search rules) in
     let stable = c.sort_by_key.ensures.stable name_of keys in
-    on_ok_weaker c.sort_by_key.result (λ sorted. in_order-from_sort is_before (ranks_by nat_list_cmp_total name_of) _ _ (sorted name_of keys) stable) c.sort_by_key.ensures.sorted
+    on_ok_weaker c.sort_by_key.result (λ sorted. in_order-from_sort is_before (ranks_by nat_list_cmp_total name_of) _ _
+    (sorted name_of keys) stable) c.sort_by_key.ensures.sorted

@@ -12,7 +12,8 @@ returns-clause-rows c =
     let o = c.args.options.now in
     let names = (image_of s).externals in
     let finals : c.deref.result.now ≡ from_cells.finals (plan_of s o) =
-    c.deref.ensures.value ∙ c.in_ok-finals.ensures ∙ (λ i. from_cells.finals (plan_of (c.of-plan.ensures.session i) (c.of-plan.ensures.options i))) in
+    c.deref.ensures.value ∙ c.in_ok-finals.ensures
+    ∙ (λ i. from_cells.finals (plan_of (c.of-plan.ensures.session i) (c.of-plan.ensures.options i))) in
     c.in_ok-put_externals.ensures
     ∙ (λ i. c.new-rows.ensures.items i ++ rows_with names (finals i))
     ∙ rows_planned (plan_of s o)

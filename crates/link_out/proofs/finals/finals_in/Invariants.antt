@@ -5,6 +5,7 @@ use Rattle.link_out.proofs.finals.finals_in.Given as goal
 -- what becomes of the names so far, and of those that are left
 abbrev pub invariant-loop-name : goal.invariant-loop-name
 invariant-loop-name l = record {
-  finals : finals_from l.options l.bases 0 l.initial.name-iterator ≡ l.finals.items ++ finals_from l.options l.bases l.offset l.name-iterator;
+  finals : finals_from l.options l.bases 0 l.initial.name-iterator
+      ≡ l.finals.items ++ finals_from l.options l.bases l.offset l.name-iterator;
   small : l.offset + length l.name-iterator * 65536 ≤ 65535 * 65536;
 }

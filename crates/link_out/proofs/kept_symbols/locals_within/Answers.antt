@@ -16,11 +16,13 @@ returns-clause-many c =
     let p = plan_in c.args.plan.now in
     let others : c.keep-keep.result ≡ keeps.Nothing → ⊥ = search rules in
     let h = c.count_locals.ensures.many in
-    many_rows p (objects_in c.args.plan.now) c.keep-keep.result c.external_count.result c.count_locals.result (sym c.keep-keep.ensures.value) others
+    many_rows p (objects_in c.args.plan.now) c.keep-keep.result c.external_count.result c.count_locals.result
+    (sym c.keep-keep.ensures.value) others
     (c.external_count.ensures ∙ length-map (names_by_first_mention p.mentions) _)
     (rw c.entries.ensures.value at h)
 
 pub returns-clause-count : goal.returns-clause-count
 returns-clause-count c =
     let h = c.count_locals.ensures.count in
-    locals_counted (plan_in c.args.plan.now) (objects_in c.args.plan.now) c.keep-keep.result c.count_locals.result (sym c.keep-keep.ensures.value) (rw c.entries.ensures.value at h)
+    locals_counted (plan_in c.args.plan.now) (objects_in c.args.plan.now) c.keep-keep.result c.count_locals.result
+    (sym c.keep-keep.ensures.value) (rw c.entries.ensures.value at h)

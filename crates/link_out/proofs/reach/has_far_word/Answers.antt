@@ -8,7 +8,8 @@ pub returns-then-in_text : goal.returns-then-in_text
 returns-then-in_text c =
     let p = c.args.plan.now in
     let far : (c.is_any_out-in_text.result || c.is_any_out-in_data.result) ≡ has_far_word (plan_in p) (objects_in p) =
-    far_word p.session.now.forced (objects_in p) p.options.now c.args.locals c.text_cells.result.now c.data_cells.result.now c.lays_commons-commons.result c.is_any_out-in_text.result c.is_any_out-in_data.result
+    far_word p.session.now.forced (objects_in p) p.options.now c.args.locals c.text_cells.result.now
+    c.data_cells.result.now c.lays_commons-commons.result c.is_any_out-in_text.result c.is_any_out-in_data.result
     c.requires.relocatable c.requires.locals p.good c.lays_commons-commons.ensures c.text_cells.ensures.value c.data_cells.ensures.value
     c.is_any_out-in_text.ensures c.is_any_out-in_data.ensures in
     c.if-in_text.true ∙ ap (λ (x : Bool). x || c.is_any_out-in_data.result) (sym c.if-in_text.true) ∙ far
@@ -17,7 +18,8 @@ pub returns-else-in_text : goal.returns-else-in_text
 returns-else-in_text c =
     let p = c.args.plan.now in
     let far : (c.is_any_out-in_text.result || c.is_any_out-in_data.result) ≡ has_far_word (plan_in p) (objects_in p) =
-    far_word p.session.now.forced (objects_in p) p.options.now c.args.locals c.text_cells.result.now c.data_cells.result.now c.lays_commons-commons.result c.is_any_out-in_text.result c.is_any_out-in_data.result
+    far_word p.session.now.forced (objects_in p) p.options.now c.args.locals c.text_cells.result.now
+    c.data_cells.result.now c.lays_commons-commons.result c.is_any_out-in_text.result c.is_any_out-in_data.result
     c.requires.relocatable c.requires.locals p.good c.lays_commons-commons.ensures c.text_cells.ensures.value c.data_cells.ensures.value
     c.is_any_out-in_text.ensures c.is_any_out-in_data.ensures in
     ap (λ (x : Bool). x || c.is_any_out-in_data.result) (sym c.if-in_text.false) ∙ far

@@ -19,7 +19,9 @@ returns c =
     let names = c.args.finals.now in
     record {
       text = c.in_ok-kept_relocs.ensures
-          ∙ relocs_planned p TextSeg names c.args.locals c.text_cells-text.result.now c.requires.passed c.requires.finals c.text_cells-text.ensures.value;
+          ∙ relocs_planned p TextSeg names c.args.locals c.text_cells-text.result.now c.requires.passed
+          c.requires.finals c.text_cells-text.ensures.value;
       «data» = c.in_ok-kept_relocs-2.ensures
-          ∙ relocs_planned p DataSeg names c.args.locals c.data_cells-data.result.now c.requires.passed c.requires.finals c.data_cells-data.ensures.value;
+          ∙ relocs_planned p DataSeg names c.args.locals c.data_cells-data.result.now c.requires.passed
+          c.requires.finals c.data_cells-data.ensures.value;
     }

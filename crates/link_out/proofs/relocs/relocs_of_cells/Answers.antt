@@ -7,7 +7,8 @@ use Rattle.link_out.proofs.relocs.relocs_of_cells.Goals as goal
 
 pub reloc_of_cell-requires : goal.reloc_of_cell-requires
 reloc_of_cell-requires c =
-    none_at (λ (x : Cell). is_far c.args.finals.now c.args.locals x.target) c.args.cells.now c.loop-cell.cell-index _ c.loop-cell-test.true c.requires
+    none_at (λ (x : Cell). is_far c.args.finals.now c.args.locals x.target) c.args.cells.now c.loop-cell.cell-index _
+    c.loop-cell-test.true c.requires
 
 pub loop-cell-preserved : goal.loop-cell-preserved
 loop-cell-preserved c = grind (arith, common_steps)

@@ -11,7 +11,8 @@ returns c =
     (YieldsList-from_map {s = c.map.result} _ (λ e. e.0)
     (YieldsList-at c.map.ensures.source
     (YieldsList-from_filter {s = c.filter.result} _ (λ e. is_missing e.0 e.1)
-    (YieldsList-at c.filter.ensures.source (YieldsList-from_first (λ e. e) (λ left. left) {s = c.externals.result} (image_of c.args.session.now).externals c.externals.ensures.value))
+    (YieldsList-at c.filter.ensures.source (YieldsList-from_first (λ e. e)
+    (λ left. left) {s = c.externals.result} (image_of c.args.session.now).externals c.externals.ensures.value))
     c.filter.ensures.closure
     (λ x b q k. search (rules, tests))))
     c.map.ensures.closure

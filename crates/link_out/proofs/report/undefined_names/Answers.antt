@@ -11,5 +11,6 @@ returns c =
     let s = c.args.plan.now.session.now in
     let ms = mentions s.forced (objects s.entries) in
     IfOk-weaker c.missing.result _ _
-    (λ names h. h ∙ missing-in_order ms ∙ ap (λ t. cond t [] (undefined_names ms)) (sym c.if-is_relocatable.false ∙ c.is_relocatable.ensures))
+    (λ names h. h ∙ missing-in_order ms
+    ∙ ap (λ t. cond t [] (undefined_names ms)) (sym c.if-is_relocatable.false ∙ c.is_relocatable.ensures))
     c.missing.ensures

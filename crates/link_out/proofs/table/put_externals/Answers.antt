@@ -13,4 +13,5 @@ returns c =
       | inl w ↦ inl w.1.0
       | inr w ↦ inr w.1.0
     ] in
-    rows_put left.a (iter_rest left.b) (c.args.rows.now.items ++ rows_with (image_of c.args.session.now).externals c.args.finals.now) c.loop-name.rows.items none_left (search rules)
+    rows_put left.a (iter_rest left.b) (c.args.rows.now.items ++ rows_with (image_of c.args.session.now).externals
+    c.args.finals.now) c.loop-name.rows.items none_left (search rules)

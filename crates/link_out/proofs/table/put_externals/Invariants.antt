@@ -5,4 +5,6 @@ use Rattle.link_out.proofs.table.put_externals.Given as goal
 
 -- the rows so far, and those of the externals that are left
 abbrev pub invariant-loop-name : goal.invariant-loop-name
-invariant-loop-name l = (l.initial.rows.items ++ rows_with l.initial.name-iterator.a (iter_rest l.initial.name-iterator.b) ≡ l.rows.items ++ rows_with l.name-iterator.a (iter_rest l.name-iterator.b))
+invariant-loop-name l =
+    (l.initial.rows.items ++ rows_with l.initial.name-iterator.a (iter_rest l.initial.name-iterator.b)
+    ≡ l.rows.items ++ rows_with l.name-iterator.a (iter_rest l.name-iterator.b))

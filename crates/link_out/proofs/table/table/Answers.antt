@@ -22,5 +22,7 @@ returns c =
     c.in_ok-rows.ensures
     ∙ (λ i. rows_from (p.at i) (c.keep-keep.ensures.value i) no_starts (objects (c.entries.ensures.value i)))
     ∙ rows_from-local_rows (plan_in p) os in
-    let externals : rows_with names c.args.finals.now ≡ external_rows (plan_in p) = ap (λ (l : List Final). rows_with names l) c.requires ∙ rows_planned (plan_in p) in
-    table_whole (plan_in p) os c.keep-keep.result rows c.put_externals.new.rows.items (sym c.keep-keep.ensures.value) others locals (c.in_ok-put_externals.ensures ∙ ap (λ (l : List Symbol). rows ++ l) externals)
+    let externals : rows_with names c.args.finals.now ≡ external_rows (plan_in p) =
+    ap (λ (l : List Final). rows_with names l) c.requires ∙ rows_planned (plan_in p) in
+    table_whole (plan_in p) os c.keep-keep.result rows c.put_externals.new.rows.items (sym c.keep-keep.ensures.value)
+    others locals (c.in_ok-put_externals.ensures ∙ ap (λ (l : List Symbol). rows ++ l) externals)

@@ -8,6 +8,10 @@ returns c =
     let p = c.args.plan.now in
     let names = c.args.finals.now in
     record {
-      text = c.in_ok-words_of_cells.ensures ∙ words_planned p TextSeg names c.text_cells-text.result.now c.requires c.text_cells-text.ensures.value;
-      «data» = c.in_ok-words_of_cells-2.ensures ∙ words_planned p DataSeg names c.data_cells-data.result.now c.requires c.data_cells-data.ensures.value;
+      text =
+          c.in_ok-words_of_cells.ensures
+          ∙ words_planned p TextSeg names c.text_cells-text.result.now c.requires c.text_cells-text.ensures.value;
+      «data» =
+          c.in_ok-words_of_cells-2.ensures
+          ∙ words_planned p DataSeg names c.data_cells-data.result.now c.requires c.data_cells-data.ensures.value;
     }

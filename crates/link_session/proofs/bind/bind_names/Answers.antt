@@ -20,34 +20,53 @@ loop-place-preserved c =
     let b = c.bind_defined in
     record {
       chained = b.ensures.chained;
-      texts = inv.texts ∙ ap (λ (l : List ℕ). map (settled_over es l) c.loop-place.text_cells) split ∙ all_one es k next c.loop-place.text_cells ∙ ap left (sym c.in_ok-bind_defined.ensures.texts);
-      datas = inv.datas ∙ ap (λ (l : List ℕ). map (settled_over es l) c.loop-place.data_cells) split ∙ all_one es k next c.loop-place.data_cells ∙ ap left (sym c.in_ok-bind_defined.ensures.datas);
-      heads = inv.heads ∙ ap (λ (l : List ℕ). cut_heads es l c.loop-place.heads) split ∙ ap (cut_heads es next) (sym c.in_ok-bind_defined.ensures.heads);
-      few = noted_then es c.args.text_cells.now c.args.data_cells.now c.loop-place.text_cells c.loop-place.data_cells b.new.text_cells b.new.data_cells c.args.marks.now.items c.loop-place.marks.items b.new.marks.items inv.few c.in_ok-bind_defined.ensures.few;
-      back = leaves_then c.args.text_cells.now c.args.data_cells.now c.loop-place.text_cells c.loop-place.data_cells b.new.text_cells b.new.data_cells
-          c.args.heads.now c.loop-place.heads b.new.heads c.args.marks.now.items c.loop-place.marks.items b.new.marks.items c.loop-place.auto.text_cells c.loop-place.auto.data_cells inv.back b.ensures.back;
+      texts =
+          inv.texts ∙ ap (λ (l : List ℕ). map (settled_over es l) c.loop-place.text_cells) split
+          ∙ all_one es k next c.loop-place.text_cells ∙ ap left (sym c.in_ok-bind_defined.ensures.texts);
+      datas =
+          inv.datas ∙ ap (λ (l : List ℕ). map (settled_over es l) c.loop-place.data_cells) split
+          ∙ all_one es k next c.loop-place.data_cells ∙ ap left (sym c.in_ok-bind_defined.ensures.datas);
+      heads =
+          inv.heads ∙ ap (λ (l : List ℕ). cut_heads es l c.loop-place.heads) split
+          ∙ ap (cut_heads es next) (sym c.in_ok-bind_defined.ensures.heads);
+      few =
+          noted_then es c.args.text_cells.now c.args.data_cells.now c.loop-place.text_cells c.loop-place.data_cells
+          b.new.text_cells b.new.data_cells c.args.marks.now.items c.loop-place.marks.items b.new.marks.items inv.few
+          c.in_ok-bind_defined.ensures.few;
+      back =
+          leaves_then c.args.text_cells.now c.args.data_cells.now c.loop-place.text_cells c.loop-place.data_cells
+          b.new.text_cells b.new.data_cells
+          c.args.heads.now c.loop-place.heads b.new.heads c.args.marks.now.items c.loop-place.marks.items
+          b.new.marks.items c.loop-place.auto.text_cells c.loop-place.auto.data_cells inv.back b.ensures.back;
     }
 
 pub returns-in_err-bind_defined-clause-back : goal.returns-in_err-bind_defined-clause-back
 returns-in_err-bind_defined-clause-back c =
     let b = c.bind_defined in
-    leaves_then c.args.text_cells.now c.args.data_cells.now c.loop-place.text_cells c.loop-place.data_cells b.new.text_cells b.new.data_cells
-    c.args.heads.now c.loop-place.heads b.new.heads c.args.marks.now.items c.loop-place.marks.items b.new.marks.items c.loop-place.auto.text_cells c.loop-place.auto.data_cells c.loop-place.invariant.back b.ensures.back
+    leaves_then c.args.text_cells.now c.args.data_cells.now c.loop-place.text_cells c.loop-place.data_cells
+    b.new.text_cells b.new.data_cells
+    c.args.heads.now c.loop-place.heads b.new.heads c.args.marks.now.items c.loop-place.marks.items b.new.marks.items
+    c.loop-place.auto.text_cells c.loop-place.auto.data_cells c.loop-place.invariant.back b.ensures.back
 
 pub returns-clause-texts : goal.returns-clause-texts
 returns-clause-texts c =
     let es = c.args.mentioned.now.externals.now.entries in
-    let over : drop c.loop-place.place-index c.args.mentioned.now.places.now ≡ [] = drop_all c.loop-place.place-index c.args.mentioned.now.places.now (omega (arith, c.loop-place-test.false)) in
-    sym (c.loop-place.invariant.texts ∙ ap (λ (l : List ℕ). map (settled_over es l) c.loop-place.text_cells) over ∙ none_left es c.loop-place.text_cells)
+    let over : drop c.loop-place.place-index c.args.mentioned.now.places.now ≡ [] =
+    drop_all c.loop-place.place-index c.args.mentioned.now.places.now (omega (arith, c.loop-place-test.false)) in
+    sym (c.loop-place.invariant.texts ∙ ap (λ (l : List ℕ). map (settled_over es l) c.loop-place.text_cells) over
+    ∙ none_left es c.loop-place.text_cells)
 
 pub returns-clause-datas : goal.returns-clause-datas
 returns-clause-datas c =
     let es = c.args.mentioned.now.externals.now.entries in
-    let over : drop c.loop-place.place-index c.args.mentioned.now.places.now ≡ [] = drop_all c.loop-place.place-index c.args.mentioned.now.places.now (omega (arith, c.loop-place-test.false)) in
-    sym (c.loop-place.invariant.datas ∙ ap (λ (l : List ℕ). map (settled_over es l) c.loop-place.data_cells) over ∙ none_left es c.loop-place.data_cells)
+    let over : drop c.loop-place.place-index c.args.mentioned.now.places.now ≡ [] =
+    drop_all c.loop-place.place-index c.args.mentioned.now.places.now (omega (arith, c.loop-place-test.false)) in
+    sym (c.loop-place.invariant.datas ∙ ap (λ (l : List ℕ). map (settled_over es l) c.loop-place.data_cells) over
+    ∙ none_left es c.loop-place.data_cells)
 
 pub returns-clause-heads : goal.returns-clause-heads
 returns-clause-heads c =
     let es = c.args.mentioned.now.externals.now.entries in
-    let over : drop c.loop-place.place-index c.args.mentioned.now.places.now ≡ [] = drop_all c.loop-place.place-index c.args.mentioned.now.places.now (omega (arith, c.loop-place-test.false)) in
+    let over : drop c.loop-place.place-index c.args.mentioned.now.places.now ≡ [] =
+    drop_all c.loop-place.place-index c.args.mentioned.now.places.now (omega (arith, c.loop-place-test.false)) in
     sym (c.loop-place.invariant.heads ∙ ap (λ (l : List ℕ). cut_heads es l c.loop-place.heads) over)

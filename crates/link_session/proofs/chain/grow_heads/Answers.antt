@@ -8,7 +8,9 @@ loop-heads-preserved c =
     let pushed : c.push_reserved.new.self.items ≡ c.loop-heads.heads.items ++ None ∷ [] = search rules in
     let below : length c.loop-heads.heads.items < c.args.count = search rules in
     record {
-      heads = c.loop-heads.invariant.heads ∙ grown_by_one c.args.count c.loop-heads.heads.items below ∙ ap (grown_heads c.args.count) (sym pushed);
+      heads =
+          c.loop-heads.invariant.heads ∙ grown_by_one c.args.count c.loop-heads.heads.items below
+          ∙ ap (grown_heads c.args.count) (sym pushed);
       room = search rules;
     }
 

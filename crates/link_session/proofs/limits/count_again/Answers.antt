@@ -6,4 +6,10 @@ use Rattle.link_session.proofs.LimitLemmas.{new_count-le}
 use Rattle.link_session.proofs.limits.count_again.Goals as goal
 
 pub overflow_add-count : goal.overflow_add-count
-overflow_add-count c = omega (arith, c.loop-i.invariant, new_count-le (keys_of c.args.externals.now.entries) c.args.symbols.now, filter_le is_external c.args.symbols.now)
+overflow_add-count c =
+    omega (
+      arith,
+      c.loop-i.invariant,
+      new_count-le (keys_of c.args.externals.now.entries) c.args.symbols.now,
+      filter_le is_external c.args.symbols.now,
+    )

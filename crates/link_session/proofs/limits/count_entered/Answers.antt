@@ -16,5 +16,7 @@ loop-symbol-preserved c = grind (arith, common_steps)
 
 pub returns : goal.returns
 returns c =
-    let gathered : keys_of c.loop-symbol.fresh.entries ≡ with_all_new (keys_of c.args.externals.now.entries) [] c.args.symbols.now = grind (arith, common_steps) in
-    c.len.ensures.len ∙ length-keys c.loop-symbol.fresh.entries ∙ ap (λ (l : List (List ℕ)). length l) gathered ∙ length-all_new (keys_of c.args.externals.now.entries) c.args.symbols.now
+    let gathered : keys_of c.loop-symbol.fresh.entries
+    ≡ with_all_new (keys_of c.args.externals.now.entries) [] c.args.symbols.now = grind (arith, common_steps) in
+    c.len.ensures.len ∙ length-keys c.loop-symbol.fresh.entries ∙ ap (λ (l : List (List ℕ)). length l) gathered
+    ∙ length-all_new (keys_of c.args.externals.now.entries) c.args.symbols.now

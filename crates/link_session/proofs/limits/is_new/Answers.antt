@@ -16,5 +16,6 @@ returns-after-contains c =
           ap not (w.result-is ∙ yes) ∙ known_counts (keys_of c.args.externals.now.entries) c.args.before.now c.args.symbol.now known
       | else-contains w ↦
           let unknown : is_among (keys_of c.args.externals.now.entries) c.args.symbol.now.name ≡ false = search rules in
-          ap not (w.result-is ∙ w.mentions.ensures) ∙ unknown_counts (keys_of c.args.externals.now.entries) c.args.before.now c.args.symbol.now external unknown
+          ap not (w.result-is ∙ w.mentions.ensures)
+          ∙ unknown_counts (keys_of c.args.externals.now.entries) c.args.before.now c.args.symbol.now external unknown
     ]

@@ -24,7 +24,12 @@ pub enter-place-requires-clause-names : goal.enter-place-requires-clause-names
 enter-place-requires-clause-names c =
     let shifts = c.args.table.now.shifts in
     let left = mentions_by shifts (drop c.loop-symbol.symbol-index c.args.table.now.symbols.now) in
-    omega (arith, length-with_mentions c.loop-symbol.externals.entries left, ap (λ (es : Named). length es) c.loop-symbol.invariant.names, c.requires.names)
+    omega (
+      arith,
+      length-with_mentions c.loop-symbol.externals.entries left,
+      ap (λ (es : Named). length es) c.loop-symbol.invariant.names,
+      c.requires.names,
+    )
 
 pub push_reserved-requires : goal.push_reserved-requires
 push_reserved-requires c = grind (arith, common_steps)
@@ -42,8 +47,10 @@ pub returns-clause-places : goal.returns-clause-places
 returns-clause-places c =
     let shifts = c.args.table.now.shifts in
     let symbols = c.args.table.now.symbols.now in
-    let names : c.loop-symbol.externals.entries ≡ with_mentions c.args.externals.now.entries (mentions_by shifts symbols) = grind (arith, common_steps) in
-    let noted : c.loop-symbol.places.items ≡ c.args.places.now.items ++ noted_places shifts c.args.externals.now.entries symbols = grind (arith, common_steps) in
+    let names : c.loop-symbol.externals.entries ≡ with_mentions c.args.externals.now.entries (mentions_by shifts symbols) =
+    grind (arith, common_steps) in
+    let noted : c.loop-symbol.places.items ≡ c.args.places.now.items
+    ++ noted_places shifts c.args.externals.now.entries symbols = grind (arith, common_steps) in
     noted
     ∙ ap (λ (l : List ℕ). c.args.places.now.items ++ l) (noted-all shifts c.args.externals.now.entries symbols)
     ∙ ap (λ (es : Named). c.args.places.now.items ++ all_places es symbols) (sym names)

@@ -10,7 +10,8 @@ use Rattle.link_session.proofs.mention.enter_all.Given as goal
 abbrev pub invariant-loop-symbol : goal.invariant-loop-symbol
 invariant-loop-symbol l = record {
   kept : l.kept ≡ length l.initial.externals.entries;
-  names : with_mentions l.initial.externals.entries (mentions_by l.table.shifts l.table.symbols.now) ≡ with_mentions l.externals.entries (mentions_by l.table.shifts (drop l.symbol-index l.table.symbols.now));
+  names : with_mentions l.initial.externals.entries (mentions_by l.table.shifts l.table.symbols.now)
+      ≡ with_mentions l.externals.entries (mentions_by l.table.shifts (drop l.symbol-index l.table.symbols.now));
   multiples : l.initial.multiples.items ++ all_clashes l.initial.externals.entries (mentions_by l.table.shifts l.table.symbols.now)
       ≡ l.multiples.items ++ all_clashes l.externals.entries (mentions_by l.table.shifts (drop l.symbol-index l.table.symbols.now));
   marks : l.initial.marks.items ++ state_marks l.kept l.initial.externals.entries (mentions_by l.table.shifts l.table.symbols.now)

@@ -37,7 +37,8 @@ returns-in-Some-clause-names c =
     let known : c.unwrap-place.result.1 ≡ lookup (bytes_eq c.args.name) es = search rules in
     let inserted : c.insert_full.new.self.entries ≡ insert_entry bytes_eq es c.args.name c.args.says = search rules in
     let state = known_state es c.args.name c.in-Some.was (sym known ∙ c.in-Some.is) in
-    (λ i. set_value_at (inserted i) ((at ∙ place_is c.args.name (keys_of es)) i) ((c.updated_state.ensures ∙ ap (λ (s : State). updated_state s c.args.says) state) i))
+    (λ i. set_value_at (inserted i) ((at ∙ place_is c.args.name (keys_of es)) i)
+    ((c.updated_state.ensures ∙ ap (λ (s : State). updated_state s c.args.says) state) i))
     ∙ written_again es c.args.name c.args.says (updated_state (state_for es c.args.name) c.args.says)
 
 pub returns-in-None-clause-names : goal.returns-in-None-clause-names
@@ -46,4 +47,5 @@ returns-in-None-clause-names c =
     let known : c.unwrap-place.result.1 ≡ lookup (bytes_eq c.args.name) es = search rules in
     let inserted : c.insert_full.new.self.entries ≡ insert_entry bytes_eq es c.args.name c.args.says = search rules in
     let state = unknown_state es c.args.name (sym known ∙ c.in-None.is) in
-    inserted ∙ ap (λ (s : State). insert_entry bytes_eq es c.args.name s) (sym (says_alone c.args.says) ∙ ap (λ (s : State). updated_state s c.args.says) state)
+    inserted ∙ ap (λ (s : State). insert_entry bytes_eq es c.args.name s)
+    (sym (says_alone c.args.says) ∙ ap (λ (s : State). updated_state s c.args.says) state)

@@ -11,9 +11,11 @@ loop-i-preserved c = record {
   image =
       c.loop-i.invariant.image
       ∙ put_next c.args.marks.now c.loop-i.i _ (image_in c.loop-i.image) c.loop-i-test.true
-      ∙ ap (λ (m : Image). put_all_back (take (length c.args.marks.now - (c.loop-i.i + 1)) c.args.marks.now) m) (sym c.put_back.ensures.image);
+      ∙ ap (λ (m : Image). put_all_back (take (length c.args.marks.now - (c.loop-i.i + 1)) c.args.marks.now) m)
+      (sym c.put_back.ensures.image);
   threads =
       c.loop-i.invariant.threads
       ∙ head_next c.args.marks.now c.loop-i.i _ (threads_in c.loop-i.image) c.loop-i-test.true
-      ∙ ap (λ (t : Threads). with_heads_back (take (length c.args.marks.now - (c.loop-i.i + 1)) c.args.marks.now) t) (sym c.put_back.ensures.threads);
+      ∙ ap (λ (t : Threads). with_heads_back (take (length c.args.marks.now - (c.loop-i.i + 1)) c.args.marks.now) t)
+      (sym c.put_back.ensures.threads);
 }

@@ -15,7 +15,9 @@ returns g c =
     let e2 = c.put_head.ensures e3.0 in
     let e1 = c.put_notes.ensures e2.0 in (
       e1.0,
-      whole c.args.text.now.bytes c.put_notes.new.text.bytes c.put_head.new.text.bytes c.put_text.new.text.bytes c.put_data.new.text.bytes c.put_bss.new.text.bytes c.put_table.new.text.bytes c.put_findings.new.text.bytes
-          (note_lines x.notes) (head_lines file.header) (text_lines x file) (data_lines x file) (bss_lines file.header) (table_lines x file) (note_lines x.findings)
+      whole c.args.text.now.bytes c.put_notes.new.text.bytes c.put_head.new.text.bytes c.put_text.new.text.bytes
+          c.put_data.new.text.bytes c.put_bss.new.text.bytes c.put_table.new.text.bytes c.put_findings.new.text.bytes
+          (note_lines x.notes) (head_lines file.header) (text_lines x file) (data_lines x file) (bss_lines file.header)
+          (table_lines x file) (note_lines x.findings)
           e1.1 e2.1 e3.1 e4.1 e5.1 e6.1 e7.1,
     )

@@ -13,6 +13,7 @@ loop-index-preserved c =
     let put = c.put_external.ensures whole in
     let so_far = c.loop-index.invariant put.0 in (
       so_far.0,
-      one_more_at encoding es c.loop-index.index (c.unwrap-name.result.0, c.unwrap-name.result.1) (c.args.text.now.bytes ++ each encoding es) c.loop-index.text.bytes c.put_external.new.text.bytes
+      one_more_at encoding es c.loop-index.index (c.unwrap-name.result.0, c.unwrap-name.result.1)
+          (c.args.text.now.bytes ++ each encoding es) c.loop-index.text.bytes c.put_external.new.text.bytes
           (sym c.external.ensures ∙ c.unwrap-name.ensures) so_far.1 put.1,
     )

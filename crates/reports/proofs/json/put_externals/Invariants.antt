@@ -8,4 +8,5 @@ use Rattle.reports.proofs.json.put_externals.Given as goal
 abbrev pub invariant-loop-index : goal.invariant-loop-index
 invariant-loop-index l =
     l.text.is_cut ≡ false → (l.initial.text.is_cut ≡ false)
-    × (l.initial.text.bytes ++ each (external_json) (image_of l.session).externals ≡ l.text.bytes ++ each_from (external_json) l.index (drop l.index (image_of l.session).externals))
+    × (l.initial.text.bytes ++ each (external_json) (image_of l.session).externals
+    ≡ l.text.bytes ++ each_from (external_json) l.index (drop l.index (image_of l.session).externals))

@@ -16,7 +16,8 @@ returns c =
     let between : List ℕ = codes "],\"multiples\":[" in
     let multiples : List ℕ = each multiple_json m.multiples in
     let listed : Puts c.put-2.new.self c.put_multiples.new.text multiples =
-    subst (λ (names : List (List ℕ)). Puts c.put-2.new.self c.put_multiples.new.text (each multiple_json names)) c.multiples.ensures c.put_multiples.ensures in
+    subst (λ (names : List (List ℕ)). Puts c.put-2.new.self c.put_multiples.new.text (each multiple_json names))
+    c.multiples.ensures c.put_multiples.ensures in
     let two = puts_both old c.put.new.self c.put_externals.new.text before externals c.put.ensures c.put_externals.ensures in
     let three = puts_both old c.put_externals.new.text c.put-2.new.self (before ++ externals) between two c.put-2.ensures in
     let four = puts_both old c.put-2.new.self c.put_multiples.new.text (before ++ externals ++ between) multiples three listed in

@@ -10,4 +10,5 @@ returns-in-InText c =
 
 pub returns-in-InData : goal.returns-in-InData
 returns-in-InData c =
-    subst (λ (p : Place). Puts c.args.text.now c.put_offset-in-InData.new.text (place_json p)) (sym c.in-InData.is) c.put_offset-in-InData.ensures
+    subst (λ (p : Place). Puts c.args.text.now c.put_offset-in-InData.new.text (place_json p))
+    (sym c.in-InData.is) c.put_offset-in-InData.ensures

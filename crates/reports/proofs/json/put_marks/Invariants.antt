@@ -9,4 +9,5 @@ use Rattle.reports.proofs.json.put_marks.Given as goal
 abbrev pub invariant-loop-index : goal.invariant-loop-index
 invariant-loop-index l =
     l.text.is_cut ≡ false → (l.initial.text.is_cut ≡ false)
-    × (l.initial.text.bytes ++ each (listed_mark (image_of l.session).externals) (newest l.session.journal) ≡ l.text.bytes ++ each_from (listed_mark (image_of l.session).externals) l.index (drop l.index (newest l.session.journal)))
+    × (l.initial.text.bytes ++ each (listed_mark (image_of l.session).externals) (newest l.session.journal) ≡ l.text.bytes
+    ++ each_from (listed_mark (image_of l.session).externals) l.index (drop l.index (newest l.session.journal)))

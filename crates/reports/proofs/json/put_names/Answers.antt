@@ -13,6 +13,7 @@ returns c =
     let before : List ℕ = codes ",\"bss\":" in
     let size : List ℕ = decimal m.bss_total in
     let sized : Puts c.put.new.self c.put_decimal.new.self size =
-    subst (λ (n : ℕ). Puts c.put.new.self c.put_decimal.new.self (decimal n)) (c.from.ensures ∙ c.bss_total.ensures.value) c.put_decimal.ensures in
+    subst (λ (n : ℕ). Puts c.put.new.self c.put_decimal.new.self (decimal n))
+    (c.from.ensures ∙ c.bss_total.ensures.value) c.put_decimal.ensures in
     let two = puts_both old c.put.new.self c.put_decimal.new.self before size c.put.ensures sized in
     puts_both old c.put_decimal.new.self c.put_lists.new.text (before ++ size) (lists_json m) two c.put_lists.ensures

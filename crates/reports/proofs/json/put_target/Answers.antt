@@ -8,5 +8,6 @@ use Rattle.reports.proofs.json.put_target.Goals as goal
 pub returns-in-External : goal.returns-in-External
 returns-in-External c =
     let es = (image_of c.args.session.now).externals in
-    let named = subst (λ (n : List ℕ). Puts c.args.text.now c.put_named.new.text (codes "\"external\",\"name\":" ++ json_name n)) c.name_at-name.ensures c.put_named.ensures in
+    let named = subst (λ (n : List ℕ). Puts c.args.text.now c.put_named.new.text (codes "\"external\",\"name\":" ++ json_name n))
+    c.name_at-name.ensures c.put_named.ensures in
     subst (λ (t : Target). Puts c.args.text.now c.put_named.new.text (target_json es t)) (sym c.in-External.is) named

@@ -8,4 +8,5 @@ use Rattle.reports.proofs.json.put_words.Given as goal
 abbrev pub invariant-loop-index : goal.invariant-loop-index
 invariant-loop-index l =
     l.text.is_cut ≡ false → (l.initial.text.is_cut ≡ false)
-    × (l.initial.text.bytes ++ each (word_json (image_of l.session).externals) l.cells ≡ l.text.bytes ++ each_from (word_json (image_of l.session).externals) l.index (drop l.index l.cells))
+    × (l.initial.text.bytes ++ each (word_json (image_of l.session).externals) l.cells
+    ≡ l.text.bytes ++ each_from (word_json (image_of l.session).externals) l.index (drop l.index l.cells))

@@ -8,4 +8,5 @@ use Rattle.reports.proofs.lines.put_cells.Given as goal
 abbrev pub invariant-loop-index : goal.invariant-loop-index
 invariant-loop-index l =
     l.text.is_cut ≡ false → (l.initial.text.is_cut ≡ false)
-    × (l.initial.text.bytes ++ each (cell_line (image_of l.session).externals l.segment) l.cells ≡ l.text.bytes ++ each_from (cell_line (image_of l.session).externals l.segment) l.index (drop l.index l.cells))
+    × (l.initial.text.bytes ++ each (cell_line (image_of l.session).externals l.segment) l.cells
+    ≡ l.text.bytes ++ each_from (cell_line (image_of l.session).externals l.segment) l.index (drop l.index l.cells))

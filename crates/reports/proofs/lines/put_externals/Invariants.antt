@@ -8,4 +8,5 @@ use Rattle.reports.proofs.lines.put_externals.Given as goal
 abbrev pub invariant-loop-index : goal.invariant-loop-index
 invariant-loop-index l =
     l.text.is_cut ≡ false → (l.initial.text.is_cut ≡ false)
-    × (l.initial.text.bytes ++ each (λ _ e. external_line e) (image_of l.session).externals ≡ l.text.bytes ++ each_from (λ _ e. external_line e) l.index (drop l.index (image_of l.session).externals))
+    × (l.initial.text.bytes ++ each (λ _ e. external_line e) (image_of l.session).externals
+    ≡ l.text.bytes ++ each_from (λ _ e. external_line e) l.index (drop l.index (image_of l.session).externals))

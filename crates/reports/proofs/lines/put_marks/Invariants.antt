@@ -9,4 +9,5 @@ use Rattle.reports.proofs.lines.put_marks.Given as goal
 abbrev pub invariant-loop-mark : goal.invariant-loop-mark
 invariant-loop-mark l =
     l.text.is_cut ≡ false → (l.initial.text.is_cut ≡ false)
-    × (l.initial.text.bytes ++ each (λ _ k. mark_line (image_of l.session).externals k) (newest l.session.journal) ≡ l.text.bytes ++ each_from (λ _ k. mark_line (image_of l.session).externals k) l.mark-index (drop l.mark-index (newest l.session.journal)))
+    × (l.initial.text.bytes ++ each (λ _ k. mark_line (image_of l.session).externals k) (newest l.session.journal) ≡ l.text.bytes
+    ++ each_from (λ _ k. mark_line (image_of l.session).externals k) l.mark-index (drop l.mark-index (newest l.session.journal)))

@@ -7,4 +7,5 @@ use Rattle.reports.proofs.lines.put_multiples.Given as goal
 abbrev pub invariant-loop-name : goal.invariant-loop-name
 invariant-loop-name l =
     l.text.is_cut ≡ false → (l.initial.text.is_cut ≡ false)
-    × (l.initial.text.bytes ++ each (λ _ n. multiple_line n) l.names ≡ l.text.bytes ++ each_from (λ _ n. multiple_line n) l.name-index (drop l.name-index l.names))
+    × (l.initial.text.bytes ++ each (λ _ n. multiple_line n) l.names
+    ≡ l.text.bytes ++ each_from (λ _ n. multiple_line n) l.name-index (drop l.name-index l.names))

@@ -5,4 +5,6 @@ use Rattle.v7_from_gnu.proofs.arguments.conversion_in.Given as goal
 
 -- the arguments so far are letters, and perhaps the folder
 abbrev pub invariant-loop-index : goal.invariant-loop-index
-invariant-loop-index l = call_from unread None (map string_bytes l.fn.words) ≡ call_from l.letters (option_map (λ f. f.now) l.folder) (map string_bytes (drop l.index l.words))
+invariant-loop-index l =
+    call_from unread None (map string_bytes l.fn.words)
+    ≡ call_from l.letters (option_map (λ f. f.now) l.folder) (map string_bytes (drop l.index l.words))

@@ -7,5 +7,10 @@ returns g c =
     let same : c.deref.result.now ≡ c.args.jobs.items = search rules in
     inr (
       subst (λ jobs. path_answer jobs ≡ None) same c.in_ok-check_paths.ensures,
-      inr (c.in_ok-sources.sources.items, g.O.Office.history c.read_all.new.office, c.in_ok-sources.ensures, inr (c.in_ok-plan.plan, c.in_ok-plan.ensures.ok, c.store_all.ensures)),
+      inr (
+        c.in_ok-sources.sources.items,
+        g.O.Office.history c.read_all.new.office,
+        c.in_ok-sources.ensures,
+        inr (c.in_ok-plan.plan, c.in_ok-plan.ensures.ok, c.store_all.ensures),
+      ),
     )

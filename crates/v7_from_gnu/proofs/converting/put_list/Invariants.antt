@@ -6,4 +6,5 @@ use Rattle.v7_from_gnu.proofs.converting.put_list.Given as goal
 abbrev pub invariant-loop-remark : goal.invariant-loop-remark
 invariant-loop-remark l =
     l.text.is_cut ≡ false → (l.initial.text.is_cut ≡ false)
-    × (l.text.bytes ++ flat_map (remark_line l.fn.source) (drop l.remark-index l.list) ≡ l.initial.text.bytes ++ flat_map (remark_line l.fn.source) l.list)
+    × (l.text.bytes ++ flat_map (remark_line l.fn.source) (drop l.remark-index l.list)
+    ≡ l.initial.text.bytes ++ flat_map (remark_line l.fn.source) l.list)

@@ -11,8 +11,10 @@ returns-in-Err g c =
     let mid = g.O.Office.history c.loop-job.office in
     let new = g.O.Office.history c.read_whole.new.office in
     let same : c.as_str.result.now ≡ c.in-Some.job.from = search rules in
-    reading_ends old mid new c.loop-job.sources.items c.args.jobs.items c.loop-job.job-iterator.rest.items c.next.new.self.rest.items c.in-Some.job c.in-Err.fault
-    c.loop-job.invariant c.in-Some.ensures.steps.0 (subst (λ path. EndsReading program mid new path c.in-Err.fault) same c.in-Err.ensures.err)
+    reading_ends old mid new c.loop-job.sources.items c.args.jobs.items c.loop-job.job-iterator.rest.items
+    c.next.new.self.rest.items c.in-Some.job c.in-Err.fault
+    c.loop-job.invariant c.in-Some.ensures.steps.0
+    (subst (λ path. EndsReading program mid new path c.in-Err.fault) same c.in-Err.ensures.err)
 
 pub returns-then-is_err : goal.returns-then-is_err
 returns-then-is_err g c =
@@ -20,7 +22,8 @@ returns-then-is_err g c =
     let mid = g.O.Office.history c.loop-job.office in
     let new = g.O.Office.history c.read_whole.new.office in
     let same : c.as_str.result.now ≡ c.in-Some.job.from = search rules in
-    reading_stops old mid new c.loop-job.sources.items c.args.jobs.items c.loop-job.job-iterator.rest.items c.next.new.self.rest.items c.in-Some.job c.in-Ok.bytes.items
+    reading_stops old mid new c.loop-job.sources.items c.args.jobs.items c.loop-job.job-iterator.rest.items
+    c.next.new.self.rest.items c.in-Some.job c.in-Ok.bytes.items
     c.loop-job.invariant c.in-Some.ensures.steps.0 (subst (λ path. ReadsAt mid new path c.in-Ok.bytes.items) same c.in-Ok.ensures.ok)
 
 pub loop-job-preserved : goal.loop-job-preserved
@@ -30,5 +33,7 @@ loop-job-preserved g c =
     let next = g.O.Office.history c.read_whole.new.office in
     let same : c.as_str.result.now ≡ c.in-Some.job.from = search rules in
     let pushed : c.push.new.self.items ≡ c.loop-job.sources.items ++ source_of c.in-Some.job c.in-Ok.bytes.items ∷ [] = search rules in
-    reading_more old mid next c.loop-job.sources.items c.push.new.self.items c.args.jobs.items c.loop-job.job-iterator.rest.items c.next.new.self.rest.items c.in-Some.job c.in-Ok.bytes.items
-    c.loop-job.invariant c.in-Some.ensures.steps.0 (subst (λ path. ReadsAt mid next path c.in-Ok.bytes.items) same c.in-Ok.ensures.ok) pushed
+    reading_more old mid next c.loop-job.sources.items c.push.new.self.items c.args.jobs.items
+    c.loop-job.job-iterator.rest.items c.next.new.self.rest.items c.in-Some.job c.in-Ok.bytes.items
+    c.loop-job.invariant c.in-Some.ensures.steps.0
+    (subst (λ path. ReadsAt mid next path c.in-Ok.bytes.items) same c.in-Ok.ensures.ok) pushed

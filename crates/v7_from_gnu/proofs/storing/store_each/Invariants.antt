@@ -8,5 +8,6 @@ use Rattle.v7_from_gnu.proofs.storing.store_each.Given as goal
 -- what comes of the objects that are left comes of all
 abbrev pub invariant-loop-target : goal.invariant-loop-target
 invariant-loop-target g l =
-    (new : History) → (result : Result Answer Fault) → IsStoring l.fn.remarks (g.O.Office.history l.office) new (drop l.target-index l.targets) result
+    (new : History) → (result : Result Answer Fault) →
+    IsStoring l.fn.remarks (g.O.Office.history l.office) new (drop l.target-index l.targets) result
     → IsStoring l.fn.remarks (g.O.Office.history l.initial.office) new l.targets result

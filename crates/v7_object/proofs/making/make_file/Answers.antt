@@ -13,6 +13,10 @@ returns g c =
         c.in_ok-text.text.items,
         g.O.Office.history c.read_whole.new.office,
         c.in_ok-text.ensures.ok,
-        inr (c.in_ok-file.file, subst (λ text. file_of c.args.listing.now (read text) ≡ Ok c.in_ok-file.file) same c.in_ok-file.ensures.ok, c.store.ensures),
+        inr (
+          c.in_ok-file.file,
+          subst (λ text. file_of c.args.listing.now (read text) ≡ Ok c.in_ok-file.file) same c.in_ok-file.ensures.ok,
+          c.store.ensures,
+        ),
       ),
     )

@@ -13,6 +13,8 @@ loop-place-init c =
       inside = omega arith;
       counted = counted;
       beside = beside;
-      first = subst (λ (xs : List ℕ). AreFirst (bucket_of c.args.shift count) symbols (length symbols) xs) (sym items) (none_first (bucket_of c.args.shift count) symbols count);
+      first =
+          subst (λ (xs : List ℕ). AreFirst (bucket_of c.args.shift count) symbols (length symbols) xs) (sym items)
+          (none_first (bucket_of c.args.shift count) symbols count);
       next = none_next (bucket_of c.args.shift count) symbols c.in_ok-next.next.items;
     }

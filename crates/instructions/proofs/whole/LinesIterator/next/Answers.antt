@@ -10,10 +10,12 @@ returns-clause-steps c =
     let long : c.length.result ≡ line_length (line_at c.args.self.now.words.now 0) = c.length.ensures ∙ ap line_length is in
     let some : 0 < length c.args.self.now.words.now = search rules in
     lines_some c.args.self.now.words.now c.length.result some long
-    ∙ ap (λ (line : Line). line ∷ lines (take (length c.args.self.now.words.now - c.length.result) (drop c.length.result c.args.self.now.words.now))) (sym is)
+    ∙ ap (λ (line : Line). line ∷ lines
+    (take (length c.args.self.now.words.now - c.length.result) (drop c.length.result c.args.self.now.words.now))) (sym is)
 
 pub returns-clause-goes : goal.returns-clause-goes
 returns-clause-goes c =
-    let fewer : length (lines (take (length c.args.self.now.words.now - c.length.result) (drop c.length.result c.args.self.now.words.now))) < length (lines c.args.self.now.words.now) =
+    let fewer : length (lines (take (length c.args.self.now.words.now - c.length.result) (drop c.length.result c.args.self.now.words.now)))
+    < length (lines c.args.self.now.words.now) =
     omega (arith, ap length (returns-clause-steps c)) in
     record { on = λ f. (search rules, search rules, fewer); keeps = search rules; rests = λ f. search rules }

@@ -16,5 +16,6 @@ invariant_of-result c =
     let none = c.new-image.ensures.threads in
     let made = record c.new-image.result { externals = c.enter_forced.new.externals; heads = c.enter_forced.new.heads } in
     subst (λ (P : Type 0). P) (λ i. IsSession c.args.forced.now (sym entries i) (sym undo_records i) (image_in made) (threads_in made))
-    (forced_session c.args.forced.now few (image_in made) (threads_in made) c.new-image.ensures.text c.new-image.ensures.datas c.new-image.ensures.bss names c.new-image.ensures.multiples
+    (forced_session c.args.forced.now few (image_in made) (threads_in made) c.new-image.ensures.text
+    c.new-image.ensures.datas c.new-image.ensures.bss names c.new-image.ensures.multiples
     (ap (λ (t : Threads). t.text_links) none) (ap (λ (t : Threads). t.data_links) none) heads)

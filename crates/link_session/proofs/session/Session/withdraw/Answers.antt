@@ -13,8 +13,10 @@ undo-requires c =
     let undo_records : c.self.inside.undo_records.items ≡ c.pop-2.new.self.items ++ c.unwrap-undo_record.result ∷ [] = search rules in
     record {
       within =
-          at_least c.self.inside.forced c.pop.new.self.items c.pop-2.new.self.items (image_in c.self.inside.image) (threads_in c.self.inside.image) c.in_ok-entry.entry c.unwrap-undo_record.result
-          (subst (λ (P : Type 0). P) (λ i. IsSession c.self.inside.forced (entries i) (undo_records i) (image_in c.self.inside.image) (threads_in c.self.inside.image)) c.self.invariant);
+          at_least c.self.inside.forced c.pop.new.self.items c.pop-2.new.self.items (image_in c.self.inside.image)
+          (threads_in c.self.inside.image) c.in_ok-entry.entry c.unwrap-undo_record.result
+          (subst (λ (P : Type 0). P) (λ i. IsSession c.self.inside.forced (entries i) (undo_records i)
+          (image_in c.self.inside.image) (threads_in c.self.inside.image)) c.self.invariant);
     }
 
 pub invariant_of-self-2 : goal.invariant_of-self-2
@@ -26,10 +28,14 @@ invariant_of-self-2 c =
     let undo_records : c.self.inside.undo_records.items ≡ c.pop-2.new.self.items ++ c.unwrap-undo_record.result ∷ [] = search rules in
     let earlier = image c.self.inside.forced (objects c.pop.new.self.items) in
     let session = subst (λ (P : Type 0). P) (λ i. IsSession c.self.inside.forced (entries i) (undo_records i) m t) c.self.invariant in
-    let sizes = (kept_sizes c.self.inside.forced c.pop.new.self.items c.pop-2.new.self.items m t c.in_ok-entry.entry undo_record session).1 in
-    let image_then : image_in c.undo.new.image ≡ undo undo_record.marks.items m earlier = c.undo.ensures.image earlier sizes ∙ ap (λ ks. undo ks m earlier) c.deref.ensures.value in
-    let threads : threads_in c.undo.new.image ≡ with_heads_back undo_record.marks.items (threads_by undo_record.sizes m t) = c.undo.ensures.threads ∙ ap (λ ks. with_heads_back ks (threads_by undo_record.sizes m t)) c.deref.ensures.value in
-    subst (λ (P : Type 0). P) (λ i. IsSession c.self.inside.forced c.pop.new.self.items c.pop-2.new.self.items (sym image_then i) (sym threads i))
+    let sizes =
+    (kept_sizes c.self.inside.forced c.pop.new.self.items c.pop-2.new.self.items m t c.in_ok-entry.entry undo_record session).1 in
+    let image_then : image_in c.undo.new.image ≡ undo undo_record.marks.items m earlier =
+    c.undo.ensures.image earlier sizes ∙ ap (λ ks. undo ks m earlier) c.deref.ensures.value in
+    let threads : threads_in c.undo.new.image ≡ with_heads_back undo_record.marks.items (threads_by undo_record.sizes m t) =
+    c.undo.ensures.threads ∙ ap (λ ks. with_heads_back ks (threads_by undo_record.sizes m t)) c.deref.ensures.value in
+    subst (λ (P : Type 0). P)
+    (λ i. IsSession c.self.inside.forced c.pop.new.self.items c.pop-2.new.self.items (sym image_then i) (sym threads i))
     (withdrawn_session c.self.inside.forced c.pop.new.self.items c.pop-2.new.self.items m t c.in_ok-entry.entry undo_record session)
 
 pub unwrap-undo_record-requires : goal.unwrap-undo_record-requires

@@ -15,9 +15,11 @@ returns-then-self-eq-MOST-clause-names c =
     (full_when c.self.inside.slots c.self.inside.count c.args.name c.self.invariant c.if-self-eq-MOST.true (search rules)).1
 
 pub invariant_of-self : goal.invariant_of-self
-invariant_of-self c = (pushed_when c.self.inside.slots c.self.inside.count c.args.name c.self.invariant c.if-self-eq-MOST.false (search rules)).0
+invariant_of-self c =
+    (pushed_when c.self.inside.slots c.self.inside.count c.args.name c.self.invariant c.if-self-eq-MOST.false (search rules)).0
 
 pub returns-clause-names : goal.returns-clause-names
 returns-clause-names c =
-    subst (λ (names : List (List ℕ)). take (c.self.inside.count + 1) (slice_set c.self.inside.slots c.self.inside.count c.args.name) ≡ with_name names c.args.name) c.self.view_is
+    subst (λ (names : List (List ℕ)). take (c.self.inside.count + 1)
+    (slice_set c.self.inside.slots c.self.inside.count c.args.name) ≡ with_name names c.args.name) c.self.view_is
     (pushed_when c.self.inside.slots c.self.inside.count c.args.name c.self.invariant c.if-self-eq-MOST.false (search rules)).1
