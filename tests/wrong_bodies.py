@@ -44,6 +44,8 @@ PLACE = re.compile(r"(?:note: )?(?:\./)?((?:src|specs|proofs)/[^:\s]+):(\d+):\d+
 SHAPE = re.compile(r"has no field|is not in scope|has no `|was not admitted|cannot be named from here")
 UNREAD = re.compile(r"is not in scope|has no field|is no name|operand is missing|expected the end|cannot continue")
 CALLED = re.compile(r"`([^`]+)`")
+# two imports from one module, of which the first goes on as far as the other's first item
+IMPORTS = re.compile(r"^(((?:pub )?use \S+\.\{)[^}\n]*)\}\n\2", re.M)
 
 
 class Untold(Exception):
@@ -414,15 +416,33 @@ def without_comments(text):
     return "\n".join(line for line in text.split("\n") if not re.match(r"\s*(//|--)", line))
 
 
+def on_one_line(text):
+    """A text of definitions in the layout of `rt fmt`, with each statement and each module's imports on one line. What begins four
+    columns or more to the right of a statement goes on with it there, so a line that is broken says the same."""
+    lines, begun = [], 0
+    for line in filter(str.strip, text.split("\n")):
+        depth = len(line) - len(line.lstrip())
+        if lines and depth >= begun + 4:
+            lines[-1] += " " + line.strip()
+            continue
+        lines.append(line)
+        begun = depth
+    joined, more = "\n".join(lines), 1
+    while more:
+        joined, more = IMPORTS.subn(r"\1, ", joined)
+    return joined
+
+
 def digest(crate):
-    """The digest of the code and the definitions of a crate, without comments, and of its edits."""
+    """The digest of the code and the definitions of a crate, without comments and by statements, and of its edits."""
     whole = hashlib.sha256()
     paths = [f"{at}/{file}" for part in ("src", "specs") for at, _, files in os.walk(f"crates/{crate}/{part}") for file in files]
     texts = [(os.path.relpath(path, f"crates/{crate}"), path) for path in paths]
     texts += [(f"edits/{os.path.basename(path)}", path) for path in edits.edits_of(crate)]
     for name, path in sorted(texts):
         text = edits.read(path)
-        whole.update(f"{name}\n{text if name.startswith('edits/') else without_comments(text)}\n".encode())
+        text = text if name.startswith("edits/") else without_comments(text)
+        whole.update(f"{name}\n{on_one_line(text) if name.endswith('.antt') else text}\n".encode())
     return whole.hexdigest()
 
 

@@ -137,17 +137,27 @@ def faults_of_digests():
     for text, wanted in texts.items():
         if shown_as_changed(text) != wanted:
             yield f"the digests {text!r} have to show as changed: {wanted}"
-    for path in ("src/lib.rt", "specs/Sums.antt", "must-fail/wrong.edit"):
+    for path, more in ((LIB, "\n"), (SUMS, "\nabbrev pub one : ℕ\n"), (SUMS, "  one = 1\n"), ("must-fail/wrong.edit", "\n")):
         with open(f"crates/tried/{path}", "a", encoding="utf-8") as file:
-            file.write("\n")
+            file.write(more)
         if shown_as_changed(f"tried {digest}\n") != ["tried"]:
             yield f"a change of {path} has to be seen"
         digest = wrong_bodies.digest("tried")
-    for path, comment in (("src/lib.rt", "    // a comment"), ("specs/Sums.antt", "-- a comment")):
+    for path, comment in ((LIB, "    // a comment"), (SUMS, "-- a comment")):
         with open(f"crates/tried/{path}", "a", encoding="utf-8") as file:
             file.write(f"{comment}\n")
         if shown_as_changed(f"tried {digest}\n"):
             yield f"a comment of {path} is not a change"
+    for old, new in (("other = one", "other =\n    one"), ("{ℕ, ", "{ℕ}\nuse Rattle.std.specs.Prelude.{")):
+        text = wrong_bodies.edits.read(f"crates/tried/{SUMS}")
+        with open(f"crates/tried/{SUMS}", "w", encoding="utf-8") as file:
+            file.write(text.replace(old, new))
+        if text.count(old) != 1 or shown_as_changed(f"tried {digest}\n"):
+            yield f"a line that is broken is not a change: {new!r}"
+    with open(f"crates/tried/{SUMS}", "w", encoding="utf-8") as file:
+        file.write(text.replace("\n  one = 1", "\none = 1"))
+    if shown_as_changed(f"tried {digest}\n") != ["tried"]:
+        yield "a statement that begins at another column is a change"
     os.remove(wrong_bodies.SEEN)
     try:
         wrong_bodies.have_changed()

@@ -1,5 +1,6 @@
 -- Premises of the laws that are needed: each law without one of them, and a link for which it is then false.
-use Rattle.std.proofs.Common.{◌≡◌, ◌≢◌, ℕ, ◌+◌, ◌≤◌, true, false, List, [], ◌∷◌, ◌++◌, map, length, Some, None, refl, sym, ◌∙◌, ap, arith, inl, inr, eq-eqb}
+use Rattle.std.proofs.Common.{◌≡◌, ◌≢◌, ℕ, ◌+◌, ◌≤◌, true, false, List, [], ◌∷◌, ◌++◌, map, length, Some}
+use Rattle.std.proofs.Common.{None, refl, sym, ◌∙◌, ap, arith, inl, inr, eq-eqb}
 use Rattle.std.specs.Prelude.{eqb, filter, Result, Ok, slice_get, sum_by}
 use Rattle.std.specs.List.{AllByRecursion}
 use Rattle.aout_core.specs.declared.symbol.Symbol.{Symbol}
@@ -22,7 +23,8 @@ use Rattle.link_out.specs.laws.PartialLinks.{KeepsNoMore, IsPartialLink, without
 use Rattle.link_laws.specs.relation.Relocated.{entry_of, IsRelocated, HoldsObjects, IsEntry}
 use Rattle.link_laws.specs.WordsAndNames.{IsDefined}
 use Rattle.link_laws.specs.CommonsAndLayouts.{IsCommon, HasRoom}
-use Rattle.conformance.specs.Samples.{sym as entry, sized, _f, _x, _z, c_o, d_o, d2_o, x4_o, plain, plain_s, relocatable, relocatable_d, with_keep, with_entry}
+use Rattle.conformance.specs.Samples.{sym as entry, sized, _f, _x, _z, c_o, d_o, d2_o, x4_o, plain, plain_s}
+use Rattle.conformance.specs.Samples.{relocatable, relocatable_d, with_keep, with_entry}
 use Rattle.conformance.proofs.LawExamples.{outcome_of}
 use Rattle.conformance.proofs.ClauseLemmas.{as_object, only_wanted}
 
@@ -56,12 +58,13 @@ strips_relocation law =
     counts (λ (x : Outcome). x.file.header.flag) dropped (record kept { file = stripped kept.file }) refl same
 
 -- the meaning of words, where no table is written
-words_without_table : ((forced : List (List ℕ)) (before : List Contents) (k : Contents) (after : List Contents) (o : Choices) (x : Outcome) →
-    AllByRecursion IsObject (before ++ k ∷ after) → link forced (before ++ k ∷ after) o ≡ Ok x →
-    (segment : Segment) (i w : ℕ) (r : Reloc) → slice_get (segment_words segment k) i ≡ Some w → slice_get (segment_relocs segment k) i ≡ Some r →
-    IsRelocated x.file x.file.symbols (before ++ k ∷ after) before k segment i w r) → ⊥
+words_without_table : ((forced : List (List ℕ)) (before : List Contents) (k : Contents) (after : List Contents) (o : Choices)
+    (x : Outcome) → AllByRecursion IsObject (before ++ k ∷ after) → link forced (before ++ k ∷ after) o ≡ Ok x →
+    (segment : Segment) (i w : ℕ) (r : Reloc) → slice_get (segment_words segment k) i ≡ Some w →
+    slice_get (segment_relocs segment k) i ≡ Some r → IsRelocated x.file x.file.symbols (before ++ k ∷ after) before k segment i w r) → ⊥
 words_without_table law =
-    let h = (law [] [] c_o (d_o ∷ []) plain_s (link_of both plain_s) (c_good, (d_good, tt)) refl TextSeg 1 0o177774 (record { 0 = 0o11 }) refl refl).is in
+    let h = (law [] [] c_o (d_o ∷ []) plain_s (link_of both plain_s) (c_good, (d_good, tt)) refl TextSeg 1 0o177774
+    (record { 0 = 0o11 }) refl refl).is in
     let bad : None ≡ Some h.row = h.found in
     absurd (cc)
 
@@ -69,12 +72,13 @@ words_without_table law =
 abbrev pub no_object : Contents
 no_object = sized 8 0 0 []
 
-filled_by_others : ((forced : List (List ℕ)) (os : List Contents) (o : Choices) (x : Outcome) → link forced os o ≡ Ok x → HoldsObjects x.file os) → ⊥
+filled_by_others : ((forced : List (List ℕ)) (os : List Contents) (o : Choices) (x : Outcome) →
+    link forced os o ≡ Ok x → HoldsObjects x.file os) → ⊥
 filled_by_others law = counts (λ (n : ℕ). n) 0 8 refl (law [] (no_object ∷ []) plain (link_of (no_object ∷ []) plain) refl).text_words
 
 -- definitions, where a name is multiply defined
-definitions_of_multiples : ((forced : List (List ℕ)) (before : List Contents) (k : Contents) (after : List Contents) (o : Choices) (x : Outcome) →
-    o.keep ≢ Nothing → link forced (before ++ k ∷ after) o ≡ Ok x →
+definitions_of_multiples : ((forced : List (List ℕ)) (before : List Contents) (k : Contents) (after : List Contents)
+    (o : Choices) (x : Outcome) → o.keep ≢ Nothing → link forced (before ++ k ∷ after) o ≡ Ok x →
     (j : ℕ) (s : Symbol) → slice_get k.symbols j ≡ Some s → is_external s ≡ true → eqb (masked_type s) 0 ≡ false →
     IsDefined x.file (before ++ k ∷ after) before k s) → ⊥
 definitions_of_multiples law =
@@ -101,7 +105,8 @@ addresses_of_undefined law =
 -- entries, the entry word and what is missing, where no table is written
 entries_without_table : ((forced : List (List ℕ)) (os : List Contents) (o : Choices) (x : Outcome) → link forced os o ≡ Ok x →
     map (λ s. s.name) (filter is_external x.file.symbols) ≡ externals forced os) → ⊥
-entries_without_table law = counts (λ (ns : List (List ℕ)). length ns) [] (_f ∷ []) refl (law [] (c_o ∷ []) plain_s (link_of (c_o ∷ []) plain_s) refl)
+entries_without_table law =
+    counts (λ (ns : List (List ℕ)). length ns) [] (_f ∷ []) refl (law [] (c_o ∷ []) plain_s (link_of (c_o ∷ []) plain_s) refl)
 
 entry_without_table : ((forced : List (List ℕ)) (os : List Contents) (o : Choices) (x : Outcome) → link forced os o ≡ Ok x →
     IsEntry x.file.symbols o.entry x.file.header.entry_point x.report.entry_bad) → ⊥
@@ -112,7 +117,8 @@ entry_without_table law = by_case (law [] both (with_entry _f plain_s) (link_of 
     by_case (inr h) = counts (λ (n : ℕ). n) 6 0 refl h.1
 
 missing_without_table : ((forced : List (List ℕ)) (os : List Contents) (o : Choices) (x : Outcome) → link forced os o ≡ Ok x →
-    (name : List ℕ) → is_among x.report.undefined name ≡ true → (row : Symbol) × (entry_of x.file.symbols name ≡ Some row) × (row.type_bits ≡ 32) × (row.value ≡ 0)) → ⊥
+    (name : List ℕ) → is_among x.report.undefined name ≡ true →
+    (row : Symbol) × (entry_of x.file.symbols name ≡ Some row) × (row.type_bits ≡ 32) × (row.value ≡ 0)) → ⊥
 missing_without_table law =
     let h = law [] (c_o ∷ []) plain_s (link_of (c_o ∷ []) plain_s) refl _f refl in
     let bad : None ≡ Some h.0 = h.1 in
@@ -122,16 +128,19 @@ missing_without_table law =
 size_of_waiting : ((forced : List (List ℕ)) (os : List Contents) (o : Choices) (x : Outcome) → o.keep ≢ Nothing → link forced os o ≡ Ok x →
     (name : List ℕ) (size : ℕ) → IsCommon forced os name size → HasRoom x.file os name size) → ⊥
 size_of_waiting law =
-    let h = law [] (x4_o ∷ []) relocatable (link_of (x4_o ∷ []) relocatable) all_kept refl _x 4 (record { wanted = only_wanted _x 4; sized = refl }) in
+    let h = law [] (x4_o ∷ []) relocatable (link_of (x4_o ∷ []) relocatable) all_kept refl _x 4
+    (record { wanted = only_wanted _x 4; sized = refl }) in
     let found : Some (entry _x 32 4) ≡ Some h.row = h.found in
     let same : entry _x 32 4 ≡ h.row = cc in
     counts (λ (n : ℕ). n) 32 36 refl (ap (λ (s : Symbol). s.type_bits) same ∙ h.type_bits)
 
 -- a common has no byte more than it wants
-one_byte_more : ((forced : List (List ℕ)) (os : List Contents) (o : Choices) (x : Outcome) → o.keep ≢ Nothing → lays_commons o ≡ true → link forced os o ≡ Ok x →
+one_byte_more : ((forced : List (List ℕ)) (os : List Contents) (o : Choices) (x : Outcome) → o.keep ≢ Nothing →
+    lays_commons o ≡ true → link forced os o ≡ Ok x →
     (name : List ℕ) (size : ℕ) → IsCommon forced os name size → HasRoom x.file os name (size + 1)) → ⊥
 one_byte_more law =
-    let h = law [] (x4_o ∷ []) plain (link_of (x4_o ∷ []) plain) all_kept refl refl _x 4 (record { wanted = only_wanted _x 4; sized = refl }) in
+    let h = law [] (x4_o ∷ []) plain (link_of (x4_o ∷ []) plain) all_kept refl refl _x 4
+    (record { wanted = only_wanted _x 4; sized = refl }) in
     let room : h.row.value + 5 ≤ 4 = h.before in
     absurd (omega arith)
 
@@ -148,7 +157,8 @@ partial_with_multiples : ((forced : List (List ℕ)) (os : List Contents) (by o 
     IsPartialLink forced os by x → KeepsNoMore o.keep by.keep → link forced (x.file ∷ []) o ≡ link forced os o) → ⊥
 partial_with_multiples law =
     let m : Outcome = link_of (d_o ∷ d2_o ∷ []) relocatable in
-    counts (λ (r : Result Outcome LinkFault). length (outcome_of r).report.multiples) (link [] (m.file ∷ []) plain) (link [] (d_o ∷ d2_o ∷ []) plain) refl
+    counts (λ (r : Result Outcome LinkFault). length (outcome_of r).report.multiples) (link [] (m.file ∷ []) plain)
+    (link [] (d_o ∷ d2_o ∷ []) plain) refl
     (law [] (d_o ∷ d2_o ∷ []) relocatable plain m (refl, (refl, tt)) c_d2_partial (λ name h. h))
 
 c_partial : IsPartialLink [] (c_o ∷ []) (with_keep NotL relocatable) (link_of (c_o ∷ []) (with_keep NotL relocatable))
@@ -158,7 +168,8 @@ partial_keeps_more : ((forced : List (List ℕ)) (os : List Contents) (by o : Ch
     IsPartialLink forced os by x → without_multiples (link forced (x.file ∷ []) o) ≡ without_multiples (link forced os o)) → ⊥
 partial_keeps_more law =
     let m : Outcome = link_of (c_o ∷ []) (with_keep NotL relocatable) in
-    counts (λ (r : Result Outcome LinkFault). length (outcome_of r).file.symbols) (without_multiples (link [] (m.file ∷ []) plain)) (without_multiples (link [] (c_o ∷ []) plain)) refl
+    counts (λ (r : Result Outcome LinkFault). length (outcome_of r).file.symbols)
+    (without_multiples (link [] (m.file ∷ []) plain)) (without_multiples (link [] (c_o ∷ []) plain)) refl
     (law [] (c_o ∷ []) (with_keep NotL relocatable) plain m (refl, tt) c_partial)
 
 -- commons that the partial link laid out: a later link that keeps relocation leaves those of the objects as they are
@@ -167,7 +178,8 @@ partial_lays_commons : ((forced : List (List ℕ)) (os : List Contents) (by o : 
     without_multiples (link forced (x.file ∷ []) o) ≡ without_multiples (link forced os o)) → ⊥
 partial_lays_commons law =
     let m : Outcome = link_of (x4_o ∷ []) relocatable_d in
-    counts (λ (r : Result Outcome LinkFault). sum_by (λ (s : Symbol). s.type_bits) (outcome_of r).file.symbols) (without_multiples (link [] (m.file ∷ []) relocatable)) (without_multiples (link [] (x4_o ∷ []) relocatable)) refl
+    counts (λ (r : Result Outcome LinkFault). sum_by (λ (s : Symbol). s.type_bits) (outcome_of r).file.symbols)
+    (without_multiples (link [] (m.file ∷ []) relocatable)) (without_multiples (link [] (x4_o ∷ []) relocatable)) refl
     (law [] (x4_o ∷ []) relocatable_d relocatable m (refl, tt) refl refl refl (λ name h. h))
 
 z_partial : IsPartialLink (_z ∷ []) [] relocatable (outcome_of (link (_z ∷ []) [] relocatable))
@@ -175,8 +187,10 @@ z_partial = record { allowed = refl; relocatable = refl; no_commons = refl; link
 
 -- names that were forced in the partial link, and are not later
 partial_forces_more : ((own forced : List (List ℕ)) (os : List Contents) (by o : Choices) (x : Outcome) → AllByRecursion IsWellFormed os →
-    IsPartialLink own os by x → KeepsNoMore o.keep by.keep → without_multiples (link forced (x.file ∷ []) o) ≡ without_multiples (link forced os o)) → ⊥
+    IsPartialLink own os by x → KeepsNoMore o.keep by.keep →
+    without_multiples (link forced (x.file ∷ []) o) ≡ without_multiples (link forced os o)) → ⊥
 partial_forces_more law =
     let m : Outcome = outcome_of (link (_z ∷ []) [] relocatable) in
-    counts (λ (r : Result Outcome LinkFault). length (outcome_of r).file.symbols) (without_multiples (link [] (m.file ∷ []) plain)) (without_multiples (link [] [] plain)) refl
+    counts (λ (r : Result Outcome LinkFault). length (outcome_of r).file.symbols)
+    (without_multiples (link [] (m.file ∷ []) plain)) (without_multiples (link [] [] plain)) refl
     (law (_z ∷ []) [] [] relocatable plain m tt z_partial (λ name h. h))

@@ -65,7 +65,8 @@ Says short forced os o x rows = data_start_in x.file.header + x.file.header.data
 Says few forced os o x rows = length x.file.symbols ≤ 5461
 Says names forced os o x rows = map (λ s. s.name) rows ≡ externals forced os
 Says are_rows forced os o x rows =
-    AreRows x.file.header (total BssSeg os) o (mentions forced os) (data_start_in x.file.header + x.file.header.data_size) rows (base_in x.file.header (total BssSeg os) BssSeg)
+    AreRows x.file.header (total BssSeg os) o (mentions forced os)
+    (data_start_in x.file.header + x.file.header.data_size) rows (base_in x.file.header (total BssSeg os) BssSeg)
 Says table forced os o x rows = x.file.symbols ≡ rows_kept o.keep (moved_locals_in x.file.header os o ++ rows)
 Says text forced os o x rows = AreRelocated x.file rows os TextSeg
 Says «data» forced os o x rows = AreRelocated x.file rows os DataSeg
@@ -74,10 +75,13 @@ Says data_relocs forced os o x rows = 2 * length x.file.data_reloc ≡ cond o.re
 Says text_kept forced os o x rows = o.relocatable ≡ true → AreKept x.file rows (length (moved_locals_in x.file.header os o)) os TextSeg
 Says data_kept forced os o x rows = o.relocatable ≡ true → AreKept x.file rows (length (moved_locals_in x.file.header os o)) os DataSeg
 Says entry forced os o x rows = IsEntry rows o.entry x.file.header.entry_point x.report.entry_bad
-Says multiples forced os o x rows = (others : List Mention) × ArePicked (IsOther (mentions forced os)) (mentions forced os) others × (x.report.multiples ≡ map (λ m. m.name) others)
+Says multiples forced os o x rows =
+    (others : List Mention) × ArePicked (IsOther (mentions forced os)) (mentions forced os) others
+    × (x.report.multiples ≡ map (λ m. m.name) others)
 Says reserved forced os o x rows = ArePicked (λ name. IsWanted (mentions forced os) name 0 → ⊥) reserved_names x.report.reserved
 Says undefined forced os o x rows =
-    o.relocatable ≡ false → ArePicked (λ name. IsWanted (mentions forced os) name 0 × (is_among reserved_names name ≡ false)) (externals forced os) x.report.undefined
+    o.relocatable ≡ false → ArePicked (λ name. IsWanted (mentions forced os) name 0 × (is_among reserved_names name ≡ false))
+    (externals forced os) x.report.undefined
 Says none forced os o x rows = o.relocatable ≡ true → x.report.undefined ≡ []
 
 -- together the clauses are the relation

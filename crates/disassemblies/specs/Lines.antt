@@ -2,7 +2,8 @@
 --
 -- A line is at a place, which counts the words of text. A relocated word begins no instruction, since a link changes it. Other
 -- lines are those of the words alone, and each operand is named by its relocation word, or without relocation by its address.
-use Rattle.std.specs.Prelude.{ℕ, ◌+◌, ◌*◌, true, eqb, if◌then◌else◌, List, [], ◌∷◌, ◌++◌, take, drop, Option, Some, None, slice_get, slice_index}
+use Rattle.std.specs.Prelude.{ℕ, ◌+◌, ◌*◌, true, eqb, if◌then◌else◌, List, [], ◌∷◌, ◌++◌, take, drop}
+use Rattle.std.specs.Prelude.{Option, Some, None, slice_get, slice_index}
 use Rattle.aout_core.specs.declared.symbol.Symbol.{Symbol}
 use Rattle.aout_core.specs.declared.symbol.Segment.TheVariants.{TextSeg}
 use Rattle.aout_core.specs.declared.reloc.Reloc.{Reloc}
@@ -29,7 +30,8 @@ use Rattle.disassemblies.specs.Linked.{located, linked_reference}
 
 abbrev pub unix_line_in : Decoder → Contents → ℕ → UnixLine
 unix_line_in d c place =
-    if is_relocated (slice_get c.text_reloc place) then Machine (Plain (slice_index c.text_words place)) else unix_line_at d c.text_words place
+    if is_relocated (slice_get c.text_reloc place) then Machine (Plain (slice_index c.text_words place))
+    else unix_line_at d c.text_words place
 
 -- what an operand word refers to, if it has this relocation word or none
 abbrev pub word_reference : Contents → Operation → ℕ → Option Reloc → ℕ → Addressing → Option Reference
@@ -42,11 +44,13 @@ general_reference c operation next r n (Some a) = word_reference c operation nex
 
 -- a branch reaches text
 abbrev pub branch_reference : Contents → ℕ → Option Reference
-branch_reference c target = if eqb c.header.flag 0 then exact (symbol_at c.symbols TextSeg target) else located c.header c.symbols true target
+branch_reference c target =
+    if eqb c.header.flag 0 then exact (symbol_at c.symbols TextSeg target) else located c.header c.symbols true target
 
 -- what an operand of an instruction at an address refers to
 abbrev pub operand_reference : Contents → Operation → ℕ → ℕ → Option Reloc → Option Operand → Option ℕ → Option Reference
-operand_reference c operation address next r (Some (General m register)) word = general_reference c operation next r (number word) (addressing m register)
+operand_reference c operation address next r (Some (General m register)) word =
+    general_reference c operation next r (number word) (addressing m register)
 operand_reference c operation address next r (Some (Forward v)) word = branch_reference c (branch_target address v)
 operand_reference c operation address next r (Some (Backward v)) word = branch_reference c (branch_back_target address v)
 operand_reference c operation address next r _ word = None
@@ -56,7 +60,9 @@ abbrev pub references : Contents → ℕ → Line → References
 references c place (Plain w) = record { first = None; second = None }
 references c place (Decoded i a b) = record {
   first = operand_reference c i.row.operation (2 * place) (first_next (2 * place)) (slice_get c.text_reloc (place + 1)) i.first a;
-  second = operand_reference c i.row.operation (2 * place) (second_next (2 * place) i.first) (slice_get c.text_reloc (place + 1 + word_count_of i.first)) i.second b;
+  second =
+      operand_reference c i.row.operation (2 * place) (second_next (2 * place) i.first)
+      (slice_get c.text_reloc (place + 1 + word_count_of i.first)) i.second b;
 }
 
 -- what an argument of a system call refers to: an address or a number, as an immediate operand
@@ -67,7 +73,8 @@ argument_reference symbols (Some r) n = object_reference symbols r n 0 Immediate
 -- arguments, the first of them at a place
 abbrev pub arguments_text : Contents → ℕ → List ℕ → List ℕ
 arguments_text c place [] = []
-arguments_text c place (n ∷ ns) = argument_text (argument_reference c.symbols (slice_get c.text_reloc place) n) n ++ arguments_text c (place + 1) ns
+arguments_text c place (n ∷ ns) =
+    argument_text (argument_reference c.symbols (slice_get c.text_reloc place) n) n ++ arguments_text c (place + 1) ns
 
 abbrev pub unix_text_in : Contents → ℕ → UnixLine → List ℕ
 unix_text_in c place (Machine line) = text_with (references c place line) (2 * place) line

@@ -11,7 +11,8 @@ use Rattle.aout_core.specs.declared.reloc.Kind.{Kind}
 use Rattle.aout_core.specs.declared.reloc.Kind.TheVariants as kinds
 use Rattle.aout_core.specs.Words.{plus}
 use Rattle.aout_core.specs.Addresses.{target}
-use Rattle.aout_core.specs.WellFormed.{is_external, masked_type, segment_number, kind_of, is_pc_relative, symbol_number, is_undefined, first_of}
+use Rattle.aout_core.specs.WellFormed.{is_external, masked_type, segment_number, kind_of, is_pc_relative}
+use Rattle.aout_core.specs.WellFormed.{symbol_number, is_undefined, first_of}
 use Rattle.instructions.specs.declared.mode.Addressing.{Addressing}
 use Rattle.instructions.specs.declared.mode.Addressing.TheVariants.{Immediate, Absolute, Relative, RelativeDeferred, Indexed}
 use Rattle.instructions.specs.declared.reference.Reference.{Reference}

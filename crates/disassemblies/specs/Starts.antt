@@ -1,5 +1,6 @@
 -- The lines of a file's text, one after the other, the words at which they begin, and the line that has a word.
-use Rattle.std.specs.Prelude.{ℕ, zero, suc, ◌+◌, ◌-◌, Bool, true, false, nat_lt, if◌then◌else◌, List, [], ◌∷◌, ◌++◌, Option, Some, None, length, replicate, slice_get}
+use Rattle.std.specs.Prelude.{ℕ, zero, suc, ◌+◌, ◌-◌, Bool, true, false, nat_lt, if◌then◌else◌, List, [], ◌∷◌}
+use Rattle.std.specs.Prelude.{◌++◌, Option, Some, None, length, replicate, slice_get}
 use Rattle.aout_core.specs.Contents.{Contents}
 use Rattle.instructions.specs.declared.unix.Decoder.{Decoder}
 use Rattle.instructions.specs.UnixLines.{unix_length}
@@ -9,7 +10,8 @@ use Rattle.disassemblies.specs.Lines.{unix_line_in}
 abbrev pub lines_from : {A : Type 0} → Decoder → Contents → (ℕ → ℕ → List A) → List A → ℕ → ℕ → List A
 lines_from d c of end zero place = end
 lines_from d c of end (suc most) place =
-    let n : ℕ = unix_length (unix_line_in d c place) in if nat_lt place (length c.text_words) then of place n ++ lines_from d c of end most (place + n) else end
+    let n : ℕ = unix_length (unix_line_in d c place) in
+    if nat_lt place (length c.text_words) then of place n ++ lines_from d c of end most (place + n) else end
 
 -- what each line of the text gives, and what its end gives
 abbrev pub by_lines : {A : Type 0} → Decoder → Contents → (ℕ → ℕ → List A) → List A → List A

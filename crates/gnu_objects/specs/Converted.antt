@@ -2,7 +2,8 @@
 --
 -- The words of text and data stay. A relocation word of an external gets the number that its symbol has among those that stay, and
 -- else stays. A symbol keeps the first eight bytes of its name, its type and its value.
-use Rattle.std.specs.Prelude.{ℕ, ◌+◌, ◌*◌, ◌/◌, ◌%◌, Bool, if◌then◌else◌, List, map, take, drop, length, Option, Some, None, Result, Ok, Err}
+use Rattle.std.specs.Prelude.{ℕ, ◌+◌, ◌*◌, ◌/◌, ◌%◌, Bool, if◌then◌else◌, List, map, take, drop}
+use Rattle.std.specs.Prelude.{length, Option, Some, None, Result, Ok, Err}
 use Rattle.aout_core.specs.declared.header.Header.{Header}
 use Rattle.aout_core.specs.declared.reloc.Reloc.{Reloc}
 use Rattle.aout_core.specs.declared.symbol.Symbol.{Symbol}

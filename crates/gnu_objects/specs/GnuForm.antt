@@ -2,7 +2,8 @@
 --
 -- The header has the eight words of the Seventh Edition, and text, data and relocation follow it as there. After them come
 -- the symbols, 8 bytes each, and after these the strings, which begin with their own length in four bytes and count them.
-use Rattle.std.specs.Prelude.{ℕ, ◌+◌, ◌*◌, ◌/◌, Bool, ◌&&◌, ◌||◌, ◌==◌, nat_lt, if◌then◌else◌, List, [], map, take, drop, replicate, slice_index}
+use Rattle.std.specs.Prelude.{ℕ, ◌+◌, ◌*◌, ◌/◌, Bool, ◌&&◌, ◌||◌, ◌==◌, nat_lt, if◌then◌else◌, List}
+use Rattle.std.specs.Prelude.{[], map, take, drop, replicate, slice_index}
 use Rattle.std.specs.List.{list_any, range_with_len}
 use Rattle.aout_core.specs.declared.header.Header.{Header}
 use Rattle.aout_core.specs.Names.{before_nul}

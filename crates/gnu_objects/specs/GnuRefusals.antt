@@ -2,12 +2,16 @@
 --
 -- First the header and the sizes are looked at, then the strings, each symbol, the entry point, how many symbols stay, externals
 -- whose names are equal in eight bytes, and last the relocation words.
-use Rattle.std.specs.Prelude.{ℕ, ◌+◌, ◌/◌, ◌%◌, Bool, true, false, ◌&&◌, ◌||◌, ◌==◌, not, nat_lt, nat_le, if◌then◌else◌, List, [], ◌∷◌, take, length, slice_get, Option, Some, None}
+use Rattle.std.specs.Prelude.{ℕ, ◌+◌, ◌/◌, ◌%◌, Bool, true, false, ◌&&◌, ◌||◌, ◌==◌, not, nat_lt, nat_le, if◌then◌else◌}
+use Rattle.std.specs.Prelude.{List, [], ◌∷◌, take, length, slice_get, Option, Some, None}
 use Rattle.aout_core.specs.declared.header.Header.{Header}
 use Rattle.aout_core.specs.Decoding.{header_in}
 use Rattle.aout_core.specs.Encoding.{file_length}
 use Rattle.gnu_objects.specs.declared.refusal.Refusal.{Refusal}
-use Rattle.gnu_objects.specs.declared.refusal.Refusal.TheVariants.{ShortHeader, BadMagic, OddSize, Truncated, BadStrings, Overlay, BadPlace, Stab, Description, Linked, TooManySymbols, AlikeNames, StabWord, LocalWord}
+use Rattle.gnu_objects.specs.declared.refusal.Refusal.TheVariants.{ShortHeader, BadMagic, OddSize, Truncated}
+use Rattle.gnu_objects.specs.declared.refusal.Refusal.TheVariants.{BadStrings, Overlay, BadPlace, Stab, Description}
+use Rattle.gnu_objects.specs.declared.refusal.Refusal.TheVariants.{Linked, TooManySymbols, AlikeNames, StabWord}
+use Rattle.gnu_objects.specs.declared.refusal.Refusal.TheVariants.{LocalWord}
 use Rattle.gnu_objects.specs.declared.refusal.Size.TheVariants as sizes
 use Rattle.gnu_objects.specs.declared.symbols.GnuSymbol.{GnuSymbol}
 use Rattle.gnu_objects.specs.GnuForm.{long_at, name_at, is_stab}

@@ -6,7 +6,10 @@ use Rattle.aout_core.specs.declared.object.ObjectFault.TheVariants.{NotAnObject,
 use Rattle.aout_core.specs.Decoding.{header_in}
 use Rattle.aout_core.specs.Encoding.{relocation_at, symbols_at, file_length}
 use Rattle.gnu_objects.specs.declared.refusal.Refusal.{Refusal}
-use Rattle.gnu_objects.specs.declared.refusal.Refusal.TheVariants.{ShortHeader, BadMagic, OddSize, Truncated, BadStrings, Overlay, BadPlace, Stab, Description, Linked, TooManySymbols, AlikeNames, StabWord, LocalWord, BadWord, Memory}
+use Rattle.gnu_objects.specs.declared.refusal.Refusal.TheVariants.{ShortHeader, BadMagic, OddSize, Truncated}
+use Rattle.gnu_objects.specs.declared.refusal.Refusal.TheVariants.{BadStrings, Overlay, BadPlace, Stab, Description}
+use Rattle.gnu_objects.specs.declared.refusal.Refusal.TheVariants.{Linked, TooManySymbols, AlikeNames, StabWord}
+use Rattle.gnu_objects.specs.declared.refusal.Refusal.TheVariants.{LocalWord, BadWord, Memory}
 use Rattle.gnu_objects.specs.declared.refusal.Size.{Size}
 use Rattle.gnu_objects.specs.declared.refusal.Size.TheVariants.{TextSize, DataSize, BssSize, SymbolSize}
 use Rattle.gnu_objects.specs.GnuForm.{symbol_at, strings_of, name_at}

@@ -2,7 +2,8 @@
 --
 -- Externals stay. Symbols for a debugger go. A local goes if the options drop it, and also if its name, cut at eight bytes, is
 -- that of another symbol whose whole name differs.
-use Rattle.std.specs.Prelude.{ℕ, ◌+◌, ◌/◌, ◌%◌, Bool, true, false, ◌&&◌, ◌||◌, ◌==◌, not, nat_eq, if◌then◌else◌, List, [], ◌∷◌, map, filter, zip, take, length, Option, Some, None}
+use Rattle.std.specs.Prelude.{ℕ, ◌+◌, ◌/◌, ◌%◌, Bool, true, false, ◌&&◌, ◌||◌, ◌==◌, not, nat_eq, if◌then◌else◌, List}
+use Rattle.std.specs.Prelude.{[], ◌∷◌, map, filter, zip, take, length, Option, Some, None}
 use Rattle.std.specs.List.{list_any}
 use Rattle.std.specs.Cmp.Lexicographic.{pointwise}
 use Rattle.gnu_objects.specs.declared.options.Locals.{Locals}
@@ -39,7 +40,8 @@ counts strings externals s = not (is_stab strings s) && (not externals || is_ext
 abbrev pub alike_with : List ℕ → Bool → List ℕ → ℕ → List GnuSymbol → Option ℕ
 alike_with strings externals name m [] = None
 alike_with strings externals name m (s ∷ rest) =
-    if counts strings externals s && are_alike name (name_at strings s.place) then Some m else alike_with strings externals name (m + 1) rest
+    if counts strings externals s && are_alike name (name_at strings s.place) then Some m
+    else alike_with strings externals name (m + 1) rest
 
 abbrev pub is_some : Option ℕ → Bool
 is_some None = false

@@ -91,7 +91,8 @@ words_alike P place true c f g inside more pairs =
     let y = get_inside g c (omega (arith, inside refl)) in
     alike_some P place (slice_get f c) (slice_get g c) x.0 y.0 x.1 y.1 (pairs x.0 y.0 x.1 y.1)
 
-has_both : (a b : Bool) (n : ℕ) → (if a then 1 else 0) + (if b then 1 else 0) ≤ n → (a ≡ true → 0 < n) × (b ≡ true → (if a then 1 else 0) < n)
+has_both : (a b : Bool) (n : ℕ) → (if a then 1 else 0) + (if b then 1 else 0) ≤ n →
+    (a ≡ true → 0 < n) × (b ≡ true → (if a then 1 else 0) < n)
 has_both true true n h = (λ e. omega arith, λ e. omega arith)
 has_both true false n h = (λ e. omega arith, λ e. absurd cc)
 has_both false true n h = (λ e. absurd cc, λ e. omega arith)

@@ -1,5 +1,7 @@
 -- The text of a list of words is taken apart at its newlines, so that no two lists have one text.
-use Rattle.std.proofs.Common.{◌≡◌, ℕ, zero, suc, ◌+◌, ◌*◌, ◌/◌, ◌%◌, ◌<◌, ◌≤◌, Bool, true, false, ◌||◌, nat_lt, if◌then◌else◌, Option, Some, None, List, [], ◌∷◌, ◌++◌, length, take, drop, refl, sym, ap, ◌∙◌, arith}
+use Rattle.std.proofs.Common.{◌≡◌, ℕ, zero, suc, ◌+◌, ◌*◌, ◌/◌, ◌%◌, ◌<◌, ◌≤◌, Bool, true, false, ◌||◌}
+use Rattle.std.proofs.Common.{nat_lt, if◌then◌else◌, Option, Some, None, List, [], ◌∷◌, ◌++◌, length}
+use Rattle.std.proofs.Common.{take, drop, refl, sym, ap, ◌∙◌, arith}
 use Rattle.std.proofs.lemmas.Bool.Decides.{nat_tests}
 use Rattle.std.specs.Prelude.{codes}
 use Rattle.std.proofs.lemmas.List.{length-drop, length-take-le, take-append-drop}
@@ -30,8 +32,15 @@ use Rattle.instructions.proofs.ReadLineLemmas.{word_at, has_first_word, has_seco
 plain_free : (w : ℕ) → free 10 (six_digits w) ≡ true
 unfolding six_digits
 plain_free w =
-    digits_free 10 (six_digits w) (omega arith)
-    (omega arith, omega arith, (omega arith, omega arith, (omega arith, omega arith, (omega arith, omega arith, (omega arith, omega arith, (omega arith, omega arith, tt))))))
+    digits_free 10 (six_digits w) (omega arith) (
+      omega arith,
+      omega arith,
+      (
+        omega arith,
+        omega arith,
+        (omega arith, omega arith, (omega arith, omega arith, (omega arith, omega arith, (omega arith, omega arith, tt)))),
+      ),
+    )
 
 after_free : (front : List ℕ) → free 10 front ≡ true → (f : Option Field) (w : ℕ) (a : Option ℕ) (next address : ℕ) → number a < 0o200000 →
     free 10 (operand_after front (field_operand f w) a next address) ≡ true
@@ -55,9 +64,10 @@ decoded_free r w a b address s h k =
     (free_append 10 (name i) one (name_free (is_ldf r.base i.first) r s) (after_free (codes " ") refl r.first w a (address + 4) address h))
     (after_free (codes ",") refl r.second w b (address + 4 + 2 * word_count_of i.first) address k)
 
-free_by : (cut : Bool) (r : Row) (w : ℕ) (f : List ℕ) (address : ℕ) → AreWords f → Sound r → nat_lt (length f) (following_words (instruction r w)) ≡ cut →
-    let i : Instruction = instruction r w in
-    free 10 (line_text address (if cut then Plain w else Decoded i (word_for i.first 0 f) (word_for i.second (word_count_of i.first) f))) ≡ true
+free_by : (cut : Bool) (r : Row) (w : ℕ) (f : List ℕ) (address : ℕ) → AreWords f → Sound r →
+    nat_lt (length f) (following_words (instruction r w)) ≡ cut → let i : Instruction = instruction r w in
+    free 10 (line_text address (if cut then Plain w else Decoded i (word_for i.first 0 f) (word_for i.second (word_count_of i.first) f)))
+    ≡ true
 free_by true r w f address h s t = plain_free w
 free_by false r w f address h s t =
     let i : Instruction = instruction r w in
@@ -65,7 +75,8 @@ free_by false r w f address h s t =
     let a : Option ℕ = word_for i.first 0 f in
     let b : Option ℕ = word_for i.second (word_count_of i.first) f in
     let p = word_at (takes_word i.first) f 0 h (has_first_word (takes_word i.first) (takes_word i.second) (length f) enough) in
-    let q = word_at (takes_word i.second) f (word_count_of i.first) h (has_second_word (takes_word i.first) (takes_word i.second) (length f) enough) in
+    let q = word_at (takes_word i.second) f (word_count_of i.first) h
+    (has_second_word (takes_word i.first) (takes_word i.second) (length f) enough) in
     decoded_free r w a b address s p.fits q.fits
 
 missing_free : (missing : Bool) (r : Row) (w : ℕ) (f : List ℕ) (address : ℕ) → AreWords f → Sound r →
@@ -73,9 +84,11 @@ missing_free : (missing : Bool) (r : Row) (w : ℕ) (f : List ℕ) (address : �
 missing_free true r w f address h s = plain_free w
 missing_free false r w f address h s = free_by (nat_lt (length f) (following_words (instruction r w))) r w f address h s refl
 
-row_free : (o : Option Row) (w : ℕ) (f : List ℕ) (address : ℕ) → AreWords f → ((r : Row) → o ≡ Some r → Sound r) → free 10 (line_text address (line_of (instruction_in o w) w f)) ≡ true
+row_free : (o : Option Row) (w : ℕ) (f : List ℕ) (address : ℕ) → AreWords f → ((r : Row) → o ≡ Some r → Sound r) →
+    free 10 (line_text address (line_of (instruction_in o w) w f)) ≡ true
 row_free None w f address h s = plain_free w
-row_free (Some r) w f address h s = missing_free (is_missing (field_operand r.first w) || is_missing (field_operand r.second w)) r w f address h (s r refl)
+row_free (Some r) w f address h s =
+    missing_free (is_missing (field_operand r.first w) || is_missing (field_operand r.second w)) r w f address h (s r refl)
 
 first_free : (w : ℕ) (f : List ℕ) (address : ℕ) → AreWords f → free 10 (line_text address (line_of (instruction_of w) w f)) ≡ true
 first_free w f address h = row_free (row_of w) w f address h (row_sound w)
@@ -108,10 +121,12 @@ texts_apart : (n address : ℕ) (ws vs : List ℕ) → length ws ≤ n → AreWo
     lines_text address (lines ws) ≡ lines_text address (lines vs) → ws ≡ vs
 texts_apart n address [] [] h p q e = refl
 texts_apart n address [] (v ∷ g) h p q e =
-    absurd (ends_apart (line_text address (line_of (instruction_of v) v g)) (lines_text (address + 2 * line_length (line_of (instruction_of v) v g)) (lines (drop (line_length (line_of (instruction_of v) v g)) (v ∷ g))))
+    absurd (ends_apart (line_text address (line_of (instruction_of v) v g)) (lines_text (address + 2
+    * line_length (line_of (instruction_of v) v g)) (lines (drop (line_length (line_of (instruction_of v) v g)) (v ∷ g))))
     (first_free v g address q.1) (e ∙ ap (lines_text address) (lines_first v g)))
 texts_apart n address (w ∷ f) [] h p q e =
-    absurd (ends_apart (line_text address (line_of (instruction_of w) w f)) (lines_text (address + 2 * line_length (line_of (instruction_of w) w f)) (lines (drop (line_length (line_of (instruction_of w) w f)) (w ∷ f))))
+    absurd (ends_apart (line_text address (line_of (instruction_of w) w f)) (lines_text (address + 2
+    * line_length (line_of (instruction_of w) w f)) (lines (drop (line_length (line_of (instruction_of w) w f)) (w ∷ f))))
     (first_free w f address p.1) (sym e ∙ ap (lines_text address) (lines_first w f)))
 texts_apart zero address (w ∷ f) (v ∷ g) h p q e = absurd (omega arith)
 texts_apart (suc n) address (w ∷ f) (v ∷ g) h p q e =
@@ -119,14 +134,16 @@ texts_apart (suc n) address (w ∷ f) (v ∷ g) h p q e =
     let m : Line = line_of (instruction_of v) v g in
     let k : ℕ = line_length l in
     let j : ℕ = line_length m in
-    let both = split_same (line_text address l) (line_text address m) (lines_text (address + 2 * k) (lines (drop k (w ∷ f)))) (lines_text (address + 2 * j) (lines (drop j (v ∷ g))))
+    let both = split_same (line_text address l) (line_text address m)
+    (lines_text (address + 2 * k) (lines (drop k (w ∷ f)))) (lines_text (address + 2 * j) (lines (drop j (v ∷ g))))
     (first_free w f address p.1) (first_free v g address q.1)
     (sym (ap (lines_text address) (lines_first w f)) ∙ e ∙ ap (lines_text address) (lines_first v g)) in
     let words : words_of l ≡ words_of m = unambiguous address (w ∷ f) (v ∷ g) 0 0 p q (omega arith) (omega arith) both.0 in
     let long : k ≡ j = sym (length_words w f) ∙ ap length words ∙ length_words v g in
     let some : 1 ≤ k = (length_from l).0 in
     let rest : drop k (w ∷ f) ≡ drop j (v ∷ g) =
-    texts_apart n (address + 2 * k) (drop k (w ∷ f)) (drop j (v ∷ g)) (omega (arith, length-drop k (w ∷ f))) (words_from (w ∷ f) k p) (words_from (v ∷ g) j q)
+    texts_apart n (address + 2 * k) (drop k (w ∷ f)) (drop j (v ∷ g)) (omega (arith, length-drop k (w ∷ f)))
+    (words_from (w ∷ f) k p) (words_from (v ∷ g) j q)
     (both.1 ∙ ap (λ (i : ℕ). lines_text (address + 2 * i) (lines (drop j (v ∷ g)))) (sym long)) in
     sym (take-append-drop k (w ∷ f)) ∙ ap (λ (t : List ℕ). t ++ drop k (w ∷ f)) (sym (first_words w f) ∙ words ∙ first_words v g)
     ∙ ap (λ (t : List ℕ). take j (v ∷ g) ++ t) rest ∙ take-append-drop j (v ∷ g)

@@ -15,7 +15,8 @@ AlikeWords P place _ _ = ⊥
 -- the line at a place, and what is there in the other text
 abbrev pub AlikeLine : (ℕ → ℕ → ℕ → Type 0) → ℕ → Line → Line → Type 0
 AlikeLine P place (Plain w) (Plain v) = v ≡ w
-AlikeLine P place (Decoded i a b) (Decoded j c d) = (j ≡ i) × AlikeWords P (place + 1) a c × AlikeWords P (place + 1 + word_count_of i.first) b d
+AlikeLine P place (Decoded i a b) (Decoded j c d) =
+    (j ≡ i) × AlikeWords P (place + 1) a c × AlikeWords P (place + 1 + word_count_of i.first) b d
 AlikeLine P place _ _ = ⊥
 
 -- the lines from a place on

@@ -1,7 +1,20 @@
 -- The names of the operations. (as(1); where it has none, the handbook of the PDP-11/70)
 use Rattle.std.specs.Prelude.{ℕ, List, codes}
 use Rattle.instructions.specs.declared.operation.Operation.{Operation}
-use Rattle.instructions.specs.declared.operation.Operation.TheVariants.{Clc, Clv, Clz, Cln, Sec, Sev, Sez, Sen, Halt, Wait, Rti, Bpt, Iot, Reset, Rtt, Nop, Ccc, Scc, Cfcc, Setf, Seti, Setd, Setl, Jmp, Swab, Clr, Clrb, Com, Comb, Inc, Incb, Dec, Decb, Neg, Negb, Adc, Adcb, Sbc, Sbcb, Tst, Tstb, Ror, Rorb, Rol, Rolb, Asr, Asrb, Asl, Aslb, Sxt, Mfpi, Mtpi, Mfpd, Mtpd, Ldfps, Stfps, Stst, Mov, Movb, Cmp, Cmpb, Bit, Bitb, Bic, Bicb, Bis, Bisb, Add, Sub, Jsr, Xor, Mul, Div, Ash, Ashc, Rts, Br, Bne, Beq, Bge, Blt, Bgt, Ble, Bpl, Bmi, Bhi, Blos, Bvc, Bvs, Bcc, Bcs, Sob, Sys, Emt, Mark, Spl, Clrf, Tstf, Absf, Negf, Mulf, Modf, Addf, Movf, Subf, Cmpf, Divf, Movof, Movfo, Movei, Movfi, Movie, Movif}
+use Rattle.instructions.specs.declared.operation.Operation.TheVariants.{Clc, Clv, Clz, Cln, Sec, Sev, Sez, Sen, Halt}
+use Rattle.instructions.specs.declared.operation.Operation.TheVariants.{Wait, Rti, Bpt, Iot, Reset, Rtt, Nop, Ccc, Scc}
+use Rattle.instructions.specs.declared.operation.Operation.TheVariants.{Cfcc, Setf, Seti, Setd, Setl, Jmp, Swab, Clr}
+use Rattle.instructions.specs.declared.operation.Operation.TheVariants.{Clrb, Com, Comb, Inc, Incb, Dec, Decb, Neg}
+use Rattle.instructions.specs.declared.operation.Operation.TheVariants.{Negb, Adc, Adcb, Sbc, Sbcb, Tst, Tstb, Ror}
+use Rattle.instructions.specs.declared.operation.Operation.TheVariants.{Rorb, Rol, Rolb, Asr, Asrb, Asl, Aslb, Sxt}
+use Rattle.instructions.specs.declared.operation.Operation.TheVariants.{Mfpi, Mtpi, Mfpd, Mtpd, Ldfps, Stfps, Stst, Mov}
+use Rattle.instructions.specs.declared.operation.Operation.TheVariants.{Movb, Cmp, Cmpb, Bit, Bitb, Bic, Bicb, Bis}
+use Rattle.instructions.specs.declared.operation.Operation.TheVariants.{Bisb, Add, Sub, Jsr, Xor, Mul, Div, Ash, Ashc}
+use Rattle.instructions.specs.declared.operation.Operation.TheVariants.{Rts, Br, Bne, Beq, Bge, Blt, Bgt, Ble, Bpl, Bmi}
+use Rattle.instructions.specs.declared.operation.Operation.TheVariants.{Bhi, Blos, Bvc, Bvs, Bcc, Bcs, Sob, Sys, Emt}
+use Rattle.instructions.specs.declared.operation.Operation.TheVariants.{Mark, Spl, Clrf, Tstf, Absf, Negf, Mulf, Modf}
+use Rattle.instructions.specs.declared.operation.Operation.TheVariants.{Addf, Movf, Subf, Cmpf, Divf, Movof, Movfo}
+use Rattle.instructions.specs.declared.operation.Operation.TheVariants.{Movei, Movfi, Movie, Movif}
 
 abbrev pub name_text : Operation → List ℕ
 name_text Clc = codes "clc"

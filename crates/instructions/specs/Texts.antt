@@ -6,7 +6,8 @@ use Rattle.std.specs.Prelude.{ℕ, ◌+◌, ◌-◌, ◌*◌, ◌%◌, Bool, fal
 use Rattle.instructions.specs.declared.reference.Reference.{Reference}
 use Rattle.instructions.specs.declared.reference.References.{References}
 use Rattle.instructions.specs.declared.mode.Mode.{Mode}
-use Rattle.instructions.specs.declared.mode.Mode.TheVariants.{Direct, Deferred, Increment, IncrementDeferred, Decrement, DecrementDeferred, Index, IndexDeferred}
+use Rattle.instructions.specs.declared.mode.Mode.TheVariants.{Direct, Deferred, Increment, IncrementDeferred, Decrement}
+use Rattle.instructions.specs.declared.mode.Mode.TheVariants.{DecrementDeferred, Index, IndexDeferred}
 use Rattle.instructions.specs.declared.mode.Register.{Register}
 use Rattle.instructions.specs.declared.mode.Register.TheVariants.{R0, R1, R2, R3, R4, R5, Sp, Pc}
 use Rattle.instructions.specs.declared.operand.Operand.{Operand}

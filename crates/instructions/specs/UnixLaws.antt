@@ -26,8 +26,10 @@ UnixIdentityLaw = (d : Decoder) (words : List ℕ) (place : ℕ) → place < len
 -- if four words follow it, what a first word begins does not depend on them: a call, or else a line of the machine, of which the law of
 -- first words says this
 pub record UnixFirstWordLaw : Type 0 where
-  pub call : (d : Decoder) (w : ℕ) (c : CallRow) (following : List ℕ) → call_by d w ≡ Some c → 4 ≤ length following → unix_line_at d (w ∷ following) 0 ≡ Call c
-  pub machine : (d : Decoder) (w : ℕ) (following : List ℕ) → call_by d w ≡ None → unix_line_at d (w ∷ following) 0 ≡ Machine (line_at (w ∷ following) 0)
+  pub call : (d : Decoder) (w : ℕ) (c : CallRow) (following : List ℕ) → call_by d w ≡ Some c → 4 ≤ length following →
+      unix_line_at d (w ∷ following) 0 ≡ Call c
+  pub machine : (d : Decoder) (w : ℕ) (following : List ℕ) → call_by d w ≡ None →
+      unix_line_at d (w ∷ following) 0 ≡ Machine (line_at (w ∷ following) 0)
   pub length : (d : Decoder) (w : ℕ) (following other : List ℕ) → 4 ≤ length following → 4 ≤ length other →
       unix_length (unix_line_at d (w ∷ following) 0) ≡ unix_length (unix_line_at d (w ∷ other) 0)
 
@@ -46,13 +48,15 @@ AreMadeBySys calls = map (λ c. instruction_of (call_word c)) calls ≡ map (λ 
 abbrev pub UnixUnambiguousLaw : Type 0
 UnixUnambiguousLaw = (d : Decoder) (address : ℕ) (words other : List ℕ) (place there : ℕ) → AreWords words → AreWords other →
     place < length words → there < length other →
-    unix_text address (unix_line_at d words place) (drop (place + 1) words) ≡ unix_text address (unix_line_at d other there) (drop (there + 1) other) →
+    unix_text address (unix_line_at d words place) (drop (place + 1) words) ≡ unix_text address
+    (unix_line_at d other there) (drop (there + 1) other) →
     unix_words (unix_line_at d words place) (drop (place + 1) words) ≡ unix_words (unix_line_at d other there) (drop (there + 1) other)
 
 -- every list of words is decoded whole, in lines of one to five words without a gap
 pub record UnixTotalLaw : Type 0 where
   pub whole : (d : Decoder) (words : List ℕ) → flat_map (λ l. unix_words l.0 l.1) (unix_lines d words) ≡ words
-  pub short : (d : Decoder) (words : List ℕ) (place : ℕ) → (1 ≤ unix_length (unix_line_at d words place)) × (unix_length (unix_line_at d words place) ≤ 5)
+  pub short : (d : Decoder) (words : List ℕ) (place : ℕ) →
+      (1 ≤ unix_length (unix_line_at d words place)) × (unix_length (unix_line_at d words place) ≤ 5)
 
 -- the rows of the code are those of the table
 abbrev pub SameCalls : Type 0

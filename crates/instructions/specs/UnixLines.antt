@@ -3,7 +3,8 @@
 --
 -- The call of number N is made by the instruction 104400 + N, and its arguments are the words after it. If the words end before them,
 -- the call is cut: its first word is plain, as that of an instruction that is cut.
-use Rattle.std.specs.Prelude.{ℕ, zero, suc, ◌+◌, eqb, nat_lt, if◌then◌else◌, Option, Some, None, List, [], ◌∷◌, ◌++◌, codes, length, take, drop, slice_index}
+use Rattle.std.specs.Prelude.{ℕ, zero, suc, ◌+◌, eqb, nat_lt, if◌then◌else◌, Option, Some, None, List}
+use Rattle.std.specs.Prelude.{[], ◌∷◌, ◌++◌, codes, length, take, drop, slice_index}
 use Rattle.std.specs.List.{find, flat_map}
 use Rattle.texts.specs.Numbers.{six_digits}
 use Rattle.instructions.specs.declared.call_table.CallRow.{CallRow}
@@ -68,7 +69,8 @@ abbrev pub unix_lines_within : Decoder → ℕ → List ℕ → List (UnixLine �
 unix_lines_within d zero words = []
 unix_lines_within d (suc n) [] = []
 unix_lines_within d (suc n) (w ∷ following) =
-    let line : UnixLine = unix_line_at d (w ∷ following) 0 in (line, following) ∷ unix_lines_within d n (drop (unix_length line) (w ∷ following))
+    let line : UnixLine = unix_line_at d (w ∷ following) 0 in
+    (line, following) ∷ unix_lines_within d n (drop (unix_length line) (w ∷ following))
 
 abbrev pub unix_lines : Decoder → List ℕ → List (UnixLine × List ℕ)
 unix_lines d words = unix_lines_within d (length words) words

@@ -3,7 +3,8 @@
 -- A plain file (0407) and one with pure text (0410) are loaded into one space: text from 0, data from `data_start_in`, and zeros for
 -- bss after data. With split spaces (0411) text is loaded from 0 into the space of instructions, and data from 0 into that of
 -- data, with bss after it. A word has its low byte first. The stack is not told of here.
-use Rattle.std.specs.Prelude.{◌≡◌, ℕ, ◌+◌, ◌-◌, ◌/◌, ◌%◌, Bool, false, ◌&&◌, ◌||◌, eqb, if◌then◌else◌, nat_le, nat_lt, Option, Some, None, slice_get}
+use Rattle.std.specs.Prelude.{◌≡◌, ℕ, ◌+◌, ◌-◌, ◌/◌, ◌%◌, Bool, false, ◌&&◌, ◌||◌, eqb, if◌then◌else◌}
+use Rattle.std.specs.Prelude.{nat_le, nat_lt, Option, Some, None, slice_get}
 use Rattle.aout_core.specs.declared.header.Header.{Header}
 use Rattle.aout_core.specs.declared.symbol.Segment.{Segment}
 use Rattle.aout_core.specs.declared.symbol.Segment.TheVariants.{TextSeg, DataSeg, BssSeg}
@@ -51,7 +52,8 @@ segment_byte file _ n = None
 -- whether an address of a space is one of a segment
 abbrev pub is_in : Header → Space → Segment → ℕ → Bool
 is_in h space segment address =
-    has_segment h.magic segment space && (nat_le (first_address h segment) address && nat_lt address (first_address h segment + bytes_of h segment))
+    has_segment h.magic segment space
+    && (nat_le (first_address h segment) address && nat_lt address (first_address h segment + bytes_of h segment))
 
 -- the byte that a segment has at an address of a space
 abbrev pub loaded_byte : Contents → Space → Segment → ℕ → Option ℕ
@@ -60,7 +62,9 @@ loaded_byte file space segment address =
 
 -- the byte at an address of a space, if there is one
 abbrev pub core : Contents → Space → ℕ → Option ℕ
-core file space address = first_of (loaded_byte file space TextSeg address) (first_of (loaded_byte file space DataSeg address) (loaded_byte file space BssSeg address))
+core file space address =
+    first_of (loaded_byte file space TextSeg address)
+    (first_of (loaded_byte file space DataSeg address) (loaded_byte file space BssSeg address))
 
 -- the word at an address, low byte first
 pub record IsWordAt (file : Contents) (space : Space) (address word : ℕ) : Type 0 where

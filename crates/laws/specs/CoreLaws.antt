@@ -30,7 +30,9 @@ use Rattle.laws.specs.Core.{Space, of_instructions, of_data, has_segment, is_in,
 
 -- no two segments share an address of a space, whatever the file
 abbrev pub SegmentsLieApart : Type 0
-SegmentsLieApart = (h : Header) (space : Space) (one two : Segment) (address : ℕ) → is_in h space one address ≡ true → is_in h space two address ≡ true → one ≡ two
+SegmentsLieApart =
+    (h : Header) (space : Space) (one two : Segment) (address : ℕ) → is_in h space one address ≡ true →
+    is_in h space two address ≡ true → one ≡ two
 
 -- but for split spaces, the two spaces are one
 abbrev pub SpacesAreOne : Type 0
@@ -39,7 +41,9 @@ SpacesAreOne = (forced : List (List ℕ)) (os : List Contents) (o : Choices) (x 
 
 -- where the text fits into a space, each address fits
 abbrev pub AddressesFit : Type 0
-AddressesFit = (forced : List (List ℕ)) (os : List Contents) (o : Choices) (x : Outcome) → link forced os o ≡ Ok x → x.file.header.text_size ≤ 65535 →
+AddressesFit =
+    (forced : List (List ℕ)) (os : List Contents) (o : Choices) (x : Outcome) → link forced os o ≡ Ok x →
+    x.file.header.text_size ≤ 65535 →
     (space : Space) (address byte : ℕ) → core x.file space address ≡ Some byte → address < 65535
 
 -- the space in which a segment is always found
@@ -54,31 +58,35 @@ pub record IsPlace (h : Header) (os before : List Contents) (k : Contents) (segm
   pub symbol : plus (own k segment + n) (move_in h os before k segment) ≡ address % 65536
 
 -- word i of a segment of k, which is w with relocation word r, is loaded at its place, relocated
-pub record IsLoaded (file : Contents) (rows : List Symbol) (os before : List Contents) (k : Contents) (segment : Segment) (i w : ℕ) (r : Reloc) : Type 0 where
+pub record IsLoaded (file : Contents) (rows : List Symbol) (os before : List Contents) (k : Contents)
+    (segment : Segment) (i w : ℕ) (r : Reloc) : Type 0 where
   pub address : ℕ
   pub place : IsPlace file.header os before k segment (2 * i) address
   pub added : ℕ
   pub is : IsAdded file.header rows os before k (kind_of r) (symbol_number r) added
-  pub word : IsWordAt file (space_of segment) address (minus (plus w added) (cond (is_pc_relative r) (move_in file.header os before k segment) 0))
+  pub word : IsWordAt file (space_of segment) address
+      (minus (plus w added) (cond (is_pc_relative r) (move_in file.header os before k segment) 0))
 
 -- in a link that keeps symbols, by its own table
 abbrev pub WordsAreLoaded : Type 0
 WordsAreLoaded = (forced : List (List ℕ)) (before : List Contents) (k : Contents) (after : List Contents) (o : Choices) (x : Outcome) →
     AllByRecursion IsObject (before ++ k ∷ after) → o.keep ≢ Nothing → link forced (before ++ k ∷ after) o ≡ Ok x →
-    (segment : Segment) (i w : ℕ) (r : Reloc) → slice_get (segment_words segment k) i ≡ Some w → slice_get (segment_relocs segment k) i ≡ Some r →
-    IsLoaded x.file x.file.symbols (before ++ k ∷ after) before k segment i w r
+    (segment : Segment) (i w : ℕ) (r : Reloc) → slice_get (segment_words segment k) i ≡ Some w →
+    slice_get (segment_relocs segment k) i ≡ Some r → IsLoaded x.file x.file.symbols (before ++ k ∷ after) before k segment i w r
 
 -- in any link, by the rows of the relation of linking
 abbrev pub WordsOfRowsAreLoaded : Type 0
-WordsOfRowsAreLoaded = (forced : List (List ℕ)) (before : List Contents) (k : Contents) (after : List Contents) (o : Choices) (x : Outcome) →
+WordsOfRowsAreLoaded =
+    (forced : List (List ℕ)) (before : List Contents) (k : Contents) (after : List Contents) (o : Choices) (x : Outcome) →
     AllByRecursion IsObject (before ++ k ∷ after) → (l : IsLinkedFrom forced (before ++ k ∷ after) o x) →
-    (segment : Segment) (i w : ℕ) (r : Reloc) → slice_get (segment_words segment k) i ≡ Some w → slice_get (segment_relocs segment k) i ≡ Some r →
-    IsLoaded x.file l.rows (before ++ k ∷ after) before k segment i w r
+    (segment : Segment) (i w : ℕ) (r : Reloc) → slice_get (segment_words segment k) i ≡ Some w →
+    slice_get (segment_relocs segment k) i ≡ Some r → IsLoaded x.file l.rows (before ++ k ∷ after) before k segment i w r
 
 -- links that differ only in the symbols that they keep load the same
 abbrev pub KeepChangesNothing : Type 0
 KeepChangesNothing = (forced : List (List ℕ)) (os : List Contents) (o : Choices) (keep : Keep) (x y : Outcome) →
-    link forced os o ≡ Ok x → link forced os (record o { keep = keep }) ≡ Ok y → (space : Space) (address : ℕ) → core y.file space address ≡ core x.file space address
+    link forced os o ≡ Ok x → link forced os (record o { keep = keep }) ≡ Ok y → (space : Space) (address : ℕ) →
+    core y.file space address ≡ core x.file space address
 
 -- a file loads the same if it is stripped
 abbrev pub StrippedIsLoaded : Type 0
@@ -92,12 +100,16 @@ pub record IsZero (file : Contents) (os before : List Contents) (k : Contents) (
 
 abbrev pub BssIsZero : Type 0
 BssIsZero = (forced : List (List ℕ)) (before : List Contents) (k : Contents) (after : List Contents) (o : Choices) (x : Outcome) →
-    AllByRecursion IsObject (before ++ k ∷ after) → link forced (before ++ k ∷ after) o ≡ Ok x → (n : ℕ) → n < k.header.bss_size → IsZero x.file (before ++ k ∷ after) before k n
+    AllByRecursion IsObject (before ++ k ∷ after) → link forced (before ++ k ∷ after) o ≡ Ok x → (n : ℕ) →
+    n < k.header.bss_size → IsZero x.file (before ++ k ∷ after) before k n
 
 -- where commons are laid out, so is each byte of one, from the value of its symbol on
 abbrev pub CommonsAreZero : Type 0
-CommonsAreZero = (forced : List (List ℕ)) (os : List Contents) (o : Choices) (x : Outcome) → o.keep ≢ Nothing → lays_commons o ≡ true → link forced os o ≡ Ok x →
-    (name : List ℕ) (size : ℕ) → IsCommon forced os name size → (row : Symbol) → entry_of x.file.symbols name ≡ Some row → (n : ℕ) → n < size → core x.file of_data (row.value + n) ≡ Some 0
+CommonsAreZero =
+    (forced : List (List ℕ)) (os : List Contents) (o : Choices) (x : Outcome) → o.keep ≢ Nothing →
+    lays_commons o ≡ true → link forced os o ≡ Ok x →
+    (name : List ℕ) (size : ℕ) → IsCommon forced os name size → (row : Symbol) →
+    entry_of x.file.symbols name ≡ Some row → (n : ℕ) → n < size → core x.file of_data (row.value + n) ≡ Some 0
 
 -- the low or the high byte of a word of some object
 pub record IsOfWord (h : Header) (os : List Contents) (space : Space) (address : ℕ) : Type 0 where
@@ -110,10 +122,12 @@ pub record IsOfWord (h : Header) (os : List Contents) (space : Space) (address :
   pub i : ℕ
   pub w : ℕ
   pub word : slice_get (segment_words segment k) i ≡ Some w
-  pub at : (address ≡ base_in h (total BssSeg os) segment + total segment before + 2 * i) ⊎ (address ≡ base_in h (total BssSeg os) segment + total segment before + 2 * i + 1)
+  pub at : (address ≡ base_in h (total BssSeg os) segment + total segment before + 2 * i)
+      ⊎ (address ≡ base_in h (total BssSeg os) segment + total segment before + 2 * i + 1)
 
 -- each byte of the core is of a word of an object, or a zero of bss
 abbrev pub NothingElse : Type 0
-NothingElse = (forced : List (List ℕ)) (os : List Contents) (o : Choices) (x : Outcome) → AllByRecursion IsObject os → link forced os o ≡ Ok x →
-    (space : Space) (address byte : ℕ) → core x.file space address ≡ Some byte →
+NothingElse =
+    (forced : List (List ℕ)) (os : List Contents) (o : Choices) (x : Outcome) → AllByRecursion IsObject os →
+    link forced os o ≡ Ok x → (space : Space) (address byte : ℕ) → core x.file space address ≡ Some byte →
     IsOfWord x.file.header os space address ⊎ ((is_in x.file.header space BssSeg address ≡ true) × (byte ≡ 0))

@@ -53,7 +53,8 @@ pub record Run (W E : Type 0) : Type 0 where
 
 -- it did what the contract of `perform` says, on its disk, and no fault ended it
 pub record EndsWell {W E : Type 0} (out_contents : W → Option (List ℕ)) (error_contents : E → Option (List ℕ)) (r : Run W E) : Type 0 where
-  pub performs : Performs out_contents error_contents r.words r.script (record { asked = Some r.earlier; output = r.output_before; error = r.error_before })
+  pub performs : Performs out_contents error_contents r.words r.script
+      (record { asked = Some r.earlier; output = r.output_before; error = r.error_before })
       (record { asked = Some (r.earlier ++ r.events); output = r.output_after; error = r.error_after }) r.status
   pub on_disk : IsOn r.disk r.events
   pub no_fault : r.status ≤ 1

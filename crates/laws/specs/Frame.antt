@@ -3,7 +3,8 @@
 -- A changed object may take the place of another if it has the same sizes, the same external symbols in the same order, and as many
 -- kept locals; what its words are, what they refer to, and what its locals are is free. Then the header and the report stay as they
 -- were, and so does each byte of the file that is not of its own words of text and data, of their relocation words, or of its locals.
-use Rattle.std.specs.Prelude.{◌≡◌, ◌≢◌, ℕ, ◌+◌, ◌*◌, ◌/◌, ◌<◌, ◌≤◌, ◌⊎◌, false, List, [], ◌∷◌, ◌++◌, length, Option, Some, None, Ok, Err, slice_get}
+use Rattle.std.specs.Prelude.{◌≡◌, ◌≢◌, ℕ, ◌+◌, ◌*◌, ◌/◌, ◌<◌, ◌≤◌, ◌⊎◌, false, List, [], ◌∷◌, ◌++◌}
+use Rattle.std.specs.Prelude.{length, Option, Some, None, Ok, Err, slice_get}
 use Rattle.std.specs.List.{AllByRecursion}
 use Rattle.aout_core.specs.declared.header.Header.{Header}
 use Rattle.aout_core.specs.declared.symbol.Symbol.{Symbol}
@@ -37,16 +38,21 @@ pub record TakesPlace (o : Choices) (k l : Contents) : Type 0 where
 
 -- then there are two links, or two refusals with the same fault, without `-r`
 abbrev pub FrameLinksAlike : Type 0
-FrameLinksAlike = (forced : List (List ℕ)) (before : List Contents) (k l : Contents) (after : List Contents) (o : Choices) → TakesPlace o k l → o.relocatable ≡ false →
+FrameLinksAlike =
+    (forced : List (List ℕ)) (before : List Contents) (k l : Contents) (after : List Contents) (o : Choices) →
+    TakesPlace o k l → o.relocatable ≡ false →
     AreAlike (link forced (before ++ k ∷ after) o) (link forced (before ++ l ∷ after) o)
 
 -- with `-r` too a refusal has the same fault, but for the number of a symbol that a word refers to
 abbrev pub FrameRefusesAlike : Type 0
-FrameRefusesAlike = (forced : List (List ℕ)) (before : List Contents) (k l : Contents) (after : List Contents) (o : Choices) → TakesPlace o k l → (fault : LinkFault) → fault ≢ SymbolNumber →
+FrameRefusesAlike =
+    (forced : List (List ℕ)) (before : List Contents) (k l : Contents) (after : List Contents) (o : Choices) →
+    TakesPlace o k l → (fault : LinkFault) → fault ≢ SymbolNumber →
     link forced (before ++ k ∷ after) o ≡ Err fault → link forced (before ++ l ∷ after) o ≡ Err fault
 
 -- the links of these objects, and with l in the place of k
-pub record AreReplaced (forced : List (List ℕ)) (before : List Contents) (k l : Contents) (after : List Contents) (o : Choices) (x y : Outcome) : Type 0 where
+pub record AreReplaced (forced : List (List ℕ)) (before : List Contents) (k l : Contents) (after : List Contents)
+    (o : Choices) (x y : Outcome) : Type 0 where
   pub objects : AllByRecursion IsObject (before ++ k ∷ after)
   pub object : IsObject l
   pub takes : TakesPlace o k l
@@ -71,8 +77,10 @@ pub record DifferInObject (o : Choices) (before : List Contents) (k : Contents) 
   pub report : x.report ≡ y.report
   pub text : DifferAt (total TextSeg before / 2) (k.header.text_size / 2) x.file.text_words y.file.text_words
   pub «data» : DifferAt (total DataSeg before / 2) (k.header.data_size / 2) x.file.data_words y.file.data_words
-  pub text_reloc : DifferAt (with_relocation x.file.header (total TextSeg before) / 2) (with_relocation x.file.header k.header.text_size / 2) x.file.text_reloc y.file.text_reloc
-  pub data_reloc : DifferAt (with_relocation x.file.header (total DataSeg before) / 2) (with_relocation x.file.header k.header.data_size / 2) x.file.data_reloc y.file.data_reloc
+  pub text_reloc : DifferAt (with_relocation x.file.header (total TextSeg before) / 2)
+      (with_relocation x.file.header k.header.text_size / 2) x.file.text_reloc y.file.text_reloc
+  pub data_reloc : DifferAt (with_relocation x.file.header (total DataSeg before) / 2)
+      (with_relocation x.file.header k.header.data_size / 2) x.file.data_reloc y.file.data_reloc
   pub symbols : DifferAt (length (kept_locals o before)) (length (kept_locals o (k ∷ []))) x.file.symbols y.file.symbols
 
 abbrev pub FrameHolds : Type 0
@@ -88,13 +96,17 @@ pub record IsOutside (o : Choices) (h : Header) (before : List Contents) (k : Co
   pub text : IsBeside (16 + total TextSeg before) k.header.text_size place
   pub «data» : IsBeside (16 + h.text_size + total DataSeg before) k.header.data_size place
   pub text_reloc : IsBeside (relocation_at h + with_relocation h (total TextSeg before)) (with_relocation h k.header.text_size) place
-  pub data_reloc : IsBeside (relocation_at h + with_relocation h (h.text_size + total DataSeg before)) (with_relocation h k.header.data_size) place
+  pub data_reloc : IsBeside (relocation_at h + with_relocation h (h.text_size + total DataSeg before))
+      (with_relocation h k.header.data_size) place
   pub locals : IsBeside (symbols_at h + 12 * length (kept_locals o before)) (12 * length (kept_locals o (k ∷ []))) place
 
 -- so the two files are as long, and have the same byte at each such place
 abbrev pub FrameOfBytes : Type 0
-FrameOfBytes = (forced : List (List ℕ)) (before : List Contents) (k l : Contents) (after : List Contents) (o : Choices) (x y : Outcome) → AreReplaced forced before k l after o x y →
-    (length (encoding x.file) ≡ length (encoding y.file)) × ((place : ℕ) → IsOutside o x.file.header before k place → slice_get (encoding x.file) place ≡ slice_get (encoding y.file) place)
+FrameOfBytes =
+    (forced : List (List ℕ)) (before : List Contents) (k l : Contents) (after : List Contents) (o : Choices) (x y : Outcome) →
+    AreReplaced forced before k l after o x y →
+    (length (encoding x.file) ≡ length (encoding y.file)) × ((place : ℕ) → IsOutside o x.file.header before k place →
+    slice_get (encoding x.file) place ≡ slice_get (encoding y.file) place)
 
 -- an external symbol in the place of another: of the same name and type, and of the same value where it defines nothing
 pub record IsRevalued (s t : Symbol) : Type 0 where
@@ -115,7 +127,8 @@ pub record TakesPlaceRevalued (o : Choices) (k l : Contents) : Type 0 where
   pub locals : length (kept_locals o (k ∷ [])) ≡ length (kept_locals o (l ∷ []))
 
 -- the links of these objects, and with such an l in the place of k
-pub record AreRevaluedLinks (forced : List (List ℕ)) (before : List Contents) (k l : Contents) (after : List Contents) (o : Choices) (x y : Outcome) : Type 0 where
+pub record AreRevaluedLinks (forced : List (List ℕ)) (before : List Contents) (k l : Contents) (after : List Contents)
+    (o : Choices) (x y : Outcome) : Type 0 where
   pub objects : AllByRecursion IsObject (before ++ k ∷ after)
   pub object : IsObject l
   pub takes : TakesPlaceRevalued o k l
@@ -170,20 +183,26 @@ pub record WordStays (x y : Outcome) (k l m : Contents) (segment : Segment) (pla
 
 -- so does each word of m, which stands after these objects
 abbrev pub WordsStay : Outcome → Outcome → Contents → Contents → Contents → List Contents → Type 0
-WordsStay x y k l m earlier = (segment : Segment) (i w : ℕ) (r : Reloc) → slice_get (segment_words segment m) i ≡ Some w → slice_get (segment_relocs segment m) i ≡ Some r →
-    WordStays x y k l m segment (total segment earlier / 2 + i) r
+WordsStay x y k l m earlier =
+    (segment : Segment) (i w : ℕ) (r : Reloc) → slice_get (segment_words segment m) i ≡ Some w →
+    slice_get (segment_relocs segment m) i ≡ Some r → WordStays x y k l m segment (total segment earlier / 2 + i) r
 
 -- two links that differ at most in k, and by the names that are redefined: in their words, their symbols, the entry point, and
 -- which of them are reported as multiply defined
 pub record DifferByValues (before : List Contents) (k l : Contents) (after : List Contents) (o : Choices) (x y : Outcome) : Type 0 where
   pub header : (record x.file.header { entry_point = y.file.header.entry_point }) ≡ y.file.header
   pub report : (record x.report { multiples = y.report.multiples }) ≡ y.report
-  pub text_reloc : DifferAt (with_relocation x.file.header (total TextSeg before) / 2) (with_relocation x.file.header k.header.text_size / 2) x.file.text_reloc y.file.text_reloc
-  pub data_reloc : DifferAt (with_relocation x.file.header (total DataSeg before) / 2) (with_relocation x.file.header k.header.data_size / 2) x.file.data_reloc y.file.data_reloc
-  pub symbols : (place : ℕ) → IsBeside (length (kept_locals o before)) (length (kept_locals o (k ∷ []))) place → SymbolsStay k l (slice_get x.file.symbols place) (slice_get y.file.symbols place)
+  pub text_reloc : DifferAt (with_relocation x.file.header (total TextSeg before) / 2)
+      (with_relocation x.file.header k.header.text_size / 2) x.file.text_reloc y.file.text_reloc
+  pub data_reloc : DifferAt (with_relocation x.file.header (total DataSeg before) / 2)
+      (with_relocation x.file.header k.header.data_size / 2) x.file.data_reloc y.file.data_reloc
+  pub symbols : (place : ℕ) → IsBeside (length (kept_locals o before)) (length (kept_locals o (k ∷ []))) place →
+      SymbolsStay k l (slice_get x.file.symbols place) (slice_get y.file.symbols place)
   pub earlier : (front : List Contents) (m : Contents) (back : List Contents) → before ≡ front ++ m ∷ back → WordsStay x y k l m front
-  pub later : (front : List Contents) (m : Contents) (back : List Contents) → after ≡ front ++ m ∷ back → WordsStay x y k l m (before ++ k ∷ front)
+  pub later : (front : List Contents) (m : Contents) (back : List Contents) → after ≡ front ++ m ∷ back →
+      WordsStay x y k l m (before ++ k ∷ front)
 
 abbrev pub FrameOfValues : Type 0
-FrameOfValues = (forced : List (List ℕ)) (before : List Contents) (k l : Contents) (after : List Contents) (o : Choices) (x y : Outcome) → AreRevaluedLinks forced before k l after o x y → o.keep ≢ Nothing →
-    DifferByValues before k l after o x y
+FrameOfValues =
+    (forced : List (List ℕ)) (before : List Contents) (k l : Contents) (after : List Contents) (o : Choices) (x y : Outcome) →
+    AreRevaluedLinks forced before k l after o x y → o.keep ≢ Nothing → DifferByValues before k l after o x y

@@ -54,15 +54,18 @@ InstructionsAreKept = (forced : List (List ℕ)) (before : List Contents) (k : C
 abbrev pub AreLinesOf : Contents → List Symbol → List Contents → List Contents → List Contents → List Line → Type 0
 AreLinesOf file rows os before [] all = all ≡ []
 AreLinesOf file rows os before (k ∷ after) all =
-    (front : List Line) × ((back : List Line) × ((all ≡ front ++ back) × (AreLinkedLines file rows os before k front × AreLinesOf file rows os (before ++ k ∷ []) after back)))
+    (front : List Line) × ((back : List Line) × ((all ≡ front ++ back)
+    × (AreLinkedLines file rows os before k front × AreLinesOf file rows os (before ++ k ∷ []) after back)))
 
 -- if it holds of all objects, the linked text decoded from its beginning has their lines in order, and no others
 abbrev pub TextsAreKept : Type 0
 TextsAreKept = (forced : List (List ℕ)) (os : List Contents) (o : Choices) (x : Outcome) →
-    AllByRecursion IsObject os → AllByRecursion HasWholeText os → (l : IsLinkedFrom forced os o x) → AreLinesOf x.file l.rows os [] os (lines x.file.text_words)
+    AllByRecursion IsObject os → AllByRecursion HasWholeText os → (l : IsLinkedFrom forced os o x) →
+    AreLinesOf x.file l.rows os [] os (lines x.file.text_words)
 
 -- the file has that first word i words after the text of k begins in it, and the same instruction there
-pub record KeepsLineAt (file : Contents) (rows : List Symbol) (os before : List Contents) (k : Contents) (i w : ℕ) (following : List ℕ) : Type 0 where
+pub record KeepsLineAt (file : Contents) (rows : List Symbol) (os before : List Contents) (k : Contents) (i w : ℕ)
+    (following : List ℕ) : Type 0 where
   pub more : List ℕ
   pub there : drop (total TextSeg before / 2 + i) file.text_words ≡ w ∷ more
   pub alike : AlikeLine (IsLinkedWord file rows os before k) i (line_of (instruction_of w) w following) (line_of (instruction_of w) w more)
@@ -71,6 +74,7 @@ pub record KeepsLineAt (file : Contents) (rows : List Symbol) (os before : List 
 -- asked of any other word
 abbrev pub InstructionsStand : Type 0
 InstructionsStand = (forced : List (List ℕ)) (before : List Contents) (k : Contents) (after : List Contents) (o : Choices) (x : Outcome) →
-    AllByRecursion IsObject (before ++ k ∷ after) → AllByRecursion IsWord k.text_words → (l : IsLinkedFrom forced (before ++ k ∷ after) o x) →
+    AllByRecursion IsObject (before ++ k ∷ after) → AllByRecursion IsWord k.text_words →
+    (l : IsLinkedFrom forced (before ++ k ∷ after) o x) →
     (i w : ℕ) (following : List ℕ) → drop i k.text_words ≡ w ∷ following → is_relocated (slice_get k.text_reloc i) ≡ false →
     is_cut (instruction_of w) following ≡ false → KeepsLineAt x.file l.rows (before ++ k ∷ after) before k i w following

@@ -5,7 +5,8 @@
 -- same places at other addresses, and at each of them the same byte. A relocated word is the exception: it counts from a place, and
 -- is more by as much as that place has moved. No loaded byte is without a place: the byte that rounds up a common of odd size is the
 -- common's, and what is between pure text and data is not loaded.
-use Rattle.std.specs.Prelude.{◌≡◌, ◌≢◌, ℕ, ◌+◌, ◌*◌, ◌/◌, ◌%◌, ◌<◌, true, false, if◌then◌else◌, List, [], ◌∷◌, ◌++◌, length, take, Option, Some, None, Ok, slice_get, bytes_eq}
+use Rattle.std.specs.Prelude.{◌≡◌, ◌≢◌, ℕ, ◌+◌, ◌*◌, ◌/◌, ◌%◌, ◌<◌, true, false, if◌then◌else◌, List, [], ◌∷◌, ◌++◌}
+use Rattle.std.specs.Prelude.{length, take, Option, Some, None, Ok, slice_get, bytes_eq}
 use Rattle.std.specs.List.{AllByRecursion}
 use Rattle.std.specs.List.Sorted.{IsPermutation}
 use Rattle.aout_core.specs.declared.header.Header.{Header}
@@ -75,25 +76,35 @@ address_at file os (of_object number segment n) = base_in file.header (total Bss
 address_at file os (of_common name n) = value_in (entry_of file.symbols name) + n
 
 -- a place is loaded at this address of this space
-pub record LiesAt (forced : List (List ℕ)) (os : List Contents) (file : Contents) (place : Place) (space : Space) (address : ℕ) : Type 0 where
+pub record LiesAt (forced : List (List ℕ)) (os : List Contents) (file : Contents) (place : Place) (space : Space)
+    (address : ℕ) : Type 0 where
   pub is : IsPlaceOf forced os place
   pub «in» : has_segment file.header.magic (segment_at place) space ≡ true
   pub at : address ≡ address_at file os place
 
 -- no two places are loaded at one address
 abbrev pub PlacesLieApart : Type 0
-PlacesLieApart = (forced : List (List ℕ)) (os : List Contents) (o : Choices) (x : Outcome) → AllByRecursion IsObject os → o.keep ≢ Nothing → lays_commons o ≡ true → link forced os o ≡ Ok x →
-    (one two : Place) (space : Space) (address : ℕ) → LiesAt forced os x.file one space address → LiesAt forced os x.file two space address → one ≡ two
+PlacesLieApart =
+    (forced : List (List ℕ)) (os : List Contents) (o : Choices) (x : Outcome) → AllByRecursion IsObject os →
+    o.keep ≢ Nothing → lays_commons o ≡ true → link forced os o ≡ Ok x →
+    (one two : Place) (space : Space) (address : ℕ) → LiesAt forced os x.file one space address →
+    LiesAt forced os x.file two space address → one ≡ two
 
 -- each place has a byte
 abbrev pub PlacesAreLoaded : Type 0
-PlacesAreLoaded = (forced : List (List ℕ)) (os : List Contents) (o : Choices) (x : Outcome) → AllByRecursion IsObject os → o.keep ≢ Nothing → lays_commons o ≡ true → link forced os o ≡ Ok x →
-    (place : Place) (space : Space) (address : ℕ) → LiesAt forced os x.file place space address → (byte : ℕ) × (core x.file space address ≡ Some byte)
+PlacesAreLoaded =
+    (forced : List (List ℕ)) (os : List Contents) (o : Choices) (x : Outcome) → AllByRecursion IsObject os →
+    o.keep ≢ Nothing → lays_commons o ≡ true → link forced os o ≡ Ok x →
+    (place : Place) (space : Space) (address : ℕ) → LiesAt forced os x.file place space address →
+    (byte : ℕ) × (core x.file space address ≡ Some byte)
 
 -- each byte has a place
 abbrev pub BytesHavePlaces : Type 0
-BytesHavePlaces = (forced : List (List ℕ)) (os : List Contents) (o : Choices) (x : Outcome) → AllByRecursion IsObject os → o.keep ≢ Nothing → lays_commons o ≡ true → link forced os o ≡ Ok x →
-    (space : Space) (address byte : ℕ) → core x.file space address ≡ Some byte → (place : Place) × LiesAt forced os x.file place space address
+BytesHavePlaces =
+    (forced : List (List ℕ)) (os : List Contents) (o : Choices) (x : Outcome) → AllByRecursion IsObject os →
+    o.keep ≢ Nothing → lays_commons o ≡ true → link forced os o ≡ Ok x →
+    (space : Space) (address byte : ℕ) → core x.file space address ≡ Some byte →
+    (place : Place) × LiesAt forced os x.file place space address
 
 -- places in another order
 
@@ -155,7 +166,8 @@ pub record IsDefinedAt (file : Contents) (os : List Contents) (name : List ℕ) 
 -- what a name means in a link, as a target: a definition, the first byte of a common, or what is missing
 abbrev pub IsTargetOf : List (List ℕ) → List Contents → Choices → Contents → List ℕ → Target → Type 0
 IsTargetOf forced os o file name (to_place (of_object number segment n)) = IsDefinedAt file os name number segment n
-IsTargetOf forced os o file name (to_place (of_common other n)) = (other ≡ name) × ((n ≡ 0) × ((size : ℕ) × Means forced os o file name (common size)))
+IsTargetOf forced os o file name (to_place (of_common other n)) =
+    (other ≡ name) × ((n ≡ 0) × ((size : ℕ) × Means forced os o file name (common size)))
 IsTargetOf forced os o file name (to_end segment) = Means forced os o file name missing × (missing_target name ≡ to_end segment)
 IsTargetOf forced os o file name to_nothing = Means forced os o file name missing × (missing_target name ≡ to_nothing)
 
@@ -180,12 +192,14 @@ pub record AreLinks (forced : List (List ℕ)) (os ps : List Contents) (o : Choi
 
 -- no word of the place is relocated
 abbrev pub IsUnrelocated : List Contents → Place → Type 0
-IsUnrelocated os (of_object number segment n) = (k : Contents) → slice_get os number ≡ Some k → is_relocated (slice_get (segment_relocs segment k) (n / 2)) ≡ false
+IsUnrelocated os (of_object number segment n) =
+    (k : Contents) → slice_get os number ≡ Some k → is_relocated (slice_get (segment_relocs segment k) (n / 2)) ≡ false
 IsUnrelocated os (of_common name n) = Unit {0}
 
 -- what the machine finds by word i of a segment of k, object `number` of the one list, differs by as much as the addresses of what the
 -- word refers to
-pub record MovesAsTarget (forced : List (List ℕ)) (os ps : List Contents) (o : Choices) (x y : Outcome) (to : ℕ → ℕ) (number : ℕ) (k : Contents) (segment : Segment) (i : ℕ) (r : Reloc) : Type 0 where
+pub record MovesAsTarget (forced : List (List ℕ)) (os ps : List Contents) (o : Choices) (x y : Outcome) (to : ℕ → ℕ)
+    (number : ℕ) (k : Contents) (segment : Segment) (i : ℕ) (r : Reloc) : Type 0 where
   pub target : Target
   pub refers : RefersTo forced os o x.file number k (kind_of r) (symbol_number r) target
   pub refers_too : RefersTo forced ps o y.file (to number) k (kind_of r) (symbol_number r) (moved_target to target)
@@ -193,7 +207,8 @@ pub record MovesAsTarget (forced : List (List ℕ)) (os ps : List Contents) (o :
   pub stands : IsWordAt x.file (space_of segment) (address_at x.file os (of_object number segment (2 * i))) word
   pub other : ℕ
   pub stands_too : IsWordAt y.file (space_of segment) (address_at y.file ps (of_object (to number) segment (2 * i))) other
-  pub differ : minus (operand (is_pc_relative r) (address_at y.file ps (of_object (to number) segment (2 * i))) other) (operand (is_pc_relative r) (address_at x.file os (of_object number segment (2 * i))) word)
+  pub differ : minus (operand (is_pc_relative r) (address_at y.file ps (of_object (to number) segment (2 * i))) other)
+      (operand (is_pc_relative r) (address_at x.file os (of_object number segment (2 * i))) word)
       ≡ minus (address_to y.file ps (moved_target to target)) (address_to x.file os target)
 
 -- the places of the one are those of the other; but for relocated words they have the same bytes, and relocated words move as what
@@ -202,19 +217,27 @@ pub record AreIsomorphic (forced : List (List ℕ)) (os ps : List Contents) (o :
   pub there : (place : Place) → IsPlaceOf forced os place → IsPlaceOf forced ps (moved to place) × (moved from (moved to place) ≡ place)
   pub back : (place : Place) → IsPlaceOf forced ps place → IsPlaceOf forced os (moved from place) × (moved to (moved from place) ≡ place)
   pub bytes : (place : Place) → IsUnrelocated os place → (space space_too : Space) (address address_too : ℕ) →
-      LiesAt forced os x.file place space address → LiesAt forced ps y.file (moved to place) space_too address_too → core y.file space_too address_too ≡ core x.file space address
+      LiesAt forced os x.file place space address → LiesAt forced ps y.file (moved to place) space_too address_too →
+      core y.file space_too address_too ≡ core x.file space address
   pub words : (number : ℕ) (k : Contents) → slice_get os number ≡ Some k → (segment : Segment) (i w : ℕ) (r : Reloc) →
-      slice_get (segment_words segment k) i ≡ Some w → slice_get (segment_relocs segment k) i ≡ Some r → MovesAsTarget forced os ps o x y to number k segment i r
+      slice_get (segment_words segment k) i ≡ Some w → slice_get (segment_relocs segment k) i ≡ Some r →
+      MovesAsTarget forced os ps o x y to number k segment i r
 
 -- where no name is multiply defined in the one, without relocation and with symbols
 abbrev pub LinksAreIsomorphic : Type 0
-LinksAreIsomorphic = (forced : List (List ℕ)) (os ps : List Contents) (o : Choices) (layout : Layout) (x y : Outcome) → AreLinks forced os ps o layout x y →
-    AllByRecursion IsObject os → o.keep ≢ Nothing → o.relocatable ≡ false → x.report.multiples ≡ [] → (to from : ℕ → ℕ) → AreRenumbered os ps to from → AreIsomorphic forced os ps o x y to from
+LinksAreIsomorphic =
+    (forced : List (List ℕ)) (os ps : List Contents) (o : Choices) (layout : Layout) (x y : Outcome) →
+    AreLinks forced os ps o layout x y →
+    AllByRecursion IsObject os → o.keep ≢ Nothing → o.relocatable ≡ false → x.report.multiples ≡ [] →
+    (to from : ℕ → ℕ) → AreRenumbered os ps to from → AreIsomorphic forced os ps o x y to from
 
 -- so in another order, and in another layout, each word of each object refers to the same
 abbrev pub LinksKeepReferents : Type 0
-LinksKeepReferents = (forced : List (List ℕ)) (os ps : List Contents) (o : Choices) (layout : Layout) (x y : Outcome) → AreLinks forced os ps o layout x y →
+LinksKeepReferents =
+    (forced : List (List ℕ)) (os ps : List Contents) (o : Choices) (layout : Layout) (x y : Outcome) →
+    AreLinks forced os ps o layout x y →
     o.keep ≢ Nothing → o.relocatable ≡ false → x.report.multiples ≡ [] → AllByRecursion IsObject os →
-    (before : List Contents) (k : Contents) (after : List Contents) → os ≡ before ++ k ∷ after → (front back : List Contents) → ps ≡ front ++ k ∷ back →
-    (segment : Segment) (i w : ℕ) (r : Reloc) → slice_get (segment_words segment k) i ≡ Some w → slice_get (segment_relocs segment k) i ≡ Some r →
-    RefersAlike forced os ps o x y before front k segment i w r
+    (before : List Contents) (k : Contents) (after : List Contents) → os ≡ before ++ k ∷ after →
+    (front back : List Contents) → ps ≡ front ++ k ∷ back →
+    (segment : Segment) (i w : ℕ) (r : Reloc) → slice_get (segment_words segment k) i ≡ Some w →
+    slice_get (segment_relocs segment k) i ≡ Some r → RefersAlike forced os ps o x y before front k segment i w r

@@ -1,7 +1,8 @@
 -- What nm and size show of a linked file: the names that its link reported undefined, its externals, and its sizes. (nm(1), size(1), ld(1))
 --
 -- The report is of the objects, and a list is of the file alone; these laws say that they agree.
-use Rattle.std.specs.Prelude.{◌≡◌, ◌≢◌, ◌⊎◌, ℕ, ◌+◌, true, false, ◌&&◌, cond, eqb, if◌then◌else◌, List, [], ◌∷◌, ◌++◌, map, filter, codes, Some, Ok, bytes_eq, IsPermutation}
+use Rattle.std.specs.Prelude.{◌≡◌, ◌≢◌, ◌⊎◌, ℕ, ◌+◌, true, false, ◌&&◌, cond, eqb, if◌then◌else◌, List, [], ◌∷◌}
+use Rattle.std.specs.Prelude.{◌++◌, map, filter, codes, Some, Ok, bytes_eq, IsPermutation}
 use Rattle.std.specs.List.{flat_map}
 use Rattle.aout_core.specs.declared.header.Header.{Header}
 use Rattle.aout_core.specs.declared.symbol.Symbol.{Symbol}
@@ -49,14 +50,19 @@ lines n path ss = flat_map (λ s. line_heading n path ++ symbol_line s) ss
 
 -- by `nm -u`, with `-g` or where no such local is kept, the names that are reported undefined are listed, each once, and no others
 abbrev pub UndefinedAreListed : Type 0
-UndefinedAreListed = (forced : List (List ℕ)) (os : List Contents) (o : Choices) (x : Outcome) → o.keep ≢ Nothing → o.relocatable ≡ false → link forced os o ≡ Ok x →
-    (n : NmOptions) → n.undefined ≡ true → (n.external ≡ true) ⊎ (undefined_locals o os ≡ []) → IsPermutation (map (λ s. s.name) (shown n x.file)) x.report.undefined
+UndefinedAreListed =
+    (forced : List (List ℕ)) (os : List Contents) (o : Choices) (x : Outcome) → o.keep ≢ Nothing →
+    o.relocatable ≡ false → link forced os o ≡ Ok x →
+    (n : NmOptions) → n.undefined ≡ true → (n.external ≡ true) ⊎ (undefined_locals o os ≡ []) →
+    IsPermutation (map (λ s. s.name) (shown n x.file)) x.report.undefined
 
 -- and these are its lines: those of such locals, and of the names that are reported, in the order that the options ask for
 abbrev pub UndefinedLines : Type 0
-UndefinedLines = (forced : List (List ℕ)) (os : List Contents) (o : Choices) (x : Outcome) → o.keep ≢ Nothing → o.relocatable ≡ false → link forced os o ≡ Ok x →
-    (n : NmOptions) (path : List ℕ) → n.undefined ≡ true →
-    nm_text n ((path, x.file) ∷ []) ≡ lines n path (arranged n (listed_locals n (undefined_locals o os) ++ map undefined_symbol x.report.undefined))
+UndefinedLines =
+    (forced : List (List ℕ)) (os : List Contents) (o : Choices) (x : Outcome) → o.keep ≢ Nothing →
+    o.relocatable ≡ false → link forced os o ≡ Ok x → (n : NmOptions) (path : List ℕ) → n.undefined ≡ true →
+    nm_text n ((path, x.file) ∷ [])
+    ≡ lines n path (arranged n (listed_locals n (undefined_locals o os) ++ map undefined_symbol x.report.undefined))
 
 -- without `-u`: the kept locals, and the rows of the externals that the relation of linking tells
 abbrev pub RowLines : Type 0
@@ -92,7 +98,8 @@ pub record IsAfterCommons (forced : List (List ℕ)) (os : List Contents) (o : C
 
 -- the external symbol of a name stands once among the symbols that are listed; it is the row of the name's state, and has that
 -- state's letter; a common that is laid out has an address of its own
-pub record IsListedOnce (forced : List (List ℕ)) (os : List Contents) (o : Choices) (file : Contents) (listed : List Symbol) (name : List ℕ) : Type 0 where
+pub record IsListedOnce (forced : List (List ℕ)) (os : List Contents) (o : Choices) (file : Contents)
+    (listed : List Symbol) (name : List ℕ) : Type 0 where
   pub row : Symbol
   pub found : entry_of file.symbols name ≡ Some row
   pub once : filter (λ s. is_external s && bytes_eq name s.name) listed ≡ row ∷ []
@@ -105,18 +112,24 @@ pub record IsListedOnce (forced : List (List ℕ)) (os : List Contents) (o : Cho
 
 -- each external of the objects, and each forced name, is listed once, by every `nm` without `-u`
 abbrev pub ExternalsAreListed : Type 0
-ExternalsAreListed = (forced : List (List ℕ)) (os : List Contents) (o : Choices) (x : Outcome) → o.keep ≢ Nothing → IsLinkedFrom forced os o x →
-    (n : NmOptions) → n.undefined ≡ false → (name : List ℕ) → is_among (externals forced os) name ≡ true → IsListedOnce forced os o x.file (shown n x.file) name
+ExternalsAreListed =
+    (forced : List (List ℕ)) (os : List Contents) (o : Choices) (x : Outcome) → o.keep ≢ Nothing → IsLinkedFrom forced os o x →
+    (n : NmOptions) → n.undefined ≡ false → (name : List ℕ) → is_among (externals forced os) name ≡ true →
+    IsListedOnce forced os o x.file (shown n x.file) name
 
 -- a header of these sizes; `size` reads nothing else
 abbrev pub of_sizes : ℕ → ℕ → ℕ → Header
-of_sizes text «data» bss = record { magic = 0o407; text_size = text; data_size = «data»; bss_size = bss; symbol_size = 0; entry_point = 0; unused = 0; flag = 0 }
+of_sizes text «data» bss =
+    record { magic = 0o407; text_size = text; data_size = «data»; bss_size = bss; symbol_size = 0; entry_point = 0; unused = 0; flag = 0 }
 
 -- `size` writes the sums of the objects' sizes, bss with the commons that are laid out
 pub record HasSizes (forced : List (List ℕ)) (os : List Contents) (o : Choices) (file : Contents) : Type 0 where
   pub commons : ℕ
   pub take : CommonsTake o (mentions forced os) (externals forced os) commons
-  pub line : (path : List ℕ) → size_text ((path, file) ∷ []) ≡ size_line (of_sizes (total TextSeg os) (total DataSeg os) (commons + total BssSeg os)) ++ 10 ∷ []
+  pub line : (path : List ℕ) → size_text ((path, file) ∷ [])
+      ≡ size_line (of_sizes (total TextSeg os) (total DataSeg os) (commons + total BssSeg os)) ++ 10 ∷ []
 
 abbrev pub SizesAreSums : Type 0
-SizesAreSums = (forced : List (List ℕ)) (os : List Contents) (o : Choices) (x : Outcome) → link forced os o ≡ Ok x → HasSizes forced os o x.file
+SizesAreSums =
+    (forced : List (List ℕ)) (os : List Contents) (o : Choices) (x : Outcome) → link forced os o ≡ Ok x →
+    HasSizes forced os o x.file

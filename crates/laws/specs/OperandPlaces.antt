@@ -4,7 +4,8 @@
 -- the addressing that the first word has, the operand is the address of that byte. That is the effective address in modes 67 and 37,
 -- the address of a pointer in mode 77, and a number in mode 27 and as an index. The machine looks in the space that the instruction
 -- uses.
-use Rattle.std.specs.Prelude.{◌≡◌, ◌≢◌, ℕ, ◌+◌, ◌*◌, ◌%◌, ◌<◌, ◌⊎◌, true, false, if◌then◌else◌, List, [], ◌∷◌, ◌++◌, drop, Option, Some, None, Ok, slice_get}
+use Rattle.std.specs.Prelude.{◌≡◌, ◌≢◌, ℕ, ◌+◌, ◌*◌, ◌%◌, ◌<◌, ◌⊎◌, true, false, if◌then◌else◌, List, []}
+use Rattle.std.specs.Prelude.{◌∷◌, ◌++◌, drop, Option, Some, None, Ok, slice_get}
 use Rattle.std.specs.List.{AllByRecursion}
 use Rattle.aout_core.specs.declared.symbol.Symbol.{Symbol}
 use Rattle.aout_core.specs.declared.symbol.Segment.{Segment}
@@ -71,7 +72,8 @@ pub record IsNamedByte (k c : Contents) (kind : Option Kind) (r : Reloc) (number
 
 -- a number that the program has or makes is the address of that byte in the program; if this space has that segment, the byte is
 -- loaded there
-pub record IsAddress (file : Contents) (os front : List Contents) (c : Contents) (to : Segment) (n : ℕ) (space : Space) (number : ℕ) : Type 0 where
+pub record IsAddress (file : Contents) (os front : List Contents) (c : Contents) (to : Segment) (n : ℕ) (space : Space)
+    (number : ℕ) : Type 0 where
   pub address : ℕ
   pub place : IsPlace file.header os front c to n address
   pub is : number ≡ address % 65536
@@ -87,7 +89,8 @@ pub record IsBeyondName (file k : Contents) (r : Reloc) (number in_k : ℕ) : Ty
 
 -- word i of the text of k is the operand word of an operand with this addressing. In the program the word at its place gives the
 -- machine the address of the byte to which it refers in k, by its segment or by its name
-pub record HasOperand (os : List Contents) (o : Choices) (x : Outcome) (before : List Contents) (k : Contents) (operation : Operation) (a : Addressing) (i : ℕ) : Type 0 where
+pub record HasOperand (os : List Contents) (o : Choices) (x : Outcome) (before : List Contents) (k : Contents)
+    (operation : Operation) (a : Addressing) (i : ℕ) : Type 0 where
   pub w : ℕ
   pub r : Reloc
   pub word_in : slice_get k.text_words i ≡ Some w
@@ -102,7 +105,8 @@ pub record HasOperand (os : List Contents) (o : Choices) (x : Outcome) (before :
   pub values : o.keep ≢ Nothing → o.relocatable ≡ false → kind_meant a r ≡ Some kinds.External →
       IsBeyondName x.file k r (machine_value a (address + 2) word) (machine_value a (2 * i + 2) w)
   -- and the definition, wherever it is, if no name is multiply defined
-  pub names : o.keep ≢ Nothing → x.report.multiples ≡ [] → (front : List Contents) (c : Contents) (back : List Contents) → os ≡ front ++ c ∷ back →
+  pub names : o.keep ≢ Nothing → x.report.multiples ≡ [] →
+      (front : List Contents) (c : Contents) (back : List Contents) → os ≡ front ++ c ∷ back →
       (to : Segment) (n : ℕ) → IsNamedByte k c (kind_meant a r) r (machine_value a (2 * i + 2) w) to n →
       IsAddress x.file os front c to n (space_used operation a) (machine_value a (address + 2) word)
 
@@ -115,8 +119,10 @@ IsOperand instruction i operand p =
 abbrev pub OperandsStand : Type 0
 OperandsStand = (forced : List (List ℕ)) (before : List Contents) (k : Contents) (after : List Contents) (o : Choices) (x : Outcome) →
     AllByRecursion IsObject (before ++ k ∷ after) → link forced (before ++ k ∷ after) o ≡ Ok x →
-    (i w : ℕ) (following : List ℕ) → drop i k.text_words ≡ w ∷ following → (instruction : Instruction) → instruction_of w ≡ Some instruction →
-    is_cut (instruction_of w) following ≡ false → (operand : Option Operand) (p : ℕ) → IsOperand instruction i operand p → (a : Addressing) → addressing_of operand ≡ Some a →
+    (i w : ℕ) (following : List ℕ) → drop i k.text_words ≡ w ∷ following → (instruction : Instruction) →
+    instruction_of w ≡ Some instruction →
+    is_cut (instruction_of w) following ≡ false → (operand : Option Operand) (p : ℕ) →
+    IsOperand instruction i operand p → (a : Addressing) → addressing_of operand ≡ Some a →
     HasOperand (before ++ k ∷ after) o x before k instruction.row.operation a p
 
 -- modes 67 and 37, by which a jump or a call names where it goes
@@ -124,7 +130,8 @@ abbrev pub IsDirect : Addressing → Type 0
 IsDirect a = (a ≡ Relative) ⊎ (a ≡ Absolute)
 
 -- a jump or a call of k whose operand word is word p, in the program
-pub record JumpArrives (x : Outcome) (os before : List Contents) (k : Contents) (a : Addressing) (p : ℕ) (front : List Contents) (c : Contents) (to : Segment) (n : ℕ) : Type 0 where
+pub record JumpArrives (x : Outcome) (os before : List Contents) (k : Contents) (a : Addressing) (p : ℕ)
+    (front : List Contents) (c : Contents) (to : Segment) (n : ℕ) : Type 0 where
   pub address : ℕ
   pub place : IsPlace x.file.header os before k TextSeg (2 * p) address
   pub word : ℕ
@@ -134,17 +141,19 @@ pub record JumpArrives (x : Outcome) (os before : List Contents) (k : Contents) 
 -- a jump or a call by one of these modes to a name arrives at its definition, in the space of instructions
 abbrev pub JumpsArrive : Type 0
 JumpsArrive = (forced : List (List ℕ)) (before : List Contents) (k : Contents) (after : List Contents) (o : Choices) (x : Outcome) →
-    AllByRecursion IsObject (before ++ k ∷ after) → o.keep ≢ Nothing → link forced (before ++ k ∷ after) o ≡ Ok x → x.report.multiples ≡ [] →
-    (i w : ℕ) (following : List ℕ) → drop i k.text_words ≡ w ∷ following → (instruction : Instruction) → instruction_of w ≡ Some instruction →
-    is_cut (instruction_of w) following ≡ false → jumps instruction.row.operation ≡ true →
-    (operand : Option Operand) (p : ℕ) → IsOperand instruction i operand p → (a : Addressing) → addressing_of operand ≡ Some a → IsDirect a →
-    (u : ℕ) (r : Reloc) → slice_get k.text_words p ≡ Some u → slice_get k.text_reloc p ≡ Some r →
+    AllByRecursion IsObject (before ++ k ∷ after) → o.keep ≢ Nothing → link forced (before ++ k ∷ after) o ≡ Ok x →
+    x.report.multiples ≡ [] →
+    (i w : ℕ) (following : List ℕ) → drop i k.text_words ≡ w ∷ following → (instruction : Instruction) → instruction_of w
+    ≡ Some instruction → is_cut (instruction_of w) following ≡ false → jumps instruction.row.operation ≡ true →
+    (operand : Option Operand) (p : ℕ) → IsOperand instruction i operand p → (a : Addressing) → addressing_of operand
+    ≡ Some a → IsDirect a → (u : ℕ) (r : Reloc) → slice_get k.text_words p ≡ Some u → slice_get k.text_reloc p ≡ Some r →
     (front : List Contents) (c : Contents) (back : List Contents) → before ++ k ∷ after ≡ front ++ c ∷ back →
     (to : Segment) (n : ℕ) → IsNamedByte k c (kind_meant a r) r (machine_value a (2 * p + 2) u) to n →
     JumpArrives x (before ++ k ∷ after) before k a p front c to n
 
 -- word i of a segment of k, which is not relative to the pc, has the address of a byte in the program: a pointer
-pub record Points (x : Outcome) (os before : List Contents) (k : Contents) (from : Segment) (i : ℕ) (front : List Contents) (c : Contents) (to : Segment) (n : ℕ) : Type 0 where
+pub record Points (x : Outcome) (os before : List Contents) (k : Contents) (from : Segment) (i : ℕ)
+    (front : List Contents) (c : Contents) (to : Segment) (n : ℕ) : Type 0 where
   pub address : ℕ
   pub place : IsPlace x.file.header os before k from (2 * i) address
   pub word : ℕ
@@ -155,13 +164,16 @@ pub record Points (x : Outcome) (os before : List Contents) (k : Contents) (from
 abbrev pub PointersToSegments : Type 0
 PointersToSegments = (forced : List (List ℕ)) (before : List Contents) (k : Contents) (after : List Contents) (o : Choices) (x : Outcome) →
     AllByRecursion IsObject (before ++ k ∷ after) → link forced (before ++ k ∷ after) o ≡ Ok x →
-    (from : Segment) (i w : ℕ) (r : Reloc) → slice_get (segment_words from k) i ≡ Some w → slice_get (segment_relocs from k) i ≡ Some r → is_pc_relative r ≡ false →
+    (from : Segment) (i w : ℕ) (r : Reloc) → slice_get (segment_words from k) i ≡ Some w →
+    slice_get (segment_relocs from k) i ≡ Some r → is_pc_relative r ≡ false →
     (to : Segment) (n : ℕ) → IsOwnByte k (kind_of r) (w % 65536) to n → Points x (before ++ k ∷ after) before k from i before k to n
 
 -- one that refers to a name points to the definition, as a table of functions does
 abbrev pub PointersToNames : Type 0
 PointersToNames = (forced : List (List ℕ)) (before : List Contents) (k : Contents) (after : List Contents) (o : Choices) (x : Outcome) →
-    AllByRecursion IsObject (before ++ k ∷ after) → o.keep ≢ Nothing → link forced (before ++ k ∷ after) o ≡ Ok x → x.report.multiples ≡ [] →
-    (from : Segment) (i w : ℕ) (r : Reloc) → slice_get (segment_words from k) i ≡ Some w → slice_get (segment_relocs from k) i ≡ Some r → is_pc_relative r ≡ false →
+    AllByRecursion IsObject (before ++ k ∷ after) → o.keep ≢ Nothing → link forced (before ++ k ∷ after) o ≡ Ok x →
+    x.report.multiples ≡ [] →
+    (from : Segment) (i w : ℕ) (r : Reloc) → slice_get (segment_words from k) i ≡ Some w →
+    slice_get (segment_relocs from k) i ≡ Some r → is_pc_relative r ≡ false →
     (front : List Contents) (c : Contents) (back : List Contents) → before ++ k ∷ after ≡ front ++ c ∷ back →
     (to : Segment) (n : ℕ) → IsNamedByte k c (kind_of r) r (w % 65536) to n → Points x (before ++ k ∷ after) before k from i front c to n

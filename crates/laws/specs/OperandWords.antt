@@ -68,12 +68,15 @@ abbrev pub OperandsGiveNames : Type 0
 OperandsGiveNames = (forced : List (List ℕ)) (before : List Contents) (k : Contents) (after : List Contents) (o : Choices) (x : Outcome) →
     AllByRecursion IsObject (before ++ k ∷ after) → o.keep ≢ Nothing → o.relocatable ≡ false → link forced (before ++ k ∷ after) o ≡ Ok x →
     (i w : ℕ) (r : Reloc) → slice_get k.text_words i ≡ Some w → slice_get k.text_reloc i ≡ Some r →
-    (a : Addressing) → is_pc_relative r ≡ is_relative a → kind_of r ≡ Some kinds.External → GivesName x.file (before ++ k ∷ after) before k a i w r
+    (a : Addressing) → is_pc_relative r ≡ is_relative a → kind_of r ≡ Some kinds.External →
+    GivesName x.file (before ++ k ∷ after) before k a i w r
 
 -- if it refers to a segment of its object, it is more by how far that segment was moved
 abbrev pub OperandsGiveSegments : Type 0
-OperandsGiveSegments = (forced : List (List ℕ)) (before : List Contents) (k : Contents) (after : List Contents) (o : Choices) (x : Outcome) →
+OperandsGiveSegments =
+    (forced : List (List ℕ)) (before : List Contents) (k : Contents) (after : List Contents) (o : Choices) (x : Outcome) →
     AllByRecursion IsObject (before ++ k ∷ after) → link forced (before ++ k ∷ after) o ≡ Ok x →
     (i w : ℕ) (r : Reloc) → slice_get k.text_words i ≡ Some w → slice_get k.text_reloc i ≡ Some r →
-    (a : Addressing) → is_pc_relative r ≡ is_relative a → (kind : Kind) (meant : Segment) → kind_of r ≡ Some kind → segment_meant kind ≡ Some meant →
+    (a : Addressing) → is_pc_relative r ≡ is_relative a → (kind : Kind) (meant : Segment) → kind_of r ≡ Some kind →
+    segment_meant kind ≡ Some meant →
     GivesMore x.file (before ++ k ∷ after) before k a i w (move_in x.file.header (before ++ k ∷ after) before k meant)

@@ -4,7 +4,8 @@
 -- the object it finds so many bytes beyond a name or a place there; in the program it finds as many beyond the name's value, or
 -- beyond where that place is now. A call uses the address that it finds in the space of instructions, and an instruction that
 -- fetches or stores uses it in that of data.
-use Rattle.std.specs.Prelude.{◌≡◌, ◌≢◌, ℕ, ◌+◌, ◌*◌, ◌%◌, ◌<◌, Bool, true, false, cond, eqb, List, [], ◌∷◌, ◌++◌, Option, Some, None, Ok, slice_get}
+use Rattle.std.specs.Prelude.{◌≡◌, ◌≢◌, ℕ, ◌+◌, ◌*◌, ◌%◌, ◌<◌, Bool, true, false, cond, eqb, List}
+use Rattle.std.specs.Prelude.{[], ◌∷◌, ◌++◌, Option, Some, None, Ok, slice_get}
 use Rattle.std.specs.List.{AllByRecursion}
 use Rattle.aout_core.specs.declared.symbol.Symbol.{Symbol}
 use Rattle.aout_core.specs.declared.symbol.Segment.{Segment}
@@ -31,7 +32,8 @@ abbrev pub operand : Bool → ℕ → ℕ → ℕ
 operand pc address word = plus (cond pc (address + 2) 0) word
 
 -- word i of a segment of k, which is w with relocation word r, finds in the program so much more than it does in k
-pub record FindsMore (file : Contents) (os before : List Contents) (k : Contents) (segment : Segment) (i w : ℕ) (r : Reloc) (more : ℕ) : Type 0 where
+pub record FindsMore (file : Contents) (os before : List Contents) (k : Contents) (segment : Segment) (i w : ℕ)
+    (r : Reloc) (more : ℕ) : Type 0 where
   pub address : ℕ
   pub place : IsPlace file.header os before k segment (2 * i) address
   pub word : ℕ
@@ -49,7 +51,8 @@ pub record FindsName (file : Contents) (os before : List Contents) (k : Contents
 abbrev pub NamesAreFound : Type 0
 NamesAreFound = (forced : List (List ℕ)) (before : List Contents) (k : Contents) (after : List Contents) (o : Choices) (x : Outcome) →
     AllByRecursion IsObject (before ++ k ∷ after) → o.keep ≢ Nothing → o.relocatable ≡ false → link forced (before ++ k ∷ after) o ≡ Ok x →
-    (segment : Segment) (i w : ℕ) (r : Reloc) → slice_get (segment_words segment k) i ≡ Some w → slice_get (segment_relocs segment k) i ≡ Some r →
+    (segment : Segment) (i w : ℕ) (r : Reloc) → slice_get (segment_words segment k) i ≡ Some w →
+    slice_get (segment_relocs segment k) i ≡ Some r →
     kind_of r ≡ Some kinds.External → FindsName x.file (before ++ k ∷ after) before k segment i w r
 
 -- the segment that a word refers to, if it refers to no name; an absolute word refers to none that is moved
@@ -64,7 +67,8 @@ segment_meant kinds.External = None
 abbrev pub SegmentsAreFound : Type 0
 SegmentsAreFound = (forced : List (List ℕ)) (before : List Contents) (k : Contents) (after : List Contents) (o : Choices) (x : Outcome) →
     AllByRecursion IsObject (before ++ k ∷ after) → link forced (before ++ k ∷ after) o ≡ Ok x →
-    (segment : Segment) (i w : ℕ) (r : Reloc) → slice_get (segment_words segment k) i ≡ Some w → slice_get (segment_relocs segment k) i ≡ Some r →
+    (segment : Segment) (i w : ℕ) (r : Reloc) → slice_get (segment_words segment k) i ≡ Some w →
+    slice_get (segment_relocs segment k) i ≡ Some r →
     (kind : Kind) (meant : Segment) → kind_of r ≡ Some kind → segment_meant kind ≡ Some meant →
     FindsMore x.file (before ++ k ∷ after) before k segment i w r (move_in x.file.header (before ++ k ∷ after) before k meant)
 
@@ -101,7 +105,8 @@ is_usable_in magic _ space = true
 
 -- word i of a segment of k finds n bytes after the start of a segment of c, or the address n; a byte there is that segment's in
 -- this space
-pub record Arrives (file : Contents) (space : Space) (os before : List Contents) (k : Contents) (from : Segment) (i : ℕ) (front : List Contents) (c : Contents) (to : Segment) (n : ℕ) : Type 0 where
+pub record Arrives (file : Contents) (space : Space) (os before : List Contents) (k : Contents) (from : Segment) (i : ℕ)
+    (front : List Contents) (c : Contents) (to : Segment) (n : ℕ) : Type 0 where
   pub address : ℕ
   pub place : IsPlace file.header os before k from (2 * i) address
   pub word : ℕ
@@ -114,7 +119,10 @@ pub record Arrives (file : Contents) (space : Space) (os before : List Contents)
 -- where no name is multiply defined, a call arrives at the definition of its name, in each space in which that may be used,
 -- whatever was linked before, between and after
 abbrev pub CallsArrive : Type 0
-CallsArrive = (forced : List (List ℕ)) (os : List Contents) (o : Choices) (x : Outcome) → AllByRecursion IsObject os → o.keep ≢ Nothing → link forced os o ≡ Ok x → x.report.multiples ≡ [] →
-    (before : List Contents) (k : Contents) (after : List Contents) → os ≡ before ++ k ∷ after → (front : List Contents) (c : Contents) (back : List Contents) → os ≡ front ++ c ∷ back →
+CallsArrive =
+    (forced : List (List ℕ)) (os : List Contents) (o : Choices) (x : Outcome) → AllByRecursion IsObject os →
+    o.keep ≢ Nothing → link forced os o ≡ Ok x → x.report.multiples ≡ [] →
+    (before : List Contents) (k : Contents) (after : List Contents) → os ≡ before ++ k ∷ after →
+    (front : List Contents) (c : Contents) (back : List Contents) → os ≡ front ++ c ∷ back →
     (from to : Segment) (i n : ℕ) (name : List ℕ) → Calls k from i name → Defines c name to n →
     (space : Space) → is_usable_in x.file.header.magic to space ≡ true → Arrives x.file space os before k from i front c to n

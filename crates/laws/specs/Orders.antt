@@ -4,7 +4,8 @@
 -- reported, do not depend on the order of the objects; the places of objects and commons do. Where no name is multiply defined,
 -- each name means the same in any order, so each word refers to the same thing. Orders are those that exchanges reach, as of two
 -- neighbours.
-use Rattle.std.specs.Prelude.{◌≡◌, ◌≢◌, ◌↔◌, ℕ, ◌≤◌, Bool, true, false, not, ◌&&◌, eqb, List, [], ◌∷◌, ◌++◌, map, filter, length, sum_by, Some, Result, Ok, Err, slice_get, bytes_eq}
+use Rattle.std.specs.Prelude.{◌≡◌, ◌≢◌, ◌↔◌, ℕ, ◌≤◌, Bool, true, false, not, ◌&&◌, eqb, List, [], ◌∷◌, ◌++◌, map}
+use Rattle.std.specs.Prelude.{filter, length, sum_by, Some, Result, Ok, Err, slice_get, bytes_eq}
 use Rattle.std.specs.List.{AllByRecursion}
 use Rattle.std.specs.List.Sorted.{IsPermutation}
 use Rattle.aout_core.specs.declared.symbol.Symbol.{Symbol}
@@ -69,7 +70,9 @@ AreAlike (Ok x) (Err fault) = ⊥
 
 -- if all are added, without `-r` there is a link in both orders, or the same fault
 abbrev pub OrderLinksAlike : Type 0
-OrderLinksAlike = (forced : List (List ℕ)) (es ds : List Labelled) (o : Choices) → IsPermutation es ds → o.relocatable ≡ false → AreAdded forced es →
+OrderLinksAlike =
+    (forced : List (List ℕ)) (es ds : List Labelled) (o : Choices) →
+    IsPermutation es ds → o.relocatable ≡ false → AreAdded forced es →
     AreAlike (link_after forced (additions es) o) (link_after forced (additions ds) o)
 
 -- the link of all of them is refused with the same fault, or not at all
@@ -114,7 +117,8 @@ pub record IsDefinedBy (file : Contents) (os : List Contents) (name : List ℕ) 
 abbrev pub Means : List (List ℕ) → List Contents → Choices → Contents → List ℕ → Meaning → Type 0
 Means forced os o file name (definition k s) = IsDefinedBy file os name k s
 Means forced os o file name (common size) = IsCommon forced os name size × HasRoom file os name size
-Means forced os o file name missing = IsWanted (mentions forced os) name 0 × (entry_of file.symbols name ≡ Some (undefined_row file.header o name))
+Means forced os o file name missing =
+    IsWanted (mentions forced os) name 0 × (entry_of file.symbols name ≡ Some (undefined_row file.header o name))
 
 -- the name means the same in two links
 pub record MeansTheSame (forced : List (List ℕ)) (os ps : List Contents) (o : Choices) (x y : Outcome) (name : List ℕ) : Type 0 where
@@ -124,20 +128,26 @@ pub record MeansTheSame (forced : List (List ℕ)) (os ps : List Contents) (o : 
 
 -- where no name is multiply defined in one of the orders, each name means the same
 abbrev pub OrderKeepsMeanings : Type 0
-OrderKeepsMeanings = (forced : List (List ℕ)) (os ps : List Contents) (o : Choices) (x y : Outcome) → AreOrders forced os ps o x y → o.keep ≢ Nothing → o.relocatable ≡ false →
+OrderKeepsMeanings =
+    (forced : List (List ℕ)) (os ps : List Contents) (o : Choices) (x y : Outcome) → AreOrders forced os ps o x y →
+    o.keep ≢ Nothing → o.relocatable ≡ false →
     x.report.multiples ≡ [] → (name : List ℕ) → is_among (externals forced os) name ≡ true → MeansTheSame forced os ps o x y name
 
 -- a word of k, after these objects in the one order and those in the other, is relocated in both files, and the name that it
 -- refers to, if it does, means the same
-pub record RefersAlike (forced : List (List ℕ)) (os ps : List Contents) (o : Choices) (x y : Outcome) (before front : List Contents) (k : Contents) (segment : Segment) (i w : ℕ) (r : Reloc) : Type 0 where
+pub record RefersAlike (forced : List (List ℕ)) (os ps : List Contents) (o : Choices) (x y : Outcome)
+    (before front : List Contents) (k : Contents) (segment : Segment) (i w : ℕ) (r : Reloc) : Type 0 where
   pub one : IsRelocated x.file x.file.symbols os before k segment i w r
   pub other : IsRelocated y.file y.file.symbols ps front k segment i w r
-  pub name : kind_of r ≡ Some External → (s : Symbol) → slice_get k.symbols (symbol_number r) ≡ Some s → MeansTheSame forced os ps o x y s.name
+  pub name : kind_of r ≡ Some External → (s : Symbol) → slice_get k.symbols (symbol_number r) ≡ Some s →
+      MeansTheSame forced os ps o x y s.name
 
 -- so each word of each object refers to the same
 abbrev pub OrderKeepsReferents : Type 0
-OrderKeepsReferents = (forced : List (List ℕ)) (os ps : List Contents) (o : Choices) (x y : Outcome) → AreOrders forced os ps o x y → o.keep ≢ Nothing → o.relocatable ≡ false →
-    x.report.multiples ≡ [] → AllByRecursion IsObject os →
-    (before : List Contents) (k : Contents) (after : List Contents) → os ≡ before ++ k ∷ after → (front back : List Contents) → ps ≡ front ++ k ∷ back →
-    (segment : Segment) (i w : ℕ) (r : Reloc) → slice_get (segment_words segment k) i ≡ Some w → slice_get (segment_relocs segment k) i ≡ Some r →
-    RefersAlike forced os ps o x y before front k segment i w r
+OrderKeepsReferents =
+    (forced : List (List ℕ)) (os ps : List Contents) (o : Choices) (x y : Outcome) → AreOrders forced os ps o x y →
+    o.keep ≢ Nothing → o.relocatable ≡ false → x.report.multiples ≡ [] → AllByRecursion IsObject os →
+    (before : List Contents) (k : Contents) (after : List Contents) → os ≡ before ++ k ∷ after →
+    (front back : List Contents) → ps ≡ front ++ k ∷ back →
+    (segment : Segment) (i w : ℕ) (r : Reloc) → slice_get (segment_words segment k) i ≡ Some w →
+    slice_get (segment_relocs segment k) i ≡ Some r → RefersAlike forced os ps o x y before front k segment i w r

@@ -37,7 +37,10 @@ pub record ShowsAlike (file : Contents) (rows : List Symbol) (os before : List C
   pub alike : AlikeLine (IsLinkedWord file rows os before k) i line other
 
 abbrev pub ProgramsShowInstructions : Type 0
-ProgramsShowInstructions = (forced : List (List ℕ)) (before : List Contents) (k : Contents) (after : List Contents) (o : Choices) (x : Outcome) →
-    AllByRecursion IsObject (before ++ k ∷ after) → AllByRecursion IsWord k.text_words → o.relocatable ≡ false → (l : IsLinkedFrom forced (before ++ k ∷ after) o x) →
+ProgramsShowInstructions =
+    (forced : List (List ℕ)) (before : List Contents) (k : Contents) (after : List Contents) (o : Choices) (x : Outcome) →
+    AllByRecursion IsObject (before ++ k ∷ after) → AllByRecursion IsWord k.text_words → o.relocatable ≡ false →
+    (l : IsLinkedFrom forced (before ++ k ∷ after) o x) →
     (i : ℕ) → i < length k.text_words → is_relocated (slice_get k.text_reloc i) ≡ false →
-    is_cut (instruction_of (slice_index k.text_words i)) (drop (i + 1) k.text_words) ≡ false → ShowsAlike x.file l.rows (before ++ k ∷ after) before k i
+    is_cut (instruction_of (slice_index k.text_words i)) (drop (i + 1) k.text_words) ≡ false →
+    ShowsAlike x.file l.rows (before ++ k ∷ after) before k i

@@ -69,15 +69,22 @@ module _ {W E : Type 0} (out_contents : W → Option (List ℕ)) (error_contents
 
   -- some parts linked by `-r` into m, and m linked among others, give what all of them give in one link, if m is such a partial link
   abbrev pub LinkStepsLaw : Type 0
-  LinkStepsLaw = (first second whole : Run W E) (own forced : List (List ℕ)) (by o : Choices) (m p q : List ℕ) (before parts after : List (List ℕ)) (bs os cs : List Contents) →
+  LinkStepsLaw =
+      (first second whole : Run W E) (own forced : List (List ℕ)) (by o : Choices) (m p q : List ℕ)
+      (before parts after : List (List ℕ)) (bs os cs : List Contents) →
       Links own by m parts first → Links forced o p (before ++ m ∷ after) second → Links forced o q (before ++ (parts ++ after)) whole →
-      AreAt first.disk parts os → AreAt second.disk before bs → AreAt second.disk after cs → AreAt whole.disk (before ++ (parts ++ after)) (bs ++ (os ++ cs)) → second.disk m ≡ file_after first m → AllByRecursion IsSound os → AllByRecursion IsName own →
-      by.relocatable ≡ true → by.force_commons ≡ false → KeepsNoMore o.keep by.keep → IsPart own forced → DefinesNoMultiple forced bs os cs →
-      LeaveTheSame second p whole q × ReportTheSame out_contents second whole
+      AreAt first.disk parts os → AreAt second.disk before bs → AreAt second.disk after cs →
+      AreAt whole.disk (before ++ (parts ++ after)) (bs ++ (os ++ cs)) → second.disk m ≡ file_after first m →
+      AllByRecursion IsSound os → AllByRecursion IsName own →
+      by.relocatable ≡ true → by.force_commons ≡ false → KeepsNoMore o.keep by.keep → IsPart own forced →
+      DefinesNoMultiple forced bs os cs → LeaveTheSame second p whole q × ReportTheSame out_contents second whole
 
   -- a program that is stripped is the one that is linked with `-s`
   abbrev pub StripStepsLaw : Type 0
-  StripStepsLaw = (linked strip whole : Run W E) (forced : List (List ℕ)) (o : Choices) (p q : List ℕ) (paths : List (List ℕ)) (os : List Contents) →
+  StripStepsLaw =
+      (linked strip whole : Run W E) (forced : List (List ℕ)) (o : Choices) (p q : List ℕ) (paths : List (List ℕ))
+      (os : List Contents) →
       Links forced o p paths linked → Strips p strip → Links forced (record o { keep = Nothing }) q paths whole →
-      AreAt linked.disk paths os → AreAt whole.disk paths os → strip.disk p ≡ file_after linked p → AllByRecursion IsSound os → AllByRecursion IsName forced →
+      AreAt linked.disk paths os → AreAt whole.disk paths os → strip.disk p ≡ file_after linked p →
+      AllByRecursion IsSound os → AllByRecursion IsName forced →
       LeaveTheSame strip p whole q × ReportTheSame out_contents linked whole × (strip.status ≡ 0)

@@ -36,23 +36,31 @@ pub record HasRoom (file : Contents) (os : List Contents) (name : List ℕ) (siz
 
 -- where commons are laid out, each has room
 abbrev pub CommonsHaveRoom : Type 0
-CommonsHaveRoom = (forced : List (List ℕ)) (os : List Contents) (o : Choices) (x : Outcome) → o.keep ≢ Nothing → lays_commons o ≡ true → link forced os o ≡ Ok x →
-    (name : List ℕ) (size : ℕ) → IsCommon forced os name size → HasRoom x.file os name size
+CommonsHaveRoom =
+    (forced : List (List ℕ)) (os : List Contents) (o : Choices) (x : Outcome) → o.keep ≢ Nothing → lays_commons o ≡ true →
+    link forced os o ≡ Ok x → (name : List ℕ) (size : ℕ) → IsCommon forced os name size → HasRoom x.file os name size
 
 -- and no two share any of it
 abbrev pub CommonsLieApart : Type 0
-CommonsLieApart = (forced : List (List ℕ)) (os : List Contents) (o : Choices) (x : Outcome) → o.keep ≢ Nothing → lays_commons o ≡ true → link forced os o ≡ Ok x →
-    (a b : List ℕ) (size more : ℕ) → IsCommon forced os a size → IsCommon forced os b more → bytes_eq a b ≡ false → (p q : Symbol) → entry_of x.file.symbols a ≡ Some p → entry_of x.file.symbols b ≡ Some q →
+CommonsLieApart =
+    (forced : List (List ℕ)) (os : List Contents) (o : Choices) (x : Outcome) → o.keep ≢ Nothing →
+    lays_commons o ≡ true → link forced os o ≡ Ok x →
+    (a b : List ℕ) (size more : ℕ) → IsCommon forced os a size → IsCommon forced os b more → bytes_eq a b ≡ false →
+    (p q : Symbol) → entry_of x.file.symbols a ≡ Some p → entry_of x.file.symbols b ≡ Some q →
     (p.value + size ≤ q.value) ⊎ (q.value + more ≤ p.value)
 
 -- the entry word and the entry fault are those of the table
 abbrev pub EntryIsFound : Type 0
-EntryIsFound = (forced : List (List ℕ)) (os : List Contents) (o : Choices) (x : Outcome) → o.keep ≢ Nothing → link forced os o ≡ Ok x → IsEntry x.file.symbols o.entry x.file.header.entry_point x.report.entry_bad
+EntryIsFound =
+    (forced : List (List ℕ)) (os : List Contents) (o : Choices) (x : Outcome) → o.keep ≢ Nothing →
+    link forced os o ≡ Ok x → IsEntry x.file.symbols o.entry x.file.header.entry_point x.report.entry_bad
 
 -- a name that is reported undefined has a symbol without address
 abbrev pub MissingHaveNoAddress : Type 0
-MissingHaveNoAddress = (forced : List (List ℕ)) (os : List Contents) (o : Choices) (x : Outcome) → o.keep ≢ Nothing → link forced os o ≡ Ok x →
-    (name : List ℕ) → is_among x.report.undefined name ≡ true → (row : Symbol) × (entry_of x.file.symbols name ≡ Some row) × (row.type_bits ≡ 0o40) × (row.value ≡ 0)
+MissingHaveNoAddress =
+    (forced : List (List ℕ)) (os : List Contents) (o : Choices) (x : Outcome) → o.keep ≢ Nothing → link forced os o ≡ Ok x →
+    (name : List ℕ) → is_among x.report.undefined name ≡ true →
+    (row : Symbol) × (entry_of x.file.symbols name ≡ Some row) × (row.type_bits ≡ 0o40) × (row.value ≡ 0)
 
 -- the file of a link with relocation is an object that fits its header
 abbrev pub PartialMayBeAdded : Type 0

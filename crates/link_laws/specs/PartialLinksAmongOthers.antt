@@ -13,7 +13,8 @@ use Rattle.tool_options.specs.Choices.{Choices}
 use Rattle.link_out.specs.function.Link.{Outcome, link}
 use Rattle.link_out.specs.laws.PartialLinks.{KeepsNoMore, IsPartialLink, without_multiples, IsPart, DefinitionsStand, DefinesNoMultiple}
 
--- a partial link whose forced names are forced later too stands for its objects wherever their definitions stand: the same file or refusal, and reports that differ at most in the multiples
+-- a partial link whose forced names are forced later too stands for its objects wherever their definitions stand: the same
+-- file or refusal, and reports that differ at most in the multiples
 abbrev pub PartialStandsFor : Type 0
 PartialStandsFor = (own forced : List (List ℕ)) (before os after : List Contents) (by o : Choices) (x : Outcome) →
     AllByRecursion IsWellFormed before → AllByRecursion IsWellFormed os → AllByRecursion IsWellFormed after →
@@ -35,21 +36,25 @@ PartialStandsAmongOthers = (own forced : List (List ℕ)) (before os after : Lis
 
 -- the link of a partial link's file by its own options is that file, and reports no multiples
 abbrev pub PartialAgain : Type 0
-PartialAgain = (forced : List (List ℕ)) (os : List Contents) (by : Choices) (x : Outcome) → AllByRecursion IsWellFormed os → IsPartialLink forced os by x →
-    link forced (x.file ∷ []) by ≡ Ok (record x { report = record x.report { multiples = [] } })
+PartialAgain =
+    (forced : List (List ℕ)) (os : List Contents) (by : Choices) (x : Outcome) → AllByRecursion IsWellFormed os →
+    IsPartialLink forced os by x → link forced (x.file ∷ []) by ≡ Ok (record x { report = record x.report { multiples = [] } })
 
 -- objects, some runs of which were replaced by their partial links, again and again
 pub data IsGrouped (forced : List (List ℕ)) (less : Keep) (os : List Contents) : List Contents → Type 0 where
   ungrouped : IsGrouped forced less os os
-  grouped : (own : List (List ℕ)) (before run after : List Contents) (by : Choices) (x : Outcome) → IsGrouped forced less os (before ++ (run ++ after)) →
+  grouped : (own : List (List ℕ)) (before run after : List Contents) (by : Choices) (x : Outcome) →
+      IsGrouped forced less os (before ++ (run ++ after)) →
       IsPart own forced → IsPartialLink own run by x → KeepsNoMore less by.keep → IsGrouped forced less os (before ++ x.file ∷ after)
 
 -- where no name is multiply defined, grouping changes nothing
 abbrev pub GroupingChangesNothing : Type 0
-GroupingChangesNothing = (forced : List (List ℕ)) (os ps : List Contents) (o : Choices) → AllByRecursion IsWellFormed os → multiple_names (mentions forced os) ≡ [] →
-    IsGrouped forced o.keep os ps → link forced ps o ≡ link forced os o
+GroupingChangesNothing =
+    (forced : List (List ℕ)) (os ps : List Contents) (o : Choices) → AllByRecursion IsWellFormed os →
+    multiple_names (mentions forced os) ≡ [] → IsGrouped forced o.keep os ps → link forced ps o ≡ link forced os o
 
 -- what is accepted with the objects is accepted with their partial link
 abbrev pub PartialIsAccepted : Type 0
-PartialIsAccepted = (own forced : List (List ℕ)) (before os after : List Contents) (by : Choices) (x : Outcome) → IsPartialLink own os by x → IsPart own forced →
-    limit_passed forced (before ++ x.file ∷ after) ≡ limit_passed forced (before ++ (os ++ after))
+PartialIsAccepted =
+    (own forced : List (List ℕ)) (before os after : List Contents) (by : Choices) (x : Outcome) → IsPartialLink own os by x →
+    IsPart own forced → limit_passed forced (before ++ x.file ∷ after) ≡ limit_passed forced (before ++ (os ++ after))

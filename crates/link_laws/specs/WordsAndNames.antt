@@ -25,12 +25,15 @@ use Rattle.link_laws.specs.relation.Relocated.{move_in, entry_of, external_type,
 abbrev pub WordsAreRelocated : Type 0
 WordsAreRelocated = (forced : List (List ℕ)) (before : List Contents) (k : Contents) (after : List Contents) (o : Choices) (x : Outcome) →
     AllByRecursion IsObject (before ++ k ∷ after) → o.keep ≢ Nothing → link forced (before ++ k ∷ after) o ≡ Ok x →
-    (segment : Segment) (i w : ℕ) (r : Reloc) → slice_get (segment_words segment k) i ≡ Some w → slice_get (segment_relocs segment k) i ≡ Some r →
+    (segment : Segment) (i w : ℕ) (r : Reloc) → slice_get (segment_words segment k) i ≡ Some w →
+    slice_get (segment_relocs segment k) i ≡ Some r →
     IsRelocated x.file x.file.symbols (before ++ k ∷ after) before k segment i w r
 
 -- and text and data hold nothing else
 abbrev pub ObjectsFill : Type 0
-ObjectsFill = (forced : List (List ℕ)) (os : List Contents) (o : Choices) (x : Outcome) → AllByRecursion IsObject os → link forced os o ≡ Ok x → HoldsObjects x.file os
+ObjectsFill =
+    (forced : List (List ℕ)) (os : List Contents) (o : Choices) (x : Outcome) → AllByRecursion IsObject os →
+    link forced os o ≡ Ok x → HoldsObjects x.file os
 
 -- the name of a definition has an external symbol, of its segment, whose value is the definition's, moved with its segment
 pub record IsDefined (file : Contents) (os before : List Contents) (k : Contents) (s : Symbol) : Type 0 where

@@ -28,7 +28,8 @@ size_limits ms =
 -- 5: the symbols of a file that is made; 6: with -r, the largest symbol number of its relocation words
 abbrev pub file_limits : Bool → Result Linked LinkFault → List LimitRecord
 file_limits relocatable (Err fault) = []
-file_limits relocatable (Ok l) = limit 5 (length l.file.symbols) 5461 ∷ (if relocatable then limit 6 (largest_number l.file) 4095 ∷ [] else [])
+file_limits relocatable (Ok l) =
+    limit 5 (length l.file.symbols) 5461 ∷ (if relocatable then limit 6 (largest_number l.file) 4095 ∷ [] else [])
 
 -- 4: the end of bss; 7: the external names
 abbrev pub link_limits : Bool → Kept → Option Outcome → List LimitRecord

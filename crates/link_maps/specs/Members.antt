@@ -1,6 +1,7 @@
 -- The objects of a link, and where their segments lie. (ld(1))
 --
--- A session takes the objects in order, up to the first that passes a limit. That one and those after it are left, but the map shows them too.
+-- A session takes the objects in order, up to the first that passes a limit. That one and those after it are left, but the
+-- map shows them too.
 use Rattle.std.specs.Prelude.{ℕ, ◌+◌, ◌-◌, ◌^◌, min, List, [], ◌∷◌, ◌++◌, length, Option, Some, None}
 use Rattle.aout_core.specs.declared.header.Header.{Header}
 use Rattle.link_session.specs.declared.entry.AddFault.{AddFault}

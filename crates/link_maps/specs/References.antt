@@ -3,7 +3,8 @@
 -- A word of text is in a line, an instruction or a plain word; a word of data is a line of its own. A label is a symbol of text or of data,
 -- at its address in the object. The one before a line is that with the largest address up to the line's own; of several at that address,
 -- the first of the table.
-use Rattle.std.specs.Prelude.{ℕ, ◌-◌, ◌*◌, ◌/◌, Bool, true, false, ◌&&◌, eqb, nat_lt, nat_le, if◌then◌else◌, List, [], ◌∷◌, ◌++◌, length, Option, Some, None}
+use Rattle.std.specs.Prelude.{ℕ, ◌-◌, ◌*◌, ◌/◌, Bool, true, false, ◌&&◌, eqb, nat_lt, nat_le, if◌then◌else◌}
+use Rattle.std.specs.Prelude.{List, [], ◌∷◌, ◌++◌, length, Option, Some, None}
 use Rattle.aout_core.specs.declared.symbol.Symbol.{Symbol}
 use Rattle.aout_core.specs.declared.symbol.Segment.{Segment}
 use Rattle.aout_core.specs.declared.symbol.Segment.TheVariants.{TextSeg, DataSeg}
@@ -87,7 +88,8 @@ reference_by starts o part number offset r = if refers_to number r then referenc
 -- the words with these relocation words, of which the first is so many bytes after the first of the part
 abbrev pub references_in : List Bool → Contents → Part → ℕ → ℕ → List Reloc → List ReferringWord
 references_in starts o part number offset [] = []
-references_in starts o part number offset (r ∷ rs) = reference_by starts o part number offset r ++ references_in starts o part number (plus offset 2) rs
+references_in starts o part number offset (r ∷ rs) =
+    reference_by starts o part number offset r ++ references_in starts o part number (plus offset 2) rs
 
 abbrev pub references_of : List Bool → Contents → Part → ℕ → List ReferringWord
 references_of starts o part number = references_in starts o part number 0 (relocs_of o part)

@@ -1,8 +1,10 @@
 -- The uses of names: the symbols that define a name or want it, and the words that refer to it. (ld(1), nm(1))
 --
--- Each external symbol of an object is a use of its name, with the words of the object that refer to the symbol. A forced name is used by no
--- object. The map has the uses in the order of their names; those of one name stay in the order of the objects, forced ones first.
-use Rattle.std.specs.Prelude.{ℕ, ◌+◌, Bool, false, not, ◌&&◌, eqb, if◌then◌else◌, List, [], ◌∷◌, ◌++◌, map, Option, Some, None, position, slice_get, unwrap_or}
+-- Each external symbol of an object is a use of its name, with the words of the object that refer to the symbol. A forced
+-- name is used by no object. The map has the uses in the order of their names; those of one name stay in the order of the
+-- objects, forced ones first.
+use Rattle.std.specs.Prelude.{ℕ, ◌+◌, Bool, false, not, ◌&&◌, eqb, if◌then◌else◌, List, [], ◌∷◌, ◌++◌, map}
+use Rattle.std.specs.Prelude.{Option, Some, None, position, slice_get, unwrap_or}
 use Rattle.std.specs.List.{list_any}
 use Rattle.std.specs.Cmp.Lexicographic.{slice_cmp}
 use Rattle.std.specs.Ordering.{nat_cmp, is_lt}

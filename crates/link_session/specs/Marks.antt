@@ -55,9 +55,9 @@ states_changed earlier (m ∷ ms) name = state_changed earlier m name ++ states_
 
 -- the marks are the difference that the object makes when it is added after these: for each cell and each name that was there
 pub record IsDifference (forced : List (List ℕ)) (os : List Contents) (o : Contents) (marks : List Mark) : Type 0 where
-  pub text : (i : ℕ) (was is : Cell) → slice_get (image forced os).text_cells i ≡ Some was → slice_get (image forced (os ++ o ∷ [])).text_cells i ≡ Some is →
-      HoldCell was is (cells_marked (InText i) marks)
-  pub «data» : (i : ℕ) (was is : Cell) → slice_get (image forced os).data_cells i ≡ Some was → slice_get (image forced (os ++ o ∷ [])).data_cells i ≡ Some is →
-      HoldCell was is (cells_marked (InData i) marks)
+  pub text : (i : ℕ) (was is : Cell) → slice_get (image forced os).text_cells i ≡ Some was →
+      slice_get (image forced (os ++ o ∷ [])).text_cells i ≡ Some is → HoldCell was is (cells_marked (InText i) marks)
+  pub «data» : (i : ℕ) (was is : Cell) → slice_get (image forced os).data_cells i ≡ Some was →
+      slice_get (image forced (os ++ o ∷ [])).data_cells i ≡ Some is → HoldCell was is (cells_marked (InData i) marks)
   pub names : (i : ℕ) (name : List ℕ) → slice_get (externals forced os) i ≡ Some name →
       states_marked i marks ≡ states_changed (mentions forced os) (mentions_in os o) name

@@ -3,7 +3,8 @@
 -- A listing begins and ends with notes, and each note is a line that begins with a slash. A line gives the magic number unless it is
 -- 0407, and another the flag unless it is 0. The words of text and of data follow, the size of bss, the entry point and the unused word
 -- unless they are 0, and the table. A line may end with a remark, and labels may precede the line of a word or follow the last one.
-use Rattle.std.specs.Prelude.{ℕ, ◌+◌, ◌-◌, ◌%◌, eqb, if◌then◌else◌, List, [], ◌∷◌, ◌++◌, drop, map, replicate, length, Option, Some, None, slice_get, codes}
+use Rattle.std.specs.Prelude.{ℕ, ◌+◌, ◌-◌, ◌%◌, eqb, if◌then◌else◌, List, [], ◌∷◌, ◌++◌, drop, map, replicate}
+use Rattle.std.specs.Prelude.{length, Option, Some, None, slice_get, codes}
 use Rattle.aout_core.specs.declared.header.Header.{Header}
 use Rattle.aout_core.specs.declared.reloc.Reloc.{Reloc}
 use Rattle.aout_core.specs.declared.symbol.Symbol.{Symbol}
@@ -46,7 +47,8 @@ word_line said at w r = word_columns at w r ++ remarked said
 -- the words of a part from a place and an address on, and the labels of its end
 abbrev pub word_lines : Remarks → Part → ℕ → ℕ → List ℕ → List Reloc → List (List ℕ)
 word_lines x p i at [] rs = x.labels p i
-word_lines x p i at (w ∷ ws) rs = x.labels p i ++ (word_line (x.word p i) (at % 65536) w (slice_get rs 0) ∷ word_lines x p (i + 1) (at + 2) ws (drop 1 rs))
+word_lines x p i at (w ∷ ws) rs =
+    x.labels p i ++ (word_line (x.word p i) (at % 65536) w (slice_get rs 0) ∷ word_lines x p (i + 1) (at + 2) ws (drop 1 rs))
 
 -- the numbers of a symbol, and a remark
 abbrev pub symbol_numbers : Remarks → Symbol → List ℕ
@@ -87,7 +89,9 @@ abbrev pub table_lines : Remarks → Contents → List (List ℕ)
 table_lines x c = codes "symbols" ∷ symbol_lines x 0 c.symbols
 
 abbrev pub listing_lines : Remarks → Contents → List (List ℕ)
-listing_lines x c = note_lines x.notes ++ (head_lines c.header ++ (text_lines x c ++ (data_lines x c ++ (bss_lines c.header ++ (table_lines x c ++ note_lines x.findings)))))
+listing_lines x c =
+    note_lines x.notes ++ (head_lines c.header
+    ++ (text_lines x c ++ (data_lines x c ++ (bss_lines c.header ++ (table_lines x c ++ note_lines x.findings)))))
 
 abbrev pub listing : Remarks → Contents → List ℕ
 listing x c = text_of (listing_lines x c)

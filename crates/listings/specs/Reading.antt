@@ -2,14 +2,17 @@
 --
 -- A row that begins with a digit belongs to the section that was opened last. Any other row begins with a word. A row without columns
 -- says nothing, and neither does one that begins with a slash, or a label. Columns after those that a row needs are not read.
-use Rattle.std.specs.Prelude.{ℕ, ◌+◌, ◌*◌, ◌%◌, Bool, ◌&&◌, ◌||◌, nat_le, nat_lt, nat_eq, eqb, if◌then◌else◌, List, [], ◌∷◌, ◌++◌, length, Result, Ok, Err, codes}
+use Rattle.std.specs.Prelude.{ℕ, ◌+◌, ◌*◌, ◌%◌, Bool, ◌&&◌, ◌||◌, nat_le, nat_lt, nat_eq, eqb, if◌then◌else◌}
+use Rattle.std.specs.Prelude.{List, [], ◌∷◌, ◌++◌, length, Result, Ok, Err, codes}
 use Rattle.std.specs.Cmp.Lexicographic.{pointwise}
 use Rattle.std.specs.List.{starts_with, ends_with}
 use Rattle.aout_core.specs.declared.reloc.Reloc.{Reloc}
 use Rattle.aout_core.specs.declared.symbol.Symbol.{Symbol}
 use Rattle.aout_core.specs.Contents.{Contents, is_magic}
 use Rattle.listings.specs.declared.fault.Reason.{Reason}
-use Rattle.listings.specs.declared.fault.Reason.TheVariants.{WrongAddress, WrongNumber, TooManyWords, TooManySymbols, NoSection, UnknownWord, OutOfOrder, TooLate, AfterTable, NoMagic, OddSize}
+use Rattle.listings.specs.declared.fault.Reason.TheVariants.{WrongAddress, WrongNumber, TooManyWords, TooManySymbols}
+use Rattle.listings.specs.declared.fault.Reason.TheVariants.{NoSection, UnknownWord, OutOfOrder, TooLate, AfterTable}
+use Rattle.listings.specs.declared.fault.Reason.TheVariants.{NoMagic, OddSize}
 use Rattle.listings.specs.declared.fault.Section.{Section}
 use Rattle.listings.specs.declared.fault.Section.TheVariants.{InHeader, InText, InData, InSymbols}
 use Rattle.listings.specs.declared.fault.Word.{Word}
@@ -58,14 +61,16 @@ symbol_entry ss r =
     in_column 2 (number r.third) >>= λ type.
     in_column 3 (number r.fourth) >>= λ value.
     if nat_lt (length ss) 5461
-    then (if eqb n (length ss) then Ok (ss ++ (let s : Symbol = record { name = name; type_bits = type; value = value } in s) ∷ []) else Err (0, WrongNumber))
+    then (if eqb n (length ss) then Ok (ss ++ (let s : Symbol = record { name = name; type_bits = type; value = value } in s) ∷ [])
+    else Err (0, WrongNumber))
     else Err (0, TooManySymbols)
 
 -- a row that begins with a digit
 abbrev pub entry_in : Section → Draft → Row → Result Draft Mistake
 entry_in InHeader d r = Err (0, NoSection)
 entry_in InText d r = word_entry 0 d.flag d.text_part r >>= λ s. Ok (record d { text_part = s })
-entry_in InData d r = word_entry (data_start d.magic (2 * length d.text_part.words)) d.flag d.data_part r >>= λ s. Ok (record d { data_part = s })
+entry_in InData d r =
+    word_entry (data_start d.magic (2 * length d.text_part.words)) d.flag d.data_part r >>= λ s. Ok (record d { data_part = s })
 entry_in InSymbols d r = symbol_entry d.symbols r >>= λ ss. Ok (record d { symbols = ss })
 
 abbrev pub is_word : List ℕ → List ℕ → Bool
@@ -123,7 +128,9 @@ is_decimal b = nat_le 48 b && nat_lt b 58
 
 -- `NAME:` alone, or `NAME = .+K`
 abbrev pub is_label : Row → Bool
-is_label r = (is_word r.second [] && ends_with eqb r.first (codes ":")) || (is_word r.second (codes "=") && starts_with eqb r.third (codes ".+"))
+is_label r =
+    (is_word r.second [] && ends_with eqb r.first (codes ":"))
+    || (is_word r.second (codes "=") && starts_with eqb r.third (codes ".+"))
 
 abbrev pub row_by : List ℕ → Draft → Row → Result Draft Mistake
 row_by [] d r = Ok d

@@ -4,7 +4,8 @@
 -- the external names with what is known of each, whose value is an offset, a size or a number, the names that are multiply defined,
 -- and what the addition of the last object overwrote, in order. A string has bytes that print; any other, a quote and a
 -- backslash are `\u00` and two hexadecimal digits.
-use Rattle.std.specs.Prelude.{ℕ, zero, suc, ◌*◌, ◌/◌, ◌%◌, Bool, true, false, ◌&&◌, not, nat_lt, eqb, if◌then◌else◌, List, [], ◌∷◌, ◌++◌, length, codes, decimal}
+use Rattle.std.specs.Prelude.{ℕ, zero, suc, ◌*◌, ◌/◌, ◌%◌, Bool, true, false, ◌&&◌, not, nat_lt, eqb, if◌then◌else◌}
+use Rattle.std.specs.Prelude.{List, [], ◌∷◌, ◌++◌, length, codes, decimal}
 use Rattle.std.specs.Fmt.{digit_glyph}
 use Rattle.std.specs.List.{flat_map}
 use Rattle.aout_core.specs.declared.symbol.Segment.TheVariants as segments
@@ -92,7 +93,9 @@ abbrev pub listed_mark : Named → ℕ → Mark → List ℕ
 listed_mark es i mark = comma i ++ mark_json es mark
 
 abbrev pub words_json : Image → List ℕ
-words_json m = codes ",\"text\":[" ++ each (word_json m.externals) m.text_cells ++ codes "],\"data\":[" ++ each (word_json m.externals) m.data_cells ++ codes "]"
+words_json m =
+    codes ",\"text\":[" ++ each (word_json m.externals) m.text_cells ++ codes "],\"data\":["
+    ++ each (word_json m.externals) m.data_cells ++ codes "]"
 
 -- the names, after the size of bss
 abbrev pub lists_json : Image → List ℕ

@@ -22,7 +22,8 @@ is_among-append xs ys name = list_any-append (bytes_eq name) xs ys
 same_is_among : (seen : List (List ℕ)) (x name : List ℕ) → is_among seen x ≡ true → bytes_eq name x ≡ true → is_among seen name ≡ true
 same_is_among seen x name h e = let same : name ≡ x = (bytes_eq-Decides name x).0 e in rw same h
 
--- the two steps of the next lemma, on tests: s, whether the name is seen; b, whether it is the first one; n and m, whether it is among the rest
+-- the two steps of the next lemma, on tests: s, whether the name is seen; b, whether it is the first one; n and m, whether it
+-- is among the rest
 seen_first : (s b n m : Bool) → (b ≡ true → s ≡ true) → ((s || (b || false)) || n) ≡ ((s || (b || false)) || m) → (s || n) ≡ (s || (b || m))
 seen_first true b n m h e = refl
 seen_first false true n m h e = absurd (let f : false ≡ true = h refl in cc)

@@ -26,7 +26,8 @@ option_fault _ true keep = Some RelocLayout
 
 -- these, without `-d`
 abbrev pub options_of : Layout → Bool → Keep → Option (List ℕ) → Choices
-options_of layout relocatable keep entry = record { layout = layout; relocatable = relocatable; keep = keep; entry = entry; force_commons = false }
+options_of layout relocatable keep entry =
+    record { layout = layout; relocatable = relocatable; keep = keep; entry = entry; force_commons = false }
 
 -- whether commons get an address
 abbrev pub lays_commons : Choices → Bool

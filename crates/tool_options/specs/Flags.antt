@@ -23,7 +23,8 @@ abbrev pub keep_of : Flags → Keep
 keep_of f = if f.strip then Nothing else (if f.externals then Externals else (if f.not_l then NotL else All))
 
 abbrev pub choices_with : Flags → Option (List ℕ) → Layout → Choices
-choices_with f entry layout = record { layout = layout; relocatable = f.relocatable; keep = keep_of f; entry = entry; force_commons = f.commons }
+choices_with f entry layout =
+    record { layout = layout; relocatable = f.relocatable; keep = keep_of f; entry = entry; force_commons = f.commons }
 
 abbrev pub unless : Option OptionFault → Choices → Option Choices
 unless None options = Some options
@@ -31,4 +32,5 @@ unless (Some fault) options = None
 
 -- with the name of the entry point; none if two flags exclude each other
 abbrev pub choices_of : Flags → Option (List ℕ) → Option Choices
-choices_of f entry = option_and_then (λ layout. unless (option_fault layout f.relocatable (keep_of f)) (choices_with f entry layout)) (layout_of f)
+choices_of f entry =
+    option_and_then (λ layout. unless (option_fault layout f.relocatable (keep_of f)) (choices_with f entry layout)) (layout_of f)

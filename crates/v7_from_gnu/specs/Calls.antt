@@ -2,7 +2,8 @@
 --
 -- The first argument may ask for help or the version. Else arguments that begin with a hyphen have letters of options, up to the first
 -- path; the argument after the letter `o` is a folder. Without a folder there are two paths.
-use Rattle.std.specs.Prelude.{ℕ, ◌==◌, ◌&&◌, ◌||◌, Bool, true, false, not, nat_eq, nat_lt, if◌then◌else◌, List, [], ◌∷◌, ◌++◌, map, drop, length, Option, Some, None, option_map, codes}
+use Rattle.std.specs.Prelude.{ℕ, ◌==◌, ◌&&◌, ◌||◌, Bool, true, false, not, nat_eq, nat_lt, if◌then◌else◌, List, []}
+use Rattle.std.specs.Prelude.{◌∷◌, ◌++◌, map, drop, length, Option, Some, None, option_map, codes}
 use Rattle.std.specs.List.{starts_with}
 use Rattle.aout_core.specs.Words.{letter_of}
 use Rattle.aout_core.specs.declared.shown.Shown.{Shown}
@@ -17,7 +18,8 @@ use Rattle.v7_from_gnu.specs.declared.arguments.Letters.{Letters}
 -- ---- letters
 
 abbrev pub unread : Letters
-unread = record { options = record { drops_debugger = false; locals = KeepAll }; is_quiet = false; has_folder = false; wants_folder = false }
+unread =
+    record { options = record { drops_debugger = false; locals = KeepAll }; is_quiet = false; has_folder = false; wants_folder = false }
 
 -- -x wins over -X
 abbrev pub needed_at_most : Locals → Locals
@@ -29,7 +31,8 @@ abbrev pub next_letter : Letters → ℕ → Option Letters
 next_letter l letter =
     if letter == letter_of (codes "S") then Some (record l { options = record l.options { drops_debugger = true } })
     else (if letter == letter_of (codes "x") then Some (record l { options = record l.options { locals = KeepNone } })
-    else (if letter == letter_of (codes "X") then Some (record l { options = record l.options { locals = needed_at_most l.options.locals } })
+    else (if letter == letter_of (codes "X")
+    then Some (record l { options = record l.options { locals = needed_at_most l.options.locals } })
     else (if letter == letter_of (codes "q") then Some (record l { is_quiet = true })
     else (if letter == letter_of (codes "o") && not l.has_folder then Some (record l { has_folder = true; wants_folder = true })
     else None))))
@@ -72,7 +75,8 @@ jobs_of None (from ∷ to ∷ []) = Some (record { from = from; to = to } ∷ []
 jobs_of None _ = None
 
 abbrev pub conversion_of : Letters → Option (List ℕ) → List (List ℕ) → Option Call
-conversion_of l folder paths = option_map (λ jobs. Convert (record { options = l.options; is_quiet = l.is_quiet; jobs = jobs })) (jobs_of folder paths)
+conversion_of l folder paths =
+    option_map (λ jobs. Convert (record { options = l.options; is_quiet = l.is_quiet; jobs = jobs })) (jobs_of folder paths)
 
 -- ---- all arguments
 

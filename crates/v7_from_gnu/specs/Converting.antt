@@ -35,7 +35,8 @@ target_of options source = target_with source (converted options source.bytes)
 -- files are converted after others, up to the first that is refused
 abbrev pub converted_from : Options → List Target → List Source → Result (List Target) Answer
 converted_from options done [] = Ok done
-converted_from options done (source ∷ sources) = and_then (target_of options source) (λ target. converted_from options (done ++ target ∷ []) sources)
+converted_from options done (source ∷ sources) =
+    and_then (target_of options source) (λ target. converted_from options (done ++ target ∷ []) sources)
 
 -- ---- what is reported of names
 

@@ -8,7 +8,10 @@ use Rattle.aout_core.specs.declared.object.ObjectFault.TheVariants.{NotAnObject,
 use Rattle.gnu_objects.specs.Places.{name_there, place_of}
 use Rattle.gnu_objects.specs.declared.clash.Clash.{Clash}
 use Rattle.gnu_objects.specs.declared.refusal.Refusal.{Refusal}
-use Rattle.gnu_objects.specs.declared.refusal.Refusal.TheVariants.{ShortHeader, BadMagic, OddSize, Truncated, BadStrings, Overlay, BadPlace, Stab, Description, Linked, TooManySymbols, AlikeNames, StabWord, LocalWord, BadWord, Memory}
+use Rattle.gnu_objects.specs.declared.refusal.Refusal.TheVariants.{ShortHeader, BadMagic, OddSize, Truncated}
+use Rattle.gnu_objects.specs.declared.refusal.Refusal.TheVariants.{BadStrings, Overlay, BadPlace, Stab, Description}
+use Rattle.gnu_objects.specs.declared.refusal.Refusal.TheVariants.{Linked, TooManySymbols, AlikeNames, StabWord}
+use Rattle.gnu_objects.specs.declared.refusal.Refusal.TheVariants.{LocalWord, BadWord, Memory}
 use Rattle.gnu_objects.specs.declared.refusal.Size.{Size}
 use Rattle.gnu_objects.specs.declared.refusal.Size.TheVariants.{TextSize, DataSize, BssSize, SymbolSize}
 use Rattle.gnu_objects.specs.declared.remark.Remark.{Remark}
@@ -95,7 +98,9 @@ refusal_names bytes _ = []
 
 -- the line of a file that is refused, with the byte of the file in octal and in decimal
 unfoldable pub refusal_line : Source → Refusal → List ℕ
-refusal_line file refusal = line_front file.from ++ place_text (place_of file.bytes refusal) ++ refusal_text refusal ++ refusal_names file.bytes refusal ++ codes "\n"
+refusal_line file refusal =
+    line_front file.from ++ place_text (place_of file.bytes refusal) ++ refusal_text refusal
+    ++ refusal_names file.bytes refusal ++ codes "\n"
 
 -- ---- what becomes of names
 
@@ -103,7 +108,9 @@ unfoldable pub cut_text : List ℕ → ℕ → List ℕ
 cut_text bytes n = shown_name bytes n ++ codes " is cut to " ++ printable_bytes (take 8 (name_there bytes n)) ++ codes "\n"
 
 unfoldable pub dropped_text : List ℕ → ℕ → ℕ → List ℕ
-dropped_text bytes n m = codes "the local " ++ shown_name bytes n ++ codes " is dropped, being equal to " ++ shown_name bytes m ++ codes " in eight bytes\n"
+dropped_text bytes n m =
+    codes "the local " ++ shown_name bytes n ++ codes " is dropped, being equal to " ++ shown_name bytes m
+    ++ codes " in eight bytes\n"
 
 abbrev pub remark_text : List ℕ → Remark → List ℕ
 remark_text bytes (Cut n) = cut_text bytes n

@@ -13,5 +13,6 @@ source_of job bytes = record { from = job.from; to = job.to; bytes = bytes }
 abbrev pub IsReading : History → History → List Source → List Job → Result (List Source) Fault → Type 0
 IsReading old new read [] result = (new ≡ old) × (result ≡ Ok read)
 IsReading old new read (job ∷ jobs) result =
-    ((bytes : List ℕ) × (between : History) × ReadsAt old between job.from bytes × IsReading between new (read ++ source_of job bytes ∷ []) jobs result)
+    ((bytes : List ℕ) × (between : History) × ReadsAt old between job.from bytes
+    × IsReading between new (read ++ source_of job bytes ∷ []) jobs result)
     ⊎ ((fault : Fault) × EndsReading program old new job.from fault × (result ≡ Err fault))

@@ -41,7 +41,8 @@ abbrev pub IsStoring : List ℕ → History → History → List Target → Resu
 IsStoring remarks old new [] result = (new ≡ old) × (result ≡ Ok (only_errors remarks 0))
 IsStoring remarks old new (t ∷ ts) result =
     (what : Stored) × (between : History) × Extends old between (stored t.source.to t.object what ∷ [])
-    × unless_said (stored_text what) (IsStoring remarks between new ts result) (λ why. (new ≡ between) × AnswersOr result (not_stored remarks t.source.to why))
+    × unless_said (stored_text what) (IsStoring remarks between new ts result)
+    (λ why. (new ≡ between) × AnswersOr result (not_stored remarks t.source.to why))
 
 -- or there was no memory for the answer before one was stored
 abbrev pub Stores : Plan → History → History → Result Answer Fault → Type 0
@@ -59,7 +60,8 @@ AfterReading c sources old new result =
 abbrev pub ReadsAndStores : Conversion → History → History → Result Answer Fault → Type 0
 ReadsAndStores c old new result =
     ((fault : Fault) × IsReading old new [] c.jobs (Err fault) × (result ≡ Err fault))
-    ⊎ ((sources : List Source) × (between : History) × IsReading old between [] c.jobs (Ok sources) × AfterReading c sources between new result)
+    ⊎ ((sources : List Source) × (between : History) × IsReading old between [] c.jobs (Ok sources)
+    × AfterReading c sources between new result)
 
 -- the paths are refused, or else the files are read and stored
 abbrev pub IsConversion : Conversion → History → History → Result Answer Fault → Type 0
@@ -84,7 +86,8 @@ abbrev pub IsAnswer : List (List ℕ) → History → History → Result Answer 
 IsAnswer words old new result = ((new ≡ old) × (result ≡ Err faults.Memory)) ⊎ IsCall (call_of words) old new result
 
 -- what the arguments ask for is done, and its answer is written
-abbrev pub PerformsFromGnu : {W E : Type 0} → (W → Option (List ℕ)) → (E → Option (List ℕ)) → List (List ℕ) → Surroundings W E → Surroundings W E → ℕ → Type 0
+abbrev pub PerformsFromGnu : {W E : Type 0} → (W → Option (List ℕ)) → (E → Option (List ℕ)) → List (List ℕ) →
+    Surroundings W E → Surroundings W E → ℕ → Type 0
 PerformsFromGnu contents error_contents words before after status =
     (result : Result Answer Fault) × IsAnswer words before.asked after.asked result
     × Gives contents error_contents program (answer_in program result) before.output after.output before.error after.error status

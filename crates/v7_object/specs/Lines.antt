@@ -2,7 +2,10 @@
 use Rattle.std.specs.Prelude.{ℕ, List, ◌++◌, codes, decimal}
 use Rattle.listings.specs.declared.fault.Fault.{Fault}
 use Rattle.listings.specs.declared.fault.Reason.{Reason}
-use Rattle.listings.specs.declared.fault.Reason.TheVariants.{Missing, NotOctal, TooLarge, BadName, WrongAddress, WrongNumber, TooManyWords, TooManySymbols, NoSection, UnknownWord, OutOfOrder, TooLate, AfterTable, NoMagic, OddSize}
+use Rattle.listings.specs.declared.fault.Reason.TheVariants.{Missing, NotOctal, TooLarge, BadName, WrongAddress}
+use Rattle.listings.specs.declared.fault.Reason.TheVariants.{WrongNumber, TooManyWords, TooManySymbols, NoSection}
+use Rattle.listings.specs.declared.fault.Reason.TheVariants.{UnknownWord, OutOfOrder, TooLate, AfterTable, NoMagic}
+use Rattle.listings.specs.declared.fault.Reason.TheVariants.{OddSize}
 
 abbrev pub program : List ℕ
 program = codes "v7-object"

@@ -96,7 +96,8 @@ abbrev pub IsAnswer : List (List ℕ) → History → History → Result Answer 
 IsAnswer words old new result = IsCall (call_of words) old new result
 
 -- what the arguments ask for is done, and its answer is written
-abbrev pub PerformsObject : {W E : Type 0} → (W → Option (List ℕ)) → (E → Option (List ℕ)) → List (List ℕ) → Surroundings W E → Surroundings W E → ℕ → Type 0
+abbrev pub PerformsObject : {W E : Type 0} → (W → Option (List ℕ)) → (E → Option (List ℕ)) → List (List ℕ) →
+    Surroundings W E → Surroundings W E → ℕ → Type 0
 PerformsObject contents error_contents words before after status =
     (result : Result Answer Fault) × IsAnswer words before.asked after.asked result
     × Gives contents error_contents program (answer_in program result) before.output after.output before.error after.error status

@@ -36,6 +36,7 @@ abbrev pub IsIn : (Symbol → ℕ) → ℕ → List Symbol → ℕ → Type 0
 IsIn of b symbols place = ForSome (slice_get symbols place) (λ s. of s ≡ b)
 
 -- a walk along a bucket has come to a place: what has been appended, and what the symbols from there on give, is what all give
-pub record Walks (of : Symbol → ℕ) (b : ℕ) (f : Symbol → List ℕ) (symbols : List Symbol) (old : List ℕ) (place : ℕ) (new : List ℕ) : Type 0 where
+pub record Walks (of : Symbol → ℕ) (b : ℕ) (f : Symbol → List ℕ) (symbols : List Symbol) (old : List ℕ) (place : ℕ)
+    (new : List ℕ) : Type 0 where
   pub whole : new ++ flat_map f (drop place symbols) ≡ old ++ flat_map f symbols
   pub is_in : IsIn of b symbols place

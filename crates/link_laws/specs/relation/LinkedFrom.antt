@@ -18,7 +18,8 @@ use Rattle.link_out.specs.Results.{Outcome}
 use Rattle.link_out.specs.function.Link.{link}
 use Rattle.aout_core.specs.Addresses.{data_start_in}
 use Rattle.link_laws.specs.relation.Relocated.{base_in, HoldsObjects, IsEntry}
-pub use Rattle.link_laws.specs.relation.LinkedTable.{shown, undefined_row, row_for, room_for, AreRows, moved_value_in, moved_local_in, moved_locals_in}
+pub use Rattle.link_laws.specs.relation.LinkedTable.{shown, undefined_row, row_for, room_for, AreRows, moved_value_in}
+pub use Rattle.link_laws.specs.relation.LinkedTable.{moved_local_in, moved_locals_in}
 pub use Rattle.link_laws.specs.relation.LinkedWords.{AreRelocated, row_bits, IsNamedBy, AreBits, IsKept, AreKept}
 pub use Rattle.link_laws.specs.relation.Reported.{ArePicked, IsOther, IsReported}
 
@@ -51,8 +52,12 @@ pub record IsLinkedFrom (forced : List (List ℕ)) (os : List Contents) (o : Cho
 
 -- there is a link if and only if the relation holds
 abbrev pub LinkedExactly : Type 0
-LinkedExactly = (forced : List (List ℕ)) (os : List Contents) (o : Choices) (x : Outcome) → AllByRecursion IsObject os → (link forced os o ≡ Ok x) ↔ IsLinkedFrom forced os o x
+LinkedExactly =
+    (forced : List (List ℕ)) (os : List Contents) (o : Choices) (x : Outcome) → AllByRecursion IsObject os →
+    (link forced os o ≡ Ok x) ↔ IsLinkedFrom forced os o x
 
 -- at most one file and report come of the same objects and options
 abbrev pub LinkedOnce : Type 0
-LinkedOnce = (forced : List (List ℕ)) (os : List Contents) (o : Choices) (x y : Outcome) → AllByRecursion IsObject os → IsLinkedFrom forced os o x → IsLinkedFrom forced os o y → x ≡ y
+LinkedOnce =
+    (forced : List (List ℕ)) (os : List Contents) (o : Choices) (x y : Outcome) → AllByRecursion IsObject os →
+    IsLinkedFrom forced os o x → IsLinkedFrom forced os o y → x ≡ y

@@ -2,7 +2,8 @@
 --
 -- Each word of each object stands relocated after those of the objects before it. With relocation, so does its relocation word,
 -- which keeps its pc bit, and names the segment that the word is bound in now, or the row of the name that it still waits for.
-use Rattle.std.specs.Prelude.{◌≡◌, ℕ, ◌+◌, ◌-◌, ◌*◌, ◌/◌, ◌%◌, ◌≤◌, true, eqb, if◌then◌else◌, List, ◌∷◌, ◌++◌, map, Option, Some, None, slice_get}
+use Rattle.std.specs.Prelude.{◌≡◌, ℕ, ◌+◌, ◌-◌, ◌*◌, ◌/◌, ◌%◌, ◌≤◌, true, eqb, if◌then◌else◌, List}
+use Rattle.std.specs.Prelude.{◌∷◌, ◌++◌, map, Option, Some, None, slice_get}
 use Rattle.aout_core.specs.declared.symbol.Symbol.{Symbol}
 use Rattle.aout_core.specs.declared.symbol.Segment.{Segment}
 use Rattle.aout_core.specs.declared.reloc.Reloc.{Reloc}
@@ -18,7 +19,8 @@ use Rattle.link_laws.specs.relation.Relocated.{entry_of, IsRelocated}
 -- each word of each object stands relocated at its place
 abbrev pub AreRelocated : Contents → List Symbol → List Contents → Segment → Type 0
 AreRelocated file rows os segment = (before : List Contents) (k : Contents) (after : List Contents) → os ≡ before ++ k ∷ after →
-    (i w : ℕ) (r : Reloc) → slice_get (segment_words segment k) i ≡ Some w → slice_get (segment_relocs segment k) i ≡ Some r → IsRelocated file rows os before k segment i w r
+    (i w : ℕ) (r : Reloc) → slice_get (segment_words segment k) i ≡ Some w →
+    slice_get (segment_relocs segment k) i ≡ Some r → IsRelocated file rows os before k segment i w r
 
 -- the bits of a relocation word that names a row: the segment that it is bound in, or 010 and its number in the table
 abbrev pub row_bits : Symbol → ℕ → ℕ
@@ -42,11 +44,13 @@ AreBits rows locals k (Some kinds.BssSeg) number bits = bits ≡ 6
 AreBits rows locals k (Some kinds.External) number bits = IsNamedBy rows locals k number bits
 
 -- relocation word i of a segment of k, which is r, is at its place with its pc bit and what it names now
-pub record IsKept (file : Contents) (rows : List Symbol) (locals : ℕ) (before : List Contents) (k : Contents) (segment : Segment) (i : ℕ) (r : Reloc) : Type 0 where
+pub record IsKept (file : Contents) (rows : List Symbol) (locals : ℕ) (before : List Contents) (k : Contents)
+    (segment : Segment) (i : ℕ) (r : Reloc) : Type 0 where
   pub bits : ℕ
   pub are : AreBits rows locals k (kind_of r) (symbol_number r) bits
   pub word : slice_get (segment_relocs segment file) (total segment before / 2 + i) ≡ Some (record { 0 = r.0 % 2 + bits })
 
 abbrev pub AreKept : Contents → List Symbol → ℕ → List Contents → Segment → Type 0
 AreKept file rows locals os segment = (before : List Contents) (k : Contents) (after : List Contents) → os ≡ before ++ k ∷ after →
-    (i w : ℕ) (r : Reloc) → slice_get (segment_words segment k) i ≡ Some w → slice_get (segment_relocs segment k) i ≡ Some r → IsKept file rows locals before k segment i r
+    (i w : ℕ) (r : Reloc) → slice_get (segment_words segment k) i ≡ Some w →
+    slice_get (segment_relocs segment k) i ≡ Some r → IsKept file rows locals before k segment i r

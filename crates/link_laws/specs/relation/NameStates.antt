@@ -16,7 +16,8 @@ LeavesOpen name m = name ≡ m.name → (segment : Segment) (offset : ℕ) → m
 -- the first mention that defines it says so
 abbrev pub IsFirst : List Mention → List ℕ → Segment → ℕ → Type 0
 IsFirst [] name segment offset = ⊥
-IsFirst (m ∷ ms) name segment offset = ((name ≡ m.name) × (m.says ≡ Defined segment offset)) ⊎ (LeavesOpen name m × IsFirst ms name segment offset)
+IsFirst (m ∷ ms) name segment offset =
+    ((name ≡ m.name) × (m.says ≡ Defined segment offset)) ⊎ (LeavesOpen name m × IsFirst ms name segment offset)
 
 abbrev pub WantsAtMost : List ℕ → ℕ → Mention → Type 0
 WantsAtMost name most m = name ≡ m.name → (size : ℕ) → m.says ≡ Wanted size → size ≤ most

@@ -74,9 +74,13 @@ pub record HasFarWord (number : ℕ) (forced : List (List ℕ)) (os : List Conte
 abbrev pub IsRefused : List (List ℕ) → List Contents → Choices → LinkFault → Type 0
 IsRefused forced os o DoesNotFit = (end : ℕ) × EndsAt forced os o end × (65535 < end)
 IsRefused forced os o TooManySymbols = (end : ℕ) × EndsAt forced os o end × (end ≤ 65535) × (5461 < entry_count forced os o)
-IsRefused forced os o SymbolNumber = (end : ℕ) × EndsAt forced os o end × (end ≤ 65535) × (entry_count forced os o ≤ 5461) × (o.relocatable ≡ true) × HasFarWord 4095 forced os o
+IsRefused forced os o SymbolNumber =
+    (end : ℕ) × EndsAt forced os o end × (end ≤ 65535) × (entry_count forced os o ≤ 5461) × (o.relocatable ≡ true)
+    × HasFarWord 4095 forced os o
 IsRefused forced os o Memory = ⊥
 
 -- the function `link` gives a fault if and only if the link is refused for it
 abbrev pub RefusedExactly : Type 0
-RefusedExactly = (forced : List (List ℕ)) (os : List Contents) (o : Choices) (fault : LinkFault) → AllByRecursion IsObject os → (link forced os o ≡ Err fault) ↔ IsRefused forced os o fault
+RefusedExactly =
+    (forced : List (List ℕ)) (os : List Contents) (o : Choices) (fault : LinkFault) → AllByRecursion IsObject os →
+    (link forced os o ≡ Err fault) ↔ IsRefused forced os o fault

@@ -3,7 +3,8 @@
 -- The header of a linked file determines where its segments begin, and its symbols where each name is. A word that refers to a segment
 -- of its object is moved as far as that segment was. A word that refers to a name has the address of the name added. A word
 -- relative to the pc is less by its own segment's move. Nothing else is needed to say what linking does to words.
-use Rattle.std.specs.Prelude.{◌≡◌, ℕ, ◌+◌, ◌-◌, ◌*◌, ◌/◌, ◌≤◌, ◌⊎◌, false, cond, ◌&&◌, eqb, List, [], ◌∷◌, length, Option, Some, None, slice_get, bytes_eq}
+use Rattle.std.specs.Prelude.{◌≡◌, ℕ, ◌+◌, ◌-◌, ◌*◌, ◌/◌, ◌≤◌, ◌⊎◌, false, cond, ◌&&◌, eqb, List, []}
+use Rattle.std.specs.Prelude.{◌∷◌, length, Option, Some, None, slice_get, bytes_eq}
 use Rattle.aout_core.specs.declared.header.Header.{Header}
 use Rattle.aout_core.specs.declared.symbol.Symbol.{Symbol}
 use Rattle.aout_core.specs.declared.symbol.Segment.{Segment}
@@ -59,10 +60,12 @@ IsAdded h rows os before k (Some kinds.External) number a = IsAddressOf rows k n
 
 -- word i of a segment of k, which is w with relocation word r, comes after that segment of the objects before k: what
 -- `IsAdded` has for r is added to it, and if it is relative to the pc, how far its own segment was moved is subtracted
-pub record IsRelocated (file : Contents) (rows : List Symbol) (os before : List Contents) (k : Contents) (segment : Segment) (i w : ℕ) (r : Reloc) : Type 0 where
+pub record IsRelocated (file : Contents) (rows : List Symbol) (os before : List Contents) (k : Contents)
+    (segment : Segment) (i w : ℕ) (r : Reloc) : Type 0 where
   pub added : ℕ
   pub is : IsAdded file.header rows os before k (kind_of r) (symbol_number r) added
-  pub word : slice_get (segment_words segment file) (total segment before / 2 + i) ≡ Some (minus (plus w added) (cond (is_pc_relative r) (move_in file.header os before k segment) 0))
+  pub word : slice_get (segment_words segment file) (total segment before / 2 + i)
+      ≡ Some (minus (plus w added) (cond (is_pc_relative r) (move_in file.header os before k segment) 0))
 
 -- text and data are as long as the objects' together, so they hold nothing else; bss is at least as long as theirs (the commons
 -- in it are those of `AreRows`)

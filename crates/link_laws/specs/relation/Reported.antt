@@ -17,7 +17,8 @@ use Rattle.link_out.specs.Results.{Outcome}
 -- these are the elements for which it holds, in order
 abbrev pub ArePicked : {A : Type 0} → (A → Type 0) → List A → List A → Type 0
 ArePicked P [] picked = picked ≡ []
-ArePicked {A = A} P (x ∷ xs) picked = (P x × ((rest : List A) × (picked ≡ x ∷ rest) × ArePicked P xs rest)) ⊎ ((P x → ⊥) × ArePicked P xs picked)
+ArePicked {A = A} P (x ∷ xs) picked =
+    (P x × ((rest : List A) × (picked ≡ x ∷ rest) × ArePicked P xs rest)) ⊎ ((P x → ⊥) × ArePicked P xs picked)
 
 -- a mention that defines its name, and differently from the first one that does
 pub record IsOther (ms : List Mention) (m : Mention) : Type 0 where
@@ -35,5 +36,6 @@ pub record IsReported (forced : List (List ℕ)) (os : List Contents) (o : Choic
   pub picked : ArePicked (IsOther (mentions forced os)) (mentions forced os) others
   pub multiples : x.report.multiples ≡ map (λ m. m.name) others
   pub reserved : ArePicked (λ name. IsWanted (mentions forced os) name 0 → ⊥) reserved_names x.report.reserved
-  pub undefined : o.relocatable ≡ false → ArePicked (λ name. IsWanted (mentions forced os) name 0 × (is_among reserved_names name ≡ false)) (externals forced os) x.report.undefined
+  pub undefined : o.relocatable ≡ false → ArePicked (λ name. IsWanted (mentions forced os) name 0
+      × (is_among reserved_names name ≡ false)) (externals forced os) x.report.undefined
   pub none : o.relocatable ≡ true → x.report.undefined ≡ []

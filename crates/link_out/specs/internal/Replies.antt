@@ -1,6 +1,7 @@
 -- Changes that were made, and the replies to them, one after another.
 use Rattle.std.specs.declared.alloc.Global.{Global}
-use Rattle.std.specs.Prelude.{◌≡◌, ◌⊎◌, ℕ, ◌+◌, ◌≤◌, List, [], ◌∷◌, ◌++◌, map, Option, Some, None, Vec, vec_len, vec_capacity, Result, Ok, Err, IsOk}
+use Rattle.std.specs.Prelude.{◌≡◌, ◌⊎◌, ℕ, ◌+◌, ◌≤◌, List, [], ◌∷◌, ◌++◌, map, Option, Some, None}
+use Rattle.std.specs.Prelude.{Vec, vec_len, vec_capacity, Result, Ok, Err, IsOk}
 use Rattle.link_session.specs.Edits.{Change, added, answer_to, survivors_from, answers_from}
 use Rattle.link_session.specs.Labelled.{objects}
 use Rattle.link_session.specs.Undo.{Kept}

@@ -50,12 +50,14 @@ offset_after before _ offset = plus 0 offset
 -- each definition of these objects is that of its name among all objects too, moved after those before them
 abbrev pub DefinitionsStand : List (List ℕ) → List Contents → List Contents → List Contents → Type 0
 DefinitionsStand forced before os after =
-    (name : List ℕ) (segment : Segment) (offset : ℕ) → state (mentions [] os) name ≡ Defined segment offset → state (mentions forced (before ++ (os ++ after))) name ≡ Defined segment (offset_after before segment offset)
+    (name : List ℕ) (segment : Segment) (offset : ℕ) → state (mentions [] os) name ≡ Defined segment offset →
+    state (mentions forced (before ++ (os ++ after))) name ≡ Defined segment (offset_after before segment offset)
 
 -- the objects define no name that is multiply defined among all
 abbrev pub DefinesNoMultiple : List (List ℕ) → List Contents → List Contents → List Contents → Type 0
 DefinesNoMultiple forced before os after =
-    (name : List ℕ) → is_among (multiple_names (mentions forced (before ++ (os ++ after)))) name ≡ true → first_definition (mentions [] os) name ≡ None
+    (name : List ℕ) → is_among (multiple_names (mentions forced (before ++ (os ++ after)))) name ≡ true →
+    first_definition (mentions [] os) name ≡ None
 
 -- the file of a link with relocation is an object
 abbrev pub PartialIsObject : Type 0

@@ -1,5 +1,6 @@
 -- How an image takes in one more object: its mentions, one after the other, then the cells that they bind, then its own cells.
-use Rattle.std.specs.Prelude.{ℕ, ◌+◌, ◌*◌, Bool, false, true, ◌&&◌, cond, if◌then◌else◌, nat_eq, nat_lt, List, [], ◌∷◌, ◌++◌, map, zip, filter, length, Option, Some, None, slice_get, slice_index_or}
+use Rattle.std.specs.Prelude.{ℕ, ◌+◌, ◌*◌, Bool, false, true, ◌&&◌, cond, if◌then◌else◌, nat_eq, nat_lt, List, [], ◌∷◌}
+use Rattle.std.specs.Prelude.{◌++◌, map, zip, filter, length, Option, Some, None, slice_get, slice_index_or}
 use Rattle.std.specs.Cmp.Lexicographic.{pointwise}
 use Rattle.std.specs.Map.{keys_of}
 use Rattle.indexmap.specs.IndexMap.{insert_entry}
@@ -57,7 +58,8 @@ changes (Defined segment offset) says = false
 -- the marks that mentions leave: the states that they overwrite, of the names that were there before the object
 abbrev pub state_mark : ℕ → Named → Mention → List Mark
 state_mark kept es m =
-    cond (nat_lt (place_in es m.name) kept && changes (state_for es m.name) m.says) (StateWas (place_in es m.name) (state_for es m.name) ∷ []) []
+    cond (nat_lt (place_in es m.name) kept && changes (state_for es m.name) m.says)
+    (StateWas (place_in es m.name) (state_for es m.name) ∷ []) []
 
 abbrev pub state_marks : ℕ → Named → List Mention → List Mark
 state_marks kept es [] = []
@@ -119,7 +121,8 @@ own_cell es symbols shifts own_shift w r = record {
 }
 
 abbrev pub own_cells : Named → List Symbol → Shifts → ℕ → List ℕ → List Reloc → List Cell
-own_cells es symbols shifts own_shift words relocs = map (λ (wr : ℕ × Reloc). own_cell es symbols shifts own_shift wr.0 wr.1) (zip words relocs)
+own_cells es symbols shifts own_shift words relocs =
+    map (λ (wr : ℕ × Reloc). own_cell es symbols shifts own_shift wr.0 wr.1) (zip words relocs)
 
 -- what stands for the place of a symbol that is not external
 abbrev pub no_place : ℕ
@@ -151,7 +154,8 @@ placed_cell es places shifts own_shift w r = record {
 }
 
 abbrev pub placed_cells : Named → List ℕ → Shifts → ℕ → List ℕ → List Reloc → List Cell
-placed_cells es places shifts own_shift words relocs = map (λ (wr : ℕ × Reloc). placed_cell es places shifts own_shift wr.0 wr.1) (zip words relocs)
+placed_cells es places shifts own_shift words relocs =
+    map (λ (wr : ℕ × Reloc). placed_cell es places shifts own_shift wr.0 wr.1) (zip words relocs)
 
 -- what is added to the addresses of an object that comes next
 abbrev pub next_shifts : Image → Contents → Shifts
@@ -170,8 +174,12 @@ next_named m o = with_mentions m.externals (next_mentions m o)
 -- the image with one more object
 abbrev pub joined_image : Image → Contents → Image
 joined_image m o = record {
-  text_cells = map (settled_cell (next_named m o)) m.text_cells ++ own_cells (next_named m o) o.symbols (next_shifts m o) (next_shifts m o).text o.text_words o.text_reloc;
-  data_cells = map (settled_cell (next_named m o)) m.data_cells ++ own_cells (next_named m o) o.symbols (next_shifts m o) (next_shifts m o).data o.data_words o.data_reloc;
+  text_cells =
+      map (settled_cell (next_named m o)) m.text_cells
+      ++ own_cells (next_named m o) o.symbols (next_shifts m o) (next_shifts m o).text o.text_words o.text_reloc;
+  data_cells =
+      map (settled_cell (next_named m o)) m.data_cells
+      ++ own_cells (next_named m o) o.symbols (next_shifts m o) (next_shifts m o).data o.data_words o.data_reloc;
   bss_total = m.bss_total + o.header.bss_size;
   externals = next_named m o;
   multiples = m.multiples ++ all_clashes m.externals (next_mentions m o);

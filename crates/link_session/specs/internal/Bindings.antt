@@ -18,7 +18,8 @@ IsChainOf chain head texts datas = EndsWithin chain.links.now.text.now chain.lin
 -- it is bound and marked to a link
 abbrev pub BindsTo : Chain → Link → Link → List Cell → List Cell → List Mark → List Cell → List Cell → List Mark → Type 0
 BindsTo chain head next texts datas marks new_texts new_datas new_marks =
-    IsBoundTo chain.links.now.text.now chain.links.now.data.now head next chain.definition.segment chain.definition.offset texts datas marks new_texts new_datas new_marks
+    IsBoundTo chain.links.now.text.now chain.links.now.data.now head next chain.definition.segment
+    chain.definition.offset texts datas marks new_texts new_datas new_marks
 
 -- a cell once the chain is bound
 abbrev pub bound_on : Chain → Cell → Cell
@@ -32,7 +33,8 @@ abbrev pub heads_for : Awaited → List Link → List Link
 heads_for awaited = cut_by_state (state_at awaited.externals.now.entries awaited.place) awaited.place
 
 abbrev pub NotesAwaited : Awaited → List Cell → List Cell → List Cell → List Cell → List Mark → List Mark → Type 0
-NotesAwaited awaited texts datas new_texts new_datas old new = NotesBound awaited.externals.now.entries texts datas new_texts new_datas old new
+NotesAwaited awaited texts datas new_texts new_datas old new =
+    NotesBound awaited.externals.now.entries texts datas new_texts new_datas old new
 
 -- the same of several externals, one after the other
 abbrev pub settled_by : Mentioned → Cell → Cell
@@ -42,4 +44,5 @@ abbrev pub heads_by : Mentioned → List Link → List Link
 heads_by mentioned = cut_heads mentioned.externals.now.entries mentioned.places.now
 
 abbrev pub NotesMentioned : Mentioned → List Cell → List Cell → List Cell → List Cell → List Mark → List Mark → Type 0
-NotesMentioned mentioned texts datas new_texts new_datas old new = NotesBound mentioned.externals.now.entries texts datas new_texts new_datas old new
+NotesMentioned mentioned texts datas new_texts new_datas old new =
+    NotesBound mentioned.externals.now.entries texts datas new_texts new_datas old new

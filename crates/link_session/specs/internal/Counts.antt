@@ -20,4 +20,5 @@ NotesWaiting k texts datas old new = length new ≡ length old + (length (waitin
 -- one more mark for each cell that was to be bound and no longer is
 abbrev pub NotesBound : Named → List Cell → List Cell → List Cell → List Cell → List Mark → List Mark → Type 0
 NotesBound es texts datas new_texts new_datas old new =
-    length new + (length (to_bind es new_texts) + length (to_bind es new_datas)) ≡ length old + (length (to_bind es texts) + length (to_bind es datas))
+    length new + (length (to_bind es new_texts) + length (to_bind es new_datas))
+    ≡ length old + (length (to_bind es texts) + length (to_bind es datas))

@@ -38,11 +38,13 @@ HoldsChains m = AreChained m.text_cells.items m.data_cells.items m.text_links.it
 
 -- marks were appended that bring the old cells and heads back
 abbrev pub LeavesMarksIn : Merged → Merged → List Mark → List Mark → Type 0
-LeavesMarksIn m n old new = LeavesMarks m.text_cells.items m.data_cells.items m.heads.items n.text_cells.items n.data_cells.items n.heads.items old new
+LeavesMarksIn m n old new =
+    LeavesMarks m.text_cells.items m.data_cells.items m.heads.items n.text_cells.items n.data_cells.items n.heads.items old new
 
 -- one more mark for each cell that was to be bound and no longer is
 abbrev pub NotesBoundIn : Merged → Merged → List Mark → List Mark → Type 0
-NotesBoundIn m n old new = NotesBound m.externals.entries m.text_cells.items m.data_cells.items n.text_cells.items n.data_cells.items old new
+NotesBoundIn m n old new =
+    NotesBound m.externals.entries m.text_cells.items m.data_cells.items n.text_cells.items n.data_cells.items old new
 
 -- the threads of no cells and no names
 abbrev pub no_threads : Threads
@@ -67,7 +69,9 @@ pub record HasAtLeast (s : Sizes) (m : Image) (t : Threads) : Type 0 where
 -- the threads once the cells after these sizes leave their chains, the last first
 abbrev pub unthreaded_after : Sizes → Image → Threads → Threads
 unthreaded_after s m t = record t {
-  heads = unthreaded (drop s.text_cells m.text_cells) (drop s.text_cells t.text_links) (unthreaded (drop s.data_cells m.data_cells) (drop s.data_cells t.data_links) t.heads);
+  heads =
+      unthreaded (drop s.text_cells m.text_cells) (drop s.text_cells t.text_links)
+      (unthreaded (drop s.data_cells m.data_cells) (drop s.data_cells t.data_links) t.heads);
 }
 
 -- the threads cut to these sizes
@@ -97,7 +101,8 @@ with_own_cells m o shifts = record m {
 abbrev pub with_own_threads : Image → Contents → Shifts → Threads → Threads
 with_own_threads m o shifts t =
     with_datas (own_cells m.externals o.symbols shifts shifts.data o.data_words o.data_reloc)
-    (with_texts (own_cells m.externals o.symbols shifts shifts.text o.text_words o.text_reloc) (with_heads (grown_heads (length m.externals) t.heads) t))
+    (with_texts (own_cells m.externals o.symbols shifts shifts.text o.text_words o.text_reloc)
+    (with_heads (grown_heads (length m.externals) t.heads) t))
 
 -- there is room for as many cells, links and heads as before
 pub record KeepsRoom (old new : Merged) : Type 0 where
@@ -122,7 +127,8 @@ pub record IsSmall (m : Image) : Type 0 where
   pub names : length m.externals ≤ 65535
 
 -- the fields hold the image of the objects, and each undo record undoes its object
-pub record IsSession (forced : List (List ℕ)) (entries : List Labelled) (undo_records : List UndoRecord) (m : Image) (t : Threads) : Type 0 where
+pub record IsSession (forced : List (List ℕ)) (entries : List Labelled) (undo_records : List UndoRecord) (m : Image)
+    (t : Threads) : Type 0 where
   pub image : m ≡ image forced (objects entries)
   pub threads : KeepsThreads forced (objects entries) (map marks_in undo_records) t
   pub chained : IsThreaded m t

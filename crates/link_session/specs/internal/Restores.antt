@@ -30,15 +30,18 @@ pub record HoldBound (was is : Cell) (marked : List Cell) : Type 0 where
   pub stays : gets_bound was is ≡ false → is ≡ was
 
 -- the marks bring the earlier cells and heads back, lie inside the cells, and hold exactly the cells that get bound
-pub record Restores (texts datas : List Cell) (heads : List Link) (new_texts new_datas : List Cell) (new_heads : List Link) (marks : List Mark) : Type 0 where
-  pub cells : (m : Image) → m.text_cells ≡ new_texts → m.data_cells ≡ new_datas → put_all_back marks m ≡ (record m { text_cells = texts; data_cells = datas })
+pub record Restores (texts datas : List Cell) (heads : List Link) (new_texts new_datas : List Cell)
+    (new_heads : List Link) (marks : List Mark) : Type 0 where
+  pub cells : (m : Image) → m.text_cells ≡ new_texts → m.data_cells ≡ new_datas →
+      put_all_back marks m ≡ (record m { text_cells = texts; data_cells = datas })
   pub heads_are : heads_back marks new_heads ≡ heads
   pub inside : (m : Image) → length m.text_cells ≡ length texts → length m.data_cells ≡ length datas → AllByRecursion (IsInside m) marks
   pub cells_are : (place : Place) → HoldBound (cell_at texts datas place) (cell_at new_texts new_datas place) (cells_marked place marks)
   pub no_states : (i : ℕ) → states_marked i marks ≡ []
 
 -- such marks were appended
-pub record LeavesMarks (texts datas : List Cell) (heads : List Link) (new_texts new_datas : List Cell) (new_heads : List Link) (old new : List Mark) : Type 0 where
+pub record LeavesMarks (texts datas : List Cell) (heads : List Link) (new_texts new_datas : List Cell)
+    (new_heads : List Link) (old new : List Mark) : Type 0 where
   pub marks : List Mark
   pub last : new ≡ old ++ marks
   pub restores : Restores texts datas heads new_texts new_datas new_heads marks
@@ -53,7 +56,9 @@ pub record TakesBack (m : Image) (o : Contents) (heads : List Link) (marks : Lis
   pub undoes : undo marks (joined_image m o) m ≡ m
   pub heads_are : heads_back marks (bound_heads m o heads) ≡ heads
   pub inside : AllByRecursion (IsInside m) marks
-  pub few : length marks ≤ length (to_bind (next_named m o) m.text_cells) + (length (to_bind (next_named m o) m.data_cells) + length (externals_in o))
+  pub few : length marks ≤ length (to_bind (next_named m o) m.text_cells)
+      + (length (to_bind (next_named m o) m.data_cells) + length (externals_in o))
   pub cells_are : (place : Place) →
-      HoldBound (cell_at m.text_cells m.data_cells place) (cell_at (settled_by_next m o m.text_cells) (settled_by_next m o m.data_cells) place) (cells_marked place marks)
+      HoldBound (cell_at m.text_cells m.data_cells place)
+      (cell_at (settled_by_next m o m.text_cells) (settled_by_next m o m.data_cells) place) (cells_marked place marks)
   pub states_are : (i : ℕ) → states_marked i marks ≡ states_marked i (state_marks (length m.externals) m.externals (next_mentions m o))

@@ -22,5 +22,7 @@ places_of es symbols = map (place_in es) (external_names symbols)
 
 -- to bind the names that the object mentions is to settle all cells of the image
 pub record IsCovered (m : Image) (o : Contents) : Type 0 where
-  pub text : map (settled_over (next_named m o) (places_of (next_named m o) o.symbols)) m.text_cells ≡ map (settled_cell (next_named m o)) m.text_cells
-  pub «data» : map (settled_over (next_named m o) (places_of (next_named m o) o.symbols)) m.data_cells ≡ map (settled_cell (next_named m o)) m.data_cells
+  pub text : map (settled_over (next_named m o) (places_of (next_named m o) o.symbols)) m.text_cells
+      ≡ map (settled_cell (next_named m o)) m.text_cells
+  pub «data» : map (settled_over (next_named m o) (places_of (next_named m o) o.symbols)) m.data_cells
+      ≡ map (settled_cell (next_named m o)) m.data_cells

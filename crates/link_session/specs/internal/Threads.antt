@@ -87,12 +87,15 @@ abbrev pub cut_threads : ℕ → ℕ → ℕ → Image → Threads → Threads
 cut_threads texts datas names m t = record {
   text_links = take texts t.text_links;
   data_links = take datas t.data_links;
-  heads = take names (unthreaded (drop texts m.text_cells) (drop texts t.text_links) (unthreaded (drop datas m.data_cells) (drop datas t.data_links) t.heads));
+  heads =
+      take names (unthreaded (drop texts m.text_cells) (drop texts t.text_links)
+      (unthreaded (drop datas m.data_cells) (drop datas t.data_links) t.heads));
 }
 
 -- the same, and the heads with what the marks bring back
 abbrev pub restored_threads : List Mark → ℕ → ℕ → ℕ → Image → Threads → Threads
-restored_threads marks texts datas names m t = record (cut_threads texts datas names m t) { heads = heads_back marks (cut_threads texts datas names m t).heads }
+restored_threads marks texts datas names m t =
+    record (cut_threads texts datas names m t) { heads = heads_back marks (cut_threads texts datas names m t).heads }
 
 -- the threads of the new image, once an addition to the old image is taken back
 abbrev pub undo_threads : List Mark → Image → Image → Threads → Threads
@@ -100,7 +103,8 @@ undo_threads marks new old t = restored_threads marks (length old.text_cells) (l
 
 -- the marks bring the threads of the objects before back
 abbrev pub UndoesThreads : List (List ℕ) → List Mark → List Contents → List Contents → Type 0
-UndoesThreads forced marks after before = undo_threads marks (image forced after) (image forced before) (threads_of forced after) ≡ threads_of forced before
+UndoesThreads forced marks after before =
+    undo_threads marks (image forced after) (image forced before) (threads_of forced after) ≡ threads_of forced before
 
 -- the threads are those of the objects, and each list of marks brings back those before its object
 pub record KeepsThreads (forced : List (List ℕ)) (os : List Contents) (journal : List (List Mark)) (t : Threads) : Type 0 where

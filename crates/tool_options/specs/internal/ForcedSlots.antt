@@ -15,5 +15,6 @@ pub record IsForced (a : Inside) : Type 0 where
 abbrev pub slots_of : List (List ℕ) → Inside
 slots_of names = record { slots = filled 64 names; count = length names }
 
-pub slots_back : (a : Inside) → IsForced a → (let b : Inside = record { slots = filled 64 (forced_of a); count = length (forced_of a) } in b) ≡ a
+pub slots_back : (a : Inside) → IsForced a →
+    (let b : Inside = record { slots = filled 64 (forced_of a); count = length (forced_of a) } in b) ≡ a
 slots_back a h = λ i. let b : Inside = record { slots = h.from_front i; count = h.counted i } in b
