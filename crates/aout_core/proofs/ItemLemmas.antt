@@ -1,5 +1,5 @@
 -- Items in a row, several of which are taken from a block or put into one.
-use Rattle.std.proofs.Common.{◌≡◌, ℕ, zero, suc, ◌+◌, ◌*◌, ◌∷◌, ◌<◌, ◌≤◌, List, [], ◌++◌, length, take, drop, Option, refl, sym, ◌∙◌, ap, subst, arith, append_assoc, append-nil, length-append, length-take-le, length-drop, take_at, drop_at, take-append-drop, suc-add, zero-add, add-zero}
+use Rattle.std.proofs.Common.{◌≡◌, ℕ, zero, suc, ◌+◌, ◌*◌, ◌∷◌, ◌<◌, ◌≤◌, List, [], ◌++◌, length, take, drop, Option, sym, ◌∙◌, ap, subst, arith, append_assoc, append-nil, length-append, length-take-le, length-drop, take-append-drop, suc-add, zero-add, add-zero}
 use Rattle.std.proofs.lemmas.List.{take-append-le, drop-append-le}
 use Rattle.std.proofs.lemmas.Grind.{flat_map-append}
 use Rattle.std.specs.List.{flat_map}
@@ -40,44 +40,17 @@ row_in-front item_in width n bytes within =
     ∙ row_in-append item_in width n 0 front back (length-take-le (width * n) bytes within)
     ∙ append-nil (row_in item_in width n front)
 
--- one of those that are left was read: how many are left then, and what they are
-pub item_read : {A : Type 0} (item_in : List ℕ → A) (width left : ℕ) (rest chunk after : List ℕ) (items more all : List A) (item : A) →
-    0 < width → rest ≡ chunk ++ after → length chunk ≡ width → length rest ≡ width * left → item ≡ item_in chunk → more ≡ items ++ item ∷ [] →
-    items ++ row_in item_in width left rest ≡ all →
-    (k : ℕ) × (left ≡ k + 1) × (length after ≡ width * k) × (more ++ row_in item_in width k after ≡ all)
-item_read item_in width zero rest chunk after items more all item wide split one size is pushed so_far =
-    absurd (omega (arith, ap length split, length-append chunk after))
-item_read item_in width (suc k) rest chunk after items more all item wide split one size is pushed so_far =
-    let next : width * suc k ≡ width * k + width = mul-suc width k in
-    let front : take width rest ≡ chunk = ap (take width) split ∙ take_at chunk after width one in
-    let back : drop width rest ≡ after = ap (drop width) split ∙ drop_at chunk after width one in (
-      k,
-      omega arith,
-      omega (arith, ap length split, length-append chunk after),
-      ap (λ l. l ++ row_in item_in width k after) pushed
-          ∙ append_assoc items (item ∷ []) (row_in item_in width k after)
-          ∙ ap (λ x. items ++ x ∷ row_in item_in width k after) is
-          ∙ ap (λ l. items ++ item_in l ∷ row_in item_in width k after) (sym front)
-          ∙ ap (λ l. items ++ item_in (take width rest) ∷ row_in item_in width k l) (sym back)
-          ∙ so_far,
-    )
-  where
-    mul-suc : (x n : ℕ) → x * suc n ≡ x * n + x
-    mul-suc x n = omega arith
-
--- no whole item is left
-pub none_left : (width left : ℕ) (rest : List ℕ) → length rest ≡ width * left → length rest < width → left ≡ 0
-none_left width zero rest size short = refl
-none_left width (suc k) rest size short =
-    let next : width * suc k ≡ width * k + width = mul-suc width k in absurd (omega arith)
-  where
-    mul-suc : (x n : ℕ) → x * suc n ≡ x * n + x
-    mul-suc x n = omega arith
-
-pub all_read : {A : Type 0} (item_in : List ℕ → A) (width left : ℕ) (rest : List ℕ) (items all : List A) → left ≡ 0 →
-    items ++ row_in item_in width left rest ≡ all → items ≡ all
-all_read item_in width zero rest items all none so_far = sym (append-nil items) ∙ so_far
-all_read item_in width (suc k) rest items all none so_far = absurd (omega arith)
+-- a row with one item more, of those that the bytes encode
+pub row_in-next : {A : Type 0} (item_in : List ℕ → A) (width n count : ℕ) (bytes : List ℕ) → n < count → width * count ≤ length bytes →
+    row_in item_in width (n + 1) bytes ≡ row_in item_in width n bytes ++ item_in (take width (drop (width * n) bytes)) ∷ []
+row_in-next item_in width n count bytes fewer enough =
+    let front = take (width * n) bytes in
+    let back = drop (width * n) bytes in
+    let less : n ≤ count = omega arith in
+    let within : width * n ≤ length bytes = omega (arith, enough, mul-le-mul_left width less) in
+    ap (row_in item_in width (n + 1)) (sym (take-append-drop (width * n) bytes))
+    ∙ row_in-append item_in width n 1 front back (length-take-le (width * n) bytes within)
+    ∙ ap (λ l. l ++ item_in (take width back) ∷ []) (sym (row_in-front item_in width n bytes within))
 
 -- items were taken from those that wait
 pub waiting_taken : {A : Type 0} (item_in : List ℕ → A) (width n : ℕ) (w : Awaited) (reader : Option (List ℕ)) (items more : List A) →

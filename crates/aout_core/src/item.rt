@@ -128,6 +128,17 @@ impl Item for Symbol {
     }
 }
 
+/// Fills in as many items as there is room for, each as the next bytes encode it.
+fn fill_items<T: Item>(bytes: &[u8], items: &mut [T])
+    requires { T.WIDTH * length items.old ≤ length bytes.now }
+    ensures { items.new ≡ row_in T.item_in T.WIDTH (length items.old) bytes.now }
+{
+    for n in 0..items.len() {
+        let start = T::WIDTH * n;
+        items[n] = T::from_slice(&bytes[start..start + T::WIDTH]);
+    }
+}
+
 /// Appends the first `count` items that the bytes encode. There is room for them.
 fn read_items<T: Item>(bytes: &[u8], count: usize, items: &mut Vec<T>)
     requires within { T.WIDTH * count ≤ length bytes.now }
@@ -136,9 +147,12 @@ fn read_items<T: Item>(bytes: &[u8], count: usize, items: &mut Vec<T>)
     ensures len { vec_len items.new ≡ vec_len items.old + count }
     ensures capacity { vec_capacity items.old ≤ vec_capacity items.new }
 {
-    for item in bytes[..T::WIDTH * count].chunks_exact(T::WIDTH) {
-        items.push_reserved(T::from_slice(item));
-    }
+    let zeros = [0; MOST_WIDTH];
+    let start = items.len();
+    items
+        .resize(start + count, T::from_slice(&zeros[..T::WIDTH]))
+        .unwrap();
+    fill_items(bytes, &mut items[start..]);
 }
 
 /// Appends the items that wait whole, at most `most`, and returns how many. There is room for them.
