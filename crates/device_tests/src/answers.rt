@@ -30,6 +30,11 @@ impl Office for OneObject {
         self.stored = self.stored.saturating_add(1);
         Stored::Kept
     }
+
+    fn store_text(&mut self, _: &str, _: &[u8]) -> Stored {
+        self.stored = self.stored.saturating_add(1);
+        Stored::Kept
+    }
 }
 
 /// The status of a command over a device for what it prints.

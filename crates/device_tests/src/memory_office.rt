@@ -17,6 +17,8 @@ enum Asked {
     Opened(String, Option<&'static [u8]>),
     /// A file was to be stored at a path.
     Stored(String, File, Stored),
+    /// A text was to be stored at a path.
+    Written(String, Vec<u8>, Stored),
 }
 
 /// What a file system was asked for: the request and its path.
@@ -24,6 +26,7 @@ fn request(asked: &Asked) -> (&str, &str) {
     match asked {
         Asked::Opened(path, _) => ("open", path.as_str()),
         Asked::Stored(path, ..) => ("store", path.as_str()),
+        Asked::Written(path, ..) => ("store text", path.as_str()),
     }
 }
 
@@ -89,14 +92,15 @@ impl<'a, R: Abort + AllocGlobal> MemoryOffice<'a, R> {
 
 impl<R: Abort + AllocGlobal> Office for MemoryOffice<'_, R> {
     ghost use Rattle.std.specs.Prelude.{map, option_map, Some, string_bytes};
-    ghost use Rattle.surroundings.specs.Events.{opened, stored};
-    ghost use Rattle.device_tests.specs.declared.memory_office.Asked.TheVariants.{Opened, Stored};
+    ghost use Rattle.surroundings.specs.Events.{opened, stored, written};
+    ghost use Rattle.device_tests.specs.declared.memory_office.Asked.TheVariants.{Opened, Stored, Written};
 
     type Source = TestReader<'static>;
 
     ghost history = { λ office. Some (map (λ asked. elim asked [
       | Opened path found ↦ opened (string_bytes path) (option_map (λ bytes. Some bytes.now) found)
       | Stored path file what ↦ stored (string_bytes path) file what
+      | Written path text what ↦ written (string_bytes path) text.items what
     ]) office.asked.items) };
 
     fn open(&mut self, path: &str) -> Option<TestReader<'static>> {
@@ -110,6 +114,12 @@ impl<R: Abort + AllocGlobal> Office for MemoryOffice<'_, R> {
 
     fn store(&mut self, path: &str, file: &File) -> Stored {
         self.list(Asked::Stored(self.owned(path), self.copied(file), Stored::Kept));
+        Stored::Kept
+    }
+
+    fn store_text(&mut self, path: &str, text: &[u8]) -> Stored {
+        let copied = Vec::from_slice(self.rt.alloc(), text).expect(self.rt, "no memory");
+        self.list(Asked::Written(self.owned(path), copied, Stored::Kept));
         Stored::Kept
     }
 }

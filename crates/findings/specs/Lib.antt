@@ -4,6 +4,7 @@ pub mod Odd
 pub mod Wrong
 pub mod Kinds
 pub mod Notes
+pub mod OtherFiles
 pub mod Texts
 pub mod OddTexts
 pub mod internal

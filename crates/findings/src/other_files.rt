@@ -1,10 +1,11 @@
 //! What a file is that is not an a.out file of the Seventh Edition.
-ghost use Rattle.std.specs.Prelude.{◌≡◌, if◌then◌else◌, nat_lt, length, None, Some};
+ghost use Rattle.std.specs.Prelude.{◌≡◌, if◌then◌else◌, nat_lt, length, None, Some, IfOk, option_map};
 ghost use Rattle.aout_core.specs.Decoding.{header_in};
+ghost use Rattle.findings.specs.OtherFiles.{has_symbols, is_of_gnu, is_of_gnu_refused, is_of_text, is_swapped, is_text, known_start, likeness};
 
 use aout_core::{Header, is_magic};
 use gnu_objects::{Locals, Options, Refusal, convert};
-use std::alloc::Global;
+use std::alloc::{AllocError, Global};
 
 /// The header that a file begins with, if it is as long.
 pub fn header_of(bytes: &[u8]) -> Option<Header>
@@ -19,67 +20,110 @@ pub fn header_of(bytes: &[u8]) -> Option<Header>
 }
 
 /// Whether a text may have a byte.
-fn is_of_text(byte: u8) -> bool {
+fn is_of_text(byte: u8) -> bool
+    ensures { result ≡ is_of_text byte }
+{
     byte == b'\n' || byte == b'\r' || byte == b'\t' || (b' ' <= byte && byte < 127)
 }
 
-/// What a file with no magic number of ours is, if it is known.
-pub fn likeness(bytes: &[u8]) -> Option<&'static str> {
+/// Whether bytes are those of a text.
+fn is_text(bytes: &[u8]) -> bool
+    ensures { result ≡ is_text bytes.now }
+{
+    bytes.iter().all(|byte| is_of_text(*byte))
+}
+
+/// What a file that begins with the bytes of another form is.
+fn known_start(bytes: &[u8]) -> Option<&'static str>
+    ensures { option_map (λ text. text.now) result ≡ known_start bytes.now }
+{
     match bytes {
-        [] => return Some("the file is empty"),
-        [0x7f, b'E', b'L', b'F', ..] => {
-            return Some("this is an ELF file, of another system");
-        }
+        [] => Some("the file is empty"),
+        [0x7f, b'E', b'L', b'F', ..] => Some("this is an ELF file, of another system"),
         [0o145, 0o377, ..] => {
-            return Some(
-                "this is an archive (0177545); take its members out with the ar of its system",
-            );
+            Some("this is an archive (0177545); take its members out with the ar of its system")
         }
-        [0o155, 0o377, ..] => {
-            return Some(
-                "this is an old archive (0177555); take its members out with the ar of its system",
-            );
-        }
+        [0o155, 0o377, ..] => Some(
+            "this is an old archive (0177555); take its members out with the ar of its system",
+        ),
         [b'!', b'<', b'a', b'r', b'c', b'h', b'>', ..] => {
-            return Some("this is an archive; take its members out with ar");
-        }
-        _ => {}
-    }
-    if bytes.iter().all(|byte| is_of_text(*byte)) {
-        return Some("this is text");
-    }
-    match bytes {
-        [low, high, ..] if is_magic(u16::from(*high) + 256 * u16::from(*low)) => {
-            Some("a magic number with its bytes swapped: each word has its low byte first")
+            Some("this is an archive; take its members out with ar")
         }
         _ => None,
     }
 }
 
+/// Whether a file begins with a magic number of ours with its bytes swapped.
+fn is_swapped(bytes: &[u8]) -> bool
+    ensures { result ≡ is_swapped bytes.now }
+{
+    match bytes {
+        [low, high, ..] => is_magic(u16::from(*high) + 256 * u16::from(*low)),
+        _ => false,
+    }
+}
+
+/// What a file with no magic number of ours is, if it is known.
+pub fn likeness(bytes: &[u8]) -> Option<&'static str>
+    ensures { option_map (λ text. text.now) result ≡ likeness bytes.now }
+{
+    if let Some(text) = known_start(bytes) {
+        return Some(text);
+    }
+    if is_text(bytes) {
+        return Some("this is text");
+    }
+    if is_swapped(bytes) {
+        return Some("a magic number with its bytes swapped: each word has its low byte first");
+    }
+    None
+}
+
+/// Whether a refusal by `convert` is one of an object in the form of GNU's assembler. Of some refusals it is one only if `is_odd`.
+fn is_of_gnu_refused(refusal: Refusal, is_odd: bool) -> bool
+    ensures { result ≡ is_of_gnu_refused is_odd refusal }
+{
+    match refusal {
+        Refusal::Linked(_)
+        | Refusal::TooManySymbols(_)
+        | Refusal::AlikeNames(_, _)
+        | Refusal::StabWord(_)
+        | Refusal::LocalWord(_, _)
+        | Refusal::BadWord(_) => true,
+        Refusal::Overlay(_) | Refusal::BadPlace(_) | Refusal::Stab(_) | Refusal::Description(_) => {
+            is_odd
+        }
+        _ => false,
+    }
+}
+
+/// Whether the header of a file says that it has symbols.
+fn has_symbols(bytes: &[u8]) -> bool
+    ensures { result ≡ has_symbols bytes.now }
+{
+    match header_of(bytes) {
+        Some(header) => header.symbol_size > 0,
+        None => false,
+    }
+}
+
 /// Whether a file is in the form of GNU's assembler and of 2.11BSD, with symbols of 8 bytes and their names after them.
 /// A file without symbols has both forms, and is not recognized, and neither is one of another magic than 0407.
-pub fn is_of_gnu(alloc: Global, bytes: &[u8], is_odd: bool) -> bool {
-    match header_of(bytes) {
-        Some(header) if header.symbol_size > 0 => {}
-        _ => return false,
+///
+/// An error: out of memory.
+pub fn is_of_gnu(alloc: Global, bytes: &[u8], is_odd: bool) -> Result<bool, AllocError>
+    ensures { IfOk result (λ is_so. is_so ≡ is_of_gnu is_odd bytes.now) }
+{
+    if !has_symbols(bytes) {
+        return Ok(false);
     }
     let options = Options {
         drops_debugger: true,
         locals: Locals::KeepAll,
     };
     match convert(alloc, bytes, options) {
-        Ok(_) => true,
-        Err(
-            Refusal::Linked(_)
-            | Refusal::TooManySymbols(_)
-            | Refusal::AlikeNames(_, _)
-            | Refusal::StabWord(_)
-            | Refusal::LocalWord(_, _)
-            | Refusal::BadWord(_),
-        ) => true,
-        Err(
-            Refusal::Overlay(_) | Refusal::BadPlace(_) | Refusal::Stab(_) | Refusal::Description(_),
-        ) => is_odd,
-        Err(_) => false,
+        Ok(_) => Ok(true),
+        Err(Refusal::Memory) => Err(AllocError),
+        Err(refusal) => Ok(is_of_gnu_refused(refusal, is_odd)),
     }
 }

@@ -8,7 +8,7 @@ use Rattle.aout_core.specs.Contents.{Contents}
 use Rattle.aout_core.specs.Encoding.{encoding}
 use Rattle.aout_core.specs.Wires.{Latched}
 use Rattle.v7tools.specs.CommandRuns.{Performs}
-use Rattle.surroundings.specs.Events.{Event, opened, stored}
+use Rattle.surroundings.specs.Events.{Event, opened, stored, written}
 use Rattle.surroundings.specs.declared.office.Stored.{Stored}
 use Rattle.surroundings.specs.declared.office.Stored.TheVariants.{Kept}
 
@@ -24,11 +24,16 @@ abbrev pub bytes_left : Contents → Stored → Option (List ℕ)
 bytes_left file Kept = Some (encoding file)
 bytes_left file _ = None
 
+abbrev pub text_left : List ℕ → Stored → Option (List ℕ)
+text_left text Kept = Some text
+text_left text _ = None
+
 -- the disk after these events: at each path is what was stored there last
 abbrev pub disk_after : Disk → List Event → Disk
 disk_after disk [] = disk
 disk_after disk (opened path found ∷ events) = disk_after disk events
 disk_after disk (stored path file what ∷ events) = disk_after (with_file disk path (bytes_left file what)) events
+disk_after disk (written path text what ∷ events) = disk_after (with_file disk path (text_left text what)) events
 
 -- each file that was opened gave the bytes that are known to be at its path
 abbrev pub IsOn : Disk → List Event → Type 0
@@ -36,6 +41,7 @@ IsOn disk [] = Unit {0}
 IsOn disk (opened path None ∷ events) = IsOn disk events
 IsOn disk (opened path (Some known) ∷ events) = IfSome (disk path) (λ bytes. known ≡ Some bytes) × IsOn disk events
 IsOn disk (stored path file what ∷ events) = IsOn (with_file disk path (bytes_left file what)) events
+IsOn disk (written path text what ∷ events) = IsOn (with_file disk path (text_left text what)) events
 
 -- a run of the program: its words and its script, the disk before it, what was asked of the system before and by it, standard
 -- output and standard error before and after it, and its status

@@ -32,7 +32,7 @@ mod records;
 mod references;
 mod uses;
 
-pub use limit_records::LimitRecord;
+pub use limit_records::{LimitRecord, limits_of};
 pub use map::{LinkMap, map_of};
 pub use map_records::{MapRecords, records_of};
 pub use members::{Left, Member, Objects, Refused};
@@ -40,6 +40,6 @@ pub use name_records::NameRecord;
 pub use names::{stays_undefined, telling};
 pub use outcome::{Outcome, largest_number, row_of};
 pub use places::Places;
-pub use records::{ObjectRecord, UseRecord, padded};
+pub use records::{ObjectRecord, UseRecord, padded, uses_of_name};
 pub use references::{Before, ReferringWord, put_line_of};
 pub use uses::Use;

@@ -102,8 +102,10 @@ fn put_link(
     Ok(())
 }
 
-/// The limits, with what all objects use of each. An error: out of memory.
-pub(crate) fn limit_records(
+/// The limits, with what all objects use of each.
+///
+/// An error: out of memory.
+pub fn limits_of(
     alloc: Global,
     map: &LinkMap,
     objects: &Objects,

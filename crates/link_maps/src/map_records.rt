@@ -4,7 +4,7 @@ ghost use Rattle.link_maps.specs.MapLimits.{map_limits};
 ghost use Rattle.link_maps.specs.Records.{by_name, knowledge_of, object_records, record_of, records_from, reserved_in, rows_in};
 ghost use Rattle.link_maps.specs.internal.Known.{knowledge, lent_rows};
 
-use crate::limit_records::{LimitRecord, limit_records};
+use crate::limit_records::{LimitRecord, limits_of};
 use crate::map::LinkMap;
 use crate::members::Objects;
 use crate::name_records::{Known, NameRecord, name_records};
@@ -78,6 +78,6 @@ pub fn records_of(
         objects: object_records(alloc, &whole.members, &whole.places)?,
         names: name_records(alloc, &known_of(whole, objects), &whole.uses)?,
         uses: use_records(alloc, &whole.places, &whole.uses)?,
-        limits: limit_records(alloc, whole, objects, options)?,
+        limits: limits_of(alloc, whole, objects, options)?,
     })
 }

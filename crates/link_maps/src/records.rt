@@ -237,8 +237,8 @@ fn is_same_name(one: &Use, other: &Use) -> bool
     one.symbol.name == other.symbol.name
 }
 
-/// How many uses are of the name of the first one.
-pub(crate) fn uses_of_name(uses: &[Use]) -> usize
+/// How many uses, which are in the order of their names, are of the name of the first one.
+pub fn uses_of_name(uses: &[Use]) -> usize
     requires { 0 < length uses.now }
     ensures value { result ≡ uses_of_name uses.now }
     ensures some { 0 < result }

@@ -1,2 +1,3 @@
 pub mod EventLemmas
 pub mod EmitLemmas
+pub mod ShownLemmas

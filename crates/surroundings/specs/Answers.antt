@@ -7,6 +7,7 @@ use Rattle.surroundings.specs.Emits.{PutsUnless}
 use Rattle.surroundings.specs.declared.answer.Fault.{Fault}
 use Rattle.surroundings.specs.declared.answer.Fault.TheVariants.{Answered, Memory}
 use Rattle.surroundings.specs.Answer.{Answer}
+use Rattle.surroundings.specs.Events.{History}
 
 -- a line in which a program says a text of a path
 abbrev pub fault_line : List ℕ → List ℕ → List ℕ → List ℕ
@@ -53,6 +54,15 @@ fault_answer program Memory = only_errors (program ++ codes ": no memory\n") 2
 abbrev pub answer_in : List ℕ → Result Answer Fault → Answer
 answer_in program (Ok answer) = answer
 answer_in program (Err fault) = fault_answer program fault
+
+-- an answer, or memory ran out for it
+abbrev pub AnswersOr : Result Answer Fault → Answer → Type 0
+AnswersOr result answer = (result ≡ Ok answer) ⊎ (result ≡ Err Memory)
+
+-- what the first argument asks for is shown, which asks nothing of the system; or there is no such argument, and the rest is done
+abbrev pub IsShownOr : List ℕ → List ℕ → Option Shown → History → History → Result Answer Fault → Type 0 → Type 0
+IsShownOr program usage (Some shown) old new result rest = (new ≡ old) × AnswersOr result (shows program usage shown)
+IsShownOr program usage None old new result rest = rest
 
 -- ---- the answers of checks and of steps
 

@@ -7,10 +7,11 @@ use Rattle.aout_core.specs.Contents.{Contents}
 use Rattle.aout_core.specs.Wires.{Latched}
 use Rattle.surroundings.specs.declared.office.Stored.{Stored}
 
--- a file could not be opened (`None`), or was, with its bytes if they are known; or a file was to be stored
+-- a file could not be opened (`None`), or was, with its bytes if they are known; or a file, or a text, was to be stored
 pub data Event : Type 0 where
   opened : List ℕ → Option (Option (List ℕ)) → Event
   stored : List ℕ → Contents → Stored → Event
+  written : List ℕ → List ℕ → Stored → Event
 
 -- all events so far, where they are known
 abbrev pub History : Type 0

@@ -2,8 +2,10 @@
 --
 -- Paths are compared as text, without `.` between slashes and without empty names: `./a.o` and `a.o` are one path, and so are `b//a.o`
 -- and `b/./a.o`. Links are not followed.
-use Rattle.std.specs.Prelude.{ℕ, Bool, true, false, ◌&&◌, ◌==◌, if◌then◌else◌, List, [], ◌∷◌, map, bytes_eq}
+use Rattle.std.specs.Prelude.{ℕ, Bool, true, false, ◌&&◌, ◌==◌, if◌then◌else◌, List, [], ◌∷◌, map, Option, Some, None, bytes_eq, codes}
 use Rattle.std.specs.List.{list_any}
+use Rattle.surroundings.specs.Answer.{Answer}
+use Rattle.surroundings.specs.Answers.{failed_at}
 
 -- a slash (47)
 abbrev pub begins_slash : List ℕ → Bool
@@ -33,3 +35,8 @@ is_among plains path = list_any (λ other. bytes_eq other (plain path)) plains
 -- whether an output is one of the inputs
 abbrev pub is_input : List (List ℕ) → List ℕ → Bool
 is_input inputs output = is_among (map plain inputs) output
+
+-- a program refuses an output that is its one input
+abbrev pub path_answer : List ℕ → List ℕ → List ℕ → Option Answer
+path_answer program input output =
+    if is_input (input ∷ []) output then Some (failed_at program output (codes "the output is one of the inputs")) else None

@@ -3,6 +3,7 @@
 use crate::office::{Office, Stored};
 use aout_core::{File, Wire, write_file};
 use std::fs;
+use std::io::Write;
 use std::rt::{Files, Runtime};
 
 /// The files of a runtime.
@@ -30,6 +31,16 @@ impl<H: Runtime> Office for Disk<'_, H> {
         };
         let mut out = Wire::new(device);
         if write_file(file, &mut out).is_err() || out.flush().is_err() {
+            return Stored::Failed;
+        }
+        Stored::Kept
+    }
+
+    fn store_text(&mut self, path: &str, text: &[u8]) -> Stored {
+        let Ok(mut device) = fs::create(self.rt, path) else {
+            return Stored::NotCreated;
+        };
+        if device.write_all(text).is_err() || device.flush().is_err() {
             return Stored::Failed;
         }
         Stored::Kept

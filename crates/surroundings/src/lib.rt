@@ -15,6 +15,7 @@
 //! - `end`: the status of a program that ended, or could not begin
 //! - `read_whole`: all bytes of a file
 //! - `stored_text`: what is said of a file that was not stored
+//! - `check_path`: refuses an output that is the input
 //! - `shown_in`: what an argument asks a program to show of itself
 //! - `error_answer`, `fault_at`, `usage_answer`, `shown_answer`: answers
 //! - `give`: writes an answer
@@ -38,6 +39,6 @@ pub use disk::Disk;
 pub use held::{end, hold_streams};
 pub use office::{Office, Stored, stored_text};
 pub use outputs::Outputs;
-pub use paths::PlainPaths;
+pub use paths::{PlainPaths, check_path};
 pub use sources::read_whole;
 pub use standard_error::StandardError;

@@ -2,7 +2,7 @@
 ghost use Rattle.std.specs.Prelude.{◌≡◌, [], ◌∷◌, List, None, Option};
 ghost use Rattle.std.specs.Option.{option_map};
 ghost use Rattle.surroundings.specs.Sources.{stored_text};
-ghost use Rattle.surroundings.specs.Events.{Event, Extends, opened, stored};
+ghost use Rattle.surroundings.specs.Events.{Event, Extends, opened, stored, written};
 
 use aout_core::File;
 use std::io::Read;
@@ -32,6 +32,10 @@ pub trait Office {
     /// Makes a file at a path, or empties the one that is there, and writes it; returns what became of it. (own choice)
     fn store(&mut self, path: &str, file: &File) -> Stored
         ensures { Extends (history self.old) (history self.new) (stored path.now file.now result ∷ []) };
+
+    /// Makes a file at a path, or empties the one that is there, and writes a text to it; returns what became of it. (own choice)
+    fn store_text(&mut self, path: &str, text: &[u8]) -> Stored
+        ensures { Extends (history self.old) (history self.new) (written path.now text.now result ∷ []) };
 }
 
 /// What is said of the path of a file that was not stored. (own choice)

@@ -1,7 +1,9 @@
 //! Paths of inputs, which are compared with those of outputs.
 ghost use Rattle.std.specs.Prelude.{◌≡◌, ◌++◌, ◌∷◌, [], true, IfOk, OnOk};
-ghost use Rattle.surroundings.specs.Paths.{ends_name, is_among, plain, tidy};
+ghost use Rattle.surroundings.specs.Answers.{Checks};
+ghost use Rattle.surroundings.specs.Paths.{ends_name, is_among, path_answer, plain, tidy};
 
+use crate::answer::{Fault, fault_at};
 use std::alloc::{AllocError, Global};
 use std::marker::Model;
 
@@ -99,4 +101,18 @@ impl PlainPaths {
         let output = plain_path(alloc, output.as_bytes())?;
         Ok(self.paths.iter().any(|path| path.bytes == output.bytes))
     }
+}
+
+/// Checks that the output of a program is not its one input. (own choice)
+///
+/// Errors: `Answered` if it is; `Memory` if memory runs out.
+pub fn check_path(alloc: Global, program: &str, input: &str, output: &str) -> Result<(), Fault>
+    ensures { Checks (path_answer program.now input.now output.now) result }
+{
+    let mut inputs = PlainPaths::new(alloc);
+    inputs.add(alloc, input)?;
+    if inputs.has(alloc, output)? {
+        return Err(fault_at(alloc, program, output, "the output is one of the inputs"));
+    }
+    Ok(())
 }

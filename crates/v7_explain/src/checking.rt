@@ -20,7 +20,7 @@ fn report_refused(
     if let Some(text) = likeness_of(bytes, fault) {
         output.fault(path, text, 1);
     }
-    if is_of_gnu(alloc, bytes, true) {
+    if is_of_gnu(alloc, bytes, true)? {
         output.fault(path, GNU_NOTE, 1);
     }
     Ok(())

@@ -61,7 +61,7 @@ fn list_file(
     let odd = odd_of(alloc, source.bytes, &file)?;
     put_findings(&mut findings, "odd", &odd);
     put_findings(&mut findings, "odd", &suspicions_of(alloc, &file)?);
-    if is_of_gnu(alloc, source.bytes, false) {
+    if is_of_gnu(alloc, source.bytes, false)? {
         findings.put(GNU_NOTE);
     }
     if notes.is_cut() || findings.is_cut() {

@@ -111,7 +111,7 @@ fn put_refused(
     if let Some(note) = known {
         notes.put(note);
     }
-    if is_of_gnu(alloc, source.bytes, true) {
+    if is_of_gnu(alloc, source.bytes, true)? {
         notes.put(GNU_NOTE);
     }
     if notes.is_cut() {

@@ -7,7 +7,8 @@ use Rattle.surroundings.specs.Events.{History, Extends, stored}
 use Rattle.surroundings.specs.Sources.{stored_text}
 use Rattle.surroundings.specs.declared.answer.Fault.{Fault}
 use Rattle.surroundings.specs.declared.office.Stored.{Stored}
-use Rattle.v7_from_gnu.specs.Runs.{AnswersOr, IsStoring, not_stored, unless_said}
+use Rattle.surroundings.specs.Answers.{AnswersOr}
+use Rattle.v7_from_gnu.specs.Runs.{IsStoring, not_stored, unless_said}
 use Rattle.v7_from_gnu.specs.declared.converting.Target.{Target}
 
 -- one is stored

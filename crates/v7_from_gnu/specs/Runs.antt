@@ -5,7 +5,7 @@
 use Rattle.std.specs.Prelude.{◌≡◌, ◌⊎◌, ℕ, List, [], ◌∷◌, ◌++◌, Option, Some, None, Result, Ok, Err}
 use Rattle.aout_core.specs.declared.shown.Shown.{Shown}
 use Rattle.surroundings.specs.Answer.{Answer}
-use Rattle.surroundings.specs.Answers.{Checks, Faults, Gives, answer_in, fault_line, only_errors, says_usage, shows}
+use Rattle.surroundings.specs.Answers.{AnswersOr, Checks, Faults, Gives, answer_in, fault_line, only_errors, says_usage, shows}
 use Rattle.surroundings.specs.Events.{History, Extends, Surroundings, stored}
 use Rattle.surroundings.specs.Sources.{stored_text}
 use Rattle.surroundings.specs.declared.answer.Fault.{Fault}
@@ -27,10 +27,6 @@ use Rattle.v7_from_gnu.specs.declared.converting.Target.{Target}
 -- what is reported of names, and then the line of an object that is not stored
 abbrev pub not_stored : List ℕ → List ℕ → List ℕ → Answer
 not_stored remarks path why = only_errors (remarks ++ fault_line program path why) 2
-
--- an answer, or memory ran out for it
-abbrev pub AnswersOr : Result Answer Fault → Answer → Type 0
-AnswersOr result answer = (result ≡ Ok answer) ⊎ (result ≡ Err faults.Memory)
 
 abbrev pub unless_said : Option (List ℕ) → Type 0 → (List ℕ → Type 0) → Type 0
 unless_said None next ends = next

@@ -3,7 +3,8 @@ ghost use Rattle.std.specs.Prelude.{◌≡◌, ◌++◌, IfOk};
 ghost use Rattle.surroundings.specs.Answers.{fault_line, only_errors};
 ghost use Rattle.texts.specs.Texts.{Puts, nothing_written};
 ghost use Rattle.v7_from_gnu.specs.Lines.{program};
-ghost use Rattle.v7_from_gnu.specs.Runs.{AnswersOr, IsStoring, Stores, not_stored};
+ghost use Rattle.surroundings.specs.Answers.{AnswersOr};
+ghost use Rattle.v7_from_gnu.specs.Runs.{IsStoring, Stores, not_stored};
 
 use crate::converting::{Plan, Target};
 use crate::lines::put_failure;

@@ -2,16 +2,16 @@
 --
 -- The paths are compared before a file is opened, and a file is stored only if the listing has no mistake. If memory runs out, that is
 -- the answer; it does so after a file was to be stored only if it was not stored.
-use Rattle.std.specs.Prelude.{◌≡◌, ◌⊎◌, ℕ, Bool, nat_eq, if◌then◌else◌, List, [], ◌∷◌, Option, Some, None, Result, Ok, Err, codes}
+use Rattle.std.specs.Prelude.{◌≡◌, ◌⊎◌, ℕ, nat_eq, if◌then◌else◌, List, [], ◌∷◌, Option, Some, None, Result, Ok, Err, codes}
 use Rattle.std.specs.List.{starts_with}
 use Rattle.aout_core.specs.Contents.{Contents}
-use Rattle.aout_core.specs.declared.shown.Shown.{Shown}
 use Rattle.listings.specs.Reading.{read}
 use Rattle.listings.specs.declared.fault.Fault.{Fault as Mistake}
 use Rattle.surroundings.specs.Answer.{Answer}
-use Rattle.surroundings.specs.Answers.{Checks, Faults, Gives, HasAnswer, answer_in, failed_at, only_errors, says_usage, shown_in, shows}
+use Rattle.surroundings.specs.Answers.{AnswersOr, Checks, Faults, Gives, HasAnswer, IsShownOr, answer_in}
+use Rattle.surroundings.specs.Answers.{failed_at, only_errors, says_usage, shown_in}
 use Rattle.surroundings.specs.Events.{History, Extends, Surroundings, stored}
-use Rattle.surroundings.specs.Paths.{is_input}
+use Rattle.surroundings.specs.Paths.{path_answer}
 use Rattle.surroundings.specs.Sources.{EndsReading, ReadsAt, stored_text}
 use Rattle.surroundings.specs.declared.answer.Fault.{Fault}
 use Rattle.surroundings.specs.declared.answer.Fault.TheVariants as faults
@@ -20,31 +20,20 @@ use Rattle.v7_object.specs.Lines.{mistake_line, program, usage}
 
 -- ---- arguments
 
--- what the arguments ask for: to show something, or to make the file of a listing at a path
-pub data Call : Type 0 where
-  show : Shown → Call
-  make : List ℕ → List ℕ → Call
+-- what the arguments ask for: to make the file of a listing at a path
+pub record Call : Type 0 where
+  pub listing : List ℕ
+  pub to : List ℕ
 
 -- the first path does not begin with a hyphen
 abbrev pub two_paths : List ℕ → List ℕ → Option Call
-two_paths listing to = if starts_with nat_eq listing (codes "-") then None else Some (make listing to)
+two_paths listing to = if starts_with nat_eq listing (codes "-") then None else Some (record { listing = listing; to = to })
 
 abbrev pub paths_in : List (List ℕ) → Option Call
 paths_in (listing ∷ to ∷ []) = two_paths listing to
 paths_in _ = None
 
-abbrev pub shown_or : Option Shown → Option Call → Option Call
-shown_or (Some shown) later = Some (show shown)
-shown_or None later = later
-
-abbrev pub call_of : List (List ℕ) → Option Call
-call_of words = shown_or (shown_in words) (paths_in words)
-
 -- ---- the file of a listing
-
--- the output may not be the input
-abbrev pub path_answer : List ℕ → List ℕ → Option Answer
-path_answer listing to = if is_input (listing ∷ []) to then Some (failed_at program to (codes "the output is one of the inputs")) else None
 
 -- the file that a listing is read as, or its first mistake, with the status 1
 abbrev pub file_of : List ℕ → Result Contents Mistake → Result Contents Answer
@@ -77,23 +66,19 @@ ReadsAndStores listing to old new result =
 -- the paths are refused, or else the listing is read and its file stored
 abbrev pub IsMaking : List ℕ → List ℕ → History → History → Result Answer Fault → Type 0
 IsMaking listing to old new result =
-    ((fault : Fault) × Checks (path_answer listing to) (Err fault) × (new ≡ old) × (result ≡ Err fault))
-    ⊎ ((path_answer listing to ≡ None) × ReadsAndStores listing to old new result)
+    ((fault : Fault) × Checks (path_answer program listing to) (Err fault) × (new ≡ old) × (result ≡ Err fault))
+    ⊎ ((path_answer program listing to ≡ None) × ReadsAndStores listing to old new result)
 
 -- ---- the program
 
--- an answer, or memory ran out for it
-abbrev pub AnswersOr : Result Answer Fault → Answer → Type 0
-AnswersOr result answer = (result ≡ Ok answer) ⊎ (result ≡ Err faults.Memory)
-
--- what the arguments ask for is done; a page of help and the like asks nothing of the system
+-- the file is made, or how the program is called goes to standard error
 abbrev pub IsCall : Option Call → History → History → Result Answer Fault → Type 0
 IsCall None old new result = (new ≡ old) × AnswersOr result (says_usage usage)
-IsCall (Some (show shown)) old new result = (new ≡ old) × AnswersOr result (shows program usage shown)
-IsCall (Some (make listing to)) old new result = IsMaking listing to old new result
+IsCall (Some call) old new result = IsMaking call.listing call.to old new result
 
+-- what the arguments ask for is done
 abbrev pub IsAnswer : List (List ℕ) → History → History → Result Answer Fault → Type 0
-IsAnswer words old new result = IsCall (call_of words) old new result
+IsAnswer words old new result = IsShownOr program usage (shown_in words) old new result (IsCall (paths_in words) old new result)
 
 -- what the arguments ask for is done, and its answer is written
 abbrev pub PerformsObject : {W E : Type 0} → (W → Option (List ℕ)) → (E → Option (List ℕ)) → List (List ℕ) →

@@ -1,9 +1,9 @@
 //! The file of a listing. It is written only if the listing has no mistake.
 ghost use Rattle.std.specs.Prelude.{◌≡◌, ◌∷◌, [], IfErr, IfOk, Ok};
 ghost use Rattle.listings.specs.Reading.{read};
-ghost use Rattle.surroundings.specs.Answers.{Checks, Faults, HasAnswer, failed_at, only_errors};
-ghost use Rattle.v7_object.specs.Lines.{mistake_line, program};
-ghost use Rattle.v7_object.specs.Runs.{IsMaking, IsStoring, file_of, path_answer};
+ghost use Rattle.surroundings.specs.Answers.{Faults, only_errors};
+ghost use Rattle.v7_object.specs.Lines.{mistake_line};
+ghost use Rattle.v7_object.specs.Runs.{IsMaking, IsStoring, file_of};
 
 use crate::lines::put_mistake;
 use crate::program::NAME;
@@ -11,21 +11,9 @@ use aout_core::File;
 use listings::{ListingFault, read_listing};
 use std::alloc::{AllocError, Global};
 use surroundings::{
-    Answer, Fault, Office, PlainPaths, error_answer, fault_at, read_whole, stored_text,
+    Answer, Fault, Office, check_path, error_answer, fault_at, read_whole, stored_text,
 };
 use texts::Text;
-
-/// Checks that the output is not the input.
-fn check_path(alloc: Global, listing: &str, to: &str) -> Result<(), Fault>
-    ensures { Checks (path_answer listing.now to.now) result }
-{
-    let mut inputs = PlainPaths::new(alloc);
-    inputs.add(alloc, listing)?;
-    if inputs.has(alloc, to)? {
-        return Err(fault_at(alloc, NAME, to, "the output is one of the inputs"));
-    }
-    Ok(())
-}
 
 /// The answer with the first mistake of a listing.
 fn mistaken(alloc: Global, path: &str, fault: listings::Fault) -> Result<Answer, AllocError>
@@ -75,7 +63,7 @@ pub(crate) fn make_file<O: Office>(
 ) -> Result<Answer, Fault>
     ensures { IsMaking listing.now to.now (O.history office.old) (O.history office.new) result }
 {
-    check_path(alloc, listing, to)?;
+    check_path(alloc, NAME, listing, to)?;
     let text = read_whole(alloc, office, NAME, listing)?;
     let file = file_in(alloc, listing, &text)?;
     store(alloc, office, to, &file)

@@ -40,7 +40,7 @@ fn answer_paths<O: Office>(alloc: Global, office: &mut O, words: &[String]) -> R
 }
 
 /// Does what the arguments ask for, and returns what is written at the end.
-#[tactic(auto, using(crate::proofs::CallLemmas::by_shown))]
+#[tactic(auto, using(surroundings::proofs::ShownLemmas::by_shown))]
 fn answer<O: Office>(alloc: Global, office: &mut O, words: &[String]) -> Result<Answer, Fault>
     ensures { IsAnswer (map string_bytes words.now) (O.history office.old) (O.history office.new) result }
 {

@@ -1,4 +1,4 @@
-use Rattle.std.proofs.Common.{rules, ◌≡◌, subst, inr}
+use Rattle.std.proofs.Common.{rules, ◌≡◌, refl, subst, inl, inr}
 use Rattle.std.specs.Prelude.{Ok}
 use Rattle.listings.specs.Reading.{read}
 use Rattle.v7_object.specs.Runs.{file_of}
@@ -20,3 +20,6 @@ returns g c =
         ),
       ),
     )
+
+pub returns-in_err-check_path : goal.returns-in_err-check_path
+returns-in_err-check_path g c = inl (c.in_err-check_path.field-0.0, c.in_err-check_path.ensures, refl, search rules)

@@ -1,0 +1,23 @@
+-- What is done, by what the first argument asks to be shown.
+use Rattle.std.proofs.Common.{◌≡◌, ℕ, List, Option, Some, None, refl, sym, ap, subst, inl}
+use Rattle.std.specs.Prelude.{Result, Ok, Err}
+use Rattle.aout_core.specs.declared.shown.Shown.{Shown}
+use Rattle.surroundings.specs.Answer.{Answer}
+use Rattle.surroundings.specs.Answers.{IsShownOr, shows}
+use Rattle.surroundings.specs.Events.{History}
+use Rattle.surroundings.specs.declared.answer.Fault.{Fault}
+
+-- something is shown
+pub is_shown : (program usage : List ℕ) (asked : Option Shown) (shown : Shown) (h : History) (answer : Answer) (rest : Type 0) →
+    asked ≡ Some shown → answer ≡ shows program usage shown → IsShownOr program usage asked h h (Ok answer) rest
+is_shown program usage asked shown h answer rest is e =
+    subst (λ (by : Option Shown). IsShownOr program usage by h h (Ok answer) rest) (sym is)
+    (refl, inl (ap (λ (a : Answer). let ok : Result Answer Fault = Ok a in ok) e))
+
+-- nothing is shown
+pub is_not_shown : (program usage : List ℕ) (asked : Option Shown) (old new : History) (result : Result Answer Fault) (rest : Type 0) →
+    asked ≡ None → rest → IsShownOr program usage asked old new result rest
+is_not_shown program usage asked old new result rest is h =
+    subst (λ (by : Option Shown). IsShownOr program usage by old new result rest) (sym is) h
+
+pub ruleset by_shown = (is_shown, is_not_shown)
