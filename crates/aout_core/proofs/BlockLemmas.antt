@@ -1,9 +1,11 @@
 -- Bytes that wait in a block.
-use Rattle.std.proofs.Common.{◌≡◌, ℕ, ◌+◌, ◌-◌, ◌≤◌, List, length, take, drop, slice_range, sym, ◌∙◌, ap, arith, drop-drop, length-drop, length-take-le}
+use Rattle.std.proofs.Common.{◌≡◌, ℕ, ◌+◌, ◌-◌, ◌≤◌, List, length, take, drop, slice_range, sym, ◌∙◌}
+use Rattle.std.proofs.Common.{ap, arith, drop-drop, length-drop, length-take-le}
 use Rattle.std.proofs.lemmas.List.{drop-take}
 
 -- what is left of a part of a list, once its front was taken
-pub slice_range-front : (xs : List ℕ) (start end n : ℕ) → n ≤ end - start → slice_range xs (start + n) end ≡ drop n (slice_range xs start end)
+pub slice_range-front : (xs : List ℕ) (start end n : ℕ) → n ≤ end - start →
+    slice_range xs (start + n) end ≡ drop n (slice_range xs start end)
 slice_range-front xs start end n h =
     let size : end - (start + n) ≡ end - start - n = omega arith in
     let whole : n + (end - start - n) ≡ end - start = omega arith in

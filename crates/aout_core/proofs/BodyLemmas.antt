@@ -1,5 +1,7 @@
 -- The bytes after a header, cut into the parts of a file.
-use Rattle.std.proofs.Common.{zero, suc, ◌*◌, length-append, take_at, ◌≡◌, ℕ, ◌+◌, ◌/◌, ◌%◌, ◌≤◌, List, [], ◌∷◌, ◌++◌, take, drop, length, refl, sym, ◌∙◌, ap, arith, length-drop, drop-drop, drop_at, ◌&&◌, eqb, eqb-true}
+use Rattle.std.proofs.Common.{zero, suc, ◌*◌, length-append, take_at, ◌≡◌, ℕ, ◌+◌, ◌/◌, ◌%◌, ◌≤◌, List}
+use Rattle.std.proofs.Common.{[], ◌∷◌, ◌++◌, take, drop, length, refl, sym, ◌∙◌, ap, arith, length-drop}
+use Rattle.std.proofs.Common.{drop-drop, drop_at, ◌&&◌, eqb, eqb-true}
 use Rattle.std.proofs.lemmas.List.{take-append-le, drop-append-le}
 use Rattle.std.proofs.lemmas.Bool.{and_parts}
 use Rattle.std.specs.Prelude.{IsTrue}
@@ -15,9 +17,11 @@ use Rattle.aout_core.proofs.DecodingLemmas.{with_relocation-even}
 use Rattle.aout_core.proofs.EncodesLemmas.{symbols_front}
 
 -- a part of the whole is a part of the bytes after the header
-after : (start body rest : List ℕ) (from : ℕ) → length start ≡ 16 → from ≤ length body → drop (16 + from) (start ++ (body ++ rest)) ≡ drop from body ++ rest
+after : (start body rest : List ℕ) (from : ℕ) → length start ≡ 16 → from ≤ length body →
+    drop (16 + from) (start ++ (body ++ rest)) ≡ drop from body ++ rest
 after start body rest from long within =
-    sym (drop-drop from 16 (start ++ (body ++ rest))) ∙ ap (drop from) (drop_at start (body ++ rest) 16 long) ∙ drop-append-le from body rest within
+    sym (drop-drop from 16 (start ++ (body ++ rest))) ∙ ap (drop from) (drop_at start (body ++ rest) 16 long)
+    ∙ drop-append-le from body rest within
 
 part_after : (start body rest : List ℕ) (at from size : ℕ) → length start ≡ 16 → at ≡ 16 + from → from + size ≤ length body →
     part at size (start ++ (body ++ rest)) ≡ take size (drop from body)
@@ -31,8 +35,10 @@ record IsCut (h : Header) (body text words first second table : List ℕ) : Type
   pub is_text : text ≡ take h.text_size body
   pub is_words : words ≡ take h.data_size (drop h.text_size body)
   pub is_first : first ≡ take (with_relocation h h.text_size) (drop h.data_size (drop h.text_size body))
-  pub is_second : second ≡ take (with_relocation h h.data_size) (drop (with_relocation h h.text_size) (drop h.data_size (drop h.text_size body)))
-  pub is_table : table ≡ drop (with_relocation h h.data_size) (drop (with_relocation h h.text_size) (drop h.data_size (drop h.text_size body)))
+  pub is_second : second ≡ take (with_relocation h h.data_size)
+      (drop (with_relocation h h.text_size) (drop h.data_size (drop h.text_size body)))
+  pub is_table : table ≡ drop (with_relocation h h.data_size)
+      (drop (with_relocation h h.text_size) (drop h.data_size (drop h.text_size body)))
 
 table_after : (start body rest : List ℕ) (at from n : ℕ) → length start ≡ 16 → at ≡ 16 + from → from + 12 * n ≤ length body →
     symbols_in n (drop at (start ++ (body ++ rest))) ≡ symbols_in n (drop from body)
@@ -41,27 +47,44 @@ table_after start body rest at from n long e within =
     ∙ ap (symbols_in n) (after start body rest from long (omega arith))
     ∙ symbols_front n (drop from body) rest (omega (arith, length-drop from body))
 
-contents_in-cut : (h : Header) (start body rest text words first second table : List ℕ) → length start ≡ 16 → 16 + length body ≡ file_length h →
-    IsCut h body text words first second table →
-    (let c : Contents = record { header = h; text_words = words_in text; data_words = words_in words; text_reloc = relocs_in first; data_reloc = relocs_in second; symbols = symbols_in (h.symbol_size / 12) table } in c)
+contents_in-cut : (h : Header) (start body rest text words first second table : List ℕ) → length start ≡ 16 →
+    16 + length body ≡ file_length h → IsCut h body text words first second table →
+    (let c : Contents = record {
+      header = h;
+      text_words = words_in text;
+      data_words = words_in words;
+      text_reloc = relocs_in first;
+      data_reloc = relocs_in second;
+      symbols = symbols_in (h.symbol_size / 12) table;
+    } in c)
     ≡ contents_in h (start ++ (body ++ rest))
 contents_in-cut h start body rest text words first second table long whole cut =
     let both = with_relocation-add h h.text_size h.data_size in
     let twice : drop h.data_size (drop h.text_size body) ≡ drop (h.text_size + h.data_size) body = drop-drop h.data_size h.text_size body in
-    let thrice : drop (with_relocation h h.text_size) (drop h.data_size (drop h.text_size body)) ≡ drop (h.text_size + h.data_size + with_relocation h h.text_size) body =
+    let thrice : drop (with_relocation h h.text_size) (drop h.data_size (drop h.text_size body))
+    ≡ drop (h.text_size + h.data_size + with_relocation h h.text_size) body =
     ap (drop (with_relocation h h.text_size)) twice ∙ drop-drop (with_relocation h h.text_size) (h.text_size + h.data_size) body in
-    let all : drop (with_relocation h h.data_size) (drop (with_relocation h h.text_size) (drop h.data_size (drop h.text_size body))) ≡ drop (h.text_size + h.data_size + with_relocation h h.text_size + with_relocation h h.data_size) body =
-    ap (drop (with_relocation h h.data_size)) thrice ∙ drop-drop (with_relocation h h.data_size) (h.text_size + h.data_size + with_relocation h h.text_size) body in
+    let all : drop (with_relocation h h.data_size) (drop (with_relocation h h.text_size) (drop h.data_size (drop h.text_size body)))
+    ≡ drop (h.text_size + h.data_size + with_relocation h h.text_size + with_relocation h h.data_size) body =
+    ap (drop (with_relocation h h.data_size)) thrice
+    ∙ drop-drop (with_relocation h h.data_size) (h.text_size + h.data_size + with_relocation h h.text_size) body in
     let a : words_in text ≡ words_in (part 16 h.text_size (start ++ (body ++ rest))) =
     ap words_in (cut.is_text ∙ sym (part_after start body rest 16 0 h.text_size long (omega arith) (omega arith))) in
     let b : words_in words ≡ words_in (part (16 + h.text_size) h.data_size (start ++ (body ++ rest))) =
-    ap words_in (cut.is_words ∙ sym (part_after start body rest (16 + h.text_size) h.text_size h.data_size long (omega arith) (omega arith))) in
+    ap words_in (cut.is_words
+    ∙ sym (part_after start body rest (16 + h.text_size) h.text_size h.data_size long (omega arith) (omega arith))) in
     let c : relocs_in first ≡ relocs_in (part (relocation_at h) (with_relocation h h.text_size) (start ++ (body ++ rest))) =
-    ap relocs_in (cut.is_first ∙ ap (take (with_relocation h h.text_size)) twice ∙ sym (part_after start body rest (relocation_at h) (h.text_size + h.data_size) (with_relocation h h.text_size) long (omega arith) (omega arith))) in
-    let d : relocs_in second ≡ relocs_in (part (relocation_at h + with_relocation h h.text_size) (with_relocation h h.data_size) (start ++ (body ++ rest))) =
-    ap relocs_in (cut.is_second ∙ ap (take (with_relocation h h.data_size)) thrice ∙ sym (part_after start body rest (relocation_at h + with_relocation h h.text_size) (h.text_size + h.data_size + with_relocation h h.text_size) (with_relocation h h.data_size) long (omega arith) (omega arith))) in
+    ap relocs_in (cut.is_first ∙ ap (take (with_relocation h h.text_size)) twice ∙ sym (part_after start body rest
+    (relocation_at h) (h.text_size + h.data_size) (with_relocation h h.text_size) long (omega arith) (omega arith))) in
+    let d : relocs_in second
+    ≡ relocs_in (part (relocation_at h + with_relocation h h.text_size) (with_relocation h h.data_size) (start ++ (body ++ rest))) =
+    ap relocs_in (cut.is_second ∙ ap (take (with_relocation h h.data_size)) thrice
+    ∙ sym (part_after start body rest (relocation_at h + with_relocation h h.text_size) (h.text_size + h.data_size
+    + with_relocation h h.text_size) (with_relocation h h.data_size) long (omega arith) (omega arith))) in
     let e : symbols_in (h.symbol_size / 12) table ≡ symbols_in (h.symbol_size / 12) (drop (symbols_at h) (start ++ (body ++ rest))) =
-    ap (symbols_in (h.symbol_size / 12)) (cut.is_table ∙ all) ∙ sym (table_after start body rest (symbols_at h) (h.text_size + h.data_size + with_relocation h h.text_size + with_relocation h h.data_size) (h.symbol_size / 12) long (omega arith) (omega arith)) in
+    ap (symbols_in (h.symbol_size / 12)) (cut.is_table ∙ all)
+    ∙ sym (table_after start body rest (symbols_at h) (h.text_size + h.data_size + with_relocation h h.text_size
+    + with_relocation h h.data_size) (h.symbol_size / 12) long (omega arith) (omega arith)) in
     λ i. record { header = h; text_words = a i; data_words = b i; text_reloc = c i; data_reloc = d i; symbols = e i }
 
 -- a row of things as it was read, one by one
@@ -77,7 +100,8 @@ row_relocs zero [] whole = refl
 row_relocs zero (a ∷ rest) whole = absurd (omega arith)
 row_relocs (suc n) [] whole = absurd (omega arith)
 row_relocs (suc n) (a ∷ []) whole = absurd (omega arith)
-row_relocs (suc n) (a ∷ (b ∷ rest)) whole = ap (λ rs. (let r : Reloc = record { 0 = a + 256 * b } in r) ∷ rs) (row_relocs n rest (omega arith))
+row_relocs (suc n) (a ∷ (b ∷ rest)) whole =
+    ap (λ rs. (let r : Reloc = record { 0 = a + 256 * b } in r) ∷ rs) (row_relocs n rest (omega arith))
 
 row_symbols : (n : ℕ) (bytes : List ℕ) → row_in symbol_in 12 n bytes ≡ symbols_in n bytes
 row_symbols zero bytes = refl
@@ -123,18 +147,20 @@ are_whole h sizes =
 abbrev pub all_rows : List ℕ → List ℕ → List ℕ → List ℕ → List ℕ → List ℕ
 all_rows text words first second table = text ++ (words ++ (first ++ (second ++ table)))
 
-rows_cut : (h : Header) (text words first second table : List ℕ) → length text ≡ h.text_size → length words ≡ h.data_size → length first ≡ with_relocation h h.text_size →
-    length second ≡ with_relocation h h.data_size →
+rows_cut : (h : Header) (text words first second table : List ℕ) → length text ≡ h.text_size → length words ≡ h.data_size →
+    length first ≡ with_relocation h h.text_size → length second ≡ with_relocation h h.data_size →
     IsCut h (all_rows text words first second table) text words first second table
 rows_cut h text words first second table t d f s =
     let from_second = second ++ table in
     let from_first = first ++ from_second in
     let from_words = words ++ from_first in
     let after_text : drop h.text_size (text ++ from_words) ≡ from_words = drop_at text from_words h.text_size t in
-    let after_words : drop h.data_size (drop h.text_size (text ++ from_words)) ≡ from_first = ap (drop h.data_size) after_text ∙ drop_at words from_first h.data_size d in
+    let after_words : drop h.data_size (drop h.text_size (text ++ from_words)) ≡ from_first =
+    ap (drop h.data_size) after_text ∙ drop_at words from_first h.data_size d in
     let a = with_relocation h h.text_size in
     let b = with_relocation h h.data_size in
-    let after_first : drop a (drop h.data_size (drop h.text_size (text ++ from_words))) ≡ from_second = ap (drop a) after_words ∙ drop_at first from_second a f in
+    let after_first : drop a (drop h.data_size (drop h.text_size (text ++ from_words))) ≡ from_second =
+    ap (drop a) after_words ∙ drop_at first from_second a f in
     record {
       is_text = sym (take_at text from_words h.text_size t);
       is_words = sym (ap (take h.data_size) after_text ∙ take_at words from_first h.data_size d);
@@ -143,13 +169,22 @@ rows_cut h text words first second table t d f s =
       is_table = sym (ap (drop b) after_first ∙ drop_at second table b s);
     }
 
-length-all_rows : (text words first second table : List ℕ) → length (all_rows text words first second table) ≡ length text + (length words + (length first + (length second + length table)))
+length-all_rows : (text words first second table : List ℕ) → length (all_rows text words first second table)
+    ≡ length text + (length words + (length first + (length second + length table)))
 length-all_rows text words first second table =
-    omega (arith, length-append text (words ++ (first ++ (second ++ table))), length-append words (first ++ (second ++ table)), length-append first (second ++ table), length-append second table)
+    omega (
+      arith,
+      length-append text (words ++ (first ++ (second ++ table))),
+      length-append words (first ++ (second ++ table)),
+      length-append first (second ++ table),
+      length-append second table,
+    )
 
 -- a file whose lists were read so is the one that the bytes encode after their header
-pub rows_are_body : (h : Header) (text words first second table : List ℕ) (c : Contents) → IsTrue (has_whole_sizes h) → AreRows h text words first second table c →
-    (16 + length (all_rows text words first second table) ≡ file_length h) × ((start rest : List ℕ) → length start ≡ 16 → c ≡ contents_in h (start ++ (all_rows text words first second table ++ rest)))
+pub rows_are_body : (h : Header) (text words first second table : List ℕ) (c : Contents) → IsTrue (has_whole_sizes h) →
+    AreRows h text words first second table c →
+    (16 + length (all_rows text words first second table) ≡ file_length h)
+    × ((start rest : List ℕ) → length start ≡ 16 → c ≡ contents_in h (start ++ (all_rows text words first second table ++ rest)))
 rows_are_body h text words first second table c sizes rows =
     let w = are_whole h sizes in
     let wt = w.text in
@@ -162,13 +197,24 @@ rows_are_body h text words first second table c sizes rows =
     let f : length first ≡ with_relocation h h.text_size = rows.first_size ∙ omega arith in
     let s : length second ≡ with_relocation h h.data_size = rows.second_size ∙ omega arith in
     let y : length table ≡ h.symbol_size = rows.table_size ∙ omega arith in
-    let whole : 16 + length (all_rows text words first second table) ≡ file_length h = omega (arith, length-all_rows text words first second table, with_relocation-add h h.text_size h.data_size) in
+    let whole : 16 + length (all_rows text words first second table) ≡ file_length h =
+    omega (arith, length-all_rows text words first second table, with_relocation-add h h.text_size h.data_size) in
     let e1 = rows.header in
     let e2 : c.text_words ≡ words_in text = rows.has_text ∙ row_words (h.text_size / 2) text rows.text_size in
     let e3 : c.data_words ≡ words_in words = rows.has_words ∙ row_words (h.data_size / 2) words rows.data_size in
     let e4 : c.text_reloc ≡ relocs_in first = rows.has_first ∙ row_relocs (with_relocation h h.text_size / 2) first rows.first_size in
     let e5 : c.data_reloc ≡ relocs_in second = rows.has_second ∙ row_relocs (with_relocation h h.data_size / 2) second rows.second_size in
     let e6 : c.symbols ≡ symbols_in (h.symbol_size / 12) table = rows.has_table ∙ row_symbols (h.symbol_size / 12) table in
-    let made : c ≡ (let x : Contents = record { header = h; text_words = words_in text; data_words = words_in words; text_reloc = relocs_in first; data_reloc = relocs_in second; symbols = symbols_in (h.symbol_size / 12) table } in x) =
-    λ i. record { header = e1 i; text_words = e2 i; data_words = e3 i; text_reloc = e4 i; data_reloc = e5 i; symbols = e6 i } in
-    (whole, λ start rest long. made ∙ contents_in-cut h start (all_rows text words first second table) rest text words first second table long whole (rows_cut h text words first second table t d f s))
+    let made : c ≡ (let x : Contents = record {
+      header = h;
+      text_words = words_in text;
+      data_words = words_in words;
+      text_reloc = relocs_in first;
+      data_reloc = relocs_in second;
+      symbols = symbols_in (h.symbol_size / 12) table;
+    } in x) =
+    λ i. record { header = e1 i; text_words = e2 i; data_words = e3 i; text_reloc = e4 i; data_reloc = e5 i; symbols = e6 i } in (
+      whole,
+      λ start rest long. made ∙ contents_in-cut h start (all_rows text words first second table) rest text words first
+          second table long whole (rows_cut h text words first second table t d f s),
+    )

@@ -1,5 +1,7 @@
 -- What is read fits, and its encoding is what was read, but for what stood in names after a NUL.
-use Rattle.std.proofs.Common.{◌≡◌, ℕ, zero, suc, ◌+◌, ◌*◌, ◌/◌, ◌%◌, ◌≤◌, Bool, true, false, cond, not, ◌&&◌, eqb, List, [], ◌∷◌, drop, length, refl, ap, subst, arith, length-take, length-drop, eqb-true, ltb-false}
+use Rattle.std.proofs.Common.{◌≡◌, ℕ, zero, suc, ◌+◌, ◌*◌, ◌/◌, ◌%◌, ◌≤◌, Bool, true, false, cond, not}
+use Rattle.std.proofs.Common.{◌&&◌, eqb, List, [], ◌∷◌, drop, length, refl, ap, subst, arith, length-take}
+use Rattle.std.proofs.Common.{length-drop, eqb-true, ltb-false}
 use Rattle.std.specs.Prelude.{Ok, Err, nat_lt}
 use Rattle.std.proofs.lemmas.Bool.{and_parts}
 use Rattle.std.proofs.lemmas.List.{length-map}
@@ -20,10 +22,15 @@ pub record Passed (bytes : List ℕ) (c : Contents) : Type 0 where
   pub long : file_length (header_in bytes) ≤ length bytes
 
 pub decoded_passed : (bytes : List ℕ) (c : Contents) → decode bytes ≡ Ok c → Passed bytes c
-decoded_passed bytes c h = by_tests (nat_lt (length bytes) 16) (is_magic (header_in bytes).magic) refl (has_whole_sizes (header_in bytes)) refl (nat_lt (length bytes) (file_length (header_in bytes))) refl h
+decoded_passed bytes c h =
+    by_tests (nat_lt (length bytes) 16) (is_magic (header_in bytes).magic) refl (has_whole_sizes (header_in bytes)) refl
+    (nat_lt (length bytes) (file_length (header_in bytes))) refl h
   where
-    by_tests : (a m : Bool) → is_magic (header_in bytes).magic ≡ m → (s : Bool) → has_whole_sizes (header_in bytes) ≡ s → (l : Bool) → nat_lt (length bytes) (file_length (header_in bytes)) ≡ l →
-        cond a (Err ShortHeader) (cond (not m) (Err BadMagic) (cond (not s) (Err OddSize) (cond l (Err Truncated) (Ok (contents_in (header_in bytes) bytes))))) ≡ Ok c → Passed bytes c
+    by_tests : (a m : Bool) → is_magic (header_in bytes).magic ≡ m → (s : Bool) →
+        has_whole_sizes (header_in bytes) ≡ s → (l : Bool) → nat_lt (length bytes) (file_length (header_in bytes)) ≡ l →
+        cond a (Err ShortHeader) (cond (not m) (Err BadMagic)
+        (cond (not s) (Err OddSize) (cond l (Err Truncated) (Ok (contents_in (header_in bytes) bytes))))) ≡ Ok c →
+        Passed bytes c
     by_tests true m em s es l el h = absurd (cc)
     by_tests false false em s es l el h = absurd (cc)
     by_tests false true em false es l el h = absurd (cc)
@@ -44,15 +51,18 @@ length-symbols_in zero bytes = refl
 length-symbols_in (suc n) bytes = ap (λ (k : ℕ). suc k) (length-symbols_in n (drop 12 bytes))
 
 -- so many bytes of a part, read as words
-words_fit : (from size : ℕ) (bytes : List ℕ) → from + size ≤ length bytes → size % 2 ≡ 0 → 2 * length (words_in (part from size bytes)) ≡ size
+words_fit : (from size : ℕ) (bytes : List ℕ) → from + size ≤ length bytes → size % 2 ≡ 0 →
+    2 * length (words_in (part from size bytes)) ≡ size
 words_fit from size bytes h e =
     let l = length-part from size bytes h in
     let even : length (part from size bytes) % 2 ≡ 0 = omega arith in
     omega (arith, length-words_in (part from size bytes) even)
 
-relocs_fit : (from size : ℕ) (bytes : List ℕ) → from + size ≤ length bytes → size % 2 ≡ 0 → 2 * length (relocs_in (part from size bytes)) ≡ size
+relocs_fit : (from size : ℕ) (bytes : List ℕ) → from + size ≤ length bytes → size % 2 ≡ 0 →
+    2 * length (relocs_in (part from size bytes)) ≡ size
 relocs_fit from size bytes h e =
-    let m : length (relocs_in (part from size bytes)) ≡ length (words_in (part from size bytes)) = length-map (words_in (part from size bytes)) (λ w. let r : Reloc = record { 0 = w } in r) in
+    let m : length (relocs_in (part from size bytes)) ≡ length (words_in (part from size bytes)) =
+    length-map (words_in (part from size bytes)) (λ w. let r : Reloc = record { 0 = w } in r) in
     omega (arith, words_fit from size bytes h e)
 
 pub with_relocation-even : (h : Header) (n : ℕ) → n % 2 ≡ 0 → with_relocation h n % 2 ≡ 0
@@ -63,7 +73,8 @@ with_relocation-even h n e = by_flag (eqb h.flag 0)
     by_flag false = refl
 
 -- the file that is read fits
-pub contents_in_fits : (h : Header) (bytes : List ℕ) → is_magic h.magic ≡ true → has_whole_sizes h ≡ true → file_length h ≤ length bytes → Fits (contents_in h bytes)
+pub contents_in_fits : (h : Header) (bytes : List ℕ) → is_magic h.magic ≡ true → has_whole_sizes h ≡ true →
+    file_length h ≤ length bytes → Fits (contents_in h bytes)
 contents_in_fits h bytes magic sizes long =
     let p = and_parts (eqb (h.text_size % 2) 0) (eqb (h.data_size % 2) 0 && (eqb (h.bss_size % 2) 0 && eqb (h.symbol_size % 12) 0)) sizes in
     let q = and_parts (eqb (h.data_size % 2) 0) (eqb (h.bss_size % 2) 0 && eqb (h.symbol_size % 12) 0) p.1 in
@@ -77,8 +88,11 @@ contents_in_fits h bytes magic sizes long =
       sizes = sizes;
       text = words_fit 16 h.text_size bytes (omega arith) t;
       «data» = words_fit (16 + h.text_size) h.data_size bytes (omega arith) d;
-      text_relocation = relocs_fit (relocation_at h) (with_relocation h h.text_size) bytes (omega arith) (with_relocation-even h h.text_size t);
-      data_relocation = relocs_fit (relocation_at h + with_relocation h h.text_size) (with_relocation h h.data_size) bytes (omega arith) (with_relocation-even h h.data_size d);
+      text_relocation =
+          relocs_fit (relocation_at h) (with_relocation h h.text_size) bytes (omega arith) (with_relocation-even h h.text_size t);
+      data_relocation =
+          relocs_fit (relocation_at h + with_relocation h h.text_size) (with_relocation h h.data_size) bytes
+          (omega arith) (with_relocation-even h h.data_size d);
       table = omega (arith, length-symbols_in (h.symbol_size / 12) (drop (symbols_at h) bytes));
     }
 

@@ -1,5 +1,7 @@
 -- What is encoded is read.
-use Rattle.std.proofs.Common.{◌≡◌, ℕ, zero, suc, ◌+◌, ◌*◌, ◌/◌, ◌%◌, ◌≤◌, Bool, true, false, cond, eqb, List, [], ◌∷◌, ◌++◌, take, drop, replicate, length, refl, sym, ◌∙◌, ap, subst, arith, append_assoc, length-append, length-take, take_at, drop_at, le-ltb}
+use Rattle.std.proofs.Common.{◌≡◌, ℕ, zero, suc, ◌+◌, ◌*◌, ◌/◌, ◌%◌, ◌≤◌, Bool, true, false, cond, eqb, List, [], ◌∷◌}
+use Rattle.std.proofs.Common.{◌++◌, take, drop, replicate, length, refl, sym, ◌∙◌, ap, subst, arith, append_assoc}
+use Rattle.std.proofs.Common.{length-append, length-take, take_at, drop_at, le-ltb}
 use Rattle.std.specs.Prelude.{Result, Ok, nat_lt}
 use Rattle.std.specs.List.{flat_map, AllByRecursion}
 use Rattle.aout_core.specs.declared.header.Header.{Header}
@@ -36,7 +38,16 @@ length-header_encoding h = refl
 
 pub header_back : (h : Header) (rest : List ℕ) → header_in (header_encoding h ++ rest) ≡ h
 header_back h rest =
-    rw (word_back h.magic, word_back h.text_size, word_back h.data_size, word_back h.bss_size, word_back h.symbol_size, word_back h.entry_point, word_back h.unused, word_back h.flag) refl
+    rw (
+      word_back h.magic,
+      word_back h.text_size,
+      word_back h.data_size,
+      word_back h.bss_size,
+      word_back h.symbol_size,
+      word_back h.entry_point,
+      word_back h.unused,
+      word_back h.flag,
+    ) refl
 
 -- the bytes before the first NUL of a name that ends in NULs
 before_nul-zeros : (n m : ℕ) → before_nul (take n (replicate m 0)) ≡ []
@@ -48,7 +59,8 @@ pub nul_free_head : (b : ℕ) (bs : List ℕ) (t : Bool) → cond t [] (b ∷ be
 nul_free_head b bs true e = absurd (cc)
 nul_free_head b bs false e = (refl, cc)
 
-pub before_nul-padded : (n m : ℕ) (name : List ℕ) → length name ≤ n → before_nul name ≡ name → before_nul (take n (name ++ replicate m 0)) ≡ name
+pub before_nul-padded : (n m : ℕ) (name : List ℕ) → length name ≤ n → before_nul name ≡ name →
+    before_nul (take n (name ++ replicate m 0)) ≡ name
 before_nul-padded n m [] short no_nul = before_nul-zeros n m
 before_nul-padded zero m (b ∷ bs) short no_nul = absurd (omega arith)
 before_nul-padded (suc n) m (b ∷ bs) short no_nul =
@@ -63,21 +75,25 @@ pub length-symbol_encoding : (s : Symbol) → length (symbol_encoding s) ≡ 12
 length-symbol_encoding s = omega (arith, length-padded s.name, length-append (padded s.name) (word_bytes s.type_bits ++ word_bytes s.value))
 
 -- a piece of a text, found at its place
-pub part_at : (before piece after : List ℕ) (from size : ℕ) → length before ≡ from → length piece ≡ size → part from size (before ++ (piece ++ after)) ≡ piece
+pub part_at : (before piece after : List ℕ) (from size : ℕ) → length before ≡ from → length piece ≡ size →
+    part from size (before ++ (piece ++ after)) ≡ piece
 part_at before piece after from size b p = rw (drop_at before (piece ++ after) from b) (take_at piece after size p)
 
 pub symbol_back : (s : Symbol) → IsName s.name → symbol_in (symbol_encoding s) ≡ s
 symbol_back s n =
     let name : before_nul (take 8 (symbol_encoding s)) ≡ s.name =
-    rw (take_at (padded s.name) (word_bytes s.type_bits ++ word_bytes s.value) 8 (length-padded s.name)) (before_nul-padded 8 8 s.name n.short n.no_nul) in
+    rw (take_at (padded s.name) (word_bytes s.type_bits ++ word_bytes s.value) 8 (length-padded s.name))
+    (before_nul-padded 8 8 s.name n.short n.no_nul) in
     let words : part 8 4 (symbol_encoding s) ≡ word_bytes s.type_bits ++ word_bytes s.value =
     rw (drop_at (padded s.name) (word_bytes s.type_bits ++ word_bytes s.value) 8 (length-padded s.name)) refl in
     rw (name, words, word_back s.type_bits, word_back s.value) refl
 
-pub symbols_back : (ss : List Symbol) (rest : List ℕ) → AllByRecursion IsSymbol ss → symbols_in (length ss) (flat_map symbol_encoding ss ++ rest) ≡ ss
+pub symbols_back : (ss : List Symbol) (rest : List ℕ) → AllByRecursion IsSymbol ss →
+    symbols_in (length ss) (flat_map symbol_encoding ss ++ rest) ≡ ss
 symbols_back [] rest h = refl
 symbols_back (s ∷ ss) rest h =
-    let split : flat_map symbol_encoding (s ∷ ss) ++ rest ≡ symbol_encoding s ++ (flat_map symbol_encoding ss ++ rest) = append_assoc (symbol_encoding s) (flat_map symbol_encoding ss) rest in
+    let split : flat_map symbol_encoding (s ∷ ss) ++ rest ≡ symbol_encoding s ++ (flat_map symbol_encoding ss ++ rest) =
+    append_assoc (symbol_encoding s) (flat_map symbol_encoding ss) rest in
     let head = take_at (symbol_encoding s) (flat_map symbol_encoding ss ++ rest) 12 (length-symbol_encoding s) in
     let tail = drop_at (symbol_encoding s) (flat_map symbol_encoding ss ++ rest) 12 (length-symbol_encoding s) in
     subst (λ (bytes : List ℕ). symbol_in (take 12 bytes) ∷ symbols_in (length ss) (drop 12 bytes) ≡ s ∷ ss) (sym split)
@@ -85,7 +101,8 @@ symbols_back (s ∷ ss) rest h =
 
 pub length-symbols_encoding : (ss : List Symbol) → length (flat_map symbol_encoding ss) ≡ 12 * length ss
 length-symbols_encoding [] = refl
-length-symbols_encoding (s ∷ ss) = omega (arith, length-symbol_encoding s, length-symbols_encoding ss, length-append (symbol_encoding s) (flat_map symbol_encoding ss))
+length-symbols_encoding (s ∷ ss) =
+    omega (arith, length-symbol_encoding s, length-symbols_encoding ss, length-append (symbol_encoding s) (flat_map symbol_encoding ss))
 
 -- where the six pieces of a text lie
 record Laid (bytes T D R Q S rest : List ℕ) (t d r q : ℕ) : Type 0 where
@@ -101,8 +118,17 @@ laid H T D R Q S rest t d r q hh ht hd hr hq = record {
   texts = rw texts (part_at H T _ 16 t hh ht);
   datas = rw datas (part_at (H ++ T) D _ (16 + t) d (omega (arith, length-append H T)) hd);
   first = rw first (part_at (H ++ (T ++ D)) R _ (16 + (t + d)) r (omega (arith, length-append H (T ++ D), length-append T D)) hr);
-  second = rw second (part_at (H ++ (T ++ (D ++ R))) Q _ (16 + (t + d) + r) q (omega (arith, length-append H (T ++ (D ++ R)), length-append T (D ++ R), length-append D R)) hq);
-  last = rw last (drop_at (H ++ (T ++ (D ++ (R ++ Q)))) (S ++ rest) (16 + (t + d) + (r + q)) (omega (arith, length-append H (T ++ (D ++ (R ++ Q))), length-append T (D ++ (R ++ Q)), length-append D (R ++ Q), length-append R Q)));
+  second =
+      rw second (part_at (H ++ (T ++ (D ++ R))) Q _ (16 + (t + d) + r) q
+      (omega (arith, length-append H (T ++ (D ++ R)), length-append T (D ++ R), length-append D R)) hq);
+  last =
+      rw last (drop_at (H ++ (T ++ (D ++ (R ++ Q)))) (S ++ rest) (16 + (t + d) + (r + q)) (omega (
+        arith,
+        length-append H (T ++ (D ++ (R ++ Q))),
+        length-append T (D ++ (R ++ Q)),
+        length-append D (R ++ Q),
+        length-append R Q,
+      )));
 }
   where
     texts : (H ++ (T ++ (D ++ (R ++ (Q ++ S))))) ++ rest ≡ H ++ (T ++ (D ++ (R ++ (Q ++ (S ++ rest)))))
@@ -131,7 +157,8 @@ with_relocation-add h a b = by_flag (eqb h.flag 0)
 contents_back : (c : Contents) (rest : List ℕ) → IsSound c → contents_in c.header (encoding c ++ rest) ≡ c
 contents_back c rest s =
     let h = c.header in
-    let at = laid (header_encoding h) (all_word_bytes c.text_words) (all_word_bytes c.data_words) (reloc_encoding c.text_reloc) (reloc_encoding c.data_reloc)
+    let at = laid (header_encoding h) (all_word_bytes c.text_words) (all_word_bytes c.data_words)
+    (reloc_encoding c.text_reloc) (reloc_encoding c.data_reloc)
     (flat_map symbol_encoding c.symbols) rest h.text_size h.data_size (with_relocation h h.text_size) (with_relocation h h.data_size)
     refl
     (omega (arith, length-all_word_bytes c.text_words, s.fits.text))
@@ -186,8 +213,11 @@ length-encoding c s =
 pub decode-encoding : (c : Contents) (rest : List ℕ) → IsSound c → decode (encoding c ++ rest) ≡ Ok c
 decode-encoding c rest s =
     let h = c.header in
-    let long : length (encoding c ++ rest) ≡ file_length h + length rest = omega (arith, length-append (encoding c) rest, length-encoding c s) in
+    let long : length (encoding c ++ rest) ≡ file_length h + length rest =
+    omega (arith, length-append (encoding c) rest, length-encoding c s) in
     let whole : nat_lt (length (encoding c ++ rest)) (file_length h) ≡ false = le-ltb _ _ (omega arith) in
     let header : nat_lt (length (encoding c ++ rest)) 16 ≡ false = le-ltb _ _ (omega arith) in
-    ap (λ (h : Header). decode_with h (encoding c ++ rest)) (header_back h (all_word_bytes c.text_words ++ (all_word_bytes c.data_words ++ (reloc_encoding c.text_reloc ++ (reloc_encoding c.data_reloc ++ flat_map symbol_encoding c.symbols))) ++ rest))
-    ∙ rw (header, s.fits.magic, s.fits.sizes, whole) (ap (λ (x : Contents). let r : Result Contents ReadFault = Ok x in r) (contents_back c rest s))
+    ap (λ (h : Header). decode_with h (encoding c ++ rest)) (header_back h (all_word_bytes c.text_words ++ (all_word_bytes c.data_words
+    ++ (reloc_encoding c.text_reloc ++ (reloc_encoding c.data_reloc ++ flat_map symbol_encoding c.symbols))) ++ rest))
+    ∙ rw (header, s.fits.magic, s.fits.sizes, whole)
+    (ap (λ (x : Contents). let r : Result Contents ReadFault = Ok x in r) (contents_back c rest s))

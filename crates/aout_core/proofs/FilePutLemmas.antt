@@ -40,25 +40,37 @@ at_table c = in_two c ∙ sym (append_assoc (to_relocation c) (relocation c) (ta
 
 pub broke_in_header : (c : Contents) (a b : Option (List ℕ)) → AppendsPrefix a b (header_encoding c.header) → AppendsPrefix a b (encoding c)
 broke_in_header c a b broke =
-    broke_before a b (encoding c) (header_encoding c.header) (segments c ++ (relocation c ++ table c)) (in_two c ∙ append_assoc (header_encoding c.header) (segments c) (relocation c ++ table c)) broke
+    broke_before a b (encoding c) (header_encoding c.header) (segments c ++ (relocation c ++ table c))
+    (in_two c ∙ append_assoc (header_encoding c.header) (segments c) (relocation c ++ table c)) broke
 
-pub broke_in_segments : (c : Contents) (a b d : Option (List ℕ)) (waiting : List ℕ) → AppendsBut a b waiting (header_encoding c.header) → AppendsPrefix b d (waiting ++ segments c) → AppendsPrefix a d (encoding c)
+pub broke_in_segments : (c : Contents) (a b d : Option (List ℕ)) (waiting : List ℕ) → AppendsBut a b waiting
+    (header_encoding c.header) → AppendsPrefix b d (waiting ++ segments c) → AppendsPrefix a d (encoding c)
 broke_in_segments c a b d waiting sent broke =
-    broke_before a d (encoding c) (to_relocation c) (relocation c ++ table c) (in_two c) (broke_more a b d waiting (header_encoding c.header) (segments c) sent broke)
+    broke_before a d (encoding c) (to_relocation c) (relocation c ++ table c) (in_two c)
+    (broke_more a b d waiting (header_encoding c.header) (segments c) sent broke)
 
 -- the header, text and data went out but for what waits
-pub sent_segments : (c : Contents) (a b d : Option (List ℕ)) (waiting left : List ℕ) → AppendsBut a b waiting (header_encoding c.header) → AppendsBut b d left (waiting ++ segments c) → AppendsBut a d left (to_relocation c)
+pub sent_segments : (c : Contents) (a b d : Option (List ℕ)) (waiting left : List ℕ) → AppendsBut a b waiting
+    (header_encoding c.header) → AppendsBut b d left (waiting ++ segments c) → AppendsBut a d left (to_relocation c)
 sent_segments c a b d waiting left first second = appends_but_more a b d waiting left (header_encoding c.header) (segments c) first second
 
-pub broke_in_relocation : (c : Contents) (a b d : Option (List ℕ)) (waiting : List ℕ) → AppendsBut a b waiting (to_relocation c) → AppendsPrefix b d (waiting ++ relocation c) → AppendsPrefix a d (encoding c)
-broke_in_relocation c a b d waiting sent broke = broke_before a d (encoding c) (to_table c) (table c) (at_table c) (broke_more a b d waiting (to_relocation c) (relocation c) sent broke)
+pub broke_in_relocation : (c : Contents) (a b d : Option (List ℕ)) (waiting : List ℕ) →
+    AppendsBut a b waiting (to_relocation c) → AppendsPrefix b d (waiting ++ relocation c) → AppendsPrefix a d (encoding c)
+broke_in_relocation c a b d waiting sent broke =
+    broke_before a d (encoding c) (to_table c) (table c) (at_table c)
+    (broke_more a b d waiting (to_relocation c) (relocation c) sent broke)
 
-pub sent_relocation : (c : Contents) (a b d : Option (List ℕ)) (waiting left : List ℕ) → AppendsBut a b waiting (to_relocation c) → AppendsBut b d left (waiting ++ relocation c) → AppendsBut a d left (to_table c)
+pub sent_relocation : (c : Contents) (a b d : Option (List ℕ)) (waiting left : List ℕ) → AppendsBut a b waiting
+    (to_relocation c) → AppendsBut b d left (waiting ++ relocation c) → AppendsBut a d left (to_table c)
 sent_relocation c a b d waiting left first second = appends_but_more a b d waiting left (to_relocation c) (relocation c) first second
 
-pub broke_in_table : (c : Contents) (a b d : Option (List ℕ)) (waiting : List ℕ) → AppendsBut a b waiting (to_table c) → AppendsPrefix b d (waiting ++ table c) → AppendsPrefix a d (encoding c)
-broke_in_table c a b d waiting sent broke = subst (AppendsPrefix a d) (sym (at_table c)) (broke_more a b d waiting (to_table c) (table c) sent broke)
+pub broke_in_table : (c : Contents) (a b d : Option (List ℕ)) (waiting : List ℕ) → AppendsBut a b waiting (to_table c) →
+    AppendsPrefix b d (waiting ++ table c) → AppendsPrefix a d (encoding c)
+broke_in_table c a b d waiting sent broke =
+    subst (AppendsPrefix a d) (sym (at_table c)) (broke_more a b d waiting (to_table c) (table c) sent broke)
 
 -- all went out but for what waits
-pub sent_symbols : (c : Contents) (a b d : Option (List ℕ)) (waiting left : List ℕ) → AppendsBut a b waiting (to_table c) → AppendsBut b d left (waiting ++ table c) → AppendsBut a d left (encoding c)
-sent_symbols c a b d waiting left first second = subst (AppendsBut a d left) (sym (at_table c)) (appends_but_more a b d waiting left (to_table c) (table c) first second)
+pub sent_symbols : (c : Contents) (a b d : Option (List ℕ)) (waiting left : List ℕ) →
+    AppendsBut a b waiting (to_table c) → AppendsBut b d left (waiting ++ table c) → AppendsBut a d left (encoding c)
+sent_symbols c a b d waiting left first second =
+    subst (AppendsBut a d left) (sym (at_table c)) (appends_but_more a b d waiting left (to_table c) (table c) first second)

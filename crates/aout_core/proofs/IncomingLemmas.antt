@@ -1,5 +1,7 @@
 -- What was read in blocks, and what was taken of it.
-use Rattle.std.proofs.Common.{◌≡◌, ℕ, zero, suc, ◌+◌, ◌-◌, ◌*◌, ◌∷◌, ◌<◌, ◌≤◌, min, List, [], ◌++◌, length, take, drop, Option, Some, None, sym, ◌∙◌, ap, subst, arith, append_assoc, append-nil, length-append, length-drop, take_at, drop_at, take_all, take-append-drop, suc-add, zero-add}
+use Rattle.std.proofs.Common.{◌≡◌, ℕ, zero, suc, ◌+◌, ◌-◌, ◌*◌, ◌∷◌, ◌<◌, ◌≤◌, min, List, [], ◌++◌, length, take, drop}
+use Rattle.std.proofs.Common.{Option, Some, None, sym, ◌∙◌, ap, subst, arith, append_assoc, append-nil, length-append}
+use Rattle.std.proofs.Common.{length-drop, take_at, drop_at, take_all, take-append-drop, suc-add, zero-add}
 use Rattle.std.proofs.lemmas.List.{drop_all, take-append-le, drop-append-le}
 use Rattle.std.specs.Io.KnownBytes.{Consumes, prepend_known}
 use Rattle.std.proofs.KnownBytes.{Consumes-trans}
@@ -13,7 +15,8 @@ use Rattle.aout_core.specs.internal.Blocks.{Awaited, awaited, EndsBefore, Refill
 use Rattle.aout_core.specs.internal.Rows.{row_in, TakesItem, TakesRow}
 
 -- bytes taken from those that waited
-pub taken_waiting : (a : Option (List ℕ)) (waiting out rest : List ℕ) → waiting ≡ out ++ rest → Consumes (prepend_known waiting a) (prepend_known rest a) out
+pub taken_waiting : (a : Option (List ℕ)) (waiting out rest : List ℕ) → waiting ≡ out ++ rest →
+    Consumes (prepend_known waiting a) (prepend_known rest a) out
 taken_waiting None waiting out rest e = tt
 taken_waiting (Some x) waiting out rest e = ap (λ l. l ++ x) e ∙ append_assoc out rest x
 
@@ -41,13 +44,14 @@ ends_after a b w e =
     by (Some x) (Some y) t = ap (λ l. w.waiting ++ l) t ∙ sym (append_assoc w.waiting e.bytes y)
 
 -- all was taken from what waited
-pub taken_at_once : (a : Option (List ℕ)) (w : Awaited) (old_out out rest : List ℕ) (n : ℕ) → n ≡ min (length w.waiting) (length old_out) → length old_out ≤ n →
-    out ≡ take n w.waiting ++ drop n old_out → rest ≡ drop n w.waiting →
+pub taken_at_once : (a : Option (List ℕ)) (w : Awaited) (old_out out rest : List ℕ) (n : ℕ) → n ≡ min (length w.waiting)
+    (length old_out) → length old_out ≤ n → out ≡ take n w.waiting ++ drop n old_out → rest ≡ drop n w.waiting →
     Takes w a (record { waiting = rest; missing = w.missing }) a out
 taken_at_once a w old_out out rest n count all taken left =
     let none : drop n old_out ≡ [] = drop_all n old_out all in
     let same : out ≡ take n w.waiting = taken ∙ ap (λ l. take n w.waiting ++ l) none ∙ append-nil (take n w.waiting) in
-    let whole : w.waiting ≡ out ++ rest = sym (take-append-drop n w.waiting) ∙ ap (λ l. l ++ drop n w.waiting) (sym same) ∙ ap (λ l. out ++ l) (sym left) in
+    let whole : w.waiting ≡ out ++ rest =
+    sym (take-append-drop n w.waiting) ∙ ap (λ l. l ++ drop n w.waiting) (sym same) ∙ ap (λ l. out ++ l) (sym left) in
     let long : length w.waiting ≡ length out + length rest = ap length whole ∙ length-append out rest in
     record { taken = taken_waiting a w.waiting out rest whole; left = omega arith }
 
@@ -68,18 +72,23 @@ taken_in_two a b w read old_out out second all rest n m count more taken reads a
     let after : drop n out ≡ drop n old_out = ap (drop n) out_is ∙ drop_at w.waiting (drop n old_out) n (sym every) in
     let last : m ≡ length old_out - n = omega arith in
     let none : drop m (drop n out) ≡ [] = drop_all m (drop n out) (omega (arith, ap length after, length-drop n old_out)) in
-    let second_is : second ≡ take m read.waiting = taken_again ∙ ap (λ l. take m read.waiting ++ l) none ∙ append-nil (take m read.waiting) in
-    let split : read.waiting ≡ second ++ rest = sym (take-append-drop m read.waiting) ∙ ap (λ l. l ++ drop m read.waiting) (sym second_is) ∙ ap (λ l. second ++ l) (sym left) in
+    let second_is : second ≡ take m read.waiting =
+    taken_again ∙ ap (λ l. take m read.waiting ++ l) none ∙ append-nil (take m read.waiting) in
+    let split : read.waiting ≡ second ++ rest = sym (take-append-drop m read.waiting)
+    ∙ ap (λ l. l ++ drop m read.waiting) (sym second_is) ∙ ap (λ l. second ++ l) (sym left) in
     let all_is : all ≡ w.waiting ++ second = joined ∙ ap (λ l. l ++ second) front in
     let long : length read.waiting ≡ length second + length rest = ap length split ∙ length-append second rest in
     let whole : length all ≡ length w.waiting + length second = ap length all_is ∙ length-append w.waiting second in
     record {
-      taken = subst (Consumes (prepend_known w.waiting a) (prepend_known rest b)) (sym all_is) (taken_with_block a b w.waiting read.waiting second rest reads.taken split);
+      taken =
+          subst (Consumes (prepend_known w.waiting a) (prepend_known rest b)) (sym all_is)
+          (taken_with_block a b w.waiting read.waiting second rest reads.taken split);
       left = omega arith;
     }
 
 -- the end came, or the device failed, where more was to be read
-pub ends_after_waiting : (e : ReadFault) (w : Awaited) (a b : Option (List ℕ)) → EndsBefore e a b w.missing → EndsBefore e (prepend_known w.waiting a) b (awaited w)
+pub ends_after_waiting : (e : ReadFault) (w : Awaited) (a b : Option (List ℕ)) → EndsBefore e a b w.missing →
+    EndsBefore e (prepend_known w.waiting a) b (awaited w)
 ends_after_waiting Truncated w a b r = ends_after a b w r
 ends_after_waiting Device w a b r = tt
 ends_after_waiting ShortHeader w a b r = absurd r
@@ -88,16 +97,19 @@ ends_after_waiting OddSize w a b r = absurd r
 ends_after_waiting Memory w a b r = absurd r
 
 -- bytes were taken, and then more
-pub takes_more : (w v u : Awaited) (a b d : Option (List ℕ)) (first second : List ℕ) → Takes w a v b first → Takes v b u d second → Takes w a u d (first ++ second)
+pub takes_more : (w v u : Awaited) (a b d : Option (List ℕ)) (first second : List ℕ) → Takes w a v b first →
+    Takes v b u d second → Takes w a u d (first ++ second)
 takes_more w v u a b d first second p q =
     record {
-      taken = Consumes-trans (prepend_known w.waiting a) (prepend_known v.waiting b) (prepend_known u.waiting d) first second p.taken q.taken;
+      taken =
+          Consumes-trans (prepend_known w.waiting a) (prepend_known v.waiting b)
+          (prepend_known u.waiting d) first second p.taken q.taken;
       left = let x = p.left in let y = q.left in omega (arith, length-append first second);
     }
 
 -- bytes were taken, and then the end came
-pub ends_later : (e : ReadFault) (w v : Awaited) (a b d : Option (List ℕ)) (first : List ℕ) → Takes w a v b first → EndsBefore e (prepend_known v.waiting b) d (awaited v) →
-    EndsBefore e (prepend_known w.waiting a) d (awaited w)
+pub ends_later : (e : ReadFault) (w v : Awaited) (a b d : Option (List ℕ)) (first : List ℕ) → Takes w a v b first →
+    EndsBefore e (prepend_known v.waiting b) d (awaited v) → EndsBefore e (prepend_known w.waiting a) d (awaited w)
 ends_later Truncated w v a b d first p e =
     record {
       bytes = first ++ e.bytes;
@@ -112,9 +124,11 @@ ends_later OddSize w v a b d first p e = absurd e
 ends_later Memory w v a b d first p e = absurd e
 
 -- one more item after a row
-row_in-more : {A : Type 0} (item_in : List ℕ → A) (width count : ℕ) (front back : List ℕ) → length front ≡ width * count → length back ≡ width →
+row_in-more : {A : Type 0} (item_in : List ℕ → A) (width count : ℕ) (front back : List ℕ) →
+    length front ≡ width * count → length back ≡ width →
     row_in item_in width (count + 1) (front ++ back) ≡ row_in item_in width count front ++ item_in back ∷ []
-row_in-more item_in width zero [] back whole one = ap (λ k. row_in item_in width k back) (zero-add 1) ∙ ap (λ l. item_in l ∷ []) (take_all width back (omega arith))
+row_in-more item_in width zero [] back whole one =
+    ap (λ k. row_in item_in width k back) (zero-add 1) ∙ ap (λ l. item_in l ∷ []) (take_all width back (omega arith))
 row_in-more item_in width zero (a ∷ front) back whole one = absurd (omega arith)
 row_in-more item_in width (suc n) front back whole one =
     let next : width * suc n ≡ width * n + width = mul-suc width n in
@@ -130,8 +144,10 @@ row_in-more item_in width (suc n) front back whole one =
     mul-suc x n = omega arith
 
 -- an item after those that were taken
-pub row_taken : {A : Type 0} (item_in : List ℕ → A) (width count : ℕ) (w v u : Awaited) (a b d : Option (List ℕ)) (items more all : List A) (item : A) →
-    TakesRow item_in width count w a v b items more → TakesItem item_in width v b u d item → all ≡ more ++ item ∷ [] → TakesRow item_in width (count + 1) w a u d items all
+pub row_taken : {A : Type 0} (item_in : List ℕ → A) (width count : ℕ) (w v u : Awaited) (a b d : Option (List ℕ))
+    (items more all : List A) (item : A) →
+    TakesRow item_in width count w a v b items more → TakesItem item_in width v b u d item → all ≡ more ++ item ∷ [] →
+    TakesRow item_in width (count + 1) w a u d items all
 row_taken item_in width count w v u a b d items more all item row one pushed =
     let next : width * (count + 1) ≡ width * count + width = mul-add-one width count in
     record {
@@ -156,7 +172,8 @@ abbrev pub unread : ℕ → Awaited
 unread n = record { waiting = []; missing = n }
 
 -- some bytes after the header were taken, and then the end came
-pub ends_in_body : (e : ReadFault) (h : Header) (n : ℕ) (v : Awaited) (a b d : Option (List ℕ)) (taken : List ℕ) → 16 + n ≡ file_length h → Takes (unread n) a v b taken →
+pub ends_in_body : (e : ReadFault) (h : Header) (n : ℕ) (v : Awaited) (a b d : Option (List ℕ)) (taken : List ℕ) →
+    16 + n ≡ file_length h → Takes (unread n) a v b taken →
     EndsBefore e (prepend_known v.waiting b) d (awaited v) → IsBodyRead h a d (Err e)
 ends_in_body Truncated h n v a b d taken size takes ends =
     let early = ends_later Truncated (unread n) v a b d taken takes ends in
@@ -169,7 +186,8 @@ ends_in_body OddSize h n v a b d taken size takes ends = absurd ends
 ends_in_body Memory h n v a b d taken size takes ends = absurd ends
 
 -- all bytes after the header were taken
-pub took_body : (h : Header) (n : ℕ) (u : Awaited) (a b : Option (List ℕ)) (body : List ℕ) → 16 + n ≡ file_length h → 16 + length body ≡ file_length h → Takes (unread n) a u b body → Consumes a b body
+pub took_body : (h : Header) (n : ℕ) (u : Awaited) (a b : Option (List ℕ)) (body : List ℕ) → 16 + n ≡ file_length h →
+    16 + length body ≡ file_length h → Takes (unread n) a u b body → Consumes a b body
 took_body h n u a b body size long takes = by u.waiting none b (untaken a (prepend_known u.waiting b) body takes.taken)
   where
     none : length u.waiting ≡ 0

@@ -1,5 +1,7 @@
 -- Items in a row, several of which are taken from a block or put into one.
-use Rattle.std.proofs.Common.{◌≡◌, ℕ, zero, suc, ◌+◌, ◌*◌, ◌∷◌, ◌<◌, ◌≤◌, List, [], ◌++◌, length, take, drop, Option, sym, ◌∙◌, ap, subst, arith, append_assoc, append-nil, length-append, length-take-le, length-drop, take-append-drop, suc-add, zero-add, add-zero}
+use Rattle.std.proofs.Common.{◌≡◌, ℕ, zero, suc, ◌+◌, ◌*◌, ◌∷◌, ◌<◌, ◌≤◌, List, [], ◌++◌, length, take, drop, Option}
+use Rattle.std.proofs.Common.{sym, ◌∙◌, ap, subst, arith, append_assoc, append-nil, length-append, length-take-le}
+use Rattle.std.proofs.Common.{length-drop, take-append-drop, suc-add, zero-add, add-zero}
 use Rattle.std.proofs.lemmas.List.{take-append-le, drop-append-le}
 use Rattle.std.proofs.lemmas.Grind.{flat_map-append}
 use Rattle.std.specs.List.{flat_map}
@@ -72,11 +74,14 @@ waiting_taken item_in width n w reader items more within read =
 
 -- a row after a row
 pub rows_taken : {A : Type 0} (item_in : List ℕ → A) (width m n : ℕ) (w v u : Awaited) (a b d : Option (List ℕ)) (items more all : List A) →
-    TakesRow item_in width m w a v b items more → TakesRow item_in width n v b u d more all → TakesRow item_in width (m + n) w a u d items all
+    TakesRow item_in width m w a v b items more → TakesRow item_in width n v b u d more all →
+    TakesRow item_in width (m + n) w a u d items all
 rows_taken item_in width m n w v u a b d items more all first second =
     record {
       bytes = first.bytes ++ second.bytes;
-      size = length-append first.bytes second.bytes ∙ ap (λ k. k + length second.bytes) first.size ∙ ap (λ k. width * m + k) second.size ∙ mul-add width m n;
+      size =
+          length-append first.bytes second.bytes ∙ ap (λ k. k + length second.bytes) first.size
+          ∙ ap (λ k. width * m + k) second.size ∙ mul-add width m n;
       takes = takes_more w v u a b d first.bytes second.bytes first.takes second.takes;
       encoded = second.encoded ∙ ap (λ l. l ++ row_in item_in width n second.bytes) first.encoded
           ∙ append_assoc items (row_in item_in width m first.bytes) (row_in item_in width n second.bytes)
@@ -87,7 +92,8 @@ rows_taken item_in width m n w v u a b d items more all first second =
     mul-add x m n = omega arith
 
 -- no item was taken yet
-pub none_taken : {A : Type 0} (item_in : List ℕ → A) (width n : ℕ) (w : Awaited) (a : Option (List ℕ)) (items : List A) → n ≡ 0 → TakesRow item_in width n w a w a items items
+pub none_taken : {A : Type 0} (item_in : List ℕ → A) (width n : ℕ) (w : Awaited) (a : Option (List ℕ)) (items : List A) →
+    n ≡ 0 → TakesRow item_in width n w a w a items items
 none_taken item_in width zero w a items none =
     record {
       bytes = [];
@@ -115,10 +121,11 @@ one_missing item_in width m count w u a b items more row fewer within =
     mul-one-more x n = omega arith
 
 -- a part of a list of texts, and what stands after it
-parts_encoded : {A : Type 0} (encoding : A → List ℕ) (rest few after : List A) (done all : List ℕ) → rest ≡ few ++ after → all ≡ done ++ flat_map encoding rest →
-    all ≡ (done ++ flat_map encoding few) ++ flat_map encoding after
+parts_encoded : {A : Type 0} (encoding : A → List ℕ) (rest few after : List A) (done all : List ℕ) → rest ≡ few ++ after →
+    all ≡ done ++ flat_map encoding rest → all ≡ (done ++ flat_map encoding few) ++ flat_map encoding after
 parts_encoded encoding rest few after done all split so_far =
-    so_far ∙ ap (λ l. done ++ flat_map encoding l) split ∙ ap (λ l. done ++ l) (flat_map-append encoding few after) ∙ sym (append_assoc done (flat_map encoding few) (flat_map encoding after))
+    so_far ∙ ap (λ l. done ++ flat_map encoding l) split ∙ ap (λ l. done ++ l) (flat_map-append encoding few after)
+    ∙ sym (append_assoc done (flat_map encoding few) (flat_map encoding after))
 
 -- what went out but for what waits, and what is still to be put
 pub record IsPutBut {A : Type 0} (encoding : A → List ℕ) (old new : Option (List ℕ)) (waiting all : List ℕ) (rest : List A) : Type 0 where
@@ -126,7 +133,8 @@ pub record IsPutBut {A : Type 0} (encoding : A → List ℕ) (old new : Option (
   pub sent : AppendsBut old new waiting done
   pub split : all ≡ done ++ flat_map encoding rest
 
-pub few_put : {A : Type 0} (encoding : A → List ℕ) (a b d : Option (List ℕ)) (waiting left all : List ℕ) (rest few after : List A) → rest ≡ few ++ after →
+pub few_put : {A : Type 0} (encoding : A → List ℕ) (a b d : Option (List ℕ)) (waiting left all : List ℕ)
+    (rest few after : List A) → rest ≡ few ++ after →
     IsPutBut encoding a b waiting all rest → AppendsBut b d left (waiting ++ flat_map encoding few) → IsPutBut encoding a d left all after
 few_put encoding a b d waiting left all rest few after split put more =
     record {
@@ -135,10 +143,12 @@ few_put encoding a b d waiting left all rest few after split put more =
       split = parts_encoded encoding rest few after put.done all split put.split;
     }
 
-pub few_broke : {A : Type 0} (encoding : A → List ℕ) (a b d : Option (List ℕ)) (waiting all : List ℕ) (rest few after : List A) → rest ≡ few ++ after →
+pub few_broke : {A : Type 0} (encoding : A → List ℕ) (a b d : Option (List ℕ)) (waiting all : List ℕ)
+    (rest few after : List A) → rest ≡ few ++ after →
     IsPutBut encoding a b waiting all rest → AppendsPrefix b d (waiting ++ flat_map encoding few) → AppendsPrefix a d all
 few_broke encoding a b d waiting all rest few after split put broke =
-    broke_before a d all (put.done ++ flat_map encoding few) (flat_map encoding after) (parts_encoded encoding rest few after put.done all split put.split)
+    broke_before a d all (put.done ++ flat_map encoding few) (flat_map encoding after)
+    (parts_encoded encoding rest few after put.done all split put.split)
     (broke_more a b d waiting put.done (flat_map encoding few) put.sent broke)
 
 pub all_put : {A : Type 0} (encoding : A → List ℕ) (a b : Option (List ℕ)) (waiting all : List ℕ) (rest : List A) → length rest ≡ 0 →

@@ -1,5 +1,7 @@
 -- The bytes before the first NUL, by the place of that NUL.
-use Rattle.std.proofs.Common.{◌≡◌, ◌==◌, ◌+◌, ◌-◌, ◌≤◌, min, ℕ, Bool, true, false, List, [], ◌∷◌, ◌++◌, length, take, drop, replicate, cond, refl, sym, ap, ◌∙◌, arith, if◌then◌else◌, zero, suc, nat_lt, ltb, Some, None}
+use Rattle.std.proofs.Common.{◌≡◌, ◌==◌, ◌+◌, ◌-◌, ◌≤◌, min, ℕ, Bool, true, false, List, [], ◌∷◌, ◌++◌}
+use Rattle.std.proofs.Common.{length, take, drop, replicate, cond, refl, sym, ap, ◌∙◌, arith, if◌then◌else◌}
+use Rattle.std.proofs.Common.{zero, suc, nat_lt, ltb, Some, None}
 use Rattle.std.proofs.lemmas.Bool.{ltb-false}
 use Rattle.std.proofs.lemmas.List.{take_all, drop-replicate, take_min, take-replicate}
 use Rattle.std.proofs.Math.Seq.{take-append-add}
@@ -14,13 +16,15 @@ length-chosen true b xs = refl
 length-chosen false b xs = omega arith
 
 pub position_or_len-nul : (xs : List ℕ) → position_or_len (λ b. b == 0) xs ≡ length (before_nul xs)
-position_or_len-nul xs = sym (is_position_or_len (λ l. length (before_nul l)) (λ b. b == 0) refl (λ b l. length-chosen (b == 0) b (before_nul l)) xs)
+position_or_len-nul xs =
+    sym (is_position_or_len (λ l. length (before_nul l)) (λ b. b == 0) refl (λ b l. length-chosen (b == 0) b (before_nul l)) xs)
 
 pub take-before_nul : (xs : List ℕ) → take (length (before_nul xs)) xs ≡ before_nul xs
 take-before_nul [] = refl
 take-before_nul (b ∷ xs) = by (b == 0) (take-before_nul xs)
   where
-    by : (c : Bool) → take (length (before_nul xs)) xs ≡ before_nul xs → take (length (if c then [] else b ∷ before_nul xs)) (b ∷ xs) ≡ (if c then [] else b ∷ before_nul xs)
+    by : (c : Bool) → take (length (before_nul xs)) xs ≡ before_nul xs →
+        take (length (if c then [] else b ∷ before_nul xs)) (b ∷ xs) ≡ (if c then [] else b ∷ before_nul xs)
     by true h = refl
     by false h = ap (λ l. b ∷ l) h
 
@@ -47,7 +51,8 @@ pub before_nul-twice : (xs : List ℕ) → before_nul (before_nul xs) ≡ before
 before_nul-twice [] = refl
 before_nul-twice (b ∷ xs) = by (b == 0) refl (before_nul-twice xs)
   where
-    by : (c : Bool) → (b == 0) ≡ c → before_nul (before_nul xs) ≡ before_nul xs → before_nul (if c then [] else b ∷ before_nul xs) ≡ (if c then [] else b ∷ before_nul xs)
+    by : (c : Bool) → (b == 0) ≡ c → before_nul (before_nul xs) ≡ before_nul xs →
+        before_nul (if c then [] else b ∷ before_nul xs) ≡ (if c then [] else b ∷ before_nul xs)
     by true e h = refl
     by false e h = ap (λ c. if c then [] else b ∷ before_nul (before_nul xs)) e ∙ ap (λ l. b ∷ l) h
 
@@ -64,7 +69,8 @@ nul_found xs n e = by (nat_lt (position_or_len (λ b. b == 0) xs) (length xs)) e
 pub nul_missing : (xs : List ℕ) → None ≡ position (λ b. b == 0) xs → length xs ≡ length (before_nul xs)
 nul_missing xs e = by (nat_lt (position_or_len (λ b. b == 0) xs) (length xs)) refl e
   where
-    by : (c : Bool) → nat_lt (position_or_len (λ b. b == 0) xs) (length xs) ≡ c → None ≡ cond c (Some (position_or_len (λ b. b == 0) xs)) None → length xs ≡ length (before_nul xs)
+    by : (c : Bool) → nat_lt (position_or_len (λ b. b == 0) xs) (length xs) ≡ c →
+        None ≡ cond c (Some (position_or_len (λ b. b == 0) xs)) None → length xs ≡ length (before_nul xs)
     by true t h = cc
     by false t h = omega (arith, ltb-false _ _ t, position_or_len-nul xs, length-before_nul-le xs)
 
@@ -72,10 +78,12 @@ nul_missing xs e = by (nat_lt (position_or_len (λ b. b == 0) xs) (length xs)) r
 pub padded-short : (name : List ℕ) (n : ℕ) → length name ≡ n → n ≤ 8 → padded name ≡ name ++ replicate (8 - n) 0
 padded-short name n e h =
     let split : length name + (8 - n) ≡ 8 = omega arith in
-    ap (λ k. take k (name ++ replicate 8 0)) (sym split) ∙ take-append-add name (replicate 8 0) (8 - n) ∙ ap (λ l. name ++ l) (take-replicate (8 - n) 8 0 (omega arith))
+    ap (λ k. take k (name ++ replicate 8 0)) (sym split) ∙ take-append-add name (replicate 8 0) (8 - n)
+    ∙ ap (λ l. name ++ l) (take-replicate (8 - n) 8 0 (omega arith))
 
 -- the first bytes of a text, filled up to eight with NULs, have the same name
-pub name_filled : (text bytes : List ℕ) (n : ℕ) → n ≡ min (length text) 8 → bytes ≡ take n text ++ drop n (replicate 8 0) → before_nul bytes ≡ take 8 (before_nul text)
+pub name_filled : (text bytes : List ℕ) (n : ℕ) → n ≡ min (length text) 8 →
+    bytes ≡ take n text ++ drop n (replicate 8 0) → before_nul bytes ≡ take 8 (before_nul text)
 name_filled text bytes n e b =
     let front : take n text ≡ take 8 text = ap (λ k. take k text) (omega (arith, e)) ∙ take_min 8 text in
     ap before_nul (b ∙ (λ i. front i ++ drop-replicate n 8 0 i)) ∙ before_nul-filled text 8 (8 - n)
@@ -92,10 +100,12 @@ cut_padded xs cut long is =
 
 -- eight lanes of which those below `end` are kept
 pub lanes_kept : (bytes : List ℕ) (end : ℕ) → length bytes ≡ 8 → end ≤ 8
-    → sel_l (zip2 ltb (0 ∷ 1 ∷ 2 ∷ 3 ∷ 4 ∷ 5 ∷ 6 ∷ 7 ∷ []) (replicate 8 end)) bytes (replicate 8 0) ≡ take end bytes ++ replicate (8 - end) 0
+    → sel_l (zip2 ltb (0 ∷ 1 ∷ 2 ∷ 3 ∷ 4 ∷ 5 ∷ 6 ∷ 7 ∷ []) (replicate 8 end)) bytes (replicate 8 0)
+    ≡ take end bytes ++ replicate (8 - end) 0
 lanes_kept (a ∷ b ∷ c ∷ d ∷ e ∷ f ∷ g ∷ h ∷ []) end long within = by end within
   where
-    by : (n : ℕ) → n ≤ 8 → sel_l (zip2 ltb (0 ∷ 1 ∷ 2 ∷ 3 ∷ 4 ∷ 5 ∷ 6 ∷ 7 ∷ []) (replicate 8 n)) (a ∷ b ∷ c ∷ d ∷ e ∷ f ∷ g ∷ h ∷ []) (replicate 8 0)
+    by : (n : ℕ) → n ≤ 8 → sel_l (zip2 ltb (0 ∷ 1 ∷ 2 ∷ 3 ∷ 4 ∷ 5 ∷ 6 ∷ 7 ∷ []) (replicate 8 n))
+        (a ∷ b ∷ c ∷ d ∷ e ∷ f ∷ g ∷ h ∷ []) (replicate 8 0)
         ≡ take n (a ∷ b ∷ c ∷ d ∷ e ∷ f ∷ g ∷ h ∷ []) ++ replicate (8 - n) 0
     by zero l = refl
     by (suc zero) l = refl

@@ -1,5 +1,6 @@
 -- Names are ordered as the numbers of their eight bytes, the first byte the highest.
-use Rattle.std.proofs.Common.{◌≡◌, ◌+◌, ◌*◌, ◌-◌, ◌<◌, ◌≤◌, ℕ, zero, suc, Bool, true, false, ◌==◌, if◌then◌else◌, List, [], ◌∷◌, ◌++◌, length, drop, replicate, get_or, refl, sym, ap, subst, ◌∙◌, arith, w64}
+use Rattle.std.proofs.Common.{◌≡◌, ◌+◌, ◌*◌, ◌-◌, ◌<◌, ◌≤◌, ℕ, zero, suc, Bool, true, false, ◌==◌, if◌then◌else◌, List}
+use Rattle.std.proofs.Common.{[], ◌∷◌, ◌++◌, length, drop, replicate, get_or, refl, sym, ap, subst, ◌∙◌, arith, w64}
 use Rattle.std.proofs.Math.Nat.{mul-le-mul_right}
 use Rattle.std.proofs.lemmas.Bool.{eqb-false}
 use Rattle.std.proofs.lemmas.Cmp.{ranked}
@@ -65,7 +66,8 @@ number-lt (b ∷ bs) small =
     fits : b < 256 → b ≤ 255
     fits h = omega arith
 
-number-cmp : (xs ys : List ℕ) → length xs ≡ length ys → ((i : ℕ) → get_or xs i 0 < 256) → ((i : ℕ) → get_or ys i 0 < 256) → nat_cmp (number xs) (number ys) ≡ slice_cmp nat_cmp xs ys
+number-cmp : (xs ys : List ℕ) → length xs ≡ length ys → ((i : ℕ) → get_or xs i 0 < 256) →
+    ((i : ℕ) → get_or ys i 0 < 256) → nat_cmp (number xs) (number ys) ≡ slice_cmp nat_cmp xs ys
 number-cmp [] [] long small low = refl
 number-cmp [] (y ∷ ys) long small low = absurd (omega arith)
 number-cmp (x ∷ xs) [] long small low = absurd (omega arith)
@@ -83,8 +85,10 @@ number_8 (a ∷ b ∷ c ∷ d ∷ e ∷ f ∷ g ∷ h ∷ []) long =
     let flat : from_be_bytes w64 (a ∷ b ∷ c ∷ d ∷ e ∷ f ∷ g ∷ h ∷ [])
     ≡ a * 72057594037927936 + b * 281474976710656 + c * 1099511627776 + d * 4294967296 + e * 16777216 + f * 65536 + g * 256 + h = refl in
     let nested : number (a ∷ b ∷ c ∷ d ∷ e ∷ f ∷ g ∷ h ∷ [])
-    ≡ a * 72057594037927936 + (b * 281474976710656 + (c * 1099511627776 + (d * 4294967296 + (e * 16777216 + (f * 65536 + (g * 256 + (h * 1 + 0))))))) = refl in
-    flat ∙ same (a * 72057594037927936) (b * 281474976710656) (c * 1099511627776) (d * 4294967296) (e * 16777216) (f * 65536) (g * 256) h ∙ sym nested
+    ≡ a * 72057594037927936 + (b * 281474976710656
+    + (c * 1099511627776 + (d * 4294967296 + (e * 16777216 + (f * 65536 + (g * 256 + (h * 1 + 0))))))) = refl in
+    flat ∙ same (a * 72057594037927936) (b * 281474976710656) (c * 1099511627776) (d * 4294967296) (e * 16777216)
+    (f * 65536) (g * 256) h ∙ sym nested
   where
     same : (a b c d e f g h : ℕ) → a + b + c + d + e + f + g + h ≡ a + (b + (c + (d + (e + (f + (g + (h * 1 + 0)))))))
     same a b c d e f g h = omega arith
@@ -105,31 +109,40 @@ no_nul b xs = by (b == 0) refl
     by false e h = let other = eqb-false b 0 e in (omega (arith, other), ap (drop 1) h)
 
 -- NULs at the end change no order of texts without NULs
-filled_cmp : (xs ys : List ℕ) (m n : ℕ) → before_nul xs ≡ xs → before_nul ys ≡ ys → length xs + m ≡ length ys + n → slice_cmp nat_cmp (xs ++ replicate m 0) (ys ++ replicate n 0) ≡ slice_cmp nat_cmp xs ys
-filled_cmp [] [] m n p q long = let same : n ≡ m = omega arith in ap (λ k. slice_cmp nat_cmp (replicate m 0) (replicate k 0)) same ∙ itself m
+filled_cmp : (xs ys : List ℕ) (m n : ℕ) → before_nul xs ≡ xs → before_nul ys ≡ ys → length xs + m ≡ length ys + n →
+    slice_cmp nat_cmp (xs ++ replicate m 0) (ys ++ replicate n 0) ≡ slice_cmp nat_cmp xs ys
+filled_cmp [] [] m n p q long =
+    let same : n ≡ m = omega arith in ap (λ k. slice_cmp nat_cmp (replicate m 0) (replicate k 0)) same ∙ itself m
   where
     itself : (k : ℕ) → slice_cmp nat_cmp (replicate k 0) (replicate k 0) ≡ Equal
     itself zero = refl
     itself (suc k) = itself k
 filled_cmp [] (y ∷ ys) zero n p q long = absurd (omega arith)
-filled_cmp [] (y ∷ ys) (suc m) n p q long = ap (λ o. ordering_then o (slice_cmp nat_cmp (replicate m 0) (ys ++ replicate n 0))) (is_less 0 y (no_nul y ys q).0)
+filled_cmp [] (y ∷ ys) (suc m) n p q long =
+    ap (λ o. ordering_then o (slice_cmp nat_cmp (replicate m 0) (ys ++ replicate n 0))) (is_less 0 y (no_nul y ys q).0)
 filled_cmp (x ∷ xs) [] m zero p q long = absurd (omega arith)
-filled_cmp (x ∷ xs) [] m (suc n) p q long = ap (λ o. ordering_then o (slice_cmp nat_cmp (xs ++ replicate m 0) (replicate n 0))) (is_greater x 0 (no_nul x xs p).0)
-filled_cmp (x ∷ xs) (y ∷ ys) m n p q long = ap (ordering_then (nat_cmp x y)) (filled_cmp xs ys m n (no_nul x xs p).1 (no_nul y ys q).1 (omega arith))
+filled_cmp (x ∷ xs) [] m (suc n) p q long =
+    ap (λ o. ordering_then o (slice_cmp nat_cmp (xs ++ replicate m 0) (replicate n 0))) (is_greater x 0 (no_nul x xs p).0)
+filled_cmp (x ∷ xs) (y ∷ ys) m n p q long =
+    ap (ordering_then (nat_cmp x y)) (filled_cmp xs ys m n (no_nul x xs p).1 (no_nul y ys q).1 (omega arith))
 
 pub names_ordered : (a b : List ℕ) → length a ≡ 8 → length b ≡ 8 → ((i : ℕ) → get_or a i 0 < 256) → ((i : ℕ) → get_or b i 0 < 256)
-    → padded (before_nul a) ≡ a → padded (before_nul b) ≡ b → nat_cmp (from_be_bytes w64 a) (from_be_bytes w64 b) ≡ slice_cmp nat_cmp (before_nul a) (before_nul b)
+    → padded (before_nul a) ≡ a → padded (before_nul b) ≡ b →
+    nat_cmp (from_be_bytes w64 a) (from_be_bytes w64 b) ≡ slice_cmp nat_cmp (before_nul a) (before_nul b)
 names_ordered a b eight long small low p q =
     (λ i. nat_cmp (number_8 a eight i) (number_8 b long i))
     ∙ number-cmp a b (omega arith) small low
     ∙ (λ i. slice_cmp nat_cmp (form a eight p i) (form b long q i))
-    ∙ filled_cmp (before_nul a) (before_nul b) (8 - length (before_nul a)) (8 - length (before_nul b)) (before_nul-twice a) (before_nul-twice b) (omega (arith, length-before_nul-le a, length-before_nul-le b))
+    ∙ filled_cmp (before_nul a) (before_nul b) (8 - length (before_nul a)) (8 - length (before_nul b))
+    (before_nul-twice a) (before_nul-twice b) (omega (arith, length-before_nul-le a, length-before_nul-le b))
   where
     form : (c : List ℕ) → length c ≡ 8 → padded (before_nul c) ≡ c → c ≡ before_nul c ++ replicate (8 - length (before_nul c)) 0
     form c eight is = sym is ∙ padded-short (before_nul c) (length (before_nul c)) refl (omega (arith, length-before_nul-le c))
 
 -- two names have the same number exactly where they are alike
 pub names_alike : (a b : List ℕ) → length a ≡ 8 → length b ≡ 8 → ((i : ℕ) → get_or a i 0 < 256) → ((i : ℕ) → get_or b i 0 < 256)
-    → padded (before_nul a) ≡ a → padded (before_nul b) ≡ b → nat_eq (from_be_bytes w64 a) (from_be_bytes w64 b) ≡ pointwise nat_eq (before_nul a) (before_nul b)
+    → padded (before_nul a) ≡ a → padded (before_nul b) ≡ b →
+    nat_eq (from_be_bytes w64 a) (from_be_bytes w64 b) ≡ pointwise nat_eq (before_nul a) (before_nul b)
 names_alike a b eight long small low p q =
-    unsigned_ties (from_be_bytes w64 a) (from_be_bytes w64 b) ∙ ap is_eq (names_ordered a b eight long small low p q) ∙ sym (texts_ties (before_nul a) (before_nul b))
+    unsigned_ties (from_be_bytes w64 a) (from_be_bytes w64 b) ∙ ap is_eq (names_ordered a b eight long small low p q)
+    ∙ sym (texts_ties (before_nul a) (before_nul b))

@@ -8,16 +8,19 @@ use Rattle.aout_core.specs.internal.Blocks.{AppendsBut, PutsBut}
 use Rattle.aout_core.proofs.PutsLemmas.{front_before}
 
 -- the text after a text that broke off
-pub broke_before : (a b : Option (List ℕ)) (all first second : List ℕ) → all ≡ first ++ second → AppendsPrefix a b first → AppendsPrefix a b all
+pub broke_before : (a b : Option (List ℕ)) (all first second : List ℕ) → all ≡ first ++ second →
+    AppendsPrefix a b first → AppendsPrefix a b all
 broke_before a b all first second e broke = subst (AppendsPrefix a b) (sym e) (front_before a b first second broke)
 
 -- a write that broke off leaves a prefix, whatever waits
-pub broke_off : {T E : Type 0} (r : Result T E) (a b : Option (List ℕ)) (waiting bytes : List ℕ) → IsErr r → AppendsPrefix a b bytes → PutsBut r a b waiting bytes
+pub broke_off : {T E : Type 0} (r : Result T E) (a b : Option (List ℕ)) (waiting bytes : List ℕ) → IsErr r →
+    AppendsPrefix a b bytes → PutsBut r a b waiting bytes
 broke_off (Ok x) a b waiting bytes h p = absurd (cc)
 broke_off (Err e) a b waiting bytes h p = p
 
 -- a text went out but for what waits, and then what waits and more
-pub appends_but_more : (a b d : Option (List ℕ)) (waiting left text bytes : List ℕ) → AppendsBut a b waiting text → AppendsBut b d left (waiting ++ bytes) → AppendsBut a d left (text ++ bytes)
+pub appends_but_more : (a b d : Option (List ℕ)) (waiting left text bytes : List ℕ) → AppendsBut a b waiting text →
+    AppendsBut b d left (waiting ++ bytes) → AppendsBut a d left (text ++ bytes)
 appends_but_more a b d waiting left text bytes (sent, split, first) (later, rest, second) = (
   sent ++ later,
   ap (λ l. l ++ bytes) split ∙ append_assoc sent waiting bytes ∙ ap (λ l. sent ++ l) rest ∙ sym (append_assoc sent later left),
@@ -25,7 +28,8 @@ appends_but_more a b d waiting left text bytes (sent, split, first) (later, rest
 )
 
 -- a text went out but for what waits, and then a prefix of that and more
-pub broke_more : (a b d : Option (List ℕ)) (waiting text bytes : List ℕ) → AppendsBut a b waiting text → AppendsPrefix b d (waiting ++ bytes) → AppendsPrefix a d (text ++ bytes)
+pub broke_more : (a b d : Option (List ℕ)) (waiting text bytes : List ℕ) → AppendsBut a b waiting text →
+    AppendsPrefix b d (waiting ++ bytes) → AppendsPrefix a d (text ++ bytes)
 broke_more a b d waiting text bytes (sent, split, first) (front, rest, cut, second) = (
   sent ++ front,
   rest,
@@ -34,13 +38,15 @@ broke_more a b d waiting text bytes (sent, split, first) (front, rest, cut, seco
 )
 
 -- a text went out but for what waits, and then the answer says what was made of that and more
-pub puts_but_more : {T E : Type 0} (r : Result T E) (a b d : Option (List ℕ)) (waiting left text bytes : List ℕ) → AppendsBut a b waiting text → PutsBut r b d left (waiting ++ bytes) →
-    PutsBut r a d left (text ++ bytes)
+pub puts_but_more : {T E : Type 0} (r : Result T E) (a b d : Option (List ℕ)) (waiting left text bytes : List ℕ) →
+    AppendsBut a b waiting text → PutsBut r b d left (waiting ++ bytes) → PutsBut r a d left (text ++ bytes)
 puts_but_more (Ok x) a b d waiting left text bytes first second = appends_but_more a b d waiting left text bytes first second
 puts_but_more (Err e) a b d waiting left text bytes first second = broke_more a b d waiting text bytes first second
 
 -- what is announced went out at last
-pub put_at_last : {T E : Type 0} (r : Result T E) (a b d : Option (List ℕ)) (waiting text : List ℕ) → AppendsBut a b waiting text → Puts r b d waiting → Puts r a d text
-put_at_last (Ok x) a b d waiting text (sent, split, first) second = subst (Appends a d) (sym split) (Appends-trans a b d sent waiting first second)
+pub put_at_last : {T E : Type 0} (r : Result T E) (a b d : Option (List ℕ)) (waiting text : List ℕ) →
+    AppendsBut a b waiting text → Puts r b d waiting → Puts r a d text
+put_at_last (Ok x) a b d waiting text (sent, split, first) second =
+    subst (Appends a d) (sym split) (Appends-trans a b d sent waiting first second)
 put_at_last (Err e) a b d waiting text (sent, split, first) (front, rest, cut, second) =
     (sent ++ front, rest, split ∙ ap (λ l. sent ++ l) cut ∙ sym (append_assoc sent front rest), Appends-trans a b d sent front first second)

@@ -1,5 +1,7 @@
 -- A header and the bytes after it, put together again.
-use Rattle.std.proofs.Common.{◌≡◌, ℕ, ◌+◌, ◌<◌, ◌≤◌, true, false, List, [], ◌++◌, take, drop, length, replicate, Option, Some, None, IfSome, refl, sym, ◌∙◌, ap, subst, arith, append_assoc, append-nil, length-append, take_at, drop_at, take_all, le-ltb, lt-ltb}
+use Rattle.std.proofs.Common.{◌≡◌, ℕ, ◌+◌, ◌<◌, ◌≤◌, true, false, List, [], ◌++◌, take, drop, length, replicate, Option}
+use Rattle.std.proofs.Common.{Some, None, IfSome, refl, sym, ◌∙◌, ap, subst, arith, append_assoc, append-nil}
+use Rattle.std.proofs.Common.{length-append, take_at, drop_at, take_all, le-ltb, lt-ltb}
 use Rattle.std.specs.Prelude.{Result, Ok, Err, nat_lt}
 use Rattle.aout_core.specs.declared.header.Header.{Header}
 use Rattle.aout_core.specs.declared.file.ReadFault.{ReadFault}
@@ -56,21 +58,25 @@ decode_by bytes rest h b = ap (λ (x : Header). decode_with x bytes) b.encoded
 bad_magic : (bytes rest : List ℕ) (h : Header) → Begins bytes rest h → is_magic h.magic ≡ false → decode bytes ≡ Err BadMagic
 bad_magic bytes rest h b bad = decode_by bytes rest h b ∙ rw (has_sixteen bytes rest h b, bad) refl
 
-odd_size : (bytes rest : List ℕ) (h : Header) → Begins bytes rest h → is_magic h.magic ≡ true → has_whole_sizes h ≡ false → decode bytes ≡ Err OddSize
+odd_size : (bytes rest : List ℕ) (h : Header) → Begins bytes rest h → is_magic h.magic ≡ true →
+    has_whole_sizes h ≡ false → decode bytes ≡ Err OddSize
 odd_size bytes rest h b magic bad = decode_by bytes rest h b ∙ rw (has_sixteen bytes rest h b, magic, bad) refl
 
-truncated : (bytes rest : List ℕ) (h : Header) → Begins bytes rest h → IsFileHeader h → 16 + length rest < file_length h → decode bytes ≡ Err Truncated
+truncated : (bytes rest : List ℕ) (h : Header) → Begins bytes rest h → IsFileHeader h →
+    16 + length rest < file_length h → decode bytes ≡ Err Truncated
 truncated bytes rest h b good lt =
     let short : nat_lt (length bytes) (file_length h) ≡ true = lt-ltb _ _ (omega (arith, length-begins bytes rest h b)) in
     decode_by bytes rest h b ∙ rw (has_sixteen bytes rest h b, good.magic, good.sizes, short) refl
 
-whole_file : (bytes rest : List ℕ) (h : Header) → Begins bytes rest h → IsFileHeader h → file_length h ≤ 16 + length rest → decode bytes ≡ Ok (contents_in h bytes)
+whole_file : (bytes rest : List ℕ) (h : Header) → Begins bytes rest h → IsFileHeader h →
+    file_length h ≤ 16 + length rest → decode bytes ≡ Ok (contents_in h bytes)
 whole_file bytes rest h b good le =
     let long : nat_lt (length bytes) (file_length h) ≡ false = le-ltb _ _ (omega (arith, length-begins bytes rest h b)) in
     decode_by bytes rest h b ∙ rw (has_sixteen bytes rest h b, good.magic, good.sizes, long) refl
 
 -- the end came early: these were all the bytes
-early_end : (bytes : List ℕ) (left : Option (List ℕ)) (before size : ℕ) → EndsEarly (Some bytes) left before size → (before + length bytes < size) × (left ≡ Some [])
+early_end : (bytes : List ℕ) (left : Option (List ℕ)) (before size : ℕ) → EndsEarly (Some bytes) left before size →
+    (before + length bytes < size) × (left ≡ Some [])
 early_end bytes None before size e = absurd e.taken
 early_end bytes (Some rest) before size e =
     let same : bytes ≡ e.bytes = e.taken ∙ ap (λ l. e.bytes ++ l) e.end ∙ append-nil e.bytes in
@@ -80,7 +86,8 @@ short_header : (bytes : List ℕ) → length bytes < 16 → decode bytes ≡ Err
 short_header bytes h = let short : nat_lt (length bytes) 16 ≡ true = lt-ltb _ _ h in rw short refl
 
 -- a header that is refused is what the text begins with
-pub refused_header : (e : ReadFault) (bytes : List ℕ) (left : Option (List ℕ)) → IsHeaderRead (Some bytes) left (Err e) → IsReadOf (Err e) bytes × LeavesAfter (Err e) bytes left
+pub refused_header : (e : ReadFault) (bytes : List ℕ) (left : Option (List ℕ)) →
+    IsHeaderRead (Some bytes) left (Err e) → IsReadOf (Err e) bytes × LeavesAfter (Err e) bytes left
 refused_header ShortHeader bytes left r = let end = early_end bytes left 0 16 r in (short_header bytes (omega arith), end.1)
 refused_header BadMagic bytes None (h, t, bad) = absurd t.taken
 refused_header BadMagic bytes (Some rest) (h, t, bad) =
@@ -92,22 +99,26 @@ refused_header Memory bytes left r = absurd r
 refused_header Truncated bytes left r = absurd r
 refused_header Device bytes left r = (tt, tt)
 
-file_after : (c : Contents) (bytes rest : List ℕ) (left : Option (List ℕ)) (h : Header) → Begins bytes rest h → IsFileHeader h → TakesBody h (Some rest) left c →
-    IsReadOf (Ok c) bytes × LeavesAfter (Ok c) bytes left
+file_after : (c : Contents) (bytes rest : List ℕ) (left : Option (List ℕ)) (h : Header) → Begins bytes rest h →
+    IsFileHeader h → TakesBody h (Some rest) left c → IsReadOf (Ok c) bytes × LeavesAfter (Ok c) bytes left
 file_after c bytes rest None h b good t = absurd t.taken
 file_after c bytes rest (Some more) h b good t =
     let whole : bytes ≡ b.start ++ (t.body ++ more) = b.whole ∙ ap (λ l. b.start ++ l) t.taken in
     let header : c.header ≡ h = ap (λ (x : Contents). x.header) (t.encoded b.start more b.long) in
     let long : length rest ≡ length t.body + length more = ap length t.taken ∙ length-append t.body more in
     let same : contents_in h bytes ≡ c = ap (contents_in h) whole ∙ sym (t.encoded b.start more b.long) in
-    let size : length (b.start ++ t.body) ≡ file_length c.header = length-append b.start t.body ∙ ap (λ n. n + length t.body) b.long ∙ t.long ∙ ap file_length (sym header) in
+    let size : length (b.start ++ t.body) ≡ file_length c.header =
+    length-append b.start t.body ∙ ap (λ n. n + length t.body) b.long ∙ t.long ∙ ap file_length (sym header) in
     let after : drop (file_length c.header) bytes ≡ more =
-    ap (drop (file_length c.header)) (whole ∙ sym (append_assoc b.start t.body more)) ∙ drop_at (b.start ++ t.body) more (file_length c.header) size in
-    (whole_file bytes rest h b good (omega (arith, t.long)) ∙ ap (λ (x : Contents). let r : Result Contents ReadFault = Ok x in r) same, ap Some (sym after))
+    ap (drop (file_length c.header)) (whole ∙ sym (append_assoc b.start t.body more))
+    ∙ drop_at (b.start ++ t.body) more (file_length c.header) size in (
+      whole_file bytes rest h b good (omega (arith, t.long)) ∙ ap (λ (x : Contents). let r : Result Contents ReadFault = Ok x in r) same,
+      ap Some (sym after),
+    )
 
 -- what was read after the header is what the text begins with
-pub read_after : (r : Result Contents ReadFault) (bytes : List ℕ) (mid left : Option (List ℕ)) (h : Header) → TakesHeader (Some bytes) mid h → IsFileHeader h → IsBodyRead h mid left r →
-    IsReadOf r bytes × LeavesAfter r bytes left
+pub read_after : (r : Result Contents ReadFault) (bytes : List ℕ) (mid left : Option (List ℕ)) (h : Header) →
+    TakesHeader (Some bytes) mid h → IsFileHeader h → IsBodyRead h mid left r → IsReadOf r bytes × LeavesAfter r bytes left
 read_after r bytes None left h t good body = absurd t.taken
 read_after (Ok c) bytes (Some rest) left h t good body = file_after c bytes rest left h (begins bytes rest h t) good body
 read_after (Err ShortHeader) bytes (Some rest) left h t good body = absurd body
@@ -125,11 +136,12 @@ read_after (Err Truncated) bytes (Some rest) left h t good body =
 read_after (Err Device) bytes (Some rest) left h t good body = (tt, tt)
 
 -- the same where the reader may not tell its bytes
-pub refused_if_known : (e : ReadFault) (old left : Option (List ℕ)) → IsHeaderRead old left (Err e) → IfSome old (λ bytes. IsReadOf (Err e) bytes × LeavesAfter (Err e) bytes left)
+pub refused_if_known : (e : ReadFault) (old left : Option (List ℕ)) → IsHeaderRead old left (Err e) →
+    IfSome old (λ bytes. IsReadOf (Err e) bytes × LeavesAfter (Err e) bytes left)
 refused_if_known e None left r = tt
 refused_if_known e (Some bytes) left r = refused_header e bytes left r
 
-pub read_if_known : (r : Result Contents ReadFault) (old mid left : Option (List ℕ)) (h : Header) → TakesHeader old mid h → IsFileHeader h → IsBodyRead h mid left r →
-    IfSome old (λ bytes. IsReadOf r bytes × LeavesAfter r bytes left)
+pub read_if_known : (r : Result Contents ReadFault) (old mid left : Option (List ℕ)) (h : Header) → TakesHeader old mid h →
+    IsFileHeader h → IsBodyRead h mid left r → IfSome old (λ bytes. IsReadOf r bytes × LeavesAfter r bytes left)
 read_if_known r None mid left h t good body = tt
 read_if_known r (Some bytes) mid left h t good body = read_after r bytes mid left h t good body

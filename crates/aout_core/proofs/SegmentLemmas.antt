@@ -6,7 +6,8 @@ use Rattle.aout_core.specs.declared.symbol.Segment.TheVariants.{Undefined, Absol
 use Rattle.aout_core.specs.WellFormed.{segment_numbered}
 
 -- what holds of each segment holds of the one with a number, where 0 alone is the number of no definition
-pub by_number : (P : Bool → Segment → Type 0) → P true Undefined → P false Absolute → P false TextSeg → P false DataSeg → P false BssSeg → P false Other → (n : ℕ) → P (eqb n 0) (segment_numbered n)
+pub by_number : (P : Bool → Segment → Type 0) → P true Undefined → P false Absolute → P false TextSeg →
+    P false DataSeg → P false BssSeg → P false Other → (n : ℕ) → P (eqb n 0) (segment_numbered n)
 by_number P undefined absolute text datas bss other zero = undefined
 by_number P undefined absolute text datas bss other (suc zero) = absolute
 by_number P undefined absolute text datas bss other (suc (suc zero)) = text

@@ -1,7 +1,9 @@
 -- An entry by its twelve bytes.
 use borrow.Rule.Slice.PartMut.{put_mid}
 use Rattle.std.proofs.lemmas.List.{drop_all}
-use Rattle.std.proofs.Common.{◌≡◌, ℕ, ◌+◌, ◌*◌, ◌≤◌, List, [], ◌∷◌, ◌++◌, length, take, drop, slice_index_or, refl, sym, ap, ◌∙◌, arith, append_assoc, append-nil, length-append, length-drop, length-take, take_all, take_at, drop_at}
+use Rattle.std.proofs.Common.{◌≡◌, ℕ, ◌+◌, ◌*◌, ◌≤◌, List, [], ◌∷◌, ◌++◌, length, take, drop, slice_index_or}
+use Rattle.std.proofs.Common.{refl, sym, ap, ◌∙◌, arith, append_assoc, append-nil, length-append, length-drop}
+use Rattle.std.proofs.Common.{length-take, take_all, take_at, drop_at}
 use Rattle.std.specs.Prelude.{slice_index}
 use Rattle.byteorder.specs.Endian.{little_number}
 use Rattle.aout_core.specs.declared.symbol.Symbol.{Symbol}
@@ -17,7 +19,8 @@ two_words (a ∷ (b ∷ (c ∷ (d ∷ (e ∷ (f ∷ (g ∷ (h ∷ (i ∷ (j ∷ 
 two_words _ e12 = absurd (omega arith)
 
 words_after_name : (bytes : List ℕ) → length bytes ≡ 12 →
-    (little_number 2 (part 8 2 bytes) ≡ slice_index_or bytes 8 0 + 256 * slice_index_or bytes 9 0) × (little_number 2 (part 10 2 bytes) ≡ slice_index_or bytes 10 0 + 256 * slice_index_or bytes 11 0)
+    (little_number 2 (part 8 2 bytes) ≡ slice_index_or bytes 8 0 + 256 * slice_index_or bytes 9 0)
+    × (little_number 2 (part 10 2 bytes) ≡ slice_index_or bytes 10 0 + 256 * slice_index_or bytes 11 0)
 words_after_name (a ∷ (b ∷ (c ∷ (d ∷ (e ∷ (f ∷ (g ∷ (h ∷ (i ∷ (j ∷ (k ∷ (l ∷ [])))))))))))) e12 = (omega arith, omega arith)
 words_after_name _ e12 = absurd (omega arith)
 

@@ -31,7 +31,8 @@ first_bad_word-append symbols i n (r ∷ rs) second e =
 -- why a file with the magic of an object and with relocation is none
 fault_of_words : (c : Contents) → c.header.magic ≡ 263 → c.header.flag ≡ 0 →
     first_object_fault c ≡ first_of (first_bad_word c.symbols 0 c.text_reloc) (first_bad_word c.symbols (length c.text_reloc) c.data_reloc)
-fault_of_words c magic flag = rw (magic, flag) (first_bad_word-append c.symbols 0 (length c.text_reloc) c.text_reloc c.data_reloc (omega arith))
+fault_of_words c magic flag =
+    rw (magic, flag) (first_bad_word-append c.symbols 0 (length c.text_reloc) c.text_reloc c.data_reloc (omega arith))
 
 pub fault_in_text : (c : Contents) (fault : ObjectFault) → c.header.magic ≡ 263 → c.header.flag ≡ 0 →
     first_bad_word c.symbols 0 c.text_reloc ≡ Some fault → first_object_fault c ≡ Some fault

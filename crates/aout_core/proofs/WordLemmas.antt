@@ -22,7 +22,8 @@ is_read-words (a ∷ (b ∷ rest)) (d ∷ ds) long read =
     let here : d ≡ a + 256 * (b + 0) = read 0 (omega arith) in
     let first : d ≡ a + 256 * b = omega arith in
     let later : IsRead little_number 2 rest ds =
-    λ k within. let e : 2 * suc k ≡ suc (suc (2 * k)) = omega arith in read (suc k) (omega arith) ∙ ap (λ n. little_number 2 (drop n (a ∷ (b ∷ rest)))) e in
+    λ k within. let e : 2 * suc k ≡ suc (suc (2 * k)) =
+    omega arith in read (suc k) (omega arith) ∙ ap (λ n. little_number 2 (drop n (a ∷ (b ∷ rest)))) e in
     λ i. first i ∷ is_read-words rest ds (omega arith) later i
 
 pub little_bytes-words : (ws : List ℕ) → ((i : ℕ) → Fits w16 (slice_index ws i)) → flat_map (little_bytes 2) ws ≡ all_word_bytes ws

@@ -2,7 +2,8 @@
 --
 -- To read is to look at the 16 bytes of the header, to see whether its magic and its sizes may be in a file, and then to cut as
 -- many bytes from their places as the header says. What follows the last symbol is not part of the file.
-use Rattle.std.specs.Prelude.{ℕ, zero, suc, ◌+◌, ◌/◌, not, if◌then◌else◌, nat_lt, List, [], ◌∷◌, map, take, drop, length, slice_index, Result, Ok, Err}
+use Rattle.std.specs.Prelude.{ℕ, zero, suc, ◌+◌, ◌/◌, not, if◌then◌else◌, nat_lt, List, [], ◌∷◌, map}
+use Rattle.std.specs.Prelude.{take, drop, length, slice_index, Result, Ok, Err}
 use Rattle.aout_core.specs.declared.header.Header.{Header}
 use Rattle.aout_core.specs.declared.reloc.Reloc.{Reloc}
 use Rattle.aout_core.specs.declared.symbol.Symbol.{Symbol}

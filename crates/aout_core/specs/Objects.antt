@@ -11,4 +11,5 @@ use Rattle.aout_core.specs.WellFormed.{first_object_fault, IsWellFormed}
 abbrev pub IsObjectRead : Result Contents NoObject → List ℕ → Option (List ℕ) → Type 0
 IsObjectRead (Ok c) bytes left = IsReadOf (Ok c) bytes × LeavesAfter (Ok c) bytes left × IsWellFormed c
 IsObjectRead (Err (NotRead fault)) bytes left = IsReadOf (Err fault) bytes × LeavesAfter (Err fault) bytes left
-IsObjectRead (Err (NotFit fault)) bytes left = (c : Contents) × IsReadOf (Ok c) bytes × LeavesAfter (Ok c) bytes left × (first_object_fault c ≡ Some fault)
+IsObjectRead (Err (NotFit fault)) bytes left =
+    (c : Contents) × IsReadOf (Ok c) bytes × LeavesAfter (Ok c) bytes left × (first_object_fault c ≡ Some fault)

@@ -20,7 +20,8 @@ Puts result old new bytes = MatchResult result (λ _. Appends old new bytes) (λ
 
 -- a write of the bytes `text` to a wire, where a device holds its `contents`: all of them go out, or on a fault a prefix of
 -- them. It is a fault if and only if the latch is on afterwards. A wire whose latch was on is left as it was
-pub record Writes {W T E : Type 0} (contents : W → Option (List ℕ)) (result : Result T E) (old new : Latched W) (text : List ℕ) : Type 0 where
+pub record Writes {W T E : Type 0} (contents : W → Option (List ℕ)) (result : Result T E) (old new : Latched W)
+    (text : List ℕ) : Type 0 where
   pub fault : IsErr result ↔ IsTrue new.has_failed
   pub latched : IsTrue old.has_failed → (new ≡ old)
   pub bytes : Puts result (contents old.device) (contents new.device) text

@@ -1,5 +1,7 @@
 -- What a line of a script asks for.
-use Rattle.std.proofs.Common.{Result, Ok, Err, ◌≡◌, ◌≢◌, ◌==◌, ◌+◌, ℕ, Bool, true, false, not, if◌then◌else◌, List, ◌++◌, length, take, drop, refl, sym, ap, ◌∙◌, arith, take-append-drop, take_at, length-append}
+use Rattle.std.proofs.Common.{Result, Ok, Err, ◌≡◌, ◌≢◌, ◌==◌, ◌+◌, ℕ, Bool, true, false, not, if◌then◌else◌}
+use Rattle.std.proofs.Common.{List, ◌++◌, length, take, drop, refl, sym, ap, ◌∙◌, arith, take-append-drop}
+use Rattle.std.proofs.Common.{take_at, length-append}
 use Rattle.std.specs.Prelude.{IfErr, bytes_eq, codes, nat_lt}
 use Rattle.std.specs.Str.{IsUtf8, is_utf8}
 use Rattle.std.proofs.lemmas.Bool.{eqb-false, lt-ltb, and_from, and_left, false_from_ne_true}
@@ -16,7 +18,9 @@ where_err (Err e) P p = p
 pub path_without_word : (word line : List ℕ) → ((rest : List ℕ) → line ≢ word ++ rest) → has_path word line ≡ false
 path_without_word word line lacks =
     and_left (bytes_eq (take (length word) line) word) (nat_lt (length word) (length line))
-    (false_from_ne_true (bytes_eq (take (length word) line) word) (λ e. lacks (drop (length word) line) (sym (take-append-drop (length word) line) ∙ ap (λ (l : List ℕ). l ++ drop (length word) line) ((bytes_eq-Decides (take (length word) line) word).0 e))))
+    (false_from_ne_true (bytes_eq (take (length word) line) word)
+    (λ e. lacks (drop (length word) line) (sym (take-append-drop (length word) line)
+    ∙ ap (λ (l : List ℕ). l ++ drop (length word) line) ((bytes_eq-Decides (take (length word) line) word).0 e))))
 
 -- something stands after it
 pub path_of_some : (word line rest : List ℕ) → line ≡ word ++ rest → (length rest == 0) ≡ false → has_path word line ≡ true
@@ -24,7 +28,8 @@ path_of_some word line rest is some =
     let more : length rest ≡ 0 → ⊥ = eqb-false (length rest) 0 some in
     let whole : length line ≡ length word + length rest = ap (λ (l : List ℕ). length l) is ∙ length-append word rest in
     let front : take (length word) line ≡ word = ap (take (length word)) is ∙ take_at word rest (length word) refl in
-    and_from (bytes_eq (take (length word) line) word) (nat_lt (length word) (length line)) ((bytes_eq-Decides (take (length word) line) word).1 front) (lt-ltb (length word) (length line) (omega arith))
+    and_from (bytes_eq (take (length word) line) word) (nat_lt (length word) (length line))
+    ((bytes_eq-Decides (take (length word) line) word).1 front) (lt-ltb (length word) (length line) (omega arith))
 
 -- what a line that is text asks for
 abbrev asked_of_text : List ℕ → Asked
@@ -60,7 +65,14 @@ asked_externals line text is = is_text line text ∙ ap asked_of_text is
 pub asked_undefined : (line : List ℕ) → IsUtf8 line → line ≡ codes "undefined" → asked line ≡ for_undefined
 asked_undefined line text is = is_text line text ∙ ap asked_of_text is
 
-pub asked_link : (line : List ℕ) → IsUtf8 line → has_path (codes "add ") line ≡ false → (line ≡ codes "withdraw" → ⊥) → (line ≡ codes "externals" → ⊥) → (line ≡ codes "undefined" → ⊥) →
+pub asked_link : (line : List ℕ) → IsUtf8 line → has_path (codes "add ") line ≡ false → (line ≡ codes "withdraw" → ⊥) →
+    (line ≡ codes "externals" → ⊥) → (line ≡ codes "undefined" → ⊥) →
     has_path (codes "link ") line ≡ true → asked line ≡ to_link (drop 5 line)
 asked_link line text adds a b c links =
-    is_text line text ∙ rw (adds, is_other line (codes "withdraw") a, is_other line (codes "externals") b, is_other line (codes "undefined") c, links) refl
+    is_text line text ∙ rw (
+      adds,
+      is_other line (codes "withdraw") a,
+      is_other line (codes "externals") b,
+      is_other line (codes "undefined") c,
+      links,
+    ) refl

@@ -10,7 +10,8 @@ use Rattle.clap.specs.Kinds.{Kinds, or_else}
 use Rattle.clap.specs.Lexer.{long_of, short_of}
 use Rattle.clap.specs.Simple.{Shape, built, entered, names_of, subcommand_of}
 use Rattle.clap.specs.Walk.{Held, Names, Outcome, Row, Step, Text, Walk, after_flag, after_step, bundle_step}
-use Rattle.clap.specs.Walk.{bundle_met, idle, long_or_other, nothing_held, plain, short_or_plain, subcommand_met, subcommand_or_other, value, walk_from, walked}
+use Rattle.clap.specs.Walk.{bundle_met, idle, long_or_other, nothing_held, plain, short_or_plain, subcommand_met}
+use Rattle.clap.specs.Walk.{subcommand_or_other, value, walk_from, walked}
 use Rattle.clap.proofs.OnLiterals.{clap_on_literals}
 use Rattle.command_words.specs.declared.words.Call.{Call}
 use Rattle.command_words.specs.declared.reasons.Cause.{Cause}
@@ -89,7 +90,8 @@ walk_by met word = after_step [] word start (first_met met word).0 (first_met me
 abbrev ended : Walk
 ended = record start { is_trailing = true }
 
-module _ (word : Text) (rest : List Text) (none : subcommand_met tools idle word ≡ None) (taken : walk_fault top tools start (word ∷ rest) ≡ []) where
+module _ (word : Text) (rest : List Text) (none : subcommand_met tools idle word ≡ None)
+    (taken : walk_fault top tools start (word ∷ rest) ≡ []) where
   turn_taken : turn_fault top tools start word ≡ []
   unfolding clap_on_literals
   turn_taken = first_none (turn_fault top tools start word) _ taken
@@ -99,7 +101,8 @@ module _ (word : Text) (rest : List Text) (none : subcommand_met tools idle word
 
   -- it is `--`
   not_other : bytes_eq word dashes ≡ false → ⊥
-  not_other other = value_refused 1 (first_met None word).0 (first_met None word).1 (rw other (other_is_value (long_of word) word)) step_taken
+  not_other other =
+      value_refused 1 (first_met None word).0 (first_met None word).1 (rw other (other_is_value (long_of word) word)) step_taken
 
   walked_to : bytes_eq word dashes ≡ true → walked [] tools start word ≡ ended
   unfolding clap_on_literals
@@ -146,14 +149,16 @@ flipped word name other =
     absurd (cc))
 
 no_tool : (word : List ℕ) → tool_in word ≡ None → subcommand_met tools idle word ≡ None
-no_tool word e = by_tests (is (codes "ld")) (is (codes "nm")) (is (codes "session")) (is (codes "size")) (is (codes "strip")) refl refl refl refl refl e
+no_tool word e =
+    by_tests (is (codes "ld")) (is (codes "nm")) (is (codes "session")) (is (codes "size"))
+    (is (codes "strip")) refl refl refl refl refl e
   where
     is : List ℕ → Bool
     is name = bytes_eq word name
 
     by_tests : (ld nm session size strip : Bool) →
-        is (codes "ld") ≡ ld → is (codes "nm") ≡ nm → is (codes "session") ≡ session → is (codes "size") ≡ size → is (codes "strip") ≡ strip →
-        (if ld then Some Ld else (if nm then Some Nm else (if session then Some Session
+        is (codes "ld") ≡ ld → is (codes "nm") ≡ nm → is (codes "session") ≡ session → is (codes "size") ≡ size →
+        is (codes "strip") ≡ strip → (if ld then Some Ld else (if nm then Some Nm else (if session then Some Session
         else (if size then Some Size else (if strip then Some Strip else None))))) ≡ None →
         subcommand_met tools idle word ≡ None
     by_tests true nm session size strip a b c d f e = absurd (cc)

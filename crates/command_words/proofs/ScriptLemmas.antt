@@ -1,5 +1,7 @@
 -- The lines of a script, taken off its bytes one by one.
-use Rattle.std.proofs.Common.{◌≡◌, ◌≢◌, ◌+◌, ◌<◌, ◌≤◌, ℕ, Bool, true, false, cond, if◌then◌else◌, List, [], ◌∷◌, ◌++◌, length, Option, Some, None, Ok, refl, sym, ap, ◌∙◌, ◌↔◌, Err, subst, drop, drop_at, arith, append_assoc, append-nil, length-append}
+use Rattle.std.proofs.Common.{◌≡◌, ◌≢◌, ◌+◌, ◌<◌, ◌≤◌, ℕ, Bool, true, false, cond, if◌then◌else◌, List, [], ◌∷◌}
+use Rattle.std.proofs.Common.{◌++◌, length, Option, Some, None, Ok, refl, sym, ap, ◌∙◌, ◌↔◌, Err, subst, drop, drop_at}
+use Rattle.std.proofs.Common.{arith, append_assoc, append-nil, length-append}
 use Rattle.std.specs.Prelude.{nat_lt, IsSome}
 use Rattle.std.specs.Io.KnownBytes.{Consumes, IsAtEnd}
 use Rattle.std.proofs.KnownBytes.{Consumes-trans}
@@ -17,17 +19,19 @@ has_none_push (x ∷ line) b h n = (h.0, has_none_push line b h.1 n)
 
 -- a line whose newline is not among these bytes goes on after them
 pub goes_on : (all line held : List ℕ) → HasNone line → all ≡ line ++ held → HasLine all → held ≡ [] → ⊥
-goes_on all line held none split whole empty = whole (subst HasNone (sym (split ∙ ap (λ (l : List ℕ). line ++ l) empty ∙ append-nil line)) none)
+goes_on all line held none split whole empty =
+    whole (subst HasNone (sym (split ∙ ap (λ (l : List ℕ). line ++ l) empty ∙ append-nil line)) none)
 
 -- where a line goes on after the bytes that were taken, some are held, and its reader is not asked
-pub not_asked : {A : Type 0} {before now after : A} (all line held : List ℕ) → HasNone line → (HasLine all → (all ≡ line ++ held) × (now ≡ before)) → ((held ≡ [] → ⊥) → after ≡ now) →
-    HasLine all → after ≡ before
+pub not_asked : {A : Type 0} {before now after : A} (all line held : List ℕ) → HasNone line →
+    (HasLine all → (all ≡ line ++ held) × (now ≡ before)) → ((held ≡ [] → ⊥) → after ≡ now) → HasLine all → after ≡ before
 not_asked all line held none begun kept whole =
     let (split, same) = begun whole in
     kept (goes_on all line held none split whole) ∙ same
 
 -- nothing was left after the bytes that were taken
-pub taken_to_end : (a b c : Option (List ℕ)) (bs : List ℕ) → HasNone bs → Consumes a b bs → Consumes b c [] × IsAtEnd c → HasNone bs × Consumes a c bs × IsAtEnd c
+pub taken_to_end : (a b c : Option (List ℕ)) (bs : List ℕ) → HasNone bs → Consumes a b bs →
+    Consumes b c [] × IsAtEnd c → HasNone bs × Consumes a c bs × IsAtEnd c
 taken_to_end a b c bs none taken end = (none, subst (Consumes a c) (append-nil bs) (Consumes-trans a b c bs [] taken end.0), end.1)
 
 -- ---- the lines of bytes
@@ -36,11 +40,14 @@ taken_to_end a b c bs none taken end = (none, subst (Consumes a c) (append-nil b
 lines_of_line : (line rest : List ℕ) → HasNone line → lines_in (line ++ 10 ∷ rest) ≡ line ∷ lines_in rest
 lines_of_line [] rest h = refl
 lines_of_line (x ∷ line) rest h =
-    ap (λ (c : Bool). cond c ([] ∷ lines_in (line ++ 10 ∷ rest)) (on_first x (lines_in (line ++ 10 ∷ rest)))) (ne_eqb x 10 h.0) ∙ ap (on_first x) (lines_of_line line rest h.1)
+    ap (λ (c : Bool). cond c ([] ∷ lines_in (line ++ 10 ∷ rest)) (on_first x (lines_in (line ++ 10 ∷ rest))))
+    (ne_eqb x 10 h.0) ∙ ap (on_first x) (lines_of_line line rest h.1)
 
 after_whole_line : (line rest : List ℕ) → HasNone line → after_line (line ++ 10 ∷ rest) ≡ rest
 after_whole_line [] rest h = refl
-after_whole_line (x ∷ line) rest h = ap (λ (c : Bool). cond c (line ++ 10 ∷ rest) (after_line (line ++ 10 ∷ rest))) (ne_eqb x 10 h.0) ∙ after_whole_line line rest h.1
+after_whole_line (x ∷ line) rest h =
+    ap (λ (c : Bool). cond c (line ++ 10 ∷ rest) (after_line (line ++ 10 ∷ rest))) (ne_eqb x 10 h.0)
+    ∙ after_whole_line line rest h.1
 
 newline_inside : (line rest : List ℕ) → HasNone (line ++ 10 ∷ rest) → ⊥
 newline_inside [] rest h = h.0 refl
@@ -49,7 +56,9 @@ newline_inside (x ∷ line) rest h = newline_inside line rest h.1
 -- a last line without a newline
 lines_of_last : (x : ℕ) (line : List ℕ) → HasNone (x ∷ line) → lines_in (x ∷ line) ≡ (x ∷ line) ∷ []
 lines_of_last x [] h = ap (λ (c : Bool). cond c ([] ∷ []) (on_first x [])) (ne_eqb x 10 h.0)
-lines_of_last x (y ∷ line) h = ap (λ (c : Bool). cond c ([] ∷ lines_in (y ∷ line)) (on_first x (lines_in (y ∷ line)))) (ne_eqb x 10 h.0) ∙ ap (on_first x) (lines_of_last y line h.1)
+lines_of_last x (y ∷ line) h =
+    ap (λ (c : Bool). cond c ([] ∷ lines_in (y ∷ line)) (on_first x (lines_in (y ∷ line)))) (ne_eqb x 10 h.0)
+    ∙ ap (on_first x) (lines_of_last y line h.1)
 
 pub after_last_line : (line : List ℕ) → HasNone line → after_line line ≡ []
 after_last_line [] h = refl
@@ -60,40 +69,52 @@ first_line : (x : ℕ) (ls : List (List ℕ)) → (more : List ℕ) × (others :
 first_line x [] = ([], [], refl)
 first_line x (l ∷ ls) = (l, ls, refl)
 
-starts_line : (x : ℕ) (front rest : List ℕ) → HasNone (x ∷ front) → (more : List ℕ) × (others : List (List ℕ)) × (lines_in (x ∷ (front ++ rest)) ≡ (x ∷ (front ++ more)) ∷ others)
+starts_line : (x : ℕ) (front rest : List ℕ) → HasNone (x ∷ front) →
+    (more : List ℕ) × (others : List (List ℕ)) × (lines_in (x ∷ (front ++ rest)) ≡ (x ∷ (front ++ more)) ∷ others)
 starts_line x [] rest h =
     let (more, others, same) = first_line x (lines_in rest) in
     (more, others, ap (λ (c : Bool). cond c ([] ∷ lines_in rest) (on_first x (lines_in rest))) (ne_eqb x 10 h.0) ∙ same)
 starts_line x (y ∷ front) rest h =
-    let (more, others, same) = starts_line y front rest h.1 in
-    (more, others, ap (λ (c : Bool). cond c ([] ∷ lines_in (y ∷ (front ++ rest))) (on_first x (lines_in (y ∷ (front ++ rest))))) (ne_eqb x 10 h.0) ∙ ap (on_first x) same)
+    let (more, others, same) = starts_line y front rest h.1 in (
+      more,
+      others,
+      ap (λ (c : Bool). cond c ([] ∷ lines_in (y ∷ (front ++ rest))) (on_first x (lines_in (y ∷ (front ++ rest)))))
+          (ne_eqb x 10 h.0) ∙ ap (on_first x) same,
+    )
 
 -- ---- what they give
 
-given_line : (n : ℕ) (l : List ℕ) (ls : List (List ℕ)) → n < 1000000 → length l ≤ 4096 → given_after n (l ∷ ls) ≡ and_given (asked l) (given_after (n + 1) ls)
+given_line : (n : ℕ) (l : List ℕ) (ls : List (List ℕ)) → n < 1000000 → length l ≤ 4096 →
+    given_after n (l ∷ ls) ≡ and_given (asked l) (given_after (n + 1) ls)
 given_line n l ls few short =
-    ap (λ (c : Bool). if c then ends_with_fault many_lines else (if nat_lt 4096 (length l) then ends_with_fault long_line else and_given (asked l) (given_after (n + 1) ls))) (lt-leb 1000000 n few)
-    ∙ ap (λ (c : Bool). if c then ends_with_fault long_line else and_given (asked l) (given_after (n + 1) ls)) (le-ltb 4096 (length l) short)
+    ap (λ (c : Bool). if c then ends_with_fault many_lines else (if nat_lt 4096 (length l) then ends_with_fault long_line
+    else and_given (asked l) (given_after (n + 1) ls))) (lt-leb 1000000 n few)
+    ∙ ap (λ (c : Bool). if c then ends_with_fault long_line else and_given (asked l) (given_after (n + 1) ls))
+    (le-ltb 4096 (length l) short)
 
 given_long : (n : ℕ) (l : List ℕ) (ls : List (List ℕ)) → n < 1000000 → 4096 < length l → given_after n (l ∷ ls) ≡ ends_with_fault long_line
 given_long n l ls few long =
-    ap (λ (c : Bool). if c then ends_with_fault many_lines else (if nat_lt 4096 (length l) then ends_with_fault long_line else and_given (asked l) (given_after (n + 1) ls))) (lt-leb 1000000 n few)
+    ap (λ (c : Bool). if c then ends_with_fault many_lines else (if nat_lt 4096 (length l) then ends_with_fault long_line
+    else and_given (asked l) (given_after (n + 1) ls))) (lt-leb 1000000 n few)
     ∙ ap (λ (c : Bool). if c then ends_with_fault long_line else and_given (asked l) (given_after (n + 1) ls)) (lt-ltb 4096 (length l) long)
 
 -- ---- the same of a reader that tells its bytes
 
-pub known_map : (old new : Option (List ℕ)) (P Q : List ℕ → List ℕ → Type 0) → ((bytes left : List ℕ) → P bytes left → Q bytes left) → WhereKnown old new P → WhereKnown old new Q
+pub known_map : (old new : Option (List ℕ)) (P Q : List ℕ → List ℕ → Type 0) →
+    ((bytes left : List ℕ) → P bytes left → Q bytes left) → WhereKnown old new P → WhereKnown old new Q
 known_map None new P Q f h = tt
 known_map (Some bytes) None P Q f h = absurd h
 known_map (Some bytes) (Some left) P Q f h = f bytes left h
 
-long_lines : (n : ℕ) (front rest : List ℕ) → n < 1000000 → 4096 < length front → HasNone front → given_after n (lines_in (front ++ rest)) ≡ ends_with_fault long_line
+long_lines : (n : ℕ) (front rest : List ℕ) → n < 1000000 → 4096 < length front → HasNone front →
+    given_after n (lines_in (front ++ rest)) ≡ ends_with_fault long_line
 long_lines n [] rest few long h = absurd (omega arith)
 long_lines n (x ∷ front) rest few long h =
     let (more, others, same) = starts_line x front rest h in
     ap (given_after n) same ∙ given_long n (x ∷ (front ++ more)) others few (omega (arith, length-append front more))
 
-pub long_known : (n : ℕ) (old new : Option (List ℕ)) (line : List ℕ) (b : ℕ) → n < 1000000 → length line ≡ 4096 → HasNone (line ++ b ∷ []) → Consumes old new (line ++ b ∷ []) →
+pub long_known : (n : ℕ) (old new : Option (List ℕ)) (line : List ℕ) (b : ℕ) → n < 1000000 → length line ≡ 4096 →
+    HasNone (line ++ b ∷ []) → Consumes old new (line ++ b ∷ []) →
     WhereKnown old new (λ bytes left. IsStopOf n bytes left stops.LongLine)
 long_known n None new line b few long none taken = tt
 long_known n (Some bytes) None line b few long none taken = absurd taken
@@ -103,8 +124,8 @@ long_known n (Some bytes) (Some left) line b few long none taken =
       ap (λ (x : List ℕ). given_after n (lines_in x)) taken ∙ long_lines n (line ++ b ∷ []) left few (omega (arith, size)) none,
     )
 
-pub line_known : (n : ℕ) (old new : Option (List ℕ)) (line : List ℕ) → n < 1000000 → length line ≤ 4096 → HasNone line → Consumes old new (line ++ 10 ∷ []) →
-    WhereKnown old new (λ bytes left. IsTakenOf n bytes left line (Ok false))
+pub line_known : (n : ℕ) (old new : Option (List ℕ)) (line : List ℕ) → n < 1000000 → length line ≤ 4096 → HasNone line →
+    Consumes old new (line ++ 10 ∷ []) → WhereKnown old new (λ bytes left. IsTakenOf n bytes left line (Ok false))
 line_known n None new line few short none taken = tt
 line_known n (Some bytes) None line few short none taken = absurd taken
 line_known n (Some bytes) (Some left) line few short none taken =
@@ -116,11 +137,13 @@ line_known n (Some bytes) (Some left) line few short none taken =
       (λ never. absurd (cc), λ h. absurd (newline_inside line left (subst HasNone whole h))),
     )
 
-last_lines : (n : ℕ) (line : List ℕ) → n < 1000000 → length line ≤ 4096 → (length line ≡ 0 → ⊥) → HasNone line → given_after n (lines_in line) ≡ and_given (asked line) (given_after (n + 1) [])
+last_lines : (n : ℕ) (line : List ℕ) → n < 1000000 → length line ≤ 4096 → (length line ≡ 0 → ⊥) → HasNone line →
+    given_after n (lines_in line) ≡ and_given (asked line) (given_after (n + 1) [])
 last_lines n [] few short some none = absurd (some refl)
 last_lines n (x ∷ line) few short some none = ap (given_after n) (lines_of_last x line none) ∙ given_line n (x ∷ line) [] few short
 
-pub last_known : (n : ℕ) (old new : Option (List ℕ)) (line : List ℕ) → n < 1000000 → length line ≤ 4096 → (length line ≡ 0 → ⊥) → HasNone line → Consumes old new line → IsAtEnd new →
+pub last_known : (n : ℕ) (old new : Option (List ℕ)) (line : List ℕ) → n < 1000000 → length line ≤ 4096 →
+    (length line ≡ 0 → ⊥) → HasNone line → Consumes old new line → IsAtEnd new →
     WhereKnown old new (λ bytes left. IsTakenOf n bytes left line (Ok true))
 last_known n None new line few short some none taken end = tt
 last_known n (Some bytes) None line few short some none taken end = absurd taken
@@ -128,37 +151,47 @@ last_known n (Some bytes) (Some left) line few short some none taken end =
     let whole : bytes ≡ line = taken ∙ ap (λ (l : List ℕ). line ++ l) end ∙ append-nil line in (
       (
         end ∙ sym (ap after_line whole ∙ after_last_line line none),
-        ap (λ (b : List ℕ). given_after n (lines_in b)) whole ∙ last_lines n line few short some none ∙ ap (λ (l : List ℕ). and_given (asked line) (given_after (n + 1) (lines_in l))) (sym end),
+        ap (λ (b : List ℕ). given_after n (lines_in b)) whole ∙ last_lines n line few short some none
+            ∙ ap (λ (l : List ℕ). and_given (asked line) (given_after (n + 1) (lines_in l))) (sym end),
       ),
       (λ _. subst HasNone (sym whole) none, λ _. refl),
     )
 
 -- ---- the answers
 
-pub line_answered : (n : ℕ) (settled : Option Stop) (line : List ℕ) (is_last : Bool) (it : Line) (bytes left : List ℕ) → asked_by it ≡ asked line → (IsSome settled ↔ is_last ≡ true) →
+pub line_answered : (n : ℕ) (settled : Option Stop) (line : List ℕ) (is_last : Bool) (it : Line) (bytes left : List ℕ) →
+    asked_by it ≡ asked line → (IsSome settled ↔ is_last ≡ true) →
     IsTakenOf n bytes left line (Ok is_last) → IsNextOf n bytes left settled (Ok it)
-line_answered n settled line is_last it bytes left same last h =
-    ((h.0.0, h.0.1 ∙ ap (λ a. and_given a (given_after (n + 1) (lines_in left))) (sym same)), (λ some. h.1.0 (last.0 some), λ none. last.1 (h.1.1 none)))
+line_answered n settled line is_last it bytes left same last h = (
+  (h.0.0, h.0.1 ∙ ap (λ a. and_given a (given_after (n + 1) (lines_in left))) (sym same)),
+  (λ some. h.1.0 (last.0 some), λ none. last.1 (h.1.1 none)),
+)
 
 -- no memory for the line that was taken
 pub lost_known : (n : ℕ) (old new : Option (List ℕ)) (settled : Option Stop) (line : List ℕ) (is_last : Bool) → NamesPath (asked line) →
-    WhereKnown old new (λ bytes left. IsTakenOf n bytes left line (Ok is_last)) → WhereKnown old new (λ bytes left. IsNextOf n bytes left settled (Err stops.Memory))
+    WhereKnown old new (λ bytes left. IsTakenOf n bytes left line (Ok is_last)) →
+    WhereKnown old new (λ bytes left. IsNextOf n bytes left settled (Err stops.Memory))
 lost_known n old new settled line is_last named =
-    known_map old new (λ bytes left. IsTakenOf n bytes left line (Ok is_last)) (λ bytes left. IsNextOf n bytes left settled (Err stops.Memory)) (λ bytes left h. (asked line, named, h.0))
+    known_map old new (λ bytes left. IsTakenOf n bytes left line (Ok is_last))
+    (λ bytes left. IsNextOf n bytes left settled (Err stops.Memory)) (λ bytes left h. (asked line, named, h.0))
 
 -- why there is no further line
-stops_next : (n : ℕ) (settled : Option Stop) (stop : Stop) (bytes left : List ℕ) → IsStopOf n bytes left stop → IsNextOf n bytes left settled (Err stop)
+stops_next : (n : ℕ) (settled : Option Stop) (stop : Stop) (bytes left : List ℕ) → IsStopOf n bytes left stop →
+    IsNextOf n bytes left settled (Err stop)
 stops_next n settled stops.End bytes left h = h
 stops_next n settled stops.LongLine bytes left h = h
 stops_next n settled stops.ManyLines bytes left h = h
 stops_next n settled stops.ReadFailed bytes left h = h
 stops_next n settled stops.Memory bytes left h = absurd h
 
-pub stop_known : (n : ℕ) (old new : Option (List ℕ)) (settled : Option Stop) (stop : Stop) → WhereKnown old new (λ bytes left. IsStopOf n bytes left stop) →
+pub stop_known : (n : ℕ) (old new : Option (List ℕ)) (settled : Option Stop) (stop : Stop) →
+    WhereKnown old new (λ bytes left. IsStopOf n bytes left stop) →
     WhereKnown old new (λ bytes left. IsNextOf n bytes left settled (Err stop))
 stop_known n old new settled stop =
-    known_map old new (λ bytes left. IsStopOf n bytes left stop) (λ bytes left. IsNextOf n bytes left settled (Err stop)) (stops_next n settled stop)
+    known_map old new (λ bytes left. IsStopOf n bytes left stop)
+    (λ bytes left. IsNextOf n bytes left settled (Err stop)) (stops_next n settled stop)
 
 -- the answer is that the reader failed exactly where the stop is
-pub failed_as : {P : Type 0} (stop : Stop) → (stop ≡ stops.ReadFailed ↔ P) → ((let answer : Answer = Err stop in answer) ≡ Err stops.ReadFailed ↔ P)
+pub failed_as : {P : Type 0} (stop : Stop) → (stop ≡ stops.ReadFailed ↔ P) →
+    ((let answer : Answer = Err stop in answer) ≡ Err stops.ReadFailed ↔ P)
 failed_as stop failed = (λ e. failed.0 (cc), λ p. ap (λ (s : Stop). let answer : Answer = Err s in answer) (failed.1 p))

@@ -1,5 +1,7 @@
 -- What options make of a command, and what is read of the words by it.
-use Rattle.std.proofs.Common.{◌≡◌, ◌<◌, ◌+◌, ℕ, Bool, true, false, cond, drop, get_or, List, [], length, filter, map, Option, Some, None, option_map, Result, Ok, Err, refl, sym, ap, ap₂, ◌∙◌, subst, inl, inr}
+use Rattle.std.proofs.Common.{◌≡◌, ◌<◌, ◌+◌, ℕ, Bool, true, false, cond, drop, get_or, List, [], length}
+use Rattle.std.proofs.Common.{filter, map, Option, Some, None, option_map, Result, Ok, Err, refl}
+use Rattle.std.proofs.Common.{sym, ap, ap₂, ◌∙◌, subst, inl, inr}
 use Rattle.std.specs.Borrow.{Bor}
 use Rattle.std.specs.declared.alloc.Global.{Global}
 use Rattle.std.proofs.lemmas.Bool.{false_from_ne_true}
@@ -41,10 +43,12 @@ v7_is_free = refl
 
 -- ---- a command with one more option or subcommand
 
-pub adds_rule : (old new : Command) (a : Arg) (app : App) (r : Rule) → AddsArg old a new → app_of old ≡ app → rule_of a ≡ r → a.global ≡ false → app_of new ≡ with_rule app r
+pub adds_rule : (old new : Command) (a : Arg) (app : App) (r : Rule) → AddsArg old a new → app_of old ≡ app →
+    rule_of a ≡ r → a.global ≡ false → app_of new ≡ with_rule app r
 adds_rule old new a app r adds was is local = adds.shape local ∙ ap₂ with_rule was is
 
-pub adds_tool : (old sub new : Command) (app tool : App) → AddsSubcommand old sub new → app_of old ≡ app → app_of sub ≡ tool → tool.top.is_plain ≡ true → app_of new ≡ with_subcommand app tool.top
+pub adds_tool : (old sub new : Command) (app tool : App) → AddsSubcommand old sub new → app_of old ≡ app →
+    app_of sub ≡ tool → tool.top.is_plain ≡ true → app_of new ≡ with_subcommand app tool.top
 adds_tool old sub new app tool adds was is plain =
     let top : shape_of sub ≡ tool.top = ap (λ (a : App). a.top) is in
     adds.shape (plain_fields sub (ap (λ s. s.is_plain) top ∙ plain)).globals ∙ ap₂ with_subcommand was top
@@ -54,40 +58,46 @@ adds_tool old sub new app tool adds was is plain =
 is_other : (name tool : List ℕ) → (name ≡ tool → ⊥) → bytes_eq name tool ≡ false
 is_other name tool n = false_from_ne_true (bytes_eq name tool) (λ e. n ((bytes_eq-Decides name tool).0 e))
 
-pub takes_files : (name : List ℕ) → (name ≡ codes "ld" → ⊥) → (name ≡ codes "nm" → ⊥) → (name ≡ codes "session" → ⊥) → tool_app name ≡ with_rule (bare name) files_rule
+pub takes_files : (name : List ℕ) → (name ≡ codes "ld" → ⊥) → (name ≡ codes "nm" → ⊥) → (name ≡ codes "session" → ⊥) →
+    tool_app name ≡ with_rule (bare name) files_rule
 takes_files name a b c = rw (is_other name (codes "ld") a, is_other name (codes "nm") b, is_other name (codes "session") c) refl
 
 tool_is_plain : (name : List ℕ) → (tool_app name).top.is_plain ≡ true
 tool_is_plain name = by_tests (bytes_eq name (codes "ld")) (bytes_eq name (codes "nm")) (bytes_eq name (codes "session"))
   where
-    by_tests : (ld nm session : Bool) → (cond ld ld_app (cond nm nm_app (cond session session_app (with_rule (bare name) files_rule)))).top.is_plain ≡ true
+    by_tests : (ld nm session : Bool) →
+        (cond ld ld_app (cond nm nm_app (cond session session_app (with_rule (bare name) files_rule)))).top.is_plain ≡ true
     by_tests true nm session = refl
     by_tests false true session = refl
     by_tests false false true = refl
     by_tests false false false = refl
 
 -- one of several tools is added, and the others are left
-pub adds_named : (old sub new : Command) (names : List (Bor (List ℕ))) (i : ℕ) (d : Bor (List ℕ)) → i < length names → AddsSubcommand old sub new → app_of sub ≡ tool_app (get_or names i d).now →
+pub adds_named : (old sub new : Command) (names : List (Bor (List ℕ))) (i : ℕ) (d : Bor (List ℕ)) → i < length names →
+    AddsSubcommand old sub new → app_of sub ≡ tool_app (get_or names i d).now →
     tools_added (app_of old) (map (λ n. n.now) (drop i names)) ≡ tools_added (app_of new) (map (λ n. n.now) (drop (i + 1) names))
 adds_named old sub new names i d more adds is =
     let added = adds_tool old sub new (app_of old) (tool_app (get_or names i d).now) adds refl is (tool_is_plain (get_or names i d).now) in
-    at_drop_more (λ (ns : List (Bor (List ℕ))). tools_added (app_of old) (map (λ n. n.now) ns)) names i d more ∙ ap (λ (app : App). tools_added app (map (λ n. n.now) (drop (i + 1) names))) (sym added)
+    at_drop_more (λ (ns : List (Bor (List ℕ))). tools_added (app_of old) (map (λ n. n.now) ns)) names i d more
+    ∙ ap (λ (app : App). tools_added app (map (λ n. n.now) (drop (i + 1) names))) (sym added)
 
 -- ---- the subcommand that was read
 
 abbrev Read : Type 0
 Read = List ℕ × List Row
 
-named_rows : {B : Type 0} (o : Option B) (f : B → List ℕ) (g : B → List Row) (name : List ℕ) (rows : List Row) → Some name ≡ option_map f o →
-    Some rows ≡ option_map (λ (p : Read). p.1) (option_map {U = Read} (λ b. (f b, g b)) o) → option_map {U = Read} (λ b. (f b, g b)) o ≡ Some (name, rows)
+named_rows : {B : Type 0} (o : Option B) (f : B → List ℕ) (g : B → List Row) (name : List ℕ) (rows : List Row) →
+    Some name ≡ option_map f o →
+    Some rows ≡ option_map (λ (p : Read). p.1) (option_map {U = Read} (λ b. (f b, g b)) o) →
+    option_map {U = Read} (λ b. (f b, g b)) o ≡ Some (name, rows)
 named_rows None f g name rows named has = absurd (cc)
 named_rows (Some b) f g name rows named has =
     let same_name : f b ≡ name = cc in
     let same_rows : g b ≡ rows = cc in
     ap₂ {C = Option Read} (λ n r. Some (n, r)) same_name same_rows
 
-read_subcommand : (m : ArgMatches) (name : List ℕ) (rows : List Row) → Some name ≡ subcommand_name_of m → Some rows ≡ option_map (λ (p : Read). p.1) (subcommand_rows_of m) →
-    subcommand_rows_of m ≡ Some (name, rows)
+read_subcommand : (m : ArgMatches) (name : List ℕ) (rows : List Row) → Some name ≡ subcommand_name_of m →
+    Some rows ≡ option_map (λ (p : Read). p.1) (subcommand_rows_of m) → subcommand_rows_of m ≡ Some (name, rows)
 read_subcommand m name rows named has = named_rows (out-ArgMatches m).subcommand _ _ name rows named has
 
 no_rows : {B : Type 0} (o : Option B) (f : B → List ℕ) (g : B → Read) → None ≡ option_map f o → option_map g o ≡ None
@@ -99,27 +109,38 @@ no_subcommand m none = no_rows (out-ArgMatches m).subcommand _ _ none
 
 -- ---- the words, as `clap` reads them by a command that is v7's
 
-pub reads_words : (command : Command) (words given : List (List ℕ)) (m : ArgMatches) → app_of command ≡ v7_app → words ≡ given → HasMatchesOf (app_of command) given m → subcommand_rows_of m ≡ subcommand_of v7_app words
-reads_words command words given m app_is words_are has = (has (ap is_simple app_is ∙ v7_is_simple)).1 ∙ ap₂ subcommand_of app_is (sym words_are)
+pub reads_words : (command : Command) (words given : List (List ℕ)) (m : ArgMatches) → app_of command ≡ v7_app →
+    words ≡ given → HasMatchesOf (app_of command) given m → subcommand_rows_of m ≡ subcommand_of v7_app words
+reads_words command words given m app_is words_are has =
+    (has (ap is_simple app_is ∙ v7_is_simple)).1 ∙ ap₂ subcommand_of app_is (sym words_are)
 
-pub reads_subcommand : (command : Command) (words given : List (List ℕ)) (m : ArgMatches) (name : List ℕ) (rows : List Row) → app_of command ≡ v7_app → words ≡ given → HasMatchesOf (app_of command) given m →
-    Some name ≡ subcommand_name_of m → Some rows ≡ option_map (λ (p : Read). p.1) (subcommand_rows_of m) → subcommand_of v7_app words ≡ Some (name, rows)
-reads_subcommand command words given m name rows app_is words_are has named rows_are = sym (reads_words command words given m app_is words_are has) ∙ read_subcommand m name rows named rows_are
+pub reads_subcommand : (command : Command) (words given : List (List ℕ)) (m : ArgMatches) (name : List ℕ) (rows : List Row) →
+    app_of command ≡ v7_app → words ≡ given → HasMatchesOf (app_of command) given m →
+    Some name ≡ subcommand_name_of m → Some rows ≡ option_map (λ (p : Read). p.1) (subcommand_rows_of m) →
+    subcommand_of v7_app words ≡ Some (name, rows)
+reads_subcommand command words given m name rows app_is words_are has named rows_are =
+    sym (reads_words command words given m app_is words_are has) ∙ read_subcommand m name rows named rows_are
 
-pub reads_none : (command : Command) (words given : List (List ℕ)) (m : ArgMatches) → app_of command ≡ v7_app → words ≡ given → HasMatchesOf (app_of command) given m → None ≡ subcommand_name_of m → subcommand_of v7_app words ≡ None
-reads_none command words given m app_is words_are has none = sym (reads_words command words given m app_is words_are has) ∙ no_subcommand m none
+pub reads_none : (command : Command) (words given : List (List ℕ)) (m : ArgMatches) → app_of command ≡ v7_app →
+    words ≡ given → HasMatchesOf (app_of command) given m → None ≡ subcommand_name_of m → subcommand_of v7_app words ≡ None
+reads_none command words given m app_is words_are has none =
+    sym (reads_words command words given m app_is words_are has) ∙ no_subcommand m none
 
-pub takes_words : (command : Command) (words given : List (List ℕ)) → app_of command ≡ v7_app → words ≡ given → (is_simple_and_free (app_of command) ≡ true → fault_of (app_of command) given ≡ []) → fault_of v7_app words ≡ []
-takes_words command words given app_is words_are taken = ap₂ fault_of (sym app_is) words_are ∙ taken (ap is_simple_and_free app_is ∙ v7_is_free)
+pub takes_words : (command : Command) (words given : List (List ℕ)) → app_of command ≡ v7_app → words ≡ given →
+    (is_simple_and_free (app_of command) ≡ true → fault_of (app_of command) given ≡ []) → fault_of v7_app words ≡ []
+takes_words command words given app_is words_are taken =
+    ap₂ fault_of (sym app_is) words_are ∙ taken (ap is_simple_and_free app_is ∙ v7_is_free)
 
 -- ---- what the words ask for
 
 -- the call that was made of the name, the options and the files that were read is the one that the words ask for
-pub asked_by_words : (words : List (List ℕ)) (name : List ℕ) (rows : List Row) (files : List (List ℕ)) (r : Result Call WordsFault) → fault_of v7_app words ≡ [] → subcommand_of v7_app words ≡ Some (name, rows) →
+pub asked_by_words : (words : List (List ℕ)) (name : List ℕ) (rows : List Row) (files : List (List ℕ))
+    (r : Result Call WordsFault) → fault_of v7_app words ≡ [] → subcommand_of v7_app words ≡ Some (name, rows) →
     files ≡ values_of rows FILE.now → IfOk r (λ call. name_of call ≡ name) → IfOk r (Asks rows files) → IfOk r (IsAsked words)
 asked_by_words words name rows files (Err fault) taken read are named asked = tt
 asked_by_words words name rows files (Ok call) taken read are named asked =
-    let same : subcommand_of v7_app words ≡ Some (name_of call, rows) = read ∙ ap (λ (n : List ℕ). let both : Read = (n, rows) in Some both) (sym named) in
+    let same : subcommand_of v7_app words ≡ Some (name_of call, rows) =
+    read ∙ ap (λ (n : List ℕ). let both : Read = (n, rows) in Some both) (sym named) in
     (taken, rows, same, subst (λ (fs : List (List ℕ)). Asks rows fs call) are asked)
 
 abbrev name_in_read : Option Read → List ℕ
@@ -131,14 +152,19 @@ rows_in_read None = []
 rows_in_read (Some p) = p.1
 
 -- a call that the words ask for is one of the name, the options and the files that were read
-asks_what_was_read : (words : List (List ℕ)) (name : List ℕ) (rows : List Row) (files : List (List ℕ)) (call : Call) → subcommand_of v7_app words ≡ Some (name, rows) → files ≡ values_of rows FILE.now → IsAsked words call →
+asks_what_was_read : (words : List (List ℕ)) (name : List ℕ) (rows : List Row) (files : List (List ℕ)) (call : Call) →
+    subcommand_of v7_app words ≡ Some (name, rows) → files ≡ values_of rows FILE.now → IsAsked words call →
     (name_of call ≡ name) × Asks rows files call
 asks_what_was_read words name rows files call read are asked =
     let same = sym asked.2 ∙ read in
-    let same_rows : asked.1 ≡ rows = ap rows_in_read same in
-    (ap name_in_read same, subst (λ (fs : List (List ℕ)). Asks rows fs call) (sym are) (subst (λ (rs : List Row). Asks rs (values_of rs FILE.now) call) same_rows asked.3))
+    let same_rows : asked.1 ≡ rows = ap rows_in_read same in (
+      ap name_in_read same,
+      subst (λ (fs : List (List ℕ)). Asks rows fs call) (sym are)
+          (subst (λ (rs : List Row). Asks rs (values_of rs FILE.now) call) same_rows asked.3),
+    )
 
-pub none_for_read : (words : List (List ℕ)) (name : List ℕ) (rows : List Row) (files : List (List ℕ)) (r : Result Call WordsFault) → subcommand_of v7_app words ≡ Some (name, rows) → files ≡ values_of rows FILE.now →
+pub none_for_read : (words : List (List ℕ)) (name : List ℕ) (rows : List Row) (files : List (List ℕ))
+    (r : Result Call WordsFault) → subcommand_of v7_app words ≡ Some (name, rows) → files ≡ values_of rows FILE.now →
     IfErr r (HasNoCall name rows files) → IfErr r (AsksForNone words)
 none_for_read words name rows files (Ok call) read are none = tt
 none_for_read words name rows files (Err fault) read are none = λ call whole asked dashes.
@@ -146,8 +172,10 @@ none_for_read words name rows files (Err fault) read are none = λ call whole as
     none call whole is.0 is.1
 
 -- words that `clap` refuses
-pub none_refused : (command : Command) (words given : List (List ℕ)) (e : Error) (r : Result Call WordsFault) → app_of command ≡ v7_app → words ≡ given →
-    (is_simple_and_free (app_of command) ≡ true → HasKind (fault_of (app_of command) given) e) → IsErrAnd r (λ fault. fault ≡ fault_of_words (kind_of e)) → IfErr r (AsksForNone words)
+pub none_refused : (command : Command) (words given : List (List ℕ)) (e : Error) (r : Result Call WordsFault) →
+    app_of command ≡ v7_app → words ≡ given →
+    (is_simple_and_free (app_of command) ≡ true → HasKind (fault_of (app_of command) given) e) →
+    IsErrAnd r (λ fault. fault ≡ fault_of_words (kind_of e)) → IfErr r (AsksForNone words)
 none_refused command words given e (Ok call) app_is words_are kinds is = tt
 none_refused command words given e (Err fault) app_is words_are kinds is = λ call whole asked dashes.
     let none : fault_of (app_of command) given ≡ [] = ap₂ fault_of app_is (sym words_are) ∙ asked.0 in
@@ -164,8 +192,11 @@ none_without_name words fault none call whole asked dashes = none_is_some (sym n
     none_is_some e = absurd (cc)
 
 -- words with a dash alone that is no file
-pub none_with_dash : (words files : List (String Global)) (name : List ℕ) (rows : List Row) (in_words in_files : ℕ) (fault : WordsFault) → subcommand_of v7_app (map string_bytes words) ≡ Some (name, rows) →
-    map string_bytes files ≡ values_of rows FILE.now → in_words ≡ length (filter is_dash words) → in_files ≡ length (filter is_dash files) → (in_words ≡ in_files → ⊥) → AsksForNone (map string_bytes words) fault
+pub none_with_dash : (words files : List (String Global)) (name : List ℕ) (rows : List Row) (in_words in_files : ℕ)
+    (fault : WordsFault) → subcommand_of v7_app (map string_bytes words) ≡ Some (name, rows) →
+    map string_bytes files ≡ values_of rows FILE.now → in_words ≡ length (filter is_dash words) →
+    in_files ≡ length (filter is_dash files) → (in_words ≡ in_files → ⊥) → AsksForNone (map string_bytes words) fault
 none_with_dash words files name rows in_words in_files fault read are w f differ call whole asked dashes =
     let is = asks_what_was_read (map string_bytes words) name rows (map string_bytes files) call read are asked in
-    absurd (differ (w ∙ dashes-bytes words ∙ dashes ∙ sym (dashes-asked rows (map string_bytes files) call is.1) ∙ sym (dashes-bytes files) ∙ sym f))
+    absurd (differ (w ∙ dashes-bytes words ∙ dashes ∙ sym (dashes-asked rows (map string_bytes files) call is.1)
+    ∙ sym (dashes-bytes files) ∙ sym f))

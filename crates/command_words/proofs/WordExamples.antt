@@ -3,7 +3,8 @@ use Rattle.std.specs.Prelude.{◌≡◌, ℕ, Bool, true, false, List, [], ◌�
 use Rattle.clap.specs.Faults.{fault_of}
 use Rattle.clap.specs.Simple.{subcommand_of}
 use Rattle.clap.specs.Walk.{Row}
-use Rattle.clap.specs.declared.error.kind.ErrorKind.TheVariants.{ArgumentConflict, InvalidSubcommand, InvalidValue, MissingSubcommand, UnknownArgument}
+use Rattle.clap.specs.declared.error.kind.ErrorKind.TheVariants.{ArgumentConflict, InvalidSubcommand, InvalidValue}
+use Rattle.clap.specs.declared.error.kind.ErrorKind.TheVariants.{MissingSubcommand, UnknownArgument}
 use Rattle.clap.proofs.OnLiterals.{clap_on_literals}
 use Rattle.command_words.specs.declared.words.TheConstants.{FILE, OUT, REVERSE, BY_VALUE}
 use Rattle.command_words.specs.declared.link_words.TheConstants.{ENTRY, FORCED, STRIP}
@@ -30,12 +31,14 @@ flags_in_one_word : seen (REVERSE.now ∷ BY_VALUE.now ∷ []) (FILE.now ∷ [])
 unfolding clap_on_literals
 flags_in_one_word = refl
 
-values_in_both_places : seen (STRIP.now ∷ []) (OUT.now ∷ ENTRY.now ∷ FORCED.now ∷ FILE.now ∷ []) (codes "ld" ∷ codes "-oout" ∷ codes "-e" ∷ codes "_go" ∷ codes "-u" ∷ codes "_a" ∷ codes "-u_b" ∷ codes "a.o" ∷ [])
+values_in_both_places : seen (STRIP.now ∷ []) (OUT.now ∷ ENTRY.now ∷ FORCED.now ∷ FILE.now ∷ [])
+    (codes "ld" ∷ codes "-oout" ∷ codes "-e" ∷ codes "_go" ∷ codes "-u" ∷ codes "_a" ∷ codes "-u_b" ∷ codes "a.o" ∷ [])
     ≡ Some (codes "ld", false ∷ [], (codes "out" ∷ []) ∷ (codes "_go" ∷ []) ∷ (codes "_a" ∷ codes "_b" ∷ []) ∷ (codes "a.o" ∷ []) ∷ [])
 unfolding clap_on_literals
 values_in_both_places = refl
 
-options_after_files : seen (STRIP.now ∷ []) (FILE.now ∷ []) (codes "ld" ∷ codes "a.o" ∷ codes "-s" ∷ codes "b.o" ∷ []) ≡ Some (codes "ld", true ∷ [], (codes "a.o" ∷ codes "b.o" ∷ []) ∷ [])
+options_after_files : seen (STRIP.now ∷ []) (FILE.now ∷ []) (codes "ld" ∷ codes "a.o" ∷ codes "-s" ∷ codes "b.o" ∷ [])
+    ≡ Some (codes "ld", true ∷ [], (codes "a.o" ∷ codes "b.o" ∷ []) ∷ [])
 unfolding clap_on_literals
 options_after_files = refl
 
@@ -63,7 +66,8 @@ file_of_a_session : fault_of v7_app (codes "session" ∷ codes "a.o" ∷ []) ≡
 unfolding clap_on_literals
 file_of_a_session = refl
 
-output_after_sign : seen [] (OUT.now ∷ FILE.now ∷ []) (codes "ld" ∷ codes "-o=out" ∷ codes "a.o" ∷ []) ≡ Some (codes "ld", [], (codes "out" ∷ []) ∷ (codes "a.o" ∷ []) ∷ [])
+output_after_sign : seen [] (OUT.now ∷ FILE.now ∷ []) (codes "ld" ∷ codes "-o=out" ∷ codes "a.o" ∷ [])
+    ≡ Some (codes "ld", [], (codes "out" ∷ []) ∷ (codes "a.o" ∷ []) ∷ [])
 unfolding clap_on_literals
 output_after_sign = refl
 

@@ -46,7 +46,8 @@ list_asked rows = record {
 -- the options, the forced names and the output are those that were read, and the files are these; a session has none
 abbrev pub Asks : List Row → List (List ℕ) → Call → Type 0
 Asks rows paths (Ld options forced out files) =
-    (options_asked rows ≡ Ok options) × (forced_asked rows ≡ Ok forced) × (string_bytes out ≡ unwrap_or (first_of OUT.now rows) program) × (map string_bytes files.items ≡ paths)
+    (options_asked rows ≡ Ok options) × (forced_asked rows ≡ Ok forced)
+    × (string_bytes out ≡ unwrap_or (first_of OUT.now rows) program) × (map string_bytes files.items ≡ paths)
 Asks rows paths (Session options forced) = (options_asked rows ≡ Ok options) × (forced_asked rows ≡ Ok forced) × (paths ≡ [])
 Asks rows paths (Nm options files) = (options ≡ list_asked rows) × (map string_bytes files.items ≡ or_program paths)
 Asks rows paths (Size files) = map string_bytes files.items ≡ or_program paths
@@ -74,7 +75,9 @@ name_of (Session options forced) = codes "session"
 
 -- `clap` takes the words, which name the tool of a call, and its options and files are those that are read of them
 abbrev pub IsAsked : List (List ℕ) → Call → Type 0
-IsAsked words call = (fault_of v7_app words ≡ []) × (rows : List Row) × (subcommand_of v7_app words ≡ Some (name_of call, rows)) × Asks rows (values_of rows FILE.now) call
+IsAsked words call =
+    (fault_of v7_app words ≡ []) × (rows : List Row) × (subcommand_of v7_app words ≡ Some (name_of call, rows))
+    × Asks rows (values_of rows FILE.now) call
 
 -- that there was no memory is distinguished from all other causes
 abbrev pub fault_of_words : ErrorKind → WordsFault
@@ -84,4 +87,5 @@ fault_of_words kind = faults.Usage
 -- words that ask for a call fail only if memory runs out. Other words may fail so too: memory is requested for the tools and their
 -- options before a word is read, so `Memory` is ruled out for no words
 abbrev pub AsksForNone : List (List ℕ) → WordsFault → Type 0
-AsksForNone words fault = (call : Call) → IsWhole call → IsAsked words call → dashes_in words ≡ dashes_in (files_of call) → fault ≡ faults.Memory
+AsksForNone words fault =
+    (call : Call) → IsWhole call → IsAsked words call → dashes_in words ≡ dashes_in (files_of call) → fault ≡ faults.Memory

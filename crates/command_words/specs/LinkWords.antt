@@ -1,7 +1,8 @@
 -- What the options that ld and session share ask for, by the rows that were read of the words. (ld(1))
 --
 -- A row is an option with its values. Where options exclude each other, the words ask for nothing.
-use Rattle.std.specs.Prelude.{◌≡◌, ◌≤◌, ℕ, Bool, cond, nat_lt, List, [], ◌∷◌, take, length, None, ok_or, option_map, unwrap_or, Result, Ok, Err}
+use Rattle.std.specs.Prelude.{◌≡◌, ◌≤◌, ℕ, Bool, cond, nat_lt, List, [], ◌∷◌, take, length, None}
+use Rattle.std.specs.Prelude.{ok_or, option_map, unwrap_or, Result, Ok, Err}
 use Rattle.clap.specs.Walk.{Row, all_of, count_of, first_of}
 use Rattle.aout_core.specs.Names.{before_nul}
 use Rattle.tool_options.specs.ForcedNames.{AreDifferent, takes, with_name}

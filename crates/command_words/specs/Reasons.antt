@@ -3,7 +3,9 @@
 -- The first argument names a tool. Each other one is read by what was read before it: it is the value of an option that waits for
 -- one, or a file, or `--`, or letters of options. The first argument, and in it the first letter, that cannot be read so is the
 -- reason; and if all can be read, it is what is missing at the end.
-use Rattle.std.specs.Prelude.{ℕ, ◌+◌, ◌==◌, ◌&&◌, ◌||◌, Bool, true, false, not, nat_eq, nat_lt, if◌then◌else◌, List, [], ◌∷◌, drop, length, Option, Some, None, is_some, option_map, unwrap_or, Result, Ok, Err, bytes_eq, codes}
+use Rattle.std.specs.Prelude.{ℕ, ◌+◌, ◌==◌, ◌&&◌, ◌||◌, Bool, true, false, not, nat_eq, nat_lt, if◌then◌else◌}
+use Rattle.std.specs.Prelude.{List, [], ◌∷◌, drop, length, Option, Some, None, is_some, option_map, unwrap_or}
+use Rattle.std.specs.Prelude.{Result, Ok, Err, bytes_eq, codes}
 use Rattle.std.specs.List.{list_any, starts_with}
 use Rattle.aout_core.specs.Words.{letter_of}
 use Rattle.clap.specs.Lexer.{strip_byte}
@@ -12,7 +14,8 @@ use Rattle.tool_options.specs.Flags.{choices_of}
 use Rattle.tool_options.specs.ForcedNames.{takes, with_name}
 use Rattle.command_words.specs.LinkWords.{name_in}
 use Rattle.command_words.specs.declared.reasons.Cause.{Cause}
-use Rattle.command_words.specs.declared.reasons.Cause.TheVariants.{NoTool, NoLongOption, NoOption, NoValue, SecondValue, Excluded, ManyNames, NoFiles, FileMissing}
+use Rattle.command_words.specs.declared.reasons.Cause.TheVariants.{NoTool, NoLongOption, NoOption, NoValue, SecondValue}
+use Rattle.command_words.specs.declared.reasons.Cause.TheVariants.{Excluded, ManyNames, NoFiles, FileMissing}
 use Rattle.command_words.specs.declared.reasons.Reason.{Reason}
 use Rattle.command_words.specs.declared.reasons.progress.Progress.{Progress}
 use Rattle.command_words.specs.declared.reasons.tool.Tool.{Tool}
@@ -100,7 +103,8 @@ excluding flags letter =
 
 -- nothing has been read
 abbrev pub unread : Progress
-unread = record { flags = no_flags; has_entry = false; has_output = false; forced = []; waiting = None; only_files = false; has_file = false }
+unread =
+    record { flags = no_flags; has_entry = false; has_output = false; forced = []; waiting = None; only_files = false; has_file = false }
 
 abbrev pub and_earlier : Option ℕ → Progress → ℕ → Result Progress Cause
 and_earlier (Some earlier) p letter = Err (Excluded earlier letter)

@@ -2,14 +2,16 @@
 --
 -- Each call returns the next line that the bytes give, or why there is none, and that is returned for good. What was read and not
 -- used waits, less than a block of it, and the device is asked only if that does not determine the next line.
-use Rattle.std.specs.Prelude.{◌≡◌, ◌≢◌, ◌↔◌, ◌⊎◌, ◌+◌, ◌≤◌, ℕ, cond, eqb, List, [], ◌∷◌, ◌++◌, drop, length, Option, Some, None, Result, Ok, Err, IfSome, IsSome, IsTrue, string_bytes}
+use Rattle.std.specs.Prelude.{◌≡◌, ◌≢◌, ◌↔◌, ◌⊎◌, ◌+◌, ◌≤◌, ℕ, cond, eqb, List, [], ◌∷◌, ◌++◌, drop, length, Option}
+use Rattle.std.specs.Prelude.{Some, None, Result, Ok, Err, IfSome, IsSome, IsTrue, string_bytes}
 use Rattle.std.specs.Io.KnownBytes.{prepend_known}
 use Rattle.aout_core.specs.Wires.{Latched}
 use Rattle.command_words.specs.declared.lines.Line.{Line}
 use Rattle.command_words.specs.declared.lines.Line.TheVariants as lines
 use Rattle.command_words.specs.declared.line_reader.Stop.{Stop}
 use Rattle.command_words.specs.declared.line_reader.Stop.TheVariants as stops
-use Rattle.command_words.specs.Scripts.{Asked, to_add, to_withdraw, for_externals, for_undefined, to_link, for_nothing, lines_in, ScriptFault, long_line, many_lines, and_given, given_after}
+use Rattle.command_words.specs.Scripts.{Asked, to_add, to_withdraw, for_externals, for_undefined, to_link, for_nothing}
+use Rattle.command_words.specs.Scripts.{lines_in, ScriptFault, long_line, many_lines, and_given, given_after}
 
 -- what a line that was given asks for
 abbrev pub asked_by : Line → Asked
@@ -76,7 +78,8 @@ NeedsNoMore n bytes = HasLine bytes ⊎ ((n ≡ 1000000) × (bytes ≢ []))
 
 -- after so many lines there is one more, which asks for this, and it was taken with its newline
 abbrev pub TakesLine : ℕ → List ℕ → List ℕ → Asked → Type 0
-TakesLine n bytes left asks = (left ≡ after_line bytes) × (given_after n (lines_in bytes) ≡ and_given asks (given_after (n + 1) (lines_in left)))
+TakesLine n bytes left asks =
+    (left ≡ after_line bytes) × (given_after n (lines_in bytes) ≡ and_given asks (given_after (n + 1) (lines_in left)))
 
 -- a line that names a path, for which room is needed
 abbrev pub NamesPath : Asked → Type 0
@@ -106,7 +109,8 @@ IsNextOf n bytes left settled (Err stops.Memory) = (asks : Asked) × NamesPath a
 -- what a call returned, and what it made of the script: once it is settled that there is no further line, nothing
 pub record GivesNext {R : Type 0} (remaining : R → Option (List ℕ)) (old new : Progress R) (answer : Answer) : Type 0 where
   pub stays : IfSome old.settled (λ stop. (answer ≡ Err stop) × (new ≡ old))
-  pub next : old.settled ≡ None → WhereKnown (unread remaining old.held old.wire) (unread remaining new.held new.wire) (λ bytes left. IsNextOf old.line_count bytes left new.settled answer)
+  pub next : old.settled ≡ None → WhereKnown (unread remaining old.held old.wire) (unread remaining new.held new.wire)
+      (λ bytes left. IsNextOf old.line_count bytes left new.settled answer)
   pub settles : Settles answer new.settled
   pub failed : (answer ≡ Err stops.ReadFailed) ↔ IsTrue new.wire.has_failed
   pub latched : IsTrue old.wire.has_failed → new.wire ≡ old.wire

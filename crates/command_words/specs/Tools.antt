@@ -30,13 +30,18 @@ with_rules app rules = fold with_rule app rules
 -- -r, -s, -x, -X, -n, -i, -d, -u and -e
 abbrev pub link_rules : List Rule
 link_rules =
-    letter_rule RELOCATABLE.now (letter_of (codes "r")) Count ∷ letter_rule STRIP.now (letter_of (codes "s")) Count ∷ letter_rule EXTERNALS.now (letter_of (codes "x")) Count ∷ letter_rule NOT_L.now (letter_of (codes "X")) Count ∷ letter_rule PURE.now (letter_of (codes "n")) Count
-    ∷ letter_rule SPLIT.now (letter_of (codes "i")) Count ∷ letter_rule COMMONS.now (letter_of (codes "d")) Count ∷ letter_rule FORCED.now (letter_of (codes "u")) Append ∷ letter_rule ENTRY.now (letter_of (codes "e")) Set ∷ []
+    letter_rule RELOCATABLE.now (letter_of (codes "r")) Count ∷ letter_rule STRIP.now (letter_of (codes "s")) Count ∷
+    letter_rule EXTERNALS.now (letter_of (codes "x")) Count ∷ letter_rule NOT_L.now (letter_of (codes "X")) Count ∷
+    letter_rule PURE.now (letter_of (codes "n")) Count
+    ∷ letter_rule SPLIT.now (letter_of (codes "i")) Count ∷ letter_rule COMMONS.now (letter_of (codes "d")) Count ∷
+    letter_rule FORCED.now (letter_of (codes "u")) Append ∷ letter_rule ENTRY.now (letter_of (codes "e")) Set ∷ []
 
 -- -g, -n, -o, -p, -r and -u
 abbrev pub list_rules : List Rule
 list_rules =
-    letter_rule EXTERNAL.now (letter_of (codes "g")) Count ∷ letter_rule BY_VALUE.now (letter_of (codes "n")) Count ∷ letter_rule EACH_LINE.now (letter_of (codes "o")) Count ∷ letter_rule TABLE_ORDER.now (letter_of (codes "p")) Count ∷ letter_rule REVERSE.now (letter_of (codes "r")) Count
+    letter_rule EXTERNAL.now (letter_of (codes "g")) Count ∷ letter_rule BY_VALUE.now (letter_of (codes "n")) Count ∷
+    letter_rule EACH_LINE.now (letter_of (codes "o")) Count ∷
+    letter_rule TABLE_ORDER.now (letter_of (codes "p")) Count ∷ letter_rule REVERSE.now (letter_of (codes "r")) Count
     ∷ letter_rule UNDEFINED.now (letter_of (codes "u")) Count ∷ []
 
 -- the link's options, -o, and files
@@ -60,4 +65,6 @@ abbrev pub v7_alone : App
 v7_alone = on_top (λ s. record s { no_binary_name = true; subcommand_required = true }) (bare (codes "v7"))
 
 abbrev pub v7_app : App
-v7_app = with_subcommand (with_subcommand (with_subcommand (with_subcommand (with_subcommand v7_alone ld_app.top) nm_app.top) size_app.top) strip_app.top) session_app.top
+v7_app =
+    with_subcommand (with_subcommand (with_subcommand (with_subcommand (with_subcommand v7_alone ld_app.top) nm_app.top)
+    size_app.top) strip_app.top) session_app.top

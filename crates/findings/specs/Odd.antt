@@ -2,7 +2,9 @@
 --
 -- The header comes first, then the relocation words of text and of data, and then the symbols. Each finding has the byte of the file
 -- where the odd field begins.
-use Rattle.std.specs.Prelude.{ℕ, ◌+◌, ◌-◌, ◌*◌, ◌%◌, Bool, true, false, not, ◌&&◌, ◌||◌, eqb, nat_lt, nat_le, if◌then◌else◌, List, [], ◌∷◌, ◌++◌, take, drop, length, slice_index, bytes_eq, Option, Some, None}
+use Rattle.std.specs.Prelude.{ℕ, ◌+◌, ◌-◌, ◌*◌, ◌%◌, Bool, true, false, not, ◌&&◌, ◌||◌, eqb, nat_lt}
+use Rattle.std.specs.Prelude.{nat_le, if◌then◌else◌, List, [], ◌∷◌, ◌++◌, take, drop, length, slice_index}
+use Rattle.std.specs.Prelude.{bytes_eq, Option, Some, None}
 use Rattle.std.specs.List.{list_any}
 use Rattle.aout_core.specs.declared.header.Header.{Header}
 use Rattle.aout_core.specs.declared.symbol.Symbol.{Symbol}
@@ -16,9 +18,15 @@ use Rattle.aout_core.specs.WellFormed.{is_undefined, kind_of, masked_type, segme
 use Rattle.aout_core.specs.Words.{plus}
 use Rattle.aout_core.specs.Addresses.{data_start_in, target}
 use Rattle.texts.specs.Names.{is_printable}
-use Rattle.findings.specs.declared.finding.FindingKind.TheVariants.{IgnoredEntry, IgnoredWord, BytesAfterTable, IgnoredRelocationBits, OutsideReference, EmptyName, UnprintableName, BytesAfterName, RepeatedName, IgnoredTypeBits, UnknownType, OddCommon, OutsideValue}
+use Rattle.findings.specs.declared.finding.FindingKind.TheVariants.{IgnoredEntry, IgnoredWord, BytesAfterTable}
+use Rattle.findings.specs.declared.finding.FindingKind.TheVariants.{IgnoredRelocationBits, OutsideReference, EmptyName}
+use Rattle.findings.specs.declared.finding.FindingKind.TheVariants.{UnprintableName, BytesAfterName, RepeatedName}
+use Rattle.findings.specs.declared.finding.FindingKind.TheVariants.{IgnoredTypeBits, UnknownType, OddCommon}
+use Rattle.findings.specs.declared.finding.FindingKind.TheVariants.{OutsideValue}
 use Rattle.findings.specs.Found.{Found, found_if}
-use Rattle.findings.specs.OddTexts.{entry_text, unused_text, bytes_after_text, ignored_bits_text, outside_reference_text, symbol_title, empty_name_text, hidden_text, rest_text, repeated_text, type_bits_text, unknown_type_text, common_text, outside_value_text}
+use Rattle.findings.specs.OddTexts.{entry_text, unused_text, bytes_after_text, ignored_bits_text}
+use Rattle.findings.specs.OddTexts.{outside_reference_text, symbol_title, empty_name_text, hidden_text, rest_text}
+use Rattle.findings.specs.OddTexts.{repeated_text, type_bits_text, unknown_type_text, common_text, outside_value_text}
 use Rattle.findings.specs.Segments.{has_address, segment_meant}
 
 -- the entry point of a file with relocation
@@ -85,7 +93,8 @@ abbrev pub is_byte : ℕ → Bool
 is_byte b = not (eqb b 0)
 
 abbrev pub odd_rest_of_name : List ℕ → ℕ → ℕ → Symbol → List Found
-odd_rest_of_name bytes n place s = found_if (list_any is_byte (after_name bytes place s)) place BytesAfterName (rest_text (symbol_title n s.name))
+odd_rest_of_name bytes n place s =
+    found_if (list_any is_byte (after_name bytes place s)) place BytesAfterName (rest_text (symbol_title n s.name))
 
 -- a name that an earlier symbol has, if there is one, by its number
 abbrev pub odd_repeated : ℕ → ℕ → Symbol → Option ℕ → List Found
@@ -99,7 +108,8 @@ odd_name bytes n first place s =
 
 -- what is odd of its type word and of its value
 abbrev pub odd_type_bits : ℕ → ℕ → Symbol → List Found
-odd_type_bits n place s = found_if (nat_le 0o100 s.type_bits) (place + 8) IgnoredTypeBits (type_bits_text (symbol_title n s.name) s.type_bits)
+odd_type_bits n place s =
+    found_if (nat_le 0o100 s.type_bits) (place + 8) IgnoredTypeBits (type_bits_text (symbol_title n s.name) s.type_bits)
 
 abbrev pub odd_type : ℕ → ℕ → Symbol → List Found
 odd_type n place s = found_if (not (has_type s)) (place + 8) UnknownType (unknown_type_text (symbol_title n s.name) s.type_bits)
@@ -109,7 +119,8 @@ odd_common n place s = found_if (is_undefined s && eqb (s.value % 2) 1) (place +
 
 abbrev pub odd_value : Header → ℕ → ℕ → Symbol → List Found
 odd_value h n place s =
-    found_if (not (has_address h (segment_of s) s.value)) (place + 10) OutsideValue (outside_value_text h (segment_of s) (symbol_title n s.name) s.value)
+    found_if (not (has_address h (segment_of s) s.value)) (place + 10) OutsideValue
+    (outside_value_text h (segment_of s) (symbol_title n s.name) s.value)
 
 abbrev pub odd_fields : Header → ℕ → ℕ → Symbol → List Found
 odd_fields h n place s =

@@ -23,8 +23,10 @@ abbrev pub known_start : List ℕ → Option (List ℕ)
 known_start bytes =
     if nat_eq (length bytes) 0 then Some (codes "the file is empty")
     else (if starts_with nat_eq bytes (0x7f ∷ codes "ELF") then Some (codes "this is an ELF file, of another system")
-    else (if starts_with nat_eq bytes (0o145 ∷ 0o377 ∷ []) then Some (codes "this is an archive (0177545); take its members out with the ar of its system")
-    else (if starts_with nat_eq bytes (0o155 ∷ 0o377 ∷ []) then Some (codes "this is an old archive (0177555); take its members out with the ar of its system")
+    else (if starts_with nat_eq bytes (0o145 ∷ 0o377 ∷ [])
+    then Some (codes "this is an archive (0177545); take its members out with the ar of its system")
+    else (if starts_with nat_eq bytes (0o155 ∷ 0o377 ∷ [])
+    then Some (codes "this is an old archive (0177555); take its members out with the ar of its system")
     else (if starts_with nat_eq bytes (codes "!<arch>") then Some (codes "this is an archive; take its members out with ar")
     else None))))
 

@@ -1,5 +1,6 @@
 -- The texts of findings that are damage: what is wrong, with its numbers. (own choice)
-use Rattle.std.specs.Prelude.{ℕ, ◌+◌, ◌*◌, false, nat_lt, if◌then◌else◌, List, [], ◌++◌, length, slice_get, codes, decimal, Bool, Option, Some, None}
+use Rattle.std.specs.Prelude.{ℕ, ◌+◌, ◌*◌, false, nat_lt, if◌then◌else◌, List, [], ◌++◌, length, slice_get}
+use Rattle.std.specs.Prelude.{codes, decimal, Bool, Option, Some, None}
 use Rattle.aout_core.specs.declared.header.Header.{Header}
 use Rattle.aout_core.specs.declared.symbol.Symbol.{Symbol}
 use Rattle.aout_core.specs.declared.reloc.Reloc.{Reloc}
@@ -39,7 +40,8 @@ part_at h place =
 -- a file with this header ends at a byte
 unfoldable pub truncated_text : Header → ℕ → List ℕ
 truncated_text h place =
-    codes "truncated: the file ends here, in " ++ part_at h place ++ codes "; by its header it has " ++ in_both (file_length h) ++ codes " bytes"
+    codes "truncated: the file ends here, in " ++ part_at h place ++ codes "; by its header it has "
+    ++ in_both (file_length h) ++ codes " bytes"
 
 -- symbol n of so many
 unfoldable pub counted_text : ℕ → ℕ → List ℕ

@@ -1,5 +1,6 @@
 -- What is damaged in a file: why it is refused, at which byte, and in which words. (a.out(5); the refusals: own choice)
-use Rattle.std.specs.Prelude.{ℕ, ◌+◌, ◌*◌, ◌-◌, ◌%◌, true, not, eqb, nat_lt, if◌then◌else◌, List, [], ◌∷◌, ◌++◌, take, length, codes, Option, Some, None}
+use Rattle.std.specs.Prelude.{ℕ, ◌+◌, ◌*◌, ◌-◌, ◌%◌, true, not, eqb, nat_lt, if◌then◌else◌, List, []}
+use Rattle.std.specs.Prelude.{◌∷◌, ◌++◌, take, length, codes, Option, Some, None}
 use Rattle.aout_core.specs.declared.header.Header.{Header}
 use Rattle.aout_core.specs.declared.reloc.Reloc.{Reloc}
 use Rattle.aout_core.specs.declared.file.ReadFault.{ReadFault}
@@ -11,9 +12,11 @@ use Rattle.aout_core.specs.Encoding.{relocation_at}
 use Rattle.aout_core.specs.Decoding.{header_in}
 use Rattle.aout_core.specs.WellFormed.{word_fault}
 use Rattle.findings.specs.declared.finding.FindingKind.{FindingKind}
-use Rattle.findings.specs.declared.finding.FindingKind.TheVariants.{ShortHeader, BadMagic, OddSize, Truncated, BadRelocation, BadSymbolNumber, MoreBadWords}
+use Rattle.findings.specs.declared.finding.FindingKind.TheVariants.{ShortHeader, BadMagic, OddSize, Truncated}
+use Rattle.findings.specs.declared.finding.FindingKind.TheVariants.{BadRelocation, BadSymbolNumber, MoreBadWords}
 use Rattle.findings.specs.Found.{Found, found_if}
-use Rattle.findings.specs.Texts.{short_header_text, bad_magic_text, odd_size_text, odd_table_text, truncated_text, bad_word_text, owner_text, more_text}
+use Rattle.findings.specs.Texts.{short_header_text, bad_magic_text, odd_size_text, odd_table_text, truncated_text}
+use Rattle.findings.specs.Texts.{bad_word_text, owner_text, more_text}
 
 -- the size of a part, at its word of the header
 abbrev pub odd_size : ℕ → List ℕ → ℕ → List Found
@@ -63,7 +66,8 @@ bad_word place (Some kind) text = found_if true place kind (text kind)
 abbrev pub bad_words : Contents → ℕ → ℕ → List Reloc → List Found
 bad_words c place n [] = []
 bad_words c place n (r ∷ rs) =
-    bad_word (place + 2 * n) (fault_kind (word_fault c.symbols 0 r)) (λ kind. bad_word_text c.symbols n r kind ++ owner_text c n) ++ bad_words c place (n + 1) rs
+    bad_word (place + 2 * n) (fault_kind (word_fault c.symbols 0 r))
+    (λ kind. bad_word_text c.symbols n r kind ++ owner_text c n) ++ bad_words c place (n + 1) rs
 
 abbrev pub all_bad_words : Contents → List Found
 all_bad_words c = bad_words c (relocation_at c.header) 0 (c.text_reloc ++ c.data_reloc)

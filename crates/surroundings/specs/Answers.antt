@@ -1,5 +1,6 @@
 -- What a program answers, and what of it goes out. (own choice)
-use Rattle.std.specs.Prelude.{◌≡◌, ◌⊎◌, ℕ, Bool, true, false, List, [], ◌++◌, if◌then◌else◌, ◌∷◌, Option, Some, None, Result, Ok, Err, bytes_eq, codes}
+use Rattle.std.specs.Prelude.{◌≡◌, ◌⊎◌, ℕ, Bool, true, false, List, [], ◌++◌, if◌then◌else◌, ◌∷◌, Option}
+use Rattle.std.specs.Prelude.{Some, None, Result, Ok, Err, bytes_eq, codes}
 use Rattle.aout_core.specs.declared.shown.Shown.{Shown}
 use Rattle.aout_core.specs.declared.shown.Shown.TheVariants.{Help, Version}
 use Rattle.aout_core.specs.Wires.{Latched}
@@ -87,7 +88,9 @@ abbrev pub status_unless : Bool → Answer → ℕ
 status_unless failed answer = if failed then 2 else answer.status
 
 -- the answer went out, but for what a device did not take
-pub record Gives {W E : Type 0} (contents : W → Option (List ℕ)) (error_contents : E → Option (List ℕ)) (program : List ℕ) (answer : Answer) (output new_output : Latched W) (error new_error : Latched E) (status : ℕ) : Type 0 where
+pub record Gives {W E : Type 0} (contents : W → Option (List ℕ)) (error_contents : E → Option (List ℕ)) (program : List ℕ)
+    (answer : Answer) (output new_output : Latched W) (error new_error : Latched E) (status : ℕ) : Type 0 where
   pub written : PutsUnless new_output.has_failed (contents output.device) (contents new_output.device) answer.output
-  pub reported : PutsUnless new_error.has_failed (error_contents error.device) (error_contents new_error.device) (errors_unless program new_output.has_failed answer)
+  pub reported : PutsUnless new_error.has_failed (error_contents error.device) (error_contents new_error.device)
+      (errors_unless program new_output.has_failed answer)
   pub ends : status ≡ status_unless new_output.has_failed answer

@@ -17,7 +17,9 @@ unread_text (Some known) = codes "read error"
 
 -- the file at a path was not opened, or not read, and the fault says so; or memory ran out
 abbrev pub EndsReading : List ℕ → History → History → List ℕ → Fault → Type 0
-EndsReading program old new path fault = (found : Option (Option (List ℕ))) × Extends old new (opened path found ∷ []) × HasAnswer fault (failed_at program path (unread_text found))
+EndsReading program old new path fault =
+    (found : Option (Option (List ℕ))) × Extends old new (opened path found ∷ [])
+    × HasAnswer fault (failed_at program path (unread_text found))
 
 -- what is said of the path of a file that was to be stored
 abbrev pub stored_text : Stored → Option (List ℕ)

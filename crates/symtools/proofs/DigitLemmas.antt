@@ -1,5 +1,6 @@
 -- Digits that are written from the last to the first.
-use Rattle.std.proofs.Common.{◌≡◌, ℕ, zero, suc, ◌+◌, ◌-◌, ◌*◌, ◌/◌, ◌%◌, ◌^◌, ◌<◌, ◌≤◌, ◌==◌, false, true, if◌then◌else◌, List, [], ◌∷◌, sym, ap, ◌∙◌, subst, arith, nat_lt}
+use Rattle.std.proofs.Common.{◌≡◌, ℕ, zero, suc, ◌+◌, ◌-◌, ◌*◌, ◌/◌, ◌%◌, ◌^◌, ◌<◌, ◌≤◌, ◌==◌, false, true}
+use Rattle.std.proofs.Common.{if◌then◌else◌, List, [], ◌∷◌, sym, ap, ◌∙◌, subst, arith, nat_lt}
 use Rattle.std.proofs.lemmas.Bool.{cond-true, cond-false}
 use Rattle.std.proofs.lemmas.Bool.Decides.{nat_tests}
 use Rattle.std.proofs.lemmas.Nat.{div_below, le-div}
@@ -24,13 +25,15 @@ unfolding digits
 first-digit base n d small is =
     ap (λ g. if n / base == 0 then g ∷ [] else digits_onto 63 base false (n / base) (g ∷ [])) (glyph (n % base) small ∙ sym is)
 
-pub next-digit : (place base rest d : ℕ) (done : List ℕ) → 1 ≤ place → 0 < base → base ≤ rest → rest / base % base < 10 → d ≡ 48 + rest / base % base
+pub next-digit : (place base rest d : ℕ) (done : List ℕ) → 1 ≤ place → 0 < base → base ≤ rest →
+    rest / base % base < 10 → d ≡ 48 + rest / base % base
     → digits_left place base rest done ≡ digits_left (place - 1) base (rest / base) (d ∷ done)
 next-digit place base rest d done capacity positive more small is =
     let test = not-zero (rest / base) (le-div 1 rest base positive (omega arith)) in
     let fuel : 58 + place ≡ suc (58 + (place - 1)) = omega arith in
     cond-false _ _ _ test ∙ ap (λ k. digits_onto k base false (rest / base) done) fuel
-    ∙ ap (λ g. if rest / base / base == 0 then g ∷ done else digits_onto (58 + (place - 1)) base false (rest / base / base) (g ∷ done)) (glyph (rest / base % base) small ∙ sym is)
+    ∙ ap (λ g. if rest / base / base == 0 then g ∷ done else digits_onto (58 + (place - 1)) base false
+    (rest / base / base) (g ∷ done)) (glyph (rest / base % base) small ∙ sym is)
 
 power-more : (base place : ℕ) → base ^ (place + 1) ≡ base ^ place * base
 power-more base place = ap (λ k. base ^ k) (add-one place) ∙ pow-suc base place
@@ -42,4 +45,5 @@ place-left (suc place) base rest more short = omega arith
 pub fewer-digits : (place base rest : ℕ) → 1 ≤ place → 0 < base → rest < base ^ (place + 1) → rest / base < base ^ (place - 1 + 1)
 fewer-digits place base rest capacity positive short =
     let same : place - 1 + 1 ≡ place = omega arith in
-    subst (λ k. rest / base < base ^ k) (sym same) (div_below rest base (base ^ place) positive (subst (λ b. rest < b) (power-more base place) short))
+    subst (λ k. rest / base < base ^ k) (sym same)
+    (div_below rest base (base ^ place) positive (subst (λ b. rest < b) (power-more base place) short))

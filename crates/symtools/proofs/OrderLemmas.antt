@@ -20,7 +20,8 @@ value_and_name s = (s.value, s.name)
 abbrev pub pair_cmp : ℕ × List ℕ → ℕ × List ℕ → Ordering
 pair_cmp p q = ordering_then (nat_cmp p.0 q.0) (slice_cmp nat_cmp p.1 q.1)
 
-first-or-second : (less equal : Bool) (r : Ordering) → is_lt (ordering_then (cond less Less (cond equal Equal Greater)) r) ≡ less || (equal && is_lt r)
+first-or-second : (less equal : Bool) (r : Ordering) →
+    is_lt (ordering_then (cond less Less (cond equal Equal Greater)) r) ≡ less || (equal && is_lt r)
 first-or-second true equal r = refl
 first-or-second false true r = refl
 first-or-second false false r = refl
@@ -28,10 +29,12 @@ first-or-second false false r = refl
 by-pair : (s t : Symbol) → is_lt (pair_cmp (value_and_name s) (value_and_name t)) ≡ value_before s t
 by-pair s t = first-or-second (nat_lt s.value t.value) (eqb s.value t.value) (slice_cmp nat_cmp s.name t.name)
 
-pub sorted_by_name : (xs ys : List Symbol) → IsSortedByKey name_of (slice_cmp nat_cmp) ys → IsStableByKey name_of (slice_cmp nat_cmp) xs ys → ys ≡ in_order name_before xs
+pub sorted_by_name : (xs ys : List Symbol) → IsSortedByKey name_of (slice_cmp nat_cmp) ys →
+    IsStableByKey name_of (slice_cmp nat_cmp) xs ys → ys ≡ in_order name_before xs
 sorted_by_name xs ys sorted stable = in_order-from_sort name_before (ranks_by nat_list_cmp_total name_of) xs ys sorted stable
 
-pub sorted_by_value : (xs ys : List Symbol) → IsSortedByKey value_and_name pair_cmp ys → IsStableByKey value_and_name pair_cmp xs ys → ys ≡ in_order value_before xs
+pub sorted_by_value : (xs ys : List Symbol) → IsSortedByKey value_and_name pair_cmp ys →
+    IsStableByKey value_and_name pair_cmp xs ys → ys ≡ in_order value_before xs
 sorted_by_value xs ys sorted stable =
     let total = then_total (on_total (λ (p : ℕ × List ℕ). p.0) nat_cmp_total) (on_total (λ (p : ℕ × List ℕ). p.1) nat_list_cmp_total) in
     in_order-from_sort (λ s t. is_lt (pair_cmp (value_and_name s) (value_and_name t))) (ranks_by total value_and_name) xs ys sorted stable

@@ -1,5 +1,6 @@
 -- A stable sort puts a list in the order that insertion gives it.
-use Rattle.std.proofs.Common.{◌≡◌, ℕ, suc, ◌<◌, ◌≤◌, Bool, true, false, true≢false, not, ◌&&◌, cond, List, [], ◌∷◌, length, get_or, filter, refl, sym, ap, ◌∙◌, arith, inl, inr}
+use Rattle.std.proofs.Common.{◌≡◌, ℕ, suc, ◌<◌, ◌≤◌, Bool, true, false, true≢false, not, ◌&&◌, cond, List, [], ◌∷◌}
+use Rattle.std.proofs.Common.{length, get_or, filter, refl, sym, ap, ◌∙◌, arith, inl, inr}
 use Rattle.std.proofs.lemmas.Bool.{cond-true, cond-false, cases_Bool}
 use Rattle.std.proofs.lemmas.List.Sorted.{sorted_far}
 use Rattle.std.specs.List.Sorted.{ties, IsSortedBy, IsStableBy}
@@ -47,7 +48,10 @@ module _ {X : Type 0} (lt : X → X → Bool) (order : IsStrictWeakOrder lt) whe
 
   up-of : (xs : List X) → ((i j : ℕ) (d : X) → i ≤ j → j < length xs → lt (get_or xs j d) (get_or xs i d) ≡ false) → Up xs
   up-of [] h = tt
-  up-of (x ∷ xs) h = (above-of x xs (λ k p. h 0 (suc k) x (omega arith) (omega arith)), up-of xs (λ i j d p q. h (suc i) (suc j) d (omega arith) (omega arith)))
+  up-of (x ∷ xs) h = (
+    above-of x xs (λ k p. h 0 (suc k) x (omega arith) (omega arith)),
+    up-of xs (λ i j d p q. h (suc i) (suc j) d (omega arith) (omega arith)),
+  )
 
   above-chain : (x y : X) (zs : List X) → lt y x ≡ false → Above y zs → Above x zs
   above-chain x y [] le h = tt
@@ -89,7 +93,8 @@ module _ {X : Type 0} (lt : X → X → Bool) (order : IsStrictWeakOrder lt) whe
               | inl with ↦
                   elim (cases_Bool (p y)) [
                     | inl both ↦
-                        absurd (true≢false (sym past ∙ order.chain z x y (neither (lt x z) (lt z x) with).1 (neither (lt x y) (lt y x) both).0))
+                        absurd (true≢false (sym past
+                        ∙ order.chain z x y (neither (lt x z) (lt z x) with).1 (neither (lt x y) (lt y x) both).0))
                     | inr only ↦
                         filter-kept p z (inserted lt y zs) with ∙ ap (λ l. z ∷ l) (filter-inserted x y zs ∙ filter-dropped p y zs only)
                         ∙ sym (filter-dropped p y (z ∷ zs) only ∙ filter-kept p z zs with)
@@ -127,7 +132,8 @@ module _ {X : Type 0} (lt : X → X → Bool) (order : IsStrictWeakOrder lt) whe
       let tails : (x : X) → filter (ties lt x) ys ≡ filter (ties lt x) zs =
       λ x. elim (cases_Bool (ties lt x y)) [
         | inl with ↦
-            let both = sym (filter-kept (ties lt x) y ys with) ∙ same x ∙ filter-kept (ties lt x) z zs (ap (ties lt x) (sym head) ∙ with) in cc
+            let both = sym (filter-kept (ties lt x) y ys with) ∙ same x
+            ∙ filter-kept (ties lt x) z zs (ap (ties lt x) (sym head) ∙ with) in cc
         | inr without ↦
             sym (filter-dropped (ties lt x) y ys without) ∙ same x ∙ filter-dropped (ties lt x) z zs (ap (ties lt x) (sym head) ∙ without)
       ] in
@@ -135,4 +141,5 @@ module _ {X : Type 0} (lt : X → X → Bool) (order : IsStrictWeakOrder lt) whe
 
   pub in_order-from_sort : (xs ys : List X) → IsSortedBy lt ys → IsStableBy lt xs ys → ys ≡ in_order lt xs
   in_order-from_sort xs ys sorted stable =
-      same-lists ys (in_order lt xs) (up-of ys (sorted_far lt order ys sorted)) (up-in_order xs) (λ x. stable x ∙ sym (filter-in_order x xs))
+      same-lists ys (in_order lt xs) (up-of ys (sorted_far lt order ys sorted)) (up-in_order xs)
+      (λ x. stable x ∙ sym (filter-in_order x xs))

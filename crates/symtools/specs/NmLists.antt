@@ -2,7 +2,8 @@
 --
 -- The symbols that the options ask for, in the order that they ask for, a line each. With several files, the path of each file
 -- is above its lines; by `-o` it comes before each line instead.
-use Rattle.std.specs.Prelude.{◌≡◌, ◌≢◌, ℕ, Option, Bool, not, ◌&&◌, ◌||◌, cond, eqb, nat_lt, if◌then◌else◌, List, [], ◌∷◌, ◌++◌, filter, reverse, length, codes}
+use Rattle.std.specs.Prelude.{◌≡◌, ◌≢◌, ℕ, Option, Bool, not, ◌&&◌, ◌||◌, cond, eqb, nat_lt, if◌then◌else◌}
+use Rattle.std.specs.Prelude.{List, [], ◌∷◌, ◌++◌, filter, reverse, length, codes}
 use Rattle.std.specs.List.{flat_map}
 use Rattle.std.specs.Io.KnownBytes.{Appends}
 use Rattle.std.specs.Cmp.Lexicographic.{slice_cmp}

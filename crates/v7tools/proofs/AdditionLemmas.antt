@@ -32,29 +32,34 @@ abbrev IsReadWhereKnown : Option (List ℕ) → Option (List ℕ) → Result Con
 IsReadWhereKnown known left r = IfSome known (λ bytes. IsReadOf r bytes × LeavesAfter r bytes left)
 
 -- what the bytes encode, where they are known
-found_at : (known left : Option (List ℕ)) (r : Result Contents ReadFault) (found : Result Contents Cause) → object_in r ≡ found → ((bytes : List ℕ) → IsReadOf r bytes → decode bytes ≡ r) →
+found_at : (known left : Option (List ℕ)) (r : Result Contents ReadFault) (found : Result Contents Cause) →
+    object_in r ≡ found → ((bytes : List ℕ) → IsReadOf r bytes → decode bytes ≡ r) →
     IsReadWhereKnown known left r → IfSome known (λ bytes. found ≡ object_in (decode bytes))
 found_at None left r found is encodes h = tt
 found_at (Some bytes) left r found is encodes h = sym is ∙ ap object_in (sym (encodes bytes h.0))
 
 -- an object that was found, and is within all limits, may want memory
-wants_memory : (known : Option (List ℕ)) (forced : List (List ℕ)) (kept : List Labelled) (path : List ℕ) (o : Contents) → IsFound known (Ok o) → refusal forced (objects kept) o ≡ None → IfSome known (WantsMemory forced kept path)
+wants_memory : (known : Option (List ℕ)) (forced : List (List ℕ)) (kept : List Labelled) (path : List ℕ) (o : Contents) →
+    IsFound known (Ok o) → refusal forced (objects kept) o ≡ None → IfSome known (WantsMemory forced kept path)
 wants_memory None forced kept path o h within = tt
 wants_memory (Some bytes) forced kept path o (inl e) within = absurd (cc)
 wants_memory (Some bytes) forced kept path o (inr e) within =
     let accepted : with_input forced kept path bytes ≡ Ok (kept ++ (record { label = path; object = o }) ∷ []) =
-    ap (kept_with forced kept path) (sym e) ∙ ap (λ (x : Option AddFault). unless not_added x (kept ++ (record { label = path; object = o }) ∷ [])) within in
+    ap (kept_with forced kept path) (sym e)
+    ∙ ap (λ (x : Option AddFault). unless not_added x (kept ++ (record { label = path; object = o }) ∷ [])) within in
     inr (subst IsOk (sym accepted) refl)
 
 -- so may what the header announces
-header_wants : (known left : Option (List ℕ)) (forced : List (List ℕ)) (kept : List Labelled) (path : List ℕ) → IsReadWhereKnown known left (Err reads.Memory) → IfSome known (WantsMemory forced kept path)
+header_wants : (known left : Option (List ℕ)) (forced : List (List ℕ)) (kept : List Labelled) (path : List ℕ) →
+    IsReadWhereKnown known left (Err reads.Memory) → IfSome known (WantsMemory forced kept path)
 header_wants None left forced kept path h = tt
 header_wants (Some bytes) left forced kept path h = inl h.0
 
 -- ---- why a file is not added
 
 -- a file that is none
-bad_read : (known left : Option (List ℕ)) (old : Kept) (path at : String Global) (fault : ReadFault) → at ≡ path → ((bytes : List ℕ) → IsReadOf (Err fault) bytes → decode bytes ≡ Err fault) →
+bad_read : (known left : Option (List ℕ)) (old : Kept) (path at : String Global) (fault : ReadFault) → at ≡ path →
+    ((bytes : List ℕ) → IsReadOf (Err fault) bytes → decode bytes ≡ Err fault) →
     IsReadWhereKnown known left (Err fault) → IsAddition known old old path (Err (faults.BadFile at fault))
 bad_read known left old path at fault same encodes read = (
   refl,
@@ -67,7 +72,8 @@ bad_read known left old path at fault same encodes read = (
   }),
 )
 
-failed_read : (known : Option (List ℕ)) (old : Kept) (path at : String Global) → at ≡ path → IsAddition known old old path (Err (faults.BadFile at reads.Device))
+failed_read : (known : Option (List ℕ)) (old : Kept) (path at : String Global) → at ≡ path →
+    IsAddition known old old path (Err (faults.BadFile at reads.Device))
 failed_read known old path at same = (
   refl,
   inr (record {
@@ -79,15 +85,20 @@ failed_read known old path at same = (
   }),
 )
 
-pub addition_unread : (known left : Option (List ℕ)) (old : Kept) (path : String Global) (fault : CliFault) → IsAtPath path (Err fault) → IsReadWhereKnown known left (read_of (Err fault)) →
-    IsAddition known old old path (Err fault)
+pub addition_unread : (known left : Option (List ℕ)) (old : Kept) (path : String Global) (fault : CliFault) →
+    IsAtPath path (Err fault) → IsReadWhereKnown known left (read_of (Err fault)) → IsAddition known old old path (Err fault)
 addition_unread known left old path (faults.BadFile at reads.Device) a h = failed_read known old path at a.0
 addition_unread known left old path (faults.BadFile at reads.Memory) a h = absurd (a.1 refl)
-addition_unread known left old path (faults.BadFile at reads.ShortHeader) a h = bad_read known left old path at reads.ShortHeader a.0 (λ bytes read. read) h
-addition_unread known left old path (faults.BadFile at reads.BadMagic) a h = bad_read known left old path at reads.BadMagic a.0 (λ bytes read. read) h
-addition_unread known left old path (faults.BadFile at reads.OddSize) a h = bad_read known left old path at reads.OddSize a.0 (λ bytes read. read) h
-addition_unread known left old path (faults.BadFile at reads.Truncated) a h = bad_read known left old path at reads.Truncated a.0 (λ bytes read. read) h
-addition_unread known left old path faults.Memory a h = (refl, inl (refl, header_wants known left old.forced old.entries (string_bytes path) h))
+addition_unread known left old path (faults.BadFile at reads.ShortHeader) a h =
+    bad_read known left old path at reads.ShortHeader a.0 (λ bytes read. read) h
+addition_unread known left old path (faults.BadFile at reads.BadMagic) a h =
+    bad_read known left old path at reads.BadMagic a.0 (λ bytes read. read) h
+addition_unread known left old path (faults.BadFile at reads.OddSize) a h =
+    bad_read known left old path at reads.OddSize a.0 (λ bytes read. read) h
+addition_unread known left old path (faults.BadFile at reads.Truncated) a h =
+    bad_read known left old path at reads.Truncated a.0 (λ bytes read. read) h
+addition_unread known left old path faults.Memory a h =
+    (refl, inl (refl, header_wants known left old.forced old.entries (string_bytes path) h))
 addition_unread known left old path faults.Usage a h = absurd a
 addition_unread known left old path (faults.CannotOpen at) a h = absurd a
 addition_unread known left old path (faults.BadObject at f) a h = absurd a
@@ -100,26 +111,31 @@ addition_unread known left old path faults.ManyLines a h = absurd a
 addition_unread known left old path faults.ScriptFailed a h = absurd a
 
 -- a file that is no object
-pub addition_unchecked : (known left : Option (List ℕ)) (old : Kept) (path p : String Global) (c : Contents) (fault : CliFault) → p ≡ path → IsReadWhereKnown known left (Ok c) → IsCheckOf p c (Err fault) →
-    IsAddition known old old path (Err fault)
+pub addition_unchecked : (known left : Option (List ℕ)) (old : Kept) (path p : String Global) (c : Contents) (fault : CliFault) →
+    p ≡ path → IsReadWhereKnown known left (Ok c) → IsCheckOf p c (Err fault) → IsAddition known old old path (Err fault)
 addition_unchecked known left old path p c fault same read (cause, is, bad) = (
   refl,
   inr (record {
     found = Err (bad_object cause);
     cause = bad_object cause;
-    is_found = inr (found_at known left (Ok c) (Err (bad_object cause)) (ap (λ (x : Option ObjectFault). unless bad_object x c) bad) (λ bytes encoded. encoded) read);
+    is_found =
+        inr (found_at known left (Ok c) (Err (bad_object cause))
+        (ap (λ (x : Option ObjectFault). unless bad_object x c) bad) (λ bytes encoded. encoded) read);
     refuses = refl;
     names = is ∙ ap (λ (q : String Global). faults.BadObject q cause) same;
   }),
 )
 
 -- an object that was read at a path
-pub read_object : (known left : Option (List ℕ)) (p q : String Global) (c o : Contents) → IsReadWhereKnown known left (Ok c) → IsCheckOf p c (Ok (q, o)) → IsFound known (Ok o)
+pub read_object : (known left : Option (List ℕ)) (p q : String Global) (c o : Contents) →
+    IsReadWhereKnown known left (Ok c) → IsCheckOf p c (Ok (q, o)) → IsFound known (Ok o)
 read_object known left p q c o read checked =
-    inr (found_at known left (Ok c) (Ok o) (ap (λ (x : Option ObjectFault). unless bad_object x c) checked.2 ∙ ap (λ (x : Contents). Ok x) (sym checked.1)) (λ bytes encoded. encoded) read)
+    inr (found_at known left (Ok c) (Ok o) (ap (λ (x : Option ObjectFault). unless bad_object x c) checked.2
+    ∙ ap (λ (x : Contents). Ok x) (sym checked.1)) (λ bytes encoded. encoded) read)
 
 -- an object that is not added
-not_fit : (known : Option (List ℕ)) (old new : Kept) (path label : String Global) (o : Contents) (cause : AddFault) → IsFound known (Ok o) → label ≡ path → IsCause (refusal old.forced (objects old.entries) o) cause →
+not_fit : (known : Option (List ℕ)) (old new : Kept) (path label : String Global) (o : Contents) (cause : AddFault) →
+    IsFound known (Ok o) → label ≡ path → IsCause (refusal old.forced (objects old.entries) o) cause →
     (cause ≡ adds.Memory → ⊥) → new ≡ old → IsAddition known old new path (Err (faults.NotAdded label cause))
 not_fit known old new path label o cause is_found same why real unchanged = (
   unchanged,
@@ -127,22 +143,36 @@ not_fit known old new path label o cause is_found same why real unchanged = (
     found = Ok o;
     cause = not_added cause;
     is_found = is_found;
-    refuses = ap (λ (x : Option AddFault). unless not_added x (old.entries ++ (record { label = string_bytes path; object = o }) ∷ [])) (limit_is (refusal old.forced (objects old.entries) o) cause why real);
+    refuses =
+        ap (λ (x : Option AddFault). unless not_added x (old.entries ++ (record { label = string_bytes path; object = o }) ∷ []))
+        (limit_is (refusal old.forced (objects old.entries) o) cause why real);
     names = ap (λ (p : String Global). faults.NotAdded p cause) same;
   }),
 )
 
-addition_refused : (known : Option (List ℕ)) (old new : Kept) (path label : String Global) (o : Contents) (cause : AddFault) → IsFound known (Ok o) → label ≡ path →
-    IsCause (refusal old.forced (objects old.entries) o) cause → new ≡ old → IsAddition known old new path (Err (fault_of_addition label cause))
-addition_refused known old new path label o adds.Memory found same why unchanged =
-    (unchanged, inl (refl, wants_memory known old.forced old.entries (string_bytes path) o found (within_limits old.forced (objects old.entries) o why)))
-addition_refused known old new path label o adds.TextFull found same why unchanged = not_fit known old new path label o adds.TextFull found same why (λ e. absurd (cc)) unchanged
-addition_refused known old new path label o adds.DataFull found same why unchanged = not_fit known old new path label o adds.DataFull found same why (λ e. absurd (cc)) unchanged
-addition_refused known old new path label o adds.BssFull found same why unchanged = not_fit known old new path label o adds.BssFull found same why (λ e. absurd (cc)) unchanged
-addition_refused known old new path label o adds.NamesFull found same why unchanged = not_fit known old new path label o adds.NamesFull found same why (λ e. absurd (cc)) unchanged
+addition_refused : (known : Option (List ℕ)) (old new : Kept) (path label : String Global) (o : Contents) (cause : AddFault) →
+    IsFound known (Ok o) → label ≡ path →
+    IsCause (refusal old.forced (objects old.entries) o) cause → new ≡ old →
+    IsAddition known old new path (Err (fault_of_addition label cause))
+addition_refused known old new path label o adds.Memory found same why unchanged = (
+  unchanged,
+  inl (
+    refl,
+    wants_memory known old.forced old.entries (string_bytes path) o found (within_limits old.forced (objects old.entries) o why),
+  ),
+)
+addition_refused known old new path label o adds.TextFull found same why unchanged =
+    not_fit known old new path label o adds.TextFull found same why (λ e. absurd (cc)) unchanged
+addition_refused known old new path label o adds.DataFull found same why unchanged =
+    not_fit known old new path label o adds.DataFull found same why (λ e. absurd (cc)) unchanged
+addition_refused known old new path label o adds.BssFull found same why unchanged =
+    not_fit known old new path label o adds.BssFull found same why (λ e. absurd (cc)) unchanged
+addition_refused known old new path label o adds.NamesFull found same why unchanged =
+    not_fit known old new path label o adds.NamesFull found same why (λ e. absurd (cc)) unchanged
 
 -- what became of an object that was read at a path
-pub addition_of_object : (known : Option (List ℕ)) (old new : Kept) (path label : String Global) (o : Contents) (r : Result (Unit {0}) CliFault) → IsFound known (Ok o) → label ≡ path →
+pub addition_of_object : (known : Option (List ℕ)) (old new : Kept) (path label : String Global) (o : Contents)
+    (r : Result (Unit {0}) CliFault) → IsFound known (Ok o) → label ≡ path →
     IsObjectAddition old new label o r → IsAddition known old new path r
 addition_of_object known old new path label o (Ok x) found same (within, adds) =
     let added : Adds old new (labelled path o) = subst (λ (p : String Global). Adds old new (labelled p o)) same adds in (
@@ -150,11 +180,14 @@ addition_of_object known old new path label o (Ok x) found same (within, adds) =
       record {
         adds = added;
         is_found = found;
-        accepts = ap (λ (limit : Option AddFault). unless not_added limit (old.entries ++ labelled path o ∷ [])) within ∙ ap (λ (es : List Labelled). Ok es) (sym added.entries);
+        accepts =
+            ap (λ (limit : Option AddFault). unless not_added limit (old.entries ++ labelled path o ∷ [])) within
+            ∙ ap (λ (es : List Labelled). Ok es) (sym added.entries);
       },
     )
 addition_of_object known old new path label o (Err fault) found same (unchanged, (cause, is, why)) =
-    subst (λ (f : CliFault). IsAddition known old new path (Err f)) (sym is) (addition_refused known old new path label o cause found same why unchanged)
+    subst (λ (f : CliFault). IsAddition known old new path (Err f)) (sym is)
+    (addition_refused known old new path label o cause found same why unchanged)
 
 -- a fault that is carried on
 pub carried : (r : Result (Unit {0}) CliFault) (fault : CliFault) → IsErrAnd r (λ f. f ≡ fault) → r ≡ Err fault
@@ -162,6 +195,7 @@ carried (Ok x) fault h = absurd h
 carried (Err f) fault h = ap (λ (x : CliFault). Err x) h
 
 -- an addition leaves the forced names
-pub forced_kept : (known : Option (List ℕ)) (old new : Kept) (path : String Global) (r : Result (Unit {0}) CliFault) → IsAddition known old new path r → new.forced ≡ old.forced
+pub forced_kept : (known : Option (List ℕ)) (old new : Kept) (path : String Global) (r : Result (Unit {0}) CliFault) →
+    IsAddition known old new path r → new.forced ≡ old.forced
 forced_kept known old new path (Ok x) (object, h) = h.adds.forced
 forced_kept known old new path (Err fault) (same, why) = ap (λ (k : Kept). k.forced) same

@@ -1,6 +1,7 @@
 -- The inputs one after another, and the link of what is kept of them.
 use Rattle.std.specs.declared.alloc.Global.{Global}
-use Rattle.std.proofs.Common.{◌≡◌, ◌≢◌, ℕ, false, List, [], ◌∷◌, Option, Some, None, option_and_then, option_map, Result, Ok, Err, refl, sym, ap, ◌∙◌, subst, inl, inr}
+use Rattle.std.proofs.Common.{◌≡◌, ◌≢◌, ℕ, false, List, [], ◌∷◌, Option, Some, None, option_and_then, option_map}
+use Rattle.std.proofs.Common.{Result, Ok, Err, refl, sym, ap, ◌∙◌, subst, inl, inr}
 use Rattle.std.specs.Prelude.{String, string_bytes, IfSome, IsErrAnd, IsOk}
 use Rattle.aout_core.specs.declared.file.ReadFault.TheVariants as reads
 use Rattle.aout_core.specs.Contents.{Contents}
@@ -20,15 +21,19 @@ use Rattle.link_out.specs.Outcomes as outcomes
 use Rattle.v7tools.specs.declared.fault.CliFault.{CliFault}
 use Rattle.v7tools.specs.declared.fault.CliFault.TheVariants as faults
 use Rattle.v7tools.specs.FaultTexts.{fault_at, fault_of_link}
-use Rattle.v7tools.specs.Inputs.{Cause, cannot_open, bad_file, bad_object, not_added, Refusal, of_input, not_linked, object_in, kept_with, with_input, with_inputs, at_path, linked}
-use Rattle.v7tools.specs.LinkAnswers.{Input, Said, said_by, refuses, breaks, runs_out, never, Takes, Rejects, WantsMemory, StopsAt, TakesAll, StopsIn, HasNoLink, MayLackMemory, IsNotLinked, IsLinkOver, known_inputs, IsTrueOf, IsLinkOfBytes, IsLinkOf}
+use Rattle.v7tools.specs.Inputs.{Cause, cannot_open, bad_file, bad_object, not_added, Refusal, of_input, not_linked}
+use Rattle.v7tools.specs.Inputs.{object_in, kept_with, with_input, with_inputs, at_path, linked}
+use Rattle.v7tools.specs.LinkAnswers.{Input, Said, said_by, refuses, breaks, runs_out, never, Takes, Rejects}
+use Rattle.v7tools.specs.LinkAnswers.{WantsMemory, StopsAt, TakesAll, StopsIn, HasNoLink, MayLackMemory, IsNotLinked}
+use Rattle.v7tools.specs.LinkAnswers.{IsLinkOver, known_inputs, IsTrueOf, IsLinkOfBytes, IsLinkOf}
 use Rattle.v7tools.specs.internal.InputParts.{AreTaken, IsFinalLink, IsPossible, StopsWith}
 use Rattle.v7tools.specs.internal.StepParts.{IsAccepted, IsAddition, IsFound}
 
 -- ---- one input
 
 -- an object that is added is taken
-pub takes_accepted : (i : Input) (old new : Kept) (o : Contents) → i.has_failed ≡ false → IsAccepted i.known old new i.path o → Takes old.forced old.entries i new.entries
+pub takes_accepted : (i : Input) (old new : Kept) (o : Contents) → i.has_failed ≡ false →
+    IsAccepted i.known old new i.path o → Takes old.forced old.entries i new.entries
 takes_accepted i old new o works h = record {
   works = works;
   object = o;
@@ -42,7 +47,8 @@ takes_accepted i old new o works h = record {
 
 -- why an input is not taken
 module _ (i : Input) (path : String Global) (at : string_bytes path ≡ i.path) (old : Kept) where
-  rejects_found : (found : Result Contents Cause) (cause : Cause) → (cause ≡ bad_file reads.Device → ⊥) → i.has_failed ≡ false → IsFound i.known found → kept_with old.forced old.entries (string_bytes path) found ≡ Err cause →
+  rejects_found : (found : Result Contents Cause) (cause : Cause) → (cause ≡ bad_file reads.Device → ⊥) →
+      i.has_failed ≡ false → IsFound i.known found → kept_with old.forced old.entries (string_bytes path) found ≡ Err cause →
       Rejects old.forced old.entries i cause
   rejects_found found cause other works is_found h = record {
     works = works;
@@ -58,23 +64,34 @@ module _ (i : Input) (path : String Global) (at : string_bytes path ≡ i.path) 
   abbrev Stops : Cause → Type 0
   Stops cause = StopsAt old.forced old.entries i (said_by (fault_at path cause))
 
-  stops_for : (found : Result Contents Cause) (cause : Cause) → IsPossible (said_by (fault_at path cause)) → ((fault_at path cause ≡ faults.BadFile path reads.Device → ⊥) → i.has_failed ≡ false) →
+  stops_for : (found : Result Contents Cause) (cause : Cause) → IsPossible (said_by (fault_at path cause)) →
+      ((fault_at path cause ≡ faults.BadFile path reads.Device → ⊥) → i.has_failed ≡ false) →
       IsFound i.known found → kept_with old.forced old.entries (string_bytes path) found ≡ Err cause → Stops cause
   stops_for found cannot_open possible works is_found h = absurd possible
   stops_for found (bad_file reads.Device) possible works is_found h = at
   stops_for found (bad_file reads.Memory) possible works is_found h = absurd possible
-  stops_for found (bad_file reads.ShortHeader) possible works is_found h = (at, rejects_found found (bad_file reads.ShortHeader) (λ e. absurd (cc)) (works (λ e. absurd (cc))) is_found h)
-  stops_for found (bad_file reads.BadMagic) possible works is_found h = (at, rejects_found found (bad_file reads.BadMagic) (λ e. absurd (cc)) (works (λ e. absurd (cc))) is_found h)
-  stops_for found (bad_file reads.OddSize) possible works is_found h = (at, rejects_found found (bad_file reads.OddSize) (λ e. absurd (cc)) (works (λ e. absurd (cc))) is_found h)
-  stops_for found (bad_file reads.Truncated) possible works is_found h = (at, rejects_found found (bad_file reads.Truncated) (λ e. absurd (cc)) (works (λ e. absurd (cc))) is_found h)
-  stops_for found (bad_object fault) possible works is_found h = (at, rejects_found found (bad_object fault) (λ e. absurd (cc)) (works (λ e. absurd (cc))) is_found h)
+  stops_for found (bad_file reads.ShortHeader) possible works is_found h =
+      (at, rejects_found found (bad_file reads.ShortHeader) (λ e. absurd (cc)) (works (λ e. absurd (cc))) is_found h)
+  stops_for found (bad_file reads.BadMagic) possible works is_found h =
+      (at, rejects_found found (bad_file reads.BadMagic) (λ e. absurd (cc)) (works (λ e. absurd (cc))) is_found h)
+  stops_for found (bad_file reads.OddSize) possible works is_found h =
+      (at, rejects_found found (bad_file reads.OddSize) (λ e. absurd (cc)) (works (λ e. absurd (cc))) is_found h)
+  stops_for found (bad_file reads.Truncated) possible works is_found h =
+      (at, rejects_found found (bad_file reads.Truncated) (λ e. absurd (cc)) (works (λ e. absurd (cc))) is_found h)
+  stops_for found (bad_object fault) possible works is_found h =
+      (at, rejects_found found (bad_object fault) (λ e. absurd (cc)) (works (λ e. absurd (cc))) is_found h)
   stops_for found (not_added adds.Memory) possible works is_found h = absurd possible
-  stops_for found (not_added adds.TextFull) possible works is_found h = (at, rejects_found found (not_added adds.TextFull) (λ e. absurd (cc)) (works (λ e. absurd (cc))) is_found h)
-  stops_for found (not_added adds.DataFull) possible works is_found h = (at, rejects_found found (not_added adds.DataFull) (λ e. absurd (cc)) (works (λ e. absurd (cc))) is_found h)
-  stops_for found (not_added adds.BssFull) possible works is_found h = (at, rejects_found found (not_added adds.BssFull) (λ e. absurd (cc)) (works (λ e. absurd (cc))) is_found h)
-  stops_for found (not_added adds.NamesFull) possible works is_found h = (at, rejects_found found (not_added adds.NamesFull) (λ e. absurd (cc)) (works (λ e. absurd (cc))) is_found h)
+  stops_for found (not_added adds.TextFull) possible works is_found h =
+      (at, rejects_found found (not_added adds.TextFull) (λ e. absurd (cc)) (works (λ e. absurd (cc))) is_found h)
+  stops_for found (not_added adds.DataFull) possible works is_found h =
+      (at, rejects_found found (not_added adds.DataFull) (λ e. absurd (cc)) (works (λ e. absurd (cc))) is_found h)
+  stops_for found (not_added adds.BssFull) possible works is_found h =
+      (at, rejects_found found (not_added adds.BssFull) (λ e. absurd (cc)) (works (λ e. absurd (cc))) is_found h)
+  stops_for found (not_added adds.NamesFull) possible works is_found h =
+      (at, rejects_found found (not_added adds.NamesFull) (λ e. absurd (cc)) (works (λ e. absurd (cc))) is_found h)
 
-  pub stops_at : (new : Kept) (fault : CliFault) → IsPossible (said_by fault) → ((fault ≡ faults.BadFile path reads.Device → ⊥) → i.has_failed ≡ false) → IsAddition i.known old new path (Err fault) →
+  pub stops_at : (new : Kept) (fault : CliFault) → IsPossible (said_by fault) →
+      ((fault ≡ faults.BadFile path reads.Device → ⊥) → i.has_failed ≡ false) → IsAddition i.known old new path (Err fault) →
       StopsAt old.forced old.entries i (said_by fault)
   stops_at new fault possible works (same, inl (memory, wants)) =
       let stops : StopsAt old.forced old.entries i (said_by faults.Memory) = (
@@ -84,7 +101,8 @@ module _ (i : Input) (path : String Global) (at : string_bytes path ≡ i.path) 
       subst (λ (f : CliFault). StopsAt old.forced old.entries i (said_by f)) (sym memory) stops
   stops_at new fault possible works (same, inr h) =
       subst (λ (f : CliFault). StopsAt old.forced old.entries i (said_by f)) (sym h.names)
-      (stops_for h.found h.cause (subst (λ (f : CliFault). IsPossible (said_by f)) h.names possible) (λ other. works (λ e. other (sym h.names ∙ e))) h.is_found h.refuses)
+      (stops_for h.found h.cause (subst (λ (f : CliFault). IsPossible (said_by f)) h.names possible)
+      (λ other. works (λ e. other (sym h.names ∙ e))) h.is_found h.refuses)
 
 -- ---- where all bytes are known
 
@@ -99,7 +117,8 @@ record FirstKnown (i : Input) (is : List Input) (all : List (List ℕ × List �
 first_known : (i : Input) (is : List Input) (all : List (List ℕ × List ℕ)) → known_inputs (i ∷ is) ≡ Some all → FirstKnown i is all
 first_known i is all h = by_parts i.known (known_inputs is) refl refl h
   where
-    by_parts : (d : Option (List ℕ)) (t : Option (List (List ℕ × List ℕ))) → i.known ≡ d → known_inputs is ≡ t → option_and_then (λ bytes. option_map (λ rest. (i.path, bytes) ∷ rest) t) d ≡ Some all → FirstKnown i is all
+    by_parts : (d : Option (List ℕ)) (t : Option (List (List ℕ × List ℕ))) → i.known ≡ d → known_inputs is ≡ t →
+        option_and_then (λ bytes. option_map (λ rest. (i.path, bytes) ∷ rest) t) d ≡ Some all → FirstKnown i is all
     by_parts None t e f h = absurd (cc)
     by_parts (Some bytes) None e f h = absurd (cc)
     by_parts (Some bytes) (Some later) e f h = record { bytes = bytes; later = later; known = e; others = f; split = cc }
@@ -113,35 +132,48 @@ module _ (forced : List (List ℕ)) where
   abbrev after : List (List ℕ × List ℕ) → List Labelled → Result (List Labelled) Refusal
   after later kept = with_inputs forced kept later
 
-  took : (kept more : List Labelled) (i : Input) (bytes : List ℕ) → i.known ≡ Some bytes → Takes forced kept i more → with_input forced kept i.path bytes ≡ Ok more
-  took kept more i bytes known h = ap (kept_with forced kept i.path) (sym (known_bytes i.known bytes (λ bytes. Ok h.object ≡ object_in (decode bytes)) known h.is_found)) ∙ h.accepts
+  took : (kept more : List Labelled) (i : Input) (bytes : List ℕ) → i.known ≡ Some bytes → Takes forced kept i more →
+      with_input forced kept i.path bytes ≡ Ok more
+  took kept more i bytes known h =
+      ap (kept_with forced kept i.path)
+      (sym (known_bytes i.known bytes (λ bytes. Ok h.object ≡ object_in (decode bytes)) known h.is_found)) ∙ h.accepts
 
-  took_first : (kept more : List Labelled) (i : Input) (is : List Input) (all : List (List ℕ × List ℕ)) (f : FirstKnown i is all) → Takes forced kept i more → with_inputs forced kept all ≡ with_inputs forced more f.later
+  took_first : (kept more : List Labelled) (i : Input) (is : List Input) (all : List (List ℕ × List ℕ))
+      (f : FirstKnown i is all) → Takes forced kept i more → with_inputs forced kept all ≡ with_inputs forced more f.later
   took_first kept more i is all f h =
-      ap (with_inputs forced kept) f.split ∙ ap (λ (x : Result (List Labelled) Cause). and_then (at_path i.path x) (after f.later)) (took kept more i f.bytes f.known h)
+      ap (with_inputs forced kept) f.split ∙ ap (λ (x : Result (List Labelled) Cause).
+      and_then (at_path i.path x) (after f.later)) (took kept more i f.bytes f.known h)
 
-  takes_bytes : (is : List Input) (kept more : List Labelled) (all : List (List ℕ × List ℕ)) → known_inputs is ≡ Some all → TakesAll forced kept is more → with_inputs forced kept all ≡ Ok more
-  takes_bytes [] kept more all e same = (let none : all ≡ [] = (let f : Some [] ≡ Some all = e in cc) in ap (with_inputs forced kept) none) ∙ ap (λ (x : List Labelled). Ok x) (sym same)
+  takes_bytes : (is : List Input) (kept more : List Labelled) (all : List (List ℕ × List ℕ)) →
+      known_inputs is ≡ Some all → TakesAll forced kept is more → with_inputs forced kept all ≡ Ok more
+  takes_bytes [] kept more all e same =
+      (let none : all ≡ [] = (let f : Some [] ≡ Some all = e in cc) in ap (with_inputs forced kept) none)
+      ∙ ap (λ (x : List Labelled). Ok x) (sym same)
   takes_bytes (i ∷ is) kept more all e (next, takes, rest) =
       let f = first_known i is all e in
       took_first kept next i is all f takes ∙ takes_bytes is next more f.later f.others rest
 
   -- what is said of a part is said of the whole
-  pub said_of_whole : {A B : Type 0} (s : Said) (part : Result A Refusal) (rest : A → Result B Refusal) → IsTrueOf s part → IsTrueOf s (and_then part rest)
+  pub said_of_whole : {A B : Type 0} (s : Said) (part : Result A Refusal) (rest : A → Result B Refusal) →
+      IsTrueOf s part → IsTrueOf s (and_then part rest)
   said_of_whole {A} (refuses r) part rest h = ap (λ (x : Result A Refusal). and_then x rest) h
   said_of_whole (breaks path) part rest h = tt
   said_of_whole runs_out part rest h = tt
   said_of_whole never part rest h = h
 
-  said_at : (kept : List Labelled) (i : Input) (bytes : List ℕ) (said : Said) → i.known ≡ Some bytes → StopsAt forced kept i said → IsTrueOf said (at_path i.path (with_input forced kept i.path bytes))
+  said_at : (kept : List Labelled) (i : Input) (bytes : List ℕ) (said : Said) → i.known ≡ Some bytes →
+      StopsAt forced kept i said → IsTrueOf said (at_path i.path (with_input forced kept i.path bytes))
   said_at kept i bytes (refuses (of_input path cause)) known (at, h) =
-      ap (at_path i.path) (ap (kept_with forced kept i.path) (sym (known_bytes i.known bytes (λ bytes. h.found ≡ object_in (decode bytes)) known h.is_found)) ∙ h.rejects) ∙ ap (λ (p : List ℕ). Err (of_input p cause)) (sym at)
+      ap (at_path i.path) (ap (kept_with forced kept i.path)
+      (sym (known_bytes i.known bytes (λ bytes. h.found ≡ object_in (decode bytes)) known h.is_found)) ∙ h.rejects)
+      ∙ ap (λ (p : List ℕ). Err (of_input p cause)) (sym at)
   said_at kept i bytes (refuses (not_linked fault)) known h = absurd h
   said_at kept i bytes (breaks path) known h = tt
   said_at kept i bytes runs_out known h = tt
   said_at kept i bytes never known h = absurd h
 
-  stops_bytes : (is : List Input) (kept : List Labelled) (all : List (List ℕ × List ℕ)) (said : Said) → known_inputs is ≡ Some all → StopsIn forced kept is said → IsTrueOf said (with_inputs forced kept all)
+  stops_bytes : (is : List Input) (kept : List Labelled) (all : List (List ℕ × List ℕ)) (said : Said) →
+      known_inputs is ≡ Some all → StopsIn forced kept is said → IsTrueOf said (with_inputs forced kept all)
   stops_bytes [] kept all said e h = absurd h
   stops_bytes (i ∷ is) kept all said e (inl h) =
       let f = first_known i is all e in
@@ -167,8 +199,10 @@ module _ (forced : List (List ℕ)) where
 
     not_linked_of : (said : Said) → IsNotLinked forced o is said → IsTrueOf said (linked forced all o)
     not_linked_of runs_out h = tt
-    not_linked_of (refuses r) (inl h) = said_of_whole (refuses r) (with_inputs forced [] all) link_kept (stops_bytes is [] all (refuses r) e h)
-    not_linked_of (refuses r) (inr h) = subst (IsTrueOf (refuses r)) (sym (linked_of h.kept h.taken)) (no_link_of (link forced (objects h.kept) o) (refuses r) h.none)
+    not_linked_of (refuses r) (inl h) =
+        said_of_whole (refuses r) (with_inputs forced [] all) link_kept (stops_bytes is [] all (refuses r) e h)
+    not_linked_of (refuses r) (inr h) =
+        subst (IsTrueOf (refuses r)) (sym (linked_of h.kept h.taken)) (no_link_of (link forced (objects h.kept) o) (refuses r) h.none)
     not_linked_of (breaks path) h = tt
     not_linked_of never (inl h) = said_of_whole never (with_inputs forced [] all) link_kept (stops_bytes is [] all never e h)
     not_linked_of never (inr h) = absurd h.none
@@ -178,7 +212,8 @@ module _ (forced : List (List ℕ)) where
     of_bytes (Err fault) h = not_linked_of (said_by fault) h
 
 -- what is said of the inputs is said of their bytes
-pub is_link_of : (forced : List (List ℕ)) (o : Choices) (is : List Input) (answer : Result Linked CliFault) → IsLinkOver forced o is answer → IsLinkOf forced o is answer
+pub is_link_of : (forced : List (List ℕ)) (o : Choices) (is : List Input) (answer : Result Linked CliFault) →
+    IsLinkOver forced o is answer → IsLinkOf forced o is answer
 is_link_of forced o is answer h = record { over = h; bytes = by_inputs (known_inputs is) refl }
   where
     by_inputs : (t : Option (List (List ℕ × List ℕ))) → known_inputs is ≡ t → IfSome t (λ bytes. IsLinkOfBytes forced o bytes answer)
@@ -211,13 +246,15 @@ runs_out_for [] is some = absurd (some refl)
 runs_out_for (name ∷ names) is some = tt
 
 -- the link stops at an input, whatever the inputs before it leave
-stops_in : (forced : List (List ℕ)) (kept left : List Labelled) (is : List Input) (said : Said) → StopsWith forced kept is said left → StopsIn forced kept is said
+stops_in : (forced : List (List ℕ)) (kept left : List Labelled) (is : List Input) (said : Said) →
+    StopsWith forced kept is said left → StopsIn forced kept is said
 stops_in forced kept left [] said h = h
 stops_in forced kept left (i ∷ is) said (inl h) = inl h.1
 stops_in forced kept left (i ∷ is) said (inr (next, takes, rest)) = inr (next, takes, stops_in forced next left is said rest)
 
 -- so there is no link
-not_linked_in : (forced : List (List ℕ)) (o : Choices) (is : List Input) (said : Said) → StopsIn forced [] is said → IsNotLinked forced o is said
+not_linked_in : (forced : List (List ℕ)) (o : Choices) (is : List Input) (said : Said) → StopsIn forced [] is said →
+    IsNotLinked forced o is said
 not_linked_in forced o is (refuses r) h = inl h
 not_linked_in forced o is (breaks path) h = inl h
 not_linked_in forced o is runs_out h = runs_out_in forced is h
@@ -226,7 +263,8 @@ not_linked_in forced o is never h = inl h
 -- ---- the final link
 
 -- a fault of the link
-pub final_fault : (x : Result Outcome LinkFault) (cause : LinkFault) (r : Result Linked CliFault) → outcomes.IsLinkOf (Err cause) x → IsErrAnd r (λ f. f ≡ fault_of_link cause) → IsFinalLink x r
+pub final_fault : (x : Result Outcome LinkFault) (cause : LinkFault) (r : Result Linked CliFault) →
+    outcomes.IsLinkOf (Err cause) x → IsErrAnd r (λ f. f ≡ fault_of_link cause) → IsFinalLink x r
 final_fault x cause (Ok l) h e = absurd e
 final_fault x cause (Err f) h e = subst (λ (f : CliFault). IsFinalLink x (Err f)) (sym e) (by_cause cause h)
   where
@@ -247,15 +285,20 @@ module _ (forced : List (List ℕ)) (o : Choices) (is : List Input) (old new : K
   names_of same = same ∙ ap (λ (k : Kept). k.forced) empty
 
   -- the link stops at an input
-  pub stopped : (fault : CliFault) (r : Result Linked CliFault) → AreTaken old new is (Err fault) → IsErrAnd r (λ f. f ≡ fault) → IsLinkOf forced o is r
+  pub stopped : (fault : CliFault) (r : Result Linked CliFault) → AreTaken old new is (Err fault) →
+      IsErrAnd r (λ f. f ≡ fault) → IsLinkOf forced o is r
   stopped fault (Ok l) h e = absurd e
   stopped fault (Err f) h e =
       subst (λ (x : CliFault). IsLinkOf forced o is (Err x)) (sym e)
-      (is_link_of forced o is (Err fault) (not_linked_in forced o is (said_by fault) (stops_in forced [] new.entries is (said_by fault) (from_nothing (Err fault) h))))
+      (is_link_of forced o is (Err fault) (not_linked_in forced o is (said_by fault)
+      (stops_in forced [] new.entries is (said_by fault) (from_nothing (Err fault) h))))
 
   -- all inputs are taken, and linked
-  pub linked_last : (r : Result Linked CliFault) → new.forced ≡ old.forced → AreTaken old new is (Ok tt) → IsFinalLink (link new.forced (objects new.entries) o) r → IsLinkOf forced o is r
-  linked_last r same h final = is_link_of forced o is r (by_final r (subst (λ (f : List (List ℕ)). IsFinalLink (link f (objects new.entries) o) r) (names_of same) final))
+  pub linked_last : (r : Result Linked CliFault) → new.forced ≡ old.forced → AreTaken old new is (Ok tt) →
+      IsFinalLink (link new.forced (objects new.entries) o) r → IsLinkOf forced o is r
+  linked_last r same h final =
+      is_link_of forced o is r
+      (by_final r (subst (λ (f : List (List ℕ)). IsFinalLink (link f (objects new.entries) o) r) (names_of same) final))
     where
       taken : TakesAll forced [] is new.entries
       taken = from_nothing (Ok tt) h
@@ -279,8 +322,11 @@ module _ (forced : List (List ℕ)) (o : Choices) (is : List Input) (old new : K
       by_final (Err faults.ScriptFailed) f = absurd f
 
 -- memory runs out for forced names
-pub no_names : (forced : List (List ℕ)) (o : Choices) (is : List Input) (r : Result Linked CliFault) → forced ≢ [] → IsErrAnd r (λ f. f ≡ faults.Memory) → IsLinkOf forced o is r
+pub no_names : (forced : List (List ℕ)) (o : Choices) (is : List Input) (r : Result Linked CliFault) → forced ≢ [] →
+    IsErrAnd r (λ f. f ≡ faults.Memory) → IsLinkOf forced o is r
 no_names forced o is (Ok l) some e = absurd e
-no_names forced o is (Err f) some e = subst (λ (x : CliFault). IsLinkOf forced o is (Err x)) (sym e) (is_link_of forced o is (Err faults.Memory) (runs_out_for forced is some))
+no_names forced o is (Err f) some e =
+    subst (λ (x : CliFault). IsLinkOf forced o is (Err x)) (sym e)
+    (is_link_of forced o is (Err faults.Memory) (runs_out_for forced is some))
 
 pub ruleset by_final = (final_fault)

@@ -27,29 +27,40 @@ no_more {A} all before left h e = h ∙ ap (λ (l : List A). before ++ l) e ∙ 
 
 module _ {R : Type 0} (remaining : R → Option (List ℕ)) where
   -- one more file is opened
-  pub opens_more : (a b c : History) (inputs : List (String Global × Latched R)) (i : String Global × Latched R) → Extends a b (opens (sources remaining inputs)) →
-      Extends b c (opened (string_bytes i.0) (Some (remaining i.1.device)) ∷ []) → Extends a c (opens (sources remaining (inputs ++ i ∷ [])))
+  pub opens_more : (a b c : History) (inputs : List (String Global × Latched R)) (i : String Global × Latched R) →
+      Extends a b (opens (sources remaining inputs)) →
+      Extends b c (opened (string_bytes i.0) (Some (remaining i.1.device)) ∷ []) →
+      Extends a c (opens (sources remaining (inputs ++ i ∷ [])))
   opens_more a b c inputs i h k =
-      subst (Extends a c) (sym (ap opens (map-append _ inputs (i ∷ [])) ∙ map-append _ (sources remaining inputs) _)) (asked_after a b c _ _ h k)
+      subst (Extends a c) (sym (ap opens (map-append _ inputs (i ∷ [])) ∙ map-append _ (sources remaining inputs) _))
+      (asked_after a b c _ _ h k)
 
   -- the paths of the files that were opened
-  pub paths_opened : (inputs : List (String Global × Latched R)) → map string_bytes (map (λ i. i.0) inputs) ≡ paths_of (sources remaining inputs)
+  pub paths_opened : (inputs : List (String Global × Latched R)) →
+      map string_bytes (map (λ i. i.0) inputs) ≡ paths_of (sources remaining inputs)
   paths_opened [] = refl
   paths_opened (i ∷ is) = ap (λ (l : List (List ℕ)). string_bytes i.0 ∷ l) (paths_opened is)
 
-  pub stops_at : (a b c : History) (files left later : List (String Global)) (path : String Global) (inputs : List (String Global × Latched R)) → Extends a b (opens (sources remaining inputs)) →
-      files ≡ map (λ i. i.0) inputs ++ left → left ≡ path ∷ later → Extends b c (opened (string_bytes path) None ∷ []) → StopsAt a c (map string_bytes files) (string_bytes path)
+  pub stops_at : (a b c : History) (files left later : List (String Global)) (path : String Global)
+      (inputs : List (String Global × Latched R)) → Extends a b (opens (sources remaining inputs)) →
+      files ≡ map (λ i. i.0) inputs ++ left → left ≡ path ∷ later → Extends b c (opened (string_bytes path) None ∷ []) →
+      StopsAt a c (map string_bytes files) (string_bytes path)
   stops_at a b c files left later path inputs h order e k = record {
     found = sources remaining inputs;
     rest = map string_bytes later;
-    order = ap (map string_bytes) (order ∙ ap (λ (l : List (String Global)). map (λ i. i.0) inputs ++ l) e) ∙ map-append string_bytes (map (λ i. i.0) inputs) (path ∷ later) ∙ ap (λ (l : List (List ℕ)). l ++ string_bytes path ∷ map string_bytes later) (paths_opened inputs);
+    order =
+        ap (map string_bytes) (order ∙ ap (λ (l : List (String Global)). map (λ i. i.0) inputs ++ l) e)
+        ∙ map-append string_bytes (map (λ i. i.0) inputs) (path ∷ later)
+        ∙ ap (λ (l : List (List ℕ)). l ++ string_bytes path ∷ map string_bytes later) (paths_opened inputs);
     asked = asked_after a b c _ _ h k;
   }
 
-pub opened_at : (b c : History) (at path : List ℕ) (came known : Option (Option (List ℕ))) → Extends b c (opened at came ∷ []) → at ≡ path → came ≡ known → Extends b c (opened path known ∷ [])
+pub opened_at : (b c : History) (at path : List ℕ) (came known : Option (Option (List ℕ))) →
+    Extends b c (opened at came ∷ []) → at ≡ path → came ≡ known → Extends b c (opened path known ∷ [])
 opened_at b c at path came known h p k = rw (sym p, sym k) h
 
-pub stored_at : (b c : History) (at path : List ℕ) (file : Contents) (what : Stored) → Extends b c (stored at file what ∷ []) → at ≡ path → Extends b c (stored path file what ∷ [])
+pub stored_at : (b c : History) (at path : List ℕ) (file : Contents) (what : Stored) →
+    Extends b c (stored at file what ∷ []) → at ≡ path → Extends b c (stored path file what ∷ [])
 stored_at b c at path file what h p = rw (sym p) h
 
 -- a fault that is passed on as it is

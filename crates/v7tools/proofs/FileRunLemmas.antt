@@ -14,28 +14,35 @@ use Rattle.surroundings.specs.declared.office.Stored.TheVariants.{Kept, NotCreat
 use Rattle.surroundings.proofs.EventLemmas.{asked_after}
 use Rattle.v7tools.proofs.EventLemmas.{map-append}
 
-read_after : (found : List Opened) (loaded : List Loaded) (known : Option (List ℕ)) (l : Loaded) → AreRead found loaded → IfSome known (λ bytes. decode bytes ≡ Ok l.1) → AreRead (found ++ (string_bytes l.0, known) ∷ []) (loaded ++ l ∷ [])
+read_after : (found : List Opened) (loaded : List Loaded) (known : Option (List ℕ)) (l : Loaded) → AreRead found loaded →
+    IfSome known (λ bytes. decode bytes ≡ Ok l.1) → AreRead (found ++ (string_bytes l.0, known) ∷ []) (loaded ++ l ∷ [])
 read_after [] [] known l h k = ((refl, k), tt)
 read_after [] (m ∷ ms) known l h k = absurd h
 read_after (f ∷ fs) [] known l h k = absurd h
 read_after (f ∷ fs) (m ∷ ms) known l h k = (h.0, read_after fs ms known l h.1 k)
 
 -- one more file is read
-pub reads_more : (a b c : History) (loaded : List Loaded) (path : String Global) (l : Loaded) → Reads a b loaded → IsLoadAt b c path (Ok l) → Reads a c (loaded ++ l ∷ [])
+pub reads_more : (a b c : History) (loaded : List Loaded) (path : String Global) (l : Loaded) → Reads a b loaded →
+    IsLoadAt b c path (Ok l) → Reads a c (loaded ++ l ∷ [])
 reads_more a b c loaded path l h k = record {
   found = h.found ++ (string_bytes l.0, k.1.0) ∷ [];
   read = read_after h.found loaded k.1.0 l h.read k.1.2;
-  asked = subst (Extends a c) (sym (map-append _ h.found _)) (asked_after a b c _ _ h.asked (subst (λ (p : String Global). Extends b c (opened (string_bytes p) (Some k.1.0) ∷ [])) (sym k.0) k.1.1));
+  asked =
+      subst (Extends a c) (sym (map-append _ h.found _)) (asked_after a b c _ _ h.asked
+      (subst (λ (p : String Global). Extends b c (opened (string_bytes p) (Some k.1.0) ∷ [])) (sym k.0) k.1.1));
 }
 
 -- the paths of what was read and those that are left
-pub paths_more : (files left later : List (String Global)) (loaded : List Loaded) (path : String Global) (l : Loaded) → files ≡ map (λ f. f.0) loaded ++ left → left ≡ path ∷ later → l.0 ≡ path → files ≡ map (λ f. f.0) (loaded ++ l ∷ []) ++ later
+pub paths_more : (files left later : List (String Global)) (loaded : List Loaded) (path : String Global) (l : Loaded) →
+    files ≡ map (λ f. f.0) loaded ++ left → left ≡ path ∷ later → l.0 ≡ path →
+    files ≡ map (λ f. f.0) (loaded ++ l ∷ []) ++ later
 paths_more files left later loaded path l h e same =
     subst (λ (xs : List (String Global)). files ≡ xs ++ later) (sym (map-append (λ (f : Loaded). f.0) loaded (l ∷ [])))
     (one_more files (map (λ f. f.0) loaded) left later l.0 h (e ∙ ap (λ (p : String Global). p ∷ later) (sym same)))
 
 -- one is not read
-pub stops_reading : (a b c : History) (files left later : List (String Global)) (loaded : List Loaded) (path : String Global) (fault : CliFault) → Reads a b loaded → files ≡ map (λ f. f.0) loaded ++ left → left ≡ path ∷ later →
+pub stops_reading : (a b c : History) (files left later : List (String Global)) (loaded : List Loaded) (path : String Global)
+    (fault : CliFault) → Reads a b loaded → files ≡ map (λ f. f.0) loaded ++ left → left ≡ path ∷ later →
     IsLoadAt b c path (Err fault) → ReadsNotAll a c files fault
 stops_reading a b c files left later loaded path fault h order e k = inr (record {
   loaded = loaded;
@@ -53,13 +60,15 @@ abbrev pub strips_all : List Loaded → List Event
 strips_all loaded = map (λ l. strips l Kept) loaded
 
 -- one more file is stored
-pub strips_more : (a b c : History) (done : List Loaded) (l : Loaded) (what : Stored) → Extends a b (strips_all done) → Extends b c (strips l what ∷ []) → IsStored l.0 what (Ok tt) → Extends a c (strips_all (done ++ l ∷ []))
+pub strips_more : (a b c : History) (done : List Loaded) (l : Loaded) (what : Stored) → Extends a b (strips_all done) →
+    Extends b c (strips l what ∷ []) → IsStored l.0 what (Ok tt) → Extends a c (strips_all (done ++ l ∷ []))
 strips_more a b c done l Kept h k is = subst (Extends a c) (sym (map-append _ done (l ∷ []))) (asked_after a b c _ _ h k)
 strips_more a b c done l NotCreated h k is = absurd (cc)
 strips_more a b c done l Failed h k is = absurd (cc)
 
 -- one is not stored
-pub stops_storing : (a b c : History) (loaded done left later : List Loaded) (l : Loaded) (what : Stored) (fault : CliFault) → loaded ≡ done ++ left → left ≡ l ∷ later → Extends a b (strips_all done) → Extends b c (strips l what ∷ []) →
+pub stops_storing : (a b c : History) (loaded done left later : List Loaded) (l : Loaded) (what : Stored) (fault : CliFault) →
+    loaded ≡ done ++ left → left ≡ l ∷ later → Extends a b (strips_all done) → Extends b c (strips l what ∷ []) →
     IsStored l.0 what (Err fault) → IsStripping a c loaded (Err fault)
 stops_storing a b c loaded done left later l what fault order e h k is = record {
   front = done;
@@ -71,5 +80,6 @@ stops_storing a b c loaded done left later l what fault order e h k is = record 
   fails = is;
 }
 
-pub strip_at : (b c : History) (at : List ℕ) (file : Contents) (l : Loaded) (what : Stored) → Extends b c (stored at file what ∷ []) → at ≡ string_bytes l.0 → file ≡ stripped l.1 → Extends b c (strips l what ∷ [])
+pub strip_at : (b c : History) (at : List ℕ) (file : Contents) (l : Loaded) (what : Stored) →
+    Extends b c (stored at file what ∷ []) → at ≡ string_bytes l.0 → file ≡ stripped l.1 → Extends b c (strips l what ∷ [])
 strip_at b c at file l what h p f = rw (sym p, sym f) h

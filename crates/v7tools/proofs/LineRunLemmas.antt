@@ -12,7 +12,8 @@ use Rattle.tool_options.specs.Choices.{Choices}
 use Rattle.link_out.specs.declared.linked.Linked.{Linked}
 use Rattle.link_out.specs.function.Link.{Outcome, link}
 use Rattle.link_out.specs.Outcomes.{report_names, outcome_of}
-use Rattle.v7tools.specs.Answers.{absent, Verdict, done, refused, to_store, Stepped, add_step, input_from, failing, giving, withdraw_step, link_answer_text, link_status}
+use Rattle.v7tools.specs.Answers.{absent, Verdict, done, refused, to_store, Stepped, add_step, input_from, failing}
+use Rattle.v7tools.specs.Answers.{giving, withdraw_step, link_answer_text, link_status}
 use Rattle.surroundings.specs.Events.{Event, History, Extends, opened, stored}
 use Rattle.v7tools.specs.FaultTexts.{cli_text, fault_of_link}
 use Rattle.v7tools.specs.Inputs.{Cause, kept_with}
@@ -55,17 +56,22 @@ is_no_link : (did other : Stepped) → did ≡ other → Stores did → (Stores 
 is_no_link did other e s never = never (subst Stores e s)
 
 module _ {R : Type 0} (remaining : R → Option (List ℕ)) where
-  add_on_stores : (known : Option (List ℕ)) (forced : List (List ℕ)) (kept : List Labelled) (path : List ℕ) (did : Stepped) → IsAddOn known forced kept path did → Stores did → ⊥
-  add_on_stores (Some bytes) forced kept path did h s = is_no_link did _ h s (adds_no_file kept path (input_from forced kept path (giving bytes)))
+  add_on_stores : (known : Option (List ℕ)) (forced : List (List ℕ)) (kept : List Labelled) (path : List ℕ) (did : Stepped) →
+      IsAddOn known forced kept path did → Stores did → ⊥
+  add_on_stores (Some bytes) forced kept path did h s =
+      is_no_link did _ h s (adds_no_file kept path (input_from forced kept path (giving bytes)))
   add_on_stores None forced kept path did h s = is_no_link did _ h.1 s (adds_no_file kept path (kept_with forced kept path h.0))
 
-  add_stores : (wire : Latched R) (forced : List (List ℕ)) (kept : List Labelled) (path : List ℕ) (did : Stepped) → IsAddBy remaining wire forced kept path did → Stores did → ⊥
+  add_stores : (wire : Latched R) (forced : List (List ℕ)) (kept : List Labelled) (path : List ℕ) (did : Stepped) →
+      IsAddBy remaining wire forced kept path did → Stores did → ⊥
   add_stores wire forced kept path did (inl e) s = is_no_link did _ e s (adds_no_file kept path (input_from forced kept path failing))
   add_stores wire forced kept path did (inr (working, inl h)) s = refused_stores did (ap (λ (d : Stepped). d.verdict) h.0) s
   add_stores wire forced kept path did (inr (working, inr h)) s = add_on_stores (remaining wire.device) forced kept path did h s
 
-  pub plain_stores : (o : Choices) (old : Kept) (command : Command R) (did : Stepped) → IsNoLink command → IsStepOn remaining old o command did → Stores did → ⊥
-  plain_stores o old (Add path None) did plain h s = is_no_link did _ h s (adds_no_file old.entries (string_bytes path) (input_from old.forced old.entries (string_bytes path) absent))
+  pub plain_stores : (o : Choices) (old : Kept) (command : Command R) (did : Stepped) → IsNoLink command →
+      IsStepOn remaining old o command did → Stores did → ⊥
+  plain_stores o old (Add path None) did plain h s =
+      is_no_link did _ h s (adds_no_file old.entries (string_bytes path) (input_from old.forced old.entries (string_bytes path) absent))
   plain_stores o old (Add path (Some wire)) did plain h s = add_stores wire old.forced old.entries (string_bytes path) did h s
   plain_stores o old Withdraw did plain h s = is_no_link did _ h s (takes_no_file old.entries (last_of old.entries))
   plain_stores o old Externals did plain h s = done_stores did (ap (λ (d : Stepped). d.verdict) h) s
@@ -75,12 +81,15 @@ module _ {R : Type 0} (remaining : R → Option (List ℕ)) where
 
 module _ {W : Type 0} (contents : W → Option (List ℕ)) where
   -- an answer of which a prefix went out
-  broke_off : (v : Verdict) (answer : List ℕ) (fault : CliFault) (before after : Latched W) → GoesOut contents v answer (Err fault) before after → IsTrue after.has_failed × AppendsPrefix (contents before.device) (contents after.device) answer
+  broke_off : (v : Verdict) (answer : List ℕ) (fault : CliFault) (before after : Latched W) →
+      GoesOut contents v answer (Err fault) before after →
+      IsTrue after.has_failed × AppendsPrefix (contents before.device) (contents after.device) answer
   broke_off done answer fault before after h = (h.fault.0 refl, h.bytes)
   broke_off refused answer fault before after h = (h.fault.0 refl, h.bytes)
   broke_off (to_store x) answer fault before after h = absurd (cc)
 
-  pub answers_fault : (did : Stepped) (left : Kept) (fault : CliFault) (result : Result ℕ CliFault) (before after : Latched W) → Does contents did left (Err fault) before after → fault ≡ faults.WriteFailed → result ≡ Err fault →
+  pub answers_fault : (did : Stepped) (left : Kept) (fault : CliFault) (result : Result ℕ CliFault) (before after : Latched W) →
+      Does contents did left (Err fault) before after → fault ≡ faults.WriteFailed → result ≡ Err fault →
       AnswersStep contents did left result before after
   answers_fault did left fault result before after h is e =
       let out = broke_off did.verdict did.answer fault before after h.answer in
@@ -93,14 +102,17 @@ module _ {W : Type 0} (contents : W → Option (List ℕ)) where
       })
 
   -- an answer that went out
-  wrote : (v : Verdict) (answer : List ℕ) (s : Step) (status : ℕ) (before after : Latched W) → ((x : Outcome) → v ≡ to_store x → ⊥) → GoesOut contents v answer (Ok s) before after →
-      (IsErr {E = CliFault} (Ok status) ↔ IsTrue after.has_failed) × Puts {E = CliFault} (Ok status) (contents before.device) (contents after.device) answer
+  wrote : (v : Verdict) (answer : List ℕ) (s : Step) (status : ℕ) (before after : Latched W) →
+      ((x : Outcome) → v ≡ to_store x → ⊥) → GoesOut contents v answer (Ok s) before after →
+      (IsErr {E = CliFault} (Ok status) ↔ IsTrue after.has_failed)
+      × Puts {E = CliFault} (Ok status) (contents before.device) (contents after.device) answer
   wrote done answer s status before after plain h = (h.fault, h.bytes)
   wrote refused answer s status before after plain h = (h.fault, h.bytes)
   wrote (to_store x) answer s status before after plain h = absurd (plain x refl)
 
-  pub answers_status : (did : Stepped) (left : Kept) (s : Step) (status : ℕ) (before after : Latched W) → Does contents did left (Ok s) before after → ((x : Outcome) → verdict_of s ≡ to_store x → ⊥) → status ≡ status_after (verdict_of s) →
-      AnswersStep contents did left (Ok status) before after
+  pub answers_status : (did : Stepped) (left : Kept) (s : Step) (status : ℕ) (before after : Latched W) →
+      Does contents did left (Ok s) before after → ((x : Outcome) → verdict_of s ≡ to_store x → ⊥) →
+      status ≡ status_after (verdict_of s) → AnswersStep contents did left (Ok status) before after
   answers_status did left s status before after h plain is =
       let out = wrote did.verdict did.answer s status before after (λ x e. plain x (h.verdict ∙ e)) h.answer in record {
         entries = h.kept;
@@ -116,7 +128,9 @@ module _ {W : Type 0} (contents : W → Option (List ℕ)) where
   abbrev run_of : Asked → List Event → Stepped → Kept → LineRun
   run_of asks events did left = record { line = asks; events = events; answer = did.answer; status = status_after did.verdict; kept = left }
 
-  answered_by : (o : Choices) (asks : Asked) (events : List Event) (did : Stepped) (kept left : Kept) (old new : History) (result : Result ℕ CliFault) (before after : Latched W) → AnswersStep contents did left result before after → Extends old new events →
+  answered_by : (o : Choices) (asks : Asked) (events : List Event) (did : Stepped) (kept left : Kept)
+      (old new : History) (result : Result ℕ CliFault) (before after : Latched W) →
+      AnswersStep contents did left result before after → Extends old new events →
       IsLineOf o kept (run_of asks events did left) asks → AnswersLine contents o asks kept left old new result before after
   answered_by o asks events did kept left old new result before after told asked is = record {
     run = run_of asks events did left;
@@ -130,66 +144,116 @@ module _ {W : Type 0} (contents : W → Option (List ℕ)) where
     bytes = told.bytes;
   }
 
-  does_step : (asks : Asked) (events : List Event) (did : Stepped) (left : Kept) → left.entries ≡ did.kept → DoesStep did (run_of asks events did left)
+  does_step : (asks : Asked) (events : List Event) (did : Stepped) (left : Kept) → left.entries ≡ did.kept →
+      DoesStep did (run_of asks events did left)
   does_step asks events did left e = record { answer = refl; status = refl; entries = e }
 
   -- a line that only tells
-  answers_line : (asks : Asked) (did by : Stepped) (kept left : Kept) → did ≡ by → left.entries ≡ did.kept → left ≡ kept → OnlyAnswers by kept (run_of asks [] did left)
-  answers_line asks did by kept left e entries same = subst (λ (d : Stepped). OnlyAnswers d kept (run_of asks [] did left)) e (record { events = refl; does = does_step asks [] did left entries; same = same })
+  answers_line : (asks : Asked) (did by : Stepped) (kept left : Kept) → did ≡ by → left.entries ≡ did.kept →
+      left ≡ kept → OnlyAnswers by kept (run_of asks [] did left)
+  answers_line asks did by kept left e entries same =
+      subst (λ (d : Stepped). OnlyAnswers d kept (run_of asks [] did left)) e
+      (record { events = refl; does = does_step asks [] did left entries; same = same })
 
-  module _ {R : Type 0} (remaining : R → Option (List ℕ)) (o : Choices) (kept left : Kept) (result : Result ℕ CliFault) (before after : Latched W) where
-    add_of : (wire : Latched R) (path : List ℕ) (did : Stepped) → IsAddBy remaining wire kept.forced kept.entries path did → IsAddOf (remaining wire.device) kept path did
+  module _ {R : Type 0} (remaining : R → Option (List ℕ)) (o : Choices) (kept left : Kept) (result : Result ℕ CliFault)
+      (before after : Latched W) where
+    add_of : (wire : Latched R) (path : List ℕ) (did : Stepped) →
+        IsAddBy remaining wire kept.forced kept.entries path did → IsAddOf (remaining wire.device) kept path did
     add_of wire path did (inl e) = inl e
     add_of wire path did (inr (working, inl h)) = inr (inl h)
     add_of wire path did (inr (working, inr h)) = inr (inr h)
 
-    pub added_line : (old new : History) (path : String Global) (at : List ℕ) (wire : Option (Latched R)) → at ≡ string_bytes path → IsOpenedAt remaining old new at wire → TakesPlainStep remaining contents o (Add path wire) kept left result before after →
+    pub added_line : (old new : History) (path : String Global) (at : List ℕ) (wire : Option (Latched R)) →
+        at ≡ string_bytes path → IsOpenedAt remaining old new at wire →
+        TakesPlainStep remaining contents o (Add path wire) kept left result before after →
         AnswersLine contents o (to_add (string_bytes path)) kept left old new result before after
     added_line old new path at None is asked (did, e, changes, told) =
         let asks = to_add (string_bytes path) in
         let events = opened (string_bytes path) None ∷ [] in
         let same : left ≡ kept = subst (λ (v : Verdict). AddsIf v kept left) (ap (λ (d : Stepped). d.verdict) e) changes in
-        answered_by o asks events did kept left old new result before after told (subst (λ (p : List ℕ). Extends old new (opened p None ∷ [])) is asked)
-        (inl (record { events = refl; does = subst (λ (d : Stepped). DoesStep d (run_of asks events did left)) e (does_step asks events did left told.entries); same = same }))
+        answered_by o asks events did kept left old new result before after told
+        (subst (λ (p : List ℕ). Extends old new (opened p None ∷ [])) is asked)
+        (inl (record {
+          events = refl;
+          does = subst (λ (d : Stepped). DoesStep d (run_of asks events did left)) e (does_step asks events did left told.entries);
+          same = same;
+        }))
     added_line old new path at (Some wire) is asked (did, by, changes, told) =
         let asks = to_add (string_bytes path) in
         let events = opened (string_bytes path) (Some (remaining wire.device)) ∷ [] in
-        answered_by o asks events did kept left old new result before after told (subst (λ (p : List ℕ). Extends old new (opened p (Some (remaining wire.device)) ∷ [])) is asked.1)
-        (inr (record { known = remaining wire.device; events = refl; did = did; is_add = add_of wire (string_bytes path) did by; does = does_step asks events did left told.entries; changes = changes }))
+        answered_by o asks events did kept left old new result before after told
+        (subst (λ (p : List ℕ). Extends old new (opened p (Some (remaining wire.device)) ∷ [])) is asked.1)
+        (inr (record {
+          known = remaining wire.device;
+          events = refl;
+          did = did;
+          is_add = add_of wire (string_bytes path) did by;
+          does = does_step asks events did left told.entries;
+          changes = changes;
+        }))
 
     module _ (h : History) where
-      pub withdraw_line : TakesPlainStep remaining contents o Withdraw kept left result before after → AnswersLine contents o to_withdraw kept left h h result before after
+      pub withdraw_line : TakesPlainStep remaining contents o Withdraw kept left result before after →
+          AnswersLine contents o to_withdraw kept left h h result before after
       withdraw_line (did, e, changes, told) =
           answered_by o to_withdraw [] did kept left h h result before after told (nothing_asked h)
-          (subst (λ (d : Stepped). TakesLast d kept (run_of to_withdraw [] did left)) e (record { events = refl; does = does_step to_withdraw [] did left told.entries; changes = changes }))
+          (subst (λ (d : Stepped). TakesLast d kept (run_of to_withdraw [] did left)) e
+          (record { events = refl; does = does_step to_withdraw [] did left told.entries; changes = changes }))
 
-      pub externals_line : TakesPlainStep remaining contents o Externals kept left result before after → AnswersLine contents o for_externals kept left h h result before after
-      externals_line (did, e, changes, told) = answered_by o for_externals [] did kept left h h result before after told (nothing_asked h) (answers_line for_externals did _ kept left e told.entries changes)
+      pub externals_line : TakesPlainStep remaining contents o Externals kept left result before after →
+          AnswersLine contents o for_externals kept left h h result before after
+      externals_line (did, e, changes, told) =
+          answered_by o for_externals [] did kept left h h result before after told (nothing_asked h)
+          (answers_line for_externals did _ kept left e told.entries changes)
 
-      pub undefined_line : TakesPlainStep remaining contents o Undefined kept left result before after → AnswersLine contents o for_undefined kept left h h result before after
-      undefined_line (did, e, changes, told) = answered_by o for_undefined [] did kept left h h result before after told (nothing_asked h) (answers_line for_undefined did _ kept left e told.entries changes)
+      pub undefined_line : TakesPlainStep remaining contents o Undefined kept left result before after →
+          AnswersLine contents o for_undefined kept left h h result before after
+      undefined_line (did, e, changes, told) =
+          answered_by o for_undefined [] did kept left h h result before after told (nothing_asked h)
+          (answers_line for_undefined did _ kept left e told.entries changes)
 
-      pub bad_line : TakesPlainStep remaining contents o Bad kept left result before after → AnswersLine contents o for_nothing kept left h h result before after
-      bad_line (did, e, changes, told) = answered_by o for_nothing [] did kept left h h result before after told (nothing_asked h) (answers_line for_nothing did _ kept left e told.entries changes)
+      pub bad_line : TakesPlainStep remaining contents o Bad kept left result before after →
+          AnswersLine contents o for_nothing kept left h h result before after
+      bad_line (did, e, changes, told) =
+          answered_by o for_nothing [] did kept left h h result before after told (nothing_asked h)
+          (answers_line for_nothing did _ kept left e told.entries changes)
 
   module _ (o : Choices) (path : List ℕ) (kept : Kept) (result : Result ℕ CliFault) (before after : Latched W) where
     -- there is no link
-    pub refused_link : (h : History) → RefusesLink contents (link kept.forced (objects kept.entries) o) result before after → IfOk result (λ status. status ≡ 1) → IfErr result (λ e. e ≡ faults.WriteFailed) →
+    pub refused_link : (h : History) → RefusesLink contents (link kept.forced (objects kept.entries) o) result before after →
+        IfOk result (λ status. status ≡ 1) → IfErr result (λ e. e ≡ faults.WriteFailed) →
         AnswersLine contents o (to_link path) kept kept h h result before after
     refused_link h (fault, is, written) status write_failed =
         let did = refused_as kept.entries (cli_text (fault_of_link fault)) in
-        answered_by o (to_link path) [] did kept kept h h result before after (record { entries = refl; status = status; write_failed = write_failed; fault = written.fault; bytes = written.bytes }) (nothing_asked h)
-        (inl (record { did = did; is_link = link_refused_by kept.entries (link kept.forced (objects kept.entries) o) fault is; refuses = refl; only_answer = answers_line (to_link path) did did kept kept refl refl refl }))
+        answered_by o (to_link path) [] did kept kept h h result before after
+        (record { entries = refl; status = status; write_failed = write_failed; fault = written.fault; bytes = written.bytes })
+        (nothing_asked h)
+        (inl (record {
+          did = did;
+          is_link = link_refused_by kept.entries (link kept.forced (objects kept.entries) o) fault is;
+          refuses = refl;
+          only_answer = answers_line (to_link path) did did kept kept refl refl refl;
+        }))
 
     -- there is a link, and it is known what became of its file
-    pub stored_link : (old new : History) (made : Linked) (what : Stored) → link kept.forced (objects kept.entries) o ≡ Ok (outcome_of made) → Extends old new (stored path made.file what ∷ []) →
-        IfOk result (λ status. status ≡ link_status (report_names made.report) what) → IfErr result (λ e. e ≡ faults.WriteFailed) → (IsErr result ↔ IsTrue after.has_failed) →
-        Puts result (contents before.device) (contents after.device) (link_answer_text (report_names made.report) path what) → AnswersLine contents o (to_link path) kept kept old new result before after
+    pub stored_link : (old new : History) (made : Linked) (what : Stored) → link kept.forced (objects kept.entries) o
+        ≡ Ok (outcome_of made) → Extends old new (stored path made.file what ∷ []) →
+        IfOk result (λ status. status ≡ link_status (report_names made.report) what) →
+        IfErr result (λ e. e ≡ faults.WriteFailed) → (IsErr result ↔ IsTrue after.has_failed) →
+        Puts result (contents before.device) (contents after.device) (link_answer_text (report_names made.report) path what) →
+        AnswersLine contents o (to_link path) kept kept old new result before after
     stored_link old new made what is asked status write_failed failed bytes = record {
-      run = record { line = to_link path; events = stored path made.file what ∷ []; answer = link_answer_text (report_names made.report) path what; status = link_status (report_names made.report) what; kept = kept };
+      run = record {
+        line = to_link path;
+        events = stored path made.file what ∷ [];
+        answer = link_answer_text (report_names made.report) path what;
+        status = link_status (report_names made.report) what;
+        kept = kept;
+      };
       line = refl;
       leaves = refl;
-      is_run = inr (record { outcome = outcome_of made; is_link = is; what = what; events = refl; answer = refl; status = refl; same = refl });
+      is_run =
+          inr (record { outcome = outcome_of made; is_link = is; what = what; events = refl; answer = refl; status = refl; same = refl });
       asked = asked;
       status = status;
       write_failed = write_failed;
@@ -198,17 +262,23 @@ module _ {W : Type 0} (contents : W → Option (List ℕ)) where
     }
 
   -- an answer to which nothing had been written
-  pub answered_from : (o : Choices) (asks : Asked) (kept left : Kept) (old new : History) (result : Result ℕ CliFault) (before between after : Latched W) → between ≡ before → AnswersLine contents o asks kept left old new result between after →
-      AnswersLine contents o asks kept left old new result before after
-  answered_from o asks kept left old new result before between after e h = subst (λ (w : Latched W). AnswersLine contents o asks kept left old new result w after) e h
+  pub answered_from : (o : Choices) (asks : Asked) (kept left : Kept) (old new : History) (result : Result ℕ CliFault)
+      (before between after : Latched W) → between ≡ before → AnswersLine contents o asks kept left old new result
+      between after → AnswersLine contents o asks kept left old new result before after
+  answered_from o asks kept left old new result before between after e h =
+      subst (λ (w : Latched W). AnswersLine contents o asks kept left old new result w after) e h
 
   -- the whole answer is after a flush that failed
   pub not_passed : (a b c : Option (List ℕ)) (answer : List ℕ) → Appends a b answer → Keeps b c → AppendsPrefix a c answer
   not_passed a b c answer sent kept = (answer, [], sym (append-nil answer), Appends-kept a b c answer sent kept)
 
   -- a line was answered, and its answer is not passed on
-  pub not_passed_on : (o : Choices) (asks : Asked) (kept left : Kept) (old new : History) (status : ℕ) (result : Result ℕ CliFault) (before between after : Latched W) → AnswersLine contents o asks kept left old new (Ok status) before between →
-      Keeps (contents between.device) (contents after.device) → IsErr result → IfErr result (λ fault. fault ≡ faults.WriteFailed) → IsTrue after.has_failed → AnswersLine contents o asks kept left old new result before after
+  pub not_passed_on : (o : Choices) (asks : Asked) (kept left : Kept) (old new : History)
+      (status : ℕ) (result : Result ℕ CliFault) (before between after : Latched W) →
+      AnswersLine contents o asks kept left old new (Ok status) before between →
+      Keeps (contents between.device) (contents after.device) → IsErr result →
+      IfErr result (λ fault. fault ≡ faults.WriteFailed) → IsTrue after.has_failed →
+      AnswersLine contents o asks kept left old new result before after
   not_passed_on o asks kept left old new status result before between after h keeps err write_failed failed = record {
     run = h.run;
     line = h.line;
@@ -218,5 +288,7 @@ module _ {W : Type 0} (contents : W → Option (List ℕ)) where
     status = no_value result (λ s. s ≡ h.run.status) err;
     write_failed = write_failed;
     fault = (λ _. failed, λ _. err);
-    bytes = put_broke_off result (contents before.device) (contents after.device) h.run.answer err (not_passed (contents before.device) (contents between.device) (contents after.device) h.run.answer h.bytes keeps);
+    bytes =
+        put_broke_off result (contents before.device) (contents after.device) h.run.answer err
+        (not_passed (contents before.device) (contents between.device) (contents after.device) h.run.answer h.bytes keeps);
   }

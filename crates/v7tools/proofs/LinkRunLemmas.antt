@@ -19,22 +19,27 @@ use Rattle.v7tools.proofs.EventLemmas.{paths_opened}
 
 module _ {R : Type 0} (remaining : R → Option (List ℕ)) where
   -- the inputs are the files that were opened
-  inputs_from : (inputs : List (String Global × Latched R)) → AllByRecursion IsWorking inputs → inputs_of remaining inputs ≡ inputs_opened (sources remaining inputs)
+  inputs_from : (inputs : List (String Global × Latched R)) → AllByRecursion IsWorking inputs →
+      inputs_of remaining inputs ≡ inputs_opened (sources remaining inputs)
   inputs_from [] h = refl
   inputs_from (i ∷ is) h = λ j. record { path = string_bytes i.0; known = remaining i.1.device; has_failed = h.0 j } ∷ inputs_from is h.1 j
 
   -- the link of the inputs is that of the files that were opened
-  pub link_of_files : (forced : List (List ℕ)) (o : Choices) (files : List (String Global)) (inputs : List (String Global × Latched R)) (answer : Result Linked CliFault) → files ≡ map (λ i. i.0) inputs →
-      AllByRecursion IsWorking inputs → IsLinkOf forced o (inputs_of remaining inputs) answer → IsLinkOfFiles forced o (map string_bytes files) (sources remaining inputs) answer
+  pub link_of_files : (forced : List (List ℕ)) (o : Choices) (files : List (String Global))
+      (inputs : List (String Global × Latched R)) (answer : Result Linked CliFault) → files ≡ map (λ i. i.0) inputs →
+      AllByRecursion IsWorking inputs → IsLinkOf forced o (inputs_of remaining inputs) answer →
+      IsLinkOfFiles forced o (map string_bytes files) (sources remaining inputs) answer
   link_of_files forced o files inputs answer order working h = record {
     all = sym (ap (map string_bytes) order ∙ paths_opened remaining inputs);
     link = subst (λ (is : List Input). IsLinkOf forced o is answer) (inputs_from inputs working) h;
   }
 
-  module _ {W : Type 0} (contents : W → Option (List ℕ)) (forced : List (List ℕ)) (o : Choices) (out : String Global) (files : List (String Global)) (old : History) (result : Result ℕ CliFault) (before after : Latched W) where
-    pub not_opened : (new : History) (fault : CliFault) → IsOpening remaining old new files (Err fault) → result ≡ Err fault → after ≡ before →
-        IsLinkRun contents forced o out (map string_bytes files) old new result before after
-    not_opened new (faults.CannotOpen path) h is same = inr (inl (record { path = path; stops = h; refuses = record { refusal = is; silent = same } }))
+  module _ {W : Type 0} (contents : W → Option (List ℕ)) (forced : List (List ℕ)) (o : Choices) (out : String Global)
+      (files : List (String Global)) (old : History) (result : Result ℕ CliFault) (before after : Latched W) where
+    pub not_opened : (new : History) (fault : CliFault) → IsOpening remaining old new files (Err fault) → result ≡ Err fault →
+        after ≡ before → IsLinkRun contents forced o out (map string_bytes files) old new result before after
+    not_opened new (faults.CannotOpen path) h is same =
+        inr (inl (record { path = path; stops = h; refuses = record { refusal = is; silent = same } }))
     not_opened new faults.Memory h is same = inl (h, record { refusal = is; silent = same })
     not_opened new faults.Usage h is same = absurd h
     not_opened new (faults.BadFile path fault) h is same = absurd h
@@ -58,8 +63,11 @@ module _ {R : Type 0} (remaining : R → Option (List ℕ)) where
       refuses = record { refusal = is; silent = same };
     })))
 
-    pub stores_link : (mid new : History) (inputs : List (String Global × Latched R)) (made : Linked) (what : Stored) → OpensAll remaining old mid files inputs →
-        IsLinkOf forced o (inputs_of remaining inputs) (Ok made) → Extends mid new (stored (string_bytes out) made.file what ∷ []) → ReportsIf contents what out (report_names made.report) result before after →
+    pub stores_link : (mid new : History) (inputs : List (String Global × Latched R)) (made : Linked) (what : Stored) →
+        OpensAll remaining old mid files inputs →
+        IsLinkOf forced o (inputs_of remaining inputs) (Ok made) →
+        Extends mid new (stored (string_bytes out) made.file what ∷ []) →
+        ReportsIf contents what out (report_names made.report) result before after →
         IsLinkRun contents forced o out (map string_bytes files) old new result before after
     stores_link mid new inputs made what h link asked reports = inr (inr (inr (record {
       linked = made;

@@ -1,5 +1,6 @@
 -- Lists that go out entry by entry, and the lines of undefined names.
-use Rattle.std.proofs.Common.{◌≡◌, ℕ, ◌+◌, ◌≤◌, Bool, true, false, cond, List, [], ◌∷◌, ◌++◌, length, take, slice_index_or, Option, Some, refl, sym, ◌∙◌, ap, subst, append-nil}
+use Rattle.std.proofs.Common.{◌≡◌, ℕ, ◌+◌, ◌≤◌, Bool, true, false, cond, List, [], ◌∷◌, ◌++◌, length, take}
+use Rattle.std.proofs.Common.{slice_index_or, Option, Some, refl, sym, ◌∙◌, ap, subst, append-nil}
 use Rattle.std.specs.Prelude.{slice_get, filter}
 use Rattle.std.specs.List.{flat_map}
 use Rattle.std.specs.Io.KnownBytes.{Appends}
@@ -23,16 +24,20 @@ is_at : {A : Type 0} (items : List A) (i : ℕ) (item : A) → slice_get items i
 is_at items i item at = sym (get_or_from_slice_get items i item item at)
 
 -- the next text went out
-pub sent_next : {A : Type 0} (encoding : A → List ℕ) (items : List A) (i : ℕ) (item : A) (a b c : Option (List ℕ)) → slice_get items i ≡ Some item →
+pub sent_next : {A : Type 0} (encoding : A → List ℕ) (items : List A) (i : ℕ) (item : A) (a b c : Option (List ℕ)) →
+    slice_get items i ≡ Some item →
     Appends a b (flat_map encoding (take i items)) → Appends b c (encoding item) → Appends a c (flat_map encoding (take (i + 1) items))
 sent_next encoding items i item a b c at sent next =
-    let more : take (i + 1) items ≡ take i items ++ item ∷ [] = take_more items i item (slice_get_within items i item at) ∙ ap (λ x. take i items ++ x ∷ []) (sym (is_at items i item at)) in
+    let more : take (i + 1) items ≡ take i items ++ item ∷ [] =
+    take_more items i item (slice_get_within items i item at) ∙ ap (λ x. take i items ++ x ∷ []) (sym (is_at items i item at)) in
     let encoded : flat_map encoding (take (i + 1) items) ≡ flat_map encoding (take i items) ++ encoding item =
-    ap (flat_map encoding) more ∙ flat_map-append encoding (take i items) (item ∷ []) ∙ ap (λ l. flat_map encoding (take i items) ++ l) (append-nil (encoding item)) in
+    ap (flat_map encoding) more ∙ flat_map-append encoding (take i items) (item ∷ [])
+    ∙ ap (λ l. flat_map encoding (take i items) ++ l) (append-nil (encoding item)) in
     subst (Appends a c) (sym encoded) (Appends-trans a b c (flat_map encoding (take i items)) (encoding item) sent next)
 
 -- of the next text a prefix went out
-pub stops_next : {A : Type 0} (encoding : A → List ℕ) (items : List A) (i : ℕ) (item : A) (a b c : Option (List ℕ)) → slice_get items i ≡ Some item →
+pub stops_next : {A : Type 0} (encoding : A → List ℕ) (items : List A) (i : ℕ) (item : A) (a b c : Option (List ℕ)) →
+    slice_get items i ≡ Some item →
     Appends a b (flat_map encoding (take i items)) → AppendsPrefix b c (encoding item) → AppendsPrefix a c (flat_map encoding items)
 stops_next encoding items i item a b c at sent next =
     front_of_row encoding items i item a b c (slice_get_within items i item at) (is_at items i item at) sent next
@@ -42,7 +47,8 @@ pub sent_all : {A : Type 0} (encoding : A → List ℕ) (items : List A) (n : �
     Appends a b (flat_map encoding (take n items)) → Appends a b (flat_map encoding items)
 sent_all encoding items n a b end sent = subst (λ l. Appends a b (flat_map encoding l)) (take_all n items end) sent
 
-missing_lines : (ms : List Mention) (names : List (List ℕ)) → flat_map missing_line (named_by ms names) ≡ flat_map line (filter (λ n. is_missing n (state ms n)) names)
+missing_lines : (ms : List Mention) (names : List (List ℕ)) →
+    flat_map missing_line (named_by ms names) ≡ flat_map line (filter (λ n. is_missing n (state ms n)) names)
 missing_lines ms [] = refl
 missing_lines ms (n ∷ ns) = by_test (is_missing n (state ms n)) (filter (λ n. is_missing n (state ms n)) ns) (missing_lines ms ns)
   where
@@ -52,5 +58,6 @@ missing_lines ms (n ∷ ns) = by_test (is_missing n (state ms n)) (filter (λ n.
     by_test false rest h = h
 
 -- the lines of all undefined names
-pub missing-text : (forced : List (List ℕ)) (kept : List Labelled) → flat_map missing_line (named_states (mentions forced (objects kept))) ≡ undefined_text forced kept
+pub missing-text : (forced : List (List ℕ)) (kept : List Labelled) →
+    flat_map missing_line (named_states (mentions forced (objects kept))) ≡ undefined_text forced kept
 missing-text forced kept = missing_lines (mentions forced (objects kept)) (names_by_first_mention (mentions forced (objects kept)))

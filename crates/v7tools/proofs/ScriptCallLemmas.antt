@@ -16,7 +16,8 @@ read_failed (Err stops.ReadFailed) e = refl
 read_failed (Err stops.Memory) e = absurd (cc)
 
 -- it is a fault of the script exactly where its reader failed
-pub failed_as : {P : Type 0} {result : Result (Option Line) CliFault} (answer : Answer) → result ≡ returned answer → (answer ≡ Err stops.ReadFailed ↔ P) → (result ≡ Err faults.ScriptFailed ↔ P)
+pub failed_as : {P : Type 0} {result : Result (Option Line) CliFault} (answer : Answer) → result ≡ returned answer →
+    (answer ≡ Err stops.ReadFailed ↔ P) → (result ≡ Err faults.ScriptFailed ↔ P)
 failed_as answer is failed = (λ e. failed.0 (read_failed answer (cc)), λ p. is ∙ ap returned (failed.1 p))
 
 -- a line was returned

@@ -1,6 +1,7 @@
 -- What the parts of a step say of the whole.
 use Rattle.std.specs.declared.alloc.Global.{Global}
-use Rattle.std.proofs.Common.{◌≡◌, ◌↔◌, ℕ, suc, ◌-◌, length, arith, Bool, true, false, List, [], ◌∷◌, ◌++◌, Option, Some, None, Result, Ok, Err, refl, sym, ap, ◌∙◌, subst, ◌⊎◌, inl, inr}
+use Rattle.std.proofs.Common.{◌≡◌, ◌↔◌, ℕ, suc, ◌-◌, length, arith, Bool, true, false, List, [], ◌∷◌, ◌++◌, Option}
+use Rattle.std.proofs.Common.{Some, None, Result, Ok, Err, refl, sym, ap, ◌∙◌, subst, ◌⊎◌, inl, inr}
 use Rattle.std.specs.Prelude.{String, string_bytes, codes, slice_get, IfErr, IfOk, IfSome, IsErr, IsTrue}
 use Rattle.std.proofs.lemmas.Bool.{false_from_ne_true}
 use Rattle.aout_core.specs.declared.file.ReadFault.TheVariants as reads
@@ -28,7 +29,8 @@ use Rattle.v7tools.specs.FaultTexts.{cause_text, cli_text, fault_at, fault_of_li
 use Rattle.v7tools.specs.Answers.{done, refused, Stepped, add_step, withdraw_step, link_step}
 use Rattle.v7tools.specs.LinkAnswers.{WantsMemory}
 use Rattle.v7tools.specs.internal.InputParts.{IsDeviceFault}
-use Rattle.v7tools.specs.internal.StepParts.{IsRefusal, IsAccepted, IsAddition, IsAddOver, IsAddWorking, MakesLink, RefusesLink, TakesWithdrawal, label_of}
+use Rattle.v7tools.specs.internal.StepParts.{IsRefusal, IsAccepted, IsAddition, IsAddOver, IsAddWorking, MakesLink}
+use Rattle.v7tools.specs.internal.StepParts.{RefusesLink, TakesWithdrawal, label_of}
 use Rattle.v7tools.specs.SessionSteps.{Does, IsAddOn, IsAddBy, IsLinkBy, WithdrawsIf, verdict_of}
 
 -- ---- the last object
@@ -37,25 +39,35 @@ pub last_of-slice_get : (es : List Labelled) (e : Labelled) → slice_get es (le
 last_of-slice_get [] e h = absurd (cc)
 last_of-slice_get (d ∷ []) e h = h
 last_of-slice_get (d ∷ (c ∷ es)) e h =
-    last_of-slice_get (c ∷ es) e (ap (λ (n : ℕ). slice_get (d ∷ (c ∷ es)) n) (let n : suc (length (c ∷ es) - 1) ≡ length (d ∷ (c ∷ es)) - 1 = omega arith in n) ∙ h)
+    last_of-slice_get (c ∷ es) e (ap (λ (n : ℕ). slice_get (d ∷ (c ∷ es)) n)
+    (let n : suc (length (c ∷ es) - 1) ≡ length (d ∷ (c ∷ es)) - 1 = omega arith in n) ∙ h)
 
 -- what a withdrawal does where there is an object, and where there is none
-withdrawn_last : (old new : Kept) (e : Labelled) → Withdraws old new e → withdraw_step old.entries (last_of old.entries) ≡ record { verdict = done; answer = line (codes "withdrew " ++ e.label); kept = new.entries }
+withdrawn_last : (old new : Kept) (e : Labelled) → Withdraws old new e → withdraw_step old.entries (last_of old.entries)
+    ≡ record { verdict = done; answer = line (codes "withdrew " ++ e.label); kept = new.entries }
 withdrawn_last old new e h =
     ap (withdraw_step old.entries) (ap last_of h.entries ∙ last_of-put_last new.entries e)
-    ∙ ap (λ (es : List Labelled). record { verdict = done; answer = line (codes "withdrew " ++ e.label); kept = es }) (ap without_last h.entries ∙ without_last-put_last new.entries e)
+    ∙ ap (λ (es : List Labelled). record { verdict = done; answer = line (codes "withdrew " ++ e.label); kept = es })
+    (ap without_last h.entries ∙ without_last-put_last new.entries e)
 
-withdrawn_none : (old : Kept) → old.entries ≡ [] → withdraw_step old.entries (last_of old.entries) ≡ record { verdict = refused; answer = line (codes "nothing to withdraw"); kept = old.entries }
+withdrawn_none : (old : Kept) → old.entries ≡ [] → withdraw_step old.entries (last_of old.entries)
+    ≡ record { verdict = refused; answer = line (codes "nothing to withdraw"); kept = old.entries }
 withdrawn_none old none = ap (λ (es : List Labelled). withdraw_step old.entries (last_of es)) none
 
 module _ {W : Type 0} {contents : W → Option (List ℕ)} {result : Result Step CliFault} {before after : Latched W} where
-  pub takes_last : (old new : Kept) (e : Labelled) → Withdraws old new e → Does contents (record { verdict = done; answer = line (codes "withdrew " ++ e.label); kept = new.entries }) new result before after →
+  pub takes_last : (old new : Kept) (e : Labelled) → Withdraws old new e → Does contents
+      (record { verdict = done; answer = line (codes "withdrew " ++ e.label); kept = new.entries }) new result before after →
       TakesWithdrawal contents old new result before after
-  takes_last old new e h does = subst (λ (did : Stepped). WithdrawsIf did.verdict old new × Does contents did new result before after) (sym (withdrawn_last old new e h)) ((e, h), does)
+  takes_last old new e h does =
+      subst (λ (did : Stepped). WithdrawsIf did.verdict old new × Does contents did new result before after)
+      (sym (withdrawn_last old new e h)) ((e, h), does)
 
-  pub takes_none : (old new : Kept) → old.entries ≡ [] → new ≡ old → Does contents (record { verdict = refused; answer = line (codes "nothing to withdraw"); kept = old.entries }) new result before after →
+  pub takes_none : (old new : Kept) → old.entries ≡ [] → new ≡ old → Does contents
+      (record { verdict = refused; answer = line (codes "nothing to withdraw"); kept = old.entries }) new result before after →
       TakesWithdrawal contents old new result before after
-  takes_none old new none same does = subst (λ (did : Stepped). WithdrawsIf did.verdict old new × Does contents did new result before after) (sym (withdrawn_none old none)) (same, does)
+  takes_none old new none same does =
+      subst (λ (did : Stepped). WithdrawsIf did.verdict old new × Does contents did new result before after)
+      (sym (withdrawn_none old none)) (same, does)
 
 -- ---- additions
 
@@ -63,19 +75,29 @@ abbrev pub failed_with : CliFault → Result (Unit {0}) CliFault
 failed_with fault = Err fault
 
 -- a step on what was found, where it is what the bytes encode and no device failed
-on_bytes : (known : Option (List ℕ)) (forced : List (List ℕ)) (kept : List Labelled) (path : List ℕ) (found : Result Contents Cause) (r : Result (List Labelled) Cause) → (found ≡ Err (bad_file reads.Device) → ⊥) →
-    IfSome known (λ bytes. found ≡ object_in (decode bytes)) → kept_with forced kept path found ≡ r → IsAddWorking known forced kept path (add_step kept path r)
+on_bytes : (known : Option (List ℕ)) (forced : List (List ℕ)) (kept : List Labelled) (path : List ℕ)
+    (found : Result Contents Cause) (r : Result (List Labelled) Cause) → (found ≡ Err (bad_file reads.Device) → ⊥) →
+    IfSome known (λ bytes. found ≡ object_in (decode bytes)) → kept_with forced kept path found ≡ r →
+    IsAddWorking known forced kept path (add_step kept path r)
 on_bytes None forced kept path found r sound h e = (found, sound, ap (add_step kept path) (sym e))
 on_bytes (Some bytes) forced kept path found r sound h e = ap (add_step kept path) (sym e ∙ ap (kept_with forced kept path) h)
 
 -- an object is added
-pub added_by : {R : Type 0} (remaining : R → Option (List ℕ)) (from to : Latched R) (old new : Kept) (path : List ℕ) (o : Contents) → from.has_failed ≡ false → to.has_failed ≡ false →
-    IsAccepted (remaining from.device) old new path o → IsAddOver remaining from to old.forced old.entries path (add_step old.entries path (Ok new.entries))
+pub added_by : {R : Type 0} (remaining : R → Option (List ℕ)) (from to : Latched R) (old new : Kept) (path : List ℕ)
+    (o : Contents) → from.has_failed ≡ false → to.has_failed ≡ false →
+    IsAccepted (remaining from.device) old new path o →
+    IsAddOver remaining from to old.forced old.entries path (add_step old.entries path (Ok new.entries))
 added_by remaining from to old new path o before after h = by_found h.is_found
   where
-    by_found : (Ok o ≡ Err (bad_file reads.Device)) ⊎ IfSome (remaining from.device) (λ bytes. Ok o ≡ object_in (decode bytes)) → IsAddOver remaining from to old.forced old.entries path (add_step old.entries path (Ok new.entries))
+    by_found : (Ok o ≡ Err (bad_file reads.Device)) ⊎ IfSome (remaining from.device) (λ bytes. Ok o ≡ object_in (decode bytes)) →
+        IsAddOver remaining from to old.forced old.entries path (add_step old.entries path (Ok new.entries))
     by_found (inl e) = absurd (cc)
-    by_found (inr e) = inr (after, before, inr (on_bytes (remaining from.device) old.forced old.entries path (Ok o) (Ok new.entries) (λ e. absurd (cc)) e h.accepts))
+    by_found (inr e) =
+        inr (
+          after,
+          before,
+          inr (on_bytes (remaining from.device) old.forced old.entries path (Ok o) (Ok new.entries) (λ e. absurd (cc)) e h.accepts),
+        )
 
 -- the step that a fault refuses
 abbrev pub refused_as : List Labelled → List ℕ → Stepped
@@ -90,17 +112,21 @@ text_of_cause path (not_added fault) = refl
 
 -- a file is not added: the fault is that of a device exactly where the wire has failed
 module _ {R : Type 0} (remaining : R → Option (List ℕ)) (from to : Latched R) (old : Kept) (path : String Global) (fault : CliFault)
-    (latched : IsTrue from.has_failed → to ≡ from) (device : (failed_with fault ≡ failed_with (faults.BadFile path reads.Device)) ↔ IsTrue to.has_failed) where
+    (latched : IsTrue from.has_failed →
+    to ≡ from) (device : (failed_with fault ≡ failed_with (faults.BadFile path reads.Device)) ↔ IsTrue to.has_failed) where
   abbrev IsRefused : Type 0
   IsRefused = IsAddOver remaining from to old.forced old.entries (string_bytes path) (refused_as old.entries (cli_text fault))
 
   worked : to.has_failed ≡ false → from.has_failed ≡ false
-  worked after = false_from_ne_true from.has_failed (λ failed. let same : to.has_failed ≡ from.has_failed = ap (λ (w : Latched R). w.has_failed) (latched failed) in absurd (cc))
+  worked after =
+      false_from_ne_true from.has_failed (λ failed. let same : to.has_failed
+      ≡ from.has_failed = ap (λ (w : Latched R). w.has_failed) (latched failed) in absurd (cc))
 
   -- what was found is no failure
   sound : (h : IsRefusal (remaining from.device) old path fault) → to.has_failed ≡ false → h.found ≡ Err (bad_file reads.Device) → ⊥
   sound h after e =
-      let is : bad_file reads.Device ≡ h.cause = (let r = ap (kept_with old.forced old.entries (string_bytes path)) (sym e) ∙ h.refuses in cc) in
+      let is : bad_file reads.Device ≡ h.cause =
+      (let r = ap (kept_with old.forced old.entries (string_bytes path)) (sym e) ∙ h.refuses in cc) in
       let failed : to.has_failed ≡ true = device.0 (ap failed_with (h.names ∙ ap (fault_at path) (sym is))) in
       absurd (cc)
 
@@ -110,15 +136,19 @@ module _ {R : Type 0} (remaining : R → Option (List ℕ)) (from to : Latched R
       says : refused_as old.entries (cli_text fault) ≡ add_step old.entries (string_bytes path) (Err h.cause)
       says = ap (refused_as old.entries) (ap cli_text h.names ∙ text_of_cause path h.cause)
 
-      by_latch : (t : Bool) → to.has_failed ≡ t → (h.found ≡ Err (bad_file reads.Device)) ⊎ IfSome (remaining from.device) (λ bytes. h.found ≡ object_in (decode bytes)) → IsRefused
-      by_latch true latch found = let is : fault ≡ faults.BadFile path reads.Device = (let e = device.1 latch in cc) in inl (latch, ap (λ (f : CliFault). refused_as old.entries (cli_text f)) is)
+      by_latch : (t : Bool) → to.has_failed ≡ t → (h.found ≡ Err (bad_file reads.Device))
+          ⊎ IfSome (remaining from.device) (λ bytes. h.found ≡ object_in (decode bytes)) → IsRefused
+      by_latch true latch found =
+          let is : fault ≡ faults.BadFile path reads.Device = (let e = device.1 latch in cc) in
+          inl (latch, ap (λ (f : CliFault). refused_as old.entries (cli_text f)) is)
       by_latch false latch (inl e) = absurd (sound h latch e)
       by_latch false latch (inr e) =
           inr (
             latch,
             worked latch,
             inr (subst (IsAddWorking (remaining from.device) old.forced old.entries (string_bytes path)) (sym says)
-                (on_bytes (remaining from.device) old.forced old.entries (string_bytes path) h.found (Err h.cause) (sound h latch) e h.refuses)),
+                (on_bytes (remaining from.device) old.forced old.entries (string_bytes path) h.found (Err h.cause)
+                (sound h latch) e h.refuses)),
           )
 
   by_memory : fault ≡ faults.Memory → IfSome (remaining from.device) (WantsMemory old.forced old.entries (string_bytes path)) → IsRefused
@@ -131,20 +161,24 @@ module _ {R : Type 0} (remaining : R → Option (List ℕ)) (from to : Latched R
   not_added_by new (same, inr h) = (same, by_refusal h)
 
 -- what the wire is like after an addition is left out
-working_on : (known : Option (List ℕ)) (forced : List (List ℕ)) (kept : List Labelled) (path : List ℕ) (did : Stepped) → IsAddWorking known forced kept path did → IsAddOn known forced kept path did
+working_on : (known : Option (List ℕ)) (forced : List (List ℕ)) (kept : List Labelled) (path : List ℕ) (did : Stepped) →
+    IsAddWorking known forced kept path did → IsAddOn known forced kept path did
 working_on None forced kept path did (found, sound, is) = (found, is)
 working_on (Some bytes) forced kept path did is = is
 
-pub added_over : {R : Type 0} (remaining : R → Option (List ℕ)) (from to : Latched R) (forced : List (List ℕ)) (kept : List Labelled) (path : List ℕ) (did : Stepped) → IsAddOver remaining from to forced kept path did →
+pub added_over : {R : Type 0} (remaining : R → Option (List ℕ)) (from to : Latched R) (forced : List (List ℕ))
+    (kept : List Labelled) (path : List ℕ) (did : Stepped) → IsAddOver remaining from to forced kept path did →
     IsAddBy remaining from forced kept path did
 added_over remaining from to forced kept path did (inl (failed, is)) = inl is
 added_over remaining from to forced kept path did (inr (after, before, inl memory)) = inr (before, inl memory)
-added_over remaining from to forced kept path did (inr (after, before, inr on)) = inr (before, inr (working_on (remaining from.device) forced kept path did on))
+added_over remaining from to forced kept path did (inr (after, before, inr on)) =
+    inr (before, inr (working_on (remaining from.device) forced kept path did on))
 
 -- ---- links
 
 -- a link that is refused
-pub link_refused_by : (kept : List Labelled) (answer : Result Outcome LinkFault) (fault : LinkFault) → IsLinkOf (Err fault) answer → IsLinkBy kept answer (refused_as kept (cli_text (fault_of_link fault)))
+pub link_refused_by : (kept : List Labelled) (answer : Result Outcome LinkFault) (fault : LinkFault) →
+    IsLinkOf (Err fault) answer → IsLinkBy kept answer (refused_as kept (cli_text (fault_of_link fault)))
 link_refused_by kept answer links.Memory h = inr (refl, h)
 link_refused_by kept answer links.DoesNotFit h = inl (ap (link_step kept) (sym h))
 link_refused_by kept answer links.TooManySymbols h = inl (ap (link_step kept) (sym h))
@@ -161,7 +195,8 @@ no_value (Err e) P h = tt
 abbrev pub stepped : Step → Result Step CliFault
 stepped step = Ok step
 
-pub written_whole : {W T E : Type 0} {contents : W → Option (List ℕ)} {x : T} {a b : Latched W} {text : List ℕ} (step : Step) → Writes {T = T} {E = E} contents (Ok x) a b text → Writes contents (stepped step) a b text
+pub written_whole : {W T E : Type 0} {contents : W → Option (List ℕ)} {x : T} {a b : Latched W} {text : List ℕ}
+    (step : Step) → Writes {T = T} {E = E} contents (Ok x) a b text → Writes contents (stepped step) a b text
 written_whole step p = record { fault = p.fault; latched = p.latched; bytes = p.bytes }
 
 -- a call that failed has this fault
@@ -174,23 +209,29 @@ refused_verdict (Ok s) h = ap verdict_of h
 refused_verdict (Err f) h = tt
 
 -- a write that went out, told by another value
-pub written_with : {W T U E F : Type 0} {contents : W → Option (List ℕ)} {x : T} {a b : Latched W} {text : List ℕ} (y : U) → Writes {T = T} {E = E} contents (Ok x) a b text → Writes {T = U} {E = F} contents (Ok y) a b text
+pub written_with : {W T U E F : Type 0} {contents : W → Option (List ℕ)} {x : T} {a b : Latched W} {text : List ℕ} (y : U) →
+    Writes {T = T} {E = E} contents (Ok x) a b text → Writes {T = U} {E = F} contents (Ok y) a b text
 written_with y p = record { fault = (λ h. absurd (cc), λ h. absurd (let e = p.fault.1 h in cc)); latched = p.latched; bytes = p.bytes }
 
 module _ {W : Type 0} (contents : W → Option (List ℕ)) (answer : Result Outcome LinkFault) (before after : Latched W) where
-  pub refuses : {T : Type 0} (fault : LinkFault) (other : CliFault) (result : Result T CliFault) → IsLinkOf (Err fault) answer → other ≡ fault_of_link fault → Writes contents result before after (line (cli_text other)) →
+  pub refuses : {T : Type 0} (fault : LinkFault) (other : CliFault) (result : Result T CliFault) →
+      IsLinkOf (Err fault) answer → other ≡ fault_of_link fault → Writes contents result before after (line (cli_text other)) →
       RefusesLink contents answer result before after
-  refuses fault other result is e written = (fault, is, subst (λ (f : CliFault). Writes contents result before after (line (cli_text f))) e written)
+  refuses fault other result is e written =
+      (fault, is, subst (λ (f : CliFault). Writes contents result before after (line (cli_text f))) e written)
 
   -- a link that is refused, told by another value, or by the same fault
-  pub refused_with : {T U : Type 0} (x : T) (y : U) → RefusesLink contents answer (Ok x) before after → RefusesLink contents answer (Ok y) before after
+  pub refused_with : {T U : Type 0} (x : T) (y : U) → RefusesLink contents answer (Ok x) before after →
+      RefusesLink contents answer (Ok y) before after
   refused_with x y (fault, is, written) = (fault, is, written_with y written)
 
-  pub refused_by : {T : Type 0} (made : Result (Option Linked) CliFault) (result : Result T CliFault) → IsErr made → IsErr result → MakesLink contents answer made before after → RefusesLink contents answer result before after
+  pub refused_by : {T : Type 0} (made : Result (Option Linked) CliFault) (result : Result T CliFault) → IsErr made →
+      IsErr result → MakesLink contents answer made before after → RefusesLink contents answer result before after
   refused_by (Ok made) result err other h = absurd (cc)
   refused_by (Err e) result err other (fault, is, written) = (fault, is, writes_broke_off other written)
 
-  pub not_linked : (result : Result (Option Linked) CliFault) → IsErr result → RefusesLink contents answer result before after → MakesLink contents answer result before after
+  pub not_linked : (result : Result (Option Linked) CliFault) → IsErr result →
+      RefusesLink contents answer result before after → MakesLink contents answer result before after
   not_linked (Ok made) err h = absurd (cc)
   not_linked (Err fault) err h = h
 
@@ -199,7 +240,8 @@ module _ {W : Type 0} (contents : W → Option (List ℕ)) (answer : Result Outc
     Links result = (did : Stepped) × IsLinkBy kept.entries answer did × (kept ≡ kept) × Does contents did kept result before after
 
     -- what a step does that asks for a link
-    pub links_not : (result : Result Step CliFault) → IfOk result (λ s. s ≡ Refused) → RefusesLink contents answer result before after → Links result
+    pub links_not : (result : Result Step CliFault) → IfOk result (λ s. s ≡ Refused) →
+        RefusesLink contents answer result before after → Links result
     links_not result refuses (fault, is, written) = (
       refused_as kept.entries (cli_text (fault_of_link fault)),
       link_refused_by kept.entries answer fault is,
@@ -208,36 +250,50 @@ module _ {W : Type 0} (contents : W → Option (List ℕ)) (answer : Result Outc
     )
 
     pub links_to : (linked : Linked) → MakesLink contents answer (Ok (Some linked)) before after → Links (stepped (ToStore linked))
-    links_to linked (is, same) =
-        (link_step kept.entries (Ok (outcome_of linked)), inl (ap (link_step kept.entries) (sym is)), refl, record { kept = refl; verdict = refl; answer = (refl, same) })
+    links_to linked (is, same) = (
+      link_step kept.entries (Ok (outcome_of linked)),
+      inl (ap (link_step kept.entries) (sym is)),
+      refl,
+      record { kept = refl; verdict = refl; answer = (refl, same) },
+    )
 
 -- the label of an object that is added
 pub label_is : (old new : Kept) (e : Labelled) → Adds old new e → label_of (last_of new.entries) ≡ e.label
 label_is old new e h = ap label_of (ap last_of h.entries ∙ last_of-put_last old.entries e)
 
 -- a device that has failed is answered
-pub failed_before : {R : Type 0} (before after : Latched R) (r : Result (Unit {0}) CliFault) (path : String Global) → (IsTrue before.has_failed → after ≡ before) →
-    ((r ≡ failed_with (faults.BadFile path reads.Device)) ↔ IsTrue after.has_failed) → IsTrue before.has_failed → r ≡ failed_with (faults.BadFile path reads.Device)
-failed_before {R} before after r path latched device failed = device.1 (subst (λ (w : Latched R). IsTrue w.has_failed) (sym (latched failed)) failed)
+pub failed_before : {R : Type 0} (before after : Latched R) (r : Result (Unit {0}) CliFault) (path : String Global) →
+    (IsTrue before.has_failed → after ≡ before) →
+    ((r ≡ failed_with (faults.BadFile path reads.Device)) ↔ IsTrue after.has_failed) → IsTrue before.has_failed →
+    r ≡ failed_with (faults.BadFile path reads.Device)
+failed_before {R} before after r path latched device failed =
+    device.1 (subst (λ (w : Latched R). IsTrue w.has_failed) (sym (latched failed)) failed)
 
 -- the device of a file that is added had not failed
 pub worked_before : {R : Type 0} (before after : Latched R) (path : String Global) → (IsTrue before.has_failed → after ≡ before) →
     ((Ok tt ≡ failed_with (faults.BadFile path reads.Device)) ↔ IsTrue after.has_failed) → before.has_failed ≡ false
-worked_before before after path latched device = false_from_ne_true before.has_failed (λ failed. let bad = failed_before before after (Ok tt) path latched device failed in absurd (cc))
+worked_before before after path latched device =
+    false_from_ne_true before.has_failed
+    (λ failed. let bad = failed_before before after (Ok tt) path latched device failed in absurd (cc))
 
 -- nor had that of a file that is refused, but for the fault of a device
-pub worked_unless : {R : Type 0} (before after : Latched R) (path : String Global) (fault : CliFault) → (IsTrue before.has_failed → after ≡ before) →
-    ((failed_with fault ≡ failed_with (faults.BadFile path reads.Device)) ↔ IsTrue after.has_failed) → (fault ≡ faults.BadFile path reads.Device → ⊥) → before.has_failed ≡ false
+pub worked_unless : {R : Type 0} (before after : Latched R) (path : String Global) (fault : CliFault) →
+    (IsTrue before.has_failed → after ≡ before) →
+    ((failed_with fault ≡ failed_with (faults.BadFile path reads.Device)) ↔ IsTrue after.has_failed) →
+    (fault ≡ faults.BadFile path reads.Device → ⊥) → before.has_failed ≡ false
 worked_unless before after path fault latched device other =
-    false_from_ne_true before.has_failed (λ failed. other (let e = failed_before before after (failed_with fault) path latched device failed in cc))
+    false_from_ne_true before.has_failed
+    (λ failed. other (let e = failed_before before after (failed_with fault) path latched device failed in cc))
 
 -- nor has it after the addition
-pub worked_after : {R : Type 0} (after : Latched R) (path : String Global) → ((Ok tt ≡ failed_with (faults.BadFile path reads.Device)) ↔ IsTrue after.has_failed) → after.has_failed ≡ false
+pub worked_after : {R : Type 0} (after : Latched R) (path : String Global) →
+    ((Ok tt ≡ failed_with (faults.BadFile path reads.Device)) ↔ IsTrue after.has_failed) → after.has_failed ≡ false
 worked_after after path device = false_from_ne_true after.has_failed (λ failed. let bad = device.1 failed in absurd (cc))
 
 -- ---- the fault of a device
 
-device_path : (path : String Global) (cause : Cause) → IsDeviceFault (fault_at path cause) → fault_at path cause ≡ faults.BadFile path reads.Device
+device_path : (path : String Global) (cause : Cause) → IsDeviceFault (fault_at path cause) →
+    fault_at path cause ≡ faults.BadFile path reads.Device
 device_path path cannot_open h = absurd h
 device_path path (bad_file reads.ShortHeader) h = absurd h
 device_path path (bad_file reads.BadMagic) h = absurd h
@@ -249,13 +305,17 @@ device_path path (bad_object fault) h = absurd h
 device_path path (not_added fault) h = absurd h
 
 -- it is answered exactly where the wire of the file has failed
-pub device_fault : (known : Option (List ℕ)) (old new : Kept) (path : String Global) (fault : CliFault) (latch : Bool) → IsAddition known old new path (Err fault) →
+pub device_fault : (known : Option (List ℕ)) (old new : Kept) (path : String Global) (fault : CliFault) (latch : Bool) →
+    IsAddition known old new path (Err fault) →
     ((failed_with fault ≡ failed_with (faults.BadFile path reads.Device)) ↔ IsTrue latch) → IsDeviceFault fault ↔ IsTrue latch
-device_fault known old new path fault latch h device = (λ is. device.0 (by_why h.1 is), λ failed. subst IsDeviceFault (sym (as_fault (device.1 failed))) tt)
+device_fault known old new path fault latch h device =
+    (λ is. device.0 (by_why h.1 is), λ failed. subst IsDeviceFault (sym (as_fault (device.1 failed))) tt)
   where
     as_fault : failed_with fault ≡ failed_with (faults.BadFile path reads.Device) → fault ≡ faults.BadFile path reads.Device
     as_fault e = cc
 
-    by_why : ((fault ≡ faults.Memory) × IfSome known (WantsMemory old.forced old.entries (string_bytes path))) ⊎ IsRefusal known old path fault → IsDeviceFault fault → failed_with fault ≡ failed_with (faults.BadFile path reads.Device)
+    by_why : ((fault ≡ faults.Memory) × IfSome known (WantsMemory old.forced old.entries (string_bytes path)))
+        ⊎ IsRefusal known old path fault → IsDeviceFault fault →
+        failed_with fault ≡ failed_with (faults.BadFile path reads.Device)
     by_why (inl (is, header)) d = absurd (subst IsDeviceFault is d)
     by_why (inr r) d = ap failed_with (r.names ∙ device_path path r.cause (subst IsDeviceFault r.names d))

@@ -19,12 +19,17 @@ use Rattle.v7tools.specs.SessionRuns.{IsSessionRun}
 use Rattle.v7tools.specs.declared.fault.CliFault.{CliFault}
 
 -- a call was run, with a script of these bytes, where they are known
-abbrev pub IsCallRun : {W : Type 0} → (W → Option (List ℕ)) → Option (List ℕ) → Call → History → History → Result ℕ CliFault → Latched W → Latched W → Type 0
-IsCallRun contents script (Ld options forced out files) old new result before after = IsLinkRun contents forced options out (map string_bytes files.items) old new result before after
-IsCallRun contents script (Nm options files) old new result before after = IsListRun contents (OrMemory options) (nm_text options) files.items old new result before after
-IsCallRun contents script (Size files) old new result before after = IsListRun contents OnlyWriteFailed size_text files.items old new result before after
+abbrev pub IsCallRun : {W : Type 0} → (W → Option (List ℕ)) → Option (List ℕ) → Call → History → History →
+    Result ℕ CliFault → Latched W → Latched W → Type 0
+IsCallRun contents script (Ld options forced out files) old new result before after =
+    IsLinkRun contents forced options out (map string_bytes files.items) old new result before after
+IsCallRun contents script (Nm options files) old new result before after =
+    IsListRun contents (OrMemory options) (nm_text options) files.items old new result before after
+IsCallRun contents script (Size files) old new result before after =
+    IsListRun contents OnlyWriteFailed size_text files.items old new result before after
 IsCallRun contents script (Strip files) old new result before after = IsStripRun old new files.items result × (after ≡ before)
-IsCallRun contents script (Session options forced) old new result before after = IsSessionRun contents forced options script old new result before after
+IsCallRun contents script (Session options forced) old new result before after =
+    IsSessionRun contents forced options script old new result before after
 
 -- the words ask for this call, with each dash alone among its files
 pub record AsksFor (words : List (List ℕ)) (call : Call) : Type 0 where
@@ -33,20 +38,23 @@ pub record AsksFor (words : List (List ℕ)) (call : Call) : Type 0 where
   pub dashes : dashes_in words ≡ dashes_in (files_of call)
 
 -- the words ask for a call, and it was run
-pub record RunsCall {W : Type 0} (contents : W → Option (List ℕ)) (words : List (List ℕ)) (script : Option (List ℕ)) (old new : History) (result : Result ℕ CliFault) (before after : Latched W) : Type 0 where
+pub record RunsCall {W : Type 0} (contents : W → Option (List ℕ)) (words : List (List ℕ)) (script : Option (List ℕ))
+    (old new : History) (result : Result ℕ CliFault) (before after : Latched W) : Type 0 where
   pub call : Call
   pub asks : AsksFor words call
   pub run : IsCallRun contents script call old new result before after
 
 -- the words ask for no call, or memory ran out while they were read: nothing is asked of the system, and nothing is written
-pub record RefusesWords {W : Type 0} (words : List (List ℕ)) (old new : History) (result : Result ℕ CliFault) (before after : Latched W) : Type 0 where
+pub record RefusesWords {W : Type 0} (words : List (List ℕ)) (old new : History) (result : Result ℕ CliFault)
+    (before after : Latched W) : Type 0 where
   pub fault : CliFault
   pub of_words : IsOfWords words fault
   pub asked : Extends old new []
   pub refuses : Refuses fault result before after
 
 -- the words were refused, or the call that they ask for was run
-abbrev pub RunsWords : {W : Type 0} → (W → Option (List ℕ)) → List (List ℕ) → Option (List ℕ) → History → History → Result ℕ CliFault → Latched W → Latched W → Type 0
+abbrev pub RunsWords : {W : Type 0} → (W → Option (List ℕ)) → List (List ℕ) → Option (List ℕ) → History → History →
+    Result ℕ CliFault → Latched W → Latched W → Type 0
 RunsWords contents words script old new result before after =
     RefusesWords words old new result before after ⊎ RunsCall contents words script old new result before after
 
@@ -54,9 +62,12 @@ RunsWords contents words script old new result before after =
 -- a prefix goes out where that device fails
 abbrev pub Ends : {E : Type 0} → (E → Option (List ℕ)) → Result ℕ CliFault → ℕ → Latched E → Latched E → Type 0
 Ends contents (Ok answer) status before after = (status ≡ answer) × (after ≡ before)
-Ends contents (Err fault) status before after = (status ≡ 2) × PutsUnless after.has_failed (contents before.device) (contents after.device) (fault_line fault)
+Ends contents (Err fault) status before after =
+    (status ≡ 2) × PutsUnless after.has_failed (contents before.device) (contents after.device) (fault_line fault)
 
 -- the words were refused or their call was run, and the program ended with this status
-abbrev pub Performs : {W E : Type 0} → (W → Option (List ℕ)) → (E → Option (List ℕ)) → List (List ℕ) → Option (List ℕ) → Surroundings W E → Surroundings W E → ℕ → Type 0
+abbrev pub Performs : {W E : Type 0} → (W → Option (List ℕ)) → (E → Option (List ℕ)) → List (List ℕ) → Option (List ℕ) →
+    Surroundings W E → Surroundings W E → ℕ → Type 0
 Performs contents error_contents words script before after status =
-    (result : Result ℕ CliFault) × RunsWords contents words script before.asked after.asked result before.output after.output × Ends error_contents result status before.error after.error
+    (result : Result ℕ CliFault) × RunsWords contents words script before.asked after.asked result before.output after.output
+    × Ends error_contents result status before.error after.error

@@ -3,7 +3,8 @@
 -- Each file is opened and read before the next one is opened, and nothing is written or stored before all are read: that one bad
 -- file leaves all as it was is an own choice.
 use Rattle.std.specs.declared.alloc.Global.{Global}
-use Rattle.std.specs.Prelude.{◌≡◌, ◌≢◌, ◌↔◌, ◌⊎◌, ℕ, List, [], ◌∷◌, ◌++◌, map, Option, Some, None, Result, Ok, Err, IfErr, IfOk, IfSome, IsTrue, String, string_bytes}
+use Rattle.std.specs.Prelude.{◌≡◌, ◌≢◌, ◌↔◌, ◌⊎◌, ℕ, List, [], ◌∷◌, ◌++◌, map, Option, Some, None, Result}
+use Rattle.std.specs.Prelude.{Ok, Err, IfErr, IfOk, IfSome, IsTrue, String, string_bytes}
 use Rattle.aout_core.specs.declared.file.ReadFault.TheVariants as reads
 use Rattle.aout_core.specs.Contents.{Contents}
 use Rattle.aout_core.specs.Decoding.{decode}
@@ -75,17 +76,21 @@ abbrev pub OrMemory : NmOptions → List (List ℕ × Contents) → CliFault →
 OrMemory o files fault old new = (fault ≡ faults.WriteFailed) ⊎ ((fault ≡ faults.Memory) × ListsUpTo o files old new)
 
 -- the text went out, or on a fault a prefix of it
-pub record Lists {W : Type 0} (contents : W → Option (List ℕ)) (cut_short : CliFault → Option (List ℕ) → Option (List ℕ) → Type 0) (text : List ℕ) (result : Result ℕ CliFault) (before after : Latched W) : Type 0 where
+pub record Lists {W : Type 0} (contents : W → Option (List ℕ)) (cut_short : CliFault → Option (List ℕ) → Option (List ℕ) → Type 0)
+    (text : List ℕ) (result : Result ℕ CliFault) (before after : Latched W) : Type 0 where
   pub status : IfOk result (λ status. status ≡ 0)
   pub other : IfErr result (λ fault. cut_short fault (contents before.device) (contents after.device))
   pub failed : (result ≡ Err faults.WriteFailed) ↔ IsTrue after.has_failed
   pub bytes : Puts result (contents before.device) (contents after.device) text
 
 -- nothing is written before all files are read
-abbrev pub IsListRun : {W : Type 0} → (W → Option (List ℕ)) → (List (List ℕ × Contents) → CliFault → Option (List ℕ) → Option (List ℕ) → Type 0) → (List (List ℕ × Contents) → List ℕ) → List (String Global) → History → History → Result ℕ CliFault → Latched W → Latched W → Type 0
+abbrev pub IsListRun : {W : Type 0} → (W → Option (List ℕ)) →
+    (List (List ℕ × Contents) → CliFault → Option (List ℕ) → Option (List ℕ) → Type 0) → (List (List ℕ × Contents) → List ℕ) →
+    List (String Global) → History → History → Result ℕ CliFault → Latched W → Latched W → Type 0
 IsListRun contents cut_short text files old new result before after =
     ((fault : CliFault) × ReadsNotAll old new files fault × Refuses fault result before after)
-    ⊎ ((loaded : List Loaded) × ReadsAll old new files loaded × Lists contents (cut_short (by_bytes loaded)) (text (by_bytes loaded)) result before after)
+    ⊎ ((loaded : List Loaded) × ReadsAll old new files loaded
+    × Lists contents (cut_short (by_bytes loaded)) (text (by_bytes loaded)) result before after)
 
 -- a file is stored, or the fault says why it is not
 abbrev pub IsStored : String Global → Stored → Result (Unit {0}) CliFault → Type 0

@@ -7,7 +7,9 @@ use Rattle.link_session.specs.Labelled.{objects}
 use Rattle.link_session.specs.Undo.{Kept}
 use Rattle.tool_options.specs.Choices.{Choices}
 use Rattle.link_out.specs.function.Link.{Outcome, link}
-use Rattle.v7tools.specs.Answers.{absent, failing, adding, withdrawing, listing_externals, listing_undefined, anything_else, Verdict, done, refused, Stepped, add_step, input_from, step, link_answer_text, link_status}
+use Rattle.v7tools.specs.Answers.{absent, failing, adding, withdrawing, listing_externals, listing_undefined}
+use Rattle.v7tools.specs.Answers.{anything_else, Verdict, done, refused, Stepped, add_step, input_from}
+use Rattle.v7tools.specs.Answers.{step, link_answer_text, link_status}
 use Rattle.surroundings.specs.Events.{Event, opened, stored}
 use Rattle.v7tools.specs.LinkAnswers.{WantsMemory}
 use Rattle.command_words.specs.Scripts.{Asked, to_add, to_withdraw, for_externals, for_undefined, to_link, for_nothing}

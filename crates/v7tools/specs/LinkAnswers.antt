@@ -8,7 +8,8 @@
 -- at that stage is refused. The result does not reveal which stage ran out: once an object has been accepted, memory may have run out
 -- there. So of the result as a whole, `Memory` is ruled out only by the first input.
 use Rattle.std.specs.declared.alloc.Global.{Global}
-use Rattle.std.specs.Prelude.{◌≡◌, ◌⊎◌, ℕ, Bool, false, List, [], ◌∷◌, map, Option, Some, option_and_then, option_map, Result, Ok, Err, IfSome, IsOk, String, string_bytes}
+use Rattle.std.specs.Prelude.{◌≡◌, ◌⊎◌, ℕ, Bool, false, List, [], ◌∷◌, map, Option, Some, option_and_then, option_map}
+use Rattle.std.specs.Prelude.{Result, Ok, Err, IfSome, IsOk, String, string_bytes}
 use Rattle.aout_core.specs.declared.file.ReadFault.TheVariants as reads
 use Rattle.aout_core.specs.Contents.{Contents}
 use Rattle.aout_core.specs.Decoding.{decode}
@@ -22,7 +23,8 @@ use Rattle.link_out.specs.declared.linked.LinkFault.TheVariants as links
 use Rattle.tool_options.specs.Choices.{Choices}
 use Rattle.link_out.specs.function.Link.{Outcome, link}
 use Rattle.link_out.specs.Outcomes.{outcome_of}
-use Rattle.v7tools.specs.Inputs.{Cause, bad_file, bad_object, not_added, Refusal, of_input, not_linked, object_in, kept_with, with_input, linked}
+use Rattle.v7tools.specs.Inputs.{Cause, bad_file, bad_object, not_added, Refusal, of_input, not_linked}
+use Rattle.v7tools.specs.Inputs.{object_in, kept_with, with_input, linked}
 use Rattle.v7tools.specs.declared.fault.CliFault.{CliFault}
 use Rattle.v7tools.specs.declared.fault.CliFault.TheVariants as faults
 
@@ -92,7 +94,8 @@ TakesAll forced kept (i ∷ is) more = (next : List Labelled) × Takes forced ke
 -- the inputs before one are taken, and the link stops at that one
 abbrev pub StopsIn : List (List ℕ) → List Labelled → List Input → Said → Type 0
 StopsIn forced kept [] said = ⊥
-StopsIn forced kept (i ∷ is) said = StopsAt forced kept i said ⊎ ((next : List Labelled) × Takes forced kept i next × StopsIn forced next is said)
+StopsIn forced kept (i ∷ is) said =
+    StopsAt forced kept i said ⊎ ((next : List Labelled) × Takes forced kept i next × StopsIn forced next is said)
 
 -- ---- the link
 

@@ -2,7 +2,8 @@
 --
 -- All inputs are opened, whatever they hold, or the first that can't be is the fault. Only a link is stored, and only what was stored is reported.
 use Rattle.std.specs.declared.alloc.Global.{Global}
-use Rattle.std.specs.Prelude.{◌≡◌, ◌⊎◌, ℕ, List, [], ◌∷◌, ◌++◌, map, false, Option, None, Result, Ok, Err, IfErr, IfOk, String, string_bytes}
+use Rattle.std.specs.Prelude.{◌≡◌, ◌⊎◌, ℕ, List, [], ◌∷◌, ◌++◌, map, false, Option, None, Result}
+use Rattle.std.specs.Prelude.{Ok, Err, IfErr, IfOk, String, string_bytes}
 use Rattle.aout_core.specs.Wires.{Latched, Writes}
 use Rattle.link_out.specs.declared.linked.Linked.{Linked}
 use Rattle.tool_options.specs.Choices.{Choices}
@@ -27,18 +28,21 @@ abbrev pub inputs_opened : List Opened → List Input
 inputs_opened found = map (λ f. record { path = f.0; known = f.1; has_failed = false }) found
 
 -- the files that were opened are all, and this is the link of them, or why there is none
-pub record IsLinkOfFiles (forced : List (List ℕ)) (o : Choices) (files : List (List ℕ)) (found : List Opened) (answer : Result Linked CliFault) : Type 0 where
+pub record IsLinkOfFiles (forced : List (List ℕ)) (o : Choices) (files : List (List ℕ)) (found : List Opened)
+    (answer : Result Linked CliFault) : Type 0 where
   pub all : paths_of found ≡ files
   pub link : IsLinkOf forced o (inputs_opened found) answer
 
 -- the report went out, or on a fault a prefix of it
-pub record Reports {W : Type 0} (contents : W → Option (List ℕ)) (f : ReportNames) (result : Result ℕ CliFault) (before after : Latched W) : Type 0 where
+pub record Reports {W : Type 0} (contents : W → Option (List ℕ)) (f : ReportNames) (result : Result ℕ CliFault)
+    (before after : Latched W) : Type 0 where
   pub status : IfOk result (λ status. status ≡ status_of f)
   pub write_failed : IfErr result (λ fault. fault ≡ faults.WriteFailed)
   pub writes : Writes contents result before after (report_text f)
 
 -- the report goes out only if the file is stored
-abbrev pub ReportsIf : {W : Type 0} → (W → Option (List ℕ)) → Stored → String Global → ReportNames → Result ℕ CliFault → Latched W → Latched W → Type 0
+abbrev pub ReportsIf : {W : Type 0} → (W → Option (List ℕ)) → Stored → String Global → ReportNames → Result ℕ CliFault →
+    Latched W → Latched W → Type 0
 ReportsIf contents Kept out f result before after = Reports contents f result before after
 ReportsIf contents NotCreated out f result before after = (result ≡ Err (faults.CannotCreate out)) × (after ≡ before)
 ReportsIf contents Failed out f result before after = (result ≡ Err faults.WriteFailed) × (after ≡ before)
@@ -49,13 +53,15 @@ pub record Refuses {W : Type 0} (fault : CliFault) (result : Result ℕ CliFault
   pub silent : after ≡ before
 
 -- a file can't be opened
-pub record CannotOpenOne {W : Type 0} (files : List (List ℕ)) (old new : History) (result : Result ℕ CliFault) (before after : Latched W) : Type 0 where
+pub record CannotOpenOne {W : Type 0} (files : List (List ℕ)) (old new : History) (result : Result ℕ CliFault)
+    (before after : Latched W) : Type 0 where
   pub path : String Global
   pub stops : StopsAt old new files (string_bytes path)
   pub refuses : Refuses (faults.CannotOpen path) result before after
 
 -- there is no link: nothing is stored
-pub record MakesNoLink {W : Type 0} (forced : List (List ℕ)) (o : Choices) (files : List (List ℕ)) (old new : History) (result : Result ℕ CliFault) (before after : Latched W) : Type 0 where
+pub record MakesNoLink {W : Type 0} (forced : List (List ℕ)) (o : Choices) (files : List (List ℕ)) (old new : History)
+    (result : Result ℕ CliFault) (before after : Latched W) : Type 0 where
   pub fault : CliFault
   pub found : List Opened
   pub answer : IsLinkOfFiles forced o files found (Err fault)
@@ -63,7 +69,8 @@ pub record MakesNoLink {W : Type 0} (forced : List (List ℕ)) (o : Choices) (fi
   pub refuses : Refuses fault result before after
 
 -- there is a link: after all files were opened its file is to be stored, and if that is done the link is reported
-pub record StoresLink {W : Type 0} (contents : W → Option (List ℕ)) (forced : List (List ℕ)) (o : Choices) (out : String Global) (files : List (List ℕ)) (old new : History) (result : Result ℕ CliFault) (before after : Latched W) : Type 0 where
+pub record StoresLink {W : Type 0} (contents : W → Option (List ℕ)) (forced : List (List ℕ)) (o : Choices) (out : String Global)
+    (files : List (List ℕ)) (old new : History) (result : Result ℕ CliFault) (before after : Latched W) : Type 0 where
   pub linked : Linked
   pub what : Stored
   pub found : List Opened
@@ -72,7 +79,8 @@ pub record StoresLink {W : Type 0} (contents : W → Option (List ℕ)) (forced 
   pub reports : ReportsIf contents what out (report_names linked.report) result before after
 
 -- no memory before anything was opened, a file that can't be opened, no link, or a link
-abbrev pub IsLinkRun : {W : Type 0} → (W → Option (List ℕ)) → List (List ℕ) → Choices → String Global → List (List ℕ) → History → History → Result ℕ CliFault → Latched W → Latched W → Type 0
+abbrev pub IsLinkRun : {W : Type 0} → (W → Option (List ℕ)) → List (List ℕ) → Choices → String Global → List (List ℕ) →
+    History → History → Result ℕ CliFault → Latched W → Latched W → Type 0
 IsLinkRun contents forced o out files old new result before after =
     (Extends old new [] × Refuses faults.Memory result before after)
     ⊎ (CannotOpenOne files old new result before after

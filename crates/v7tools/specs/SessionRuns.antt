@@ -38,7 +38,8 @@ worst [] = 0
 worst (r ∷ rs) = max r.status (worst rs)
 
 -- the lines were run on a session, and their answers went out whole; on a wire that had failed before none was
-pub record Ran {W : Type 0} (contents : W → Option (List ℕ)) (o : Choices) (start kept : Kept) (runs : List LineRun) (old new : History) (before after : Latched W) : Type 0 where
+pub record Ran {W : Type 0} (contents : W → Option (List ℕ)) (o : Choices) (start kept : Kept) (runs : List LineRun)
+    (old new : History) (before after : Latched W) : Type 0 where
   pub chain : Chains o start runs kept
   pub asked : Extends old new (events_of runs)
   pub answers : Appends (contents before.device) (contents after.device) (answers_of runs)
@@ -62,7 +63,8 @@ abbrev pub StopsAfter : Option (List ℕ) → List Asked → CliFault → Type 0
 StopsAfter known lines faults.LongLine = AreLines known lines (Some long_line)
 StopsAfter known lines faults.ManyLines = AreLines known lines (Some many_lines)
 StopsAfter known lines faults.ScriptFailed = AreFirst known lines
-StopsAfter known lines faults.Memory = IfSome known (λ bytes. (a : Asked) × (more : List Asked) × NamesPath a × ((given bytes).lines ≡ lines ++ a ∷ more))
+StopsAfter known lines faults.Memory =
+    IfSome known (λ bytes. (a : Asked) × (more : List Asked) × NamesPath a × ((given bytes).lines ≡ lines ++ a ∷ more))
 StopsAfter known lines _ = ⊥
 
 -- the lines that were run are all, and the status is the largest of theirs; or after them the script gave a fault
@@ -71,7 +73,8 @@ EndsAfter script runs (Ok status) = AreLines script (lines_asked runs) None × (
 EndsAfter script runs (Err fault) = StopsAfter script (lines_asked runs) fault
 
 -- all answers went out whole
-pub record RunsLines {W : Type 0} (contents : W → Option (List ℕ)) (forced : List (List ℕ)) (o : Choices) (script : Option (List ℕ)) (old new : History) (result : Result ℕ CliFault) (before after : Latched W) : Type 0 where
+pub record RunsLines {W : Type 0} (contents : W → Option (List ℕ)) (forced : List (List ℕ)) (o : Choices)
+    (script : Option (List ℕ)) (old new : History) (result : Result ℕ CliFault) (before after : Latched W) : Type 0 where
   pub runs : List LineRun
   pub kept : Kept
   pub ran : Ran contents o (nothing_kept forced) kept runs old new before after
@@ -79,7 +82,8 @@ pub record RunsLines {W : Type 0} (contents : W → Option (List ℕ)) (forced :
 
 -- after the lines whose answers went out whole one more was run, and of its answer a prefix went out; on a wire that had
 -- failed before it is the first, and nothing went out
-pub record BreaksOff {W : Type 0} (contents : W → Option (List ℕ)) (forced : List (List ℕ)) (o : Choices) (script : Option (List ℕ)) (old new : History) (result : Result ℕ CliFault) (before after : Latched W) : Type 0 where
+pub record BreaksOff {W : Type 0} (contents : W → Option (List ℕ)) (forced : List (List ℕ)) (o : Choices)
+    (script : Option (List ℕ)) (old new : History) (result : Result ℕ CliFault) (before after : Latched W) : Type 0 where
   pub runs : List LineRun
   pub kept : Kept
   pub chain : Chains o (nothing_kept forced) runs kept
@@ -97,7 +101,8 @@ pub record BreaksOff {W : Type 0} (contents : W → Option (List ℕ)) (forced :
 
 -- a session that begins with these forced names and no objects: memory runs out before a line is read, all lines are
 -- run or those up to a fault of the script, or those up to one whose answer can't be written
-abbrev pub IsSessionRun : {W : Type 0} → (W → Option (List ℕ)) → List (List ℕ) → Choices → Option (List ℕ) → History → History → Result ℕ CliFault → Latched W → Latched W → Type 0
+abbrev pub IsSessionRun : {W : Type 0} → (W → Option (List ℕ)) → List (List ℕ) → Choices → Option (List ℕ) → History →
+    History → Result ℕ CliFault → Latched W → Latched W → Type 0
 IsSessionRun contents forced o script old new result before after =
     (Extends old new [] × Refuses faults.Memory result before after)
     ⊎ (RunsLines contents forced o script old new result before after

@@ -22,7 +22,9 @@ use Rattle.v7tools.specs.declared.session.commands.Step.TheVariants.{Done, Refus
 use Rattle.v7tools.specs.Inputs.{Cause, kept_with}
 use Rattle.v7tools.specs.FaultTexts.{no_memory}
 use Rattle.v7tools.specs.LinkAnswers.{WantsMemory}
-use Rattle.v7tools.specs.Answers.{absent, failing, giving, adding, withdrawing, listing_externals, listing_undefined, anything_else, Verdict, done, refused, to_store, Stepped, add_step, input_from, link_step, step}
+use Rattle.v7tools.specs.Answers.{absent, failing, giving, adding, withdrawing, listing_externals, listing_undefined}
+use Rattle.v7tools.specs.Answers.{anything_else, Verdict, done, refused, to_store, Stepped, add_step, input_from}
+use Rattle.v7tools.specs.Answers.{link_step, step}
 
 -- the verdict on a step that the code returns
 abbrev pub verdict_of : Step → Verdict
@@ -45,7 +47,8 @@ IsAddOn None forced kept path did = (found : Result Contents Cause) × (did ≡ 
 abbrev pub IsAddBy : {R : Type 0} → (R → Option (List ℕ)) → Latched R → List (List ℕ) → List Labelled → List ℕ → Stepped → Type 0
 IsAddBy remaining wire forced kept path did =
     (did ≡ add_step kept path (input_from forced kept path failing))
-    ⊎ ((wire.has_failed ≡ false) × (((did ≡ without_memory kept) × IfSome (remaining wire.device) (WantsMemory forced kept path)) ⊎ IsAddOn (remaining wire.device) forced kept path did))
+    ⊎ ((wire.has_failed ≡ false) × (((did ≡ without_memory kept) × IfSome (remaining wire.device) (WantsMemory forced kept path))
+    ⊎ IsAddOn (remaining wire.device) forced kept path did))
 
 -- memory may run out only if there is a link
 abbrev pub IsLinkBy : List Labelled → Result Outcome LinkFault → Stepped → Type 0
@@ -84,13 +87,15 @@ GoesOut contents (to_store x) answer result old new = IsOk result × (new ≡ ol
 GoesOut contents _ answer result old new = Writes contents result old new answer
 
 -- a step did this
-pub record Does {W : Type 0} (contents : W → Option (List ℕ)) (did : Stepped) (new : Kept) (result : Result Step CliFault) (before after : Latched W) : Type 0 where
+pub record Does {W : Type 0} (contents : W → Option (List ℕ)) (did : Stepped) (new : Kept)
+    (result : Result Step CliFault) (before after : Latched W) : Type 0 where
   pub kept : new.entries ≡ did.kept
   pub verdict : IfOk result (λ s. verdict_of s ≡ did.verdict)
   pub answer : GoesOut contents did.verdict did.answer result before after
 
 -- a step on a command, from the answer and the session after it
-abbrev pub TakesStep : {R W : Type 0} → (R → Option (List ℕ)) → (W → Option (List ℕ)) → Choices → Command R → Kept → Kept → Result Step CliFault → Latched W → Latched W → Type 0
+abbrev pub TakesStep : {R W : Type 0} → (R → Option (List ℕ)) → (W → Option (List ℕ)) → Choices → Command R → Kept →
+    Kept → Result Step CliFault → Latched W → Latched W → Type 0
 TakesStep remaining contents o command old new result before after =
     (did : Stepped) × IsStepOn remaining old o command did × Changes command did.verdict old new × Does contents did new result before after
 

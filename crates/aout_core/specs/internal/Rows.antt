@@ -16,14 +16,16 @@ abbrev pub reloc_in : List ℕ → Reloc
 reloc_in bytes = record { 0 = word_in bytes }
 
 -- these bytes were taken, and they encode this item
-pub record TakesItem {A : Type 0} (item_in : List ℕ → A) (width : ℕ) (old : Awaited) (before : Option (List ℕ)) (new : Awaited) (after : Option (List ℕ)) (item : A) : Type 0 where
+pub record TakesItem {A : Type 0} (item_in : List ℕ → A) (width : ℕ) (old : Awaited) (before : Option (List ℕ))
+    (new : Awaited) (after : Option (List ℕ)) (item : A) : Type 0 where
   pub bytes : List ℕ
   pub size : length bytes ≡ width
   pub takes : Takes old before new after bytes
   pub encoded : item ≡ item_in bytes
 
 -- these bytes were taken, and the items that they encode were appended to those that were there
-pub record TakesRow {A : Type 0} (item_in : List ℕ → A) (width count : ℕ) (old : Awaited) (before : Option (List ℕ)) (new : Awaited) (after : Option (List ℕ)) (items more : List A) : Type 0 where
+pub record TakesRow {A : Type 0} (item_in : List ℕ → A) (width count : ℕ) (old : Awaited) (before : Option (List ℕ))
+    (new : Awaited) (after : Option (List ℕ)) (items more : List A) : Type 0 where
   pub bytes : List ℕ
   pub size : length bytes ≡ width * count
   pub takes : Takes old before new after bytes

@@ -5,7 +5,9 @@ use Rattle.command_words.specs.Tools.{bare, files_rule, ld_app, nm_app, session_
 
 -- any other name takes files alone
 abbrev pub tool_app : List ℕ → App
-tool_app name = cond (bytes_eq name (codes "ld")) ld_app (cond (bytes_eq name (codes "nm")) nm_app (cond (bytes_eq name (codes "session")) session_app (with_rule (bare name) files_rule)))
+tool_app name =
+    cond (bytes_eq name (codes "ld")) ld_app (cond (bytes_eq name (codes "nm")) nm_app
+    (cond (bytes_eq name (codes "session")) session_app (with_rule (bare name) files_rule)))
 
 -- a command with the tools of these names
 abbrev pub tools_added : App → List (List ℕ) → App

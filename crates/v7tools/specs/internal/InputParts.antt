@@ -35,7 +35,9 @@ without_wire (Err refused) = Err refused.0
 -- the inputs before one are taken, which leaves these objects, and the link stops at that one
 abbrev pub StopsWith : List (List ℕ) → List Labelled → List Input → Said → List Labelled → Type 0
 StopsWith forced kept [] said left = ⊥
-StopsWith forced kept (i ∷ is) said left = ((left ≡ kept) × StopsAt forced kept i said) ⊎ ((next : List Labelled) × Takes forced kept i next × StopsWith forced next is said left)
+StopsWith forced kept (i ∷ is) said left =
+    ((left ≡ kept) × StopsAt forced kept i said)
+    ⊎ ((next : List Labelled) × Takes forced kept i next × StopsWith forced next is said left)
 
 -- the inputs were taken, or the link stops at one of them, with those before it taken
 abbrev pub AreTaken : Kept → Kept → List Input → Result (Unit {0}) CliFault → Type 0

@@ -18,11 +18,14 @@ abbrev pub IsWorking : {R : Type 0} → String Global × Latched R → Type 0
 IsWorking i = i.1.has_failed ≡ false
 
 -- all files were opened in order, and none of their wires has failed
-abbrev pub OpensAll : {R : Type 0} → (R → Option (List ℕ)) → History → History → List (String Global) → List (String Global × Latched R) → Type 0
-OpensAll remaining old new files inputs = Extends old new (opens (sources remaining inputs)) × (files ≡ map (λ i. i.0) inputs) × AllByRecursion IsWorking inputs
+abbrev pub OpensAll : {R : Type 0} → (R → Option (List ℕ)) → History → History → List (String Global) →
+    List (String Global × Latched R) → Type 0
+OpensAll remaining old new files inputs =
+    Extends old new (opens (sources remaining inputs)) × (files ≡ map (λ i. i.0) inputs) × AllByRecursion IsWorking inputs
 
 -- all files were opened, or those up to the first that can't be; memory runs out only before
-abbrev pub IsOpening : {R : Type 0} → (R → Option (List ℕ)) → History → History → List (String Global) → Result (Vec (String Global × Latched R) Global) CliFault → Type 0
+abbrev pub IsOpening : {R : Type 0} → (R → Option (List ℕ)) → History → History → List (String Global) →
+    Result (Vec (String Global × Latched R) Global) CliFault → Type 0
 IsOpening remaining old new files (Ok inputs) = OpensAll remaining old new files inputs.items
 IsOpening remaining old new files (Err (faults.CannotOpen path)) = StopsAt old new (map string_bytes files) (string_bytes path)
 IsOpening remaining old new files (Err faults.Memory) = Extends old new []

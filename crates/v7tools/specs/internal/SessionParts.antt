@@ -16,14 +16,16 @@ use Rattle.v7tools.specs.LineRuns.{IsLineOf, LineRun, status_after}
 -- the file at a path was opened, on a wire that has not failed, or could not be
 abbrev pub IsOpenedAt : {R : Type 0} → (R → Option (List ℕ)) → History → History → List ℕ → Option (Latched R) → Type 0
 IsOpenedAt remaining old new path None = Extends old new (opened path None ∷ [])
-IsOpenedAt remaining old new path (Some wire) = (wire.has_failed ≡ false) × Extends old new (opened path (Some (remaining wire.device)) ∷ [])
+IsOpenedAt remaining old new path (Some wire) =
+    (wire.has_failed ≡ false) × Extends old new (opened path (Some (remaining wire.device)) ∷ [])
 
 abbrev pub IsNoLink : {R : Type 0} → Command R → Type 0
 IsNoLink Link = ⊥
 IsNoLink _ = Unit {0}
 
 -- the status of a step is returned, and its answer went out, or on a fault a prefix of it
-pub record AnswersStep {W : Type 0} (contents : W → Option (List ℕ)) (did : Stepped) (left : Kept) (result : Result ℕ CliFault) (before after : Latched W) : Type 0 where
+pub record AnswersStep {W : Type 0} (contents : W → Option (List ℕ)) (did : Stepped) (left : Kept)
+    (result : Result ℕ CliFault) (before after : Latched W) : Type 0 where
   pub entries : left.entries ≡ did.kept
   pub status : IfOk result (λ status. status ≡ status_after did.verdict)
   pub write_failed : IfErr result (λ fault. fault ≡ faults.WriteFailed)
@@ -31,12 +33,15 @@ pub record AnswersStep {W : Type 0} (contents : W → Option (List ℕ)) (did : 
   pub bytes : Puts result (contents before.device) (contents after.device) did.answer
 
 -- a step on a command that is not a link was taken
-abbrev pub TakesPlainStep : {R W : Type 0} → (R → Option (List ℕ)) → (W → Option (List ℕ)) → Choices → Command R → Kept → Kept → Result ℕ CliFault → Latched W → Latched W → Type 0
+abbrev pub TakesPlainStep : {R W : Type 0} → (R → Option (List ℕ)) → (W → Option (List ℕ)) → Choices → Command R →
+    Kept → Kept → Result ℕ CliFault → Latched W → Latched W → Type 0
 TakesPlainStep remaining contents o command old new result before after =
-    (did : Stepped) × IsStepOn remaining old o command did × Changes command did.verdict old new × AnswersStep contents did new result before after
+    (did : Stepped) × IsStepOn remaining old o command did × Changes command did.verdict old new
+    × AnswersStep contents did new result before after
 
 -- a line was run; its answer went out, or on a fault a prefix of it
-pub record AnswersLine {W : Type 0} (contents : W → Option (List ℕ)) (o : Choices) (asks : Asked) (kept left : Kept) (old new : History) (result : Result ℕ CliFault) (before after : Latched W) : Type 0 where
+pub record AnswersLine {W : Type 0} (contents : W → Option (List ℕ)) (o : Choices) (asks : Asked) (kept left : Kept)
+    (old new : History) (result : Result ℕ CliFault) (before after : Latched W) : Type 0 where
   pub run : LineRun
   pub line : run.line ≡ asks
   pub leaves : run.kept ≡ left

@@ -1,5 +1,6 @@
 -- What the parts of a step find and do.
-use Rattle.std.specs.Prelude.{◌≡◌, ◌≢◌, ◌⊎◌, ℕ, false, cond, List, [], Option, Some, None, Result, Ok, Err, IfSome, IsTrue, String, string_bytes}
+use Rattle.std.specs.Prelude.{◌≡◌, ◌≢◌, ◌⊎◌, ℕ, false, cond, List, [], Option, Some, None, Result}
+use Rattle.std.specs.Prelude.{Ok, Err, IfSome, IsTrue, String, string_bytes}
 use Rattle.std.specs.declared.alloc.Global.{Global}
 use Rattle.aout_core.specs.declared.file.ReadFault.TheVariants as reads
 use Rattle.aout_core.specs.Contents.{Contents}
@@ -58,42 +59,54 @@ pub record IsAccepted (known : Option (List ℕ)) (old new : Kept) (path : List 
 abbrev pub IsObjectAddition : Kept → Kept → String Global → Contents → Result (Unit {0}) CliFault → Type 0
 IsObjectAddition old new path object (Ok _) = (refusal old.forced (objects old.entries) object ≡ None) × Adds old new (labelled path object)
 IsObjectAddition old new path object (Err fault) =
-    (new ≡ old) × ((cause : AddFault) × (fault ≡ fault_of_addition path cause) × IsCause (refusal old.forced (objects old.entries) object) cause)
+    (new ≡ old) × ((cause : AddFault) × (fault ≡ fault_of_addition path cause)
+    × IsCause (refusal old.forced (objects old.entries) object) cause)
 
 -- the file at a path was added, or the fault says why it was not; memory runs out only if it is wanted
 abbrev pub IsAddition : Option (List ℕ) → Kept → Kept → String Global → Result (Unit {0}) CliFault → Type 0
 IsAddition known old new path (Ok _) = (object : Contents) × IsAccepted known old new (string_bytes path) object
-IsAddition known old new path (Err fault) = (new ≡ old) × (((fault ≡ faults.Memory) × IfSome known (WantsMemory old.forced old.entries (string_bytes path))) ⊎ IsRefusal known old path fault)
+IsAddition known old new path (Err fault) =
+    (new ≡ old) × (((fault ≡ faults.Memory) × IfSome known (WantsMemory old.forced old.entries (string_bytes path)))
+    ⊎ IsRefusal known old path fault)
 
 -- the file at a path is added by its bytes, where they are known; else as some file, or refused for some cause but a
 -- device that failed
 abbrev pub IsAddWorking : Option (List ℕ) → List (List ℕ) → List Labelled → List ℕ → Stepped → Type 0
 IsAddWorking (Some bytes) forced kept path did = did ≡ add_step kept path (input_from forced kept path (giving bytes))
-IsAddWorking None forced kept path did = (found : Result Contents Cause) × (found ≢ Err (bad_file reads.Device)) × (did ≡ add_step kept path (kept_with forced kept path found))
+IsAddWorking None forced kept path did =
+    (found : Result Contents Cause) × (found ≢ Err (bad_file reads.Device))
+    × (did ≡ add_step kept path (kept_with forced kept path found))
 
 -- an addition, with its wire before and after: the answer is that of a device that failed if and only if the wire has
-abbrev pub IsAddOver : {R : Type 0} → (R → Option (List ℕ)) → Latched R → Latched R → List (List ℕ) → List Labelled → List ℕ → Stepped → Type 0
+abbrev pub IsAddOver : {R : Type 0} → (R → Option (List ℕ)) → Latched R → Latched R → List (List ℕ) → List Labelled →
+    List ℕ → Stepped → Type 0
 IsAddOver remaining from to forced kept path did =
     (IsTrue to.has_failed × (did ≡ add_step kept path (input_from forced kept path failing)))
-    ⊎ ((to.has_failed ≡ false) × (from.has_failed ≡ false) × (((did ≡ without_memory kept) × IfSome (remaining from.device) (WantsMemory forced kept path)) ⊎ IsAddWorking (remaining from.device) forced kept path did))
+    ⊎ ((to.has_failed ≡ false) × (from.has_failed ≡ false) × (((did ≡ without_memory kept) × IfSome (remaining from.device)
+    (WantsMemory forced kept path)) ⊎ IsAddWorking (remaining from.device) forced kept path did))
 
 -- the file at a path is added, or the answer says why it is not
-abbrev pub TakesAddStep : {R W : Type 0} → (R → Option (List ℕ)) → (W → Option (List ℕ)) → String Global → Latched R → Latched R → Kept → Kept → Result Step CliFault → Latched W → Latched W → Type 0
+abbrev pub TakesAddStep : {R W : Type 0} → (R → Option (List ℕ)) → (W → Option (List ℕ)) → String Global → Latched R →
+    Latched R → Kept → Kept → Result Step CliFault → Latched W → Latched W → Type 0
 TakesAddStep remaining contents path from to old new result before after =
-    (did : Stepped) × IsAddOver remaining from to old.forced old.entries (string_bytes path) did × AddsIf did.verdict old new × Does contents did new result before after
+    (did : Stepped) × IsAddOver remaining from to old.forced old.entries (string_bytes path) did
+    × AddsIf did.verdict old new × Does contents did new result before after
 
 -- the last object is taken away, or there is none
 abbrev pub TakesWithdrawal : {W : Type 0} → (W → Option (List ℕ)) → Kept → Kept → Result Step CliFault → Latched W → Latched W → Type 0
 TakesWithdrawal contents old new result before after =
-    WithdrawsIf (withdraw_step old.entries (last_of old.entries)).verdict old new × Does contents (withdraw_step old.entries (last_of old.entries)) new result before after
+    WithdrawsIf (withdraw_step old.entries (last_of old.entries)).verdict old new
+    × Does contents (withdraw_step old.entries (last_of old.entries)) new result before after
 
 -- there is no link, and the text of its fault goes out, or a prefix of it
-abbrev pub RefusesLink : {W T : Type 0} → (W → Option (List ℕ)) → Result Outcome LinkFault → Result T CliFault → Latched W → Latched W → Type 0
+abbrev pub RefusesLink : {W T : Type 0} → (W → Option (List ℕ)) → Result Outcome LinkFault → Result T CliFault →
+    Latched W → Latched W → Type 0
 RefusesLink contents answer result before after =
     (fault : LinkFault) × IsLinkOf (Err fault) answer × Writes contents result before after (line (cli_text (fault_of_link fault)))
 
 -- a link is made, and nothing is written; or there is none
-abbrev pub MakesLink : {W : Type 0} → (W → Option (List ℕ)) → Result Outcome LinkFault → Result (Option Linked) CliFault → Latched W → Latched W → Type 0
+abbrev pub MakesLink : {W : Type 0} → (W → Option (List ℕ)) → Result Outcome LinkFault →
+    Result (Option Linked) CliFault → Latched W → Latched W → Type 0
 MakesLink contents answer (Ok (Some linked)) before after = (answer ≡ Ok (outcome_of linked)) × (after ≡ before)
 MakesLink contents answer (Ok None) before after = RefusesLink {T = Option Linked} contents answer (Ok None) before after
 MakesLink contents answer (Err fault) before after = RefusesLink {T = Option Linked} contents answer (Err fault) before after

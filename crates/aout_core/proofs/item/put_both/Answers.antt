@@ -10,7 +10,8 @@ returns-in_err-put_items-clause-bytes g c =
     let first = flat_map g.T.Item.encoding c.args.first.now in
     let second = flat_map g.T.Item.encoding c.args.second.now in
     broke_off c.from_residual.result _ _ _ _ c.from_residual.ensures.0
-    (broke_before _ _ (old ++ (first ++ second)) (old ++ first) second (sym (append_assoc old first second)) c.in_err-put_items.ensures.bytes)
+    (broke_before _ _ (old ++ (first ++ second)) (old ++ first) second
+    (sym (append_assoc old first second)) c.in_err-put_items.ensures.bytes)
 
 pub returns-clause-bytes : goal.returns-clause-bytes
 returns-clause-bytes g c =

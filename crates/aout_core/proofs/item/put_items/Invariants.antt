@@ -11,4 +11,5 @@ invariant-loop-few g l =
     × (goal.iterator-loop-few g).is_finite l.few-iterator
     × (l.wire.has_failed ≡ false)
     × (chunks_size l.few-iterator ≡ 512 / g.T.Item.WIDTH)
-    × IsPutBut g.T.Item.encoding (g.W.Write.contents l.initial.wire.device) (g.W.Write.contents l.wire.device) l.outgoing (l.initial.outgoing ++ flat_map g.T.Item.encoding l.items) (chunks_rest l.few-iterator)
+    × IsPutBut g.T.Item.encoding (g.W.Write.contents l.initial.wire.device) (g.W.Write.contents l.wire.device) l.outgoing
+    (l.initial.outgoing ++ flat_map g.T.Item.encoding l.items) (chunks_rest l.few-iterator)

@@ -16,5 +16,7 @@ returns-clause-value g c =
     let few : n ≤ length w.waiting / width = search rules in
     let within : width * n ≤ length w.waiting = omega (arith, mul-le-mul_left width few, mul-div-le (length w.waiting) width) in
     let read : more ≡ items ++ row_in item_in width n w.waiting = search rules in
-    let passed : c.pass.new.self ≡ (let left : Awaited = record { waiting = drop (width * n) w.waiting; missing = w.missing } in left) = search rules in
-    λ reader. subst (λ (u : Awaited). TakesRow item_in width n w reader u reader items more) (sym passed) (waiting_taken item_in width n w reader items more within read)
+    let passed : c.pass.new.self
+    ≡ (let left : Awaited = record { waiting = drop (width * n) w.waiting; missing = w.missing } in left) = search rules in
+    λ reader. subst (λ (u : Awaited). TakesRow item_in width n w reader u reader items more) (sym passed)
+    (waiting_taken item_in width n w reader items more within read)

@@ -5,4 +5,6 @@ use Rattle.aout_core.specs.Contents.{IsWord}
 use Rattle.aout_core.proofs.laws.are_reloc_words.Given as goal
 
 abbrev pub invariant-loop-reloc : goal.invariant-loop-reloc
-invariant-loop-reloc l = AllByRecursion (λ (r : Reloc). IsWord r.0) (drop l.reloc-index l.relocs) → AllByRecursion (λ (r : Reloc). IsWord r.0) l.relocs
+invariant-loop-reloc l =
+    AllByRecursion (λ (r : Reloc). IsWord r.0) (drop l.reloc-index l.relocs) →
+    AllByRecursion (λ (r : Reloc). IsWord r.0) l.relocs

@@ -17,5 +17,6 @@ returns-in_err-header-clause-decodes g c =
 pub returns-clause-decodes : goal.returns-clause-decodes
 returns-clause-decodes g c =
     let read = c.in_ok-header.ensures.value in
-    read_if_known c.read_body.result (g.R.Read.remaining c.args.wire.now.device) (g.R.Read.remaining c.read_header.new.wire.device) (g.R.Read.remaining c.read_body.new.wire.device) c.in_ok-header.header
+    read_if_known c.read_body.result (g.R.Read.remaining c.args.wire.now.device)
+    (g.R.Read.remaining c.read_header.new.wire.device) (g.R.Read.remaining c.read_body.new.wire.device) c.in_ok-header.header
     read.0 read.1 c.read_body.ensures.value

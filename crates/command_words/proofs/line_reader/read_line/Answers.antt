@@ -17,7 +17,9 @@ loop-preserved g c =
       λ whole.
           let (split, same) = held whole in
           let more = goes_on c.args.reader.now.held c.loop.line.items c.loop.reader.held none split whole in (
-            split ∙ ap (λ l. c.loop.line.items ++ l) (next more) ∙ sym (append_assoc c.loop.line.items (c.in-Ok-Some.byte ∷ []) c.next_byte.new.self.held) ∙ ap (λ l. l ++ c.next_byte.new.self.held) (sym pushed),
+            split ∙ ap (λ l. c.loop.line.items ++ l) (next more)
+                ∙ sym (append_assoc c.loop.line.items (c.in-Ok-Some.byte ∷ []) c.next_byte.new.self.held)
+                ∙ ap (λ l. l ++ c.next_byte.new.self.held) (sym pushed),
             c.in-Ok-Some.ensures.untouched more ∙ same,
           ),
     )
@@ -25,7 +27,8 @@ loop-preserved g c =
 pub returns-in-Ok-Some-eq10-clause-ends : goal.returns-in-Ok-Some-eq10-clause-ends
 returns-in-Ok-Some-eq10-clause-ends g c =
     let (unlatched, count, space, none, taken, held) = c.loop.invariant in
-    let one = rw (c.in-Ok-Some-eq10.field-0-is, c.in-Ok-Some-eq10.field-0-0-test) at c.in-Ok-Some-eq10.ensures.byte in (none, Consumes-trans _ _ _ _ _ taken one)
+    let one = rw (c.in-Ok-Some-eq10.field-0-is, c.in-Ok-Some-eq10.field-0-0-test) at c.in-Ok-Some-eq10.ensures.byte in
+    (none, Consumes-trans _ _ _ _ _ taken one)
 
 pub returns-in-Ok-Some-eq10-clause-untouched : goal.returns-in-Ok-Some-eq10-clause-untouched
 returns-in-Ok-Some-eq10-clause-untouched g c =

@@ -7,4 +7,5 @@ pub returns-in_default : goal.returns-in_default
 returns-in_default c = none_forced (found_of c.args.given.now) c.none-forced.result (search rules) (search rules)
 
 pub loop-name-init : goal.loop-name-init
-loop-name-init c = forced_given (found_of c.args.given.now) (map (λ t. t.now) c.in-Some.names.now) c.none-forced.result (search rules) (search rules)
+loop-name-init c =
+    forced_given (found_of c.args.given.now) (map (λ t. t.now) c.in-Some.names.now) c.none-forced.result (search rules) (search rules)

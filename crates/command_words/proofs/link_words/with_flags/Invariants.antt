@@ -6,4 +6,6 @@ use Rattle.command_words.proofs.link_words.with_flags.Given as goal
 
 -- the command so far, with the flags that are left, makes the whole
 abbrev pub invariant-loop-id : goal.invariant-loop-id
-invariant-loop-id l = with_rules (app_of l.fn.command) (map flag_rule l.fn.flags) ≡ with_rules (app_of l.command) (map flag_rule (drop l.id-index l.fn.flags))
+invariant-loop-id l =
+    with_rules (app_of l.fn.command) (map flag_rule l.fn.flags)
+    ≡ with_rules (app_of l.command) (map flag_rule (drop l.id-index l.fn.flags))

@@ -7,7 +7,9 @@ use Rattle.command_words.proofs.WordsLemmas.{values_given, no_values_given}
 use Rattle.command_words.proofs.words.owned_files.Goals as goal
 
 pub returns-in_default-clause-value : goal.returns-in_default-clause-value
-returns-in_default-clause-value c = ap (λ (owned : List (String Global)). map string_bytes owned) c.new-owned.ensures.items ∙ sym (no_values_given (found_of c.args.matches.now) FILE.now (search rules))
+returns-in_default-clause-value c =
+    ap (λ (owned : List (String Global)). map string_bytes owned) c.new-owned.ensures.items
+    ∙ sym (no_values_given (found_of c.args.matches.now) FILE.now (search rules))
 
 pub loop-file-init : goal.loop-file-init
 loop-file-init c =

@@ -8,4 +8,6 @@ use Rattle.command_words.proofs.words.owned_files.Given as goal
 
 -- the files so far, with those that are left, make the whole
 abbrev pub invariant-loop-file : goal.invariant-loop-file
-invariant-loop-file l = values_of (rows_of (found_of l.fn.matches)) FILE.now ≡ map string_bytes l.owned.items ++ map (λ t. t.now) (drop l.file-index l.given)
+invariant-loop-file l =
+    values_of (rows_of (found_of l.fn.matches)) FILE.now
+    ≡ map string_bytes l.owned.items ++ map (λ t. t.now) (drop l.file-index l.given)

@@ -24,4 +24,5 @@ returns-in_default c =
     let no_nm : c.args.name.now ≡ codes "nm" → ⊥ = search rules in
     let no_session : c.args.name.now ≡ codes "session" → ⊥ = search rules in
     let other = sym (takes_files c.args.name.now no_ld no_nm no_session) in
-    IfOk-weaker c.arg.result _ _ (λ r h. adds_rule _ _ _ _ _ h c.tool-in_default.ensures c.files.ensures.rule c.files.ensures.local ∙ other) c.arg.ensures
+    IfOk-weaker c.arg.result _ _
+    (λ r h. adds_rule _ _ _ _ _ h c.tool-in_default.ensures c.files.ensures.rule c.files.ensures.local ∙ other) c.arg.ensures

@@ -6,4 +6,6 @@ use Rattle.command_words.specs.internal.ToolApps.{tools_added}
 use Rattle.command_words.proofs.words.tools.Goals as goal
 
 pub returns : goal.returns
-returns c = IfOk-weaker c.with_tools.result _ _ (λ r h. h ∙ ap (λ app. tools_added app (map (λ n. n.now) TOOLS)) c.program.ensures) c.with_tools.ensures
+returns c =
+    IfOk-weaker c.with_tools.result _ _
+    (λ r h. h ∙ ap (λ app. tools_added app (map (λ n. n.now) TOOLS)) c.program.ensures) c.with_tools.ensures

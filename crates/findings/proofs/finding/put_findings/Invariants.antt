@@ -6,4 +6,5 @@ use Rattle.findings.proofs.finding.put_findings.Given as goal
 abbrev pub invariant-loop-finding : goal.invariant-loop-finding
 invariant-loop-finding l =
     l.notes.is_cut ≡ false → (l.initial.notes.is_cut ≡ false)
-    × (l.notes.lines ++ map (finding_note l.word) (drop l.finding-index l.findings) ≡ l.initial.notes.lines ++ map (finding_note l.word) l.findings)
+    × (l.notes.lines ++ map (finding_note l.word) (drop l.finding-index l.findings)
+    ≡ l.initial.notes.lines ++ map (finding_note l.word) l.findings)

@@ -14,10 +14,14 @@ loop-number-preserved c =
           let put = c.find_symbol.ensures whole in
           let so_far = c.loop-number.invariant.0 put.0 in (
             so_far.0,
-            symbols_more file c.args.source.now.bytes.now symbols c.loop-number.number c.index-symbols-number.result c.loop-number.findings.found c.find_symbol.new.findings.found
-                (c.args.findings.now.found ++ odd_symbols file c.args.source.now.bytes.now 0 symbols) c.loop-number-test.true c.index-symbols-number.is put.1 so_far.1,
+            symbols_more file c.args.source.now.bytes.now symbols c.loop-number.number c.index-symbols-number.result
+                c.loop-number.findings.found c.find_symbol.new.findings.found
+                (c.args.findings.now.found ++ odd_symbols file c.args.source.now.bytes.now 0 symbols) c.loop-number-test.true
+                c.index-symbols-number.is put.1 so_far.1,
           ),
-      λ other. noted_more symbols c.loop-number.number c.index-symbols-number.result other (get (slice_cmp nat_cmp) c.loop-number.seen c.index-symbols-number.result.name)
-          (get (slice_cmp nat_cmp) c.loop-number.seen other) (get (slice_cmp nat_cmp) c.first_alike.new.seen other) c.loop-number-test.true c.index-symbols-number.is
+      λ other. noted_more symbols c.loop-number.number c.index-symbols-number.result other
+          (get (slice_cmp nat_cmp) c.loop-number.seen c.index-symbols-number.result.name)
+          (get (slice_cmp nat_cmp) c.loop-number.seen other) (get (slice_cmp nat_cmp) c.first_alike.new.seen other)
+          c.loop-number-test.true c.index-symbols-number.is
           (c.in-Ok.ensures.noted other) (c.loop-number.invariant.1 c.index-symbols-number.result.name) (c.loop-number.invariant.1 other),
     )

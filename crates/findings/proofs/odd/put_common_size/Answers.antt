@@ -19,4 +19,5 @@ returns c =
     subst (λ (n : ℕ). Puts c.put.new.self c.put_decimal.new.self (decimal n)) c.from-2.ensures c.put_decimal.ensures in
     let two = puts_both old c.put_six_digits.new.self c.put.new.self digits between one c.put.ensures in
     let three = puts_both old c.put.new.self c.put_decimal.new.self (digits ++ between) size two sized in
-    puts_both old c.put_decimal.new.self c.put-2.new.self (digits ++ between ++ size) (codes " bytes, rounded up to even") three c.put-2.ensures
+    puts_both old c.put_decimal.new.self c.put-2.new.self (digits ++ between ++ size)
+    (codes " bytes, rounded up to even") three c.put-2.ensures

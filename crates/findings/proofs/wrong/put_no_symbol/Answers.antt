@@ -18,4 +18,5 @@ returns c =
     let two = puts_both old c.put.new.self c.put_decimal.new.self before number c.put.ensures numbered in
     let three = puts_both old c.put_decimal.new.self c.put-2.new.self (before ++ number) between two c.put-2.ensures in
     let four = puts_both old c.put-2.new.self c.put_decimal-2.new.self (before ++ number ++ between) count three c.put_decimal-2.ensures in
-    puts_both old c.put_decimal-2.new.self c.put-3.new.self (before ++ number ++ between ++ count) (codes ", counted from 0") four c.put-3.ensures
+    puts_both old c.put_decimal-2.new.self c.put-3.new.self (before ++ number ++ between ++ count)
+    (codes ", counted from 0") four c.put-3.ensures

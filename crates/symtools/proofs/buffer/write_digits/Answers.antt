@@ -8,8 +8,13 @@ loop-rest-init c =
     let d = c.digit.result in
     let long : length c.args.places.now ≡ 6 = search rules in
     let set : drop 5 (slice_set c.args.places.now 5 d) ≡ d ∷ drop 6 c.args.places.now = drop-set c.args.places.now 5 d (omega arith) in
-    let none : drop 6 c.args.places.now ≡ [] = drop_all 6 c.args.places.now (omega arith) in
-    (search rules, search rules, search rules, first-digit c.args.base c.args.number d (search rules) c.digit.ensures ∙ ap (digits_left 5 c.args.base c.args.number) (sym (set ∙ ap (λ l. d ∷ l) none)))
+    let none : drop 6 c.args.places.now ≡ [] = drop_all 6 c.args.places.now (omega arith) in (
+      search rules,
+      search rules,
+      search rules,
+      first-digit c.args.base c.args.number d (search rules) c.digit.ensures
+          ∙ ap (digits_left 5 c.args.base c.args.number) (sym (set ∙ ap (λ l. d ∷ l) none)),
+    )
 
 pub overflow_sub-start-in-loop-rest : goal.overflow_sub-start-in-loop-rest
 overflow_sub-start-in-loop-rest c = place-left c.loop-rest.start c.args.base c.loop-rest.rest (search rules) c.loop-rest.invariant.2
@@ -28,6 +33,7 @@ loop-rest-preserved c =
       search rules,
       omega arith,
       fewer-digits start base rest capacity (search rules) c.loop-rest.invariant.2,
-      c.loop-rest.invariant.3 ∙ next-digit start base rest d _ capacity (search rules) (search rules) (search rules) c.digit-in-loop-rest.ensures
+      c.loop-rest.invariant.3 ∙ next-digit start base rest d _ capacity (search rules) (search rules)
+          (search rules) c.digit-in-loop-rest.ensures
           ∙ ap (digits_left (start - 1) base (rest / base)) (sym set),
     )

@@ -1,4 +1,5 @@
-use Rattle.std.proofs.Common.{◌≡◌, ℕ, suc, zero, ◌<◌, Bool, true, false, cond, List, [], ◌∷◌, length, slice_index_or, filter, sym, ap, ◌∙◌, arith}
+use Rattle.std.proofs.Common.{◌≡◌, ℕ, suc, zero, ◌<◌, Bool, true, false, cond, List, [], ◌∷◌, length}
+use Rattle.std.proofs.Common.{slice_index_or, filter, sym, ap, ◌∙◌, arith}
 use Rattle.std.proofs.lemmas.Bool.{cond-true}
 use Rattle.std.proofs.lemmas.Grind.{common_steps}
 use Rattle.std.proofs.lemmas.Result.{MatchResult-from_err}
@@ -6,7 +7,8 @@ use Rattle.symtools.specs.NmLists.{is_shown}
 use Rattle.symtools.proofs.listing.kept.Goals as goal
 
 -- something is kept where one item passes
-one_kept : {X : Type 0} (p : X → Bool) (xs : List X) (i : ℕ) (d : X) → i < length xs → p (slice_index_or xs i d) ≡ true → filter p xs ≡ [] → ⊥
+one_kept : {X : Type 0} (p : X → Bool) (xs : List X) (i : ℕ) (d : X) → i < length xs →
+    p (slice_index_or xs i d) ≡ true → filter p xs ≡ [] → ⊥
 one_kept p [] i d within passes none = absurd (omega arith)
 one_kept p (x ∷ xs) zero d within passes none = let clash = sym (cond-true _ _ _ passes) ∙ none in cc
 one_kept p (x ∷ xs) (suc i) d within passes none = by_test (p x) (one_kept p xs i d (omega arith) passes) none
@@ -19,7 +21,8 @@ pub returns-in_err-push-clause-shows : goal.returns-in_err-push-clause-shows
 returns-in_err-push-clause-shows c =
     let passes = sym (ap (is_shown c.args.options) c.symbol-item.is) ∙ sym c.is_shown.ensures ∙ c.if-is_shown.true in
     MatchResult-from_err c.from_residual.result _ _ c.from_residual.ensures.0
-    (λ fault. one_kept (is_shown c.args.options) c.args.table.now c.loop-symbol.symbol-index c.symbol-item.result c.loop-symbol-test.true passes)
+    (λ fault. one_kept (is_shown c.args.options) c.args.table.now c.loop-symbol.symbol-index c.symbol-item.result
+    c.loop-symbol-test.true passes)
 
 pub loop-symbol-preserved : goal.loop-symbol-preserved
 loop-symbol-preserved c = grind (arith, common_steps)

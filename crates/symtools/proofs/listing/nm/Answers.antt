@@ -18,11 +18,13 @@ returns-in_err-list_file-clause-bytes g c =
     let headed = c.loop-file.invariant.1 in
     let entry = subst (AppendsPrefix _ _)
     (λ i. (if headed i then string_bytes file.0 ++ 58 ∷ 10 ∷ [] else [])
-    ++ flat_map (λ s. (if o.each_line then string_bytes file.0 ++ 58 ∷ [] else []) ++ symbol_line s) (arranged o (filter (is_shown o) file.1.symbols)))
+    ++ flat_map (λ s. (if o.each_line then string_bytes file.0 ++ 58 ∷ [] else []) ++ symbol_line s)
+    (arranged o (filter (is_shown o) file.1.symbols)))
     c.in_err-list_file.ensures.bytes in
     put_broke_off c.from_residual.result _ _ _ c.from_residual.ensures.0
     (subst (AppendsPrefix _ _) (nm_text-listed o files)
-    (front_of_row (listed o (length files)) files c.loop-file.file-index c.file-item.result _ _ _ c.loop-file-test.true c.file-item.is c.loop-file.invariant.2 entry))
+    (front_of_row (listed o (length files)) files c.loop-file.file-index c.file-item.result _ _ _ c.loop-file-test.true
+    c.file-item.is c.loop-file.invariant.2 entry))
 
 pub returns-in_err-list_file-clause-memory : goal.returns-in_err-list_file-clause-memory
 returns-in_err-list_file-clause-memory g c = λ memory.
@@ -32,9 +34,11 @@ returns-in_err-list_file-clause-memory g c = λ memory.
     let fault = err_from_is_err_and c.from_residual.result c.from_residual.ensures.1 in
     let silent = c.in_err-list_file.ensures.memory (cc) in
     let shows = c.in_err-list_file.ensures.shows (cc) in
-    lists_up_to o files c.loop-file.file-index c.file-item.result old (g.W.Write.contents c.list_file.new.out.device) c.loop-file-test.true c.file-item.is
+    lists_up_to o files c.loop-file.file-index c.file-item.result old
+    (g.W.Write.contents c.list_file.new.out.device) c.loop-file-test.true c.file-item.is
     shows
-    (subst (λ w. Appends old (g.W.Write.contents w.device) (flat_map (listed o (length files)) (take c.loop-file.file-index files))) (sym silent) c.loop-file.invariant.2)
+    (subst (λ w. Appends old (g.W.Write.contents w.device) (flat_map (listed o (length files)) (take c.loop-file.file-index files)))
+    (sym silent) c.loop-file.invariant.2)
 
 pub loop-file-preserved : goal.loop-file-preserved
 loop-file-preserved g c =
@@ -44,11 +48,13 @@ loop-file-preserved g c =
     let headed = c.loop-file.invariant.1 in
     let entry = subst (Appends _ _)
     (λ i. (if headed i then string_bytes file.0 ++ 58 ∷ 10 ∷ [] else [])
-    ++ flat_map (λ s. (if o.each_line then string_bytes file.0 ++ 58 ∷ [] else []) ++ symbol_line s) (arranged o (filter (is_shown o) file.1.symbols)))
+    ++ flat_map (λ s. (if o.each_line then string_bytes file.0 ++ 58 ∷ [] else []) ++ symbol_line s)
+    (arranged o (filter (is_shown o) file.1.symbols)))
     c.in_ok-list_file.ensures.bytes in (
       not_failed _ _ _ c.in_ok-list_file.ensures.device.1,
       headed,
-      row_more (listed o (length files)) files c.loop-file.file-index c.file-item.result _ _ _ c.loop-file-test.true c.file-item.is c.loop-file.invariant.2 entry,
+      row_more (listed o (length files)) files c.loop-file.file-index c.file-item.result _ _ _ c.loop-file-test.true
+          c.file-item.is c.loop-file.invariant.2 entry,
     )
 
 pub returns-clause-bytes : goal.returns-clause-bytes

@@ -13,18 +13,24 @@ returns-in_err-put_size-clause-written g c =
     let files = c.args.files.now in
     let path = c.deref.ensures in
     let header = c.header.ensures.value in
-    let entry = subst (AppendsPrefix _ _) (λ i. (if nat_lt 1 (length files) then path i ++ 58 ∷ 32 ∷ [] else []) ++ size_line (header i) ++ 10 ∷ []) c.in_err-put_size.ensures.bytes in
+    let entry = subst (AppendsPrefix _ _) (λ i. (if nat_lt 1 (length files) then path i ++ 58 ∷ 32 ∷ [] else [])
+    ++ size_line (header i) ++ 10 ∷ []) c.in_err-put_size.ensures.bytes in
     writes_in_part c.from_residual.ensures.0 (search rules) (search rules)
     (subst (AppendsPrefix _ _) (size_text-sized files)
-    (front_of_row (sized (length files)) files c.loop-path.path-index c.loop-path-item.result _ _ _ c.loop-path-test.true c.loop-path-item.is c.loop-path.invariant.1 entry))
+    (front_of_row (sized (length files)) files c.loop-path.path-index c.loop-path-item.result _ _ _
+    c.loop-path-test.true c.loop-path-item.is c.loop-path.invariant.1 entry))
 
 pub loop-path-preserved : goal.loop-path-preserved
 loop-path-preserved g c =
     let files = c.args.files.now in
     let path = c.deref.ensures in
     let header = c.header.ensures.value in
-    let entry = subst (Appends _ _) (λ i. (if nat_lt 1 (length files) then path i ++ 58 ∷ 32 ∷ [] else []) ++ size_line (header i) ++ 10 ∷ []) c.in_ok-put_size.ensures.bytes in
-    (search rules, row_more (sized (length files)) files c.loop-path.path-index c.loop-path-item.result _ _ _ c.loop-path-test.true c.loop-path-item.is c.loop-path.invariant.1 entry)
+    let entry = subst (Appends _ _) (λ i. (if nat_lt 1 (length files) then path i ++ 58 ∷ 32 ∷ [] else [])
+    ++ size_line (header i) ++ 10 ∷ []) c.in_ok-put_size.ensures.bytes in (
+      search rules,
+      row_more (sized (length files)) files c.loop-path.path-index c.loop-path-item.result _ _ _ c.loop-path-test.true
+          c.loop-path-item.is c.loop-path.invariant.1 entry,
+    )
 
 pub returns-clause-written : goal.returns-clause-written
 returns-clause-written g c =

@@ -7,4 +7,5 @@ use Rattle.symtools.proofs.sizes.size.Given as goal
 abbrev pub invariant-loop-path : goal.invariant-loop-path
 invariant-loop-path g l =
     (l.out.has_failed ≡ false)
-    × Appends (g.W.Write.contents l.initial.out.device) (g.W.Write.contents l.out.device) (flat_map (sized (length l.files)) (take l.path-index l.files))
+    × Appends (g.W.Write.contents l.initial.out.device) (g.W.Write.contents l.out.device)
+    (flat_map (sized (length l.files)) (take l.path-index l.files))

@@ -1,4 +1,5 @@
-use Rattle.std.proofs.Common.{◌≡◌, ◌-◌, ◌≤◌, [], List, ℕ, ◌++◌, length, take, drop, arith, rules, ap, ◌∙◌, subst, sym, append-nil, length-drop}
+use Rattle.std.proofs.Common.{◌≡◌, ◌-◌, ◌≤◌, [], List, ℕ, ◌++◌, length, take, drop, arith, rules}
+use Rattle.std.proofs.Common.{ap, ◌∙◌, subst, sym, append-nil, length-drop}
 use Rattle.std.proofs.lemmas.List.{drop_all, take_rest}
 use Rattle.std.specs.Prelude.{Err, IfErr}
 use Rattle.std.specs.Io.KnownBytes.{prepend_known}
@@ -15,7 +16,8 @@ returns-else-n-out-clause-value g c =
     let new : Awaited = record { waiting = c.give_out-n.new.self; missing = inside.missing } in
     let reader = g.R.Read.remaining c.args.wire.now.device in
     subst (λ (w : Awaited). Takes w reader new reader c.give_out-n.new.out) c.self.view_is
-    (taken_at_once reader old c.args.out.now c.give_out-n.new.out c.give_out-n.new.self c.give_out-n.result e.count (search rules) e.value e.left)
+    (taken_at_once reader old c.args.out.now c.give_out-n.new.out c.give_out-n.new.self c.give_out-n.result e.count
+    (search rules) e.value e.left)
 
 pub returns-in_ok-refill-clause-value : goal.returns-in_ok-refill-clause-value
 returns-in_ok-refill-clause-value g c =
@@ -37,7 +39,8 @@ returns-in_ok-refill-clause-value g c =
     let joined : all ≡ take n out ++ c.give_out.new.out =
     ap (λ l. take n out ++ (c.give_out.new.out ++ l)) none ∙ ap (λ l. take n out ++ l) (append-nil c.give_out.new.out) in
     let again = f.value ∙ ap (λ l. take m refilled.block ++ drop m l) (take_rest out n) in
-    let reads = subst (λ (w : Awaited). Refills 512 inside.missing before after w) (sym c.self-then-n-out.view_is) c.in_ok-refill.ensures.value in
+    let reads =
+    subst (λ (w : Awaited). Refills 512 inside.missing before after w) (sym c.self-then-n-out.view_is) c.in_ok-refill.ensures.value in
     let within = subst (λ (w : Awaited). length c.args.out.now ≤ awaited w) (sym c.self.view_is) c.requires.within in
     subst (λ (w : Awaited). Takes w before new after all) c.self.view_is
     (taken_in_two before after old read c.args.out.now out c.give_out.new.out all c.give_out.new.self n m
@@ -49,6 +52,8 @@ returns-in_err-refill-clause-end g c =
     let before = g.R.Read.remaining c.args.wire.now.device in
     let after = g.R.Read.remaining c.refill.new.wire.device in
     let old : Awaited = record { waiting = c.self.inside.block; missing = c.self.inside.missing } in
-    let ended = subst (λ (w : Awaited). EndsBefore c.in_err-refill.field-0.0 (prepend_known w.waiting before) after (awaited w)) c.self.view_is
+    let ended =
+    subst (λ (w : Awaited). EndsBefore c.in_err-refill.field-0.0 (prepend_known w.waiting before) after (awaited w)) c.self.view_is
     (ends_after_waiting c.in_err-refill.field-0.0 old before after c.in_err-refill.ensures.end) in
-    subst (λ r. IfErr r (λ fault. EndsBefore fault (prepend_known c.args.self.now.waiting before) after (awaited c.args.self.now))) (sym same) ended
+    subst (λ r. IfErr r (λ fault. EndsBefore fault (prepend_known c.args.self.now.waiting before) after (awaited c.args.self.now)))
+    (sym same) ended

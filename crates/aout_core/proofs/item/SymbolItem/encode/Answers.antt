@@ -10,5 +10,6 @@ returns c =
     let long : length c.copy_from_slice.new.self ≡ 8 = search rules in
     let kind = c.encode.ensures in
     let value = c.encode-2.ensures in
-    twelve_laid c.copy_from_slice.new.self c.args.bytes.now c.encode.new.bytes c.encode-2.new.bytes long c.requires (ap length kind) (ap length value)
+    twelve_laid c.copy_from_slice.new.self c.args.bytes.now c.encode.new.bytes c.encode-2.new.bytes long c.requires
+    (ap length kind) (ap length value)
     ∙ (λ i. name i ++ (kind i ++ value i))

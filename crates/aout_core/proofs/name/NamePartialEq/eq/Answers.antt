@@ -9,5 +9,6 @@ returns c =
     let a = c.self.inside.padded_bytes in
     let b = c.other.inside.padded_bytes in
     (λ i. nat_eq (c.number_of.ensures.value i) (c.number_of-2.ensures.value i))
-    ∙ names_alike a b c.number_of.ensures.eight c.number_of-2.ensures.eight c.number_of.ensures.small c.number_of-2.ensures.small c.self.invariant c.other.invariant
+    ∙ names_alike a b c.number_of.ensures.eight c.number_of-2.ensures.eight c.number_of.ensures.small
+    c.number_of-2.ensures.small c.self.invariant c.other.invariant
     ∙ (λ i. pointwise nat_eq (c.self.view_is i) (c.other.view_is i))

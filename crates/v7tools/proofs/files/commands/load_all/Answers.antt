@@ -10,8 +10,10 @@ returns-in_err-file g c =
     let old = g.O.Office.history c.args.office.now in
     let new = g.O.Office.history c.load_at.new.office in
     let fault = c.in_err-file.field-0.0 in
-    subst (IsLoading old new c.args.files.items) (sym (passed_on c.from_residual-in_err-file.result fault c.from_residual-in_err-file.ensures.1))
-    (stops_reading old (g.O.Office.history c.loop-path.office) new c.args.files.items c.loop-path.path-iterator.rest.items c.next.new.self.rest.items c.loop-path.loaded.items c.in-Some.path fault
+    subst (IsLoading old new c.args.files.items)
+    (sym (passed_on c.from_residual-in_err-file.result fault c.from_residual-in_err-file.ensures.1))
+    (stops_reading old (g.O.Office.history c.loop-path.office) new c.args.files.items
+    c.loop-path.path-iterator.rest.items c.next.new.self.rest.items c.loop-path.loaded.items c.in-Some.path fault
     c.loop-path.invariant.read c.loop-path.invariant.order c.in-Some.ensures.steps.0 c.in_err-file.ensures)
 
 pub loop-path-preserved : goal.loop-path-preserved
@@ -22,7 +24,10 @@ loop-path-preserved g c =
     let pushed : c.push.new.self.items ≡ before ++ c.in_ok-file.file ∷ [] = search rules in
     record {
       room = search rules;
-      read = subst (Reads old new) (sym pushed) (reads_more old (g.O.Office.history c.loop-path.office) new before c.in-Some.path c.in_ok-file.file c.loop-path.invariant.read c.in_ok-file.ensures);
+      read =
+          subst (Reads old new) (sym pushed) (reads_more old (g.O.Office.history c.loop-path.office) new before
+          c.in-Some.path c.in_ok-file.file c.loop-path.invariant.read c.in_ok-file.ensures);
       order = subst (λ xs. c.args.files.items ≡ map (λ f. f.0) xs ++ c.next.new.self.rest.items) (sym pushed)
-          (paths_more c.args.files.items c.loop-path.path-iterator.rest.items c.next.new.self.rest.items before c.in-Some.path c.in_ok-file.file c.loop-path.invariant.order c.in-Some.ensures.steps.0 c.in_ok-file.ensures.0);
+          (paths_more c.args.files.items c.loop-path.path-iterator.rest.items c.next.new.self.rest.items before
+          c.in-Some.path c.in_ok-file.file c.loop-path.invariant.order c.in-Some.ensures.steps.0 c.in_ok-file.ensures.0);
     }

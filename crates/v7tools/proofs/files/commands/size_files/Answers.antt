@@ -6,7 +6,12 @@ use Rattle.v7tools.proofs.EventLemmas.{passed_on}
 use Rattle.v7tools.proofs.files.commands.size_files.Goals as goal
 
 pub returns-in_err-loaded-clause-run : goal.returns-in_err-loaded-clause-run
-returns-in_err-loaded-clause-run g c = inl (c.in_err-loaded.field-0.0, c.in_err-loaded.ensures, record { refusal = passed_on c.from_residual.result c.in_err-loaded.field-0.0 c.from_residual.ensures.1; silent = refl })
+returns-in_err-loaded-clause-run g c =
+    inl (
+      c.in_err-loaded.field-0.0,
+      c.in_err-loaded.ensures,
+      record { refusal = passed_on c.from_residual.result c.in_err-loaded.field-0.0 c.from_residual.ensures.1; silent = refl },
+    )
 
 pub returns-clause-run : goal.returns-clause-run
 returns-clause-run g c =
@@ -14,5 +19,6 @@ returns-clause-run g c =
     inr (
       c.in_ok-loaded.loaded.items,
       c.in_ok-loaded.ensures,
-      subst (λ files. Lists g.W.Write.contents (OnlyWriteFailed (by_bytes files)) (size_text (by_bytes files)) c.put_sizes.result c.args.output.now c.put_sizes.new.output) same c.put_sizes.ensures.run,
+      subst (λ files. Lists g.W.Write.contents (OnlyWriteFailed (by_bytes files)) (size_text (by_bytes files))
+          c.put_sizes.result c.args.output.now c.put_sizes.new.output) same c.put_sizes.ensures.run,
     )

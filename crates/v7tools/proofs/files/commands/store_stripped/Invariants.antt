@@ -7,4 +7,5 @@ use Rattle.v7tools.proofs.files.commands.store_stripped.Given as goal
 -- the files so far are stored
 abbrev pub invariant-loop-path : goal.invariant-loop-path
 invariant-loop-path g l =
-    (done : List Loaded) × (l.fn.loaded.items ≡ done ++ l.path-iterator.rest.items) × Extends (g.O.Office.history l.initial.office) (g.O.Office.history l.office) (strips_all done)
+    (done : List Loaded) × (l.fn.loaded.items ≡ done ++ l.path-iterator.rest.items)
+    × Extends (g.O.Office.history l.initial.office) (g.O.Office.history l.office) (strips_all done)

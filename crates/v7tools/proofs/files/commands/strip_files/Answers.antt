@@ -3,7 +3,13 @@ use Rattle.v7tools.proofs.EventLemmas.{passed_on}
 use Rattle.v7tools.proofs.files.commands.strip_files.Goals as goal
 
 pub returns-in_err-loaded-clause-run : goal.returns-in_err-loaded-clause-run
-returns-in_err-loaded-clause-run g c = inl (c.in_err-loaded.field-0.0, c.in_err-loaded.ensures, passed_on c.from_residual.result c.in_err-loaded.field-0.0 c.from_residual.ensures.1)
+returns-in_err-loaded-clause-run g c =
+    inl (
+      c.in_err-loaded.field-0.0,
+      c.in_err-loaded.ensures,
+      passed_on c.from_residual.result c.in_err-loaded.field-0.0 c.from_residual.ensures.1,
+    )
 
 pub returns-clause-run : goal.returns-clause-run
-returns-clause-run g c = inr (c.in_ok-loaded.loaded.items, g.O.Office.history c.load_all.new.office, c.in_ok-loaded.ensures, c.store_stripped.ensures.run)
+returns-clause-run g c =
+    inr (c.in_ok-loaded.loaded.items, g.O.Office.history c.load_all.new.office, c.in_ok-loaded.ensures, c.store_stripped.ensures.run)

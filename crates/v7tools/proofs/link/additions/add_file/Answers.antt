@@ -19,7 +19,8 @@ returns-in_err-path-2-clause-value g c =
     let left = g.R.Read.remaining c.load.new.wire.device in
     let old = c.args.session.now in
     let read = c.in_ok-path in
-    subst (IsAddition known old old c.args.path) (sym (carried c.from_residual-in_err-path-2.result e c.from_residual-in_err-path-2.ensures.1))
+    subst (IsAddition known old old c.args.path)
+    (sym (carried c.from_residual-in_err-path-2.result e c.from_residual-in_err-path-2.ensures.1))
     (addition_unchecked known left old c.args.path read.path read.file e read.ensures.path read.ensures.decodes c.in_err-path-2.ensures)
 
 pub returns-clause-value : goal.returns-clause-value
@@ -29,4 +30,5 @@ returns-clause-value g c =
     let read = c.in_ok-path in
     let checked = c.in_ok-path-2 in
     let found = read_object known left read.path checked.path read.file checked.object read.ensures.decodes checked.ensures in
-    addition_of_object known c.args.session.now c.add_object.new.session c.args.path checked.path checked.object c.add_object.result found (checked.ensures.0 ∙ read.ensures.path) c.add_object.ensures
+    addition_of_object known c.args.session.now c.add_object.new.session c.args.path checked.path checked.object
+    c.add_object.result found (checked.ensures.0 ∙ read.ensures.path) c.add_object.ensures

@@ -25,7 +25,8 @@ pub returns-in_default : goal.returns-in_default
 returns-in_default g c =
     let at : c.as_str.result.now ≡ string_bytes c.in-Some.path = search rules in
     let none : c.open.result ≡ None = search rules in
-    stops_at g.O.Source.Read.remaining _ _ _ c.args.files.items c.loop-path.path-iterator.rest.items c.next.new.self.rest.items c.in-Some.path c.loop-path.inputs.items
+    stops_at g.O.Source.Read.remaining _ _ _ c.args.files.items c.loop-path.path-iterator.rest.items
+    c.next.new.self.rest.items c.in-Some.path c.loop-path.inputs.items
     c.loop-path.invariant.asked c.loop-path.invariant.order c.in-Some.ensures.steps.0 (opened_at _ _ _ _ _ _ c.in_default.ensures at refl)
 
 pub loop-path-preserved : goal.loop-path-preserved
@@ -33,20 +34,30 @@ loop-path-preserved g c =
     let at : c.as_str.result.now ≡ string_bytes c.in-Some.path = search rules in
     let pushed : c.push.new.self.items ≡ c.loop-path.inputs.items ++ (c.in-Some.path, c.new.result) ∷ [] = search rules in
     let e = c.in-Some.ensures.steps.0 in
-    let asked = opened_at _ _ _ _ _ (Some (g.O.Source.Read.remaining c.new.result.device)) c.in-Some-open.ensures at (ap (λ d. Some (g.O.Source.Read.remaining d)) (sym c.new.ensures.device)) in
+    let asked = opened_at _ _ _ _ _ (Some (g.O.Source.Read.remaining c.new.result.device)) c.in-Some-open.ensures at
+    (ap (λ d. Some (g.O.Source.Read.remaining d)) (sym c.new.ensures.device)) in
     let old = g.O.Office.history c.args.office.now in
     let new = g.O.Office.history c.open.new.self in
     record {
       room = search rules;
-      asked = subst (λ xs. Extends old new (opens (sources g.O.Source.Read.remaining xs))) (sym pushed) (opens_more g.O.Source.Read.remaining _ _ _ c.loop-path.inputs.items (c.in-Some.path, c.new.result) c.loop-path.invariant.asked asked);
-      order = subst (λ xs. c.args.files.items ≡ xs ++ c.next.new.self.rest.items) (sym (ap (map (λ i. i.0)) pushed ∙ map-append (λ i. i.0) c.loop-path.inputs.items _)) (one_more c.args.files.items _ _ _ _ c.loop-path.invariant.order e);
-      working = subst (AllByRecursion IsWorking) (sym pushed) (all_after IsWorking c.loop-path.inputs.items _ c.loop-path.invariant.working c.new.ensures.latch);
+      asked =
+          subst (λ xs. Extends old new (opens (sources g.O.Source.Read.remaining xs)))
+          (sym pushed) (opens_more g.O.Source.Read.remaining _ _ _ c.loop-path.inputs.items
+          (c.in-Some.path, c.new.result) c.loop-path.invariant.asked asked);
+      order =
+          subst (λ xs. c.args.files.items ≡ xs ++ c.next.new.self.rest.items)
+          (sym (ap (map (λ i. i.0)) pushed ∙ map-append (λ i. i.0) c.loop-path.inputs.items _))
+          (one_more c.args.files.items _ _ _ _ c.loop-path.invariant.order e);
+      working =
+          subst (AllByRecursion IsWorking) (sym pushed)
+          (all_after IsWorking c.loop-path.inputs.items _ c.loop-path.invariant.working c.new.ensures.latch);
     }
 
 pub returns : goal.returns
 returns g c =
     let left = c.loop-path.path-iterator.rest in (
       c.loop-path.invariant.asked,
-      no_more c.args.files.items (map (λ i. i.0) c.loop-path.inputs.items) left.items c.loop-path.invariant.order (nil_from_length left.items (sym left.ok.0 ∙ c.in-None.ensures.steps.0)),
+      no_more c.args.files.items (map (λ i. i.0) c.loop-path.inputs.items) left.items c.loop-path.invariant.order
+          (nil_from_length left.items (sym left.ok.0 ∙ c.in-None.ensures.steps.0)),
       c.loop-path.invariant.working,
     )

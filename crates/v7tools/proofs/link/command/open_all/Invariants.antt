@@ -8,7 +8,8 @@ use Rattle.v7tools.proofs.link.command.open_all.Given as goal
 abbrev pub invariant-loop-path : goal.invariant-loop-path
 invariant-loop-path g l = record {
   room : vec_len l.inputs + length l.path-iterator.rest.items ≤ vec_capacity l.inputs;
-  asked : Extends (g.O.Office.history l.initial.office) (g.O.Office.history l.office) (opens (sources g.O.Source.Read.remaining l.inputs.items));
+  asked : Extends (g.O.Office.history l.initial.office) (g.O.Office.history l.office)
+      (opens (sources g.O.Source.Read.remaining l.inputs.items));
   order : l.fn.files.items ≡ map (λ i. i.0) l.inputs.items ++ l.path-iterator.rest.items;
   working : AllByRecursion IsWorking l.inputs.items;
 }

@@ -8,8 +8,10 @@ use Rattle.v7tools.proofs.link.linking.take_inputs.Given as goal
 abbrev pub invariant-loop-path : goal.invariant-loop-path
 invariant-loop-path g l = record {
   forced : l.session.forced ≡ l.initial.session.forced;
-  taken : (more : List Labelled) → TakesAll l.session.forced l.session.entries (inputs_of g.R.Read.remaining l.path-iterator.rest.items) more →
+  taken : (more : List Labelled) →
+      TakesAll l.session.forced l.session.entries (inputs_of g.R.Read.remaining l.path-iterator.rest.items) more →
       TakesAll l.initial.session.forced l.initial.session.entries (inputs_of g.R.Read.remaining l.fn.inputs.items) more;
-  stops : (said : Said) (left : List Labelled) → StopsWith l.session.forced l.session.entries (inputs_of g.R.Read.remaining l.path-iterator.rest.items) said left →
+  stops : (said : Said) (left : List Labelled) →
+      StopsWith l.session.forced l.session.entries (inputs_of g.R.Read.remaining l.path-iterator.rest.items) said left →
       StopsWith l.initial.session.forced l.initial.session.entries (inputs_of g.R.Read.remaining l.fn.inputs.items) said left;
 }

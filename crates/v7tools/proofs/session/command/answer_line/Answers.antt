@@ -16,10 +16,14 @@ returns-clause-run g c =
     let after = c.take_step.new.answers in
     let h = g.O.Office.history c.args.office.now in
     elim c.match-line.branch [
-      | in-Withdraw w ↦ rw w.in-Withdraw.is (withdraw_line contents remaining o kept left result before after h (rw w.command-is at c.take_step.ensures.run))
-      | in-Externals w ↦ rw w.in-Externals.is (externals_line contents remaining o kept left result before after h (rw w.command-is at c.take_step.ensures.run))
-      | in-Undefined w ↦ rw w.in-Undefined.is (undefined_line contents remaining o kept left result before after h (rw w.command-is at c.take_step.ensures.run))
-      | in-Bad w ↦ rw w.in-Bad.is (bad_line contents remaining o kept left result before after h (rw w.command-is at c.take_step.ensures.run))
+      | in-Withdraw w ↦ rw w.in-Withdraw.is
+          (withdraw_line contents remaining o kept left result before after h (rw w.command-is at c.take_step.ensures.run))
+      | in-Externals w ↦ rw w.in-Externals.is
+          (externals_line contents remaining o kept left result before after h (rw w.command-is at c.take_step.ensures.run))
+      | in-Undefined w ↦ rw w.in-Undefined.is
+          (undefined_line contents remaining o kept left result before after h (rw w.command-is at c.take_step.ensures.run))
+      | in-Bad w ↦ rw w.in-Bad.is
+          (bad_line contents remaining o kept left result before after h (rw w.command-is at c.take_step.ensures.run))
     ]
 
 pub returns-clause-small : goal.returns-clause-small

@@ -18,7 +18,8 @@ returns-in_err-line g c =
     let new = g.W.Write.contents c.line.new.out.device in
     let entry = c.unwrap-name.result in
     writes_in_part c.from_residual.ensures.0 (search rules) (search rules)
-    (stops_next encoding (image_of c.args.session.now).externals c.loop-index.index (entry.0, entry.1) old mid new (sym c.external.ensures ∙ c.unwrap-name.ensures) c.loop-index.invariant.gone
+    (stops_next encoding (image_of c.args.session.now).externals c.loop-index.index (entry.0, entry.1) old mid new
+    (sym c.external.ensures ∙ c.unwrap-name.ensures) c.loop-index.invariant.gone
     (subst (λ (s : Symbol). AppendsPrefix mid new (symbol_line s)) c.entry_of.ensures c.in_err-line.ensures.bytes))
 
 pub loop-index-preserved : goal.loop-index-preserved
@@ -30,7 +31,9 @@ loop-index-preserved g c =
     let entry = c.unwrap-name.result in
     record {
       unlatched = search rules;
-      gone = sent_next encoding (image_of c.args.session.now).externals c.loop-index.index (entry.0, entry.1) old mid new (sym c.external.ensures ∙ c.unwrap-name.ensures) c.loop-index.invariant.gone
+      gone =
+          sent_next encoding (image_of c.args.session.now).externals c.loop-index.index (entry.0, entry.1) old mid new
+          (sym c.external.ensures ∙ c.unwrap-name.ensures) c.loop-index.invariant.gone
           (subst (λ (s : Symbol). Appends mid new (symbol_line s)) c.entry_of.ensures c.in_ok-line.ensures.bytes);
     }
 
@@ -41,5 +44,7 @@ returns g c =
     record {
       fault = search rules;
       latched = search rules;
-      bytes = sent_all (λ (e : List ℕ × State). symbol_line (entry_of e.0 e.1)) (image_of c.args.session.now).externals c.loop-index.index old now (omega arith) c.loop-index.invariant.gone;
+      bytes =
+          sent_all (λ (e : List ℕ × State). symbol_line (entry_of e.0 e.1))
+          (image_of c.args.session.now).externals c.loop-index.index old now (omega arith) c.loop-index.invariant.gone;
     }

@@ -16,7 +16,8 @@ returns-in_err-put_if_missing g c =
     let entry = c.unwrap-name.result in
     writes_in_part c.from_residual.ensures.0 (search rules) (search rules)
     (subst (AppendsPrefix old new) (missing-text s.forced s.entries)
-    (stops_next missing_line (image_of s).externals c.loop-index.index (entry.0, entry.1) old mid new (sym c.external.ensures ∙ c.unwrap-name.ensures) c.loop-index.invariant.gone c.in_err-put_if_missing.ensures.bytes))
+    (stops_next missing_line (image_of s).externals c.loop-index.index (entry.0, entry.1) old mid new
+    (sym c.external.ensures ∙ c.unwrap-name.ensures) c.loop-index.invariant.gone c.in_err-put_if_missing.ensures.bytes))
 
 pub loop-index-preserved : goal.loop-index-preserved
 loop-index-preserved g c =
@@ -26,7 +27,9 @@ loop-index-preserved g c =
     let entry = c.unwrap-name.result in
     record {
       unlatched = search rules;
-      gone = sent_next missing_line (image_of c.args.session.now).externals c.loop-index.index (entry.0, entry.1) old mid new (sym c.external.ensures ∙ c.unwrap-name.ensures) c.loop-index.invariant.gone c.in_ok-put_if_missing.ensures.bytes;
+      gone =
+          sent_next missing_line (image_of c.args.session.now).externals c.loop-index.index (entry.0, entry.1) old mid new
+          (sym c.external.ensures ∙ c.unwrap-name.ensures) c.loop-index.invariant.gone c.in_ok-put_if_missing.ensures.bytes;
     }
 
 pub returns : goal.returns
@@ -37,5 +40,7 @@ returns g c =
     record {
       fault = search rules;
       latched = search rules;
-      bytes = subst (Appends old now) (missing-text s.forced s.entries) (sent_all missing_line (image_of s).externals c.loop-index.index old now (omega arith) c.loop-index.invariant.gone);
+      bytes =
+          subst (Appends old now) (missing-text s.forced s.entries)
+          (sent_all missing_line (image_of s).externals c.loop-index.index old now (omega arith) c.loop-index.invariant.gone);
     }

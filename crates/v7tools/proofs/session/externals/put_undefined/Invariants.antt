@@ -9,5 +9,6 @@ use Rattle.v7tools.proofs.session.externals.put_undefined.Given as goal
 abbrev pub invariant-loop-index : goal.invariant-loop-index
 invariant-loop-index g l = record {
   unlatched : l.answers.has_failed ≡ false;
-  gone : Appends (g.W.Write.contents l.initial.answers.device) (g.W.Write.contents l.answers.device) (flat_map missing_line (take l.index (image_of l.session).externals));
+  gone : Appends (g.W.Write.contents l.initial.answers.device) (g.W.Write.contents l.answers.device)
+      (flat_map missing_line (take l.index (image_of l.session).externals));
 }

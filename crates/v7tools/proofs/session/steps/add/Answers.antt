@@ -5,7 +5,8 @@ use Rattle.v7tools.specs.declared.session.commands.Step.TheVariants.{Done}
 use Rattle.v7tools.specs.Answers.{add_step}
 use Rattle.v7tools.specs.FaultTexts.{cli_text}
 use Rattle.aout_core.proofs.PutsLemmas.{writes_broke_off}
-use Rattle.v7tools.proofs.StepLemmas.{written_whole, added_by, not_added_by, refused_as, no_value, refused_verdict, label_is, worked_before, worked_after}
+use Rattle.v7tools.proofs.StepLemmas.{written_whole, added_by, not_added_by, refused_as, no_value, refused_verdict}
+use Rattle.v7tools.proofs.StepLemmas.{label_is, worked_before, worked_after}
 use Rattle.v7tools.proofs.session.steps.add.Goals as goal
 
 pub returns-in_err-put_line-in-Ok-clause-step : goal.returns-in_err-put_line-in-Ok-clause-step
@@ -19,7 +20,8 @@ returns-in_err-put_line-in-Ok-clause-step g c =
     let label = c.as_bytes.ensures.value ∙ c.last_label.ensures ∙ label_is old new _ accepted.adds in
     let told = writes_broke_off {r = r} c.from_residual.ensures.0 (rw label at c.in_err-put_line-in-Ok.ensures) in (
       add_step old.entries path (Ok new.entries),
-      added_by g.R.Read.remaining c.args.wire.now c.add_file.new.wire old new path object working (worked_after c.add_file.new.wire c.args.path c.in-Ok.ensures.device) accepted,
+      added_by g.R.Read.remaining c.args.wire.now c.add_file.new.wire old new path object working
+          (worked_after c.add_file.new.wire c.args.path c.in-Ok.ensures.device) accepted,
       (_, accepted.adds),
       record {
         kept = refl;
@@ -38,7 +40,8 @@ returns-in_ok-put_line-in-Ok-clause-step g c =
     let label = c.as_bytes.ensures.value ∙ c.last_label.ensures ∙ label_is old new _ accepted.adds in
     let told = rw label at c.in_ok-put_line-in-Ok.ensures in (
       add_step old.entries path (Ok new.entries),
-      added_by g.R.Read.remaining c.args.wire.now c.add_file.new.wire old new path object working (worked_after c.add_file.new.wire c.args.path c.in-Ok.ensures.device) accepted,
+      added_by g.R.Read.remaining c.args.wire.now c.add_file.new.wire old new path object working
+          (worked_after c.add_file.new.wire c.args.path c.in-Ok.ensures.device) accepted,
       (_, accepted.adds),
       record { kept = refl; verdict = refl; answer = written_whole Done told },
     )
@@ -48,7 +51,8 @@ returns-in-Err-clause-step g c =
     let old = c.args.session.now in
     let new = c.add_file.new.session in
     let fault = c.in-Err.fault in
-    let (unchanged, by) = not_added_by g.R.Read.remaining c.args.wire.now c.add_file.new.wire old c.args.path fault c.in-Err.ensures.latched c.in-Err.ensures.device new c.in-Err.ensures.value in (
+    let (unchanged, by) = not_added_by g.R.Read.remaining c.args.wire.now c.add_file.new.wire old c.args.path fault
+    c.in-Err.ensures.latched c.in-Err.ensures.device new c.in-Err.ensures.value in (
       refused_as old.entries (cli_text fault),
       by,
       unchanged,

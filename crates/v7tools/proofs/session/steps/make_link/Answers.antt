@@ -17,11 +17,13 @@ returns-in_err-put_fault-in-Err-clause-link g c =
     let r = c.from_residual.result in
     let told = writes_broke_off {r = r} c.from_residual.ensures.0 c.in_err-put_fault-in-Err.ensures in
     not_linked g.W.Write.contents answer c.args.answers.now c.put_fault.new.answers r c.from_residual.ensures.0
-    (refuses g.W.Write.contents answer c.args.answers.now c.put_fault.new.answers c.in-Err.fault c.from.result r c.in-Err.ensures.value c.from.ensures told)
+    (refuses g.W.Write.contents answer c.args.answers.now c.put_fault.new.answers c.in-Err.fault c.from.result r
+    c.in-Err.ensures.value c.from.ensures told)
 
 pub returns-in_ok-put_fault-in-Err-clause-link : goal.returns-in_ok-put_fault-in-Err-clause-link
 returns-in_ok-put_fault-in-Err-clause-link g c =
     let s = c.args.session.now in
     let refused : Result (Option Linked) CliFault = Ok None in
     let told = written_with None c.in_ok-put_fault-in-Err.ensures in
-    refuses g.W.Write.contents (link s.forced (objects s.entries) c.args.options.now) c.args.answers.now c.put_fault.new.answers c.in-Err.fault c.from.result refused c.in-Err.ensures.value c.from.ensures told
+    refuses g.W.Write.contents (link s.forced (objects s.entries) c.args.options.now) c.args.answers.now
+    c.put_fault.new.answers c.in-Err.fault c.from.result refused c.in-Err.ensures.value c.from.ensures told

@@ -22,21 +22,37 @@ pub returns-in_ok-put_externals-in-Externals-clause-step : goal.returns-in_ok-pu
 returns-in_ok-put_externals-in-Externals-clause-step g c =
     let s = c.args.session.now in
     let told = c.in_ok-put_externals-in-Externals.ensures in
-    rw c.in-Externals.is (step s.forced c.args.options.now s.entries listing_externals, refl, refl, record { kept = refl; verdict = refl; answer = written_whole Done told })
+    rw c.in-Externals.is (
+      step s.forced c.args.options.now s.entries listing_externals,
+      refl,
+      refl,
+      record { kept = refl; verdict = refl; answer = written_whole Done told },
+    )
 
 pub returns-in_err-put_undefined-in-Undefined-clause-step : goal.returns-in_err-put_undefined-in-Undefined-clause-step
 returns-in_err-put_undefined-in-Undefined-clause-step g c =
     let s = c.args.session.now in
     let did = step s.forced c.args.options.now s.entries listing_undefined in
     let r = c.from_residual-in_err-put_undefined-in-Undefined.result in
-    let told = writes_broke_off {r = r} c.from_residual-in_err-put_undefined-in-Undefined.ensures.0 c.in_err-put_undefined-in-Undefined.ensures in
-    rw c.in-Undefined.is (did, refl, refl, record { kept = refl; verdict = no_value r _ c.from_residual-in_err-put_undefined-in-Undefined.ensures.0; answer = told })
+    let told =
+    writes_broke_off {r = r} c.from_residual-in_err-put_undefined-in-Undefined.ensures.0 c.in_err-put_undefined-in-Undefined.ensures in
+    rw c.in-Undefined.is (
+      did,
+      refl,
+      refl,
+      record { kept = refl; verdict = no_value r _ c.from_residual-in_err-put_undefined-in-Undefined.ensures.0; answer = told },
+    )
 
 pub returns-in_ok-put_undefined-in-Undefined-clause-step : goal.returns-in_ok-put_undefined-in-Undefined-clause-step
 returns-in_ok-put_undefined-in-Undefined-clause-step g c =
     let s = c.args.session.now in
     let told = c.in_ok-put_undefined-in-Undefined.ensures in
-    rw c.in-Undefined.is (step s.forced c.args.options.now s.entries listing_undefined, refl, refl, record { kept = refl; verdict = refl; answer = written_whole Done told })
+    rw c.in-Undefined.is (
+      step s.forced c.args.options.now s.entries listing_undefined,
+      refl,
+      refl,
+      record { kept = refl; verdict = refl; answer = written_whole Done told },
+    )
 
 pub returns-in_err-put_line-in-Bad-clause-step : goal.returns-in_err-put_line-in-Bad-clause-step
 returns-in_err-put_line-in-Bad-clause-step g c =
@@ -44,25 +60,45 @@ returns-in_err-put_line-in-Bad-clause-step g c =
     let did = step s.forced c.args.options.now s.entries anything_else in
     let r = c.from_residual-in_err-put_line-in-Bad.result in
     let told = writes_broke_off {r = r} c.from_residual-in_err-put_line-in-Bad.ensures.0 c.in_err-put_line-in-Bad.ensures in
-    rw c.in-Bad.is (did, refl, refl, record { kept = refl; verdict = no_value r _ c.from_residual-in_err-put_line-in-Bad.ensures.0; answer = told })
+    rw c.in-Bad.is (
+      did,
+      refl,
+      refl,
+      record { kept = refl; verdict = no_value r _ c.from_residual-in_err-put_line-in-Bad.ensures.0; answer = told },
+    )
 
 pub returns-in_ok-put_line-in-Bad-clause-step : goal.returns-in_ok-put_line-in-Bad-clause-step
 returns-in_ok-put_line-in-Bad-clause-step g c =
     let s = c.args.session.now in
     let told = c.in_ok-put_line-in-Bad.ensures in
-    rw c.in-Bad.is (step s.forced c.args.options.now s.entries anything_else, refl, refl, record { kept = refl; verdict = refl; answer = written_whole Refused told })
+    rw c.in-Bad.is (
+      step s.forced c.args.options.now s.entries anything_else,
+      refl,
+      refl,
+      record { kept = refl; verdict = refl; answer = written_whole Refused told },
+    )
 
 pub returns-in-Some-clause-step : goal.returns-in-Some-clause-step
 returns-in-Some-clause-step g c =
     let s = c.args.session.now in
     let (did, over, adds, does) = c.add.ensures.step in
-    rw (c.in-Add.is, c.in-Some.is) (did, added_over g.R.Read.remaining c.in-Some.wire c.add.new.wire s.forced s.entries (string_bytes c.in-Add.path) did over, adds, does)
+    rw (c.in-Add.is, c.in-Some.is) (
+      did,
+      added_over g.R.Read.remaining c.in-Some.wire c.add.new.wire s.forced s.entries (string_bytes c.in-Add.path) did over,
+      adds,
+      does,
+    )
 
 pub returns-in-None-clause-step : goal.returns-in-None-clause-step
 returns-in-None-clause-step g c =
     let s = c.args.session.now in
     let told = c.refuse.ensures in
-    rw (c.in-Add.is, c.in-None.is) (step s.forced c.args.options.now s.entries (adding (string_bytes c.in-Add.path) absent), refl, refl, record { kept = refl; verdict = refused_verdict c.refuse.result told.step; answer = told.written })
+    rw (c.in-Add.is, c.in-None.is) (
+      step s.forced c.args.options.now s.entries (adding (string_bytes c.in-Add.path) absent),
+      refl,
+      refl,
+      record { kept = refl; verdict = refused_verdict c.refuse.result told.step; answer = told.written },
+    )
 
 pub returns-in-Some-clause-write_failed : goal.returns-in-Some-clause-write_failed
 returns-in-Some-clause-write_failed g c = c.add.ensures.write_failed
@@ -117,17 +153,21 @@ returns-in_err-linked-in-Link-clause-step g c =
     let s = c.args.session.now in
     let answer = link s.forced (objects s.entries) c.args.options.now in
     let r = c.from_residual-in_err-linked-in-Link.result in
-    rw c.in-Link.is (links_not g.W.Write.contents answer c.args.answers.now c.make_link.new.answers s r (no_value r (λ (step : Step). step ≡ Refused) c.from_residual-in_err-linked-in-Link.ensures.0)
-    (refused_by g.W.Write.contents answer c.args.answers.now c.make_link.new.answers (Err c.in_err-linked-in-Link.field-0.0) r refl c.from_residual-in_err-linked-in-Link.ensures.0 c.in_err-linked-in-Link.ensures.link))
+    rw c.in-Link.is (links_not g.W.Write.contents answer c.args.answers.now c.make_link.new.answers s r
+    (no_value r (λ (step : Step). step ≡ Refused) c.from_residual-in_err-linked-in-Link.ensures.0)
+    (refused_by g.W.Write.contents answer c.args.answers.now c.make_link.new.answers (Err c.in_err-linked-in-Link.field-0.0)
+    r refl c.from_residual-in_err-linked-in-Link.ensures.0 c.in_err-linked-in-Link.ensures.link))
 
 pub returns-in-Some-2-clause-step : goal.returns-in-Some-2-clause-step
 returns-in-Some-2-clause-step g c =
     let s = c.args.session.now in
-    rw c.in-Link.is (links_to g.W.Write.contents (link s.forced (objects s.entries) c.args.options.now) c.args.answers.now c.make_link.new.answers s c.in-Some-2.linked (rw c.in-Some-2.is at c.in_ok-linked-in-Link.ensures.link))
+    rw c.in-Link.is (links_to g.W.Write.contents (link s.forced (objects s.entries) c.args.options.now) c.args.answers.now
+    c.make_link.new.answers s c.in-Some-2.linked (rw c.in-Some-2.is at c.in_ok-linked-in-Link.ensures.link))
 
 pub returns-in-None-2-clause-step : goal.returns-in-None-2-clause-step
 returns-in-None-2-clause-step g c =
     let s = c.args.session.now in
     let answer = link s.forced (objects s.entries) c.args.options.now in
     rw c.in-Link.is (links_not g.W.Write.contents answer c.args.answers.now c.make_link.new.answers s (Ok Refused) refl
-    (refused_with g.W.Write.contents answer c.args.answers.now c.make_link.new.answers None Refused (rw c.in-None-2.is at c.in_ok-linked-in-Link.ensures.link)))
+    (refused_with g.W.Write.contents answer c.args.answers.now c.make_link.new.answers None Refused
+    (rw c.in-None-2.is at c.in_ok-linked-in-Link.ensures.link)))

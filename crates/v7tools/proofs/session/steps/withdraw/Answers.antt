@@ -8,20 +8,24 @@ pub returns-in_err-put_line-in-Some-clause-step : goal.returns-in_err-put_line-i
 returns-in_err-put_line-in-Some-clause-step g c =
     let r = c.from_residual.result in
     let told = writes_broke_off {r = r} c.from_residual.ensures.0 (rw c.as_bytes.ensures.value at c.in_err-put_line-in-Some.ensures) in
-    takes_last c.args.session.now c.withdraw.new.self _ c.in-Some.ensures.last (record { kept = refl; verdict = no_value r _ c.from_residual.ensures.0; answer = told })
+    takes_last c.args.session.now c.withdraw.new.self _ c.in-Some.ensures.last
+    (record { kept = refl; verdict = no_value r _ c.from_residual.ensures.0; answer = told })
 
 pub returns-in-Some-clause-step : goal.returns-in-Some-clause-step
 returns-in-Some-clause-step g c =
     let told = rw c.as_bytes.ensures.value at c.in_ok-put_line-in-Some.ensures in
-    takes_last c.args.session.now c.withdraw.new.self _ c.in-Some.ensures.last (record { kept = refl; verdict = refl; answer = written_whole Done told })
+    takes_last c.args.session.now c.withdraw.new.self _ c.in-Some.ensures.last
+    (record { kept = refl; verdict = refl; answer = written_whole Done told })
 
 pub returns-in_err-put_line-in-None-clause-step : goal.returns-in_err-put_line-in-None-clause-step
 returns-in_err-put_line-in-None-clause-step g c =
     let r = c.from_residual-in_err-put_line-in-None.result in
     let told = writes_broke_off {r = r} c.from_residual-in_err-put_line-in-None.ensures.0 c.in_err-put_line-in-None.ensures in
-    takes_none c.args.session.now c.withdraw.new.self (search rules) (search rules) (record { kept = search rules; verdict = no_value r _ c.from_residual-in_err-put_line-in-None.ensures.0; answer = told })
+    takes_none c.args.session.now c.withdraw.new.self (search rules) (search rules)
+    (record { kept = search rules; verdict = no_value r _ c.from_residual-in_err-put_line-in-None.ensures.0; answer = told })
 
 pub returns-clause-step : goal.returns-clause-step
 returns-clause-step g c =
     let told = c.in_ok-put_line-in-None.ensures in
-    takes_none c.args.session.now c.withdraw.new.self (search rules) (search rules) (record { kept = search rules; verdict = refl; answer = written_whole Refused told })
+    takes_none c.args.session.now c.withdraw.new.self (search rules) (search rules)
+    (record { kept = search rules; verdict = refl; answer = written_whole Refused told })
