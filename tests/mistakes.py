@@ -5,7 +5,8 @@ usage: mistakes.py V7_EXPLAIN
 
 The objects are those of examples/ and of the page, 300 that are made here, and the texts of the page as GNU's assembler for the PDP-11
 assembles them, if it is installed and v7-from-gnu is beside V7_EXPLAIN. Of each of them v7-explain may say nothing new without a mistake. A pc bit that is
-forgotten, and relocation words one word early, have to be found in each object in which they change something that is suspicious.
+forgotten, relocation words one word early, and mistakes that instructions show alone have to be found in each object in which they
+change something that is suspicious.
 """
 import glob
 import os
@@ -17,8 +18,8 @@ import subprocess
 import sys
 import tempfile
 
-from disassembly import File, SYS
-from suspicions import is_plain, operands, starts, suspicions
+from disassembly import File, FOUND, SYS
+from suspicions import ENDS, branches_to, is_plain, operands, starts, suspicions
 
 EXPLAIN = os.path.abspath(sys.argv[1])
 FROM_GNU = os.path.join(os.path.dirname(EXPLAIN), "v7-from-gnu")
@@ -170,15 +171,67 @@ def forget_immediate(file):
     return at is not None
 
 
+def instructions(file):
+    """The places at which lines begin that are instructions, but for system calls."""
+    return [place for place in sorted(starts(file)) if not is_plain(file, place) and file.words[place] not in SYS]
+
+
+def branches(file):
+    return [place for place in instructions(file) if any(letter == "B" for letter, _ in FOUND[file.words[place]][1])]
+
+
+def count_from_the_branch(file):
+    """A branch counts from its own word, and not from the word after it."""
+    at = one_of(place for place in branches(file) if file.words[place] & 0o377 != 0o177)
+    if at is not None:
+        file.words[at] += 1 if file.words[at] & 0o377 != 0o377 else -0o377
+    return at is not None
+
+
+def branch_too_far(file):
+    """A branch has the low bits of an offset that is too large for it."""
+    at = one_of(branches(file))
+    if at is None:
+        return False
+    word, end = file.words[at] & 0o177400, 2 * len(file.words)
+    outside = [word + offset for offset in range(256) if next(branches_to(File([0] * at + [word + offset]), at)) > end]
+    if not outside:
+        return False
+    file.words[at] = dice.choice(outside)
+    return True
+
+
+def leave_out_the_last_operand(file):
+    """The last word is that of an instruction of two words."""
+    if file.words:
+        file.words[-1], file.relocation[-1] = 0o005067, 0
+    return bool(file.words)
+
+
+def code_wrongly(file):
+    """A word that begins no instruction is put in place of one that goes on."""
+    goes_on = [place for place in instructions(file) if FOUND[file.words[place]][0] not in ENDS and file.line(place)[0] == 1]
+    at = one_of(goes_on)
+    if at is not None:
+        file.words[at] = dice.choice([0o10, 0o77, 0o210, 0o007000, 0o076000, 0o106400])
+    return at is not None
+
+
 MISTAKES = {
     "the pc bit forgotten": forget_pc_bit,
     "relocation words one word early": shift_relocation,
     "an addend of -2 in place of -4": count_addend_once,
     "data counted from 0": count_data_from_0,
     "the relocation of an address forgotten": forget_immediate,
+    "a branch that counts from itself": count_from_the_branch,
+    "a branch that is too far": branch_too_far,
+    "the last operand word left out": leave_out_the_last_operand,
+    "a word that is no instruction": code_wrongly,
 }
 # these are found wherever they make something suspicious
-SURE = ("the pc bit forgotten", "relocation words one word early")
+SURE = set(MISTAKES) - {"an addend of -2 in place of -4", "data counted from 0", "the relocation of an address forgotten"}
+# the words of what is suspicious
+SUSPICIOUS = ("pc bit", "first word", "is cut by", "where none begins", "the branch at")
 
 
 def said(files):
@@ -215,7 +268,7 @@ def originals():
 def main():
     files = list(originals())
     before = said(files)
-    fresh = [line for lines in before for line in lines if "pc bit" in line or "first word" in line]
+    fresh = [line for lines in before for line in lines if any(words in line for words in SUSPICIOUS)]
     assert len(before) == len(files) and not fresh, fresh
     print(f"{len(files)} objects without mistakes: nothing suspicious")
     for name, plant in MISTAKES.items():

@@ -205,7 +205,8 @@ def notes_of(data):
             at, title = file.symbols_at + 12 * number, f"symbol {number} {shown(symbol[0])}"
             found = odd_symbol(file, number, symbol, firsts.setdefault(symbol[0], number))
             odd += [(at + place, f"{title} {text}") for place, text in found]
-        odd += [(file.relocation_at + 2 * place, text) for place, text in suspicions(text_of(file))]
+        parts = {"word": 16, "relocation": file.relocation_at}
+        odd += [(parts[part] + 2 * place, text) for part, place, text in suspicions(text_of(file))]
         notes += [f"odd: byte 0{at:o} ({at}): {text}" for at, text in odd]
     return sorted(notes), refused
 

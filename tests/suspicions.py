@@ -3,6 +3,10 @@ from disassembly import FOUND, SYS, has_word
 
 # the line after these is not reached from them
 ENDS = ("br", "jmp", "rts", "rti", "rtt", "halt", "mark")
+# what these call may not return
+CALLS = ("jsr", "bpt", "iot", "emt", "sys")
+# a line has at most so many words
+MOST_WORDS = 5
 
 
 def operands(text, place):
@@ -33,20 +37,31 @@ def may_begin(text, place):
     return not text.is_relocated(place + following(word))
 
 
-def leads_to(text, place):
-    """The addresses to which the line at a place leads."""
-    if is_plain(text, place):
-        return
-    word, length = text.words[place], text.line(place)[0]
-    name, fields = FOUND[word]
-    if name not in ENDS and not (word in SYS and SYS[word][0] == "exit"):
-        yield 2 * (place + length)
-    for letter, value in fields:
+def branches_to(text, place):
+    """The addresses to which the instruction at a place branches."""
+    for letter, value in FOUND[text.words[place]][1]:
         if letter == "B":
             yield (2 * place + 2 + 2 * (value if value < 128 else value - 256)) % 65536
         if letter == "O":
             yield (2 * place + 2 - 2 * value) % 65536
-    if name in ("jmp", "jsr"):
+
+
+def goes_on(text, place, is_strict):
+    """Whether the line at a place leads to that after it. A strict reader does not know whether what it calls returns."""
+    word = text.words[place]
+    if word in SYS:
+        return SYS[word][0] != "exit"
+    return FOUND[word][0] not in (ENDS + CALLS if is_strict else ENDS)
+
+
+def leads_to(text, place, is_strict):
+    """The addresses to which the line at a place leads."""
+    if is_plain(text, place):
+        return
+    if goes_on(text, place, is_strict):
+        yield 2 * (place + text.line(place)[0])
+    yield from branches_to(text, place)
+    if FOUND[text.words[place]][0] in ("jmp", "jsr"):
         for at, mode, register in operands(text, place):
             low = text.relocation[at] & 0o17 if text.relocation is not None else None
             if (mode, register) == (6, 7) and low in (None, 0, 3):
@@ -55,18 +70,34 @@ def leads_to(text, place):
                 yield text.words[at]
 
 
-def reached(text):
-    """The places that are reached from symbols of text."""
-    waiting = [value for _, kind, value in text.symbols if kind & 0o37 == 2]
-    waiting = [value for value in waiting if value // 2 < len(text.words) and not text.is_relocated(value // 2)]
+def closed(text, waiting, is_strict):
+    """The places that these addresses have, those to which the lines there lead, and so on."""
     found = set()
     while waiting:
         address = waiting.pop()
         place = address // 2
         if address % 2 == 0 and place < len(text.words) and place not in found:
             found.add(place)
-            waiting += leads_to(text, place)
+            waiting += leads_to(text, place, is_strict)
     return found
+
+
+def reached(text):
+    """The places that are reached from symbols of text."""
+    values = [value for _, kind, value in text.symbols if kind & 0o37 == 2]
+    return closed(text, [value for value in values if value // 2 < len(text.words) and not text.is_relocated(value // 2)], False)
+
+
+def has_distance(text, place):
+    """Whether the line at a place has an operand word that counts from the pc, and is relocated so."""
+    if is_plain(text, place) or text.words[place] in SYS:
+        return False
+    return any(text.is_relocated(at) and text.relocation[at] & 1 and register == 7 and mode >= 6 for at, mode, register in operands(text, place))
+
+
+def sure_places(text):
+    """The places at which it is sure that an instruction begins."""
+    return closed(text, [2 * place for place in starts(text) if has_distance(text, place)], True)
 
 
 def starts(text):
@@ -78,20 +109,79 @@ def starts(text):
     return found
 
 
-def suspicions(text):
-    """What is suspicious in a text: the places of the words, with what is said of them."""
-    if text.relocation is None:
-        return
-    sure, begin = reached(text), starts(text)
-    for place in sorted(sure | begin):
-        doubt = "" if place in sure else ", if this is an instruction"
-        if text.is_relocated(place) and (place in sure or may_begin(text, place)):
-            yield place, f"the first word of the instruction at {2 * place:06o} is relocated{doubt}"
-        if is_plain(text, place) or text.words[place] in SYS:
-            continue
+class Suspects:
+    """A text, with the places that are reached, those that are sure, and those at which lines of the sweep begin."""
+
+    def __init__(self, text):
+        self.text, self.sure, self.begin = text, sure_places(text), starts(text)
+        self.reached = reached(text) | self.sure
+        self.between = self.between_sure()
+
+    def between_sure(self):
+        """The places that have sure ones before and after them, with no plain word of the sweep between."""
+        breaks = {place for place in self.begin if is_plain(self.text, place)} - self.sure
+        found, last = set(), None
+        for place in sorted(self.sure | breaks):
+            if place in self.sure and last in self.sure:
+                found.update(range(last + 1, place))
+            last = place
+        return found
+
+    def doubt(self, is_sure):
+        return "" if is_sure else ", if this is an instruction"
+
+    def said(self, place):
+        return f"; the instruction at {2 * place:06o} is {self.text.line(place)[1]}"
+
+    def of_plain(self, place):
+        """Of a plain word: where the file has what is odd, and what that is."""
+        text, sure = self.text, place in self.sure
+        if text.is_relocated(place):
+            if place in self.reached or may_begin(text, place):
+                said = f"the first word of the instruction at {2 * place:06o} is relocated{self.doubt(place in self.reached)}"
+                yield "relocation", place, said
+        elif sure and text.words[place] in FOUND:
+            yield "word", place, f"the instruction at {2 * place:06o} is cut by the end of the text"
+        elif sure:
+            yield "word", place, f"an instruction leads to {2 * place:06o}, where none begins"
+
+    def of_operands(self, place):
+        text = self.text
         for at, mode, register in operands(text, place):
             is_set, counts = text.relocation[at] & 1, register == 7 and mode >= 6
             if text.is_relocated(at) and is_set != counts:
                 bit = "is set, and its operand does not count" if is_set else "is not set, and its operand counts"
-                said = f"the pc bit of the word at {2 * at:06o} {bit} from the pc{doubt}"
-                yield at, f"{said}; the instruction at {2 * place:06o} is {text.line(place)[1]}"
+                said = f"the pc bit of the word at {2 * at:06o} {bit} from the pc{self.doubt(place in self.reached)}"
+                yield "relocation", at, said + self.said(place)
+
+    def entered(self, place):
+        """The nearest place before this one with a sure line that has its word, or None."""
+        for start in range(place - 1, max(place - MOST_WORDS, -1), -1):
+            if start in self.sure and start + self.text.line(start)[0] > place:
+                return start
+        return None
+
+    def of_branch(self, place):
+        if place not in self.sure and not (place in self.reached and place in self.between):
+            return
+        end, doubt = 2 * len(self.text.words), self.doubt(place in self.sure)
+        for target in branches_to(self.text, place):
+            said = f"the branch at {2 * place:06o} leads to {target:06o}"
+            start = self.entered(target // 2)
+            if target > end:
+                yield "word", place, f"{said}, and text lies from 000000 to {end:06o}{doubt}{self.said(place)}"
+            elif start is not None:
+                yield "word", place, f"{said}, within the instruction at {2 * start:06o}{doubt}{self.said(place)}"
+
+    def all(self):
+        for place in sorted(self.reached | self.begin):
+            if is_plain(self.text, place):
+                yield from self.of_plain(place)
+            elif self.text.words[place] not in SYS:
+                yield from self.of_operands(place)
+                yield from self.of_branch(place)
+
+
+def suspicions(text):
+    """What is suspicious in a text: whether the file has it in the word or in its relocation word, the place, and what is said of it."""
+    return [] if text.relocation is None else Suspects(text).all()

@@ -55,6 +55,14 @@ pub enum FindingKind {
     RelocatedFirstWord,
     /// The pc bit of an operand word does not suit its mode.
     UnsuitablePcBit,
+    /// An instruction has more words than the text has after it.
+    CutInstruction,
+    /// An instruction leads to a word that begins none.
+    NoInstruction,
+    /// A branch leads out of the text.
+    BranchOutside,
+    /// A branch leads to an operand word of an instruction.
+    BranchWithin,
 }
 
 /// What is found at a byte of a file.

@@ -1,3 +1,5 @@
 pub mod MarkLemmas
 pub mod SpreadLemmas
 pub mod ReachLemmas
+pub mod TrustLemmas
+pub mod SureLemmas

@@ -9,8 +9,9 @@ use Rattle.std.proofs.lemmas.Cmp.{nat_eq_equiv}
 use Rattle.std.proofs.lemmas.Map.Keys.{IsDistinct-push}
 use Rattle.std.proofs.lemmas.Map.Steps.{length-le_from_distinct_below}
 use Rattle.aout_core.specs.Contents.{Contents}
-use Rattle.suspicions.specs.Reached.{leads_to, is_new, visited, visited_all, named, spread, reached, is_reached}
-use Rattle.suspicions.specs.ReachedLaw.{is_place, IsReached, Named, Led, ReachedLaw}
+use Rattle.suspicions.specs.declared.evidence.Evidence.{Evidence}
+use Rattle.suspicions.specs.Reached.{leads_to, is_new, visited, visited_all, evident, spread, reached, is_reached}
+use Rattle.suspicions.specs.ReachedLaw.{is_place, IsReached, Evident, Led, ReachedLaw}
 
 abbrev has : ℕ → List ℕ → Bool
 has p found = list_any (eqb p) found
@@ -79,12 +80,12 @@ visited_led n p found os led below =
 
 -- each place that is found is reached
 
-abbrev AreReached : Contents → List ℕ → Type 0
-AreReached c found = (p : ℕ) → has p found ≡ true → IsReached c p
+abbrev AreReached : Evidence → Contents → List ℕ → Type 0
+AreReached v c found = (p : ℕ) → has p found ≡ true → IsReached v c p
 
-more_reached : (c : Contents) (found : List ℕ) (os : List (Option ℕ)) → AreReached c found →
-    ((p : ℕ) → p < length c.text_words → list_any (is_place p) os ≡ true → IsReached c p) → AreReached c (visited_all (length c.text_words) found os)
-more_reached c found os before led p e =
+more_reached : (v : Evidence) (c : Contents) (found : List ℕ) (os : List (Option ℕ)) → AreReached v c found →
+    ((p : ℕ) → p < length c.text_words → list_any (is_place p) os ≡ true → IsReached v c p) → AreReached v c (visited_all (length c.text_words) found os)
+more_reached v c found os before led p e =
     let n : ℕ = length c.text_words in
     elim (or_cases (has p found) (list_any (is_place p) os && nat_lt p n) (sym (visited_all_has n p found os) ∙ e)) [
       | inl h ↦ before p h
@@ -95,28 +96,28 @@ more_reached c found os before led p e =
 member_at : (found : List ℕ) (next : ℕ) → next < length found → has (slice_index found next) found ≡ true
 member_at found next h = list_any_at (eqb (slice_index found next)) found next 0 h (eq-eqb (slice_index found next) (slice_index found next) refl)
 
-spread_reached : (c : Contents) (more next : ℕ) (found : List ℕ) → AreReached c found → AreReached c (spread c more next found)
-spread_reached c zero next found before = before
-spread_reached c (suc more) next found before =
+spread_reached : (v : Evidence) (c : Contents) (more next : ℕ) (found : List ℕ) → AreReached v c found → AreReached v c (spread v c more next found)
+spread_reached v c zero next found before = before
+spread_reached v c (suc more) next found before =
     by (nat_lt next (length found)) refl
-    (λ h. spread_reached c more (next + 1) (visited_all (length c.text_words) found (leads_to c (slice_index found next))) h)
+    (λ h. spread_reached v c more (next + 1) (visited_all (length c.text_words) found (leads_to v c (slice_index found next))) h)
   where
     by : (t : Bool) → nat_lt next (length found) ≡ t →
-        (AreReached c (visited_all (length c.text_words) found (leads_to c (slice_index found next))) →
-        AreReached c (spread c more (next + 1) (visited_all (length c.text_words) found (leads_to c (slice_index found next))))) →
-        AreReached c (if t then spread c more (next + 1) (visited_all (length c.text_words) found (leads_to c (slice_index found next))) else found)
-    by true e later = later (more_reached c found (leads_to c (slice_index found next)) before
+        (AreReached v c (visited_all (length c.text_words) found (leads_to v c (slice_index found next))) →
+        AreReached v c (spread v c more (next + 1) (visited_all (length c.text_words) found (leads_to v c (slice_index found next))))) →
+        AreReached v c (if t then spread v c more (next + 1) (visited_all (length c.text_words) found (leads_to v c (slice_index found next))) else found)
+    by true e later = later (more_reached v c found (leads_to v c (slice_index found next)) before
         (λ p below led. Led (slice_index found next) p (before (slice_index found next) (member_at found next (ltb-true next (length found) e))) below led))
     by false e later = before
 
-none_found : (c : Contents) → AreReached c []
-none_found c p e = absurd cc
+none_found : (v : Evidence) (c : Contents) → AreReached v c []
+none_found v c p e = absurd cc
 
-only_reached : (c : Contents) (p : ℕ) → is_reached c p ≡ true → IsReached c p
-only_reached c =
+only_reached : (v : Evidence) (c : Contents) (p : ℕ) → is_reached v c p ≡ true → IsReached v c p
+only_reached v c =
     let n : ℕ = length c.text_words in
-    spread_reached c n 0 (visited_all n [] (map (named c) c.symbols))
-    (more_reached c [] (map (named c) c.symbols) (none_found c) (λ p below led. Named p below led))
+    spread_reached v c n 0 (visited_all n [] (evident v c))
+    (more_reached v c [] (evident v c) (none_found v c) (λ p below led. Evident p below led))
 
 -- no place that is reached is missed
 
@@ -180,17 +181,17 @@ visited_all_below n found os before p e =
     ]
 
 -- of the places that have been found, each before the next one has led to those that it leads to
-record Whole (c : Contents) (next : ℕ) (found : List ℕ) : Type 0 where
+record Whole (v : Evidence) (c : Contents) (next : ℕ) (found : List ℕ) : Type 0 where
   distinct : IsDistinct eqb found
   below : (p : ℕ) → has p found ≡ true → p < length c.text_words
-  done : (j p : ℕ) → j < next → j < length found → p < length c.text_words → list_any (is_place p) (leads_to c (slice_index found j)) ≡ true →
+  done : (j p : ℕ) → j < next → j < length found → p < length c.text_words → list_any (is_place p) (leads_to v c (slice_index found j)) ≡ true →
       has p found ≡ true
 
-next_whole : (c : Contents) (next : ℕ) (found : List ℕ) → Whole c next found → next < length found →
-    Whole c (next + 1) (visited_all (length c.text_words) found (leads_to c (slice_index found next)))
-next_whole c next found w inside =
+next_whole : (v : Evidence) (c : Contents) (next : ℕ) (found : List ℕ) → Whole v c next found → next < length found →
+    Whole v c (next + 1) (visited_all (length c.text_words) found (leads_to v c (slice_index found next)))
+next_whole v c next found w inside =
     let n : ℕ = length c.text_words in
-    let os : List (Option ℕ) = leads_to c (slice_index found next) in
+    let os : List (Option ℕ) = leads_to v c (slice_index found next) in
     let new : List ℕ = visited_all n found os in
     let grows : Grows found new = visited_all_grows n found os in record {
       distinct = visited_all_distinct n found os w.distinct;
@@ -199,71 +200,71 @@ next_whole c next found w inside =
         | inl e ↦
             let early : j < length found = omega arith in
             let same : slice_index new j ≡ slice_index found next = grown_at found new j grows early ∙ ap (slice_index found) e in
-            visited_led n p found os (sym (ap (λ (k : ℕ). list_any (is_place p) (leads_to c k)) same) ∙ led) below
+            visited_led n p found os (sym (ap (λ (k : ℕ). list_any (is_place p) (leads_to v c k)) same) ∙ led) below
         | inr e ↦
             let earlier : j < next = omega arith in
             let early : j < length found = omega arith in
             grown_has p found new grows
-            (w.done j p earlier early below (sym (ap (λ (k : ℕ). list_any (is_place p) (leads_to c k)) (grown_at found new j grows early)) ∙ led))
+            (w.done j p earlier early below (sym (ap (λ (k : ℕ). list_any (is_place p) (leads_to v c k)) (grown_at found new j grows early)) ∙ led))
       ];
     }
 
-abbrev IsClosed : Contents → List ℕ → Type 0
-IsClosed c found = (q p : ℕ) → has q found ≡ true → p < length c.text_words → list_any (is_place p) (leads_to c q) ≡ true → has p found ≡ true
+abbrev IsClosed : Evidence → Contents → List ℕ → Type 0
+IsClosed v c found = (q p : ℕ) → has q found ≡ true → p < length c.text_words → list_any (is_place p) (leads_to v c q) ≡ true → has p found ≡ true
 
-whole_closed : (c : Contents) (next : ℕ) (found : List ℕ) → Whole c next found → length found ≤ next → IsClosed c found
-whole_closed c next found w all q p member below led =
+whole_closed : (v : Evidence) (c : Contents) (next : ℕ) (found : List ℕ) → Whole v c next found → length found ≤ next → IsClosed v c found
+whole_closed v c next found w all q p member below led =
     let (j, inside, is) = place_of_member q found member in
-    w.done j p (omega arith) inside below (ap (λ (k : ℕ). list_any (is_place p) (leads_to c k)) is ∙ led)
+    w.done j p (omega arith) inside below (ap (λ (k : ℕ). list_any (is_place p) (leads_to v c k)) is ∙ led)
 
-spread_closed : (c : Contents) (more next : ℕ) (found : List ℕ) → Whole c next found → length c.text_words ≤ more + next →
-    IsClosed c (spread c more next found)
-spread_closed c zero next found w enough =
+spread_closed : (v : Evidence) (c : Contents) (more next : ℕ) (found : List ℕ) → Whole v c next found → length c.text_words ≤ more + next →
+    IsClosed v c (spread v c more next found)
+spread_closed v c zero next found w enough =
     let few : length found ≤ length c.text_words = length-le_from_distinct_below found (length c.text_words) w.distinct w.below in
-    whole_closed c next found w (omega arith)
-spread_closed c (suc more) next found w enough =
+    whole_closed v c next found w (omega arith)
+spread_closed v c (suc more) next found w enough =
     by (nat_lt next (length found)) refl
-    (λ h. spread_closed c more (next + 1) (visited_all (length c.text_words) found (leads_to c (slice_index found next))) h (omega arith))
+    (λ h. spread_closed v c more (next + 1) (visited_all (length c.text_words) found (leads_to v c (slice_index found next))) h (omega arith))
   where
     by : (t : Bool) → nat_lt next (length found) ≡ t →
-        (Whole c (next + 1) (visited_all (length c.text_words) found (leads_to c (slice_index found next))) →
-        IsClosed c (spread c more (next + 1) (visited_all (length c.text_words) found (leads_to c (slice_index found next))))) →
-        IsClosed c (if t then spread c more (next + 1) (visited_all (length c.text_words) found (leads_to c (slice_index found next))) else found)
-    by true e later = later (next_whole c next found w (ltb-true next (length found) e))
-    by false e later = whole_closed c next found w (ltb-false next (length found) e)
+        (Whole v c (next + 1) (visited_all (length c.text_words) found (leads_to v c (slice_index found next))) →
+        IsClosed v c (spread v c more (next + 1) (visited_all (length c.text_words) found (leads_to v c (slice_index found next))))) →
+        IsClosed v c (if t then spread v c more (next + 1) (visited_all (length c.text_words) found (leads_to v c (slice_index found next))) else found)
+    by true e later = later (next_whole v c next found w (ltb-true next (length found) e))
+    by false e later = whole_closed v c next found w (ltb-false next (length found) e)
 
-spread_grows : (c : Contents) (more next : ℕ) (found : List ℕ) → Grows found (spread c more next found)
-spread_grows c zero next found = grows_by found
-spread_grows c (suc more) next found =
-    by (nat_lt next (length found)) (spread_grows c more (next + 1) (visited_all (length c.text_words) found (leads_to c (slice_index found next))))
+spread_grows : (v : Evidence) (c : Contents) (more next : ℕ) (found : List ℕ) → Grows found (spread v c more next found)
+spread_grows v c zero next found = grows_by found
+spread_grows v c (suc more) next found =
+    by (nat_lt next (length found)) (spread_grows v c more (next + 1) (visited_all (length c.text_words) found (leads_to v c (slice_index found next))))
   where
-    by : (t : Bool) → Grows (visited_all (length c.text_words) found (leads_to c (slice_index found next)))
-        (spread c more (next + 1) (visited_all (length c.text_words) found (leads_to c (slice_index found next)))) →
-        Grows found (if t then spread c more (next + 1) (visited_all (length c.text_words) found (leads_to c (slice_index found next))) else found)
+    by : (t : Bool) → Grows (visited_all (length c.text_words) found (leads_to v c (slice_index found next)))
+        (spread v c more (next + 1) (visited_all (length c.text_words) found (leads_to v c (slice_index found next)))) →
+        Grows found (if t then spread v c more (next + 1) (visited_all (length c.text_words) found (leads_to v c (slice_index found next))) else found)
     by true later =
-        let os : List (Option ℕ) = leads_to c (slice_index found next) in
+        let os : List (Option ℕ) = leads_to v c (slice_index found next) in
         let new : List ℕ = visited_all (length c.text_words) found os in
-        grows_twice found new (spread c more (next + 1) new) (visited_all_grows (length c.text_words) found os) later
+        grows_twice found new (spread v c more (next + 1) new) (visited_all_grows (length c.text_words) found os) later
     by false later = grows_by found
 
 -- where the search begins
-abbrev begun : Contents → List ℕ
-begun c = visited_all (length c.text_words) [] (map (named c) c.symbols)
+abbrev begun : Evidence → Contents → List ℕ
+begun v c = visited_all (length c.text_words) [] (evident v c)
 
-begun_whole : (c : Contents) → Whole c 0 (begun c)
+begun_whole : (v : Evidence) (c : Contents) → Whole v c 0 (begun v c)
 unfolding IsDistinct
-begun_whole c = record {
-  distinct = visited_all_distinct (length c.text_words) [] (map (named c) c.symbols) tt;
-  below = visited_all_below (length c.text_words) [] (map (named c) c.symbols) (λ p e. absurd cc);
+begun_whole v c = record {
+  distinct = visited_all_distinct (length c.text_words) [] (evident v c) tt;
+  below = visited_all_below (length c.text_words) [] (evident v c) (λ p e. absurd cc);
   done = λ j p before there below led. absurd (omega arith);
 }
 
-none_missed : (c : Contents) (p : ℕ) → IsReached c p → is_reached c p ≡ true
-none_missed c p (Named place below led) =
-    grown_has place (begun c) (reached c) (spread_grows c (length c.text_words) 0 (begun c))
-    (visited_led (length c.text_words) place [] (map (named c) c.symbols) led below)
-none_missed c p (Led from place r below led) =
-    spread_closed c (length c.text_words) 0 (begun c) (begun_whole c) (omega arith) from place (none_missed c from r) below led
+none_missed : (v : Evidence) (c : Contents) (p : ℕ) → IsReached v c p → is_reached v c p ≡ true
+none_missed v c p (Evident place below led) =
+    grown_has place (begun v c) (reached v c) (spread_grows v c (length c.text_words) 0 (begun v c))
+    (visited_led (length c.text_words) place [] (evident v c) led below)
+none_missed v c p (Led from place r below led) =
+    spread_closed v c (length c.text_words) 0 (begun v c) (begun_whole v c) (omega arith) from place (none_missed v c from r) below led
 
 pub reached_places : ReachedLaw
-reached_places c p = (only_reached c p, none_missed c p)
+reached_places v c p = (only_reached v c p, none_missed v c p)

@@ -7,39 +7,50 @@ use Rattle.aout_core.specs.Contents.{Contents}
 use Rattle.instructions.specs.declared.unix.Decoder.TheVariants.{Unix}
 use Rattle.disassemblies.specs.Starts.{starts, is_start}
 use Rattle.findings.specs.Found.{Found}
-use Rattle.suspicions.specs.Reached.{leads_to, visited_all, spread, is_reached}
+use Rattle.suspicions.specs.declared.evidence.Evidence.{Evidence}
+use Rattle.suspicions.specs.Reached.{leads_to, visited, visited_all, shown, shown_from, spread}
+use Rattle.suspicions.specs.Trust.{past_place, trust}
 use Rattle.suspicions.specs.Suspicions.{suspicious_place, suspicious_words}
 
 -- the next place, and those after it
-first : (c : Contents) (more next : ℕ) (found : List ℕ) → next < length found →
-    spread c (suc more) next found ≡ spread c more (next + 1) (visited_all (length c.text_words) found (leads_to c (slice_index found next)))
-first c more next found h =
-    ap (λ (b : Bool). if b then spread c more (next + 1) (visited_all (length c.text_words) found (leads_to c (slice_index found next))) else found)
+first : (e : Evidence) (c : Contents) (more next : ℕ) (found : List ℕ) → next < length found →
+    spread e c (suc more) next found ≡ spread e c more (next + 1) (visited_all (length c.text_words) found (leads_to e c (slice_index found next)))
+first e c more next found h =
+    ap (λ (b : Bool). if b then spread e c more (next + 1) (visited_all (length c.text_words) found (leads_to e c (slice_index found next))) else found)
     (lt-ltb next (length found) h)
 
-pub spread_more : (c : Contents) (n next : ℕ) (found new whole : List ℕ) → next < n → next < length found →
-    new ≡ visited_all (length c.text_words) found (leads_to c (slice_index found next)) → spread c (n - next) next found ≡ whole →
-    spread c (n - (next + 1)) (next + 1) new ≡ whole
-spread_more c n next found new whole inside h e so_far =
+pub spread_more : (e : Evidence) (c : Contents) (n next : ℕ) (found new whole : List ℕ) → next < n → next < length found →
+    new ≡ visited_all (length c.text_words) found (leads_to e c (slice_index found next)) → spread e c (n - next) next found ≡ whole →
+    spread e c (n - (next + 1)) (next + 1) new ≡ whole
+spread_more e c n next found new whole inside h is so_far =
     let left : n - next ≡ suc (n - (next + 1)) = omega arith in
-    ap (λ (l : List ℕ). spread c (n - (next + 1)) (next + 1) l) e
-    ∙ sym (ap (λ (k : ℕ). spread c k next found) left ∙ first c (n - (next + 1)) next found h)
+    ap (λ (l : List ℕ). spread e c (n - (next + 1)) (next + 1) l) is
+    ∙ sym (ap (λ (k : ℕ). spread e c k next found) left ∙ first e c (n - (next + 1)) next found h)
     ∙ so_far
 
 -- no place is left
-pub spread_all : (c : Contents) (more next : ℕ) (found : List ℕ) → length found ≤ next → spread c more next found ≡ found
-spread_all c zero next found h = refl
-spread_all c (suc more) next found h =
-    ap (λ (b : Bool). if b then spread c more (next + 1) (visited_all (length c.text_words) found (leads_to c (slice_index found next))) else found)
+pub spread_all : (e : Evidence) (c : Contents) (more next : ℕ) (found : List ℕ) → length found ≤ next → spread e c more next found ≡ found
+spread_all e c zero next found h = refl
+spread_all e c (suc more) next found h =
+    ap (λ (b : Bool). if b then spread e c more (next + 1) (visited_all (length c.text_words) found (leads_to e c (slice_index found next))) else found)
     (le-ltb next (length found) h)
 
 -- what is suspicious at one place more
-pub places_more : (c : Contents) (words : List ℕ) (i : ℕ) (old new whole : List Found) → i < length words →
-    new ≡ old ++ suspicious_place c (is_reached c i) (is_start (starts Unix c) i) i → old ++ suspicious_words c i (drop i words) ≡ whole →
-    new ++ suspicious_words c (i + 1) (drop (i + 1) words) ≡ whole
-places_more c words i old new whole inside put so_far =
-    let rest : List Found = suspicious_words c (i + 1) (drop (i + 1) words) in
-    ap (λ (l : List Found). l ++ rest) put
-    ∙ append_assoc old (suspicious_place c (is_reached c i) (is_start (starts Unix c) i) i) rest
-    ∙ ap (λ (l : List ℕ). old ++ suspicious_words c i l) (sym (drop_more words i 0 inside))
+pub places_more : (c : Contents) (words : List ℕ) (before after : Bool) (i : ℕ) (old new whole : List Found) → i < length words →
+    new ≡ old ++ suspicious_place c (trust c before i) (is_start (starts Unix c) i) i → after ≡ past_place c i before →
+    old ++ suspicious_words c before i (drop i words) ≡ whole → new ++ suspicious_words c after (i + 1) (drop (i + 1) words) ≡ whole
+places_more c words before after i old new whole inside put is so_far =
+    let rest : List Found = suspicious_words c (past_place c i before) (i + 1) (drop (i + 1) words) in
+    ap (λ (b : Bool). new ++ suspicious_words c b (i + 1) (drop (i + 1) words)) is
+    ∙ ap (λ (l : List Found). l ++ rest) put
+    ∙ append_assoc old (suspicious_place c (trust c before i) (is_start (starts Unix c) i) i) rest
+    ∙ ap (λ (l : List ℕ). old ++ suspicious_words c before i l) (sym (drop_more words i 0 inside))
+    ∙ so_far
+
+-- the addresses that the words from a place on show
+pub shown_more : (c : Contents) (words : List ℕ) (i n : ℕ) (old new whole : List ℕ) → i < length words → new ≡ visited n old (shown c i) →
+    visited_all n old (shown_from c i (drop i words)) ≡ whole → visited_all n new (shown_from c (i + 1) (drop (i + 1) words)) ≡ whole
+shown_more c words i n old new whole inside put so_far =
+    ap (λ (l : List ℕ). visited_all n l (shown_from c (i + 1) (drop (i + 1) words))) put
+    ∙ ap (λ (l : List ℕ). visited_all n old (shown_from c i l)) (sym (drop_more words i 0 inside))
     ∙ so_far

@@ -1,9 +1,10 @@
--- Which places of a text are reached, if its symbols name instructions. (the handbook of the PDP-11/70; section 2 of the Unix
--- Programmer's Manual, Seventh Edition; what counts as reached: own choice)
+-- Which places of a text are reached, and by what evidence. (the handbook of the PDP-11/70; section 2 of the Unix Programmer's Manual,
+-- Seventh Edition; what counts as reached: own choice)
 --
--- A place counts the words of the text. It is reached if a symbol of text has its address, unless its word is relocated, as in a table of
--- addresses that has a name. It is reached too if the line at a place that is reached goes on with it, branches to it, or jumps or
--- calls there within the text.
+-- A place counts the words of the text. Symbols show that it is reached if one of text has its address, unless its word is relocated, as
+-- in a table of addresses that has a name. Distances show it if a line of a sweep begins there, with an operand word that counts from
+-- the pc and is relocated so: no data has one. It is reached too if the line at a place that is reached goes on with it, branches to
+-- it, or jumps or calls there within the text. What is called may not return, and data may follow: distances do not show that it does.
 use Rattle.std.specs.Prelude.{ℕ, zero, suc, ◌+◌, ◌*◌, ◌/◌, ◌%◌, Bool, true, false, not, ◌&&◌, ◌||◌, eqb, nat_lt, if◌then◌else◌}
 use Rattle.std.specs.Prelude.{List, [], ◌∷◌, ◌++◌, length, map, slice_get, slice_index, Option, Some, None}
 use Rattle.std.specs.List.{list_any}
@@ -12,7 +13,7 @@ use Rattle.aout_core.specs.declared.symbol.Segment.TheVariants.{TextSeg}
 use Rattle.aout_core.specs.declared.reloc.Reloc.{Reloc}
 use Rattle.aout_core.specs.Words.{plus}
 use Rattle.aout_core.specs.Contents.{Contents}
-use Rattle.aout_core.specs.WellFormed.{masked_type, segment_number}
+use Rattle.aout_core.specs.WellFormed.{masked_type, segment_number, is_pc_relative}
 use Rattle.instructions.specs.declared.operation.Operation.{Operation}
 use Rattle.instructions.specs.declared.operation.Operation.TheVariants as operations
 use Rattle.instructions.specs.declared.mode.Addressing.{Addressing}
@@ -32,6 +33,9 @@ use Rattle.instructions.specs.Relocated.{is_relocated}
 use Rattle.instructions.specs.Texts.{number, branch_target, branch_back_target}
 use Rattle.instructions.specs.UnixLines.{unix_length}
 use Rattle.disassemblies.specs.Lines.{unix_line_in}
+use Rattle.disassemblies.specs.Starts.{starts, is_start}
+use Rattle.suspicions.specs.declared.evidence.Evidence.{Evidence}
+use Rattle.suspicions.specs.declared.evidence.Evidence.TheVariants.{Symbols, Distances}
 
 -- the line after it is not reached from it
 abbrev pub ends : Operation → Bool
@@ -44,19 +48,33 @@ ends operations.Halt = true
 ends operations.Mark = true
 ends _ = false
 
+-- what it calls may not return to the line after it
+abbrev pub may_not_return : Operation → Bool
+may_not_return operations.Jsr = true
+may_not_return operations.Bpt = true
+may_not_return operations.Iot = true
+may_not_return operations.Emt = true
+may_not_return operations.Sys = true
+may_not_return _ = false
+
+-- the evidence does not show that the line after it is reached
+abbrev pub stops : Evidence → Operation → Bool
+stops Symbols operation = ends operation
+stops Distances operation = ends operation || may_not_return operation
+
 -- the call returns to the line after it
 abbrev pub returns : SystemCall → Bool
 returns calls.Exit = false
 returns _ = true
 
-abbrev pub goes_on : UnixLine → Bool
-goes_on (Machine (Plain w)) = false
-goes_on (Machine (Decoded i a b)) = not (ends i.row.operation)
-goes_on (Call c) = returns c.call
+abbrev pub goes_on : Evidence → UnixLine → Bool
+goes_on e (Machine (Plain w)) = false
+goes_on e (Machine (Decoded i a b)) = not (stops e i.row.operation)
+goes_on e (Call c) = returns c.call
 
 -- the address after the line at a place, if it goes on there
-abbrev pub next_of : ℕ → UnixLine → Option ℕ
-next_of place line = if goes_on line then Some (2 * (place + unix_length line)) else None
+abbrev pub next_of : Evidence → ℕ → UnixLine → Option ℕ
+next_of e place line = if goes_on e line then Some (2 * (place + unix_length line)) else None
 
 -- the address that a branch at an address goes to
 abbrev pub branch_of : ℕ → Option Operand → Option ℕ
@@ -89,18 +107,18 @@ abbrev pub jump : Contents → Operation → ℕ → Option Operand → Option �
 jump c operation place x word = if jumps operation then jump_of c place x word else None
 
 -- the addresses to which the line at a place may lead
-abbrev pub leads_by : Contents → ℕ → UnixLine → List (Option ℕ)
-leads_by c place (Machine (Decoded i a b)) =
-    next_of place (Machine (Decoded i a b))
+abbrev pub leads_by : Evidence → Contents → ℕ → UnixLine → List (Option ℕ)
+leads_by e c place (Machine (Decoded i a b)) =
+    next_of e place (Machine (Decoded i a b))
     ∷ branch_of (2 * place) i.first
     ∷ branch_of (2 * place) i.second
     ∷ jump c i.row.operation (place + 1) i.first a
     ∷ jump c i.row.operation (place + 1 + word_count_of i.first) i.second b
     ∷ []
-leads_by c place line = next_of place line ∷ []
+leads_by e c place line = next_of e place line ∷ []
 
-abbrev pub leads_to : Contents → ℕ → List (Option ℕ)
-leads_to c place = leads_by c place (unix_line_in Unix c place)
+abbrev pub leads_to : Evidence → Contents → ℕ → List (Option ℕ)
+leads_to e c place = leads_by e c place (unix_line_in Unix c place)
 
 -- an address of a text of so many words is new if none of its words has been found at it
 abbrev pub is_new : ℕ → List ℕ → ℕ → Bool
@@ -120,15 +138,50 @@ abbrev pub named : Contents → Symbol → Option ℕ
 named c s =
     if eqb (masked_type s) (segment_number TextSeg) && not (is_relocated (slice_get c.text_reloc (s.value / 2))) then Some s.value else None
 
+-- an operand counts from the pc
+abbrev pub counts_from_pc : Addressing → Bool
+counts_from_pc ways.Relative = true
+counts_from_pc ways.RelativeDeferred = true
+counts_from_pc _ = false
+
+-- an operand word counts from the pc, and is relocated so
+abbrev pub is_distance : Option Reloc → Option Addressing → Bool
+is_distance (Some r) (Some a) = is_relocated (Some r) && (is_pc_relative r && counts_from_pc a)
+is_distance _ _ = false
+
+-- an operand has such a word at a place
+abbrev pub has_distance : Contents → ℕ → Option Operand → Bool
+has_distance c place (Some (General m r)) = is_distance (slice_get c.text_reloc place) (addressing m r)
+has_distance c place _ = false
+
+-- the line at a place has such a word
+abbrev pub is_shown_by : Contents → ℕ → UnixLine → Bool
+is_shown_by c place (Machine (Decoded i a b)) = has_distance c (place + 1) i.first || has_distance c (place + 1 + word_count_of i.first) i.second
+is_shown_by c place line = false
+
+-- the address of a place at which such a line begins
+abbrev pub shown : Contents → ℕ → Option ℕ
+shown c place = if is_start (starts Unix c) place && is_shown_by c place (unix_line_in Unix c place) then Some (2 * place) else None
+
+-- the same of each word from a place on
+abbrev pub shown_from : Contents → ℕ → List ℕ → List (Option ℕ)
+shown_from c place [] = []
+shown_from c place (w ∷ ws) = shown c place ∷ shown_from c (place + 1) ws
+
+-- the addresses of which there is evidence
+abbrev pub evident : Evidence → Contents → List (Option ℕ)
+evident Symbols c = map (named c) c.symbols
+evident Distances c = shown_from c 0 c.text_words
+
 -- one place after another leads to more; at most so many
-abbrev pub spread : Contents → ℕ → ℕ → List ℕ → List ℕ
-spread c zero next found = found
-spread c (suc more) next found =
-    if nat_lt next (length found) then spread c more (next + 1) (visited_all (length c.text_words) found (leads_to c (slice_index found next))) else found
+abbrev pub spread : Evidence → Contents → ℕ → ℕ → List ℕ → List ℕ
+spread e c zero next found = found
+spread e c (suc more) next found =
+    if nat_lt next (length found) then spread e c more (next + 1) (visited_all (length c.text_words) found (leads_to e c (slice_index found next))) else found
 
 -- the places that are reached, in the order in which they are found
-abbrev pub reached : Contents → List ℕ
-reached c = spread c (length c.text_words) 0 (visited_all (length c.text_words) [] (map (named c) c.symbols))
+abbrev pub reached : Evidence → Contents → List ℕ
+reached e c = spread e c (length c.text_words) 0 (visited_all (length c.text_words) [] (evident e c))
 
-abbrev pub is_reached : Contents → ℕ → Bool
-is_reached c place = list_any (eqb place) (reached c)
+abbrev pub is_reached : Evidence → Contents → ℕ → Bool
+is_reached e c place = list_any (eqb place) (reached e c)

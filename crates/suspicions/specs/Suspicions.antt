@@ -5,34 +5,35 @@
 -- from the pc. This is looked at wherever a line begins and at each place that is reached, in the order of the places. It is sure at a
 -- place that is reached. Any other line may be of data: there a relocated word counts if it would begin an instruction whose last
 -- word is an operand word that is not relocated.
-use Rattle.std.specs.Prelude.{ℕ, ◌+◌, ◌-◌, ◌*◌, Bool, true, false, not, ◌&&◌, ◌||◌, nat_lt, List, [], ◌∷◌, ◌++◌, slice_get, Option, Some, None}
+--
+-- A place to which a sure instruction leads has one, and the text does not end before it does. A branch leads into the text or to its
+-- end, and not within an instruction: that is looked at where it is sure or likely that the branch is one.
+use Rattle.std.specs.Prelude.{ℕ, ◌+◌, ◌-◌, ◌*◌, Bool, true, false, not, ◌&&◌, ◌||◌, nat_lt, if◌then◌else◌, List, [], ◌∷◌, ◌++◌, slice_get, Option, Some, None}
 use Rattle.aout_core.specs.declared.reloc.Reloc.{Reloc}
 use Rattle.aout_core.specs.Contents.{Contents}
 use Rattle.aout_core.specs.Encoding.{relocation_at}
 use Rattle.aout_core.specs.WellFormed.{is_pc_relative}
 use Rattle.instructions.specs.declared.mode.Addressing.{Addressing}
-use Rattle.instructions.specs.declared.mode.Addressing.TheVariants as ways
 use Rattle.instructions.specs.declared.operand.Operand.{Operand}
 use Rattle.instructions.specs.declared.operand.Operand.TheVariants.{General}
+use Rattle.instructions.specs.declared.instruction.Instruction.{Instruction}
 use Rattle.instructions.specs.declared.line.Line.TheVariants.{Plain, Decoded}
 use Rattle.instructions.specs.declared.unix.Decoder.TheVariants.{Unix}
 use Rattle.instructions.specs.declared.unix.UnixLine.{UnixLine}
 use Rattle.instructions.specs.declared.unix.UnixLine.TheVariants.{Machine, Call}
 use Rattle.instructions.specs.Modes.{addressing}
-use Rattle.instructions.specs.Instructions.{word_count_of}
+use Rattle.instructions.specs.Instructions.{instruction_of, word_count_of}
 use Rattle.instructions.specs.Lines.{line_at, line_length}
 use Rattle.instructions.specs.Relocated.{is_relocated}
 use Rattle.disassemblies.specs.Lines.{unix_line_in}
 use Rattle.disassemblies.specs.Starts.{starts, is_start}
-use Rattle.findings.specs.declared.finding.FindingKind.TheVariants.{RelocatedFirstWord, UnsuitablePcBit}
+use Rattle.findings.specs.declared.finding.FindingKind.TheVariants.{RelocatedFirstWord, UnsuitablePcBit, CutInstruction, NoInstruction}
 use Rattle.findings.specs.Found.{Found, found_if}
-use Rattle.suspicions.specs.Reached.{is_reached}
-use Rattle.suspicions.specs.SuspicionTexts.{relocated_first_text, pc_bit_in}
-
-abbrev pub counts_from_pc : Addressing → Bool
-counts_from_pc ways.Relative = true
-counts_from_pc ways.RelativeDeferred = true
-counts_from_pc _ = false
+use Rattle.suspicions.specs.declared.trust.Trust.{Trust}
+use Rattle.suspicions.specs.Reached.{counts_from_pc, branch_of}
+use Rattle.suspicions.specs.Trust.{past_place, trust}
+use Rattle.suspicions.specs.Branches.{word_place, suspicious_branch}
+use Rattle.suspicions.specs.SuspicionTexts.{relocated_first_text, pc_bit_in, cut_text, no_instruction_text}
 
 -- the byte of the file at which the relocation word of a word of text is
 abbrev pub reloc_place : Contents → ℕ → ℕ
@@ -72,26 +73,38 @@ abbrev pub suspicious_operand : Contents → Bool → ℕ → ℕ → Option Ope
 suspicious_operand c is_sure start place (Some (General m r)) = suspicious_by c is_sure start place (addressing m r)
 suspicious_operand c is_sure start place _ = []
 
--- the line at a place
-abbrev pub suspicious_line : Contents → Bool → ℕ → UnixLine → List Found
-suspicious_line c is_sure place (Machine (Plain w)) = suspicious_first c is_sure place
-suspicious_line c is_sure place (Machine (Decoded i a b)) =
-    suspicious_operand c is_sure place (place + 1) i.first ++ suspicious_operand c is_sure place (place + 1 + word_count_of i.first) i.second
-suspicious_line c is_sure place (Call k) = []
+-- a word that begins no line of more words, by the instruction that it would begin
+abbrev pub suspicious_lack : ℕ → Option Instruction → List Found
+suspicious_lack place None = found_if true (word_place place) NoInstruction (no_instruction_text (2 * place))
+suspicious_lack place (Some i) = found_if true (word_place place) CutInstruction (cut_text (2 * place))
 
-abbrev pub suspicious_at : Contents → Bool → ℕ → List Found
-suspicious_at c is_sure place = suspicious_line c is_sure place (unix_line_in Unix c place)
+abbrev pub suspicious_plain : Contents → Trust → ℕ → ℕ → List Found
+suspicious_plain c t place w =
+    if is_relocated (slice_get c.text_reloc place) then suspicious_first c t.is_reached place
+    else (if t.is_sure then suspicious_lack place (instruction_of w) else [])
+
+-- the line at a place
+abbrev pub suspicious_line : Contents → Trust → ℕ → UnixLine → List Found
+suspicious_line c t place (Machine (Plain w)) = suspicious_plain c t place w
+suspicious_line c t place (Machine (Decoded i a b)) =
+    (suspicious_operand c t.is_reached place (place + 1) i.first
+    ++ suspicious_operand c t.is_reached place (place + 1 + word_count_of i.first) i.second)
+    ++ (suspicious_branch c t place (branch_of (2 * place) i.first) ++ suspicious_branch c t place (branch_of (2 * place) i.second))
+suspicious_line c t place (Call k) = []
+
+abbrev pub suspicious_at : Contents → Trust → ℕ → List Found
+suspicious_at c t place = suspicious_line c t place (unix_line_in Unix c place)
 
 -- what is suspicious at a place, if it is reached or begins a line
-abbrev pub suspicious_place : Contents → Bool → Bool → ℕ → List Found
-suspicious_place c true begins place = suspicious_at c true place
-suspicious_place c false true place = suspicious_at c false place
-suspicious_place c false false place = []
+abbrev pub suspicious_place : Contents → Trust → Bool → ℕ → List Found
+suspicious_place c t begins place = if t.is_reached || begins then suspicious_at c t place else []
 
--- from a place on
-abbrev pub suspicious_words : Contents → ℕ → List ℕ → List Found
-suspicious_words c place [] = []
-suspicious_words c place (w ∷ ws) = suspicious_place c (is_reached c place) (is_start (starts Unix c) place) place ++ suspicious_words c (place + 1) ws
+-- from a place on, if going back from it a sure line comes before a plain word, or not
+abbrev pub suspicious_words : Contents → Bool → ℕ → List ℕ → List Found
+suspicious_words c before place [] = []
+suspicious_words c before place (w ∷ ws) =
+    suspicious_place c (trust c before place) (is_start (starts Unix c) place) place
+    ++ suspicious_words c (past_place c place before) (place + 1) ws
 
 abbrev pub suspicions : Contents → List Found
-suspicions c = suspicious_words c 0 c.text_words
+suspicions c = suspicious_words c false 0 c.text_words

@@ -1,8 +1,9 @@
 //! The addresses to which a line leads.
 ghost use Rattle.std.specs.Prelude.{◌≡◌, ◌<◌, ◌≤◌, ◌+◌, ◌*◌, length, slice_get};
 ghost use Rattle.instructions.specs.UnixLines.{unix_length};
-ghost use Rattle.suspicions.specs.Reached.{ends, returns, goes_on, next_of, branch_of, is_own_distance, is_own_address, jump_by, jump_of, jump, leads_to};
+ghost use Rattle.suspicions.specs.Reached.{ends, may_not_return, stops, returns, goes_on, next_of, branch_of, is_own_distance, is_own_address, jump_by, jump_of, jump, leads_to};
 
+use crate::evidence::Evidence;
 use aout_core::{File, Reloc};
 use disassemblies::unix_line_in;
 use instructions::{
@@ -26,6 +27,26 @@ fn ends(operation: Operation) -> bool
     }
 }
 
+/// Whether what an instruction calls may not return to the line after it.
+fn may_not_return(operation: Operation) -> bool
+    ensures { result ≡ may_not_return operation }
+{
+    match operation {
+        Operation::Jsr | Operation::Bpt | Operation::Iot | Operation::Emt | Operation::Sys => true,
+        _ => false,
+    }
+}
+
+/// Whether the evidence does not show that the line after an instruction is reached.
+fn stops(evidence: Evidence, operation: Operation) -> bool
+    ensures { result ≡ stops evidence operation }
+{
+    match evidence {
+        Evidence::Symbols => ends(operation),
+        Evidence::Distances => ends(operation) || may_not_return(operation),
+    }
+}
+
 /// Whether a call returns to the line after it.
 fn returns(call: SystemCall) -> bool
     ensures { result ≡ returns call }
@@ -37,22 +58,25 @@ fn returns(call: SystemCall) -> bool
 }
 
 /// Whether the line after a line is reached from it.
-fn goes_on(line: &UnixLine) -> bool
-    ensures { result ≡ goes_on line.now }
+fn goes_on(evidence: Evidence, line: &UnixLine) -> bool
+    ensures { result ≡ goes_on evidence line.now }
 {
     match line {
         UnixLine::Machine(Line::Plain(_)) => false,
-        UnixLine::Machine(Line::Decoded(instruction, _, _)) => !ends(instruction.row.operation),
+        UnixLine::Machine(Line::Decoded(instruction, _, _)) => !stops(
+            evidence,
+            instruction.row.operation,
+        ),
         UnixLine::Call(row) => returns(row.call),
     }
 }
 
 /// The address after the line at a place, if it goes on there.
-pub(crate) fn next_of(place: usize, line: &UnixLine) -> Option<u16>
+pub(crate) fn next_of(evidence: Evidence, place: usize, line: &UnixLine) -> Option<u16>
     requires { place + unix_length line.now < 32768 }
-    ensures { result ≡ next_of place line.now }
+    ensures { result ≡ next_of evidence place line.now }
 {
-    if goes_on(line) {
+    if goes_on(evidence, line) {
         Some((2 * (place + line.length())) as u16)
     } else {
         None

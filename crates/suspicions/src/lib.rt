@@ -1,13 +1,19 @@
 //! What is suspicious in the text of an object, for `v7-explain`.
 //!
 //! An instruction never begins with a relocated word, and an operand word has the pc bit exactly if its operand counts from the pc.
-//! `suspicions_of` finds where an object differs. docs/OBJECTS.md shows which mistakes of an assembler that finds.
+//! Instructions lead to instructions. `suspicions_of` finds where an object differs. docs/OBJECTS.md shows which mistakes of an
+//! assembler that finds.
 #![tactic(auto)]
 
+mod branches;
+mod evidence;
 pub mod laws;
 mod leads;
 mod reached;
+mod suspect;
 mod suspicions;
+mod trust;
 
-pub use reached::reached_places;
+pub use evidence::Evidence;
+pub use reached::{reached_places, sure_places};
 pub use suspicions::suspicions_of;

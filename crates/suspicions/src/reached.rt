@@ -3,13 +3,18 @@ ghost use Rattle.std.specs.Prelude.{◌≡◌, ◌<◌, ◌+◌, ◌++◌, ◌�
 ghost use Rattle.instructions.specs.UnixLines.{unix_length};
 ghost use Rattle.instructions.specs.declared.line.Line.TheVariants.{Decoded};
 ghost use Rattle.instructions.specs.declared.unix.UnixLine.TheVariants.{Machine};
-ghost use Rattle.suspicions.specs.Reached.{leads_by, leads_to, visited, visited_all, named, spread, reached, is_reached};
+ghost use Rattle.instructions.specs.declared.unix.Decoder.TheVariants.{Unix};
+ghost use Rattle.instructions.specs.Instructions.{word_count_of};
+ghost use Rattle.disassemblies.specs.Starts as lines;
+ghost use Rattle.suspicions.specs.Reached.{leads_by, leads_to, visited, visited_all, named, counts_from_pc, is_distance, has_distance, is_shown_by, shown, shown_from, evident, spread, reached, is_reached};
+ghost use Rattle.suspicions.specs.declared.evidence.Evidence.TheVariants.{Symbols, Distances};
 ghost use Rattle.suspicions.specs.internal.Marks.{AreMarks, is_unmarked};
 
+use crate::evidence::Evidence;
 use crate::leads::{branch_of, jump, next_of};
-use aout_core::{File, Segment, Symbol};
-use disassemblies::unix_line_in;
-use instructions::{Decoder, Instruction, Line, UnixLine, is_relocated};
+use aout_core::{File, Reloc, Segment, Symbol};
+use disassemblies::{is_start, unix_line_in};
+use instructions::{Addressing, Decoder, Instruction, Line, Operand, UnixLine, is_relocated};
 use std::alloc::{AllocError, Global};
 
 /// Whether a place is marked.
@@ -105,8 +110,93 @@ fn visit_symbols(
     Ok(())
 }
 
+/// Whether an operand counts from the pc.
+pub(crate) fn counts_from_pc(addressing: Addressing) -> bool
+    ensures { result ≡ counts_from_pc addressing }
+{
+    match addressing {
+        Addressing::Relative | Addressing::RelativeDeferred => true,
+        _ => false,
+    }
+}
+
+/// Whether an operand word counts from the pc, and is relocated so.
+fn is_distance(reloc: Option<Reloc>, addressing: Option<Addressing>) -> bool
+    ensures { result ≡ is_distance reloc addressing }
+{
+    match (reloc, addressing) {
+        (Some(reloc), Some(addressing)) => {
+            is_relocated(Some(reloc)) && reloc.is_pc() && counts_from_pc(addressing)
+        }
+        _ => false,
+    }
+}
+
+/// Whether an operand has such a word at a place.
+fn has_distance(file: &File, place: usize, operand: Option<Operand>) -> bool
+    ensures { result ≡ has_distance file.now place operand }
+{
+    match operand {
+        Some(Operand::General(mode, register)) => {
+            let reloc = file.text_reloc().get(place).copied();
+            is_distance(reloc, mode.addressing(register))
+        }
+        _ => false,
+    }
+}
+
+/// Whether the line at a place has such a word.
+fn is_shown(file: &File, place: usize, line: &UnixLine) -> bool
+    requires { place < 32768 }
+    ensures { result ≡ is_shown_by file.now place line.now }
+{
+    match line {
+        UnixLine::Machine(Line::Decoded(instruction, _, _)) => {
+            let later = place + 1 + instruction.words_before_second();
+            has_distance(file, place + 1, instruction.first)
+                || has_distance(file, later, instruction.second)
+        }
+        UnixLine::Machine(Line::Plain(_)) | UnixLine::Call(_) => false,
+    }
+}
+
+/// The address of a place at which a line begins that has such a word.
+fn shown(file: &File, starts: &[bool], place: usize) -> Option<u16>
+    requires inside { place < length file.now.text_words }
+    requires starts { starts.now ≡ lines.starts Unix file.now }
+    ensures { result ≡ shown file.now place }
+{
+    let _words = file.text_words();
+    if is_start(starts, place) && is_shown(file, place, &unix_line_in(Decoder::Unix, file, place)) {
+        Some((2 * place) as u16)
+    } else {
+        None
+    }
+}
+
+/// Notes the places of the lines that have such words.
+fn visit_distances(
+    marks: &mut [bool],
+    found: &mut Vec<usize>,
+    file: &File,
+    starts: &[bool],
+) -> Result<(), AllocError>
+    requires starts { starts.now ≡ lines.starts Unix file.now }
+    requires marks { AreMarks marks.old found.old.items }
+    ensures found { OnOk result (found.new.items ≡ visited_all (length marks.old) found.old.items (evident Distances file.now)) }
+    ensures marks { OnOk result (AreMarks marks.new found.new.items) }
+    ensures same { length marks.new ≡ length marks.old }
+{
+    let words = file.text_words();
+    for (place, _) in words.iter().enumerate() {
+        visit(marks, found, shown(file, starts, place))?;
+    }
+    Ok(())
+}
+
 /// The addresses to which an instruction at a place may lead.
 fn decoded_leads(
+    evidence: Evidence,
     file: &File,
     place: usize,
     instruction: Instruction,
@@ -114,14 +204,14 @@ fn decoded_leads(
     other: Option<u16>,
 ) -> [Option<u16>; 5]
     requires { place + unix_length (Machine (Decoded instruction word other)) < 32768 }
-    ensures { result ≡ leads_by file.now place (Machine (Decoded instruction word other)) }
+    ensures { result ≡ leads_by evidence file.now place (Machine (Decoded instruction word other)) }
 {
     let line = UnixLine::Machine(Line::Decoded(instruction, word, other));
     let address = (2 * place) as u16;
     let operation = instruction.row.operation;
     let later = place + 1 + instruction.words_before_second();
     [
-        next_of(place, &line),
+        next_of(evidence, place, &line),
         branch_of(address, instruction.first),
         branch_of(address, instruction.second),
         jump(file, operation, place + 1, instruction.first, word),
@@ -133,12 +223,13 @@ fn decoded_leads(
 fn visit_leads(
     marks: &mut [bool],
     found: &mut Vec<usize>,
+    evidence: Evidence,
     file: &File,
     place: usize,
 ) -> Result<(), AllocError>
     requires inside { place < length file.now.text_words }
     requires marks { AreMarks marks.old found.old.items }
-    ensures found { OnOk result (found.new.items ≡ visited_all (length marks.old) found.old.items (leads_to file.now place)) }
+    ensures found { OnOk result (found.new.items ≡ visited_all (length marks.old) found.old.items (leads_to evidence file.now place)) }
     ensures marks { OnOk result (AreMarks marks.new found.new.items) }
     ensures same { length marks.new ≡ length marks.old }
 {
@@ -148,18 +239,27 @@ fn visit_leads(
         UnixLine::Machine(Line::Decoded(instruction, word, other)) => visit_all(
             marks,
             found,
-            &decoded_leads(file, place, instruction, word, other),
+            &decoded_leads(evidence, file, place, instruction, word, other),
         ),
-        UnixLine::Machine(Line::Plain(_)) => visit_all(marks, found, &[next_of(place, &line)]),
-        UnixLine::Call(_) => visit_all(marks, found, &[next_of(place, &line)]),
+        UnixLine::Machine(Line::Plain(_)) => visit_all(
+            marks,
+            found,
+            &[next_of(evidence, place, &line)],
+        ),
+        UnixLine::Call(_) => visit_all(marks, found, &[next_of(evidence, place, &line)]),
     }
 }
 
 /// Notes the places to which the places lead that have been found, and so on.
-fn spread(marks: &mut [bool], found: &mut Vec<usize>, file: &File) -> Result<(), AllocError>
+fn spread(
+    marks: &mut [bool],
+    found: &mut Vec<usize>,
+    evidence: Evidence,
+    file: &File,
+) -> Result<(), AllocError>
     requires all { length marks.old ≡ length file.now.text_words }
     requires marks { AreMarks marks.old found.old.items }
-    ensures found { OnOk result (found.new.items ≡ spread file.now (length file.now.text_words) 0 found.old.items) }
+    ensures found { OnOk result (found.new.items ≡ spread evidence file.now (length file.now.text_words) 0 found.old.items) }
     ensures marks { OnOk result (AreMarks marks.new found.new.items) }
 {
     for next in 0..file.text_words().len() {
@@ -167,18 +267,31 @@ fn spread(marks: &mut [bool], found: &mut Vec<usize>, file: &File) -> Result<(),
             return Ok(());
         }
         let place = found[next];
-        visit_leads(marks, found, file, place)?;
+        visit_leads(marks, found, evidence, file, place)?;
     }
     Ok(())
 }
 
-/// For each word of a file's text, whether it is reached. An error: out of memory. (own choice)
+/// For each word of a file's text, whether its symbols show that it is reached. An error: out of memory. (own choice)
 pub fn reached_places(alloc: Global, file: &File) -> Result<Vec<bool>, AllocError>
-    ensures { IfOk result (λ marks. (place : ℕ) → get_or marks.items place false ≡ is_reached file.now place) }
+    ensures { IfOk result (λ marks. (place : ℕ) → get_or marks.items place false ≡ is_reached Symbols file.now place) }
 {
     let mut marks = vec![in alloc; false; file.text_words().len()]?;
     let mut found = Vec::new(alloc);
     visit_symbols(&mut marks, &mut found, file, file.symbols())?;
-    spread(&mut marks, &mut found, file)?;
+    spread(&mut marks, &mut found, Evidence::Symbols, file)?;
+    Ok(marks)
+}
+
+/// For each word of a file's text, whether its distances show that it is reached, by what `line_starts` gives for Unix. An error: out
+/// of memory. (own choice)
+pub fn sure_places(alloc: Global, file: &File, starts: &[bool]) -> Result<Vec<bool>, AllocError>
+    requires { starts.now ≡ lines.starts Unix file.now }
+    ensures { IfOk result (λ marks. (place : ℕ) → get_or marks.items place false ≡ is_reached Distances file.now place) }
+{
+    let mut marks = vec![in alloc; false; file.text_words().len()]?;
+    let mut found = Vec::new(alloc);
+    visit_distances(&mut marks, &mut found, file, starts)?;
+    spread(&mut marks, &mut found, Evidence::Distances, file)?;
     Ok(marks)
 }

@@ -1,17 +1,24 @@
 //! What is suspicious in a text.
-ghost use Rattle.std.specs.Prelude.{◌≡◌, ◌+◌, ◌^◌, ◌<◌, ◌&&◌, ◌++◌, ℕ, false, Some, length, get_or, slice_get, IfOk};
+ghost use Rattle.std.specs.Prelude.{◌≡◌, ◌+◌, ◌*◌, ◌^◌, ◌<◌, ◌&&◌, ◌++◌, ℕ, false, Some, length, drop, get_or, slice_get, IfOk};
 ghost use Rattle.aout_core.specs.WellFormed.{is_pc_relative};
 ghost use Rattle.instructions.specs.declared.unix.Decoder.TheVariants.{Unix};
-ghost use Rattle.instructions.specs.Instructions.{word_count_of};
+ghost use Rattle.instructions.specs.Instructions.{instruction_of, word_count_of};
 ghost use Rattle.instructions.specs.Relocated.{is_relocated};
 ghost use Rattle.disassemblies.specs.Starts.{starts, is_start};
 ghost use Rattle.findings.specs.Found.{all_found, Finds, Holds};
-ghost use Rattle.suspicions.specs.Reached.{is_reached};
-ghost use Rattle.suspicions.specs.SuspicionTexts.{doubt_text, relocated_first_text, bit_text, pc_bit_text, pc_bit_in};
-ghost use Rattle.suspicions.specs.Suspicions.{counts_from_pc, reloc_place, may_begin, suspicious_first, differ, suspicious_bit, suspicious_by, suspicious_operand};
-ghost use Rattle.suspicions.specs.Suspicions.{suspicious_line, suspicious_at, suspicious_place, suspicious_words, suspicions};
+ghost use Rattle.suspicions.specs.declared.evidence.Evidence.TheVariants.{Symbols};
+ghost use Rattle.suspicions.specs.Reached.{counts_from_pc, branch_of, is_reached};
+ghost use Rattle.suspicions.specs.Trust.{is_sure, past_place, sure_ahead, trust};
+ghost use Rattle.suspicions.specs.Branches.{suspicious_branch};
+ghost use Rattle.suspicions.specs.SuspicionTexts.{relocated_first_text, bit_text, pc_bit_text, pc_bit_in, cut_text, no_instruction_text};
+ghost use Rattle.suspicions.specs.Suspicions.{reloc_place, may_begin, suspicious_first, differ, suspicious_bit, suspicious_by, suspicious_operand};
+ghost use Rattle.suspicions.specs.Suspicions.{suspicious_lack, suspicious_plain, suspicious_line, suspicious_at, suspicious_place, suspicious_words, suspicions};
 
-use crate::reached::{is_marked, reached_places};
+use crate::branches::{find_branch, word_place};
+use crate::leads::branch_of;
+use crate::reached::{counts_from_pc, is_marked, reached_places, sure_places};
+use crate::suspect::{Suspect, doubt_text};
+use crate::trust::{Trust, past_place, sure_ahead};
 use aout_core::{File, Reloc};
 use disassemblies::{NamedFile, is_start, line_starts, unix_line_in};
 use findings::{FilePlaces, Finding, FindingKind, Findings, put_instruction};
@@ -20,25 +27,6 @@ use instructions::{
 };
 use std::alloc::{AllocError, Global};
 use texts::Text;
-
-/// A line of a file's text: the place at which it begins, and whether it is reached.
-#[derive(Clone, Copy)]
-struct Suspect<'a> {
-    file: &'a NamedFile<'a>,
-    start: usize,
-    is_sure: bool,
-}
-
-/// What is said of a line that may be of data.
-fn doubt_text(is_sure: bool) -> &'static str
-    ensures { result.now ≡ doubt_text is_sure }
-{
-    if is_sure {
-        ""
-    } else {
-        ", if this is an instruction"
-    }
-}
 
 /// A text that the first word of an instruction at an address is relocated.
 #[tactic(auto, unfolding(crate::specs::SuspicionTexts::relocated_first_text))]
@@ -79,9 +67,9 @@ fn pc_bit_text(findings: &Findings, address: u32, is_set: bool, is_sure: bool) -
 /// The same of a word at a place of a line, with the instruction.
 fn pc_bit_in(findings: &Findings, at: &Suspect<'_>, place: usize, is_set: bool) -> Text
     requires { place < 2 ^ 20 }
-    ensures { Holds result (pc_bit_in at.now.file.now at.now.start place is_set at.now.is_sure) }
+    ensures { Holds result (pc_bit_in at.now.file.now at.now.start place is_set at.now.trust.is_reached) }
 {
-    let mut text = pc_bit_text(findings, (2 * place) as u32, is_set, at.is_sure);
+    let mut text = pc_bit_text(findings, (2 * place) as u32, is_set, at.trust.is_reached);
     put_instruction(&mut text, at.file, at.start);
     text
 }
@@ -114,27 +102,19 @@ fn may_begin(file: &File, place: usize) -> bool
 /// Adds a plain word, if it is relocated.
 fn find_first(findings: &mut Findings, at: &Suspect<'_>)
     requires { at.now.start < length at.now.file.now.text_words }
-    ensures { Finds findings.old findings.new (suspicious_first at.now.file.now at.now.is_sure at.now.start) }
+    ensures { Finds findings.old findings.new (suspicious_first at.now.file.now at.now.trust.is_reached at.now.start) }
 {
     let file = at.file.file();
     let _words = file.text_words();
-    if is_relocated(reloc_at(file, at.start)) && (at.is_sure || may_begin(file, at.start)) {
-        let text = relocated_first_text(findings, (2 * at.start) as u32, at.is_sure);
+    if is_relocated(reloc_at(file, at.start))
+        && (at.trust.is_reached || may_begin(file, at.start))
+    {
+        let text = relocated_first_text(findings, (2 * at.start) as u32, at.trust.is_reached);
         findings.find(
             reloc_place(file, at.start),
             FindingKind::RelocatedFirstWord,
             text,
         );
-    }
-}
-
-/// Whether an operand counts from the pc.
-fn counts_from_pc(addressing: Addressing) -> bool
-    ensures { result ≡ counts_from_pc addressing }
-{
-    match addressing {
-        Addressing::Relative | Addressing::RelativeDeferred => true,
-        _ => false,
     }
 }
 
@@ -148,7 +128,7 @@ fn is_unsuitable(reloc: Reloc, addressing: Addressing) -> bool
 /// Adds an operand word at a place whose pc bit does not suit its operand.
 fn find_bit(findings: &mut Findings, at: &Suspect<'_>, place: usize, addressing: Addressing)
     requires { place < 2 ^ 20 }
-    ensures { Finds findings.old findings.new (suspicious_bit at.now.file.now at.now.is_sure at.now.start place addressing (slice_get at.now.file.now.text_reloc place)) }
+    ensures { Finds findings.old findings.new (suspicious_bit at.now.file.now at.now.trust.is_reached at.now.start place addressing (slice_get at.now.file.now.text_reloc place)) }
 {
     let file = at.file.file();
     let Some(reloc) = reloc_at(file, place) else {
@@ -163,7 +143,7 @@ fn find_bit(findings: &mut Findings, at: &Suspect<'_>, place: usize, addressing:
 /// Adds what is suspicious of an operand; its word, if it has one, is at a place.
 fn find_operand(findings: &mut Findings, at: &Suspect<'_>, place: usize, operand: Option<Operand>)
     requires { place < 2 ^ 20 }
-    ensures { Finds findings.old findings.new (suspicious_operand at.now.file.now at.now.is_sure at.now.start place operand) }
+    ensures { Finds findings.old findings.new (suspicious_operand at.now.file.now at.now.trust.is_reached at.now.start place operand) }
 {
     let Some(Operand::General(mode, register)) = operand else {
         return;
@@ -174,12 +154,64 @@ fn find_operand(findings: &mut Findings, at: &Suspect<'_>, place: usize, operand
     find_bit(findings, at, place, addressing);
 }
 
-/// Adds what is suspicious of an instruction.
+/// A text that the instruction at an address is cut.
+#[tactic(auto, unfolding(crate::specs::SuspicionTexts::cut_text))]
+fn cut_text(findings: &Findings, address: u32) -> Text
+    ensures { Holds result (cut_text address) }
+{
+    let mut text = findings.text();
+    text.put("the instruction at ");
+    text.put_six_digits(address);
+    text.put(" is cut by the end of the text");
+    text
+}
+
+/// A text that no instruction begins at an address to which one leads.
+#[tactic(auto, unfolding(crate::specs::SuspicionTexts::no_instruction_text))]
+fn no_instruction_text(findings: &Findings, address: u32) -> Text
+    ensures { Holds result (no_instruction_text address) }
+{
+    let mut text = findings.text();
+    text.put("an instruction leads to ");
+    text.put_six_digits(address);
+    text.put(", where none begins");
+    text
+}
+
+/// Adds a plain word to which an instruction leads.
+fn find_lack(findings: &mut Findings, at: &Suspect<'_>, word: u16)
+    requires { at.now.start < length at.now.file.now.text_words }
+    ensures { Finds findings.old findings.new (suspicious_lack at.now.start (instruction_of word)) }
+{
+    let _words = at.file.file().text_words();
+    let address = (2 * at.start) as u32;
+    if Instruction::from_first_word(word).is_some() {
+        let text = cut_text(findings, address);
+        findings.find(word_place(at), FindingKind::CutInstruction, text);
+    } else {
+        let text = no_instruction_text(findings, address);
+        findings.find(word_place(at), FindingKind::NoInstruction, text);
+    }
+}
+
+/// Adds what is suspicious of a plain word.
+fn find_plain(findings: &mut Findings, at: &Suspect<'_>, word: u16)
+    requires { at.now.start < length at.now.file.now.text_words }
+    ensures { Finds findings.old findings.new (suspicious_plain at.now.file.now at.now.trust at.now.start word) }
+{
+    if is_relocated(reloc_at(at.file.file(), at.start)) {
+        find_first(findings, at);
+    } else if at.trust.is_sure {
+        find_lack(findings, at, word);
+    }
+}
+
+/// Adds what is suspicious of the operand words of an instruction.
 fn find_operands(findings: &mut Findings, at: &Suspect<'_>, instruction: &Instruction)
     requires { at.now.start < 2 ^ 19 }
     ensures { Finds findings.old findings.new
-        (suspicious_operand at.now.file.now at.now.is_sure at.now.start (at.now.start + 1) instruction.now.first
-        ++ suspicious_operand at.now.file.now at.now.is_sure at.now.start (at.now.start + 1 + word_count_of instruction.now.first) instruction.now.second) }
+        (suspicious_operand at.now.file.now at.now.trust.is_reached at.now.start (at.now.start + 1) instruction.now.first
+        ++ suspicious_operand at.now.file.now at.now.trust.is_reached at.now.start (at.now.start + 1 + word_count_of instruction.now.first) instruction.now.second) }
 {
     let place = at.start + 1;
     find_operand(findings, at, place, instruction.first);
@@ -191,58 +223,110 @@ fn find_operands(findings: &mut Findings, at: &Suspect<'_>, instruction: &Instru
     );
 }
 
+/// Adds what is suspicious of the branch that an instruction is.
+fn find_branches(findings: &mut Findings, at: &Suspect<'_>, instruction: &Instruction)
+    requires inside { at.now.start < length at.now.file.now.text_words }
+    requires sure { (i : ℕ) → get_or at.now.sure.now i false ≡ is_sure at.now.file.now i }
+    ensures { Finds findings.old findings.new
+        (suspicious_branch at.now.file.now at.now.trust at.now.start (branch_of (2 * at.now.start) instruction.now.first)
+        ++ suspicious_branch at.now.file.now at.now.trust at.now.start (branch_of (2 * at.now.start) instruction.now.second)) }
+{
+    let _words = at.file.file().text_words();
+    let address = (2 * at.start) as u16;
+    find_branch(findings, at, branch_of(address, instruction.first));
+    find_branch(findings, at, branch_of(address, instruction.second));
+}
+
 /// Adds what is suspicious of a line.
 fn find_line(findings: &mut Findings, at: &Suspect<'_>)
-    requires { at.now.start < length at.now.file.now.text_words }
-    ensures { Finds findings.old findings.new (suspicious_at at.now.file.now at.now.is_sure at.now.start) }
+    requires inside { at.now.start < length at.now.file.now.text_words }
+    requires sure { (i : ℕ) → get_or at.now.sure.now i false ≡ is_sure at.now.file.now i }
+    ensures { Finds findings.old findings.new (suspicious_at at.now.file.now at.now.trust at.now.start) }
 {
     let file = at.file.file();
     let _words = file.text_words();
     match unix_line_in(Decoder::Unix, file, at.start) {
-        UnixLine::Machine(Line::Plain(_)) => find_first(findings, at),
+        UnixLine::Machine(Line::Plain(word)) => find_plain(findings, at, word),
         UnixLine::Machine(Line::Decoded(instruction, _, _)) => {
             find_operands(findings, at, &instruction);
+            find_branches(findings, at, &instruction);
         }
         UnixLine::Call(_) => {}
     }
 }
 
-/// A file, and for each word of its text whether a line begins there, and whether it is reached.
+/// A file, and for each word of its text whether a line begins there, whether symbols or distances show that it is reached, and whether
+/// from there on a sure line comes before a plain word.
 #[derive(Clone, Copy)]
 struct Marked<'a> {
     file: &'a NamedFile<'a>,
     starts: &'a [bool],
     reached: &'a [bool],
+    sure: &'a [bool],
+    ahead: &'a [bool],
+}
+
+/// How far it is sure that the line at a place is an instruction, if going back from it a sure line comes before a plain word, or not.
+fn trust_at(marked: &Marked<'_>, before: bool, place: usize) -> Trust
+    requires reached { (i : ℕ) → get_or marked.now.reached.now i false ≡ is_reached Symbols marked.now.file.now i }
+    requires sure { (i : ℕ) → get_or marked.now.sure.now i false ≡ is_sure marked.now.file.now i }
+    requires ahead { (i : ℕ) → get_or marked.now.ahead.now i false ≡ sure_ahead marked.now.file.now i (drop i marked.now.file.now.text_words) }
+    ensures { result ≡ trust marked.now.file.now before place }
+{
+    let is_sure = is_marked(marked.sure, place);
+    Trust {
+        is_reached: is_marked(marked.reached, place) || is_sure,
+        is_between: before && is_marked(marked.ahead, place),
+        is_sure,
+    }
 }
 
 /// Adds what is suspicious at a place.
-fn find_place(findings: &mut Findings, marked: &Marked<'_>, place: usize)
+fn find_place(findings: &mut Findings, marked: &Marked<'_>, before: bool, place: usize)
     requires inside { place < length marked.now.file.now.text_words }
     requires starts { marked.now.starts.now ≡ starts Unix marked.now.file.now }
-    requires reached { (i : ℕ) → get_or marked.now.reached.now i false ≡ is_reached marked.now.file.now i }
+    requires reached { (i : ℕ) → get_or marked.now.reached.now i false ≡ is_reached Symbols marked.now.file.now i }
+    requires sure { (i : ℕ) → get_or marked.now.sure.now i false ≡ is_sure marked.now.file.now i }
+    requires ahead { (i : ℕ) → get_or marked.now.ahead.now i false ≡ sure_ahead marked.now.file.now i (drop i marked.now.file.now.text_words) }
     ensures { Finds findings.old findings.new
-        (suspicious_place marked.now.file.now (is_reached marked.now.file.now place) (is_start (starts Unix marked.now.file.now) place) place) }
+        (suspicious_place marked.now.file.now (trust marked.now.file.now before place) (is_start (starts Unix marked.now.file.now) place) place) }
 {
-    let is_sure = is_marked(marked.reached, place);
-    if is_sure || is_start(marked.starts, place) {
+    let trust = trust_at(marked, before, place);
+    if trust.is_reached || is_start(marked.starts, place) {
         let at = Suspect {
             file: marked.file,
+            sure: marked.sure,
             start: place,
-            is_sure,
+            trust,
         };
         find_line(findings, &at);
     }
 }
 
+/// Whether a sure line comes before a plain word, going back from the place after this one, by what is so at this one.
+fn before_next(marked: &Marked<'_>, before: bool, place: usize) -> bool
+    requires inside { place < length marked.now.file.now.text_words }
+    requires starts { marked.now.starts.now ≡ starts Unix marked.now.file.now }
+    requires sure { (i : ℕ) → get_or marked.now.sure.now i false ≡ is_sure marked.now.file.now i }
+    ensures { result ≡ past_place marked.now.file.now place before }
+{
+    let file = marked.file.file();
+    past_place(file, marked.starts, marked.sure, place, before)
+}
+
 /// Adds what is suspicious at each place.
 fn find_places(findings: &mut Findings, marked: &Marked<'_>)
     requires starts { marked.now.starts.now ≡ starts Unix marked.now.file.now }
-    requires reached { (i : ℕ) → get_or marked.now.reached.now i false ≡ is_reached marked.now.file.now i }
+    requires reached { (i : ℕ) → get_or marked.now.reached.now i false ≡ is_reached Symbols marked.now.file.now i }
+    requires sure { (i : ℕ) → get_or marked.now.sure.now i false ≡ is_sure marked.now.file.now i }
+    requires ahead { (i : ℕ) → get_or marked.now.ahead.now i false ≡ sure_ahead marked.now.file.now i (drop i marked.now.file.now.text_words) }
     ensures { Finds findings.old findings.new (suspicions marked.now.file.now) }
 {
     let words = marked.file.file().text_words();
+    let mut before = false;
     for (place, _) in words.iter().enumerate() {
-        find_place(findings, marked, place);
+        find_place(findings, marked, before, place);
+        before = before_next(marked, before, place);
     }
 }
 
@@ -254,11 +338,15 @@ pub fn suspicions_of(alloc: Global, file: &File) -> Result<Vec<Finding>, AllocEr
     let mut findings = Findings::new(alloc);
     let starts = line_starts(alloc, Decoder::Unix, file)?;
     let reached = reached_places(alloc, file)?;
+    let sure = sure_places(alloc, file, &starts)?;
+    let ahead = sure_ahead(alloc, file, &starts, &sure)?;
     let named = NamedFile::new(alloc, file)?;
     let marked = Marked {
         file: &named,
         starts: &starts,
         reached: &reached,
+        sure: &sure,
+        ahead: &ahead,
     };
     find_places(&mut findings, &marked);
     findings.finish()

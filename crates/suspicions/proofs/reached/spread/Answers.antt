@@ -11,7 +11,7 @@ returns-then-next-len-clause-found c =
     let file = c.args.file.now in
     let found = c.loop-next.found.items in
     let none_left : length found ≤ c.loop-next.next = search rules in
-    sym (spread_all file (length file.text_words - c.loop-next.next) c.loop-next.next found none_left) ∙ c.loop-next.invariant.0
+    sym (spread_all c.args.evidence file (length file.text_words - c.loop-next.next) c.loop-next.next found none_left) ∙ c.loop-next.invariant.0
 
 pub visit_leads-requires-clause-inside : goal.visit_leads-requires-clause-inside
 visit_leads-requires-clause-inside c =
@@ -32,11 +32,12 @@ loop-next-preserved c =
     let inside : c.loop-next.next < length found = search rules in
     let below : c.loop-next.next < length file.text_words = search rules in
     let is : place ≡ slice_index found next = get_or_read found next place inside c.index-place.ensures 0 in
-    let led : c.visit_leads.new.found.items ≡ visited_all n found (leads_to file (slice_index found next)) =
+    let led : c.visit_leads.new.found.items ≡ visited_all n found (leads_to c.args.evidence file (slice_index found next)) =
     c.in_ok-visit_leads.ensures.found
-    ∙ ap (λ (k : ℕ). visited_all k found (leads_to file place)) c.loop-next.invariant.2
-    ∙ ap (λ (k : ℕ). visited_all n found (leads_to file k)) is in (
-      spread_more file n next found c.visit_leads.new.found.items (spread file n 0 c.args.found.now.items) below inside led c.loop-next.invariant.0,
+    ∙ ap (λ (k : ℕ). visited_all k found (leads_to c.args.evidence file place)) c.loop-next.invariant.2
+    ∙ ap (λ (k : ℕ). visited_all n found (leads_to c.args.evidence file k)) is in (
+      spread_more c.args.evidence file n next found c.visit_leads.new.found.items (spread c.args.evidence file n 0 c.args.found.now.items)
+          below inside led c.loop-next.invariant.0,
       c.in_ok-visit_leads.ensures.marks,
       c.visit_leads.ensures.same ∙ c.loop-next.invariant.2,
     )

@@ -1,0 +1,12 @@
+use Rattle.std.proofs.Common.{◌≡◌, drop, length}
+use Rattle.suspicions.specs.declared.evidence.Evidence.TheVariants.{Distances}
+use Rattle.suspicions.specs.Reached.{visited_all, shown_from, evident}
+use Rattle.suspicions.specs.internal.Marks.{AreMarks}
+use Rattle.suspicions.proofs.reached.visit_distances.Given as goal
+
+-- what the places that are left give, and the marks
+abbrev pub invariant-loop-place : goal.invariant-loop-place
+invariant-loop-place l =
+    (visited_all (length l.initial.marks) l.found.items (shown_from l.file l.place (drop l.place l.words))
+    ≡ visited_all (length l.initial.marks) l.initial.found.items (evident Distances l.file))
+    × AreMarks l.marks l.found.items
