@@ -4,7 +4,7 @@
 usage: notes.py V7_EXPLAIN
 
 The files are made, the same in each run: objects whose numbers lie at the edges of their ranges and beside them, one file cut
-at each byte, objects with 15 to 18 bad relocation words, and files with other magic numbers, flags and sizes.
+at each byte, objects with 15 to 18 bad relocation words, files with other magic numbers, flags and sizes, and objects of instructions.
 """
 import os
 import random
@@ -242,6 +242,26 @@ def random_file(text, data, magic=0o407, flag=0):
     return struct.pack("<%dH" % (8 + len(words)), *header, *words) + symbols + bytes(dice.choice([0, 0, 0, 1, 9]))
 
 
+# first words, and how many operand words or arguments they have
+CODE = [(0o016700, 1), (0o004767, 1), (0o026767, 2), (0o005077, 1), (0o012700, 1), (0o010100, 0), (0o005200, 0), (0o000207, 0)]
+CODE += [(0o000012, 0), (0o104404, 2), (0o104401, 0), (0o104001, 0), (0o000167, 1), (0o000137, 1), (0o000004, 0)]
+
+
+def random_code():
+    """An object of instructions: many branches, operand words that are relocated or not, and text symbols or none."""
+    words, relocation = [], []
+    for _ in range(dice.randrange(1, 16)):
+        offset = dice.choice([dice.randrange(-8, 9), dice.randrange(-8, 9), dice.randrange(-128, 128)]) % 256
+        branch = (dice.choice([0o000400, 0o001000, 0o001400, 0o100000]) + offset, 0)
+        first, more = dice.choice([branch, branch, (0o077000 + dice.randrange(12), 0), *CODE])
+        words += [first] + [near([0, 2 * len(words)]) for _ in range(more)]
+        relocation += [dice.choice([0] * 30 + [2, 9])] + [dice.choice([9, 9, 9, 0, 2, 3, 5, 8]) for _ in range(more)]
+    count = len(words) - dice.choice([0, 0, 0, 1, 2])
+    places = [2 * dice.randrange(len(words)) for _ in range(dice.randrange(3))]
+    symbols = [(b"_x", 0o40, 0), *((b"L%d" % place, dice.choice([2, 0o42]), place) for place in places)]
+    return Text(words[:count], relocation[:count], symbols).encoded()
+
+
 def files():
     whole = random_file(3, 2)
     yield from (whole[:size] for size in range(len(whole) + 1))
@@ -256,6 +276,7 @@ def files():
     # text and data of more than 65,536 bytes, the last words of which have relocation words of text and of data
     yield struct.pack("<8H", 0o407, 40000, 40000, 0, 0, 0, 0, 0) + bytes(159996) + b"\x22\0\x05\0"
     yield from (random_file(dice.randrange(9), dice.randrange(5)) for _ in range(1000))
+    yield from (random_code() for _ in range(1000))
 
 
 def explained(paths):

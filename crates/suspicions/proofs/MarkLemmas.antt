@@ -1,6 +1,7 @@
 -- Marks say which places have been found: with one place more, of the places that are new, and of the places in the text.
 use Rattle.std.proofs.Common.{◌≡◌, ℕ, ◌+◌, ◌/◌, ◌%◌, ◌<◌, ◌≤◌, Some, refl, sym, ap, ◌∙◌, inl, inr, arith}
-use Rattle.std.specs.Prelude.{Bool, true, false, not, ◌&&◌, ◌||◌, eqb, nat_lt, if◌then◌else◌, List, [], ◌∷◌, ◌++◌, length, set, get_or, replicate}
+use Rattle.std.specs.Prelude.{Bool, true, false, not, ◌&&◌, ◌||◌, eqb, nat_lt, if◌then◌else◌, List}
+use Rattle.std.specs.Prelude.{[], ◌∷◌, ◌++◌, length, set, get_or, replicate}
 use Rattle.std.specs.List.{list_any}
 use Rattle.std.proofs.lemmas.Bool.{cases_eq, cases_lt, eq-eqb, ne_eqb}
 use Rattle.std.proofs.lemmas.List.{get_or-set_same, get_or-set_other, get_or_past, get_or-replicate, length-replicate}
@@ -20,7 +21,8 @@ or-true false = refl
 pub none_marked : (n : ℕ) → AreMarks (replicate n false) []
 none_marked n i = elim (cases_lt i n) [
   | inl h ↦ get_or-replicate n i false false h
-  | inr h ↦ let all : length (replicate n false) ≤ i = omega (arith, length-replicate n false) in get_or_past (replicate n false) i false all
+  | inr h ↦ let all : length (replicate n false) ≤ i =
+      omega (arith, length-replicate n false) in get_or_past (replicate n false) i false all
 ]
 
 more_at : (marks : List Bool) (found : List ℕ) (place i : ℕ) → AreMarks marks found → place < length marks →
@@ -38,7 +40,8 @@ pub marks_more : (marks : List Bool) (found : List ℕ) (place : ℕ) → AreMar
 marks_more marks found place h inside i = more_at marks found place i h inside ∙ sym (list_any-append (eqb i) found (place ∷ []))
 
 -- a word is new if it is not marked
-new_same : (marks : List Bool) (found : List ℕ) (address : ℕ) → AreMarks marks found → is_unmarked marks address ≡ is_new (length marks) found address
+new_same : (marks : List Bool) (found : List ℕ) (address : ℕ) → AreMarks marks found →
+    is_unmarked marks address ≡ is_new (length marks) found address
 new_same marks found address h = ap (λ (b : Bool). eqb (address % 2) 0 && (nat_lt (address / 2) (length marks) && not b)) (h (address / 2))
 
 -- a new address
@@ -54,7 +57,8 @@ visited_old marks found address h is =
     sym (ap (λ (b : Bool). if b then found ++ address / 2 ∷ [] else found) (sym (new_same marks found address h) ∙ is))
 
 -- each place that has been found is one of the text
-pub found_inside : (marks : List Bool) (found : List ℕ) (next d : ℕ) → AreMarks marks found → next < length found → get_or found next d < length marks
+pub found_inside : (marks : List Bool) (found : List ℕ) (next d : ℕ) → AreMarks marks found → next < length found →
+    get_or found next d < length marks
 found_inside marks found next d h inside =
     let place : ℕ = get_or found next d in
     let marked : get_or marks place false ≡ true =

@@ -1,5 +1,6 @@
 -- The places that are found are those that are reached: each is, and none is missed, since there are no more than words of text.
-use Rattle.std.proofs.Common.{◌≡◌, ℕ, zero, suc, ◌+◌, ◌/◌, ◌%◌, ◌<◌, ◌≤◌, Option, Some, None, refl, sym, ap, ◌∙◌, inl, inr, arith, append_assoc}
+use Rattle.std.proofs.Common.{◌≡◌, ℕ, zero, suc, ◌+◌, ◌/◌, ◌%◌, ◌<◌, ◌≤◌, Option, Some, None, refl}
+use Rattle.std.proofs.Common.{sym, ap, ◌∙◌, inl, inr, arith, append_assoc}
 use Rattle.std.specs.Prelude.{Bool, true, false, not, ◌&&◌, ◌||◌, eqb, nat_lt, if◌then◌else◌, List, [], ◌∷◌, ◌++◌, length, map, slice_index}
 use Rattle.std.specs.List.{list_any, IsDistinct}
 use Rattle.std.proofs.lemmas.Bool.{cases_eq, eq-eqb, ne_eqb, eqb-true, ltb-true, ltb-false, lt-ltb, not-true, or_cases, and_parts, and_from}
@@ -72,7 +73,8 @@ visited_all_has n p found (o ∷ os) =
     ∙ in_either (has p found) (is_place p o) (list_any (is_place p) os) (nat_lt p n)
 
 -- a place to which one of the addresses leads has been found
-visited_led : (n p : ℕ) (found : List ℕ) (os : List (Option ℕ)) → list_any (is_place p) os ≡ true → p < n → has p (visited_all n found os) ≡ true
+visited_led : (n p : ℕ) (found : List ℕ) (os : List (Option ℕ)) → list_any (is_place p) os ≡ true → p < n →
+    has p (visited_all n found os) ≡ true
 visited_led n p found os led below =
     visited_all_has n p found os
     ∙ ap (λ (b : Bool). has p found || b) (and_from (list_any (is_place p) os) (nat_lt p n) led (lt-ltb p n below))
@@ -84,7 +86,8 @@ abbrev AreReached : Evidence → Contents → List ℕ → Type 0
 AreReached v c found = (p : ℕ) → has p found ≡ true → IsReached v c p
 
 more_reached : (v : Evidence) (c : Contents) (found : List ℕ) (os : List (Option ℕ)) → AreReached v c found →
-    ((p : ℕ) → p < length c.text_words → list_any (is_place p) os ≡ true → IsReached v c p) → AreReached v c (visited_all (length c.text_words) found os)
+    ((p : ℕ) → p < length c.text_words → list_any (is_place p) os ≡ true → IsReached v c p) →
+    AreReached v c (visited_all (length c.text_words) found os)
 more_reached v c found os before led p e =
     let n : ℕ = length c.text_words in
     elim (or_cases (has p found) (list_any (is_place p) os && nat_lt p n) (sym (visited_all_has n p found os) ∙ e)) [
@@ -94,9 +97,11 @@ more_reached v c found os before led p e =
     ]
 
 member_at : (found : List ℕ) (next : ℕ) → next < length found → has (slice_index found next) found ≡ true
-member_at found next h = list_any_at (eqb (slice_index found next)) found next 0 h (eq-eqb (slice_index found next) (slice_index found next) refl)
+member_at found next h =
+    list_any_at (eqb (slice_index found next)) found next 0 h (eq-eqb (slice_index found next) (slice_index found next) refl)
 
-spread_reached : (v : Evidence) (c : Contents) (more next : ℕ) (found : List ℕ) → AreReached v c found → AreReached v c (spread v c more next found)
+spread_reached : (v : Evidence) (c : Contents) (more next : ℕ) (found : List ℕ) → AreReached v c found →
+    AreReached v c (spread v c more next found)
 spread_reached v c zero next found before = before
 spread_reached v c (suc more) next found before =
     by (nat_lt next (length found)) refl
@@ -105,9 +110,11 @@ spread_reached v c (suc more) next found before =
     by : (t : Bool) → nat_lt next (length found) ≡ t →
         (AreReached v c (visited_all (length c.text_words) found (leads_to v c (slice_index found next))) →
         AreReached v c (spread v c more (next + 1) (visited_all (length c.text_words) found (leads_to v c (slice_index found next))))) →
-        AreReached v c (if t then spread v c more (next + 1) (visited_all (length c.text_words) found (leads_to v c (slice_index found next))) else found)
+        AreReached v c (if t then spread v c more (next + 1)
+        (visited_all (length c.text_words) found (leads_to v c (slice_index found next))) else found)
     by true e later = later (more_reached v c found (leads_to v c (slice_index found next)) before
-        (λ p below led. Led (slice_index found next) p (before (slice_index found next) (member_at found next (ltb-true next (length found) e))) below led))
+        (λ p below led. Led (slice_index found next) p
+        (before (slice_index found next) (member_at found next (ltb-true next (length found) e))) below led))
     by false e later = before
 
 none_found : (v : Evidence) (c : Contents) → AreReached v c []
@@ -141,7 +148,8 @@ visited_grows n found (Some a) = by (is_new n found a)
 visited_all_grows : (n : ℕ) (found : List ℕ) (os : List (Option ℕ)) → Grows found (visited_all n found os)
 visited_all_grows n found [] = grows_by found
 visited_all_grows n found (o ∷ os) =
-    grows_twice found (visited n found o) (visited_all n (visited n found o) os) (visited_grows n found o) (visited_all_grows n (visited n found o) os)
+    grows_twice found (visited n found o) (visited_all n (visited n found o) os) (visited_grows n found o)
+    (visited_all_grows n (visited n found o) os)
 
 grown_has : (p : ℕ) (old new : List ℕ) → Grows old new → has p old ≡ true → has p new ≡ true
 grown_has p old new (more, e) h =
@@ -164,7 +172,8 @@ visited_distinct n found (Some a) d = by (is_new n found a) refl
     by : (t : Bool) → is_new n found a ≡ t → IsDistinct eqb (if t then found ++ a / 2 ∷ [] else found)
     by true e =
         let new : not (has (a / 2) found) ≡ true =
-        (and_parts (nat_lt (a / 2) n) (not (has (a / 2) found)) (and_parts (eqb (a % 2) 0) (nat_lt (a / 2) n && not (has (a / 2) found)) e).1).1 in
+        (and_parts (nat_lt (a / 2) n) (not (has (a / 2) found))
+        (and_parts (eqb (a % 2) 0) (nat_lt (a / 2) n && not (has (a / 2) found)) e).1).1 in
         IsDistinct-push nat_eq_equiv found (a / 2) d (not-true (has (a / 2) found) new)
     by false e = d
 
@@ -184,8 +193,8 @@ visited_all_below n found os before p e =
 record Whole (v : Evidence) (c : Contents) (next : ℕ) (found : List ℕ) : Type 0 where
   distinct : IsDistinct eqb found
   below : (p : ℕ) → has p found ≡ true → p < length c.text_words
-  done : (j p : ℕ) → j < next → j < length found → p < length c.text_words → list_any (is_place p) (leads_to v c (slice_index found j)) ≡ true →
-      has p found ≡ true
+  done : (j p : ℕ) → j < next → j < length found → p < length c.text_words →
+      list_any (is_place p) (leads_to v c (slice_index found j)) ≡ true → has p found ≡ true
 
 next_whole : (v : Evidence) (c : Contents) (next : ℕ) (found : List ℕ) → Whole v c next found → next < length found →
     Whole v c (next + 1) (visited_all (length c.text_words) found (leads_to v c (slice_index found next)))
@@ -205,12 +214,15 @@ next_whole v c next found w inside =
             let earlier : j < next = omega arith in
             let early : j < length found = omega arith in
             grown_has p found new grows
-            (w.done j p earlier early below (sym (ap (λ (k : ℕ). list_any (is_place p) (leads_to v c k)) (grown_at found new j grows early)) ∙ led))
+            (w.done j p earlier early below
+            (sym (ap (λ (k : ℕ). list_any (is_place p) (leads_to v c k)) (grown_at found new j grows early)) ∙ led))
       ];
     }
 
 abbrev IsClosed : Evidence → Contents → List ℕ → Type 0
-IsClosed v c found = (q p : ℕ) → has q found ≡ true → p < length c.text_words → list_any (is_place p) (leads_to v c q) ≡ true → has p found ≡ true
+IsClosed v c found =
+    (q p : ℕ) → has q found ≡ true → p < length c.text_words → list_any (is_place p) (leads_to v c q) ≡ true →
+    has p found ≡ true
 
 whole_closed : (v : Evidence) (c : Contents) (next : ℕ) (found : List ℕ) → Whole v c next found → length found ≤ next → IsClosed v c found
 whole_closed v c next found w all q p member below led =
@@ -224,23 +236,27 @@ spread_closed v c zero next found w enough =
     whole_closed v c next found w (omega arith)
 spread_closed v c (suc more) next found w enough =
     by (nat_lt next (length found)) refl
-    (λ h. spread_closed v c more (next + 1) (visited_all (length c.text_words) found (leads_to v c (slice_index found next))) h (omega arith))
+    (λ h. spread_closed v c more (next + 1)
+    (visited_all (length c.text_words) found (leads_to v c (slice_index found next))) h (omega arith))
   where
     by : (t : Bool) → nat_lt next (length found) ≡ t →
         (Whole v c (next + 1) (visited_all (length c.text_words) found (leads_to v c (slice_index found next))) →
         IsClosed v c (spread v c more (next + 1) (visited_all (length c.text_words) found (leads_to v c (slice_index found next))))) →
-        IsClosed v c (if t then spread v c more (next + 1) (visited_all (length c.text_words) found (leads_to v c (slice_index found next))) else found)
+        IsClosed v c (if t then spread v c more (next + 1)
+        (visited_all (length c.text_words) found (leads_to v c (slice_index found next))) else found)
     by true e later = later (next_whole v c next found w (ltb-true next (length found) e))
     by false e later = whole_closed v c next found w (ltb-false next (length found) e)
 
 spread_grows : (v : Evidence) (c : Contents) (more next : ℕ) (found : List ℕ) → Grows found (spread v c more next found)
 spread_grows v c zero next found = grows_by found
 spread_grows v c (suc more) next found =
-    by (nat_lt next (length found)) (spread_grows v c more (next + 1) (visited_all (length c.text_words) found (leads_to v c (slice_index found next))))
+    by (nat_lt next (length found))
+    (spread_grows v c more (next + 1) (visited_all (length c.text_words) found (leads_to v c (slice_index found next))))
   where
     by : (t : Bool) → Grows (visited_all (length c.text_words) found (leads_to v c (slice_index found next)))
         (spread v c more (next + 1) (visited_all (length c.text_words) found (leads_to v c (slice_index found next)))) →
-        Grows found (if t then spread v c more (next + 1) (visited_all (length c.text_words) found (leads_to v c (slice_index found next))) else found)
+        Grows found (if t then spread v c more (next + 1)
+        (visited_all (length c.text_words) found (leads_to v c (slice_index found next))) else found)
     by true later =
         let os : List (Option ℕ) = leads_to v c (slice_index found next) in
         let new : List ℕ = visited_all (length c.text_words) found os in

@@ -14,9 +14,11 @@ use Rattle.suspicions.specs.Suspicions.{suspicious_place, suspicious_words}
 
 -- the next place, and those after it
 first : (e : Evidence) (c : Contents) (more next : ℕ) (found : List ℕ) → next < length found →
-    spread e c (suc more) next found ≡ spread e c more (next + 1) (visited_all (length c.text_words) found (leads_to e c (slice_index found next)))
+    spread e c (suc more) next found
+    ≡ spread e c more (next + 1) (visited_all (length c.text_words) found (leads_to e c (slice_index found next)))
 first e c more next found h =
-    ap (λ (b : Bool). if b then spread e c more (next + 1) (visited_all (length c.text_words) found (leads_to e c (slice_index found next))) else found)
+    ap (λ (b : Bool). if b then spread e c more (next + 1)
+    (visited_all (length c.text_words) found (leads_to e c (slice_index found next))) else found)
     (lt-ltb next (length found) h)
 
 pub spread_more : (e : Evidence) (c : Contents) (n next : ℕ) (found new whole : List ℕ) → next < n → next < length found →
@@ -32,7 +34,8 @@ spread_more e c n next found new whole inside h is so_far =
 pub spread_all : (e : Evidence) (c : Contents) (more next : ℕ) (found : List ℕ) → length found ≤ next → spread e c more next found ≡ found
 spread_all e c zero next found h = refl
 spread_all e c (suc more) next found h =
-    ap (λ (b : Bool). if b then spread e c more (next + 1) (visited_all (length c.text_words) found (leads_to e c (slice_index found next))) else found)
+    ap (λ (b : Bool). if b then spread e c more (next + 1)
+    (visited_all (length c.text_words) found (leads_to e c (slice_index found next))) else found)
     (le-ltb next (length found) h)
 
 -- what is suspicious at one place more

@@ -1,6 +1,8 @@
 -- If nothing is suspicious, an instruction begins at each sure place, and its branches are inside.
-use Rattle.std.proofs.Common.{◌≡◌, ℕ, zero, suc, ◌+◌, ◌-◌, ◌*◌, ◌/◌, ◌<◌, ◌≤◌, Option, Some, None, refl, sym, ap, ◌∙◌, subst, inl, inr, arith}
-use Rattle.std.specs.Prelude.{Bool, true, false, not, ◌&&◌, ◌||◌, eqb, nat_lt, if◌then◌else◌, List, [], ◌∷◌, ◌++◌, length, slice_get, slice_index}
+use Rattle.std.proofs.Common.{◌≡◌, ℕ, zero, suc, ◌+◌, ◌-◌, ◌*◌, ◌/◌, ◌<◌, ◌≤◌, Option, Some, None}
+use Rattle.std.proofs.Common.{refl, sym, ap, ◌∙◌, subst, inl, inr, arith}
+use Rattle.std.specs.Prelude.{Bool, true, false, not, ◌&&◌, ◌||◌, eqb, nat_lt, if◌then◌else◌, List}
+use Rattle.std.specs.Prelude.{[], ◌∷◌, ◌++◌, length, slice_get, slice_index}
 use Rattle.std.specs.List.{list_any}
 use Rattle.std.proofs.lemmas.Bool.{cases_lt, eqb-true, lt-ltb, le-ltb, ltb-false, or_cases}
 use Rattle.aout_core.specs.Contents.{Contents}
@@ -23,7 +25,9 @@ use Rattle.suspicions.specs.Reached.{branch_of, is_reached}
 use Rattle.suspicions.specs.ReachedLaw.{IsReached, Evident, Led}
 use Rattle.suspicions.specs.Trust.{is_sure, is_likely, is_plain, past_place, trust}
 use Rattle.suspicions.specs.Branches.{word_place, has_word_at, enters, entered_by, entered, suspicious_entry, suspicious_branch}
-use Rattle.suspicions.specs.Suspicions.{reloc_place, may_begin, suspicious_lack, suspicious_plain, suspicious_operand, suspicious_line, suspicious_at, suspicious_place, suspicious_words, suspicions}
+use Rattle.suspicions.specs.Suspicions.{reloc_place, may_begin, suspicious_lack, suspicious_plain, suspicious_operand}
+use Rattle.suspicions.specs.Suspicions.{suspicious_line, suspicious_at, suspicious_place, suspicious_words}
+use Rattle.suspicions.specs.Suspicions.{suspicions}
 use Rattle.suspicions.specs.SuspicionTexts.{relocated_first_text, outside_in}
 use Rattle.suspicions.specs.SureLaw.{targets, IsInside, AreInside, SureLaw}
 use Rattle.suspicions.proofs.ReachLemmas.{reached_places}
@@ -59,21 +63,21 @@ looked_at : (reached begins : Bool) (xs : List Found) → reached ≡ true → (
 looked_at true begins xs r e = e
 looked_at false begins xs r e = absurd cc
 
-lack_is_told : (place : ℕ) (o : Option Instruction) → suspicious_lack place o ≡ [] → ⊥
-lack_is_told place None e = absurd cc
-lack_is_told place (Some i) e = absurd cc
+lack_is_reported : (place : ℕ) (o : Option Instruction) → suspicious_lack place o ≡ [] → ⊥
+lack_is_reported place None e = absurd cc
+lack_is_reported place (Some i) e = absurd cc
 
 -- a plain word at a sure place is suspicious
-plain_is_told : (moves reached sure begins : Bool) (first : Found) (lack : List Found) → reached ≡ true → sure ≡ true → (lack ≡ [] → ⊥) →
+plain_is_reported : (moves reached sure begins : Bool) (first : Found) (lack : List Found) → reached ≡ true → sure ≡ true → (lack ≡ [] → ⊥) →
     (if moves then (if moves && (reached || begins) then first ∷ [] else []) else (if sure then lack else [])) ≡ [] → ⊥
-plain_is_told true true sure begins first lack r s l e = absurd cc
-plain_is_told true false sure begins first lack r s l e = absurd cc
-plain_is_told false reached true begins first lack r s l e = l e
-plain_is_told false reached false begins first lack r s l e = absurd cc
+plain_is_reported true true sure begins first lack r s l e = absurd cc
+plain_is_reported true false sure begins first lack r s l e = absurd cc
+plain_is_reported false reached true begins first lack r s l e = l e
+plain_is_reported false reached false begins first lack r s l e = absurd cc
 
 -- no line that was looked at has the word
-none_enters : (c : Contents) (place : ℕ) (backs : List ℕ) → entered_by c place backs ≡ None → (back : ℕ) → list_any (eqb back) backs ≡ true →
-    enters c place back ≡ false
+none_enters : (c : Contents) (place : ℕ) (backs : List ℕ) → entered_by c place backs ≡ None → (back : ℕ) →
+    list_any (eqb back) backs ≡ true → enters c place back ≡ false
 none_enters c place [] e back h = absurd cc
 none_enters c place (b ∷ bs) e back h = by (enters c place b) refl e (λ n m. none_enters c place bs n back m)
   where
@@ -122,11 +126,14 @@ ends_before c place none start r before = elim (cases_lt place (start + unix_len
       let short : unix_length (unix_line_in Unix c start) ≤ 5 = line_short c start in
       let back : ℕ = place - start in
       let same : place - back ≡ start = omega arith in
-      let out : enters c place back ≡ false = none_enters c place (1 ∷ 2 ∷ 3 ∷ 4 ∷ []) none back (is_back back (omega arith) (omega arith)) in
+      let out : enters c place back ≡ false =
+      none_enters c place (1 ∷ 2 ∷ 3 ∷ 4 ∷ []) none back (is_back back (omega arith) (omega arith)) in
       let there : (not (nat_lt place back) && has_word_at c start back) ≡ false =
       sym (ap (λ (k : ℕ). not (nat_lt place back) && has_word_at c k back) same) ∙ out in
-      absurd (all_hold (nat_lt place back) (nat_lt start (length c.text_words)) (is_sure c start) (nat_lt back (unix_length (unix_line_in Unix c start)))
-      (le-ltb place back (omega arith)) (lt-ltb start (length c.text_words) (place_below c start r)) ((reached_places Distances c start).1 r)
+      absurd (all_hold (nat_lt place back) (nat_lt start (length c.text_words)) (is_sure c start)
+      (nat_lt back (unix_length (unix_line_in Unix c start)))
+      (le-ltb place back (omega arith)) (lt-ltb start (length c.text_words) (place_below c start r))
+      ((reached_places Distances c start).1 r)
       (lt-ltb back (unix_length (unix_line_in Unix c start)) (omega arith)) there)
 ]
 
@@ -134,7 +141,7 @@ entry_none : (c : Contents) (t : Trust) (place target : ℕ) (o : Option ℕ) �
 entry_none c t place target None e = refl
 entry_none c t place target (Some s) e = absurd cc
 
--- what is told of a branch out of the text
+-- what is reported of a branch out of the text
 abbrev outside : Contents → Trust → ℕ → ℕ → Found
 outside c t place target = record { place = word_place place; kind = BranchOutside; text = outside_in c place target t.is_sure }
 
@@ -143,7 +150,7 @@ abbrev first_word : Contents → Trust → ℕ → Found
 first_word c t place =
     record { place = reloc_place c place; kind = RelocatedFirstWord; text = relocated_first_text (2 * place) t.is_reached }
 
--- nothing is told of a branch that is looked at
+-- nothing is reported of a branch that is looked at
 quiet : (out likely : Bool) (x : Found) (xs : List Found) → likely ≡ true → (if likely then (if out then x ∷ [] else xs) else []) ≡ [] →
     (out ≡ false) × (xs ≡ [])
 quiet false true x xs l e = (refl, e)
@@ -159,19 +166,26 @@ branch_inside c t place (Some target) s e =
     quiet (nat_lt size target) (is_likely t) (outside c t place target) entry (true-or t.is_sure (t.is_reached && t.is_between) s) e in
     (ltb-false size target parts.0, ends_before c (target / 2) (entry_none c t place target (entered c (target / 2)) parts.1))
 
-line_inside : (c : Contents) (t : Trust) (place : ℕ) (line : UnixLine) → t.is_sure ≡ true → t.is_reached ≡ true → suspicious_line c t place line ≡ [] →
-    (is_plain line ≡ false) × AreInside c (targets place line)
+line_inside : (c : Contents) (t : Trust) (place : ℕ) (line : UnixLine) → t.is_sure ≡ true → t.is_reached ≡ true →
+    suspicious_line c t place line ≡ [] → (is_plain line ≡ false) × AreInside c (targets place line)
 line_inside c t place (Machine (Plain w)) s r e =
     let lack : List Found = suspicious_lack place (instruction_of w) in
     let moves : Bool = is_relocated (slice_get c.text_reloc place) in
-    absurd (plain_is_told moves t.is_reached t.is_sure (may_begin c place) (first_word c t place) lack r s (lack_is_told place (instruction_of w)) e)
+    absurd (plain_is_reported moves t.is_reached t.is_sure (may_begin c place) (first_word c t place) lack r s
+    (lack_is_reported place (instruction_of w)) e)
 line_inside c t place (Machine (Decoded i a b)) s r e =
     let operands : List Found =
-    suspicious_operand c t.is_reached place (place + 1) i.first ++ suspicious_operand c t.is_reached place (place + 1 + word_count_of i.first) i.second in
+    suspicious_operand c t.is_reached place (place + 1) i.first
+    ++ suspicious_operand c t.is_reached place (place + 1 + word_count_of i.first) i.second in
     let first : List Found = suspicious_branch c t place (branch_of (2 * place) i.first) in
     let second : List Found = suspicious_branch c t place (branch_of (2 * place) i.second) in
-    let both : (first ≡ []) × (second ≡ []) = nil_parts first second (nil_parts operands (first ++ second) e).1 in
-    (refl, (branch_inside c t place (branch_of (2 * place) i.first) s both.0, (branch_inside c t place (branch_of (2 * place) i.second) s both.1, tt)))
+    let both : (first ≡ []) × (second ≡ []) = nil_parts first second (nil_parts operands (first ++ second) e).1 in (
+      refl,
+      (
+        branch_inside c t place (branch_of (2 * place) i.first) s both.0,
+        (branch_inside c t place (branch_of (2 * place) i.second) s both.1, tt),
+      ),
+    )
 line_inside c t place (Call k) s r e = (refl, tt)
 
 pub sure_places : SureLaw

@@ -17,13 +17,14 @@ none_ahead c n h i above =
     get_or_past (replicate n false) i false past ∙ sym (end_ahead c i (omega arith))
 
 -- one place before
-pub here_ahead : (c : Contents) (place : ℕ) (b later : Bool) → place < length c.text_words → later ≡ sure_ahead c (place + 1) (drop (place + 1) c.text_words) →
+pub here_ahead : (c : Contents) (place : ℕ) (b later : Bool) → place < length c.text_words →
+    later ≡ sure_ahead c (place + 1) (drop (place + 1) c.text_words) →
     b ≡ past_place c place later → b ≡ sure_ahead c place (drop place c.text_words)
 here_ahead c place b later inside rest is =
     is ∙ ap (past_place c place) rest ∙ ap (λ (l : List ℕ). sure_ahead c place l) (sym (drop_more c.text_words place 0 inside))
 
-pub more_ahead : (c : Contents) (ahead : List Bool) (place : ℕ) (b : Bool) → place < length ahead → b ≡ sure_ahead c place (drop place c.text_words) →
-    IsAhead c ahead (place + 1) → IsAhead c (set ahead place b) place
+pub more_ahead : (c : Contents) (ahead : List Bool) (place : ℕ) (b : Bool) → place < length ahead →
+    b ≡ sure_ahead c place (drop place c.text_words) → IsAhead c ahead (place + 1) → IsAhead c (set ahead place b) place
 more_ahead c ahead place b inside is later i above = elim (cases_eq i place) [
   | inl e ↦ ap (λ (k : ℕ). get_or (set ahead place b) k false) e ∙ get_or-set_same ahead place b false inside
       ∙ is ∙ sym (ap (λ (k : ℕ). sure_ahead c k (drop k c.text_words)) e)

@@ -156,7 +156,8 @@ has_distance c place _ = false
 
 -- the line at a place has such a word
 abbrev pub is_shown_by : Contents → ℕ → UnixLine → Bool
-is_shown_by c place (Machine (Decoded i a b)) = has_distance c (place + 1) i.first || has_distance c (place + 1 + word_count_of i.first) i.second
+is_shown_by c place (Machine (Decoded i a b)) =
+    has_distance c (place + 1) i.first || has_distance c (place + 1 + word_count_of i.first) i.second
 is_shown_by c place line = false
 
 -- the address of a place at which such a line begins
@@ -177,7 +178,8 @@ evident Distances c = shown_from c 0 c.text_words
 abbrev pub spread : Evidence → Contents → ℕ → ℕ → List ℕ → List ℕ
 spread e c zero next found = found
 spread e c (suc more) next found =
-    if nat_lt next (length found) then spread e c more (next + 1) (visited_all (length c.text_words) found (leads_to e c (slice_index found next))) else found
+    if nat_lt next (length found) then spread e c more (next + 1)
+    (visited_all (length c.text_words) found (leads_to e c (slice_index found next))) else found
 
 -- the places that are reached, in the order in which they are found
 abbrev pub reached : Evidence → Contents → List ℕ

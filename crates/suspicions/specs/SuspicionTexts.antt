@@ -11,7 +11,8 @@ doubt_text false = codes ", if this is an instruction"
 
 -- the word at an address is relocated, and begins a line
 unfoldable pub relocated_first_text : ℕ → Bool → List ℕ
-relocated_first_text address is_sure = codes "the first word of the instruction at " ++ six_digits address ++ codes " is relocated" ++ doubt_text is_sure
+relocated_first_text address is_sure =
+    codes "the first word of the instruction at " ++ six_digits address ++ codes " is relocated" ++ doubt_text is_sure
 
 abbrev pub bit_text : Bool → List ℕ
 bit_text true = codes " is set, and its operand does not count from the pc"

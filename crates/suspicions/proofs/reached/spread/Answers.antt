@@ -11,7 +11,8 @@ returns-then-next-len-clause-found c =
     let file = c.args.file.now in
     let found = c.loop-next.found.items in
     let none_left : length found ≤ c.loop-next.next = search rules in
-    sym (spread_all c.args.evidence file (length file.text_words - c.loop-next.next) c.loop-next.next found none_left) ∙ c.loop-next.invariant.0
+    sym (spread_all c.args.evidence file (length file.text_words - c.loop-next.next) c.loop-next.next found none_left)
+    ∙ c.loop-next.invariant.0
 
 pub visit_leads-requires-clause-inside : goal.visit_leads-requires-clause-inside
 visit_leads-requires-clause-inside c =

@@ -10,6 +10,8 @@ loop-place-preserved c =
     let put = c.find_place.ensures whole in
     let so_far = c.loop-place.invariant put.0 in (
       so_far.0,
-      places_more file c.text_words-words.result.now c.loop-place.before c.before_next-before.result c.loop-place.place c.loop-place.findings.found
-          c.find_place.new.findings.found (c.args.findings.now.found ++ suspicions file) c.loop-place-test.true put.1 c.before_next-before.ensures so_far.1,
+      places_more file c.text_words-words.result.now c.loop-place.before c.before_next-before.result c.loop-place.place
+          c.loop-place.findings.found
+          c.find_place.new.findings.found (c.args.findings.now.found ++ suspicions file) c.loop-place-test.true put.1
+          c.before_next-before.ensures so_far.1,
     )
