@@ -49,7 +49,7 @@ build/v7-explain: crates/v7_explain/out/v7_explain
 	mkdir -p build
 	cp crates/v7_explain/out/v7_explain build/v7-explain
 
-EXPLAIN_CRATES := $(addprefix crates/,aout_core texts link_session tool_options link_out symtools command_words gnu_objects listings instructions disassemblies findings suspicions link_maps v7_explain)
+EXPLAIN_CRATES := $(addprefix crates/,aout_core texts link_session tool_options link_out symtools command_words gnu_objects listings instructions disassemblies findings suspicions explanations link_maps v7_explain)
 crates/v7_explain/out/v7_explain: crates.txt $(shell find $(EXPLAIN_CRATES) -name out -prune -o -type f -print)
 	python3 tests/prove.py v7_explain $@
 	touch $@
@@ -84,7 +84,7 @@ build/libv7.so: build/$(SOFILE)
 	ln -sf $(SONAME) build/libv7.so
 
 LIBRARY_CRATES := $(addprefix crates/,aout_core texts link_session tool_options link_out symtools reports listings instructions disassemblies \
-	link_maps library_calls v7_c)
+	gnu_objects findings suspicions explanations link_maps library_calls v7_c)
 crates/v7_c/out/libv7_c.a: crates.txt $(shell find $(LIBRARY_CRATES) -name out -prune -o -type f -print)
 	python3 tests/prove.py v7_c $@
 	touch $@

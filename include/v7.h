@@ -1,5 +1,5 @@
-/* libv7: the linker, nm, size, strip and the disassembler of v7, for C. v7(3) shows it in use; docs/LINK.md has the rules of a
- * link, and docs/FORMAT.md the format: `make install-lib` puts them below share/doc/v7, and the package for Debian below
+/* libv7: the linker, nm, size, strip, the disassembler and the listings of v7, for C. v7(3) shows it in use; docs/LINK.md has the
+ * rules of a link, and docs/FORMAT.md the format: `make install-lib` puts them below share/doc/v7, and the package for Debian below
  * /usr/share/doc/libv7-dev. The header needs C99, or C++98 with <stdint.h>.
  *
  * Each call takes bytes and gives bytes, and keeps nothing for the next call. An object or a file is the bytes of an a.out
@@ -75,7 +75,33 @@ enum v7_fault {
     V7_SYMBOL_NUMBER = 43,     /* with V7_RELOCATABLE, a word refers to a name with a number over 4,095 */
     /* the caller's machine */
     V7_NO_MEMORY = 50,         /* malloc gave none */
-    V7_NO_ROOM = 60            /* a buffer is too small */
+    V7_NO_ROOM = 60,           /* a buffer is too small */
+    /* the first mistake of a listing: `place` is its line and `word` its column, both counted from 1 */
+    V7_NO_COLUMN = 61,         /* a column is missing */
+    V7_NOT_OCTAL = 62,         /* a number has a byte that is not an octal digit */
+    V7_TOO_LARGE = 63,         /* a number is over 0177777 */
+    V7_BAD_NAME = 64,          /* a byte of a name does not print, or a backslash is not followed by three octal digits up to 377 */
+    V7_WRONG_ADDRESS = 65,     /* the address is not that of the next word */
+    V7_WRONG_NUMBER = 66,      /* the number is not that of the next symbol */
+    V7_TOO_MANY_WORDS = 67,    /* the section has 32,767 words already */
+    V7_TABLE_FULL = 68,        /* the table has 5,461 symbols already */
+    V7_NO_SECTION = 69,        /* a number comes before the first section */
+    V7_UNKNOWN_WORD = 70,      /* no line begins with this word */
+    V7_OUT_OF_ORDER = 71,      /* text, data and symbols are not in this order, once each */
+    V7_TOO_LATE = 72,          /* the magic number or the flag comes after the first section */
+    V7_AFTER_TABLE = 73,       /* a word comes after the symbols */
+    V7_NO_MAGIC = 74,          /* no file has this magic number */
+    V7_ODD_BSS = 75,           /* the size of bss is odd */
+    /* an object in GNU's form: `place` is the byte of the file, and `word` a number, as said here */
+    V7_BAD_STRINGS = 81,       /* the strings have a length under 4 */
+    V7_OVERLAY = 82,           /* the symbol of number `word` belongs to an overlay */
+    V7_BAD_PLACE = 83,         /* its name is at no place of the strings */
+    V7_STAB = 84,              /* it is for a debugger, and V7_DROP_DEBUGGER is not asked for */
+    V7_DESCRIPTION = 85,       /* it has a description, and is not for a debugger */
+    V7_LINKED = 86,            /* there is no relocation, and the entry point `word`: this is a linked program */
+    V7_ALIKE_NAMES = 87,       /* the names of this external, and of the one at `place`, are equal in eight bytes */
+    V7_STAB_WORD = 88,         /* the word of number `word` refers to a symbol for a debugger */
+    V7_LOCAL_WORD = 89         /* it refers to a local that is dropped */
 };
 
 /* what a session replies to an edit, beside 31 to 34 for an object that would pass a limit */
@@ -140,6 +166,54 @@ static inline const char *v7_strerror(uint32_t fault)
         return "no memory";
     case V7_NO_ROOM:
         return "no room";
+    case V7_NO_COLUMN:
+        return "a column is missing";
+    case V7_NOT_OCTAL:
+        return "not an octal number";
+    case V7_TOO_LARGE:
+        return "over 177777";
+    case V7_BAD_NAME:
+        return "bad byte in a name";
+    case V7_WRONG_ADDRESS:
+        return "the address does not follow";
+    case V7_WRONG_NUMBER:
+        return "the number does not follow";
+    case V7_TOO_MANY_WORDS:
+        return "more than 32767 words";
+    case V7_TABLE_FULL:
+        return "more than 5461 symbols";
+    case V7_NO_SECTION:
+        return "text, data or symbols is missing";
+    case V7_UNKNOWN_WORD:
+        return "unknown word";
+    case V7_OUT_OF_ORDER:
+        return "text, data and symbols are not in this order";
+    case V7_TOO_LATE:
+        return "magic and flag come before text, data and symbols";
+    case V7_AFTER_TABLE:
+        return "only symbols can follow symbols";
+    case V7_NO_MAGIC:
+        return "no such magic number";
+    case V7_ODD_BSS:
+        return "odd size of bss";
+    case V7_BAD_STRINGS:
+        return "the strings have a length under 4";
+    case V7_OVERLAY:
+        return "a symbol belongs to an overlay";
+    case V7_BAD_PLACE:
+        return "a symbol has its name at no place of the strings";
+    case V7_STAB:
+        return "a symbol is for a debugger";
+    case V7_DESCRIPTION:
+        return "a symbol has a description, and is not for a debugger";
+    case V7_LINKED:
+        return "a linked program";
+    case V7_ALIKE_NAMES:
+        return "two names are equal in eight bytes";
+    case V7_STAB_WORD:
+        return "a word refers to a symbol for a debugger";
+    case V7_LOCAL_WORD:
+        return "a word refers to a local that is dropped";
     default:
         return "unknown fault";
     }
@@ -148,13 +222,16 @@ static inline const char *v7_strerror(uint32_t fault)
 struct v7_answer {
     uint32_t fault;     /* of enum v7_fault */
     uint32_t word;      /* V7_BAD_RELOCATION, V7_BAD_SYMBOL_NUMBER: the index of the word, text before data, from 0. V7_TOO_LONG:
-                         * the first part that is too long, of enum v7_part. Otherwise 0 */
+                         * the first part that is too long, of enum v7_part. 61 to 75: the column, and 0xffffffff for all that are
+                         * further. Of v7_from_gnu for V7_BAD_MAGIC the word that is there, for V7_ODD_SIZE the part, for
+                         * V7_TOO_MANY_SYMBOLS how many stay, and for 82 to 89 as said there. Otherwise 0 */
     size_t place;       /* a number, counted from 0. For the faults 11 to 34 of a link it is that of the object, for 7 to 24 of
-                         * v7_session and v7_state that of the edit, and for V7_MANY_NAMES that of the name. For V7_NO_MEMORY it
-                         * is that of an object or edit which the call reached, or 0. Otherwise 0 */
+                         * v7_session and v7_state that of the edit, and for V7_MANY_NAMES that of the name. For 61 to 75 it is the
+                         * line, counted from 1, and of v7_from_gnu the byte of the file. For V7_NO_MEMORY it is that of an object
+                         * or edit which the call reached, or 0. Otherwise 0 */
     size_t size;        /* the size of the result; of v7_take_apart and v7_read 0 */
     size_t report_size; /* for v7_link, v7_link_list and v7_session the size of the report, for v7_link_findings the number of
-                         * findings, for v7_state the number of replies; otherwise 0 */
+                         * findings, for v7_state the number of replies, for v7_remarks the number of remarks; otherwise 0 */
 };
 
 /* The part of an object that is too long. */
@@ -197,6 +274,65 @@ uint32_t v7_disassemble(const unsigned char *bytes, size_t size, unsigned char *
  * Faults: V7_NO_MEMORY, only if there are words, and V7_NO_ROOM. */
 uint32_t v7_disassemble_words(uint16_t address, const uint16_t *words, size_t word_count, unsigned char *room, size_t room_size,
                               struct v7_answer *answer);
+
+/* Writes the listing of the file that BYTES begin with, as `v7-explain` prints it without its notes, which are the lines that begin
+ * with a slash. v7_from_listing gives the bytes of that file again. No NUL ends the text. Faults: 11 to 14, V7_NO_MEMORY, V7_NO_ROOM. */
+uint32_t v7_list(const unsigned char *bytes, size_t size, unsigned char *room, size_t room_size, struct v7_answer *answer);
+
+/* Writes the file that a listing describes, as `v7-object` does: v7-object(1) has the form. TEXT may have notes and remarks, which are
+ * not read. Faults: 61 to 75 for the first mistake, V7_NO_ROOM. V7_NO_MEMORY comes once all lines before a word or a symbol are read. */
+uint32_t v7_from_listing(const unsigned char *text, size_t size, unsigned char *room, size_t room_size, struct v7_answer *answer);
+
+/* Writes the object that BYTES, an object of GNU's assembler, become, as `v7-from-gnu` does. Faults, the first that applies:
+ * V7_NO_OPTION, 11 to 14, 81 to 86, V7_TOO_MANY_SYMBOLS, 87 to 89, and 21 to 24. V7_BAD_MAGIC is for all but 0407, and V7_ODD_SIZE for
+ * a table that 8 does not divide. V7_NO_MEMORY comes in place of any but V7_NO_OPTION, 11 to 14 and 81, and V7_NO_ROOM last. */
+enum v7_gnu_option {
+    V7_DROP_DEBUGGER = 1, /* -S: drops symbols for a debugger */
+    V7_DROP_UNUSED = 2,   /* -X: drops locals to which no word refers by number */
+    V7_DROP_LOCALS = 4    /* -x: drops all locals; wins over the one before */
+};
+uint32_t v7_from_gnu(uint32_t options, const unsigned char *bytes, size_t size, unsigned char *room, size_t room_size,
+                     struct v7_answer *answer);
+
+/* Tells what is wrong in BYTES, and then what is odd and what is suspicious in the file that they begin with, as `v7-explain` does:
+ * REMARKS gets a record for each, and TEXTS their texts, one after another without newlines. TEXT_ROOM is in bytes, and REMARK_ROOM
+ * in remarks; both are written or neither. The status is 1 if something is wrong, 2 if there is a fault, and otherwise 0. Faults:
+ * V7_NO_MEMORY, V7_NO_ROOM. */
+enum v7_remark_kind {
+    /* wrong: the bytes are not a file, or its words make the linker refuse it */
+    V7_REMARK_SHORT_HEADER = 1,
+    V7_REMARK_BAD_MAGIC = 2,
+    V7_REMARK_ODD_SIZE = 3,
+    V7_REMARK_TRUNCATED = 4,
+    V7_REMARK_BAD_RELOCATION = 5,
+    V7_REMARK_BAD_SYMBOL_NUMBER = 6,
+    V7_REMARK_MORE_BAD_WORDS = 7,
+    /* odd: not refused, but unusual */
+    V7_REMARK_IGNORED_ENTRY = 8,
+    V7_REMARK_IGNORED_WORD = 9,
+    V7_REMARK_BYTES_AFTER_TABLE = 10,
+    V7_REMARK_IGNORED_RELOCATION_BITS = 11,
+    V7_REMARK_OUTSIDE_REFERENCE = 12,
+    V7_REMARK_EMPTY_NAME = 13,
+    V7_REMARK_UNPRINTABLE_NAME = 14,
+    V7_REMARK_BYTES_AFTER_NAME = 15,
+    V7_REMARK_REPEATED_NAME = 16,
+    V7_REMARK_IGNORED_TYPE_BITS = 17,
+    V7_REMARK_UNKNOWN_TYPE = 18,
+    V7_REMARK_ODD_COMMON = 19,
+    V7_REMARK_OUTSIDE_VALUE = 20,
+    /* suspicious: instructions that an assembler does not write */
+    V7_REMARK_RELOCATED_FIRST_WORD = 21,
+    V7_REMARK_UNSUITABLE_PC_BIT = 22
+};
+struct v7_remark {
+    size_t place;     /* the byte of the file, from 0 */
+    size_t text;      /* where its text begins in TEXTS */
+    size_t text_size;
+    uint32_t kind;    /* of enum v7_remark_kind */
+};
+uint32_t v7_remarks(const unsigned char *bytes, size_t size, unsigned char *texts, size_t text_room, struct v7_remark *remarks,
+                    size_t remark_room, struct v7_answer *answer);
 
 /* Links OBJECTS in their order, as `v7 ld` does: the linked file goes to ROOM, and the lines of the report to REPORT. Both are
  * written or neither. ENTRY is the name of the entry point, at most 8 bytes, or of size 0 if there is none. FORCED are

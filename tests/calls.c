@@ -8,15 +8,16 @@
 enum { GUARD = 16, FILLER = 0xa5 };
 
 static const char *const names[CALLS] = {
-    "v7_check", "v7_strip", "v7_nm", "v7_size", "v7_disassemble", "v7_read", "v7_take_apart", "v7_disassemble_words",
-    "v7_make", "v7_link", "v7_link_list", "v7_link_findings", "v7_session", "v7_state"};
+    "v7_check", "v7_strip", "v7_nm", "v7_size", "v7_disassemble", "v7_list", "v7_read", "v7_take_apart", "v7_disassemble_words",
+    "v7_from_listing", "v7_from_gnu", "v7_remarks", "v7_make", "v7_link", "v7_link_list", "v7_link_findings", "v7_session", "v7_state"};
 
-/* rooms, aligned for words, symbols and findings */
+/* rooms, aligned for words, symbols, findings and remarks */
 static union {
     unsigned char bytes[ROOM + GUARD];
     struct v7_word word;
     struct v7_symbol symbol;
     struct v7_finding finding;
+    struct v7_remark remark;
 } rooms[3];
 struct v7_answer answer;
 unsigned failures;
@@ -87,6 +88,14 @@ static uint32_t call_with_bytes(const struct request *r)
         return v7_size(in[0].at, in[0].size, room[0].at, room[0].size, &answer);
     case DISASSEMBLE:
         return v7_disassemble(in[0].at, in[0].size, room[0].at, room[0].size, &answer);
+    case LIST:
+        return v7_list(in[0].at, in[0].size, room[0].at, room[0].size, &answer);
+    case FROM_LISTING:
+        return v7_from_listing(in[0].at, in[0].size, room[0].at, room[0].size, &answer);
+    case FROM_GNU:
+        return v7_from_gnu(r->option, in[0].at, in[0].size, room[0].at, room[0].size, &answer);
+    case REMARKS:
+        return v7_remarks(in[0].at, in[0].size, room[0].at, room[0].size, room[1].at, room[1].size, &answer);
     case READ:
         return v7_read(in[0].at, in[0].size, &header, room[0].at, room[0].size, room[1].at, room[1].size, room[2].at,
                        room[2].size, &counts, &answer);
@@ -133,6 +142,8 @@ static size_t unit(enum call kind, int i)
 {
     if (kind == TAKE_APART || kind == READ)
         return i < 2 ? sizeof(struct v7_word) : sizeof(struct v7_symbol);
+    if (kind == REMARKS && i == 1)
+        return sizeof(struct v7_remark);
     return kind == LINK_FINDINGS && i == 1 ? sizeof(struct v7_finding) : 1;
 }
 
@@ -266,6 +277,23 @@ static const char plain[] = "177776  000401                br 2\n"
 static const struct v7_word linked_text[] = {{04767, 0}, {4, 0}, {0207, 0}, {0240, 0}, {0207, 0}};
 static const struct v7_symbol linked_symbols[] = {{"_x", 040, 0}, {"_f", 042, 8}};
 
+static const char listing[] = "text\n"
+                              "L1:\n"
+                              "000000  004767     0  jsr pc,_f\n"
+                              "000002  177774    11  _f, from the pc\n"
+                              "000004  000207     0  rts pc\n"
+                              "data\n"
+                              "000006  000007     0  a number\n"
+                              "bss 4\n"
+                              "symbols\n"
+                              "0     _f         40  000000  U\n"
+                              "1     L1          2  000000  t\n";
+/* its strings begin with their length, 10, the high word first; L1 is at 4, and _f at 7 */
+const unsigned char gnu_object[58] = {W(0407), W(6), W(2), W(4), W(16), W(0), W(0), W(0), CONTENTS, W(0), W(011), W(0), W(0),
+                                      W(0), W(7), W(040), W(0), W(0), W(4), W(2), W(0), W(0), W(10), 'L', '1', 0, '_', 'f', 0};
+static const char remark_text[] = "05 (5) bytes after the symbol table are not read";
+static const struct v7_remark remarks[] = {{56, 0, sizeof remark_text - 1, V7_REMARK_BYTES_AFTER_TABLE}};
+
 #define STRING(s) {s, sizeof s - 1}
 #define BYTES(a) {a, sizeof a}
 #define LIST(a) {a, sizeof a / sizeof *a}
@@ -280,9 +308,13 @@ const struct request good[CALLS] = {
     {NM, V7_NM_REVERSE, {BYTES(more)}, {SPACE(0, 24)}},
     {SIZE, 0, {BYTES(more)}, {SPACE(0, 19)}},
     {DISASSEMBLE, 0, {BYTES(more)}, {SPACE(0, sizeof instructions - 1)}},
+    {LIST, 0, {BYTES(more)}, {SPACE(0, sizeof listing - 1)}},
     {READ, 0, {BYTES(linked)}, {SPACE(0, 5), SPACE(1, 1), SPACE(2, 2)}},
     {TAKE_APART, 0, {BYTES(more)}, {SPACE(0, 3), SPACE(1, 1), SPACE(2, 2)}},
     {DISASSEMBLE_WORDS, 0177776, {LIST(at_end)}, {SPACE(0, sizeof plain - 1)}},
+    {FROM_LISTING, 0, {STRING(listing)}, {SPACE(0, 56)}},
+    {FROM_GNU, V7_DROP_DEBUGGER, {BYTES(gnu_object)}, {SPACE(0, 56)}},
+    {REMARKS, 0, {BYTES(more)}, {SPACE(0, sizeof remark_text - 1), SPACE(1, 1)}},
     {MAKE, 4, {LIST(text), LIST(data), LIST(symbols)}, {SPACE(0, 56)}},
     {LINK, V7_NOT_L, {STRING("_f"), FORCED, BYTES(both)}, {SPACE(0, 52), SPACE(1, 14)}},
     {LINK_LIST, V7_NOT_L, {STRING("_f"), FORCED, LIST(apart)}, {SPACE(0, 52), SPACE(1, 14)}},
@@ -296,9 +328,13 @@ static const struct wanted given[CALLS] = {
     {0, {0, 0, 0, 24, 0}, {0}, {STRING("       U _f\n000000 t L1\n")}, {0}},
     {0, {0, 0, 0, 19, 0}, {0}, {STRING("6+2+4 = 12b = 014b\n")}, {0}},
     {0, {0, 0, 0, sizeof instructions - 1, 0}, {0}, {STRING(instructions)}, {0}},
+    {0, {0, 0, 0, sizeof listing - 1, 0}, {0}, {STRING(listing)}, {0}},
     {0, {0, 0, 0, 0, 0}, {5, 1, 2, 4}, {BYTES(linked_text), BYTES(data), BYTES(linked_symbols)}, {0407, 10, 2, 4, 24, 8, 0, 1}},
     {0, {0, 0, 0, 0, 0}, {3, 1, 2, 4}, {BYTES(text), BYTES(data), BYTES(symbols)}, {0}},
     {0, {0, 0, 0, sizeof plain - 1, 0}, {0}, {STRING(plain)}, {0}},
+    {0, {0, 0, 0, 56, 0}, {0}, {BYTES(object)}, {0}},
+    {0, {0, 0, 0, 56, 0}, {0}, {BYTES(object)}, {0}},
+    {0, {0, 0, 0, sizeof remark_text - 1, 1}, {0}, {STRING(remark_text), {remarks, sizeof remarks}}, {0}},
     {0, {0, 0, 0, 56, 0}, {0}, {BYTES(object)}, {0}},
     {1, {0, 0, 0, 52, 14}, {0}, {BYTES(linked), REPORT}, {0}},
     {1, {0, 0, 0, 52, 14}, {0}, {BYTES(linked), REPORT}, {0}},

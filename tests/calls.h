@@ -10,9 +10,13 @@ enum call {
     NM,
     SIZE,
     DISASSEMBLE,
+    LIST,
     READ,
     TAKE_APART,
     DISASSEMBLE_WORDS,
+    FROM_LISTING,
+    FROM_GNU,
+    REMARKS,
     MAKE,
     LINK,
     LINK_LIST,
@@ -58,8 +62,9 @@ struct wanted {
 extern struct v7_answer answer;
 extern unsigned failures;
 
-/* an object of 56 bytes, which no other follows; and for each call one that gives something */
+/* an object of 56 bytes, which no other follows; the same in GNU's form; and for each call one that gives something */
 extern const unsigned char object[56];
+extern const unsigned char gnu_object[58];
 extern const struct request good[CALLS];
 
 /* The status of a call, with its rooms and *ANSWER filled up before it. */

@@ -129,7 +129,7 @@ static void put_damaged(const struct damage *d, unsigned char *bytes)
         bytes[d->change[n].at] = (unsigned char)d->change[n].byte;
 }
 
-/* A damaged file alone. A file that is not an object is good enough for v7_strip, v7_nm, v7_size, v7_disassemble and v7_read. No memory
+/* A damaged file alone. A file that is not an object is good enough for all but v7_check and v7_take_apart. No memory
  * is wanted before the file is known to be whole. */
 static void check_file(const struct damage *d, enum call kind)
 {
@@ -137,7 +137,7 @@ static void check_file(const struct damage *d, enum call kind)
 
     r.in[0] = (struct span){objects, d->size};
     if (d->fault >= V7_NOT_AN_OBJECT && kind != CHECK && kind != TAKE_APART) {
-        r.room[0].size = 256;
+        r.room[0].size = 1024;
         if (status_of(&r) != 0)
             expect_fault("a file that is not an object", &r, V7_NO_FAULT, 0, 0);
         return;
@@ -186,6 +186,23 @@ static void check_slices(const struct damage *d, enum call kind)
         expect_fault_without_memory("the first slice without memory", &r, d->fault, d->word, 0);
 }
 
+/* What is wrong with a damaged file is its first remark, of the same kind, and the status is 1. A file that is not an object is not
+ * wrong. */
+static void check_remarks(const struct damage *d)
+{
+    struct request r = good[REMARKS];
+    const struct v7_remark *first = r.room[1].at;
+    uint32_t kind = d->fault <= V7_TRUNCATED ? d->fault - V7_SHORT_HEADER + V7_REMARK_SHORT_HEADER : d->fault - V7_BAD_RELOCATION + V7_REMARK_BAD_RELOCATION;
+    uint32_t status = d->fault == V7_NOT_AN_OBJECT || d->fault == V7_NO_RELOCATION ? 0 : 1;
+
+    r.in[0] = (struct span){objects, d->size};
+    r.room[0].size = 4096;
+    r.room[1].size = 64;
+    if (status_of(&r) != status || answer.fault != 0 || (status == 1 && (answer.report_size == 0 || first->kind != kind)) ||
+        (d->fault >= V7_BAD_RELOCATION && first->place != 24 + 2 * d->word))
+        expect_fault("the remarks on a damaged file", &r, V7_NO_FAULT, 0, 0);
+}
+
 static void check_damages(void)
 {
     const struct damage *d;
@@ -195,6 +212,7 @@ static void check_damages(void)
         put_damaged(d, objects);
         for (kind = CHECK; kind <= TAKE_APART; kind++)
             check_file(d, (enum call)kind);
+        check_remarks(d);
         check_slices(d, LINK_LIST);
         check_slices(d, LINK_FINDINGS);
         check_first(d, LINK, 2);
@@ -374,6 +392,140 @@ static void check_findings(void)
         expect_fault("findings of an object", &r, V7_NO_FAULT, 0, 0);
 }
 
+/* ---- listings: the first mistake, at its line and column; no memory is wanted before the first word or symbol */
+
+static const struct mistake {
+    uint32_t fault, column;
+    size_t line;
+    int has_entry;
+    const char *text;
+} mistakes[] = {
+    {V7_NO_COLUMN, 7, 2, 1, "text\n000000\nx\n"},
+    {V7_NOT_OCTAL, 9, 3, 1, "text\n000000 0 0\n000002  9 0\n"},
+    {V7_TOO_LARGE, 5, 1, 0, "bss 200000"},
+    {V7_BAD_NAME, 3, 2, 1, "symbols\n0 a\\8 42 0\n"},
+    {V7_WRONG_ADDRESS, 1, 2, 1, "data\n000002 0 0\n"},
+    {V7_WRONG_NUMBER, 2, 2, 1, "symbols\n 1 a 42 0\n"},
+    {V7_NO_SECTION, 1, 1, 0, "000000 0 0\n"},
+    {V7_UNKNOWN_WORD, 1, 1, 0, "words 0\ntext\n"},
+    {V7_OUT_OF_ORDER, 1, 2, 0, "data\ntext\n"},
+    {V7_TOO_LATE, 1, 2, 0, "text\nmagic 407\n"},
+    {V7_AFTER_TABLE, 1, 2, 0, "symbols\nbss 0\n"},
+    {V7_NO_MAGIC, 7, 1, 0, "magic 406\n"},
+    {V7_ODD_BSS, 7, 3, 0, "/ a note\n\n  bss 1\n"},
+};
+
+static void check_mistake(const struct mistake *m)
+{
+    struct request r = good[FROM_LISTING];
+
+    r.in[0] = (struct span){m->text, strlen(m->text)};
+    expect_fault("a listing", &r, m->fault, m->column, m->line);
+    if (!m->has_entry)
+        expect_fault_without_memory("a listing without memory", &r, m->fault, m->column, m->line);
+}
+
+/* a section with one line too many */
+static void check_full(const char *section, const char *form, unsigned step, unsigned most, uint32_t fault)
+{
+    char *end = (char *)objects + sprintf((char *)objects, "%s\n", section);
+    struct request r = good[FROM_LISTING];
+    unsigned n;
+
+    for (n = 0; n <= most; n++)
+        end += sprintf(end, form, step * n & 0177777);
+    r.in[0] = (struct span){objects, (size_t)(end - (char *)objects)};
+    expect_fault("a full section", &r, fault, 1, most + 2);
+}
+
+static void check_mistakes(void)
+{
+    size_t n;
+
+    for (n = 0; n < sizeof mistakes / sizeof *mistakes; n++)
+        check_mistake(&mistakes[n]);
+    check_full("text", "%o 0 0\n", 2, MOST_WORDS, V7_TOO_MANY_WORDS);
+    check_full("symbols", "%o a 0 0\n", 1, MOST_SYMBOLS, V7_TABLE_FULL);
+}
+
+/* ---- objects in GNU's form: so many bytes, three of them changed. Words 0 to 3 have their relocation words at 24 to 30; symbols 0 and 1 are
+ * at 32 and 40, each a description, a place, a type, an overlay and a value; the strings are at 48. */
+
+static const struct gnu_damage {
+    uint32_t option, fault, word;
+    size_t place, size;
+    struct {
+        unsigned at, byte;
+    } change[3];
+} gnu_damages[] = {
+    {8, V7_NO_OPTION, 0, 0, 15, {{0, 6}, {2, 5}, {2, 5}}},
+    {0x80000000, V7_NO_OPTION, 0, 0, 58, {{0, 7}, {0, 7}, {0, 7}}},
+    {0, V7_SHORT_HEADER, 0, 15, 15, {{0, 6}, {2, 5}, {2, 5}}},
+    {0, V7_BAD_MAGIC, 0410, 0, 58, {{0, 8}, {2, 5}, {2, 5}}},
+    {0, V7_ODD_SIZE, V7_TEXT_PART, 2, 58, {{2, 5}, {4, 3}, {4, 3}}},
+    {0, V7_ODD_SIZE, V7_DATA_PART, 4, 58, {{4, 3}, {6, 3}, {6, 3}}},
+    {0, V7_ODD_SIZE, V7_BSS_PART, 6, 58, {{6, 3}, {8, 12}, {8, 12}}},
+    {0, V7_ODD_SIZE, V7_SYMBOLS_PART, 8, 58, {{8, 12}, {37, 1}, {37, 1}}},
+    {0, V7_TRUNCATED, 0, 47, 47, {{37, 1}, {37, 1}, {37, 1}}},
+    {0, V7_TRUNCATED, 0, 57, 57, {{37, 1}, {37, 1}, {37, 1}}},
+    {0, V7_BAD_STRINGS, 0, 48, 58, {{50, 3}, {37, 1}, {37, 1}}},
+    {0, V7_OVERLAY, 1, 40, 58, {{45, 1}, {30, 012}, {30, 012}}},
+    {0, V7_BAD_PLACE, 0, 32, 58, {{34, 10}, {30, 012}, {30, 012}}},
+    {0, V7_STAB, 1, 40, 58, {{44, 045}, {30, 012}, {30, 012}}},
+    {0, V7_DESCRIPTION, 0, 32, 58, {{32, 1}, {30, 012}, {30, 012}}},
+    {0, V7_LINKED, 2, 10, 24, {{8, 0}, {10, 2}, {14, 1}}},
+    {V7_DROP_DEBUGGER, V7_STAB_WORD, 1, 26, 58, {{36, 0100}, {24, 012}, {24, 012}}},
+    {V7_DROP_LOCALS, V7_LOCAL_WORD, 0, 24, 58, {{24, 030}, {26, 012}, {26, 012}}},
+    {V7_DROP_UNUSED, V7_BAD_SYMBOL_NUMBER, 0, 24, 58, {{24, 030}, {24, 030}, {24, 030}}},
+    {0, V7_BAD_RELOCATION, 0, 24, 58, {{24, 012}, {24, 012}, {24, 012}}},
+    {V7_DROP_DEBUGGER | V7_DROP_UNUSED | V7_DROP_LOCALS, V7_BAD_SYMBOL_NUMBER, 3, 30, 58, {{30, 050}, {30, 050}, {30, 050}}},
+};
+
+static void check_gnu(const struct gnu_damage *d)
+{
+    struct request r = good[FROM_GNU];
+    int n;
+
+    memcpy(objects, gnu_object, sizeof gnu_object);
+    for (n = 0; n < 3; n++)
+        objects[d->change[n].at] = (unsigned char)d->change[n].byte;
+    r.option = d->option;
+    r.in[0] = (struct span){objects, d->size};
+    expect_fault("an object in GNU's form", &r, d->fault, d->word, d->place);
+    if (d->fault <= V7_TRUNCATED || d->fault == V7_BAD_STRINGS)
+        expect_fault_without_memory("an object in GNU's form without memory", &r, d->fault, d->word, d->place);
+}
+
+/* two externals whose names are equal in eight bytes; and one symbol too many */
+static void check_gnu_tables(void)
+{
+    static const unsigned char names[] = {0, 0, 24, 0, '_', '2', '3', '4', '5', '6', '7', '8', 'a', 0, '_', '2', '3', '4', '5', '6', '7', '8', 'b', 0};
+    struct request r = good[FROM_GNU];
+    unsigned char *at = objects + 16;
+    unsigned n;
+
+    memset(objects, 0, 16 + 8 * 5462);
+    put_word(objects, 0407);
+    put_word(objects + 8, 16);
+    for (n = 0; n < 2; n++, at += 8) {
+        put_word(at + 2, n ? 14 : 4);
+        at[4] = 040;
+    }
+    memcpy(at, names, sizeof names);
+    r.in[0] = (struct span){objects, 32 + sizeof names};
+    expect_fault("two externals", &r, V7_ALIKE_NAMES, 0, 24);
+    memset(at, 0, sizeof names);
+    put_word(objects + 8, 8 * 5462);
+    at = objects + 16;
+    for (n = 0; n < 5462; n++, at += 8) {
+        put_word(at + 2, 0);
+        at[4] = 040;
+    }
+    memcpy(at, "\0\0\4", 4);
+    r.in[0].size = (size_t)(at + 4 - objects);
+    expect_fault("too many symbols", &r, V7_TOO_MANY_SYMBOLS, 5462, 8);
+}
+
 /* ---- parts: relocation words of the first words of text and data; no symbol is external */
 
 static struct v7_word words[2][MOST_WORDS + 1];
@@ -484,6 +636,10 @@ int main(void)
     for (n = 0; n < sizeof limits / sizeof *limits; n++)
         check_limit(&limits[n]);
     check_findings();
+    check_mistakes();
+    for (n = 0; n < sizeof gnu_damages / sizeof *gnu_damages; n++)
+        check_gnu(&gnu_damages[n]);
+    check_gnu_tables();
     for (n = 0; n < sizeof parts / sizeof *parts; n++)
         check_parts(&parts[n]);
     check_most_parts();

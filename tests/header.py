@@ -18,7 +18,7 @@ MODULE = os.path.join(TOP, "examples", "python", "v7.py")
 # for the constants of each enum the crate's file and the text of the code that has the number. {Name} is the constant without its
 # prefix in the code's case, {name} in small letters; a factor is what the number of the code is multiplied by
 CODE = {
-    "v7_fault": ("library_calls/src/cause.rt", r"\w+::{Name}(?:\(\w+\))? => (\d+),", 1),
+    "v7_fault": ("library_calls/src/cause.rt", r"\w+::{Name}(?:\([\w, ]+\))? => (\d+),", 1),
     "v7_part": ("library_calls/src/cause.rt", r"LongPart::{Name} => (\d+),", 1),
     "v7_nm_option": ("library_calls/src/requests.rt", r"\b{name}: has_bit\(bits, (\d+)\)", 1),
     "v7_link_option": ("library_calls/src/requests.rt", r"\b{name}: has_bit\(bits, (\d+)\)", 1),
@@ -26,6 +26,7 @@ CODE = {
     "v7_form": ("library_calls/src/state_call.rt", r"(\d+) => Ok\(Form::{Name}\)", 1),
     "v7_edit": ("library_calls/src/edits.rt", r"(b'\w') => Ok\(\(Edit::{Name},", 1),
     "v7_finding_kind": ("library_calls/src/findings_call.rt", r"named\(alloc, (\d+), &report\.{name}", 1),
+    "v7_remark_kind": ("library_calls/src/remarks_call.rt", r"FindingKind::{Name} => (\d+),", 1),
     "v7_relocation": ("aout_core/src/reloc.rt", r"(\d+) => Some\(Kind::{Name}\)", 2),
     "v7_segment": ("aout_core/src/symbol.rt", r"Segment::{Name} => (\d+),", 1),
 }
@@ -34,6 +35,14 @@ OTHERS = {
     "V7_NO_FAULT": ("v7_c/src/buffers.rt", r"Answer::given\((0), ", 1),
     "V7_NO_MEMORY": ("library_calls/src/cause.rt", r"Cause::Memory => (\d+),", 1),
     "V7_NO_ROOM": ("v7_c/src/buffers.rt", r"const NO_ROOM: u32 = (\d+);", 1),
+    "V7_ODD_SIZE": ("library_calls/src/cause.rt", r"(?:ReadFault|Refusal)::OddSize(?:\(\w+\))? => (\d+),", 1),
+    "V7_TOO_MANY_SYMBOLS": ("library_calls/src/cause.rt", r"(?:LinkFault|Refusal)::TooManySymbols(?:\(\w+\))? => (\d+),", 1),
+    "V7_NO_COLUMN": ("library_calls/src/cause.rt", r"Reason::Missing => (\d+),", 1),
+    "V7_TABLE_FULL": ("library_calls/src/cause.rt", r"Reason::TooManySymbols => (\d+),", 1),
+    "V7_ODD_BSS": ("library_calls/src/cause.rt", r"Reason::OddSize => (\d+),", 1),
+    "V7_DROP_DEBUGGER": ("library_calls/src/gnu_call.rt", r"drops_debugger: has_bit\(bits, (\d+)\)", 1),
+    "V7_DROP_UNUSED": ("library_calls/src/gnu_call.rt", r"has_bit\(bits, (\d+)\) \{\s*Locals::KeepNeeded", 1),
+    "V7_DROP_LOCALS": ("library_calls/src/gnu_call.rt", r"has_bit\(bits, (\d+)\) \{\s*Locals::KeepNone", 1),
     "V7_FORCE_COMMONS": ("library_calls/src/requests.rt", r"\bcommons: has_bit\(bits, (\d+)\)", 1),
     "V7_DONE": ("library_calls/src/edits.rt", r"Reply::Added \| Reply::Withdrew\(_\) => (\d+),", 1),
     "V7_ADD": ("library_calls/src/edits.rt", r"(b'\w') => \{\s*let \(object, after\)", 1),
@@ -74,7 +83,7 @@ RENAMED = {"type_bits": "type", "data_words": "data"}
 # how the module names constants: those of these enums as attributes, and of others not
 PYTHON = {"v7_part": "{}", "v7_nm_option": "{}", "v7_link_option": "{}", "v7_relocation": "{}", "v7_segment": "{}",
           "v7_reply": "Session.{}", "v7_form": "Session._{}", "v7_mode": "_{}", "v7_want": "_{}", "v7_map_name_state": "{}",
-          "v7_map_use_kind": "{}", "v7_map_limit_kind": "{}"}
+          "v7_map_use_kind": "{}", "v7_map_limit_kind": "{}", "v7_gnu_option": "{}", "v7_remark_kind": "{}"}
 SIZES = {"u8": 1, "u16": 2, "u32": 4, "u64": 8, "usize": 8}
 IN_C = {"u8": "unsigned char", "u16": "uint16_t", "u32": "uint32_t"}
 
@@ -229,7 +238,7 @@ def compare_constants(header, enums):
     """What differs of the constants of the code; a constant that the code has not is a difference."""
     for enum, constants in enums.items():
         for constant, value in constants.items():
-            stem = constant[6:] if enum == "v7_nm_option" else constant[3:]
+            stem = constant[{"v7_nm_option": 6, "v7_remark_kind": 10}.get(enum, 3):]
             words = "".join(part.capitalize() for part in stem.split("_"))
             words = WORDS.get(words, words) if enum in ("v7_part", "v7_relocation", "v7_segment") else words
             if constant not in OTHERS and enum not in CODE:
@@ -330,6 +339,8 @@ PLANTED = [
     ("v7.h", "docs/OBJECTS.md", "docs/TRUST.md"),
     ("v7_c/src/answer.rt", "    pub place: usize,", "    pub place: u32,"),
     ("library_calls/src/parts.rt", "    pub type_bits: u16,", "    pub kind: u16,"),
+    ("v7.h", "V7_REMARK_ODD_COMMON = 19", "V7_REMARK_ODD_COMMON = 18"),
+    ("library_calls/src/remarks_call.rt", "    pub text: usize,\n    pub text_size: usize,", "    pub text_size: usize,\n    pub text: usize,"),
     ("v7_c/src/lib.rt", "    bss: u32,\n    symbols: &[SymbolRow],", "    symbols: &[SymbolRow],\n    bss: u32,"),
 ]
 

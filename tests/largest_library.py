@@ -40,6 +40,7 @@ def texts(kind):
     check("size", v7.size(data), lines[0].decode() + "\n")
     check("strip", v7.strip(data), model.write_file(dataclasses.replace(model.read_file(data), symbols=[], flag=1)))
     check_lines("disassemble", v7.disassemble(data).split("\n"), [*file.disassembly(), ""])
+    check("from_listing", v7.from_listing(v7.listing(data)), data)
 
 
 def taken_apart(kind):
@@ -165,7 +166,7 @@ def words_shown(count):
 
 
 TABLE = [
-    ("v7_nm, v7_size, v7_strip, v7_disassemble", texts, ALONE),
+    ("v7_nm, v7_size, v7_strip, v7_disassemble, v7_list, v7_from_listing", texts, ALONE),
     ("v7_read, v7_check, v7_take_apart, v7_make", taken_apart, ALONE),
     ("v7_check, v7_take_apart, v7_link_list", bad, [kind for kind in KINDS if kind.startswith("bad")]),
     ("v7_link, v7_link_list, v7_link_findings, v7_run", linked, GOOD),

@@ -14,7 +14,7 @@ import disassembly
 import v7
 
 FITS = 0o177777
-HINTED = "link link_findings make read take_apart nm check disassemble disassemble_words".split()
+HINTED = "link link_findings make read take_apart nm check disassemble disassemble_words listing from_listing from_gnu remarks".split()
 
 
 def refused(call, *words):
@@ -40,7 +40,7 @@ def texts_of(header):
 
 def constants_of(header):
     """The constants of options, kinds and segments in v7.h, by the names that they have in Python."""
-    enums = re.findall(r"^enum v7_(?:link_option|nm_option|part|relocation|segment) \{(.*?)\};", read(header), re.M | re.S)
+    enums = re.findall(r"^enum v7_(?:link_option|nm_option|gnu_option|remark_kind|part|relocation|segment) \{(.*?)\};", read(header), re.M | re.S)
     return {name: int(number) for part in enums for name, number in re.findall(r"V7_(\w+) = (\d+)", part)}
 
 
@@ -203,6 +203,17 @@ def instructions():
         yield v7.disassemble(file.encoded() + b"more").split("\n") == [*file.disassembly(), ""]
 
 
+def listings():
+    """Random files listed, and made of their listings again."""
+    dice = random.Random(8)
+    for _ in range(300):
+        data = disassembly.random_file(dice).encoded()
+        yield v7.from_listing(v7.listing(data + b"more")) == data
+    yield v7.from_listing("") == v7.from_listing("/ a note\n") == v7.make()
+    yield [(remark.kind, remark.byte) for remark in v7.remarks(v7.make() + b"more")] == [(v7.REMARK_BYTES_AFTER_TABLE, 16)]
+    yield v7.remarks(v7.make()) == []
+
+
 def cut_files():
     """The faults of files without instructions."""
     whole = v7.make(text=[(7, v7.NUMBER)])
@@ -227,6 +238,7 @@ def main(header):
         "replies": [*replies()],
         "instructions": [*instructions()],
         "cut files": [*cut_files()],
+        "listings": [*listings()],
         "type hints": [typing.get_type_hints(getattr(v7, name)) != {} for name in HINTED],
     }
     for name, outcomes in checks.items():

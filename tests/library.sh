@@ -60,7 +60,8 @@ cat >header.c <<'END'
 
 int main(void)
 {
-    static const unsigned faults[] = {0, 1, 2, 3, 4, 5, 6, 7, 11, 12, 13, 14, 21, 22, 23, 24, 31, 32, 33, 34, 35, 41, 42, 43, 50, 60, 61};
+    static const unsigned faults[] = {0, 1, 2, 3, 4, 5, 6, 7, 11, 12, 13, 14, 21, 22, 23, 24, 31, 32, 33, 34, 35, 41, 42, 43, 50, 60,
+                                      61, 62, 63, 64, 65, 66, 67, 68, 69, 70, 71, 72, 73, 74, 75, 81, 82, 83, 84, 85, 86, 87, 88, 89, 90};
     unsigned i, j;
 
     if (V7_REFERS_TO(0) != 010 || V7_REFERS_TO(4095) != 0177770 || V7_REFERS_TO(1) + V7_FROM_PC != 031)
@@ -72,7 +73,7 @@ int main(void)
     puts(V7_VERSION);
     if (strcmp(v7_strerror(V7_NOTHING), "nothing to withdraw") != 0)
         return 3;
-    return strcmp(v7_strerror(8), "unknown fault") != 0 || strcmp(v7_strerror(61), "unknown fault") != 0;
+    return strcmp(v7_strerror(8), "unknown fault") != 0 || strcmp(v7_strerror(90), "unknown fault") != 0;
 }
 END
 cp header.c header.cpp
@@ -243,6 +244,8 @@ if command -v python3 >/dev/null; then
     links Python "python3 $top/examples/python/link.py"
     session Python python3 "$top/examples/python/session.py"
     PYTHONPATH=$top/examples/python:$top/tests python3 "$top/tests/library.py" "$top/include/v7.h" || fail "Python: a check fails"
+    PYTHONPATH=$top/examples/python python3 "$top/tests/library_programs.py" "$top/build" "$top/examples" "${CHANGED:-40}" ||
+        fail "a program and the library differ"
     PYTHONPATH=$top/examples/python:$top/tests python3 "$top/tests/agree_library.py" ${CASES:-500 100 500} || fail "the model differs"
     PYTHONPATH=$top/examples/python:$top/tests python3 "$top/tests/largest_library.py" || fail "the largest inputs"
     # a library with a fault in one field of all records of a map

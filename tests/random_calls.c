@@ -2,8 +2,9 @@
  * first that v7_check refuses, and that one last. The answer, the file and the report must be equal. Each buffer ends at a page that
  * may not be touched, or begins after one. What a call reads may not be written, and nothing is written beside a result. Each call is made
  * once more with each of its requests for memory refused, and all later ones. The findings of v7_link_findings, as lines, must be the
- * report. Of the first object v7_disassemble must refuse what v7_strip refuses, and give for the stripped file what
- * v7_disassemble_words gives for its words, in such buffers and with memory refused. tests/library.sh compiles it as it does
+ * report. Of the first object v7_disassemble and v7_list must refuse what v7_strip refuses. v7_disassemble gives for the stripped file
+ * what v7_disassemble_words gives for its words, and v7_from_listing of the listing the file again, in such buffers and with memory
+ * refused. tests/library.sh compiles it as it does
  * tests/faults.c, and runs it.
  *
  * usage: random_calls NUMBER */
@@ -295,15 +296,19 @@ static int finds(uint32_t status, const struct v7_answer *wanted, const unsigned
            memcmp(text, lines, wanted->report_size) == 0;
 }
 
-/* ---- instructions: those of a file, or with an address those of words */
+/* ---- instructions: those of a file, or with an address those of words; and listings */
 
-enum { OF_FILE = -1 };
+enum { OF_FILE = -1, LISTED = -2, DESCRIBED = -3 };
 
 static uint32_t show(const struct buffer *in, int address, size_t size, struct v7_answer *answer)
 {
     fill(&file, size);
     if (address == OF_FILE)
         return v7_disassemble(in->at, in->size, file.at, size, answer);
+    if (address == LISTED)
+        return v7_list(in->at, in->size, file.at, size, answer);
+    if (address == DESCRIBED)
+        return v7_from_listing(in->at, in->size, file.at, size, answer);
     return v7_disassemble_words((uint16_t)address, (const uint16_t *)in->at, in->size / 2, file.at, size, answer);
 }
 
@@ -361,6 +366,24 @@ static int is_disassembled(const struct buffer *b)
     return answer.fault == 0 && shows(&words, 0, text, answer.size);
 }
 
+/* whether the listing of a file is that file again */
+static int is_listed(const struct buffer *b)
+{
+    static unsigned char room[SPACE], text[SPACE];
+    struct v7_answer whole, answer;
+
+    v7_strip(b->at, b->size, room, SPACE, &whole);
+    if (whole.fault != 0)
+        return refuses(b, LISTED, SPACE, whole.fault, 0);
+    v7_list(b->at, b->size, text, SPACE, &answer);
+    if (answer.fault != 0 || !shows(b, LISTED, text, answer.size))
+        return 0;
+    place(&words, answer.size, (int)below(2));
+    memcpy(words.at, text, answer.size);
+    v7_from_listing(text, words.size, room, SPACE, &answer);
+    return answer.fault == 0 && answer.size <= b->size && memcmp(room, b->at, answer.size) == 0 && shows(&words, DESCRIBED, room, answer.size);
+}
+
 int main(int argc, char **argv)
 {
     static unsigned char room[SPACE], lines[SPACE];
@@ -387,6 +410,10 @@ int main(int argc, char **argv)
         }
         if (count > 0 && !is_disassembled(&inputs[0])) {
             printf("call %ld: the instructions of an object differ\n", n);
+            return 1;
+        }
+        if (count > 0 && !is_listed(&inputs[0])) {
+            printf("call %ld: the listing of an object differs\n", n);
             return 1;
         }
         refused += wanted.fault >= V7_SHORT_HEADER && wanted.fault <= V7_BAD_SYMBOL_NUMBER;

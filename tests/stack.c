@@ -49,6 +49,14 @@ static void *call_all(void *unused)
     called(v7_nm(V7_NM_BY_VALUE, objects, objects_size, room, ROOM, &answer), &answer);
     called(v7_size(objects, objects_size, room, ROOM, &answer), &answer);
     called(v7_disassemble(objects, objects_size, room, ROOM, &answer), &answer);
+    called(v7_list(objects, objects_size, more, ROOM, &answer), &answer);
+    called(v7_from_listing(more, answer.size, room, ROOM, &answer), &answer);
+    called(v7_from_gnu(0, objects, objects_size, room, ROOM, &answer), &answer);
+    /* all remarks are made, and then their sizes told */
+    if (v7_remarks(objects, objects_size, more, 0, NULL, 0, &answer) == 2 && answer.fault != V7_NO_ROOM)
+        exit(3);
+    calls++;
+    results++;
     called(v7_disassemble_words(0, (const uint16_t *)objects, objects_size / 2, room, ROOM, &answer), &answer);
     for (option = 0; option < 128; option = 2 * option + (option == 0)) {
         called(v7_link(option, none, 0, none, 0, objects, objects_size, room, ROOM, more, ROOM, &answer), &answer);
@@ -115,5 +123,5 @@ int main(void)
     edits[COUNT - 1] = V7_WITHDRAW;
     call_in_thread();
     printf("%u calls, %u with a result\n", calls, results);
-    return calls != 118 || results < 104;
+    return calls != 126 || results < 110;
 }

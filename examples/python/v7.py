@@ -56,6 +56,35 @@ FROM_PC = 1
 # the parts of an object: the word of a fault if one is too long
 TEXT_PART, DATA_PART, BSS_PART, SYMBOLS_PART = 1, 2, 3, 4
 
+# options of a conversion from GNU's form
+DROP_DEBUGGER, DROP_UNUSED, DROP_LOCALS = 1, 2, 4
+
+# kinds of remarks: the first seven are wrong, and the last two suspicious
+(
+    REMARK_SHORT_HEADER,
+    REMARK_BAD_MAGIC,
+    REMARK_ODD_SIZE,
+    REMARK_TRUNCATED,
+    REMARK_BAD_RELOCATION,
+    REMARK_BAD_SYMBOL_NUMBER,
+    REMARK_MORE_BAD_WORDS,
+    REMARK_IGNORED_ENTRY,
+    REMARK_IGNORED_WORD,
+    REMARK_BYTES_AFTER_TABLE,
+    REMARK_IGNORED_RELOCATION_BITS,
+    REMARK_OUTSIDE_REFERENCE,
+    REMARK_EMPTY_NAME,
+    REMARK_UNPRINTABLE_NAME,
+    REMARK_BYTES_AFTER_NAME,
+    REMARK_REPEATED_NAME,
+    REMARK_IGNORED_TYPE_BITS,
+    REMARK_UNKNOWN_TYPE,
+    REMARK_ODD_COMMON,
+    REMARK_OUTSIDE_VALUE,
+    REMARK_RELOCATED_FIRST_WORD,
+    REMARK_UNSUITABLE_PC_BIT,
+) = range(1, 23)
+
 # of a name in a map, and of its uses
 NAME_IS_PLACED, NAME_IS_UNDEFINED, NAME_IS_MULTIPLE = 1, 2, 4
 DEFINES, MAKES_COMMON, WANTS, FORCES, TEXT_WORD, DATA_WORD = range(1, 7)
@@ -158,6 +187,14 @@ class Map(NamedTuple):
     limits: List[MapLimit]
 
 
+class Remark(NamedTuple):
+    """A remark on a file: one of REMARK_SHORT_HEADER to REMARK_UNSUITABLE_PC_BIT, the byte of the file, and the text."""
+
+    kind: int
+    byte: int
+    text: str
+
+
 class Parts(NamedTuple):
     """An object in parts: pairs of a word and its relocation word, the size of bss in bytes, and triples of a name, a type word
     and a value."""
@@ -208,6 +245,30 @@ FAULTS: Dict[int, str] = {
     43: "symbol number too large",
     50: "no memory",
     60: "no room",
+    61: "a column is missing",
+    62: "not an octal number",
+    63: "over 177777",
+    64: "bad byte in a name",
+    65: "the address does not follow",
+    66: "the number does not follow",
+    67: "more than 32767 words",
+    68: "more than 5461 symbols",
+    69: "text, data or symbols is missing",
+    70: "unknown word",
+    71: "text, data and symbols are not in this order",
+    72: "magic and flag come before text, data and symbols",
+    73: "only symbols can follow symbols",
+    74: "no such magic number",
+    75: "odd size of bss",
+    81: "the strings have a length under 4",
+    82: "a symbol belongs to an overlay",
+    83: "a symbol has its name at no place of the strings",
+    84: "a symbol is for a debugger",
+    85: "a symbol has a description, and is not for a debugger",
+    86: "a linked program",
+    87: "two names are equal in eight bytes",
+    88: "a word refers to a symbol for a debugger",
+    89: "a word refers to a local that is dropped",
 }
 
 
@@ -225,6 +286,10 @@ class _Slice(ctypes.Structure):
 
 class _Finding(ctypes.Structure):
     _fields_ = [("name", ctypes.c_ubyte * 8), ("kind", ctypes.c_uint32)]
+
+
+class _Remark(ctypes.Structure):
+    _fields_ = [*((name, ctypes.c_size_t) for name in ("place", "text", "text_size")), ("kind", ctypes.c_uint32)]
 
 
 class _Header(ctypes.Structure):
@@ -345,8 +410,8 @@ class _Map(ctypes.Structure):
 
 
 class Fault(Exception):
-    """Why a call gives nothing: `fault` is its number, `place` that of the object or name, and `word` the index of the word, or the part
-    of an object that is too long.
+    """Why a call gives nothing: `fault` is its number, `place` that of the object or name, the line of a listing, or the byte of a file in
+    GNU's form, and `word` the index of the word, the part of an object that is too long, the column, or a number of that file.
 
     >>> try:
     ...     check(b"")
@@ -355,10 +420,16 @@ class Fault(Exception):
     11 short header, object 0
     """
 
-    def __init__(self, answer: Union[_Answer, _Result, _Map]) -> None:
+    def __init__(self, answer: Union[_Answer, _Result, _Map], is_byte: bool = False) -> None:
         text = FAULTS.get(answer.fault, f"fault {answer.fault}")
         where = f" at word {answer.word}" if answer.fault in (23, 24) else f" in part {answer.word}" if answer.fault == 6 else ""
-        super().__init__(f"{text}{where}, object {answer.place}" if 10 < answer.fault < 40 else text + where)
+        if is_byte:
+            where = f", byte {answer.place}" if answer.fault != 1 else ""
+        elif 60 < answer.fault < 76:
+            where = f", line {answer.place}, column {answer.word}"
+        elif 10 < answer.fault < 40:
+            where += f", object {answer.place}"
+        super().__init__(text + where)
         self.fault: int = answer.fault
         self.place: int = answer.place
         self.word: int = answer.word
@@ -394,8 +465,8 @@ def _room(size: int) -> Any:
     return ctypes.create_string_buffer(max(size, 1))
 
 
-def _given(name: str, *words: Any, guess: int = 0) -> bytes:
-    """Calls with a room of the guessed size, and again if the result is larger."""
+def _given(name: str, *words: Any, guess: int = 0, is_byte: bool = False) -> bytes:
+    """Calls with a room of the guessed size, and again if the result is larger. The place of a fault may be a byte."""
     call, answer = getattr(_LIBRARY, name), _Answer()
     for _ in range(2):
         room = _room(guess)
@@ -404,7 +475,7 @@ def _given(name: str, *words: Any, guess: int = 0) -> bytes:
             break
         guess = answer.size
     if answer.fault:
-        raise Fault(answer)
+        raise Fault(answer, is_byte)
     return bytes(room.raw[: answer.size])
 
 
@@ -481,6 +552,62 @@ def disassemble_words(words: Iterable[int], address: int = 0) -> str:
     """
     at = ctypes.c_uint16(_fitting("an address", address, 16))
     return _given("v7_disassemble_words", at, *_array(ctypes.c_uint16, [_fitting("a word", word, 16) for word in words])).decode("latin-1")
+
+
+def listing(data: bytes) -> str:
+    """The listing of a file, as `v7-explain` prints it without its notes; `from_listing` gives the file again.
+
+    >>> print(listing(make(text=[(0o207, NUMBER)], symbols=[("_f", TEXT | EXTERNAL, 0)])), end="")
+    text
+    _f:
+    000000  000207     0  rts pc
+    data
+    bss 0
+    symbols
+    0     _f         42  000000  T
+    """
+    return _given("v7_list", *_slice(data)).decode("latin-1")
+
+
+def from_listing(text: str) -> bytes:
+    """The file that a listing describes, as `v7-object` writes it.
+
+    >>> from_listing("text\\n000000 207 0\\n") == make(text=[(0o207, NUMBER)])
+    True
+    >>> from_listing("text\\n000000 209 0\\n")
+    Traceback (most recent call last):
+    v7.Fault: not an octal number, line 2, column 8
+    """
+    return _given("v7_from_listing", *_slice(text.encode("latin-1")))
+
+
+def from_gnu(data: bytes, options: int = 0) -> bytes:
+    """The object that one of GNU's assembler becomes, as `v7-from-gnu` writes it.
+
+    >>> from_gnu(b"short")
+    Traceback (most recent call last):
+    v7.Fault: short header, byte 5
+    """
+    return _given("v7_from_gnu", _number("the options", options), *_slice(data), is_byte=True)
+
+
+def remarks(data: bytes) -> List[Remark]:
+    """What is wrong and odd in a file, as `v7-explain` tells it.
+
+    >>> for remark in remarks(b"\\7\\1"):
+    ...     print(remark.kind == REMARK_SHORT_HEADER, remark.byte, remark.text)
+    True 2 short header: the file ends here, and a header has 16 bytes
+    """
+    sizes, answer = (0, 0), _Answer()
+    for _ in range(2):
+        texts, found = _room(sizes[0]), (_Remark * max(sizes[1], 1))()
+        _LIBRARY.v7_remarks(*_slice(data), texts, ctypes.c_size_t(sizes[0]), found, ctypes.c_size_t(sizes[1]), ctypes.byref(answer))
+        if answer.fault != _NO_ROOM:
+            break
+        sizes = answer.size, answer.report_size
+    if answer.fault:
+        raise Fault(answer)
+    return [Remark(each.kind, each.place, texts.raw[each.text : each.text + each.text_size].decode("latin-1")) for each in found[: answer.report_size]]
 
 
 def _padded(name: str) -> bytes:

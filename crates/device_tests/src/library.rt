@@ -4,8 +4,9 @@ use aout_core::{ObjectFault, ReadFault};
 use fixtures::{TWO_OBJECTS, UNDEFINED, sized};
 use library_calls::{
     Cause, LinkRequest, LongPart, ObjectBytes, ObjectParts, ObjectWord, Refusal, ReportedName,
-    Shown, check, disassemble, disassemble_words, link, link_each, link_findings, list_symbols,
-    make, read_apart, run_session, show_session, show_sizes, strip, take_apart,
+    Shown, check, disassemble, disassemble_words, from_gnu, from_listing, link, link_each,
+    link_findings, list_file, list_symbols, make, read_apart, remarks_of, run_session,
+    show_session, show_sizes, strip, take_apart,
 };
 use std::alloc::{AllocError, Global};
 use std::test::Fail;
@@ -59,6 +60,78 @@ fn instructions_shown(rt: HostRuntime) {
     let words = [0o401, 0o12767, 0o177777, 0, 0o12737];
     assert!(rt; gives(disassemble_words(alloc, 0o177776, &words), PLAIN));
     assert!(rt; gives(disassemble_words(alloc, 0o177776, &[]), b""));
+}
+
+/// What v7-explain prints of `c.o`, without notes.
+const C_O_LIST: &[u8] = b"text
+L1:
+000000  004767     0  jsr pc,_f
+000002  177774    11  _f, from the pc
+data
+bss 0
+symbols
+0     _f         40  000000  U
+1     L1          2  000000  t
+";
+
+/// The number of the fault of a listing, its line and its column.
+fn mistake(alloc: Global, text: &[u8]) -> Option<(u32, usize, u32)> {
+    let refusal = from_listing(alloc, text).err()?;
+    Some((refusal.cause.number(), refusal.place, refusal.cause.word()))
+}
+
+#[test]
+fn listings_written_and_read(rt: HostRuntime) {
+    let alloc = rt.alloc();
+    assert!(rt; gives(list_file(alloc, &C_O), C_O_LIST));
+    let cause = Cause::BadFile(ReadFault::Truncated);
+    assert!(rt; list_file(alloc, &C_O[..47]).err() == Some(cause));
+    let again = from_listing(alloc, C_O_LIST);
+    assert!(rt; again.is_ok_and(|written| written.as_slice() == C_O.as_slice()));
+    assert!(rt; mistake(alloc, b"text\n000000  9 0\n") == Some((62, 2, 9)));
+    assert!(rt; mistake(alloc, b"symbols\nsymbols\n") == Some((73, 2, 1)));
+    assert!(rt; mistake(alloc, b"bss 1\n") == Some((75, 1, 5)));
+}
+
+/// The number of the fault of a conversion, its byte and the number in it.
+fn conversion_refused(alloc: Global, options: u32, bytes: &[u8]) -> Option<(u32, usize, u32)> {
+    let refusal = from_gnu(alloc, options, bytes).err()?;
+    Some((refusal.cause.number(), refusal.place, refusal.cause.word()))
+}
+
+#[test]
+fn gnu_objects_converted(rt: HostRuntime) {
+    let alloc = rt.alloc();
+    // an object without symbols has both forms
+    let same = from_gnu(alloc, 0, &A_O);
+    assert!(rt; same.is_ok_and(|written| written.as_slice() == A_O.as_slice()));
+    assert!(rt; conversion_refused(alloc, 8, &A_O) == Some((1, 0, 0)));
+    assert!(rt; conversion_refused(alloc, 7, &A_O[..15]) == Some((11, 15, 0)));
+}
+
+/// The kind, the byte and the size of the text of the only remark.
+fn only_remark(alloc: Global, bytes: &[u8]) -> Option<(u32, usize, usize)> {
+    let remarks = remarks_of(alloc, bytes).ok()?;
+    match remarks.records.as_slice() {
+        [only] if only.text == 0 && only.text_size == remarks.texts.len() => {
+            Some((only.kind, only.place, only.text_size))
+        }
+        _ => None,
+    }
+}
+
+#[test]
+fn files_remarked(rt: HostRuntime) {
+    let alloc = rt.alloc();
+    let none = remarks_of(alloc, &C_O);
+    assert!(rt; none.is_ok_and(|remarks| remarks.status == 0 && remarks.records.is_empty()));
+    let cut =
+        "truncated: the file ends here, in the symbol table; by its header it has 060 (48) bytes";
+    assert!(rt; only_remark(alloc, &C_O[..47]) == Some((4, 47, cut.len())));
+    let wrong = remarks_of(alloc, &C_O[..47]);
+    assert!(rt;
+        wrong.is_ok_and(|remarks| remarks.status == 1 && remarks.texts.as_slice() == cut.as_bytes())
+    );
 }
 
 /// Whether an object that is taken apart is made again of its parts; and whether it is too long with more bss.

@@ -7,3 +7,6 @@ pub mod MemoryLemmas
 pub mod RunLemmas
 pub mod NextLemmas
 pub mod NumberLemmas
+pub mod ListingLemmas
+pub mod GnuLemmas
+pub mod RemarkLemmas

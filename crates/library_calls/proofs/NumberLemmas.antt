@@ -12,10 +12,10 @@ use Rattle.aout_core.specs.WellFormed.{first_object_fault}
 use Rattle.instructions.specs.declared.unix.Decoder.TheVariants.{Pdp11}
 use Rattle.link_out.specs.Steps.{and_then, refused_as, unless}
 use Rattle.library_calls.specs.declared.cause.Cause.{Cause}
-use Rattle.library_calls.specs.declared.cause.Cause.TheVariants.{NoOption, Excluded, LongName, CutNames, ManyNames, TooLong, NoEdit, BadFile, BadObject, NotAdded, NotLinked}
+use Rattle.library_calls.specs.declared.cause.Cause.TheVariants.{NoOption, Excluded, LongName, CutNames, ManyNames, TooLong, NoEdit, BadFile, BadObject, NotAdded, NotLinked, BadListing}
 use Rattle.library_calls.specs.declared.cause.LongPart.TheVariants as long
 use Rattle.library_calls.specs.declared.cause.Refusal.{Refusal}
-use Rattle.library_calls.specs.Causes.{at, number_of}
+use Rattle.library_calls.specs.Causes.{at, mistake_of, number_of, reason_number}
 use Rattle.link_session.specs.declared.entry.AddFault.TheVariants as adds
 use Rattle.tool_options.specs.ForcedNames.{takes, with_name}
 use Rattle.link_session.specs.Edits.{Change, addition, answers, survivors, withdrawal}
@@ -37,7 +37,12 @@ use Rattle.aout_core.specs.Strip.{stripped}
 use Rattle.symtools.specs.NmLists.{nm_text}
 use Rattle.symtools.specs.SizeLines.{size_text}
 use Rattle.disassemblies.specs.Columns.{disassembly}
+use Rattle.listings.specs.Reading.{read}
+use Rattle.listings.specs.declared.fault.Fault.{Fault}
+use Rattle.listings.specs.declared.fault.Reason.{Reason}
+use Rattle.listings.specs.declared.fault.Reason.TheVariants as reasons
 use Rattle.library_calls.specs.FileAnswers.{after_file, checked_in, disassembled_in, file_in, names_in, nm_options_in, nm_options_of, object_in, object_of, sizes_in, stripped_in}
+use Rattle.library_calls.specs.ListingAnswers.{described_in, listed, listed_in}
 use Rattle.library_calls.specs.LinkAnswers.{found_each, found_of, linked_each, linked_in, objects_in, outcome_each, output_each, output_in, output_of, with_each, with_first, with_most, with_object}
 use Rattle.library_calls.specs.LinkRequests.{choices_in, entry_of, flags_in, forced_in, name_of, unless_long, with_names}
 use Rattle.library_calls.specs.ObjectParts.{Pieces, contents_for, file_for, header_for, header_of, made_of, parts_in, pieces_of, whole_in}
@@ -52,18 +57,18 @@ CauseIsNotMemory r = IfErr r (λ cause. number_of cause ≡ 50 → ⊥)
 abbrev pub IsNotMemory : {A : Type 0} → Result A Refusal → Type 0
 IsNotMemory r = IfErr r (λ refusal. number_of refusal.cause ≡ 50 → ⊥)
 
-other : (n : ℕ) → (eqb n 50 ≡ false) → n ≡ 50 → ⊥
+pub other : (n : ℕ) → (eqb n 50 ≡ false) → n ≡ 50 → ⊥
 other n differs is = let same : eqb n 50 ≡ true = ap (λ m. eqb m 50) is in absurd (cc)
 
 not_memory_then : {A B : Type 0} (r : Result A Cause) (f : A → Result B Cause) → CauseIsNotMemory r → ((x : A) → CauseIsNotMemory (f x)) → CauseIsNotMemory (and_then r f)
 not_memory_then (Ok x) f first next = next x
 not_memory_then (Err cause) f first next = first
 
-is_not_memory_then : {A B : Type 0} (r : Result A Refusal) (f : A → Result B Refusal) → IsNotMemory r → ((x : A) → IsNotMemory (f x)) → IsNotMemory (and_then r f)
+pub is_not_memory_then : {A B : Type 0} (r : Result A Refusal) (f : A → Result B Refusal) → IsNotMemory r → ((x : A) → IsNotMemory (f x)) → IsNotMemory (and_then r f)
 is_not_memory_then (Ok x) f first next = next x
 is_not_memory_then (Err refusal) f first next = first
 
-is_not_memory_at : {A : Type 0} (place : ℕ) (r : Result A Cause) → CauseIsNotMemory r → IsNotMemory (at place r)
+pub is_not_memory_at : {A : Type 0} (place : ℕ) (r : Result A Cause) → CauseIsNotMemory r → IsNotMemory (at place r)
 is_not_memory_at place (Ok x) h = tt
 is_not_memory_at place (Err cause) h = h
 
@@ -105,6 +110,33 @@ not_memory_sizes bytes = not_memory_then (file_in bytes) (λ c. Ok (size_text ((
 
 pub not_memory_disassembled : (bytes : List ℕ) → CauseIsNotMemory (disassembled_in bytes)
 not_memory_disassembled bytes = not_memory_then (file_in bytes) (λ c. Ok (disassembly Pdp11 c)) (not_memory_file bytes) (λ c. tt)
+
+pub not_memory_listed : (bytes : List ℕ) → CauseIsNotMemory (listed_in bytes)
+not_memory_listed bytes = not_memory_then (file_in bytes) (λ c. Ok (listed c)) (not_memory_file bytes) (λ c. tt)
+
+pub not_memory_reason : (reason : Reason) → reason_number reason ≡ 50 → ⊥
+not_memory_reason reasons.Missing = other 61 refl
+not_memory_reason reasons.NotOctal = other 62 refl
+not_memory_reason reasons.TooLarge = other 63 refl
+not_memory_reason reasons.BadName = other 64 refl
+not_memory_reason reasons.WrongAddress = other 65 refl
+not_memory_reason reasons.WrongNumber = other 66 refl
+not_memory_reason reasons.TooManyWords = other 67 refl
+not_memory_reason reasons.TooManySymbols = other 68 refl
+not_memory_reason reasons.NoSection = other 69 refl
+not_memory_reason reasons.UnknownWord = other 70 refl
+not_memory_reason reasons.OutOfOrder = other 71 refl
+not_memory_reason reasons.TooLate = other 72 refl
+not_memory_reason reasons.AfterTable = other 73 refl
+not_memory_reason reasons.NoMagic = other 74 refl
+not_memory_reason reasons.OddSize = other 75 refl
+
+not_memory_mistake : (r : Result Contents Fault) → IsNotMemory (refused_as mistake_of r)
+not_memory_mistake (Ok c) = tt
+not_memory_mistake (Err fault) = not_memory_reason fault.reason
+
+pub not_memory_described : (text : List ℕ) → IsNotMemory (described_in text)
+not_memory_described text = is_not_memory_then (refused_as mistake_of (read text)) (λ c. Ok (encoding c)) (not_memory_mistake (read text)) (λ c. tt)
 
 pub not_memory_apart : (bytes : List ℕ) → CauseIsNotMemory (parts_in bytes)
 not_memory_apart bytes = not_memory_then (object_in bytes) (λ c. Ok (pieces_of c)) (not_memory_object bytes) (λ c. tt)

@@ -8,4 +8,7 @@ pub mod StateAnswers
 pub mod MemoryWanted
 pub mod RunAnswers
 pub mod MapAnswers
+pub mod ListingAnswers
+pub mod GnuAnswers
+pub mod RemarkAnswers
 pub mod internal

@@ -1,11 +1,13 @@
 //! Why a call has no answer.
 ghost use Rattle.std.specs.Prelude.{◌≡◌};
-ghost use Rattle.library_calls.specs.Causes.{cause_of_addition, cause_of_link, cause_of_read, number_of, word_of};
+ghost use Rattle.library_calls.specs.Causes.{cause_of_addition, cause_of_link, cause_of_read, column_word, gnu_number, gnu_word, number_of, object_word, reason_number, size_number, word_of};
 ghost use Rattle.library_calls.specs.declared.cause.Cause.TheVariants.{Memory};
 
 use aout_core::{DeviceFault, ObjectFault, ReadFault};
+use gnu_objects::Size;
 use link_out::LinkFault;
 use link_session::AddFault;
+use listings::{Fault, Reason};
 use std::alloc::AllocError;
 use symtools::ToolFault;
 
@@ -47,6 +49,10 @@ pub enum Cause {
     NotAdded(AddFault),
     /// 41 to 43: the objects can't be linked.
     NotLinked(LinkFault),
+    /// 61 to 75: a listing has this mistake.
+    BadListing(Fault),
+    /// 11 to 14, 21 to 24, 42 and 81 to 89: an object in GNU's form is refused.
+    NotConverted(gnu_objects::Refusal),
     /// 50: memory ran out.
     Memory,
 }
@@ -56,8 +62,8 @@ pub enum Cause {
 pub struct Refusal {
     /// Why there is no answer.
     pub cause: Cause,
-    /// The number of the object that is not taken, of the forced name, or of the edit, from 0; and 0 if the cause lies
-    /// in none of these.
+    /// The number of the object that is not taken, of the forced name, or of the edit, from 0. For a mistake in a listing it is the line,
+    /// from 1, and for an object in GNU's form the byte, from 0. For other causes it is 0.
     pub place: usize,
 }
 
@@ -208,6 +214,51 @@ fn link_number(fault: LinkFault) -> u32
     }
 }
 
+fn reason_number(reason: Reason) -> u32
+    ensures { result ≡ reason_number reason }
+{
+    match reason {
+        Reason::Missing => 61,
+        Reason::NotOctal => 62,
+        Reason::TooLarge => 63,
+        Reason::BadName => 64,
+        Reason::WrongAddress => 65,
+        Reason::WrongNumber => 66,
+        Reason::TooManyWords => 67,
+        Reason::TooManySymbols => 68,
+        Reason::NoSection => 69,
+        Reason::UnknownWord => 70,
+        Reason::OutOfOrder => 71,
+        Reason::TooLate => 72,
+        Reason::AfterTable => 73,
+        Reason::NoMagic => 74,
+        Reason::OddSize => 75,
+    }
+}
+
+fn gnu_number(refusal: gnu_objects::Refusal) -> u32
+    ensures { result ≡ gnu_number refusal }
+{
+    match refusal {
+        gnu_objects::Refusal::ShortHeader => 11,
+        gnu_objects::Refusal::BadMagic(_) => 12,
+        gnu_objects::Refusal::OddSize(_) => 13,
+        gnu_objects::Refusal::Truncated => 14,
+        gnu_objects::Refusal::BadWord(fault) => object_number(fault),
+        gnu_objects::Refusal::TooManySymbols(_) => 42,
+        gnu_objects::Refusal::Memory => 50,
+        gnu_objects::Refusal::BadStrings => 81,
+        gnu_objects::Refusal::Overlay(_) => 82,
+        gnu_objects::Refusal::BadPlace(_) => 83,
+        gnu_objects::Refusal::Stab(_) => 84,
+        gnu_objects::Refusal::Description(_) => 85,
+        gnu_objects::Refusal::Linked(_) => 86,
+        gnu_objects::Refusal::AlikeNames(_, _) => 87,
+        gnu_objects::Refusal::StabWord(_) => 88,
+        gnu_objects::Refusal::LocalWord(_, _) => 89,
+    }
+}
+
 fn part_number(part: LongPart) -> u32
     ensures { result ≡ word_of (Cause.TooLong part) }
 {
@@ -216,6 +267,63 @@ fn part_number(part: LongPart) -> u32
         LongPart::Data => 2,
         LongPart::Bss => 3,
         LongPart::Symbols => 4,
+    }
+}
+
+/// The column of a mistake, or the last number that there is.
+fn column_word(column: usize) -> u32
+    ensures { result ≡ column_word column }
+{
+    if column < 4_294_967_296 {
+        column as u32
+    } else {
+        4_294_967_295
+    }
+}
+
+fn size_number(size: Size) -> u32
+    ensures { result ≡ size_number size }
+{
+    match size {
+        Size::TextSize => 1,
+        Size::DataSize => 2,
+        Size::BssSize => 3,
+        Size::SymbolSize => 4,
+    }
+}
+
+fn object_word(fault: ObjectFault) -> u32
+    ensures { result ≡ object_word fault }
+{
+    match fault {
+        ObjectFault::BadRelocation(index) | ObjectFault::BadSymbolNumber(index) => {
+            u32::from(index)
+        }
+        _ => 0,
+    }
+}
+
+/// The number in a refusal, of two the first.
+fn gnu_word(refusal: gnu_objects::Refusal) -> u32
+    ensures { result ≡ gnu_word refusal }
+{
+    match refusal {
+        gnu_objects::Refusal::OddSize(size) => size_number(size),
+        gnu_objects::Refusal::BadWord(fault) => object_word(fault),
+        gnu_objects::Refusal::BadMagic(number)
+        | gnu_objects::Refusal::Overlay(number)
+        | gnu_objects::Refusal::BadPlace(number)
+        | gnu_objects::Refusal::Stab(number)
+        | gnu_objects::Refusal::Description(number)
+        | gnu_objects::Refusal::Linked(number)
+        | gnu_objects::Refusal::TooManySymbols(number)
+        | gnu_objects::Refusal::AlikeNames(number, _)
+        | gnu_objects::Refusal::StabWord(number)
+        | gnu_objects::Refusal::LocalWord(number, _) => u32::from(number),
+        gnu_objects::Refusal::ShortHeader
+        | gnu_objects::Refusal::Truncated
+        | gnu_objects::Refusal::BadStrings
+        | gnu_objects::Refusal::Memory => 0,
     }
 }
 
@@ -236,19 +344,23 @@ impl Cause {
             Cause::BadObject(fault) => object_number(fault),
             Cause::NotAdded(fault) => u32::from(addition_number(fault)),
             Cause::NotLinked(fault) => link_number(fault),
+            Cause::BadListing(fault) => reason_number(fault.reason),
+            Cause::NotConverted(refusal) => gnu_number(refusal),
             Cause::Memory => 50,
         }
     }
 
-    /// The index of the word that is at fault, text before data, from 0, or the number of the part that is too long. 0 for
-    /// other causes. (own choice)
+    /// The index of the word that is at fault, text before data, from 0, or the number of the part that is too long. For a mistake in a
+    /// listing it is the column, from 1, and columns from 2^32 - 1 on have that number. For an object in GNU's form it is the number in
+    /// the refusal, and of two the first. Other causes have 0. (own choice)
     pub fn word(&self) -> u32
         ensures { result ≡ word_of self.now }
     {
         match *self {
             Cause::TooLong(part) => part_number(part),
-            Cause::BadObject(ObjectFault::BadRelocation(index)) => u32::from(index),
-            Cause::BadObject(ObjectFault::BadSymbolNumber(index)) => u32::from(index),
+            Cause::BadObject(fault) => object_word(fault),
+            Cause::BadListing(fault) => column_word(fault.column),
+            Cause::NotConverted(refusal) => gnu_word(refusal),
             _ => 0,
         }
     }

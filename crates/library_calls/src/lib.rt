@@ -24,6 +24,7 @@
 //! - `ObjectWord`, `SymbolRow`: a word with its relocation word, and a symbol, of these parts
 //! - `Cause`, `Refusal`: why a call has no answer, and for which object or edit
 //! - `LongPart`: the part of an object that is too long
+//! - `Remarks`, `RemarkRecord`: what is wrong and odd in a file, as records and their texts
 //!
 //! Functions:
 //!
@@ -39,6 +40,9 @@
 //! - `strip`: a file without symbols and relocation
 //! - `list_symbols`, `show_sizes`: the lines of nm, and that of size
 //! - `disassemble`, `disassemble_words`: the text of a file, or words at an address, as instructions
+//! - `list_file`, `from_listing`: the listing of a file, and the file of a listing
+//! - `from_gnu`: the object that one in GNU's form becomes
+//! - `remarks_of`: what is wrong and odd in a file
 //!
 //! Nothing is kept between two calls. Objects are bytes, one after another: the header of each gives its length.
 #![tactic(auto)]
@@ -51,10 +55,13 @@ mod edits_apart;
 mod file_calls;
 mod findings_call;
 mod first;
+mod gnu_call;
 mod link_call;
+mod listing_calls;
 mod make_call;
 mod map_call;
 mod parts;
+mod remarks_call;
 mod requests;
 mod run_call;
 mod session_call;
@@ -66,11 +73,14 @@ pub use cause::{Cause, LongPart, Refusal};
 pub use disassembly::{disassemble, disassemble_words};
 pub use file_calls::{check, list_symbols, show_sizes, strip};
 pub use findings_call::{Found, ReportedName, link_findings};
+pub use gnu_call::from_gnu;
 pub use link_call::{LinkRequest, Program, link, link_each};
 pub use link_maps::{LimitRecord, MapRecords, NameRecord, ObjectRecord, UseRecord};
+pub use listing_calls::{from_listing, list_file};
 pub use make_call::make;
 pub use map_call::{MapHead, Mapped, map_link};
 pub use parts::{FileLists, ObjectBytes, ObjectParts, ObjectWord, PartLists, SymbolRow};
+pub use remarks_call::{RemarkRecord, Remarks, remarks_of};
 pub use run_call::{RunResult, run_link, run_session_of_parts};
 pub use session_call::{Ran, run_session};
 pub use state_call::{Form, Shown, show_session};

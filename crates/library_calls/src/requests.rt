@@ -11,7 +11,7 @@ use symtools::NmOptions;
 use tool_options::{Flags, Options};
 
 /// Whether the bit of value `place` is 1.
-fn has_bit(bits: u32, place: u32) -> bool
+pub(crate) fn has_bit(bits: u32, place: u32) -> bool
     requires { 0 < place }
     ensures { result ≡ has_bit bits place }
 {

@@ -1,6 +1,6 @@
 -- Steps of the loops of the reader.
-use Rattle.std.proofs.Common.{◌≡◌, ℕ, ◌+◌, ◌<◌, Bool, true, false, eqb, List, [], ◌∷◌, length, refl, sym, ◌∙◌, ap, arith}
-use Rattle.std.specs.Prelude.{Result, Ok, Err}
+use Rattle.std.proofs.Common.{◌≡◌, ℕ, ◌+◌, ◌<◌, Bool, true, false, eqb, List, [], ◌∷◌, length, refl, sym, ◌∙◌, ap, subst, inl, inr, arith}
+use Rattle.std.specs.Prelude.{Result, Ok, Err, IsOkAnd}
 use Rattle.aout_core.specs.Contents.{Contents, IsSound}
 use Rattle.listings.specs.declared.fault.Fault.{Fault}
 use Rattle.listings.specs.declared.fault.ListingFault.{ListingFault}
@@ -9,6 +9,7 @@ use Rattle.listings.specs.Drafts.{Draft, finished}
 use Rattle.listings.specs.Listing.{Remarks, listing}
 use Rattle.listings.specs.Laws.{AreRemarks}
 use Rattle.listings.specs.Reading.{Mistake, ◌>>=◌, row_read, in_line, lines_read, file_of, read}
+use Rattle.listings.specs.MemoryWanted.{IsEntry, MayRunOutInLines}
 use Rattle.listings.specs.Said.{Says, Gives}
 use Rattle.listings.specs.internal.Lines.{Stops}
 use Rattle.listings.proofs.ListingLemmas.{listing_read}
@@ -78,3 +79,18 @@ says_gives (Ok file) text x c said are sound is = same_file file c (read text) s
 says_gives (Err Memory) text x c said are sound is = refl
 says_gives (Err (Wrong fault)) text x c said are sound is =
     absurd (never c fault (read text) (ap read is ∙ listing_read x c are sound) said)
+
+-- memory may run out for the first line of a text, or for the others
+pub runs_out_here : (d : Draft) (text line : List ℕ) → 0 < length text → line ≡ first_line text → IsEntry d (row_of line) → MayRunOutInLines d (lines_in text)
+runs_out_here d [] line more is entry = absurd (omega arith)
+runs_out_here d (b ∷ bs) line more is entry =
+    subst (λ (ls : List (List ℕ)). MayRunOutInLines d ls) (sym (lines_cut b bs)) (inl (subst (λ (l : List ℕ). IsEntry d (row_of l)) is entry))
+
+pub runs_out_on : (d next : Draft) (text line others : List ℕ) → 0 < length text → line ≡ first_line text → others ≡ other_lines text →
+    row_read d (row_of line) ≡ Ok next → MayRunOutInLines next (lines_in others) → MayRunOutInLines d (lines_in text)
+runs_out_on d next [] line others more is rest found later = absurd (omega arith)
+runs_out_on d next (b ∷ bs) line others more is rest found later =
+    let row : row_read d (row_of (first_line (b ∷ bs))) ≡ Ok next = subst (λ (l : List ℕ). row_read d (row_of l) ≡ Ok next) is found in
+    let after : MayRunOutInLines next (lines_in (other_lines (b ∷ bs))) = subst (λ (o : List ℕ). MayRunOutInLines next (lines_in o)) rest later in
+    subst (λ (ls : List (List ℕ)). MayRunOutInLines d ls) (sym (lines_cut b bs))
+    (inr (subst (λ (r : Result Draft Mistake). IsOkAnd r (λ e. MayRunOutInLines e (lines_in (other_lines (b ∷ bs))))) (sym row) after))

@@ -5,5 +5,6 @@ pub mod Drafts
 pub mod Listing
 pub mod Reading
 pub mod Said
+pub mod MemoryWanted
 pub mod Laws
 pub mod internal

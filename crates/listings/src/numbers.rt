@@ -1,5 +1,6 @@
 //! The numbers and names of columns.
-ghost use Rattle.std.specs.Prelude.{◌≡◌, ℕ, List, [], ◌∷◌, IfOk, IfErr};
+ghost use Rattle.std.specs.Prelude.{◌≡◌, ◌≢◌, ℕ, List, [], ◌∷◌, IfOk, IfErr};
+ghost use Rattle.listings.specs.declared.fault.RowFault.TheVariants.{Memory};
 ghost use Rattle.listings.specs.Octal.{number};
 ghost use Rattle.listings.specs.Names.{bytes_from, name_of};
 ghost use Rattle.listings.specs.Reading.{in_column};
@@ -12,7 +13,8 @@ use texts::is_printable;
 
 /// The number in a column.
 pub(crate) fn number_at(place: usize, column: &[u8]) -> Result<u16, RowFault>
-    ensures { Found (λ n. n) result (in_column place (number column.now)) }
+    ensures found { Found (λ n. n) result (in_column place (number column.now)) }
+    ensures no_memory { IfErr result (λ fault. fault ≢ Memory) }
 {
     if column.is_empty() {
         return Err(RowFault::Wrong(place, Reason::Missing));

@@ -1,11 +1,13 @@
 //! Reads the listing of a file.
-ghost use Rattle.std.specs.Prelude.{◌≡◌, IfOk};
+ghost use Rattle.std.specs.Prelude.{◌≡◌, IfOk, IfErr};
 ghost use Rattle.aout_core.specs.Contents.{Contents, IsSound};
+ghost use Rattle.listings.specs.declared.fault.ListingFault.TheVariants.{Memory};
 ghost use Rattle.listings.specs.Columns.{lines_in, row_of};
 ghost use Rattle.listings.specs.Drafts.{finished};
 ghost use Rattle.listings.specs.Listing.{Remarks, listing};
 ghost use Rattle.listings.specs.Laws.{AreRemarks};
 ghost use Rattle.listings.specs.Reading.{in_line, row_read, lines_read, read};
+ghost use Rattle.listings.specs.MemoryWanted.{IsEntry, ListingMayRunOut, MayRunOutInLines};
 ghost use Rattle.listings.specs.Said.{Gives, Says};
 ghost use Rattle.listings.specs.internal.DraftParts.{draft_of};
 ghost use Rattle.listings.specs.internal.Lines.{Goes};
@@ -26,7 +28,8 @@ fn read_line(
     line: &[u8],
 ) -> Result<(), ListingFault>
     requires { IsDraft (draft_of draft.old) }
-    ensures { Goes (draft_of draft.new) result (in_line number line.now (row_read (draft_of draft.old) (row_of line.now))) }
+    ensures goes { Goes (draft_of draft.new) result (in_line number line.now (row_read (draft_of draft.old) (row_of line.now))) }
+    ensures memory { IfErr result (λ fault. fault ≡ Memory → IsEntry (draft_of draft.old) (row_of line.now)) }
 {
     match read_row(alloc, draft, line) {
         Ok(()) => Ok(()),
@@ -44,6 +47,7 @@ fn read_lines(alloc: Global, draft: &mut FileDraft, text: &[u8]) -> Result<(), L
     requires { IsDraft (draft_of draft.old) }
     ensures goes { Goes (draft_of draft.new) result (lines_read 1 (draft_of draft.old) (lines_in text.now)) }
     ensures whole { IfOk result (λ u. IsDraft (draft_of draft.new)) }
+    ensures memory { IfErr result (λ fault. fault ≡ Memory → MayRunOutInLines (draft_of draft.old) (lines_in text.now)) }
 {
     let mut rest = text;
     let mut number = 1usize;
@@ -92,7 +96,8 @@ fn finish(draft: FileDraft) -> File
 }
 
 fn read_all(alloc: Global, text: &[u8]) -> Result<File, ListingFault>
-    ensures { Says result (read text.now) }
+    ensures says { Says result (read text.now) }
+    ensures memory { IfErr result (λ fault. fault ≡ Memory → ListingMayRunOut text.now) }
 {
     let mut draft = FileDraft::new(alloc);
     read_lines(alloc, &mut draft, text)?;
@@ -102,9 +107,10 @@ fn read_all(alloc: Global, text: &[u8]) -> Result<File, ListingFault>
 /// Makes the file of a listing. The listing that `write_listing` makes of a file gives that file, whatever is remarked in it.
 /// (own choice)
 ///
-/// Errors: `Wrong` with the first mistake of the listing; `Memory` if memory runs out for the file.
+/// Errors: `Wrong` with the first mistake of the listing; `Memory` if memory runs out for a word or a symbol.
 pub fn read_listing(alloc: Global, text: &[u8]) -> Result<File, ListingFault>
     ensures says { Says result (read text.now) }
+    ensures memory { IfErr result (λ fault. fault ≡ Memory → ListingMayRunOut text.now) }
     ensures again { (x : Remarks) (c : Contents) → AreRemarks x → IsSound c → text.now ≡ listing x c → Gives result c }
 {
     read_all(alloc, text)

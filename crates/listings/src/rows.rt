@@ -1,12 +1,15 @@
 //! Reads a row of a listing into a draft.
-ghost use Rattle.std.specs.Prelude.{◌≡◌, ◌<◌, ◌^◌, ◌*◌, length, option_to_list, Ok};
+ghost use Rattle.std.specs.Prelude.{◌≡◌, ◌≢◌, ◌<◌, ◌^◌, ◌*◌, length, option_to_list, Ok, IfErr, IsTrue};
 ghost use Rattle.std.specs.Cmp.Lexicographic.{pointwise};
 ghost use Rattle.listings.specs.Columns.{row_of};
 ghost use Rattle.listings.specs.internal.Rows.{row_in};
+ghost use Rattle.listings.specs.declared.fault.RowFault.TheVariants.{Memory};
+ghost use Rattle.listings.specs.declared.fault.Section.TheVariants.{InHeader};
 ghost use Rattle.listings.specs.declared.fault.Word.TheVariants.{Bss, Magic, Flag};
 ghost use Rattle.listings.specs.Octal.{number};
 ghost use Rattle.aout_core.specs.Addresses.{data_start};
 ghost use Rattle.listings.specs.Reading.{in_column, relocs_of, with_word, word_entry, symbol_entry, entry_in, is_word, word_in, rank, opened, named_by, named, is_label, row_read};
+ghost use Rattle.listings.specs.MemoryWanted.{IsEntry};
 ghost use Rattle.listings.specs.internal.DraftParts.{segment_of, draft_of};
 ghost use Rattle.listings.specs.internal.Whole.{IsDraft};
 ghost use Rattle.listings.specs.internal.Answers.{Found, Leaves};
@@ -20,7 +23,8 @@ use std::alloc::Global;
 
 /// A relocation word, if the file has relocation.
 fn reloc_of(flag: u16, third: &[u8]) -> Result<Option<Reloc>, RowFault>
-    ensures { Found (λ r. option_to_list r) result (relocs_of flag third.now) }
+    ensures found { Found (λ r. option_to_list r) result (relocs_of flag third.now) }
+    ensures no_memory { IfErr result (λ fault. fault ≢ Memory) }
 {
     if flag == 0 {
         Ok(Some(Reloc(number_at(2, third)?)))
@@ -89,7 +93,8 @@ fn symbol_entry(alloc: Global, symbols: &mut Vec<Symbol>, columns: Columns) -> R
 /// Reads a row that begins with a digit.
 fn entry_in(alloc: Global, draft: &mut FileDraft, columns: Columns) -> Result<(), RowFault>
     requires { IsDraft (draft_of draft.old) }
-    ensures { Leaves (draft_of draft.new) result (entry_in draft.old.section (draft_of draft.old) (row_in columns.entry)) }
+    ensures left { Leaves (draft_of draft.new) result (entry_in draft.old.section (draft_of draft.old) (row_in columns.entry)) }
+    ensures memory { IfErr result (λ fault. fault ≡ Memory → draft.old.section ≢ InHeader) }
 {
     match draft.section {
         Section::InHeader => Err(RowFault::Wrong(0, Reason::NoSection)),
@@ -153,7 +158,8 @@ fn rank(section: Section) -> u8
 
 /// Opens a section.
 fn open(draft: &mut FileDraft, section: Section) -> Result<(), RowFault>
-    ensures { Leaves (draft_of draft.new) result (opened section (draft_of draft.old)) }
+    ensures left { Leaves (draft_of draft.new) result (opened section (draft_of draft.old)) }
+    ensures no_memory { IfErr result (λ fault. fault ≢ Memory) }
 {
     if rank(draft.section) >= rank(section) {
         return Err(RowFault::Wrong(0, Reason::OutOfOrder));
@@ -164,7 +170,8 @@ fn open(draft: &mut FileDraft, section: Section) -> Result<(), RowFault>
 
 /// Takes the size of bss.
 fn take_bss(draft: &mut FileDraft, second: &[u8]) -> Result<(), RowFault>
-    ensures { Leaves (draft_of draft.new) result (named_by Bss (draft_of draft.old) (in_column 1 (number second.now))) }
+    ensures left { Leaves (draft_of draft.new) result (named_by Bss (draft_of draft.old) (in_column 1 (number second.now))) }
+    ensures no_memory { IfErr result (λ fault. fault ≢ Memory) }
 {
     let size = number_at(1, second)?;
     if size % 2 != 0 {
@@ -176,7 +183,8 @@ fn take_bss(draft: &mut FileDraft, second: &[u8]) -> Result<(), RowFault>
 
 /// Takes the magic number.
 fn take_magic(draft: &mut FileDraft, second: &[u8]) -> Result<(), RowFault>
-    ensures { Leaves (draft_of draft.new) result (named_by Magic (draft_of draft.old) (in_column 1 (number second.now))) }
+    ensures left { Leaves (draft_of draft.new) result (named_by Magic (draft_of draft.old) (in_column 1 (number second.now))) }
+    ensures no_memory { IfErr result (λ fault. fault ≢ Memory) }
 {
     if draft.section != Section::InHeader {
         return Err(RowFault::Wrong(0, Reason::TooLate));
@@ -191,7 +199,8 @@ fn take_magic(draft: &mut FileDraft, second: &[u8]) -> Result<(), RowFault>
 
 /// Takes the flag.
 fn take_flag(draft: &mut FileDraft, second: &[u8]) -> Result<(), RowFault>
-    ensures { Leaves (draft_of draft.new) result (named_by Flag (draft_of draft.old) (in_column 1 (number second.now))) }
+    ensures left { Leaves (draft_of draft.new) result (named_by Flag (draft_of draft.old) (in_column 1 (number second.now))) }
+    ensures no_memory { IfErr result (λ fault. fault ≢ Memory) }
 {
     if draft.section != Section::InHeader {
         return Err(RowFault::Wrong(0, Reason::TooLate));
@@ -202,7 +211,8 @@ fn take_flag(draft: &mut FileDraft, second: &[u8]) -> Result<(), RowFault>
 
 /// Takes what a word says.
 fn take_word(draft: &mut FileDraft, word: Word, second: &[u8]) -> Result<(), RowFault>
-    ensures { Leaves (draft_of draft.new) result (named_by word (draft_of draft.old) (in_column 1 (number second.now))) }
+    ensures left { Leaves (draft_of draft.new) result (named_by word (draft_of draft.old) (in_column 1 (number second.now))) }
+    ensures no_memory { IfErr result (λ fault. fault ≢ Memory) }
 {
     match word {
         Word::Text => open(draft, Section::InText),
@@ -225,7 +235,8 @@ fn take_word(draft: &mut FileDraft, word: Word, second: &[u8]) -> Result<(), Row
 
 /// Reads a row that begins with a word.
 fn named(draft: &mut FileDraft, columns: Columns) -> Result<(), RowFault>
-    ensures { Leaves (draft_of draft.new) result (named (draft_of draft.old) (row_in columns.entry)) }
+    ensures left { Leaves (draft_of draft.new) result (named (draft_of draft.old) (row_in columns.entry)) }
+    ensures no_memory { IfErr result (λ fault. fault ≢ Memory) }
 {
     if draft.section == Section::InSymbols {
         return Err(RowFault::Wrong(0, Reason::AfterTable));
@@ -244,7 +255,8 @@ fn is_label(columns: Columns) -> bool
 /// Reads a row.
 pub(crate) fn read_row(alloc: Global, draft: &mut FileDraft, line: &[u8]) -> Result<(), RowFault>
     requires { IsDraft (draft_of draft.old) }
-    ensures { Leaves (draft_of draft.new) result (row_read (draft_of draft.old) (row_of line.now)) }
+    ensures left { Leaves (draft_of draft.new) result (row_read (draft_of draft.old) (row_of line.now)) }
+    ensures memory { IfErr result (λ fault. fault ≡ Memory → IsEntry (draft_of draft.old) (row_of line.now)) }
 {
     let columns = columns_of(line);
     let Some(&byte) = columns.first.first() else {

@@ -2,28 +2,58 @@
 use Rattle.std.proofs.Common.{◌≡◌, ◌≢◌, ℕ, Bool, true, false, cond, nat_lt, ◌||◌, List, [], length, Result, Ok, Err, IfOk, IfErr, inl, inr, refl, sym, ap, subst, ◌∙◌, arith}
 use Rattle.std.specs.Prelude.{◌⊎◌, IsErr, IsErrAnd, IsOk, MatchResult, Vec}
 use Rattle.std.specs.declared.alloc.Global.{Global}
+use Rattle.aout_core.specs.declared.object.ObjectFault.{ObjectFault}
 use Rattle.aout_core.specs.declared.object.ObjectFault.TheVariants as objects
 use Rattle.library_calls.specs.declared.cause.Cause.{Cause}
-use Rattle.library_calls.specs.declared.cause.Cause.TheVariants.{NoOption, Excluded, LongName, CutNames, ManyNames, TooLong, NoEdit, BadFile, BadObject, NotAdded, NotLinked, Memory}
+use Rattle.library_calls.specs.declared.cause.Cause.TheVariants.{NoOption, Excluded, LongName, CutNames, ManyNames, TooLong, NoEdit, BadFile, BadObject, NotAdded, NotLinked, BadListing, NotConverted, Memory}
 use Rattle.library_calls.specs.declared.cause.Refusal.{Refusal}
 use Rattle.library_calls.specs.declared.findings_call.ReportedName.{ReportedName}
 use Rattle.library_calls.specs.declared.findings_call.Found.{Found}
 use Rattle.library_calls.specs.declared.link_call.Program.{Program}
-use Rattle.library_calls.proofs.NumberLemmas.{IsNotMemory, CauseIsNotMemory, not_memory_made}
+use Rattle.gnu_objects.specs.declared.refusal.Refusal as gnu
+use Rattle.gnu_objects.specs.declared.refusal.Refusal.TheVariants as refusals
+use Rattle.library_calls.proofs.NumberLemmas.{IsNotMemory, CauseIsNotMemory, not_memory_made, not_memory_reason}
 use Rattle.library_calls.specs.declared.parts.FileLists.{FileLists}
 use Rattle.library_calls.specs.declared.parts.ObjectWord.{ObjectWord}
 use Rattle.library_calls.specs.declared.parts.PartLists.{PartLists}
 use Rattle.library_calls.specs.declared.parts.SymbolRow.{SymbolRow}
+use Rattle.library_calls.specs.declared.remarks_call.RemarkRecord.{RemarkRecord}
+use Rattle.library_calls.specs.declared.remarks_call.Remarks.{Remarks}
 use Rattle.library_calls.specs.declared.session_call.Ran.{Ran}
 use Rattle.library_calls.specs.declared.state_call.Shown.{Shown}
-use Rattle.library_calls.specs.Causes.{number_of, word_of}
+use Rattle.library_calls.specs.Causes.{gnu_number, gnu_word, number_of, object_number, object_word, word_of}
 use Rattle.library_calls.specs.LinkAnswers.{Output, founds_of, outputs_of}
 use Rattle.library_calls.specs.ObjectParts.{Pieces, file_for, made_of, pieces_in}
+use Rattle.library_calls.specs.RemarkAnswers.{remarks_in}
 use Rattle.library_calls.specs.StateAnswers.{Asked, IsShown, states_of}
 use Rattle.v7_c.specs.declared.answer.Answer.{Answer}
 use Rattle.v7_c.specs.declared.answer.Counts.{Counts}
 use Rattle.v7_c.specs.declared.answer.FileHeader.{FileHeader}
-use Rattle.v7_c.specs.Left.{FileLeft, LeavesState, Left, LinkLeft, PartsLeft, file_left, no_header, read_left, wholes_or, counted_by, items_of, left, left_by, output_of_state, outputs_or, founds_or, SessionLeft, apart_left, counts_of, no_counts, of_none, parts_left, pieces_or, put_in, refused, given, link_left, output_left, no_output, no_session, ran_left, session_left, sessions_or, state_left, states_or}
+use Rattle.v7_c.specs.Left.{FileLeft, LeavesState, Left, LinkLeft, PartsLeft, file_left, no_header, read_left, wholes_or, bytes_or, counted_by, items_of, left, left_at, left_by, no_bytes_at, output_of_state, outputs_or, founds_or, SessionLeft, apart_left, counts_of, no_counts, of_none, parts_left, pieces_or, put_in, refused, remarks_or, given, link_left, output_left, no_output, no_session, ran_left, session_left, sessions_or, state_left, states_or}
+
+no_object_word : (fault : ObjectFault) → object_number fault ≡ 50 → object_word fault ≡ 0
+no_object_word objects.NotAnObject h = refl
+no_object_word objects.NoRelocation h = refl
+no_object_word (objects.BadRelocation index) h = let e : 23 ≡ 50 = h in absurd (omega (arith, e))
+no_object_word (objects.BadSymbolNumber index) h = let e : 24 ≡ 50 = h in absurd (omega (arith, e))
+
+no_gnu_word : (refusal : gnu.Refusal) → gnu_number refusal ≡ 50 → gnu_word refusal ≡ 0
+no_gnu_word refusals.ShortHeader h = refl
+no_gnu_word (refusals.BadMagic magic) h = let e : 12 ≡ 50 = h in absurd (omega (arith, e))
+no_gnu_word (refusals.OddSize size) h = let e : 13 ≡ 50 = h in absurd (omega (arith, e))
+no_gnu_word refusals.Truncated h = refl
+no_gnu_word refusals.BadStrings h = refl
+no_gnu_word (refusals.Overlay n) h = let e : 82 ≡ 50 = h in absurd (omega (arith, e))
+no_gnu_word (refusals.BadPlace n) h = let e : 83 ≡ 50 = h in absurd (omega (arith, e))
+no_gnu_word (refusals.Stab n) h = let e : 84 ≡ 50 = h in absurd (omega (arith, e))
+no_gnu_word (refusals.Description n) h = let e : 85 ≡ 50 = h in absurd (omega (arith, e))
+no_gnu_word (refusals.Linked entry) h = let e : 86 ≡ 50 = h in absurd (omega (arith, e))
+no_gnu_word (refusals.TooManySymbols count) h = let e : 42 ≡ 50 = h in absurd (omega (arith, e))
+no_gnu_word (refusals.AlikeNames n m) h = let e : 87 ≡ 50 = h in absurd (omega (arith, e))
+no_gnu_word (refusals.StabWord n) h = let e : 88 ≡ 50 = h in absurd (omega (arith, e))
+no_gnu_word (refusals.LocalWord n m) h = let e : 89 ≡ 50 = h in absurd (omega (arith, e))
+no_gnu_word (refusals.BadWord fault) h = no_object_word fault h
+no_gnu_word refusals.Memory h = refl
 
 -- a cause of the number of no memory lies in no word
 no_word : (cause : Cause) → number_of cause ≡ 50 → word_of cause ≡ 0
@@ -35,12 +65,11 @@ no_word ManyNames h = refl
 no_word (TooLong part) h = let e : 6 ≡ 50 = h in absurd (omega (arith, e))
 no_word NoEdit h = refl
 no_word (BadFile fault) h = refl
-no_word (BadObject objects.NotAnObject) h = refl
-no_word (BadObject objects.NoRelocation) h = refl
-no_word (BadObject (objects.BadRelocation index)) h = let e : 23 ≡ 50 = h in absurd (omega (arith, e))
-no_word (BadObject (objects.BadSymbolNumber index)) h = let e : 24 ≡ 50 = h in absurd (omega (arith, e))
+no_word (BadObject fault) h = no_object_word fault h
 no_word (NotAdded fault) h = refl
 no_word (NotLinked fault) h = refl
+no_word (BadListing fault) h = absurd (not_memory_reason fault.reason h)
+no_word (NotConverted refusal) h = no_gnu_word refusal h
 no_word Memory h = refl
 
 abbrev answer_with : ℕ → ℕ → ℕ → Answer
@@ -138,6 +167,8 @@ is_memory_or (BadFile fault) = inr (λ e. absurd (cc))
 is_memory_or (BadObject fault) = inr (λ e. absurd (cc))
 is_memory_or (NotAdded fault) = inr (λ e. absurd (cc))
 is_memory_or (NotLinked fault) = inr (λ e. absurd (cc))
+is_memory_or (BadListing fault) = inr (λ e. absurd (cc))
+is_memory_or (NotConverted refusal) = inr (λ e. absurd (cc))
 is_memory_or Memory = inl refl
 
 module _ {A B X : Type 0} (answer : Result A Cause) where
@@ -175,6 +206,21 @@ pub bytes_err : (status : ℕ) (answer : Answer) (old new : List ℕ) (r : Resul
 bytes_err status answer old new (Ok x) is h = absurd (bytes_fault status answer old new (Ok x) is h)
 bytes_err status answer old new (Err cause) is h = refl
 
+module _ (status : ℕ) (answer : Answer) (old new : List ℕ) where
+  -- what is refused at a place for memory, and has the answer's place
+  pub bytes_fault_at : (r : Result (Vec ℕ Global) Refusal) → left status answer new ≡ left_at (bytes_or r) old → answer.fault ≡ 50 →
+      IsErrAnd r (λ refusal. (number_of refusal.cause ≡ 50) × (answer.place ≡ refusal.place))
+  bytes_fault_at (Ok x) is h = absurd (bytes_fault status answer old new (Ok x) is h)
+  bytes_fault_at (Err refusal) is h = (sym (ap (λ (l : Left). l.answer.fault) is) ∙ h, ap (λ (l : Left). l.answer.place) is)
+
+  pub bytes_memory_at : (r : Result (Vec ℕ Global) Refusal) → left status answer new ≡ left_at (bytes_or r) old → answer.fault ≡ 50 →
+      left status answer new ≡ no_bytes_at answer.place old
+  bytes_memory_at (Ok x) is h = absurd (bytes_fault status answer old new (Ok x) is h)
+  bytes_memory_at (Err refusal) is h =
+      is
+      ∙ ap (λ (a : Answer). left 2 a old) (no_memory refusal (sym (ap (λ (l : Left). l.answer.fault) is) ∙ h))
+      ∙ ap (λ place. no_bytes_at place old) (sym (ap (λ (l : Left). l.answer.place) is))
+
 pub count_fault : (status : ℕ) (answer : Answer) (r : Result ℕ Cause) → left status answer [] ≡ counted_by r → answer.fault ≡ 50 → IsErrAnd r (λ cause. number_of cause ≡ 50)
 count_fault status answer (Ok x) is h =
     let e : 0 ≡ 50 = sym (ap (λ (l : Left). l.answer.fault) is) ∙ h in absurd (omega (arith, e))
@@ -205,6 +251,20 @@ module _ (status : ℕ) (answer : Answer) (old new report_old report_new : List 
       output_fault status answer old new report_old report_new (λ (s : Shown). record { status = s.status; file = s.state.items; report = s.replies.items }) (Ok x) (output_of_state (Ok (states_of x))) refl is h
   shown_fault (Err refusal) is h =
       output_fault status answer old new report_old report_new (λ (s : Shown). record { status = s.status; file = s.state.items; report = s.replies.items }) (Err refusal) (Err refusal) refl is h
+
+module _ (status : ℕ) (answer : Answer) (old new : List ℕ) (records_old records_new : List RemarkRecord) where
+  -- remarks are given, or memory ran out
+  pub remarks_value : (x : Output RemarkRecord) (r : Result Remarks Cause) → IfOk r (λ m. remarks_in m ≡ x) → IfErr r (λ cause. cause ≡ Memory) →
+      link_left status answer new records_new ≡ output_left (remarks_or r) old records_old → (answer.fault ≡ 50 → ⊥) → link_left status answer new records_new ≡ output_left (Ok x) old records_old
+  remarks_value x (Ok m) ok err is other = is ∙ ap (λ (y : Output RemarkRecord). output_left (Ok y) old records_old) ok
+  remarks_value x (Err cause) ok err is other = absurd (other (ap (λ (l : LinkLeft RemarkRecord). l.answer.fault) is ∙ ap number_of err))
+
+  pub remarks_memory : (r : Result Remarks Cause) → IfErr r (λ cause. cause ≡ Memory) → link_left status answer new records_new ≡ output_left (remarks_or r) old records_old → answer.fault ≡ 50 →
+      link_left status answer new records_new ≡ no_output 0 old records_old
+  remarks_memory (Ok m) err is h =
+      let r : Result Remarks Refusal = Ok m in
+      absurd (output_fault status answer old new records_old records_new remarks_in r (Ok (remarks_in m)) refl is h)
+  remarks_memory (Err cause) err is h = is ∙ ap (λ (c : Cause). output_left (Err (of_none c)) old records_old) err
 
 pub found_fault : (status : ℕ) (answer : Answer) (old new : List ℕ) (report_old report_new : List ReportedName) (r : Result Found Refusal) → link_left status answer new report_new ≡ output_left (founds_or r) old report_old → answer.fault ≡ 50 →
     IsErrAnd r (λ refusal. (number_of refusal.cause ≡ 50) × (answer.place ≡ refusal.place))

@@ -15,11 +15,14 @@ use Rattle.library_calls.specs.declared.parts.FileLists.{FileLists}
 use Rattle.library_calls.specs.declared.parts.ObjectWord.{ObjectWord}
 use Rattle.library_calls.specs.declared.parts.PartLists.{PartLists}
 use Rattle.library_calls.specs.declared.parts.SymbolRow.{SymbolRow}
+use Rattle.library_calls.specs.declared.remarks_call.RemarkRecord.{RemarkRecord}
+use Rattle.library_calls.specs.declared.remarks_call.Remarks.{Remarks}
 use Rattle.library_calls.specs.declared.session_call.Ran.{Ran}
 use Rattle.library_calls.specs.declared.state_call.Shown.{Shown}
 use Rattle.library_calls.specs.Causes.{number_of, word_of}
 use Rattle.library_calls.specs.LinkAnswers.{Output, founds_of, outputs_of}
 use Rattle.library_calls.specs.ObjectParts.{Pieces, Whole, pieces_in, whole_of}
+use Rattle.library_calls.specs.RemarkAnswers.{remarks_in}
 use Rattle.library_calls.specs.SessionAnswers.{SessionOutput, sessions_of}
 use Rattle.library_calls.specs.StateAnswers.{Asked, IsShown, StateOutput, states_of}
 use Rattle.v7_c.specs.declared.answer.Answer.{Answer}
@@ -66,6 +69,15 @@ counted_by (Ok count) = left 0 (given 0 count 0) []
 -- what a call leaves for which memory ran out
 abbrev pub no_bytes : List ℕ → Left
 no_bytes buffer = left_by (Err Memory) buffer
+
+-- the same of a call whose refusals have places
+abbrev pub left_at : Result (List ℕ) Refusal → List ℕ → Left
+left_at (Err r) buffer = left 2 (refused r) buffer
+left_at (Ok bytes) buffer = left_by (Ok bytes) buffer
+
+-- what it leaves if memory ran out, at this place
+abbrev pub no_bytes_at : ℕ → List ℕ → Left
+no_bytes_at place buffer = left_at (Err (record { cause = Memory; place = place })) buffer
 
 -- the same with a second buffer, for a report
 pub record LinkLeft (A : Type 0) : Type 0 where
@@ -182,6 +194,14 @@ read_left (Ok f) text datas symbols = file_left (header_of f.header) (apart_left
 abbrev pub items_of : Result (Vec ℕ Global) Cause → Result (List ℕ) Cause
 items_of (Ok bytes) = Ok bytes.items
 items_of (Err cause) = Err cause
+
+abbrev pub bytes_or : Result (Vec ℕ Global) Refusal → Result (List ℕ) Refusal
+bytes_or (Ok bytes) = Ok bytes.items
+bytes_or (Err r) = Err r
+
+abbrev pub remarks_or : Result Remarks Cause → Result (Output RemarkRecord) Refusal
+remarks_or (Ok x) = Ok (remarks_in x)
+remarks_or (Err cause) = Err (of_none cause)
 
 abbrev pub outputs_or : Result Program Refusal → Result (Output ℕ) Refusal
 outputs_or (Ok program) = Ok (outputs_of program)

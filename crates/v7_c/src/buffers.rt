@@ -2,14 +2,15 @@
 ghost use Rattle.std.specs.Prelude.{◌≡◌, ◌≤◌, [], length, Ok};
 ghost use Rattle.library_calls.specs.LinkAnswers.{founds_of, outputs_of};
 ghost use Rattle.library_calls.specs.ObjectParts.{pieces_in};
+ghost use Rattle.library_calls.specs.RemarkAnswers.{remarks_in};
 ghost use Rattle.library_calls.specs.SessionAnswers.{sessions_of};
 ghost use Rattle.library_calls.specs.StateAnswers.{states_of};
-ghost use Rattle.v7_c.specs.Left.{apart_left, counted_by, counts_of, file_left, founds_or, items_of, left, left_by, link_left, output_left, outputs_or, parts_left, pieces_or, put_in, ran_left, read_left, session_left, sessions_or, state_left, states_or, wholes_or};
+ghost use Rattle.v7_c.specs.Left.{apart_left, bytes_or, counted_by, counts_of, file_left, founds_or, items_of, left, left_at, left_by, link_left, output_left, outputs_or, parts_left, pieces_or, put_in, ran_left, read_left, remarks_or, session_left, sessions_or, state_left, states_or, wholes_or};
 
 use crate::answer::{Answer, Counts, FileHeader};
 use library_calls::{
-    Cause, FileLists, Found, ObjectWord, PartLists, Program, Ran, Refusal, ReportedName, Shown,
-    SymbolRow,
+    Cause, FileLists, Found, ObjectWord, PartLists, Program, Ran, Refusal, RemarkRecord, Remarks,
+    ReportedName, Shown, SymbolRow,
 };
 
 /// The fault if a buffer is too short.
@@ -40,6 +41,19 @@ pub(crate) fn leave_count(count: Result<usize, Cause>, answer: &mut Answer) -> u
 }
 
 /// Writes bytes into the buffer, if they fit.
+fn leave_all(bytes: &[u8], buffer: &mut [u8], answer: &mut Answer) -> u32
+    ensures { left result answer.new buffer.new ≡ left_by (Ok bytes.now) buffer.old }
+{
+    if buffer.len() < bytes.len() {
+        *answer = Answer::given(NO_ROOM, bytes.len(), 0);
+        return 2;
+    }
+    put(bytes, buffer);
+    *answer = Answer::given(0, bytes.len(), 0);
+    0
+}
+
+/// Writes bytes into the buffer, if there are some and they fit.
 pub(crate) fn leave_bytes(
     bytes: Result<Vec<u8>, Cause>,
     buffer: &mut [u8],
@@ -48,17 +62,26 @@ pub(crate) fn leave_bytes(
     ensures { left result answer.new buffer.new ≡ left_by (items_of bytes) buffer.old }
 {
     match bytes {
-        Ok(bytes) if buffer.len() < bytes.len() => {
-            *answer = Answer::given(NO_ROOM, bytes.len(), 0);
-            2
-        }
-        Ok(bytes) => {
-            put(&bytes, buffer);
-            *answer = Answer::given(0, bytes.len(), 0);
-            0
-        }
+        Ok(bytes) => leave_all(&bytes, buffer, answer),
         Err(cause) => {
             *answer = Answer::refused(Refusal::from(cause));
+            2
+        }
+    }
+}
+
+/// Writes bytes into the buffer, if they are not refused at some place and they fit.
+pub(crate) fn leave_bytes_at(
+    bytes: Result<Vec<u8>, Refusal>,
+    buffer: &mut [u8],
+    answer: &mut Answer,
+) -> u32
+    ensures { left result answer.new buffer.new ≡ left_at (bytes_or bytes) buffer.old }
+{
+    match bytes {
+        Ok(bytes) => leave_all(&bytes, buffer, answer),
+        Err(refusal) => {
+            *answer = Answer::refused(refusal);
             2
         }
     }
@@ -159,6 +182,41 @@ pub(crate) fn leave_findings(
         Ok(found) => leave_found(&found, buffer, findings, answer),
         Err(refusal) => {
             *answer = Answer::refused(refusal);
+            2
+        }
+    }
+}
+
+/// Writes remarks and their texts into the buffers, if both fit.
+fn leave_all_remarks(
+    remarks: &Remarks,
+    texts: &mut [u8],
+    records: &mut [RemarkRecord],
+    answer: &mut Answer,
+) -> u32
+    ensures { link_left result answer.new texts.new records.new ≡ output_left (Ok (remarks_in remarks.now)) texts.old records.old }
+{
+    let both = Both {
+        status: remarks.status,
+        bytes: &remarks.texts,
+        more: &remarks.records,
+    };
+    leave_both(&both, texts, records, answer)
+}
+
+/// Writes remarks and their texts into the buffers, if there are some and both fit.
+pub(crate) fn leave_remarks(
+    remarks: Result<Remarks, Cause>,
+    texts: &mut [u8],
+    records: &mut [RemarkRecord],
+    answer: &mut Answer,
+) -> u32
+    ensures { link_left result answer.new texts.new records.new ≡ output_left (remarks_or remarks) texts.old records.old }
+{
+    match remarks {
+        Ok(remarks) => leave_all_remarks(&remarks, texts, records, answer),
+        Err(cause) => {
+            *answer = Answer::refused(Refusal::from(cause));
             2
         }
     }

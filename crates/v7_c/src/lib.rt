@@ -12,23 +12,28 @@ ghost use Rattle.std.specs.Prelude.{◌≡◌, ◌≢◌, ◌⊎◌, [], Ok, Err
 ghost use Rattle.disassemblies.specs.Columns.{plain_disassembly};
 ghost use Rattle.library_calls.specs.declared.cause.Cause.TheVariants.{Memory};
 ghost use Rattle.library_calls.specs.FileAnswers.{checked_in, disassembled_in, names_in, sizes_in, stripped_in};
+ghost use Rattle.library_calls.specs.GnuAnswers.{ConversionMayRunOut, converted_in};
 ghost use Rattle.library_calls.specs.LinkAnswers.{each_of, found_each, output_each, output_in};
+ghost use Rattle.library_calls.specs.ListingAnswers.{DescribedMayRunOut, described_in, listed_in};
 ghost use Rattle.library_calls.specs.MemoryWanted.{HasBody, LinkMayRunOut, LinkOfEachMayRunOut, SessionMayRunOut, StateMayRunOut};
 ghost use Rattle.library_calls.specs.ObjectParts.{file_for, made_of, parts_in, pieces, whole_in};
+ghost use Rattle.library_calls.specs.RemarkAnswers.{remarked_in};
 ghost use Rattle.library_calls.specs.SessionAnswers.{session_in};
 ghost use Rattle.library_calls.specs.StateAnswers.{asked_in};
 ghost use Rattle.v7_c.specs.MapLeft.{LeavesMap};
 ghost use Rattle.v7_c.specs.RunLeft.{LeavesRun};
-ghost use Rattle.v7_c.specs.Left.{LeavesState, apart_left, counted_by, file_left, left, left_by, link_left, no_bytes, no_output, no_session, output_left, parts_left, ran_left, read_left, session_left};
+ghost use Rattle.v7_c.specs.Left.{LeavesState, apart_left, counted_by, file_left, left, left_at, left_by, link_left, no_bytes, no_bytes_at, no_output, no_session, output_left, parts_left, ran_left, read_left, session_left};
 
 use crate::answer::{Answer, Counts, FileHeader};
 use crate::buffers::{
-    leave_bytes, leave_count, leave_file, leave_findings, leave_output, leave_parts, leave_session,
-    leave_state,
+    leave_bytes, leave_bytes_at, leave_count, leave_file, leave_findings, leave_output,
+    leave_parts, leave_remarks, leave_session, leave_state,
 };
 use crate::map::MapAnswer;
 use crate::run::{Request, RunAnswer};
-use library_calls::{LinkRequest, ObjectBytes, ObjectParts, ObjectWord, ReportedName, SymbolRow};
+use library_calls::{
+    LinkRequest, ObjectBytes, ObjectParts, ObjectWord, RemarkRecord, ReportedName, SymbolRow,
+};
 use std::alloc::Global;
 
 /// The version of the library, 0.4.0: 65,536 for each major version, 256 for each minor version, and the patch.
@@ -120,6 +125,69 @@ pub extern "C" fn v7_disassemble_words(
     leave_bytes(
         library_calls::disassemble_words(alloc, address, words),
         room,
+        answer,
+    )
+}
+
+/// Lists a file.
+#[unsafe(no_mangle)]
+pub extern "C" fn v7_list(alloc: Global, bytes: &[u8], room: &mut [u8], answer: &mut Answer) -> u32
+    ensures value { answer.new.fault ≢ 50 → left result answer.new room.new ≡ left_by (listed_in bytes.now) room.old }
+    ensures memory { answer.new.fault ≡ 50 → left result answer.new room.new ≡ no_bytes room.old }
+    ensures ran_out { answer.new.fault ≡ 50 → IsOk (listed_in bytes.now) }
+{
+    leave_bytes(library_calls::list_file(alloc, bytes), room, answer)
+}
+
+/// Makes the file of a listing.
+#[unsafe(no_mangle)]
+pub extern "C" fn v7_from_listing(
+    alloc: Global,
+    text: &[u8],
+    room: &mut [u8],
+    answer: &mut Answer,
+) -> u32
+    ensures value { answer.new.fault ≢ 50 → left result answer.new room.new ≡ left_at (described_in text.now) room.old }
+    ensures memory { answer.new.fault ≡ 50 → left result answer.new room.new ≡ no_bytes_at answer.new.place room.old }
+    ensures ran_out { answer.new.fault ≡ 50 → DescribedMayRunOut text.now answer.new.place }
+{
+    leave_bytes_at(library_calls::from_listing(alloc, text), room, answer)
+}
+
+/// Converts an object of GNU's assembler.
+#[unsafe(no_mangle)]
+pub extern "C" fn v7_from_gnu(
+    alloc: Global,
+    options: u32,
+    bytes: &[u8],
+    room: &mut [u8],
+    answer: &mut Answer,
+) -> u32
+    ensures value { answer.new.fault ≢ 50 → left result answer.new room.new ≡ left_at (converted_in options bytes.now) room.old }
+    ensures memory { answer.new.fault ≡ 50 → left result answer.new room.new ≡ no_bytes_at answer.new.place room.old }
+    ensures ran_out { answer.new.fault ≡ 50 → ConversionMayRunOut options bytes.now answer.new.place }
+{
+    leave_bytes_at(library_calls::from_gnu(alloc, options, bytes), room, answer)
+}
+
+/// Tells what is wrong and odd in a file.
+#[unsafe(no_mangle)]
+pub extern "C" fn v7_remarks(
+    alloc: Global,
+    bytes: &[u8],
+    texts: &mut [u8],
+    remarks: &mut [RemarkRecord],
+    answer: &mut Answer,
+) -> u32
+    ensures value { answer.new.fault ≢ 50 → link_left result answer.new texts.new remarks.new
+        ≡ output_left (Ok (remarked_in bytes.now)) texts.old remarks.old }
+    ensures memory { answer.new.fault ≡ 50 → link_left result answer.new texts.new remarks.new
+        ≡ no_output 0 texts.old remarks.old }
+{
+    leave_remarks(
+        library_calls::remarks_of(alloc, bytes),
+        texts,
+        remarks,
         answer,
     )
 }

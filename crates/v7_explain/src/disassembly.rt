@@ -5,13 +5,13 @@ ghost use Rattle.texts.specs.Texts.{Puts};
 ghost use Rattle.listings.specs.Listing.{note_lines};
 ghost use Rattle.instructions.specs.declared.unix.Decoder.TheVariants.{Unix};
 ghost use Rattle.disassemblies.specs.Columns.{disassembly};
-ghost use Rattle.v7_explain.specs.Said.{printed};
+ghost use Rattle.explanations.specs.Said.{printed};
 
 use crate::output::Output;
-use crate::remarks::put_lines;
 use crate::source::{Source, as_object, bytes_at, file_in, put_kind_note, put_wrong};
 use aout_core::File;
 use disassemblies::put_disassembly;
+use explanations::put_lines;
 use findings::{Notes, wrong_words};
 use instructions::Decoder;
 use std::alloc::{AllocError, Global};

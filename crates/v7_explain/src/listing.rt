@@ -1,46 +1,15 @@
 //! Files as listings, in the form that `read_listing` of `listings` reads.
-ghost use Rattle.std.specs.Prelude.{◌≡◌, Ok, IfOk};
-ghost use Rattle.listings.specs.Listing.{listing};
-ghost use Rattle.listings.specs.Reading.{read};
-ghost use Rattle.instructions.specs.declared.unix.Decoder.TheVariants.{Unix};
-ghost use Rattle.disassemblies.specs.Starts.{starts};
-ghost use Rattle.v7_explain.specs.Said.{explained};
-
 use crate::output::Output;
-use crate::remarks::Explained;
 use crate::source::{GNU_NOTE, Source, as_object, bytes_at, file_in, put_kind_note, put_wrong};
 use crate::words::ListingWords;
 use aout_core::File;
-use disassemblies::{NamedFile, line_starts};
+use explanations::write_explained;
 use findings::{Notes, is_of_gnu, odd_of, put_findings, put_header, wrong_words};
-use instructions::Decoder;
-use listings::write_listing;
 use std::alloc::{AllocError, Global};
 use std::io::Write;
 use std::{fs, mem};
 use suspicions::suspicions_of;
 use texts::Text;
-
-/// The listing of a file, with notes before it and findings after it. Reading the listing gives the file.
-fn listing_of(
-    alloc: Global,
-    file: &File,
-    notes: &Notes,
-    findings: &Notes,
-) -> Result<Vec<u8>, AllocError>
-    ensures lists { IfOk result (λ v. v.items ≡ listing (explained (starts Unix file.now) file.now notes.now.lines findings.now.lines) file.now) }
-    ensures again { IfOk result (λ v. read v.items ≡ Ok file.now) }
-{
-    let starts = line_starts(alloc, Decoder::Unix, file)?;
-    let named = NamedFile::new(alloc, file)?;
-    let remarks = Explained {
-        file: &named,
-        starts: &starts,
-        notes,
-        findings,
-    };
-    write_listing(alloc, file, &remarks)
-}
 
 /// Adds the listing of a file, after these notes.
 fn list_file(
@@ -67,7 +36,7 @@ fn list_file(
     if notes.is_cut() || findings.is_cut() {
         return Err(AllocError);
     }
-    let listing = listing_of(alloc, &file, notes, &findings)?;
+    let listing = write_explained(alloc, &file, notes, &findings)?;
     output.text.put_bytes(&listing);
     Ok(())
 }

@@ -11,10 +11,8 @@ mod map_names;
 mod map_objects;
 mod map_text;
 mod output;
-mod remarks;
 mod source;
 mod words;
-mod words_in;
 
 use aout_core::show;
 use checking::check_files;

@@ -1,9 +1,9 @@
 //! A file that is explained, and what is said of it whatever becomes of it.
 use crate::output::Output;
-use crate::remarks::put_lines;
 use aout_core::{
     File, FileFault, Header, Object, ObjectFault, ReadFault, Wire, read_all, read_file,
 };
+use explanations::put_lines;
 use findings::{
     Finding, Notes, header_of, is_of_gnu, likeness, put_findings, put_header, put_kind, wrong_bytes,
 };

@@ -1,6 +1,7 @@
 use Rattle.std.proofs.Common.{◌≡◌, ◌+◌, ◌≤◌, length}
 use Rattle.listings.specs.Columns.{lines_in}
 use Rattle.listings.specs.internal.DraftParts.{draft_of}
+use Rattle.listings.specs.MemoryWanted.{MayRunOutInLines}
 use Rattle.listings.specs.Reading.{lines_read}
 use Rattle.listings.specs.internal.Whole.{IsDraft}
 use Rattle.listings.proofs.read.read_lines.Given as goal
@@ -10,6 +11,7 @@ invariant-loop-rest l =
     (l.number + length l.rest ≤ 1 + length l.fn.text)
     × IsDraft (draft_of l.draft)
     × (lines_read l.number (draft_of l.draft) (lines_in l.rest) ≡ lines_read 1 (draft_of l.fn.draft) (lines_in l.fn.text))
+    × (MayRunOutInLines (draft_of l.draft) (lines_in l.rest) → MayRunOutInLines (draft_of l.fn.draft) (lines_in l.fn.text))
 
 abbrev pub decreases-loop-rest : goal.decreases-loop-rest
 decreases-loop-rest l = length l.rest

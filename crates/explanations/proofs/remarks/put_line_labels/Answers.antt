@@ -1,0 +1,6 @@
+use Rattle.disassemblies.specs.Labels.{labels}
+use Rattle.explanations.proofs.remarks.put_line_labels.Goals as goal
+
+pub returns : goal.returns
+unfolding labels
+returns c = c.put_labels.ensures

@@ -1,0 +1,54 @@
+-- What is printed keeps to its line.
+use Rattle.std.proofs.Common.{◌≡◌, ℕ, ◌≤◌, Bool, true, false, ltb, List, [], ◌∷◌, ◌++◌, map, refl, arith}
+use Rattle.std.specs.List.{AllByRecursion}
+use Rattle.std.proofs.lemmas.Bool.{ltb-false}
+use Rattle.std.specs.Prelude.{◌*◌, ◌&&◌, eqb, nat_lt, if◌then◌else◌, length}
+use Rattle.aout_core.specs.Contents.{Contents}
+use Rattle.aout_core.specs.declared.part.Part.{Part}
+use Rattle.aout_core.specs.declared.part.Part.TheVariants as parts
+use Rattle.listings.specs.Laws.{IsLine, IsLabel, AreRemarks}
+use Rattle.instructions.specs.declared.unix.Decoder.TheVariants.{Unix}
+use Rattle.instructions.specs.UnixLines.{unix_length}
+use Rattle.disassemblies.specs.Lines.{unix_line_in}
+use Rattle.disassemblies.proofs.StartLemmas.{length_in}
+use Rattle.disassemblies.specs.Labels.{label_lines}
+use Rattle.disassemblies.specs.Starts.{is_start}
+use Rattle.explanations.specs.internal.SilentLabels.{are_labels}
+use Rattle.symtools.specs.SymbolLines.{letter}
+use Rattle.explanations.specs.Said.{printed_byte, printed, word_remark, labels_before, explained}
+
+append_line : (f g : List ℕ) → IsLine f → IsLine g → IsLine (f ++ g)
+append_line [] g hf hg = hg
+append_line (b ∷ bs) g hf hg = (hf.0, append_line bs g hf.1 hg)
+
+byte_line : (b : ℕ) (t : Bool) → ltb b 32 ≡ t → IsLine (printed_byte b)
+byte_line b true e = rw e (omega arith, (omega arith, (omega arith, (omega arith, tt))))
+byte_line b false e = let high : 32 ≤ b = ltb-false b 32 e in rw e (high, tt)
+
+printed_line : (bs : List ℕ) → IsLine (printed bs)
+printed_line [] = tt
+printed_line (b ∷ bs) = append_line (printed_byte b) (printed bs) (byte_line b (ltb b 32) refl) (printed_line bs)
+
+printed_lines : (ls : List (List ℕ)) → AllByRecursion IsLine (map printed ls)
+printed_lines [] = tt
+printed_lines (l ∷ ls) = (printed_line l, printed_lines ls)
+
+labels_by : (c : Contents) (i : ℕ) (last first : Bool) →
+    AllByRecursion IsLabel (if last then label_lines c.symbols (2 * i) 0
+    else (if first then label_lines c.symbols (2 * i) (unix_length (unix_line_in Unix c i)) else []))
+labels_by c i true first = are_labels c.symbols (2 * i) 0 (omega arith)
+labels_by c i false true = are_labels c.symbols (2 * i) (unix_length (unix_line_in Unix c i)) (length_in Unix c i).1
+labels_by c i false false = tt
+
+labels_are : (starts : List Bool) (c : Contents) (p : Part) (i : ℕ) → AllByRecursion IsLabel (labels_before starts c p i)
+labels_are starts c parts.Text i = labels_by c i (eqb i (length c.text_words)) (nat_lt i (length c.text_words) && is_start starts i)
+labels_are starts c parts.Data i = tt
+
+pub explained_lines : (starts : List Bool) (c : Contents) (notes findings : List (List ℕ)) → AreRemarks (explained starts c notes findings)
+explained_lines starts c notes findings = record {
+  notes = printed_lines notes;
+  findings = printed_lines findings;
+  labels = λ p i. labels_are starts c p i;
+  word = λ p i. printed_line (word_remark starts c p i);
+  symbol = λ s. printed_line (letter s ∷ []);
+}

@@ -1,0 +1,31 @@
+-- What a call says of listings: that of a file, and the file of one. (own choice)
+use Rattle.std.specs.Prelude.{◌≡◌, ◌⊎◌, ℕ, List, [], Result, Ok, IsOk}
+use Rattle.aout_core.specs.Contents.{Contents}
+use Rattle.aout_core.specs.Encoding.{encoding}
+use Rattle.disassemblies.specs.Starts.{starts}
+use Rattle.explanations.specs.Said.{explained}
+use Rattle.instructions.specs.declared.unix.Decoder.TheVariants.{Unix}
+use Rattle.link_out.specs.Steps.{and_then, refused_as}
+use Rattle.listings.specs.Listing.{listing}
+use Rattle.listings.specs.MemoryWanted.{ListingMayRunOut}
+use Rattle.listings.specs.Reading.{read}
+use Rattle.library_calls.specs.declared.cause.Cause.{Cause}
+use Rattle.library_calls.specs.declared.cause.Refusal.{Refusal}
+use Rattle.library_calls.specs.Causes.{mistake_of}
+use Rattle.library_calls.specs.FileAnswers.{file_in}
+
+-- the listing with explanations, and without notes
+abbrev pub listed : Contents → List ℕ
+listed c = listing (explained (starts Unix c) c [] []) c
+
+-- the listing of the file that the bytes begin with
+abbrev pub listed_in : List ℕ → Result (List ℕ) Cause
+listed_in bytes = and_then (file_in bytes) (λ c. Ok (listed c))
+
+-- the bytes of the file that a listing describes, or its first mistake
+abbrev pub described_in : List ℕ → Result (List ℕ) Refusal
+described_in text = and_then (refused_as mistake_of (read text)) (λ c. Ok (encoding c))
+
+-- memory may run out for a word or a symbol of the listing, or for the bytes of the file; that has no place
+abbrev pub DescribedMayRunOut : List ℕ → ℕ → Type 0
+DescribedMayRunOut text place = (place ≡ 0) × (ListingMayRunOut text ⊎ IsOk (described_in text))

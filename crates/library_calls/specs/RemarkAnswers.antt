@@ -1,0 +1,92 @@
+-- What a call remarks of a file: what is wrong and odd in it, as records with their texts. (own choice)
+--
+-- Each record has the place of its text among all texts, which are one after another.
+use Rattle.std.specs.Prelude.{ℕ, ◌+◌, is_none, if◌then◌else◌, List, [], ◌∷◌, ◌++◌, length, Option, Some, None, Result, Ok, Err}
+use Rattle.std.specs.List.{flat_map}
+use Rattle.aout_core.specs.Contents.{Contents}
+use Rattle.aout_core.specs.Decoding.{decode}
+use Rattle.aout_core.specs.WellFormed.{first_object_fault}
+use Rattle.aout_core.specs.declared.file.ReadFault.{ReadFault}
+use Rattle.aout_core.specs.declared.object.ObjectFault.{ObjectFault}
+use Rattle.aout_core.specs.declared.object.ObjectFault.TheVariants.{NotAnObject, NoRelocation, BadRelocation, BadSymbolNumber}
+use Rattle.findings.specs.Found.{Found}
+use Rattle.findings.specs.Odd.{odd}
+use Rattle.findings.specs.Wrong.{wrong_bytes, wrong_words}
+use Rattle.findings.specs.declared.finding.FindingKind.{FindingKind}
+use Rattle.findings.specs.declared.finding.FindingKind.TheVariants as kinds
+use Rattle.suspicions.specs.Suspicions.{suspicions}
+use Rattle.library_calls.specs.LinkAnswers.{Output}
+use Rattle.library_calls.specs.declared.remarks_call.RemarkRecord.{RemarkRecord}
+use Rattle.library_calls.specs.declared.remarks_call.Remarks.{Remarks}
+
+-- what is wrong has 1 to 7, what is odd 8 to 20, and what is suspicious 21 and 22
+abbrev pub kind_number : FindingKind → ℕ
+kind_number kinds.ShortHeader = 1
+kind_number kinds.BadMagic = 2
+kind_number kinds.OddSize = 3
+kind_number kinds.Truncated = 4
+kind_number kinds.BadRelocation = 5
+kind_number kinds.BadSymbolNumber = 6
+kind_number kinds.MoreBadWords = 7
+kind_number kinds.IgnoredEntry = 8
+kind_number kinds.IgnoredWord = 9
+kind_number kinds.BytesAfterTable = 10
+kind_number kinds.IgnoredRelocationBits = 11
+kind_number kinds.OutsideReference = 12
+kind_number kinds.EmptyName = 13
+kind_number kinds.UnprintableName = 14
+kind_number kinds.BytesAfterName = 15
+kind_number kinds.RepeatedName = 16
+kind_number kinds.IgnoredTypeBits = 17
+kind_number kinds.UnknownType = 18
+kind_number kinds.OddCommon = 19
+kind_number kinds.OutsideValue = 20
+kind_number kinds.RelocatedFirstWord = 21
+kind_number kinds.UnsuitablePcBit = 22
+
+-- the texts, one after another
+abbrev pub texts_of : List Found → List ℕ
+texts_of found = flat_map (λ (f : Found). f.text) found
+
+-- the records of these, whose texts begin at this place of all texts
+abbrev pub records_from : ℕ → List Found → List RemarkRecord
+records_from at [] = []
+records_from at (f ∷ fs) =
+    record { place = f.place; text = at; text_size = length f.text; kind = kind_number f.kind } ∷ records_from (at + length f.text) fs
+
+-- ---- what is remarked
+
+-- a word that makes ld refuse an object
+abbrev pub wrong_for : Option ObjectFault → Contents → List Found
+wrong_for None c = []
+wrong_for (Some NotAnObject) c = []
+wrong_for (Some NoRelocation) c = []
+wrong_for (Some (BadRelocation index)) c = wrong_words c
+wrong_for (Some (BadSymbolNumber index)) c = wrong_words c
+
+abbrev pub wrong_by : List ℕ → Result Contents ReadFault → List Found
+wrong_by bytes (Err fault) = wrong_bytes fault bytes
+wrong_by bytes (Ok c) = wrong_for (first_object_fault c) c
+
+abbrev pub odd_by : List ℕ → Result Contents ReadFault → List Found
+odd_by bytes (Err fault) = []
+odd_by bytes (Ok c) = odd bytes c ++ suspicions c
+
+-- 1 if something is wrong
+abbrev pub status_by : List Found → ℕ
+status_by [] = 0
+status_by (f ∷ fs) = 1
+
+abbrev pub remarked_by : List Found → List Found → Output RemarkRecord
+remarked_by wrong odd = record {
+  status = status_by wrong;
+  file = texts_of (wrong ++ odd);
+  report = records_from 0 (wrong ++ odd);
+}
+
+-- what is wrong in the bytes, and then what is odd in the file that they begin with
+abbrev pub remarked_in : List ℕ → Output RemarkRecord
+remarked_in bytes = remarked_by (wrong_by bytes (decode bytes)) (odd_by bytes (decode bytes))
+
+abbrev pub remarks_in : Remarks → Output RemarkRecord
+remarks_in x = record { status = x.status; file = x.texts.items; report = x.records.items }

@@ -1,0 +1,67 @@
+//! Listings: that of a file, and the file of one.
+ghost use Rattle.std.specs.Prelude.{◌≡◌, ◌≢◌, Ok, Err, IsOk, IfOk, IfErr};
+ghost use Rattle.link_out.specs.Steps.{refused_as};
+ghost use Rattle.listings.specs.MemoryWanted.{ListingMayRunOut};
+ghost use Rattle.listings.specs.Reading.{read};
+ghost use Rattle.library_calls.specs.Causes.{mistake_of};
+ghost use Rattle.library_calls.specs.ListingAnswers.{DescribedMayRunOut, described_in, listed, listed_in};
+ghost use Rattle.library_calls.specs.declared.cause.Cause.TheVariants.{Memory};
+
+use crate::cause::{Cause, Refusal};
+use crate::file_calls::bytes_of;
+use crate::first::first_file;
+use aout_core::File;
+use explanations::write_explained;
+use findings::Notes;
+use listings::{ListingFault, read_listing};
+use std::alloc::{AllocError, Global};
+
+/// The listing of a file with explanations, and without notes.
+fn listing_of(alloc: Global, file: &File) -> Result<Vec<u8>, AllocError>
+    ensures { IfOk result (λ text. text.items ≡ listed file.now) }
+{
+    let none = Notes::new(alloc);
+    write_explained(alloc, file, &none, &none)
+}
+
+/// The listing of the file that the bytes begin with, as v7-explain(1) prints it but for the lines that begin with a slash.
+/// `from_listing` gives the bytes of the file again. What is after the file is not looked at. (own choice)
+///
+/// Errors: `BadFile`, 11 to 14, if the bytes do not begin with a file; else `Memory`, 50, if memory runs out.
+pub fn list_file(alloc: Global, bytes: &[u8]) -> Result<Vec<u8>, Cause>
+    ensures ok { IfOk result (λ text. listed_in bytes.now ≡ Ok text.items) }
+    ensures err { IfErr result (λ cause. cause ≢ Memory → listed_in bytes.now ≡ Err cause) }
+    ensures memory { IfErr result (λ cause. cause ≡ Memory → IsOk (listed_in bytes.now)) }
+{
+    let (file, _) = first_file(alloc, bytes)?;
+    Ok(listing_of(alloc, &file)?)
+}
+
+/// The file that a listing describes.
+fn file_described(alloc: Global, text: &[u8]) -> Result<File, Refusal>
+    ensures ok { IfOk result (λ file. refused_as mistake_of (read text.now) ≡ Ok file) }
+    ensures err { IfErr result (λ r. r.cause ≢ Memory → refused_as mistake_of (read text.now) ≡ Err r) }
+    ensures memory { IfErr result (λ r. r.cause ≡ Memory → (r.place ≡ 0) × ListingMayRunOut text.now) }
+{
+    match read_listing(alloc, text) {
+        Ok(file) => Ok(file),
+        Err(ListingFault::Memory) => Err(Refusal::from(Cause::Memory)),
+        Err(ListingFault::Wrong(fault)) => Err(Refusal {
+            cause: Cause::BadListing(fault),
+            place: fault.line,
+        }),
+    }
+}
+
+/// The bytes of the file that a listing describes. (own choice)
+///
+/// Errors: `BadListing`, 61 to 75, for the first mistake, with its line as the place; `Memory`, 50, if memory runs out for a word, a
+/// symbol or the file.
+pub fn from_listing(alloc: Global, text: &[u8]) -> Result<Vec<u8>, Refusal>
+    ensures ok { IfOk result (λ written. described_in text.now ≡ Ok written.items) }
+    ensures err { IfErr result (λ r. r.cause ≢ Memory → described_in text.now ≡ Err r) }
+    ensures memory { IfErr result (λ r. r.cause ≡ Memory → DescribedMayRunOut text.now r.place) }
+{
+    let file = file_described(alloc, text)?;
+    Ok(bytes_of(alloc, &file)?)
+}

@@ -1,0 +1,191 @@
+//! What is wrong and odd in a file, as records.
+ghost use Rattle.std.specs.Prelude.{◌≡◌, ◌++◌, ◌∷◌, [], length, IfOk, IfErr};
+ghost use Rattle.aout_core.specs.Decoding.{decode};
+ghost use Rattle.aout_core.specs.WellFormed.{first_object_fault};
+ghost use Rattle.findings.specs.Found.{all_found, found_in};
+ghost use Rattle.findings.specs.Odd.{odd};
+ghost use Rattle.suspicions.specs.Suspicions.{suspicions};
+ghost use Rattle.library_calls.specs.RemarkAnswers.{kind_number, odd_by, records_from, remarked_by, remarked_in, remarks_in, status_by, texts_of, wrong_by, wrong_for};
+ghost use Rattle.library_calls.specs.declared.cause.Cause.TheVariants.{Memory};
+
+use crate::cause::Cause;
+use crate::first::first_file;
+use aout_core::{File, Object, ObjectFault};
+use findings::{Finding, FindingKind, odd_of, wrong_bytes, wrong_words};
+use std::alloc::{AllocError, Global};
+use suspicions::suspicions_of;
+
+/// A remark on a file. (own choice)
+#[repr(C)]
+#[derive(Clone, Copy, Debug, PartialEq, Eq)]
+pub struct RemarkRecord {
+    /// The byte of the file, from 0.
+    pub place: usize,
+    /// Where its text begins among all texts, from 0.
+    pub text: usize,
+    pub text_size: usize,
+    /// What is remarked: 1 to 7 are wrong, 8 to 20 odd, 21 and 22 suspicious.
+    pub kind: u32,
+}
+
+/// All remarks on a file. (own choice)
+#[derive(Debug, Drop)]
+pub struct Remarks {
+    /// 1 if something is wrong, else 0.
+    pub status: u8,
+    /// The texts of the records, one after another.
+    pub texts: Vec<u8>,
+    pub records: Vec<RemarkRecord>,
+}
+
+fn kind_number(kind: FindingKind) -> u32
+    ensures { result ≡ kind_number kind }
+{
+    match kind {
+        FindingKind::ShortHeader => 1,
+        FindingKind::BadMagic => 2,
+        FindingKind::OddSize => 3,
+        FindingKind::Truncated => 4,
+        FindingKind::BadRelocation => 5,
+        FindingKind::BadSymbolNumber => 6,
+        FindingKind::MoreBadWords => 7,
+        FindingKind::IgnoredEntry => 8,
+        FindingKind::IgnoredWord => 9,
+        FindingKind::BytesAfterTable => 10,
+        FindingKind::IgnoredRelocationBits => 11,
+        FindingKind::OutsideReference => 12,
+        FindingKind::EmptyName => 13,
+        FindingKind::UnprintableName => 14,
+        FindingKind::BytesAfterName => 15,
+        FindingKind::RepeatedName => 16,
+        FindingKind::IgnoredTypeBits => 17,
+        FindingKind::UnknownType => 18,
+        FindingKind::OddCommon => 19,
+        FindingKind::OutsideValue => 20,
+        FindingKind::RelocatedFirstWord => 21,
+        FindingKind::UnsuitablePcBit => 22,
+    }
+}
+
+/// The record of a finding whose text begins at this place of all texts.
+fn record_of(finding: &Finding, text: usize) -> RemarkRecord
+    ensures { result ∷ [] ≡ records_from text (found_in finding.now ∷ []) }
+{
+    RemarkRecord {
+        place: finding.place,
+        text,
+        text_size: finding.text.len(),
+        kind: kind_number(finding.kind),
+    }
+}
+
+/// Appends the records of findings to no records, and their texts to no texts.
+fn put_records(
+    texts: &mut Vec<u8>,
+    records: &mut Vec<RemarkRecord>,
+    findings: &[Finding],
+) -> Result<(), AllocError>
+    requires texts { texts.old.items ≡ [] }
+    requires records { records.old.items ≡ [] }
+    ensures texts { IfOk result (λ _. texts.new.items ≡ texts_of (all_found findings.now)) }
+    ensures records { IfOk result (λ _. records.new.items ≡ records_from 0 (all_found findings.now)) }
+{
+    for finding in findings {
+        records.push(record_of(finding, texts.len()))?;
+        texts.extend_from_slice(&finding.text)?;
+    }
+    Ok(())
+}
+
+/// 1 if there is a finding.
+fn status_by(wrong: &[Finding]) -> u8
+    ensures { result ≡ status_by (all_found wrong.now) }
+{
+    match wrong {
+        [] => 0,
+        [_, ..] => 1,
+    }
+}
+
+/// The remarks of what is wrong, and of what is odd.
+fn remarks_by(alloc: Global, wrong: Vec<Finding>, odd: Vec<Finding>) -> Result<Remarks, AllocError>
+    ensures { IfOk result (λ x. remarks_in x ≡ remarked_by (all_found wrong.items) (all_found odd.items)) }
+{
+    let status = status_by(&wrong);
+    let mut found = wrong;
+    let mut rest = odd;
+    found.append(&mut rest)?;
+    let mut texts = Vec::new(alloc);
+    let mut records = Vec::new(alloc);
+    put_records(&mut texts, &mut records, &found)?;
+    Ok(Remarks {
+        status,
+        texts,
+        records,
+    })
+}
+
+/// The words that make `ld` refuse an object, if it does so for one.
+fn wrong_for(
+    alloc: Global,
+    file: &File,
+    refused: Option<ObjectFault>,
+) -> Result<Vec<Finding>, AllocError>
+    ensures { IfOk result (λ found. all_found found.items ≡ wrong_for refused file.now) }
+{
+    match refused {
+        Some(ObjectFault::BadRelocation(_) | ObjectFault::BadSymbolNumber(_)) => {
+            wrong_words(alloc, file)
+        }
+        Some(ObjectFault::NotAnObject | ObjectFault::NoRelocation) | None => Ok(Vec::new(alloc)),
+    }
+}
+
+/// What is odd and what is suspicious in a file.
+fn odd_in(alloc: Global, bytes: &[u8], file: &File) -> Result<Vec<Finding>, AllocError>
+    ensures { IfOk result (λ found. all_found found.items ≡ odd bytes.now file.now ++ suspicions file.now) }
+{
+    let mut found = odd_of(alloc, bytes, file)?;
+    let mut more = suspicions_of(alloc, file)?;
+    found.append(&mut more)?;
+    Ok(found)
+}
+
+/// The file, and why it is not an object, if it is not.
+fn as_object(file: File) -> (File, Option<ObjectFault>)
+    ensures file { result.0 ≡ file }
+    ensures refused { result.1 ≡ first_object_fault file }
+{
+    match Object::from_file(file) {
+        Ok(object) => (object.into_file(), None),
+        Err((file, fault)) => (file, Some(fault)),
+    }
+}
+
+/// The remarks on a file that is in these bytes.
+fn file_remarks(alloc: Global, bytes: &[u8], file: File) -> Result<Remarks, AllocError>
+    ensures { IfOk result (λ x. remarks_in x ≡ remarked_by (wrong_for (first_object_fault file) file) (odd bytes.now file ++ suspicions file)) }
+{
+    let (file, refused) = as_object(file);
+    let wrong = wrong_for(alloc, &file, refused)?;
+    let odd = odd_in(alloc, bytes, &file)?;
+    remarks_by(alloc, wrong, odd)
+}
+
+/// What is wrong and odd in the file that the bytes begin with, or what is wrong with bytes that do not begin with a file, as
+/// v7-explain(1) tells it. (a.out(5), own choice)
+///
+/// An error: `Memory`, 50, if memory runs out.
+pub fn remarks_of(alloc: Global, bytes: &[u8]) -> Result<Remarks, Cause>
+    ensures ok { IfOk result (λ x. remarks_in x ≡ remarked_in bytes.now) }
+    ensures err { IfErr result (λ cause. cause ≡ Memory) }
+{
+    match first_file(alloc, bytes) {
+        Ok((file, _)) => Ok(file_remarks(alloc, bytes, file)?),
+        Err(Cause::BadFile(fault)) => {
+            let wrong = wrong_bytes(alloc, bytes, fault)?;
+            Ok(remarks_by(alloc, wrong, Vec::new(alloc))?)
+        }
+        Err(_) => Err(Cause::Memory),
+    }
+}

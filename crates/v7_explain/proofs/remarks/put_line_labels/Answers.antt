@@ -1,6 +1,0 @@
-use Rattle.disassemblies.specs.Labels.{labels}
-use Rattle.v7_explain.proofs.remarks.put_line_labels.Goals as goal
-
-pub returns : goal.returns
-unfolding labels
-returns c = c.put_labels.ensures
