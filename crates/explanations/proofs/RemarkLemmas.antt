@@ -11,7 +11,8 @@ remarked_is : (bs : List ℕ) → 0 < length bs → remarked (printed bs) ≡ 32
 remarked_is [] lt = absurd (omega arith)
 remarked_is (b ∷ bs) lt = printed_by b (printed bs) (ltb b 32) refl
 
-pub remark_put : (old bytes new : List ℕ) (bs : List ℕ) → 0 < length bs → bytes ≡ old ++ (32 ∷ 32 ∷ []) → new ≡ bytes ++ printed bs → new ≡ old ++ remarked (printed bs)
+pub remark_put : (old bytes new : List ℕ) (bs : List ℕ) → 0 < length bs → bytes ≡ old ++ (32 ∷ 32 ∷ []) →
+    new ≡ bytes ++ printed bs → new ≡ old ++ remarked (printed bs)
 remark_put old bytes new bs full blanks grown =
     grown
     ∙ ap (λ (t : List ℕ). t ++ printed bs) blanks

@@ -2,7 +2,8 @@
 -- relocation word says, and the letter that nm has for each symbol.
 --
 -- A byte below the blank is shown as a backslash and three octal digits, so a note or a remark never leaves its line.
-use Rattle.std.specs.Prelude.{ℕ, ◌+◌, ◌*◌, ◌%◌, Bool, true, ◌&&◌, nat_lt, nat_le, eqb, if◌then◌else◌, List, [], ◌∷◌, ◌++◌, length, map, Option, Some, None, slice_get, slice_index, codes, decimal}
+use Rattle.std.specs.Prelude.{ℕ, ◌+◌, ◌*◌, ◌%◌, Bool, true, ◌&&◌, nat_lt, nat_le, eqb, if◌then◌else◌, List, [], ◌∷◌}
+use Rattle.std.specs.Prelude.{◌++◌, length, map, Option, Some, None, slice_get, slice_index, codes, decimal}
 use Rattle.std.specs.List.{flat_map}
 use Rattle.aout_core.specs.declared.reloc.Reloc.{Reloc}
 use Rattle.aout_core.specs.declared.reloc.Kind.{Kind}
@@ -70,7 +71,8 @@ reloc_said symbols at w (Some r) = word_said symbols at w r
 abbrev pub text_said : List Bool → Contents → ℕ → List ℕ
 text_said starts c i =
     if nat_lt i (length c.text_words)
-    then (if is_start starts i then line_text_in Unix c i else reloc_said c.symbols (2 * i) (slice_index c.text_words i) (slice_get c.text_reloc i))
+    then (if is_start starts i then line_text_in Unix c i
+    else reloc_said c.symbols (2 * i) (slice_index c.text_words i) (slice_get c.text_reloc i))
     else []
 
 abbrev pub data_said : Contents → ℕ → List ℕ
@@ -87,7 +89,8 @@ word_remark starts c parts.Data i = data_said c i
 abbrev pub labels_said : List Bool → Contents → ℕ → List (List ℕ)
 labels_said starts c i =
     if eqb i (length c.text_words) then label_lines c.symbols (2 * i) 0
-    else (if nat_lt i (length c.text_words) && is_start starts i then label_lines c.symbols (2 * i) (unix_length (unix_line_in Unix c i)) else [])
+    else (if nat_lt i (length c.text_words) && is_start starts i
+    then label_lines c.symbols (2 * i) (unix_length (unix_line_in Unix c i)) else [])
 
 abbrev pub labels_before : List Bool → Contents → Part → ℕ → List (List ℕ)
 labels_before starts c parts.Text i = labels_said starts c i

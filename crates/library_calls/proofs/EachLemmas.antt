@@ -13,10 +13,12 @@ use Rattle.library_calls.specs.Causes.{at}
 use Rattle.library_calls.specs.LinkAnswers.{each_of, with_each_of}
 use Rattle.library_calls.specs.MemoryWanted.{HasBody, MayRunOutInEachOf}
 
-module _ (with_one : List Contents → List ℕ → Result (List Contents) Cause) (parts : List ObjectBytes) (i : ℕ) (d : ObjectBytes) (os : List Contents) where
+module _ (with_one : List Contents → List ℕ → Result (List Contents) Cause) (parts : List ObjectBytes) (i : ℕ)
+    (d : ObjectBytes) (os : List Contents) where
   -- the objects with those of the parts from this one on, by what this one gives
   from_here : i < length parts → with_each_of with_one os (each_of (drop i parts))
-      ≡ and_then (at (length os) (with_one os (get_or parts i d).bytes.now)) (λ next. with_each_of with_one next (each_of (drop (i + 1) parts)))
+      ≡ and_then (at (length os) (with_one os (get_or parts i d).bytes.now))
+      (λ next. with_each_of with_one next (each_of (drop (i + 1) parts)))
   from_here more = at_drop_more (λ (ps : List ObjectBytes). with_each_of with_one os (each_of ps)) parts i d more
 
   -- this part gave an object
@@ -30,8 +32,8 @@ module _ (with_one : List Contents → List ℕ → Result (List Contents) Cause
 
   -- this part was refused
   pub refused_each : (whole : Result (List Contents) Refusal) (number : ℕ) (cause : Cause) → i < length parts →
-      whole ≡ with_each_of with_one os (each_of (drop i parts)) → with_one os (get_or parts i d).bytes.now ≡ Err cause → length os ≡ number →
-      whole ≡ Err (record { cause = cause; place = number })
+      whole ≡ with_each_of with_one os (each_of (drop i parts)) → with_one os (get_or parts i d).bytes.now ≡ Err cause →
+      length os ≡ number → whole ≡ Err (record { cause = cause; place = number })
   refused_each whole number cause more so_far first same =
       so_far
       ∙ from_here more
@@ -43,13 +45,16 @@ module _ (with_one : List Contents → List ℕ → Result (List Contents) Cause
       MayRunOutInEachOf with_one next (each_of (drop (i + 1) parts)) place → MayRunOutInEachOf with_one os (each_of (drop i parts)) place
   out_later_each place next more first h =
       subst (λ (ps : List ObjectBytes). MayRunOutInEachOf with_one os (each_of ps) place) (sym (drop_more parts i d more))
-      (inr (subst (λ (r : Result (List Contents) Cause). IsOkAnd r (λ next. MayRunOutInEachOf with_one next (each_of (drop (i + 1) parts)) place)) (sym first) h))
+      (inr (subst (λ (r : Result (List Contents) Cause).
+      IsOkAnd r (λ next. MayRunOutInEachOf with_one next (each_of (drop (i + 1) parts)) place)) (sym first) h))
 
   -- memory may run out for this part
-  pub out_now_each : (place : ℕ) → i < length parts → HasBody (get_or parts i d).bytes.now ⊎ IsOk (with_one os (get_or parts i d).bytes.now) →
+  pub out_now_each : (place : ℕ) → i < length parts →
+      HasBody (get_or parts i d).bytes.now ⊎ IsOk (with_one os (get_or parts i d).bytes.now) →
       length os ≡ place → MayRunOutInEachOf with_one os (each_of (drop i parts)) place
   out_now_each place more h number =
-      subst (λ (ps : List ObjectBytes). MayRunOutInEachOf with_one os (each_of ps) place) (sym (drop_more parts i d more)) (inl (sym number, h))
+      subst (λ (ps : List ObjectBytes). MayRunOutInEachOf with_one os (each_of ps) place)
+      (sym (drop_more parts i d more)) (inl (sym number, h))
 
 -- how many objects a session has that is as it was
 pub number_kept : (k new : Kept) (entries : List Labelled) → new ≡ k → entries ≡ new.entries → length (objects k.entries) ≡ length entries

@@ -1,5 +1,6 @@
 -- No refusal of a conversion has the number of no memory.
-use Rattle.std.proofs.Common.{◌≡◌, ℕ, ◌+◌, ◌/◌, ◌%◌, Bool, true, false, if◌then◌else◌, nat_lt, nat_le, ◌&&◌, ◌||◌, not, List, [], ◌∷◌, take, length, Option, Some, None, Result, Ok, Err, refl}
+use Rattle.std.proofs.Common.{◌≡◌, ℕ, ◌+◌, ◌/◌, ◌%◌, Bool, true, false, if◌then◌else◌, nat_lt, nat_le, ◌&&◌, ◌||◌, not}
+use Rattle.std.proofs.Common.{List, [], ◌∷◌, take, length, Option, Some, None, Result, Ok, Err, refl}
 use Rattle.std.specs.Prelude.{◌==◌, slice_get}
 use Rattle.aout_core.specs.Contents.{Contents}
 use Rattle.aout_core.specs.Decoding.{header_in}
@@ -10,11 +11,16 @@ use Rattle.aout_core.specs.declared.object.ObjectFault.{ObjectFault}
 use Rattle.aout_core.specs.declared.object.ObjectFault.TheVariants as faults
 use Rattle.gnu_objects.specs.Converted.{contents_with, converted, converted_by, converted_with, object_of, object_unless, unless}
 use Rattle.gnu_objects.specs.GnuForm.{is_stab, long_at, name_at, relocation_of, strings_of, symbols_of}
-use Rattle.gnu_objects.specs.GnuRefusals.{alike_at, alike_refusal, count_refusal, dropped_refusal, first_alike, first_bad_symbol, first_dropped_word, header_refusal, linked_refusal, refused_first, size_refusal, strings_refusal, symbol_refusal, table_refusal, word_refusal}
+use Rattle.gnu_objects.specs.GnuRefusals.{alike_at, alike_refusal, count_refusal, dropped_refusal, first_alike}
+use Rattle.gnu_objects.specs.GnuRefusals.{first_bad_symbol, first_dropped_word, header_refusal, linked_refusal}
+use Rattle.gnu_objects.specs.GnuRefusals.{refused_first, size_refusal, strings_refusal, symbol_refusal, table_refusal}
+use Rattle.gnu_objects.specs.GnuRefusals.{word_refusal}
 use Rattle.gnu_objects.specs.Staying.{alike_with, count, counts, refers, staying}
 use Rattle.gnu_objects.specs.declared.options.Options.{Options}
 use Rattle.gnu_objects.specs.declared.refusal.Refusal as gnu
-use Rattle.gnu_objects.specs.declared.refusal.Refusal.TheVariants.{ShortHeader, BadMagic, OddSize, Truncated, BadStrings, Overlay, BadPlace, Stab, Description, Linked, TooManySymbols, StabWord, LocalWord}
+use Rattle.gnu_objects.specs.declared.refusal.Refusal.TheVariants.{ShortHeader, BadMagic, OddSize, Truncated}
+use Rattle.gnu_objects.specs.declared.refusal.Refusal.TheVariants.{BadStrings, Overlay, BadPlace, Stab, Description}
+use Rattle.gnu_objects.specs.declared.refusal.Refusal.TheVariants.{Linked, TooManySymbols, StabWord, LocalWord}
 use Rattle.gnu_objects.specs.declared.refusal.Size.TheVariants as sizes
 use Rattle.gnu_objects.specs.declared.symbols.GnuSymbol.{GnuSymbol}
 use Rattle.link_out.specs.Steps.{and_then, refused_as}
@@ -50,20 +56,23 @@ cut_other : (b : Bool) → MaybeOther (if b then Some Truncated else None)
 cut_other true = other 14 refl
 cut_other false = tt
 
-header_other_by : (short bad : Bool) (magic : ℕ) (rest : Option gnu.Refusal) → MaybeOther rest → MaybeOther (if short then Some ShortHeader else (if bad then Some (BadMagic magic) else rest))
+header_other_by : (short bad : Bool) (magic : ℕ) (rest : Option gnu.Refusal) → MaybeOther rest →
+    MaybeOther (if short then Some ShortHeader else (if bad then Some (BadMagic magic) else rest))
 header_other_by true bad magic rest h = other 11 refl
 header_other_by false true magic rest h = other 12 refl
 header_other_by false false magic rest h = h
 
 header_other : (size : ℕ) (h : Header) → MaybeOther (header_refusal size h)
 header_other size h =
-    header_other_by (nat_lt size 16) (not (h.magic == 0o407)) h.magic (refused_first (size_refusal h) (if nat_lt size (file_length h) then Some Truncated else None))
+    header_other_by (nat_lt size 16) (not (h.magic == 0o407)) h.magic
+    (refused_first (size_refusal h) (if nat_lt size (file_length h) then Some Truncated else None))
     (other_first (size_refusal h) (if nat_lt size (file_length h) then Some Truncated else None)
     (size_other (not (h.text_size % 2 == 0)) (not (h.data_size % 2 == 0)) (not (h.bss_size % 2 == 0)) (not (h.symbol_size % 8 == 0)))
     (cut_other (nat_lt size (file_length h))))
 
 strings_other_by : (none short bad cut : Bool) →
-    MaybeOther (if none then None else (if short then Some Truncated else (if bad then Some BadStrings else (if cut then Some Truncated else None))))
+    MaybeOther (if none then None
+    else (if short then Some Truncated else (if bad then Some BadStrings else (if cut then Some Truncated else None))))
 strings_other_by true short bad cut = tt
 strings_other_by false true bad cut = other 14 refl
 strings_other_by false false true cut = other 81 refl
@@ -94,7 +103,8 @@ symbols_other : (strings : List ℕ) (drops : Bool) (n : ℕ) (symbols : List Gn
 symbols_other strings drops n [] = tt
 symbols_other strings drops n (s ∷ rest) =
     other_first (symbol_refusal strings drops n s) (first_bad_symbol strings drops (n + 1) rest)
-    (symbol_other_by n (not (s.overlay == 0)) (nat_le (length strings) s.place || (nat_lt 0 s.place && nat_lt s.place 4)) (is_stab strings s) drops (not (s.description == 0)))
+    (symbol_other_by n (not (s.overlay == 0)) (nat_le (length strings) s.place || (nat_lt 0 s.place && nat_lt s.place 4))
+    (is_stab strings s) drops (not (s.description == 0)))
     (symbols_other strings drops (n + 1) rest)
 
 linked_other : (b : Bool) (entry : ℕ) → MaybeOther (if b then Some (Linked entry) else None)
@@ -117,7 +127,8 @@ alike_other : (strings : List ℕ) (n : ℕ) (symbols : List GnuSymbol) → Mayb
 alike_other strings n [] = tt
 alike_other strings n (s ∷ rest) =
     other_first (alike_refusal strings n s rest) (first_alike strings (n + 1) rest)
-    (alike_other_if (counts strings true s) n (alike_with strings true (name_at strings s.place) (n + 1) rest)) (alike_other strings (n + 1) rest)
+    (alike_other_if (counts strings true s) n
+    (alike_with strings true (name_at strings s.place) (n + 1) rest)) (alike_other strings (n + 1) rest)
 
 -- ---- the words
 
@@ -125,7 +136,8 @@ stab_other : (b : Bool) (n m : ℕ) → MaybeOther (Some (if b then StabWord n e
 stab_other true n m = other 88 refl
 stab_other false n m = other 89 refl
 
-dropped_other : (strings : List ℕ) (n m : ℕ) (symbol : Option GnuSymbol) (stays : Option Bool) → MaybeOther (dropped_refusal strings n m symbol stays)
+dropped_other : (strings : List ℕ) (n m : ℕ) (symbol : Option GnuSymbol) (stays : Option Bool) →
+    MaybeOther (dropped_refusal strings n m symbol stays)
 dropped_other strings n m (Some s) (Some false) = stab_other (is_stab strings s) n m
 dropped_other strings n m (Some s) (Some true) = tt
 dropped_other strings n m (Some s) None = tt
@@ -135,7 +147,8 @@ word_other_if : (b : Bool) (r : Option gnu.Refusal) → MaybeOther r → MaybeOt
 word_other_if true r h = h
 word_other_if false r h = tt
 
-words_other : (strings : List ℕ) (symbols : List GnuSymbol) (flags : List Bool) (n : ℕ) (words : List ℕ) → MaybeOther (first_dropped_word strings symbols flags n words)
+words_other : (strings : List ℕ) (symbols : List GnuSymbol) (flags : List Bool) (n : ℕ) (words : List ℕ) →
+    MaybeOther (first_dropped_word strings symbols flags n words)
 words_other strings symbols flags n [] = tt
 words_other strings symbols flags n (w ∷ rest) =
     other_first (word_refusal strings symbols flags n w) (first_dropped_word strings symbols flags (n + 1) rest)
@@ -143,12 +156,14 @@ words_other strings symbols flags n (w ∷ rest) =
     (dropped_other strings n (w / 16) (slice_get symbols (w / 16)) (slice_get flags (w / 16))))
     (words_other strings symbols flags (n + 1) rest)
 
-tables_other : (drops : Bool) (h : Header) (strings : List ℕ) (symbols : List GnuSymbol) (words : List ℕ) (flags : List Bool) → MaybeOther (table_refusal drops h strings symbols words flags)
+tables_other : (drops : Bool) (h : Header) (strings : List ℕ) (symbols : List GnuSymbol) (words : List ℕ)
+    (flags : List Bool) → MaybeOther (table_refusal drops h strings symbols words flags)
 tables_other drops h strings symbols words flags =
     let last = first_dropped_word strings symbols flags 0 words in
     let alike = refused_first (first_alike strings 0 symbols) last in
     let counted = refused_first (count_refusal (count flags)) alike in
-    other_first (first_bad_symbol strings drops 0 symbols) (refused_first (linked_refusal h) counted) (symbols_other strings drops 0 symbols)
+    other_first (first_bad_symbol strings drops 0 symbols) (refused_first (linked_refusal h) counted)
+    (symbols_other strings drops 0 symbols)
     (other_first (linked_refusal h) counted (linked_other (not (h.flag == 0) && not (h.entry_point == 0)) h.entry_point)
     (other_first (count_refusal (count flags)) alike (count_other (nat_lt 5461 (count flags)) (count flags))
     (other_first (first_alike strings 0 symbols) last (alike_other strings 0 symbols) (words_other strings symbols flags 0 words))))
@@ -159,7 +174,8 @@ abbrev IsOther : Result Contents gnu.Refusal → Type 0
 IsOther (Ok c) = Unit {0}
 IsOther (Err refusal) = gnu_number refusal ≡ 50 → ⊥
 
-unless_other : (refusal : Option gnu.Refusal) (r : Result Contents gnu.Refusal) → MaybeOther refusal → IsOther r → IsOther (unless refusal r)
+unless_other : (refusal : Option gnu.Refusal) (r : Result Contents gnu.Refusal) → MaybeOther refusal → IsOther r →
+    IsOther (unless refusal r)
 unless_other None r h hr = hr
 unless_other (Some refusal) r h hr = h
 
@@ -170,11 +186,13 @@ object_other (Some faults.NoRelocation) c = other 22 refl
 object_other (Some (faults.BadRelocation index)) c = other 23 refl
 object_other (Some (faults.BadSymbolNumber index)) c = other 24 refl
 
-rows_other : (o : Options) (bytes : List ℕ) (h : Header) (strings : List ℕ) (symbols : List GnuSymbol) (words : List ℕ) → IsOther (converted_with o bytes h strings symbols words)
+rows_other : (o : Options) (bytes : List ℕ) (h : Header) (strings : List ℕ) (symbols : List GnuSymbol) (words : List ℕ) →
+    IsOther (converted_with o bytes h strings symbols words)
 rows_other o bytes h strings symbols words =
     let flags = staying o.locals strings symbols words in
     let c = contents_with bytes h strings symbols words flags in
-    unless_other (table_refusal o.drops_debugger h strings symbols words flags) (object_of c) (tables_other o.drops_debugger h strings symbols words flags)
+    unless_other (table_refusal o.drops_debugger h strings symbols words flags) (object_of c)
+    (tables_other o.drops_debugger h strings symbols words flags)
     (object_other (first_object_fault c) c)
 
 converted_other : (o : Options) (bytes : List ℕ) → IsOther (converted o bytes)
@@ -182,7 +200,8 @@ converted_other o bytes =
     let h = header_in (take 16 bytes) in
     let rows = converted_with o bytes h (strings_of bytes h) (symbols_of bytes h) (relocation_of bytes h) in
     unless_other (header_refusal (length bytes) h) (unless (strings_refusal bytes h) rows) (header_other (length bytes) h)
-    (unless_other (strings_refusal bytes h) rows (strings_other bytes h) (rows_other o bytes h (strings_of bytes h) (symbols_of bytes h) (relocation_of bytes h)))
+    (unless_other (strings_refusal bytes h) rows (strings_other bytes h)
+    (rows_other o bytes h (strings_of bytes h) (symbols_of bytes h) (relocation_of bytes h)))
 
 refused_other : (bytes : List ℕ) (r : Result Contents gnu.Refusal) → IsOther r → IsNotMemory (refused_as (refused_in bytes) r)
 refused_other bytes (Ok c) h = tt
@@ -194,7 +213,8 @@ options_other false bits = tt
 
 pub not_memory_converted : (bits : ℕ) (bytes : List ℕ) → IsNotMemory (converted_in bits bytes)
 not_memory_converted bits bytes =
-    let step : Options → Result (List ℕ) Refusal = λ o. and_then (refused_as (refused_in bytes) (converted o bytes)) (λ c. Ok (encoding c)) in
+    let step : Options → Result (List ℕ) Refusal =
+    λ o. and_then (refused_as (refused_in bytes) (converted o bytes)) (λ c. Ok (encoding c)) in
     is_not_memory_then (at 0 (conversion_in bits)) step (is_not_memory_at 0 (conversion_in bits) (options_other (nat_lt 7 bits) bits))
     (λ o. is_not_memory_then (refused_as (refused_in bytes) (converted o bytes)) (λ c. Ok (encoding c))
     (refused_other bytes (converted o bytes) (converted_other o bytes)) (λ c. tt))

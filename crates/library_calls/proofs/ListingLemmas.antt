@@ -22,5 +22,6 @@ described_err text r h = ap encoded h
 pub runs_out_before : (text : List ℕ) (place : ℕ) → place ≡ 0 → ListingMayRunOut text → DescribedMayRunOut text place
 runs_out_before text place none h = (none, inl h)
 
-pub runs_out_after : (text : List ℕ) (c : Contents) (place : ℕ) → place ≡ 0 → refused_as mistake_of (read text) ≡ Ok c → DescribedMayRunOut text place
+pub runs_out_after : (text : List ℕ) (c : Contents) (place : ℕ) → place ≡ 0 → refused_as mistake_of (read text) ≡ Ok c →
+    DescribedMayRunOut text place
 runs_out_after text c place none h = (none, inr (subst (λ (r : Result (List ℕ) Refusal). IsOk r) (sym (described_ok text c h)) refl))

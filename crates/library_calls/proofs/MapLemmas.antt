@@ -20,8 +20,8 @@ use Rattle.library_calls.specs.MapAnswers.{take_all, take_next, taking_of, with_
 
 -- with one more object, whether it is kept or left
 all_more : (cause : Option AddFault) (old : Option Refused) (r : Option AddFault) (es fs ls : List Labelled) (e : Labelled) →
-    cause ≡ first_of (cause_of old) r → ls ≡ (if is_some cause then left_of old ++ e ∷ [] else []) → fs ≡ (if is_some cause then es else es ++ e ∷ []) →
-    fs ++ ls ≡ (es ++ left_of old) ++ e ∷ []
+    cause ≡ first_of (cause_of old) r → ls ≡ (if is_some cause then left_of old ++ e ∷ [] else []) →
+    fs ≡ (if is_some cause then es else es ++ e ∷ []) → fs ++ ls ≡ (es ++ left_of old) ++ e ∷ []
 all_more (Some x) old r es fs ls e is left kept =
     ap (λ (l : List Labelled). l ++ ls) kept ∙ ap (λ (l : List Labelled). es ++ l) left ∙ sym (append_assoc es (left_of old) (e ∷ []))
 all_more None None r es fs ls e is left kept =
@@ -53,12 +53,14 @@ module _ (old new : Objects) (e : Labelled)
 
   pub read_more : (bytes : List ℕ) → object_in bytes ≡ Ok e.object → with_read (objects (all_of old)) bytes ≡ Ok (objects (all_of new))
   read_more bytes is =
-      ap (λ (r : Result Contents Cause). and_then r (λ o. Ok (objects (all_of old) ++ o ∷ []))) is ∙ ap (λ (os : List Contents). Ok os) (sym all_objects_more)
+      ap (λ (r : Result Contents Cause). and_then r (λ o. Ok (objects (all_of old) ++ o ∷ []))) is
+      ∙ ap (λ (os : List Contents). Ok os) (sym all_objects_more)
 
   next : taking_of new ≡ take_next old.session.forced (taking_of old) e.object
   next = λ i. record {
     kept = (kept_more (cause_of new.refused) old.session.entries new.session.entries e kept
-        ∙ ap (λ (x : Option AddFault). if is_some x then objects old.session.entries else objects old.session.entries ++ e.object ∷ []) cause) i;
+        ∙ ap (λ (x : Option AddFault). if is_some x then objects old.session.entries
+        else objects old.session.entries ++ e.object ∷ []) cause) i;
     cause = cause i;
   }
 
@@ -75,12 +77,13 @@ module _ (old new : Objects) (e : Labelled)
         ∙ ap (take_all forced nothing_taken) (sym all_objects_more);
   }
 
-one_more : (r : Result Contents Cause) (os next : List Contents) → and_then r (λ o. Ok (os ++ o ∷ [])) ≡ Ok next → length next ≡ length os + 1
+one_more : (r : Result Contents Cause) (os next : List Contents) → and_then r (λ o. Ok (os ++ o ∷ [])) ≡ Ok next →
+    length next ≡ length os + 1
 one_more (Ok o) os next h =
     let same : os ++ o ∷ [] ≡ next = cc in
     sym (ap length same) ∙ length-append os (o ∷ [])
 one_more (Err cause) os next h = absurd (cc)
 
-pub number_more : (parts : List ObjectBytes) (i : ℕ) (d : ObjectBytes) (os next : List Contents) → with_read os (get_or parts i d).bytes.now ≡ Ok next →
-    length next ≡ length os + 1
+pub number_more : (parts : List ObjectBytes) (i : ℕ) (d : ObjectBytes) (os next : List Contents) →
+    with_read os (get_or parts i d).bytes.now ≡ Ok next → length next ≡ length os + 1
 number_more parts i d os next h = one_more (object_in (get_or parts i d).bytes.now) os next h

@@ -5,11 +5,13 @@ use Rattle.library_calls.specs.RemarkAnswers.{records_from, texts_of}
 use Rattle.library_calls.specs.declared.remarks_call.RemarkRecord.{RemarkRecord}
 
 -- the text of one more
-pub text_put : (old new : List ℕ) (f : Found) (fs all : List Found) → new ≡ old ++ f.text → old ++ texts_of (f ∷ fs) ≡ texts_of all → new ++ texts_of fs ≡ texts_of all
+pub text_put : (old new : List ℕ) (f : Found) (fs all : List Found) → new ≡ old ++ f.text →
+    old ++ texts_of (f ∷ fs) ≡ texts_of all → new ++ texts_of fs ≡ texts_of all
 text_put old new f fs all grown before = ap (λ (t : List ℕ). t ++ texts_of fs) grown ∙ append_assoc old f.text (texts_of fs) ∙ before
 
 -- its record
-pub record_put : (old new : List RemarkRecord) (texts more : List ℕ) (r : RemarkRecord) (f : Found) (fs all : List Found) → new ≡ old ++ r ∷ [] → r ∷ [] ≡ records_from (length texts) (f ∷ []) → more ≡ texts ++ f.text →
+pub record_put : (old new : List RemarkRecord) (texts more : List ℕ) (r : RemarkRecord) (f : Found) (fs all : List Found) →
+    new ≡ old ++ r ∷ [] → r ∷ [] ≡ records_from (length texts) (f ∷ []) → more ≡ texts ++ f.text →
     old ++ records_from (length texts) (f ∷ fs) ≡ records_from 0 all → new ++ records_from (length more) fs ≡ records_from 0 all
 record_put old new texts more r f fs all grown is longer before =
     let size : length more ≡ length texts + length f.text = ap length longer ∙ length-append texts f.text in

@@ -19,7 +19,9 @@ use Rattle.listings.specs.declared.fault.Fault.{Fault}
 use Rattle.listings.specs.declared.fault.Reason.{Reason}
 use Rattle.listings.specs.declared.fault.Reason.TheVariants as reasons
 use Rattle.library_calls.specs.declared.cause.Cause.{Cause}
-use Rattle.library_calls.specs.declared.cause.Cause.TheVariants.{NoOption, Excluded, LongName, CutNames, ManyNames, TooLong, NoEdit, BadFile, BadObject, NotAdded, NotLinked, BadListing, NotConverted, Memory}
+use Rattle.library_calls.specs.declared.cause.Cause.TheVariants.{NoOption, Excluded, LongName, CutNames, ManyNames}
+use Rattle.library_calls.specs.declared.cause.Cause.TheVariants.{TooLong, NoEdit, BadFile, BadObject, NotAdded}
+use Rattle.library_calls.specs.declared.cause.Cause.TheVariants.{NotLinked, BadListing, NotConverted, Memory}
 use Rattle.library_calls.specs.declared.cause.LongPart.TheVariants as parts
 use Rattle.library_calls.specs.declared.cause.Refusal.{Refusal}
 

@@ -34,7 +34,8 @@ with_first forced os bytes = and_then (object_in bytes) (with_object forced os)
 abbrev pub with_most : ℕ → List (List ℕ) → List Contents → List ℕ → Result (List Contents) Refusal
 with_most zero forced os bytes = Ok os
 with_most (suc n) forced os [] = Ok os
-with_most (suc n) forced os (b ∷ bs) = and_then (at (length os) (with_first forced os (b ∷ bs))) (λ more. with_most n forced more (after_file (b ∷ bs)))
+with_most (suc n) forced os (b ∷ bs) =
+    and_then (at (length os) (with_first forced os (b ∷ bs))) (λ more. with_most n forced more (after_file (b ∷ bs)))
 
 -- the objects with all those of the bytes, which are fewer than the bytes, since each takes 16 at least
 abbrev pub with_objects : List (List ℕ) → List Contents → List ℕ → Result (List Contents) Refusal
@@ -48,7 +49,8 @@ abbrev pub each_of : List ObjectBytes → List (List ℕ)
 each_of parts = map (λ (part : ObjectBytes). part.bytes.now) parts
 
 -- the objects with the one that each of these begins with, by what takes one after others; the bytes after it are not looked at, as in ld
-abbrev pub with_each_of : (List Contents → List ℕ → Result (List Contents) Cause) → List Contents → List (List ℕ) → Result (List Contents) Refusal
+abbrev pub with_each_of : (List Contents → List ℕ → Result (List Contents) Cause) → List Contents → List (List ℕ) →
+    Result (List Contents) Refusal
 with_each_of with_one os [] = Ok os
 with_each_of with_one os (bytes ∷ rest) = and_then (at (length os) (with_one os bytes)) (λ more. with_each_of with_one more rest)
 
@@ -76,11 +78,13 @@ outputs_of p = record { status = p.status; file = p.file.items; report = p.repor
 -- the options, then the forced names, then the objects, then the link: the first refusal, or the output
 abbrev pub output_in : ℕ → List ℕ → List ℕ → List ℕ → Result (Output ℕ) Refusal
 output_in bits entry forced bytes =
-    and_then (at 0 (choices_in bits entry)) (λ o. and_then (forced_in forced) (λ names. and_then (linked_in names o bytes) (λ x. Ok (output_of x))))
+    and_then (at 0 (choices_in bits entry))
+    (λ o. and_then (forced_in forced) (λ names. and_then (linked_in names o bytes) (λ x. Ok (output_of x))))
 
 -- the same of objects whose bytes are apart
 abbrev pub outcome_each : ℕ → List ℕ → List ℕ → List (List ℕ) → Result Outcome Refusal
-outcome_each bits entry forced parts = and_then (at 0 (choices_in bits entry)) (λ o. and_then (forced_in forced) (λ names. linked_each names o parts))
+outcome_each bits entry forced parts =
+    and_then (at 0 (choices_in bits entry)) (λ o. and_then (forced_in forced) (λ names. linked_each names o parts))
 
 abbrev pub output_each : ℕ → List ℕ → List ℕ → List (List ℕ) → Result (Output ℕ) Refusal
 output_each bits entry forced parts = and_then (outcome_each bits entry forced parts) (λ x. Ok (output_of x))
@@ -97,7 +101,9 @@ entry_findings (Some name) = finding_of 3 name ∷ []
 
 -- in the order of the lines
 abbrev pub all_findings : ReportNames → List ReportedName
-all_findings f = ((map (finding_of 1) f.multiples ++ map (finding_of 2) f.reserved) ++ entry_findings f.entry_bad) ++ map (finding_of 4) f.undefined
+all_findings f =
+    ((map (finding_of 1) f.multiples ++ map (finding_of 2) f.reserved) ++ entry_findings f.entry_bad)
+    ++ map (finding_of 4) f.undefined
 
 abbrev pub found_of : Outcome → Output ReportedName
 found_of x = record { status = status_of x.report; file = encoding x.file; report = all_findings x.report }

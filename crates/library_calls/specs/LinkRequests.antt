@@ -2,7 +2,8 @@
 --
 -- A forced name is eight bytes, filled up with NULs, as in a file. The entry point is a name of at most eight bytes; no bytes ask
 -- for none.
-use Rattle.std.specs.Prelude.{ℕ, zero, suc, ◌+◌, ◌%◌, ◌/◌, cond, eqb, nat_lt, if◌then◌else◌, List, [], ◌∷◌, take, drop, length, Option, Some, None, ok_or, Result, Ok, Err}
+use Rattle.std.specs.Prelude.{ℕ, zero, suc, ◌+◌, ◌%◌, ◌/◌, cond, eqb, nat_lt, if◌then◌else◌, List, [], ◌∷◌, take}
+use Rattle.std.specs.Prelude.{drop, length, Option, Some, None, ok_or, Result, Ok, Err}
 use Rattle.aout_core.specs.Names.{before_nul}
 use Rattle.tool_options.specs.ForcedNames.{takes, with_name}
 use Rattle.tool_options.specs.declared.flags.Flags.{Flags}
@@ -39,7 +40,8 @@ unless_long entry (Err cause) = Err cause
 
 -- first the bits, then options that exclude each other, then the name
 abbrev pub choices_in : ℕ → List ℕ → Result Choices Cause
-choices_in bits entry = if nat_lt 127 bits then Err NoOption else unless_long entry (ok_or (choices_of (flags_in bits) (entry_of entry)) Excluded)
+choices_in bits entry =
+    if nat_lt 127 bits then Err NoOption else unless_long entry (ok_or (choices_of (flags_in bits) (entry_of entry)) Excluded)
 
 -- so many names of eight bytes each appended to those before them, where they are not there already; the next one has this number
 abbrev pub with_names : ℕ → ℕ → List (List ℕ) → List ℕ → Result (List (List ℕ)) Refusal
@@ -50,4 +52,5 @@ with_names (suc n) number names bytes =
     (Err (record { cause = ManyNames; place = number }))
 
 abbrev pub forced_in : List ℕ → Result (List (List ℕ)) Refusal
-forced_in bytes = if eqb (length bytes % 8) 0 then with_names (length bytes / 8) 0 [] bytes else Err (record { cause = CutNames; place = 0 })
+forced_in bytes =
+    if eqb (length bytes % 8) 0 then with_names (length bytes / 8) 0 [] bytes else Err (record { cause = CutNames; place = 0 })

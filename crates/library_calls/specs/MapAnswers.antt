@@ -1,5 +1,6 @@
 -- What the map of a link says, of objects whose bytes are apart. (own choice)
-use Rattle.std.specs.Prelude.{◌≡◌, ◌≢◌, ◌⊎◌, ℕ, ◌+◌, is_some, if◌then◌else◌, List, [], ◌∷◌, ◌++◌, length, Option, Some, None, Result, Ok, Err, IsOk, IsOkAnd}
+use Rattle.std.specs.Prelude.{◌≡◌, ◌≢◌, ◌⊎◌, ℕ, ◌+◌, is_some, if◌then◌else◌, List, [], ◌∷◌, ◌++◌, length}
+use Rattle.std.specs.Prelude.{Option, Some, None, Result, Ok, Err, IsOk, IsOkAnd}
 use Rattle.aout_core.specs.Contents.{Contents}
 use Rattle.aout_core.specs.Names.{padded}
 use Rattle.aout_core.specs.WellFormed.{first_of}
@@ -163,7 +164,8 @@ pub record MapOf : Type 0 where
 abbrev pub map_asked : ℕ → List ℕ → List ℕ → List (List ℕ) → Result MapOf Refusal
 map_asked bits entry forced parts =
     and_then (at 0 (choices_in bits entry))
-    (λ o. and_then (forced_in forced) (λ names. and_then (objects_each parts) (λ os. Ok (record { choices = o; forced = names; objects = os }))))
+    (λ o. and_then (forced_in forced)
+    (λ names. and_then (objects_each parts) (λ os. Ok (record { choices = o; forced = names; objects = os }))))
 
 abbrev pub IsMapAnswer : Result MapOf Refusal → Mapped → Type 0
 IsMapAnswer (Ok asked) m = IsMapped asked.forced asked.choices asked.objects m
@@ -178,4 +180,5 @@ MayRunOutInMap forced parts place =
 
 -- not before the options and the forced names are accepted
 abbrev pub MapMayRunOut : ℕ → List ℕ → List ℕ → List (List ℕ) → ℕ → Type 0
-MapMayRunOut bits entry forced parts place = IsOk (choices_in bits entry) × IsOkAnd (forced_in forced) (λ names. MayRunOutInMap names parts place)
+MapMayRunOut bits entry forced parts place =
+    IsOk (choices_in bits entry) × IsOkAnd (forced_in forced) (λ names. MayRunOutInMap names parts place)

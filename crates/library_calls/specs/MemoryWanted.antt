@@ -101,4 +101,5 @@ SessionMayRunOut bits entry forced letters bytes place =
 -- a state has to be written even if there is no edit
 abbrev pub StateMayRunOut : ℕ → List ℕ → List ℕ → List ℕ → ℕ → Type 0
 StateMayRunOut form forced letters bytes place =
-    IsOk (form_in form) × IsOk (forced_in forced) × (MayRunOutInEdits 0 letters bytes place ⊎ ((place ≡ 0) × IsOk (changes_in letters bytes)))
+    IsOk (form_in form) × IsOk (forced_in forced)
+    × (MayRunOutInEdits 0 letters bytes place ⊎ ((place ≡ 0) × IsOk (changes_in letters bytes)))

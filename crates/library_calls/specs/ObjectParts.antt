@@ -97,7 +97,8 @@ row_of s = record { name = padded s.name; type_bits = s.type_bits; value = s.val
 
 abbrev pub pieces_of : Contents → Pieces
 pieces_of c =
-    pieces (words_of c.header c.text_words c.text_reloc) (words_of c.header c.data_words c.data_reloc) c.header.bss_size (map row_of c.symbols)
+    pieces (words_of c.header c.text_words c.text_reloc) (words_of c.header c.data_words c.data_reloc) c.header.bss_size
+    (map row_of c.symbols)
 
 -- the parts of the object that the bytes begin with
 abbrev pub parts_in : List ℕ → Result Pieces Cause

@@ -52,7 +52,8 @@ run_output replies x = record {
 }
 
 abbrev pub results_of : RunResult → RunOutput
-results_of r = record { status = r.status; replies = r.replies.items; file = r.file.items; report = r.report.items; findings = r.findings.items }
+results_of r =
+    record { status = r.status; replies = r.replies.items; file = r.file.items; report = r.report.items; findings = r.findings.items }
 
 -- a link of all objects, which has no replies
 abbrev pub link_run : ℕ → List ℕ → List ℕ → List (List ℕ) → Result RunOutput Refusal

@@ -40,7 +40,8 @@ with_edit letter bytes before = and_then (change_in letter bytes) (λ c. Ok (bef
 abbrev pub with_edits_of : {S : Type 0} → (S → List ℕ) → (ℕ → S → S) → ℕ → List Change → List ℕ → S → Result (List Change) Refusal
 with_edits_of first after number before [] rest = Ok before
 with_edits_of first after number before (letter ∷ letters) rest =
-    and_then (at number (with_edit letter (first rest) before)) (λ more. with_edits_of first after (number + 1) more letters (after letter rest))
+    and_then (at number (with_edit letter (first rest) before))
+    (λ more. with_edits_of first after (number + 1) more letters (after letter rest))
 
 -- the same of objects whose bytes are one after another
 abbrev pub with_edits : ℕ → List Change → List ℕ → List ℕ → Result (List Change) Refusal
@@ -69,11 +70,15 @@ session_status [] status = status
 session_status (n ∷ ns) status = if eqb n 0 then session_status ns status else 1
 
 abbrev pub output_with : List ℕ → Output ℕ → SessionOutput
-output_with replies x = record { replies = replies; output = record { status = session_status replies x.status; file = x.file; report = x.report } }
+output_with replies x = record {
+  replies = replies;
+  output = record { status = session_status replies x.status; file = x.file; report = x.report };
+}
 
 -- the link of what changes leave, with the replies to them, given in some form
 abbrev pub given_by : {A : Type 0} → (List ℕ → Outcome → A) → List (List ℕ) → Choices → List Change → Result A Cause
-given_by give forced o cs = and_then (refused_as NotLinked (link_after forced cs o)) (λ x. Ok (give (map reply_number (answers forced cs)) x))
+given_by give forced o cs =
+    and_then (refused_as NotLinked (link_after forced cs o)) (λ x. Ok (give (map reply_number (answers forced cs)) x))
 
 abbrev pub session_output : List ℕ → Outcome → SessionOutput
 session_output replies x = output_with replies (output_of x)
@@ -87,4 +92,5 @@ sessions_of r = record { replies = r.replies.items; output = outputs_of r.progra
 -- the options, then the forced names, then the edits, then the link: the first refusal, or the replies and the output
 abbrev pub session_in : ℕ → List ℕ → List ℕ → List ℕ → List ℕ → Result SessionOutput Refusal
 session_in bits entry forced letters bytes =
-    and_then (at 0 (choices_in bits entry)) (λ o. and_then (forced_in forced) (λ names. and_then (changes_in letters bytes) (λ cs. at 0 (run_of names o cs))))
+    and_then (at 0 (choices_in bits entry))
+    (λ o. and_then (forced_in forced) (λ names. and_then (changes_in letters bytes) (λ cs. at 0 (run_of names o cs))))

@@ -39,7 +39,8 @@ pub record Asked : Type 0 where
 -- the form, then the forced names, then the edits: the first refusal, or all of them
 abbrev pub asked_in : ℕ → List ℕ → List ℕ → List ℕ → Result Asked Refusal
 asked_in form forced letters bytes =
-    and_then (at 0 (form_in form)) (λ f. and_then (forced_in forced) (λ names. and_then (changes_in letters bytes) (λ cs. Ok (record { form = f; forced = names; changes = cs }))))
+    and_then (at 0 (form_in form)) (λ f. and_then (forced_in forced)
+    (λ names. and_then (changes_in letters bytes) (λ cs. Ok (record { form = f; forced = names; changes = cs }))))
 
 -- what is shown: the status, the replies to the edits, and the state
 pub record StateOutput : Type 0 where

@@ -81,16 +81,19 @@ says_gives (Err (Wrong fault)) text x c said are sound is =
     absurd (never c fault (read text) (ap read is ∙ listing_read x c are sound) said)
 
 -- memory may run out for the first line of a text, or for the others
-pub runs_out_here : (d : Draft) (text line : List ℕ) → 0 < length text → line ≡ first_line text → IsEntry d (row_of line) → MayRunOutInLines d (lines_in text)
+pub runs_out_here : (d : Draft) (text line : List ℕ) → 0 < length text → line ≡ first_line text →
+    IsEntry d (row_of line) → MayRunOutInLines d (lines_in text)
 runs_out_here d [] line more is entry = absurd (omega arith)
 runs_out_here d (b ∷ bs) line more is entry =
-    subst (λ (ls : List (List ℕ)). MayRunOutInLines d ls) (sym (lines_cut b bs)) (inl (subst (λ (l : List ℕ). IsEntry d (row_of l)) is entry))
+    subst (λ (ls : List (List ℕ)). MayRunOutInLines d ls) (sym (lines_cut b bs))
+    (inl (subst (λ (l : List ℕ). IsEntry d (row_of l)) is entry))
 
 pub runs_out_on : (d next : Draft) (text line others : List ℕ) → 0 < length text → line ≡ first_line text → others ≡ other_lines text →
     row_read d (row_of line) ≡ Ok next → MayRunOutInLines next (lines_in others) → MayRunOutInLines d (lines_in text)
 runs_out_on d next [] line others more is rest found later = absurd (omega arith)
 runs_out_on d next (b ∷ bs) line others more is rest found later =
     let row : row_read d (row_of (first_line (b ∷ bs))) ≡ Ok next = subst (λ (l : List ℕ). row_read d (row_of l) ≡ Ok next) is found in
-    let after : MayRunOutInLines next (lines_in (other_lines (b ∷ bs))) = subst (λ (o : List ℕ). MayRunOutInLines next (lines_in o)) rest later in
+    let after : MayRunOutInLines next (lines_in (other_lines (b ∷ bs))) =
+    subst (λ (o : List ℕ). MayRunOutInLines next (lines_in o)) rest later in
     subst (λ (ls : List (List ℕ)). MayRunOutInLines d ls) (sym (lines_cut b bs))
     (inr (subst (λ (r : Result Draft Mistake). IsOkAnd r (λ e. MayRunOutInLines e (lines_in (other_lines (b ∷ bs))))) (sym row) after))

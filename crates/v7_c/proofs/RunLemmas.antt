@@ -29,21 +29,28 @@ module _ (q : Request) (size : ℕ) where
   is_session : is_known q size ≡ true → q.mode ≢ 0 → run_in q size ≡ session_of q
   is_session known mode = by_mode known ∙ ap (λ (b : Bool). if b then link_of q else session_of q) (ne_eqb q.mode 0 mode)
 
-  pub link_answer : (r : Result RunResult Refusal) → is_known q size ≡ true → q.mode ≡ 0 → IfOk r (λ given. link_of q ≡ Ok (results_of given)) →
+  pub link_answer : (r : Result RunResult Refusal) → is_known q size ≡ true → q.mode ≡ 0 →
+      IfOk r (λ given. link_of q ≡ Ok (results_of given)) →
       IfErr r (λ refusal. refusal.cause ≢ Memory → link_of q ≡ Err refusal) →
-      IfErr r (λ refusal. refusal.cause ≡ Memory → LinkOfEachMayRunOut q.options q.entry.now q.forced.now (each_of q.objects.now) refusal.place) →
-      IsAnswer q size (results_or r)
+      IfErr r (λ refusal. refusal.cause ≡ Memory → LinkOfEachMayRunOut q.options q.entry.now q.forced.now
+      (each_of q.objects.now) refusal.place) → IsAnswer q size (results_or r)
   link_answer (Ok given) known mode ok err memory = is_link known mode ∙ ok
   link_answer (Err refusal) known mode ok err memory = (λ other. is_link known mode ∙ err other, λ out. (known, inl (mode, memory out)))
 
-  pub session_answer : (r : Result RunResult Refusal) → is_known q size ≡ true → q.mode ≢ 0 → IfOk r (λ given. session_of q ≡ Ok (results_of given)) →
+  pub session_answer : (r : Result RunResult Refusal) → is_known q size ≡ true → q.mode ≢ 0 →
+      IfOk r (λ given. session_of q ≡ Ok (results_of given)) →
       IfErr r (λ refusal. refusal.cause ≢ Memory → session_of q ≡ Err refusal) →
       IfErr r (λ refusal. refusal.cause ≡ Memory →
-      SessionOfPartsMayRunOut q.options q.entry.now q.forced.now q.edits.now (each_of q.objects.now) refusal.place) → IsAnswer q size (results_or r)
+      SessionOfPartsMayRunOut q.options q.entry.now q.forced.now q.edits.now (each_of q.objects.now) refusal.place) →
+      IsAnswer q size (results_or r)
   session_answer (Ok given) known mode ok err memory = is_session known mode ∙ ok
-  session_answer (Err refusal) known mode ok err memory = (λ other. is_session known mode ∙ err other, λ out. (known, inr (mode, memory out)))
+  session_answer (Err refusal) known mode ok err memory =
+      (λ other. is_session known mode ∙ err other, λ out. (known, inr (mode, memory out)))
 
   pub unknown_answer : is_known q size ≡ false → IsAnswer q size no_option
-  unknown_answer unknown = (λ other. ap (λ (b : Bool). if b then (if eqb q.mode 0 then link_of q else session_of q) else no_option) unknown, λ out. absurd (cc))
+  unknown_answer unknown = (
+    λ other. ap (λ (b : Bool). if b then (if eqb q.mode 0 then link_of q else session_of q) else no_option) unknown,
+    λ out. absurd (cc),
+  )
 
 pub ruleset by_answer = (link_answer, session_answer, unknown_answer)

@@ -113,9 +113,11 @@ session_left link replies = record { link = link; replies = replies }
 abbrev pub ran_left : Result SessionOutput Refusal → List ℕ → List ℕ → List ℕ → SessionLeft
 ran_left (Err r) replies buffer report = session_left (output_left (Err r) buffer report) replies
 ran_left (Ok x) replies buffer report =
-    if nat_lt (length replies) (length x.replies) || (nat_lt (length buffer) (length x.output.file) || nat_lt (length report) (length x.output.report))
+    if nat_lt (length replies) (length x.replies)
+    || (nat_lt (length buffer) (length x.output.file) || nat_lt (length report) (length x.output.report))
     then session_left (link_left 2 (given 60 (length x.output.file) (length x.output.report)) buffer report) replies
-    else session_left (link_left x.output.status (given 0 (length x.output.file) (length x.output.report)) (put_in buffer x.output.file) (put_in report x.output.report))
+    else session_left (link_left x.output.status (given 0 (length x.output.file) (length x.output.report))
+    (put_in buffer x.output.file) (put_in report x.output.report))
     (put_in replies x.replies)
 
 -- what a session leaves for which memory ran out, at the edit of this number
@@ -146,7 +148,8 @@ pub record PartsLeft : Type 0 where
   pub symbols : List SymbolRow
 
 abbrev pub parts_left : ℕ → Answer → Counts → List ObjectWord → List ObjectWord → List SymbolRow → PartsLeft
-parts_left status answer counts text datas symbols = record { status = status; answer = answer; counts = counts; text = text; «data» = datas; symbols = symbols }
+parts_left status answer counts text datas symbols =
+    record { status = status; answer = answer; counts = counts; text = text; «data» = datas; symbols = symbols }
 
 abbrev pub no_counts : Counts
 no_counts = record { text = 0; «data» = 0; symbols = 0; bss = 0 }

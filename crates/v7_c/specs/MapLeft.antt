@@ -1,5 +1,6 @@
 -- What v7_map leaves in the struct of its caller, and its status. (own choice)
-use Rattle.std.specs.Prelude.{◌≡◌, ◌≢◌, ℕ, Bool, true, ◌||◌, ◌&&◌, ◌%◌, not, eqb, nat_lt, nat_le, if◌then◌else◌, List, length, Result, Ok, Err}
+use Rattle.std.specs.Prelude.{◌≡◌, ◌≢◌, ℕ, Bool, true, ◌||◌, ◌&&◌, ◌%◌, not, eqb, nat_lt, nat_le}
+use Rattle.std.specs.Prelude.{if◌then◌else◌, List, length, Result, Ok, Err}
 use Rattle.link_maps.specs.declared.limit_records.LimitRecord.{LimitRecord}
 use Rattle.link_maps.specs.declared.map_records.MapRecords.{MapRecords}
 use Rattle.link_maps.specs.declared.name_records.NameRecord.{NameRecord}
@@ -23,12 +24,14 @@ is_known q size = nat_le 72 q.size && (nat_le 192 size && eqb q.mode 0)
 
 -- memory may run out, at this place
 abbrev pub MapOfRequestMayRunOut : Request → ℕ → ℕ → Type 0
-MapOfRequestMayRunOut q size place = (is_known q size ≡ true) × MapMayRunOut q.options q.entry.now q.forced.now (each_of q.objects.now) place
+MapOfRequestMayRunOut q size place =
+    (is_known q size ≡ true) × MapMayRunOut q.options q.entry.now q.forced.now (each_of q.objects.now) place
 
 -- what the map is of that is asked for, by a caller with a struct of this size
 abbrev pub map_of_request : Request → ℕ → Result MapOf Refusal
 map_of_request q size =
-    if is_known q size then map_asked q.options q.entry.now q.forced.now (each_of q.objects.now) else Err (record { cause = NoOption; place = 0 })
+    if is_known q size then map_asked q.options q.entry.now q.forced.now (each_of q.objects.now)
+    else Err (record { cause = NoOption; place = 0 })
 
 -- a map is one of that, or there is none, or memory ran out where it may
 abbrev pub IsMapGiven : Request → ℕ → Result Mapped Refusal → Type 0

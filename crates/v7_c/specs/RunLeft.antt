@@ -2,7 +2,8 @@
 --
 -- A request and a result begin with their sizes in bytes. A caller may have smaller ones, without the last fields: a link whose
 -- report is wanted as lines alone does without these, and they are left alone.
-use Rattle.std.specs.Prelude.{◌≡◌, ◌≢◌, ◌⊎◌, ℕ, Bool, true, ◌||◌, ◌&&◌, not, eqb, nat_lt, nat_le, if◌then◌else◌, List, [], length, Result, Ok, Err}
+use Rattle.std.specs.Prelude.{◌≡◌, ◌≢◌, ◌⊎◌, ℕ, Bool, true, ◌||◌, ◌&&◌, not, eqb, nat_lt, nat_le}
+use Rattle.std.specs.Prelude.{if◌then◌else◌, List, [], length, Result, Ok, Err}
 use Rattle.library_calls.specs.declared.cause.Cause.TheVariants.{Memory, NoOption}
 use Rattle.library_calls.specs.declared.cause.Refusal.{Refusal}
 use Rattle.library_calls.specs.declared.findings_call.ReportedName.{ReportedName}
@@ -26,7 +27,8 @@ needs_more q = eqb q.mode 1 || has_bit q.wants 2
 -- the sizes of request and result, the mode and what is wanted are known
 abbrev pub is_known : Request → ℕ → Bool
 is_known q size =
-    nat_le 72 q.size && (nat_le 72 size && (nat_le q.mode 1 && (nat_le q.wants 3 && (not (needs_more q) || (nat_le 88 q.size && nat_le 120 size)))))
+    nat_le 72 q.size && (nat_le 72 size
+    && (nat_le q.mode 1 && (nat_le q.wants 3 && (not (needs_more q) || (nat_le 88 q.size && nat_le 120 size)))))
 
 -- what the library gives, to a caller with a result of this size
 abbrev pub run_in : Request → ℕ → Result RunOutput Refusal

@@ -1,5 +1,6 @@
 -- A label says nothing to a reader of listings.
-use Rattle.std.proofs.Common.{◌≡◌, ℕ, ◌+◌, ◌-◌, ◌<◌, ◌≤◌, Bool, true, false, eqb, nat_lt, List, [], ◌∷◌, ◌++◌, length, refl, sym, ◌∙◌, ap, subst, arith, length-append}
+use Rattle.std.proofs.Common.{◌≡◌, ℕ, ◌+◌, ◌-◌, ◌<◌, ◌≤◌, Bool, true, false, eqb, nat_lt, List, [], ◌∷◌, ◌++◌}
+use Rattle.std.proofs.Common.{length, refl, sym, ◌∙◌, ap, subst, arith, length-append}
 use Rattle.std.specs.Prelude.{nat_le, ◌*◌, ◌&&◌, ◌||◌, if◌then◌else◌, codes, Ok}
 use Rattle.std.specs.Cmp.Lexicographic.{pointwise}
 use Rattle.std.specs.List.{AllByRecursion, flat_map, ends_with}
@@ -79,7 +80,8 @@ record IsName (f : List ℕ) : Type 0 where
 escaped_name : (b : ℕ) (rest : List ℕ) → IsInk rest → IsName (escaped b ++ rest)
 escaped_name b rest h = record { is_column = ink_append (escaped b) rest (escaped_ink b) h; is_begun = (refl, refl) }
 
-shown_first : (b : ℕ) (rest : List ℕ) (t : Bool) → is_plain b ≡ t → is_digit b ≡ false → IsInk rest → IsName ((if t then b ∷ [] else escaped b) ++ rest)
+shown_first : (b : ℕ) (rest : List ℕ) (t : Bool) → is_plain b ≡ t → is_digit b ≡ false → IsInk rest →
+    IsName ((if t then b ∷ [] else escaped b) ++ rest)
 shown_first b rest true e d h = record { is_column = (shown_large b e, h); is_begun = shown_begins b e d }
 shown_first b rest false e d h = escaped_name b rest h
 
@@ -87,9 +89,11 @@ either_false : (a b : Bool) → (a || b) ≡ false → a ≡ false
 either_false true b h = absurd (cc)
 either_false false b h = refl
 
-name_by : (b : ℕ) (bs : List ℕ) (t : Bool) → (is_digit b || is_register (b ∷ bs)) ≡ t → IsName ((if t then escaped b else assembly_byte b) ++ flat_map assembly_byte bs)
+name_by : (b : ℕ) (bs : List ℕ) (t : Bool) → (is_digit b || is_register (b ∷ bs)) ≡ t →
+    IsName ((if t then escaped b else assembly_byte b) ++ flat_map assembly_byte bs)
 name_by b bs true e = escaped_name b (flat_map assembly_byte bs) (bytes_ink bs)
-name_by b bs false e = shown_first b (flat_map assembly_byte bs) (is_plain b) refl (either_false (is_digit b) (is_register (b ∷ bs)) e) (bytes_ink bs)
+name_by b bs false e =
+    shown_first b (flat_map assembly_byte bs) (is_plain b) refl (either_false (is_digit b) (is_register (b ∷ bs)) e) (bytes_ink bs)
 
 name_is : (name : List ℕ) → IsName (assembly_name name)
 name_is [] = escaped_name 0 [] tt
@@ -140,9 +144,11 @@ within_label f k small is =
     let equals : IsColumn (61 ∷ []) = (omega arith, tt) in
     let line : List ℕ = gap 0 f (gap 0 (61 ∷ []) far) in
     let same : gap 0 f (gap 0 (61 ∷ []) (far ++ [])) ≡ line = ap (λ (l : List ℕ). gap 0 f (gap 0 (61 ∷ []) l)) (append-nil far) in
-    let columns : row_of line ≡ record { first = f; second = 61 ∷ []; third = far; fourth = column (from_fourth (gap 0 f (gap 0 (61 ∷ []) (far ++ [])))) } =
+    let columns : row_of line
+    ≡ record { first = f; second = 61 ∷ []; third = far; fourth = column (from_fourth (gap 0 f (gap 0 (61 ∷ []) (far ++ [])))) } =
     ap row_of (sym same) ∙ row_three 0 0 f (61 ∷ []) far [] is.is_column equals ink in
-    let row : Row = record { first = f; second = 61 ∷ []; third = far; fourth = column (from_fourth (gap 0 f (gap 0 (61 ∷ []) (far ++ [])))) } in (
+    let row : Row =
+    record { first = f; second = 61 ∷ []; third = far; fourth = column (from_fourth (gap 0 f (gap 0 (61 ∷ []) (far ++ [])))) } in (
       line_gap 0 f (gap 0 (61 ∷ []) far) is.is_column (line_gap 0 (61 ∷ []) far equals (line_of_column far ink)),
       λ d. ap (λ (r : Row). row_by r.first d r) columns ∙ passed f d row is.is_begun refl,
     )
@@ -158,7 +164,8 @@ at_by s false = tt
 
 all_at : (address : ℕ) (symbols : List Symbol) → AllByRecursion IsLabel (flat_map (λ s. label_at address s) symbols)
 all_at address [] = tt
-all_at address (s ∷ ss) = labels_append (label_at address s) (flat_map (λ s. label_at address s) ss) (at_by s (is_at TextSeg address s)) (all_at address ss)
+all_at address (s ∷ ss) =
+    labels_append (label_at address s) (flat_map (λ s. label_at address s) ss) (at_by s (is_at TextSeg address s)) (all_at address ss)
 
 and_last : (a c : Bool) → (a && c) ≡ true → c ≡ true
 and_last true c h = h
@@ -166,20 +173,25 @@ and_last false c h = absurd cc
 
 within_short : (address length : ℕ) (s : Symbol) → length ≤ 5 → is_within address length s ≡ true → s.value - address < 0o200000
 within_short address length s small h =
-    let test : nat_lt s.value (address + 2 * length) ≡ true = and_last (eqb (masked_type s) 2 && nat_lt address s.value) (nat_lt s.value (address + 2 * length)) h in
+    let test : nat_lt s.value (address + 2 * length) ≡ true =
+    and_last (eqb (masked_type s) 2 && nat_lt address s.value) (nat_lt s.value (address + 2 * length)) h in
     let near : s.value < address + 2 * length = grind (arith, nat_tests) in
     omega arith
 
 within_by : (address length : ℕ) (s : Symbol) (t : Bool) → length ≤ 5 → is_within address length s ≡ t →
     AllByRecursion IsLabel (if t then (assembly_name s.name ++ (codes " = .+" ++ octal (s.value - address))) ∷ [] else [])
-within_by address length s true small e = (within_label (assembly_name s.name) (s.value - address) (within_short address length s small e) (name_is s.name), tt)
+within_by address length s true small e =
+    (within_label (assembly_name s.name) (s.value - address) (within_short address length s small e) (name_is s.name), tt)
 within_by address length s false small e = tt
 
-all_within : (address length : ℕ) (symbols : List Symbol) → length ≤ 5 → AllByRecursion IsLabel (flat_map (λ s. label_within address length s) symbols)
+all_within : (address length : ℕ) (symbols : List Symbol) → length ≤ 5 →
+    AllByRecursion IsLabel (flat_map (λ s. label_within address length s) symbols)
 all_within address length [] small = tt
 all_within address length (s ∷ ss) small =
-    labels_append (label_within address length s) (flat_map (λ s. label_within address length s) ss) (within_by address length s (is_within address length s) small refl) (all_within address length ss small)
+    labels_append (label_within address length s) (flat_map (λ s. label_within address length s) ss)
+    (within_by address length s (is_within address length s) small refl) (all_within address length ss small)
 
 pub are_labels : (symbols : List Symbol) (address length : ℕ) → length ≤ 5 → AllByRecursion IsLabel (label_lines symbols address length)
 are_labels symbols address length small =
-    labels_append (flat_map (λ s. label_at address s) symbols) (flat_map (λ s. label_within address length s) symbols) (all_at address symbols) (all_within address length symbols small)
+    labels_append (flat_map (λ s. label_at address s) symbols) (flat_map (λ s. label_within address length s) symbols)
+    (all_at address symbols) (all_within address length symbols small)

@@ -14,7 +14,8 @@ returns c =
     let numbered : Puts c.put.new.self c.put_decimal.new.self number =
     subst (λ (n : ℕ). Puts c.put.new.self c.put_decimal.new.self (decimal n)) c.from.ensures c.put_decimal.ensures in
     let named : Puts c.put_byte.new.self last name =
-    subst (λ (bytes : List ℕ). Puts c.put_byte.new.self last (printable_name bytes)) c.as_bytes.ensures.value c.put_printable_name.ensures in
+    subst (λ (bytes : List ℕ). Puts c.put_byte.new.self last (printable_name bytes)) c.as_bytes.ensures.value
+    c.put_printable_name.ensures in
     let two = puts_both c.put_decimal.new.self c.put_byte.new.self last blank name c.put_byte.ensures named in
     let three = puts_both c.put.new.self c.put_decimal.new.self last number (blank ++ name) numbered two in
     puts_both c.args.text.now c.put.new.self last (codes "not wanted: symbol ") (number ++ (blank ++ name)) c.put.ensures three

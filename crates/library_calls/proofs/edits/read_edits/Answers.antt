@@ -7,7 +7,8 @@ use Rattle.library_calls.proofs.edits.read_edits.Goals as goal
 pub returns-in-Err-clause-err : goal.returns-in-Err-clause-err
 returns-in-Err-clause-err c = λ other.
     one_edit_refused (λ (rest : List ℕ). rest) after_edit (with_edits 0 [] c.args.letters.now c.args.bytes.now) c.loop-place.place
-    (map change_of c.loop-place.edits.items) c.args.letters.now c.loop-place.rest.now (get_or c.args.letters.now c.loop-place.place 0) c.in-Err.cause
+    (map change_of c.loop-place.edits.items) c.args.letters.now c.loop-place.rest.now
+    (get_or c.args.letters.now c.loop-place.place 0) c.in-Err.cause
     c.loop-place-test.true refl c.loop-place.invariant.0 (c.in-Err.ensures.err other)
 
 pub returns-in-Err-clause-memory : goal.returns-in-Err-clause-memory

@@ -9,8 +9,10 @@ use Rattle.library_calls.proofs.map_call.objects_of.Goals as goal
 
 pub returns-in-Err-clause-err : goal.returns-in-Err-clause-err
 returns-in-Err-clause-err c = λ other.
-    refused_each with_read c.args.parts.now c.loop-place.place _ (objects (all_of c.loop-place.all)) (objects_each (each_of c.args.parts.now))
-    c.loop-place.place c.in-Err.cause c.loop-place-test.true c.loop-place.invariant.read (c.in-Err.ensures.err other) c.loop-place.invariant.number
+    refused_each with_read c.args.parts.now c.loop-place.place _ (objects (all_of c.loop-place.all))
+    (objects_each (each_of c.args.parts.now))
+    c.loop-place.place c.in-Err.cause c.loop-place-test.true c.loop-place.invariant.read
+    (c.in-Err.ensures.err other) c.loop-place.invariant.number
 
 pub returns-in-Err-clause-memory : goal.returns-in-Err-clause-memory
 returns-in-Err-clause-memory c = λ memory.
@@ -27,5 +29,7 @@ loop-place-preserved c =
       taken = c.in-Ok.ensures.taken c.args.forced.now c.loop-place.invariant.taken;
       memory = λ p h. c.loop-place.invariant.memory p
           (out_later_each with_read c.args.parts.now c.loop-place.place _ so_far p next c.loop-place-test.true c.in-Ok.ensures.read h);
-      number = number_more c.args.parts.now c.loop-place.place _ so_far next c.in-Ok.ensures.read ∙ ap (λ (n : ℕ). n + 1) c.loop-place.invariant.number;
+      number =
+          number_more c.args.parts.now c.loop-place.place _ so_far next c.in-Ok.ensures.read
+          ∙ ap (λ (n : ℕ). n + 1) c.loop-place.invariant.number;
     }

@@ -12,7 +12,9 @@ returns-in_err-run_changes-clause-memory c =
     let stage : c.in_err-run_changes.field-0.0 ≡ Memory →
     SessionOfPartsMayRunOut request.options request.entry.now request.forced.now c.args.letters.now (each_of c.args.parts.now) 0 =
     λ memory.
-    changes_without_memory request.options request.entry.now request.forced.now c.args.letters.now (each_of c.args.parts.now) c.in_ok-options.options
+    changes_without_memory request.options request.entry.now request.forced.now c.args.letters.now
+    (each_of c.args.parts.now) c.in_ok-options.options
     c.in_ok-forced.forced (map change_of c.in_ok-edits.edits.items)
-    (sym c.in_ok-options.ensures) (sym c.in_ok-forced.ensures.value) c.in_ok-edits.ensures.ok (c.in_err-run_changes.ensures.memory memory) in
+    (sym c.in_ok-options.ensures) (sym c.in_ok-forced.ensures.value) c.in_ok-edits.ensures.ok
+    (c.in_err-run_changes.ensures.memory memory) in
     search (rules, stage)

@@ -11,6 +11,7 @@ returns-clause-ok c =
     let changes = map change_of c.in_ok-edits.edits.items in
     let output = states_of c.in_ok-edit_and_show.field-0 in
     let begun = c.in_ok-session.ensures.kept in
-    let shows = subst (λ (k : Kept). Shows (asked form k.forced changes) output) begun (c.in_ok-edit_and_show.ensures.ok (ap (λ (k : Kept). k.entries) begun)) in
+    let shows = subst (λ (k : Kept). Shows (asked form k.forced changes) output) begun
+    (c.in_ok-edit_and_show.ensures.ok (ap (λ (k : Kept). k.entries) begun)) in
     all_shown c.args.form c.args.forced.now c.args.letters.now c.args.objects.now form c.in_ok-forced.forced changes output
     (sym c.in_ok-form.ensures) (sym c.in_ok-forced.ensures.value) c.in_ok-edits.ensures.ok shows

@@ -8,6 +8,7 @@ use Rattle.library_calls.proofs.taking.take_each.Given as goal
 abbrev pub invariant-loop-part : goal.invariant-loop-part
 invariant-loop-part l =
     (l.session.forced ≡ l.initial.session.forced)
-    × (with_each l.initial.session.forced (objects l.initial.session.entries) (each_of l.parts) ≡ with_each l.session.forced (objects l.session.entries) (each_of (drop l.part-index l.parts)))
+    × (with_each l.initial.session.forced (objects l.initial.session.entries) (each_of l.parts)
+    ≡ with_each l.session.forced (objects l.session.entries) (each_of (drop l.part-index l.parts)))
     × ((place : ℕ) → MayRunOutInEach l.session.forced (objects l.session.entries) (each_of (drop l.part-index l.parts)) place →
     MayRunOutInEach l.initial.session.forced (objects l.initial.session.entries) (each_of l.parts) place)

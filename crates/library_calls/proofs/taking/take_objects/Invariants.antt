@@ -8,6 +8,7 @@ use Rattle.library_calls.proofs.taking.take_objects.Given as goal
 abbrev pub invariant-loop : goal.invariant-loop
 invariant-loop l =
     (l.session.forced ≡ l.initial.session.forced)
-    × (with_most (length l.bytes) l.initial.session.forced (objects l.initial.session.entries) l.bytes ≡ with_most (length l.bytes - l.counter) l.session.forced (objects l.session.entries) l.rest)
+    × (with_most (length l.bytes) l.initial.session.forced (objects l.initial.session.entries) l.bytes
+    ≡ with_most (length l.bytes - l.counter) l.session.forced (objects l.session.entries) l.rest)
     × ((place : ℕ) → MayRunOutInMost (length l.bytes - l.counter) l.session.forced (objects l.session.entries) l.rest place →
     MayRunOutInMost (length l.bytes) l.initial.session.forced (objects l.initial.session.entries) l.bytes place)
