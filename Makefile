@@ -256,7 +256,7 @@ check-explain: build/v7 build/v7-explain build/v7-object build/v7-from-gnu build
 
 # plays the cases, docs/CASES.md, with the programs: each must come out as written, and each bad case must be refused as bad.errors
 # has it. Samples that are in examples too must be the same there
-check-cases: build/v7 build/v7-from-gnu build/v7-object build/v7-explain build/library_uses
+check-cases: build/v7 build/v7-from-gnu build/v7-object build/v7-explain build/v7-lesson build/library_uses
 	python3 tests/cases.py -s
 	python3 tests/planted.py -c
 	python3 tests/cases.py -b

@@ -2,7 +2,7 @@
 import re
 from dataclasses import dataclass, field
 
-PROGRAMS = (b"v7", b"v7-explain", b"v7-from-gnu", b"v7-object")
+PROGRAMS = (b"v7", b"v7-explain", b"v7-from-gnu", b"v7-lesson", b"v7-object")
 
 
 class Mistake(Exception):

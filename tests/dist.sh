@@ -184,7 +184,7 @@ cases() {
     mkdir -p "$work/cases/build"
     cp -r tests "$work/cases"
     cp -r examples "$work/cases"
-    for program in v7 v7-from-gnu v7-object v7-explain; do
+    for program in v7 v7-from-gnu v7-object v7-explain v7-lesson; do
         path=$(inside sh -c 'command -v "$0"' $program)
         cat >"$work/cases/build/$program" <<END
 #!/bin/sh

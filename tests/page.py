@@ -132,9 +132,10 @@ class Page(Chromium):
 
 
 def lines_on(shown):
-    """What the page shows, as the lines that `v7-lesson` has."""
-    lines = [words_of(f"{word['segment']} {word['offset']} {word['value']} {word['pc']} {word['target']}")
-             + (f" / {word['instruction']}" if word["instruction"] else "") for word in shown["words"]]
+    """What the page shows, as the lines that `v7-lesson` has: these have no place for a word that waits."""
+    places = ["" if word["target"].startswith("waits for ") else word["place"].replace("\u2212", "-") for word in shown["words"]]
+    lines = [words_of(f"{word['segment']} {word['offset']} {word['value']} {word['pc']} {word['target']} {place}")
+             + (f" / {word['instruction']}" if word["instruction"] else "") for word, place in zip(shown["words"], places)]
     lines += [f"bss {shown['bss']}"] if shown["bss"] else []
     lines += [f"name {name}: {known}" for name, known, _ in shown["names"]]
     lines += [words_of(f"mark {mark}") for mark in shown["marks"]]

@@ -212,16 +212,47 @@ def check_steps(*names):
     return len(steps)
 
 
+def rows_in(step):
+    """The rows of a step by their kinds, and by their places in these."""
+    rows = {kind: [] for kind in ("text", "data", "bss", "name", "multiple")}
+    for line in step.splitlines()[1:]:
+        kind = "multiple" if line.endswith(": multiply defined") else line.split()[0]
+        rows.setdefault(kind, []).append(line[1:])
+    return {(kind, place): line for kind in list(rows)[:5] for place, line in enumerate(rows[kind])}
+
+
+def changes(before, after):
+    """What a step changed, as v7-lesson -c has it, from the states before and after it."""
+    old, new = rows_in(before), rows_in(after)
+    text = after.splitlines()[0] + "\n"
+    for key in sorted({*old, *new}, key=lambda it: (("text", "data", "bss", "name", "multiple").index(it[0]), it[1])):
+        if old.get(key) != new.get(key):
+            text += "".join(sign + rows[key] + "\n" for sign, rows in (("-", old), ("+", new)) if key in rows)
+    return text
+
+
+def check_changes(*names):
+    """With -c, each step has the rows that differ from those of the step before. Returns how many steps there are."""
+    paths = [os.path.join(EXAMPLES, name) for name in names]
+    steps = re.split(r"^(?=add |withdraw )", run(LESSON, *paths)[1], flags=re.M)
+    wanted = [changes(before, after) for before, after in zip(["begin\n", *steps[1:]], steps[1:])]
+    expect(f"{names}: changes", run(LESSON, "-c", *paths), (0, "".join(wanted), ""))
+    for number, step in enumerate(wanted, 1):
+        expect(f"{names}: changes of step {number}", run(LESSON, "-c", "-n", str(number), *paths), (0, step, ""))
+        expect(f"{names}: changes of step {number}", run(LESSON, "-n", str(number), "-c", *paths), (0, step, ""))
+    return len(wanted)
+
+
 def check_lesson():
     """Help, the version, and arguments that are refused by one line. Returns how many were tried."""
-    usage = "v7-lesson: usage: v7-lesson [-n STEP] FILE..., or v7-lesson -p FOLDER [-q QUESTIONS] FILE... >PAGE\n"
-    synopsis = ("usage: v7-lesson [-n STEP] FILE...\n       v7-lesson -p FOLDER [-q QUESTIONS] FILE... >PAGE\n"
+    usage = "v7-lesson: usage: v7-lesson [-c] [-n STEP] FILE..., or v7-lesson -p FOLDER [-q QUESTIONS] FILE... >PAGE\n"
+    synopsis = ("usage: v7-lesson [-c] [-n STEP] FILE...\n       v7-lesson -p FOLDER [-q QUESTIONS] FILE... >PAGE\n"
                 "       v7-lesson --help | --version\n")
     with open(os.path.join(os.path.dirname(EXAMPLES), "include", "v7.h"), encoding="utf-8") as header:
         version = re.search(r'^#define V7_VERSION "(.*)"', header.read(), re.M)[1]
     expect("--help", run(LESSON, "--help"), (0, synopsis, ""))
     expect("--version", run(LESSON, "--version"), (0, f"v7-lesson {version}\n", ""))
-    refused = ([], ["-n"], ["-n", "1"], ["-z", "k.o"], ["-n", "x", "k.o"], ["-p"], ["-p", "page"], ["-p", "page", "-q"],
+    refused = ([], ["-c"], ["-n"], ["-n", "1"], ["-c", "-n", "1"], ["-n", "1", "-c"], ["-c", "-n", "0", "k.o"], ["-z", "k.o"], ["-n", "x", "k.o"], ["-p"], ["-p", "page"], ["-p", "page", "-q"],
                ["-p", "page", "-q", "lessons.txt"], [b"\xe9.o"], ["-n", "1", "--help", b"\xe9.o"])
     for arguments in refused:
         expect(f"{arguments}", run(LESSON, *arguments), (2, "", usage))
@@ -234,6 +265,7 @@ with tempfile.TemporaryDirectory() as room:
     os.chdir(room)
     objects = check_refusals() + check_compiled() + check_linked() + check_folder() + check_order()
     shown = check_steps("k.o", "l.o") + check_steps("main.o", "twice.o", "count.o") + check_steps("a.o")
+    shown += check_changes("k.o", "l.o") + check_changes("main.o", "twice.o", "double.o", "count.o", "k.o", "l.o", "print.o", "start.o")
     asked = check_lesson()
     if failed:
         sys.exit(1)

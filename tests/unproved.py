@@ -151,8 +151,7 @@ def main():
     tally = Tally()
     with tempfile.TemporaryDirectory() as folder, ThreadPoolExecutor(min(SIDE_BY_SIDE, len(os.sched_getaffinity(0)))) as pool:
         # nothing that waits comes before what it waits for
-        # no case runs v7-lesson
-        programs = {pool.submit(compiled, name, folder): f"the program {name}" for name in CRATES if name != "v7-lesson"}
+        programs = {pool.submit(compiled, name, folder): f"the program {name}" for name in CRATES}
         work = [(f"cases of {' '.join(files)}", play_share, [*programs], folder, files) for files in shares()]
         work += [(f"tests/{name}.py", passes, sys.executable, f"tests/{name}.py") for name in TEXTS]
         work += [("samples", passes, sys.executable, "tests/cases.py", "-s"), ("names of cases", check_names)]

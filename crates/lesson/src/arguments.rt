@@ -1,13 +1,14 @@
 //! The arguments of the program.
+use crate::steps;
 use anyhow::{Result, anyhow};
 use aout_core::{Shown, shown_by};
 use std::{env, io};
 
 const USAGE: &str =
-    "usage: v7-lesson [-n STEP] FILE..., or v7-lesson -p FOLDER [-q QUESTIONS] FILE... >PAGE";
+    "usage: v7-lesson [-c] [-n STEP] FILE..., or v7-lesson -p FOLDER [-q QUESTIONS] FILE... >PAGE";
 
 /// How the program is called, as `--help` shows it.
-pub(crate) const SYNOPSIS: &str = "usage: v7-lesson [-n STEP] FILE...
+pub(crate) const SYNOPSIS: &str = "usage: v7-lesson [-c] [-n STEP] FILE...
        v7-lesson -p FOLDER [-q QUESTIONS] FILE... >PAGE
        v7-lesson --help | --version
 ";
@@ -17,9 +18,9 @@ pub(crate) const SYNOPSIS: &str = "usage: v7-lesson [-n STEP] FILE...
 pub(crate) enum Call<'a> {
     /// How the program is called, or its version.
     Show(Shown),
-    /// The steps of a session as text: all, or the one of this number, from 1.
+    /// The steps of a session as text, and which of them.
     Steps {
-        step: Option<usize>,
+        shown: steps::Shown,
         files: &'a [String],
     },
     /// The page, with the scripts and styles of a folder, and with the lessons of a file, if it is given.
@@ -51,16 +52,42 @@ fn at_least_one(files: &[String]) -> Option<&[String]> {
     if files.is_empty() { None } else { Some(files) }
 }
 
-/// The call with the arguments after `-n`: the number of a step, from 1, and files.
-fn step_call(arguments: &[String]) -> Option<Call<'_>> {
-    let (step, files) = arguments.split_first()?;
+/// Arguments without this option, if they begin with it, and whether they do.
+fn without<'a>(option: &str, arguments: &'a [String]) -> (bool, &'a [String]) {
+    match arguments.split_first() {
+        Some((first, rest)) if first.as_str() == option => (true, rest),
+        _ => (false, arguments),
+    }
+}
+
+/// Arguments without `-n` and the number of a step, from 1, if they begin with these.
+fn without_step(arguments: &[String]) -> Option<(Option<usize>, &[String])> {
+    let (true, rest) = without("-n", arguments) else {
+        return Some((None, arguments));
+    };
+    let (step, files) = rest.split_first()?;
     match step.as_str().parse::<usize>() {
         Ok(0) | Err(_) => None,
-        Ok(step) => Some(Call::Steps {
-            step: Some(step),
-            files: at_least_one(files)?,
-        }),
+        Ok(step) => Some((Some(step), files)),
     }
+}
+
+/// The call with these arguments: `-c` and `-n` with a step, either first, and files.
+fn steps_call(arguments: &[String]) -> Option<Call<'_>> {
+    let (is_first, rest) = without("-c", arguments);
+    let (only, rest) = without_step(rest)?;
+    let (is_last, files) = if is_first {
+        (true, rest)
+    } else {
+        without("-c", rest)
+    };
+    Some(Call::Steps {
+        shown: steps::Shown {
+            only,
+            only_changes: is_last,
+        },
+        files: at_least_one(files)?,
+    })
 }
 
 /// The call with the arguments after `-p`: a folder, the file of the lessons if `-q` is before it, and files.
@@ -87,13 +114,10 @@ fn call_of(arguments: &[String]) -> Option<Call<'_>> {
         return Some(Call::Show(shown));
     }
     match first.as_str() {
-        "-n" => step_call(rest),
         "-p" => page_call(rest),
+        "-c" | "-n" => steps_call(arguments),
         word if word.starts_with('-') => None,
-        _ => Some(Call::Steps {
-            step: None,
-            files: arguments,
-        }),
+        _ => steps_call(arguments),
     }
 }
 

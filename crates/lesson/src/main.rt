@@ -11,12 +11,15 @@ mod keys;
 mod lines;
 mod links;
 mod marks;
+mod meant;
 mod number_list;
 mod numbers;
 mod page;
 mod parts;
 mod places;
 mod questions;
+mod row_list;
+mod rows;
 mod shapes;
 mod sources;
 mod states;
@@ -37,7 +40,7 @@ fn run(rt: &HostRuntime, session: &mut Session) -> Result<u8> {
     let arguments = arguments_given(rt)?;
     match called(&arguments)? {
         Call::Show(shown) => return Ok(show(rt, "v7-lesson", SYNOPSIS, shown)),
-        Call::Steps { step, files } => play(rt, session, files, step)?,
+        Call::Steps { shown, files } => play(rt, session, files, shown)?,
         Call::Page {
             folder,
             questions,

@@ -1,11 +1,16 @@
 //! Words, names and states as JSON.
+ghost use Rattle.std.specs.Prelude.{◌≡◌};
+ghost use Rattle.lesson.specs.Meant.{place_meant};
+
 use aout_core::{Name, Segment, pc_target};
 use link_session::{Cell, Session, State, Target};
 use reports::JsonWriter;
 
 /// What a word refers to is a number in its segment: that of its value, counted from the word after it if it is
 /// relative to the pc.
-pub(crate) fn place_meant(value: u16, pc: bool, offset: u16) -> u16 {
+pub(crate) fn place_meant(value: u16, pc: bool, offset: u16) -> u16
+    ensures { result ≡ place_meant value pc offset }
+{
     if pc { pc_target(value, offset) } else { value }
 }
 

@@ -1,4 +1,8 @@
 //! The places that words refer to: where an arrow of the page ends.
+ghost use Rattle.std.specs.Prelude.{◌≡◌};
+ghost use Rattle.link_session.specs.Undo.{image_of};
+ghost use Rattle.lesson.specs.Meant.{size_of};
+
 use crate::links::Link;
 use crate::parts::place_meant;
 use aout_core::Segment;
@@ -80,10 +84,12 @@ fn segment_of(target: Target) -> Option<Merged> {
 }
 
 /// The size of a merged segment, in bytes.
-fn size_of(session: &Session, segment: Merged) -> usize {
+pub(crate) fn size_of(session: &Session, segment: Merged) -> usize
+    ensures { result ≡ size_of (image_of session.now) segment }
+{
     match segment {
-        Merged::Text => session.text_cells().len().saturating_mul(2),
-        Merged::Data => session.data_cells().len().saturating_mul(2),
+        Merged::Text => 2 * session.text_cells().len(),
+        Merged::Data => 2 * session.data_cells().len(),
         Merged::Bss => usize::from(session.bss_total()),
     }
 }

@@ -1,34 +1,78 @@
 //! Steps of a session as text: each object is added, and then each is withdrawn, the last one first.
 use crate::files::{bytes_at, object_in};
-use crate::lines::show;
+use crate::lines::step_text;
+use crate::rows::{StateRows, rows_of};
 use anyhow::{Result, anyhow};
 use link_session::Session;
+use std::alloc::{AllocError, Global};
+use std::io::{self, Write};
 
-/// Which steps are shown: the one of this number, from 1, or all.
-type Shown = Option<usize>;
-
-/// The text of a step, if it is shown.
-fn show_step(
-    rt: &HostRuntime,
-    session: &Session,
-    is_shown: bool,
-    edit: &str,
-    label: &str,
-) -> Result<()> {
-    if !is_shown {
-        return Ok(());
-    }
-    println!(rt; "{edit} {label}")?;
-    show(rt, session)
+/// Which steps are shown: all, or the one of this number, from 1; and whether of a step only its changes are.
+#[derive(Clone, Copy)]
+pub(crate) struct Shown {
+    pub(crate) only: Option<usize>,
+    pub(crate) only_changes: bool,
 }
 
-/// Adds the object at a path.
-fn add_file(rt: &HostRuntime, session: &mut Session, path: &str, is_shown: bool) -> Result<()> {
+impl Shown {
+    ghost use Rattle.std.specs.Prelude.{◌≡◌, IfOk};
+    ghost use Rattle.lesson.specs.Steps.{is_shown, rows_before};
+
+    /// Whether the step of this number is shown.
+    fn has(self, step: usize) -> bool
+        ensures { result ≡ is_shown self.only step }
+    {
+        match self.only {
+            Some(only) => only == step,
+            None => true,
+        }
+    }
+
+    /// The rows of the state before the step of this number, if of this its changes are shown. An error: out of memory.
+    fn rows_before(
+        self,
+        alloc: Global,
+        session: &Session,
+        step: usize,
+    ) -> Result<Option<StateRows>, AllocError>
+        ensures { IfOk result (λ rows. rows ≡ rows_before self session.now step) }
+    {
+        if self.only_changes && self.has(step) {
+            Ok(Some(rows_of(alloc, session)?))
+        } else {
+            Ok(None)
+        }
+    }
+}
+
+/// Writes a step: what it changed, if the rows of the state before it are given, or else the whole state after it.
+fn write_step(
+    rt: &HostRuntime,
+    edit: &str,
+    label: &str,
+    before: Option<StateRows>,
+    session: &Session,
+) -> Result<()> {
+    let text = step_text(rt.alloc(), edit, label, before, session)?;
+    io::writer(rt).write_all(&text)?;
+    Ok(())
+}
+
+/// The step of this number, which adds the object at a path.
+fn add_file(
+    rt: &HostRuntime,
+    session: &mut Session,
+    path: &str,
+    shown: Shown,
+    step: usize,
+) -> Result<()> {
     let bytes = bytes_at(rt, path)?;
     let object = object_in(rt.alloc(), path, &bytes)?;
     let label = String::from_str(rt.alloc(), path)?;
+    let before = shown.rows_before(rt.alloc(), session, step)?;
     match session.add(label, object) {
-        Ok(()) => show_step(rt, session, is_shown, "add", path),
+        Ok(()) if shown.has(step) => write_step(rt, "add", path, before, session),
+        Ok(()) => Ok(()),
         Err(refused) => Err(anyhow!("{}: {}", refused.label, refused.cause)),
     }
 }
@@ -42,12 +86,7 @@ fn add_all(
 ) -> Result<usize> {
     let mut step = 1usize;
     for path in files {
-        add_file(
-            rt,
-            session,
-            path.as_str(),
-            shown.is_none_or(|only| only == step),
-        )?;
+        add_file(rt, session, path.as_str(), shown, step)?;
         step = step.saturating_add(1);
     }
     Ok(step)
@@ -57,16 +96,13 @@ fn add_all(
 fn withdraw_all(rt: &HostRuntime, session: &mut Session, first: usize, shown: Shown) -> Result<()> {
     let mut step = first;
     for _ in 0..session.entries().len() {
+        let before = shown.rows_before(rt.alloc(), session, step)?;
         let Some((label, _)) = session.withdraw() else {
             break;
         };
-        show_step(
-            rt,
-            session,
-            shown.is_none_or(|only| only == step),
-            "withdraw",
-            label.as_str(),
-        )?;
+        if shown.has(step) {
+            write_step(rt, "withdraw", label.as_str(), before, session)?;
+        }
         step = step.saturating_add(1);
     }
     Ok(())
@@ -80,7 +116,7 @@ pub(crate) fn play(
     shown: Shown,
 ) -> Result<()> {
     let count = files.len().saturating_mul(2);
-    if let Some(step) = shown
+    if let Some(step) = shown.only
         && count < step
     {
         return Err(anyhow!("there are {count} steps"));

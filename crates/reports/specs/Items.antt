@@ -4,11 +4,11 @@ use Rattle.link_session.specs.declared.state.State.{State}
 use Rattle.link_session.specs.Image.{Named}
 
 -- each item by its index, from this one on
-abbrev pub each_from : {A : Type 0} → (ℕ → A → List ℕ) → ℕ → List A → List ℕ
+abbrev pub each_from : {A B : Type 0} → (ℕ → A → List B) → ℕ → List A → List B
 each_from encoded i [] = []
 each_from encoded i (x ∷ xs) = encoded i x ++ each_from encoded (i + 1) xs
 
-abbrev pub each : {A : Type 0} → (ℕ → A → List ℕ) → List A → List ℕ
+abbrev pub each : {A B : Type 0} → (ℕ → A → List B) → List A → List B
 each encoded xs = each_from encoded 0 xs
 
 -- the name of the external at a place; none after the last one

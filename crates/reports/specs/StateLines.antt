@@ -52,9 +52,12 @@ abbrev pub state_text : State → List ℕ
 state_text (Defined segment offset) = segment_text segment ++ six_digits offset
 state_text (Wanted size) = wanted_text size
 
--- the word of this index in a segment
+-- the word of this index in a segment, without a newline
+abbrev pub cell_row : Named → List ℕ → ℕ → Cell → List ℕ
+cell_row es segment i c = codes "  " ++ segment ++ six_digits (2 * i) ++ codes "  " ++ cell_text es c
+
 abbrev pub cell_line : Named → List ℕ → ℕ → Cell → List ℕ
-cell_line es segment i c = codes "  " ++ segment ++ six_digits (2 * i) ++ codes "  " ++ cell_text es c ++ codes "\n"
+cell_line es segment i c = cell_row es segment i c ++ codes "\n"
 
 abbrev pub external_line : List ℕ × State → List ℕ
 external_line e = codes "  name " ++ printable_name e.0 ++ codes ": " ++ state_text e.1 ++ codes "\n"

@@ -6,7 +6,7 @@ ghost use Rattle.link_session.specs.Undo.{IsJournal, image_of};
 ghost use Rattle.texts.specs.Numbers.{six_digits};
 ghost use Rattle.texts.specs.Texts.{Puts};
 ghost use Rattle.reports.specs.Items.{each};
-ghost use Rattle.reports.specs.StateLines.{bss_line, cell_line, cell_text, external_line, image_lines, mark_line, mark_text, multiple_line, nothing_line, pc_text, place_text, segment_text, state_lines, state_text, target_text, wanted_text};
+ghost use Rattle.reports.specs.StateLines.{bss_line, cell_line, cell_row, cell_text, external_line, image_lines, mark_line, mark_text, multiple_line, nothing_line, pc_text, place_text, segment_text, state_lines, state_text, target_text, wanted_text};
 
 use crate::names::name_at;
 use aout_core::{Name, Segment};
@@ -89,15 +89,23 @@ fn put_place(text: &mut Text, segment: &str, index: usize)
     text.put_six_digits(2 * index as u32);
 }
 
-/// Appends the line of the word of this index in a segment.
-fn put_cell_line(text: &mut Text, session: &Session, segment: &str, index: usize, cell: Cell)
+/// Appends the line of the word of this index in a segment, whose name a blank follows, without the newline. (own choice)
+pub fn put_cell_row(text: &mut Text, session: &Session, segment: &str, index: usize, cell: Cell)
     requires { index < 65536 }
-    ensures { Puts text.old text.new (cell_line (image_of session.now).externals segment.now index cell) }
+    ensures { Puts text.old text.new (cell_row (image_of session.now).externals segment.now index cell) }
 {
     text.put("  ");
     put_place(text, segment, index);
     text.put("  ");
     put_cell(text, session, cell);
+}
+
+/// Appends the line of the word of this index in a segment.
+fn put_cell_line(text: &mut Text, session: &Session, segment: &str, index: usize, cell: Cell)
+    requires { index < 65536 }
+    ensures { Puts text.old text.new (cell_line (image_of session.now).externals segment.now index cell) }
+{
+    put_cell_row(text, session, segment, index, cell);
     text.put("\n");
 }
 
@@ -111,8 +119,8 @@ fn put_cells(text: &mut Text, session: &Session, segment: &str, cells: &[Cell])
     }
 }
 
-/// Appends the line of bss, if there is some.
-fn put_bss(text: &mut Text, size: u16)
+/// Appends the line of bss of this size in bytes, if there is some. (own choice)
+pub fn put_bss(text: &mut Text, size: u16)
     ensures { Puts text.old text.new (bss_line size) }
 {
     if size == 0 {
@@ -123,7 +131,8 @@ fn put_bss(text: &mut Text, size: u16)
     text.put(" bytes\n");
 }
 
-fn put_external(text: &mut Text, name: &Name, state: State)
+/// Appends the line of an external: its name, and what is known of it. (own choice)
+pub fn put_external(text: &mut Text, name: &Name, state: State)
     ensures { Puts text.old text.new (external_line (name.now, state)) }
 {
     text.put("  name ");
@@ -143,7 +152,8 @@ fn put_externals(text: &mut Text, session: &Session)
     }
 }
 
-fn put_multiple(text: &mut Text, name: &Name)
+/// Appends the line of a name that is multiply defined. (own choice)
+pub fn put_multiple(text: &mut Text, name: &Name)
     ensures { Puts text.old text.new (multiple_line name.now) }
 {
     text.put("  name ");
@@ -196,8 +206,8 @@ fn put_mark_line(text: &mut Text, session: &Session, mark: Mark)
     text.put("\n");
 }
 
-/// Appends the lines of what the addition of the last object overwrote.
-fn put_marks(text: &mut Text, session: &Session)
+/// Appends the lines of what the addition of the last object overwrote. (own choice)
+pub fn put_marks(text: &mut Text, session: &Session)
     ensures lists { Puts text.old text.new (each (λ _ k. mark_line (image_of session.now).externals k) (newest session.now.journal)) }
     ensures journal { IsJournal session.now.forced (objects session.now.entries) session.now.journal }
 {
@@ -217,7 +227,8 @@ fn put_image(text: &mut Text, session: &Session)
     put_multiples(text, session.multiples());
 }
 
-fn nothing_line(entries: &[Entry]) -> &'static str
+/// The line that says that a session has no objects; empty if it has some. (own choice)
+pub fn nothing_line(entries: &[Entry]) -> &'static str
     ensures { result.now ≡ nothing_line entries.now }
 {
     if entries.is_empty() {

@@ -1,0 +1,4 @@
+pub mod Meant
+pub mod Instructions
+pub mod Rows
+pub mod Steps
