@@ -21,8 +21,11 @@ fn instruction_at(alloc: Global, file: &NamedFile<'_>, lines: &[bool], place: us
 {
     let mut text = Text::new(alloc);
     if is_start(lines, place)
-        && let UnixLine::Machine(Line::Decoded(..)) =
-            unix_line_in(Decoder::Pdp11, file.file(), place)
+        && let UnixLine::Machine(Line::Decoded(..)) = unix_line_in(
+            Decoder::Pdp11,
+            file.file(),
+            place,
+        )
     {
         put_line_text(&mut text, Decoder::Pdp11, file, place);
     }
