@@ -2,3 +2,4 @@ pub mod Meant
 pub mod Instructions
 pub mod Rows
 pub mod Steps
+pub mod Walks
