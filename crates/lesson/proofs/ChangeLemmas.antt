@@ -1,5 +1,6 @@
 -- Rows that differ, as far as a loop has come.
-use Rattle.std.proofs.Common.{◌≡◌, ℕ, ◌+◌, ◌≤◌, zero, suc, List, [], ◌∷◌, ◌++◌, length, drop, ◌∙◌, ap, sym, refl, append-nil, append_assoc, arith}
+use Rattle.std.proofs.Common.{◌≡◌, ℕ, ◌+◌, ◌≤◌, zero, suc, List, [], ◌∷◌, ◌++◌, length, drop, ◌∙◌}
+use Rattle.std.proofs.Common.{ap, sym, refl, append-nil, append_assoc, arith}
 use Rattle.std.specs.List.{concat}
 use Rattle.lesson.specs.Rows.{row_at}
 use Rattle.lesson.specs.Steps.{changed_row, changed_rows}
@@ -72,8 +73,8 @@ row_first (suc i) [] = refl
 row_first (suc i) (row ∷ rows) = row_first i rows
 
 -- the row of this index was put
-pub row_joined : (i : ℕ) (rows : List (List ℕ)) (whole text next : List ℕ) → whole ≡ text ++ concat (drop i rows) → next ≡ text ++ row_at rows i →
-    whole ≡ next ++ concat (drop (i + 1) rows)
+pub row_joined : (i : ℕ) (rows : List (List ℕ)) (whole text next : List ℕ) → whole ≡ text ++ concat (drop i rows) →
+    next ≡ text ++ row_at rows i → whole ≡ next ++ concat (drop (i + 1) rows)
 row_joined i rows whole text next so_far more =
     let rest = concat (drop (i + 1) rows) in
     let more_rows = row_first i rows ∙ ap (λ (k : ℕ). row_at rows i ++ concat (drop k rows)) (one_on i) in

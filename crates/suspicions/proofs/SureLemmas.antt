@@ -68,7 +68,8 @@ lack_is_reported place None e = absurd cc
 lack_is_reported place (Some i) e = absurd cc
 
 -- a plain word at a sure place is suspicious
-plain_is_reported : (moves reached sure begins : Bool) (first : Found) (lack : List Found) → reached ≡ true → sure ≡ true → (lack ≡ [] → ⊥) →
+plain_is_reported : (moves reached sure begins : Bool) (first : Found) (lack : List Found) → reached ≡ true →
+    sure ≡ true → (lack ≡ [] → ⊥) →
     (if moves then (if moves && (reached || begins) then first ∷ [] else []) else (if sure then lack else [])) ≡ [] → ⊥
 plain_is_reported true true sure begins first lack r s l e = absurd cc
 plain_is_reported true false sure begins first lack r s l e = absurd cc

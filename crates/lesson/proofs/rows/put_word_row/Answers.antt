@@ -16,7 +16,8 @@ returns c =
     let place : List ℕ = place_text m c.args.index c.args.cell in
     let instruction : List ℕ = instruction_text (row_at c.args.instructions.now c.args.index) in
     let shown : Puts c.put_place.new.text c.put_instruction.new.text instruction =
-    subst (λ (l : List ℕ). Puts c.put_place.new.text c.put_instruction.new.text (instruction_text l)) c.row.ensures c.put_instruction.ensures in
+    subst (λ (l : List ℕ). Puts c.put_place.new.text c.put_instruction.new.text (instruction_text l)) c.row.ensures
+    c.put_instruction.ensures in
     let two = puts_both old c.put_cell_row.new.text c.put_place.new.text row place c.put_cell_row.ensures c.put_place.ensures in
     let three = puts_both old c.put_place.new.text c.put_instruction.new.text (row ++ place) instruction two shown in
     puts_both old c.put_instruction.new.text c.put.new.self (row ++ place ++ instruction) (codes "\n") three c.put.ensures
