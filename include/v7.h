@@ -323,7 +323,11 @@ enum v7_remark_kind {
     V7_REMARK_OUTSIDE_VALUE = 20,
     /* suspicious: instructions that an assembler does not write */
     V7_REMARK_RELOCATED_FIRST_WORD = 21,
-    V7_REMARK_UNSUITABLE_PC_BIT = 22
+    V7_REMARK_UNSUITABLE_PC_BIT = 22,
+    V7_REMARK_CUT_INSTRUCTION = 23,
+    V7_REMARK_NO_INSTRUCTION = 24,
+    V7_REMARK_BRANCH_OUTSIDE = 25,
+    V7_REMARK_BRANCH_WITHIN = 26
 };
 struct v7_remark {
     size_t place;     /* the byte of the file, from 0 */

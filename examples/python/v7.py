@@ -59,7 +59,7 @@ TEXT_PART, DATA_PART, BSS_PART, SYMBOLS_PART = 1, 2, 3, 4
 # options of a conversion from GNU's form
 DROP_DEBUGGER, DROP_UNUSED, DROP_LOCALS = 1, 2, 4
 
-# kinds of remarks: the first seven are wrong, and the last two suspicious
+# kinds of remarks: the first seven are wrong, and the last six suspicious
 (
     REMARK_SHORT_HEADER,
     REMARK_BAD_MAGIC,
@@ -83,7 +83,11 @@ DROP_DEBUGGER, DROP_UNUSED, DROP_LOCALS = 1, 2, 4
     REMARK_OUTSIDE_VALUE,
     REMARK_RELOCATED_FIRST_WORD,
     REMARK_UNSUITABLE_PC_BIT,
-) = range(1, 23)
+    REMARK_CUT_INSTRUCTION,
+    REMARK_NO_INSTRUCTION,
+    REMARK_BRANCH_OUTSIDE,
+    REMARK_BRANCH_WITHIN,
+) = range(1, 27)
 
 # of a name in a map, and of its uses
 NAME_IS_PLACED, NAME_IS_UNDEFINED, NAME_IS_MULTIPLE = 1, 2, 4
@@ -188,7 +192,7 @@ class Map(NamedTuple):
 
 
 class Remark(NamedTuple):
-    """A remark on a file: one of REMARK_SHORT_HEADER to REMARK_UNSUITABLE_PC_BIT, the byte of the file, and the text."""
+    """A remark on a file: one of REMARK_SHORT_HEADER to REMARK_BRANCH_WITHIN, the byte of the file, and the text."""
 
     kind: int
     byte: int

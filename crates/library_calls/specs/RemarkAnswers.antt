@@ -19,7 +19,7 @@ use Rattle.library_calls.specs.LinkAnswers.{Output}
 use Rattle.library_calls.specs.declared.remarks_call.RemarkRecord.{RemarkRecord}
 use Rattle.library_calls.specs.declared.remarks_call.Remarks.{Remarks}
 
--- what is wrong has 1 to 7, what is odd 8 to 20, and what is suspicious 21 and 22
+-- what is wrong has 1 to 7, what is odd 8 to 20, and what is suspicious 21 to 26
 abbrev pub kind_number : FindingKind → ℕ
 kind_number kinds.ShortHeader = 1
 kind_number kinds.BadMagic = 2
@@ -43,6 +43,10 @@ kind_number kinds.OddCommon = 19
 kind_number kinds.OutsideValue = 20
 kind_number kinds.RelocatedFirstWord = 21
 kind_number kinds.UnsuitablePcBit = 22
+kind_number kinds.CutInstruction = 23
+kind_number kinds.NoInstruction = 24
+kind_number kinds.BranchOutside = 25
+kind_number kinds.BranchWithin = 26
 
 -- the texts, one after another
 abbrev pub texts_of : List Found → List ℕ

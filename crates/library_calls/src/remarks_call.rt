@@ -24,7 +24,7 @@ pub struct RemarkRecord {
     /// Where its text begins among all texts, from 0.
     pub text: usize,
     pub text_size: usize,
-    /// What is remarked: 1 to 7 are wrong, 8 to 20 odd, 21 and 22 suspicious.
+    /// What is remarked: 1 to 7 are wrong, 8 to 20 odd, 21 to 26 suspicious.
     pub kind: u32,
 }
 
@@ -64,6 +64,10 @@ fn kind_number(kind: FindingKind) -> u32
         FindingKind::OutsideValue => 20,
         FindingKind::RelocatedFirstWord => 21,
         FindingKind::UnsuitablePcBit => 22,
+        FindingKind::CutInstruction => 23,
+        FindingKind::NoInstruction => 24,
+        FindingKind::BranchOutside => 25,
+        FindingKind::BranchWithin => 26,
     }
 }
 
