@@ -1,6 +1,6 @@
 -- Rows that differ, as far as a loop has come.
-use Rattle.std.proofs.Common.{◌≡◌, ℕ, ◌+◌, ◌≤◌, zero, suc, List, [], ◌∷◌, ◌++◌, length, drop, ◌∙◌}
-use Rattle.std.proofs.Common.{ap, sym, refl, append-nil, append_assoc, arith}
+use Rattle.std.proofs.Common.{◌≡◌, ℕ, ◌+◌, ◌≤◌, zero, suc, List, [], ◌∷◌, ◌++◌, length, drop}
+use Rattle.std.proofs.Common.{◌∙◌, ap, sym, refl, append-nil, append_assoc, arith}
 use Rattle.std.specs.List.{concat}
 use Rattle.lesson.specs.Rows.{row_at}
 use Rattle.lesson.specs.Steps.{changed_row, changed_rows}

@@ -1,5 +1,5 @@
 -- The objects that may come, one after another.
-use Rattle.std.proofs.Common.{◌≡◌, ℕ, ◌+◌, ◌-◌, ◌<◌, suc, true, false, if◌then◌else◌, Option, Some, ◌∙◌, ap, arith}
+use Rattle.std.proofs.Common.{◌≡◌, ℕ, ◌+◌, ◌-◌, ◌<◌, suc, false, if◌then◌else◌, Option, Some, ◌∙◌, ap, arith}
 use Rattle.lesson.specs.Walks.{Walked, first_free, may_come}
 
 module _ (w : Walked) (object : ℕ) (inside : object < w.count) where
@@ -15,9 +15,3 @@ module _ (w : Walked) (object : ℕ) (inside : object < w.count) where
       ap (λ (n : ℕ). first_free n object w) left
       ∙ ap (λ b. if b then Some object else first_free (w.count - (object + 1)) (suc object) w) not_free
       ∙ ap (λ (o : ℕ). first_free (w.count - (object + 1)) o w) one_on
-
-  -- and one that may is the first
-  pub first_found : may_come w object ≡ true → first_free (w.count - object) object w ≡ Some object
-  first_found free =
-      ap (λ (n : ℕ). first_free n object w) left
-      ∙ ap (λ b. if b then Some object else first_free (w.count - (object + 1)) (suc object) w) free

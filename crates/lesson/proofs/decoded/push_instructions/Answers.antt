@@ -12,7 +12,7 @@ loop-place-preserved c =
     let inside : i < length words = omega (arith, c.loop-place-test.true, ap length c.text_words-items.ensures.value) in
     let pushed = c.in_ok-push.ensures in
     let text = c.instruction_at.ensures pushed.0 ∙ ap (λ f. instruction_at f i) c.in_ok-named.ensures in
-    one_more (λ place (_ : ℕ). instruction_at file place ∷ []) words i (slice_index_or words i 0)
-    (c.args.rows.now ++ instructions file) c.loop-place.rows c.push.new.self
-    inside (get_or_default words i 0 (slice_index_or words i 0) inside) c.loop-place.invariant
-    (pushed.1 ∙ ap (λ t. c.loop-place.rows ++ t ∷ []) text)
+    let word = slice_index_or words i 0 in
+    let more = pushed.1 ∙ ap (λ t. c.loop-place.rows ++ t ∷ []) text in
+    one_more (λ place (_ : ℕ). instruction_at file place ∷ []) words i word (c.args.rows.now ++ instructions file) c.loop-place.rows
+    c.push.new.self inside (get_or_default words i 0 word inside) c.loop-place.invariant more

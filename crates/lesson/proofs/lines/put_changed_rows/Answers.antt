@@ -15,6 +15,6 @@ loop-index-preserved c =
     ∙ ap (λ row. c.loop-index.text.bytes ++ changed_row (row_at c.args.before.now c.loop-index.index) row) c.row-in-loop-index.ensures in (
       so_far.0,
       row_compared c.loop-index.index c.args.before.now c.args.after.now
-          (c.args.text.now.bytes ++ changed_rows c.args.before.now c.args.after.now)
-          c.loop-index.text.bytes c.put_changed_row.new.text.bytes so_far.1 more,
+          (c.args.text.now.bytes ++ changed_rows c.args.before.now c.args.after.now) c.loop-index.text.bytes
+          c.put_changed_row.new.text.bytes so_far.1 more,
     )
