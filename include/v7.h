@@ -276,7 +276,8 @@ uint32_t v7_disassemble_words(uint16_t address, const uint16_t *words, size_t wo
                               struct v7_answer *answer);
 
 /* Writes the listing of the file that BYTES begin with, as `v7-explain` prints it without its notes, which are the lines that begin
- * with a slash. v7_from_listing gives the bytes of that file again. No NUL ends the text. Faults: 11 to 14, V7_NO_MEMORY, V7_NO_ROOM. */
+ * with a slash. v7_from_listing gives the bytes of that file again, but for what follows a NUL in a name. No NUL ends the text.
+ * Faults: 11 to 14, V7_NO_MEMORY, V7_NO_ROOM. */
 uint32_t v7_list(const unsigned char *bytes, size_t size, unsigned char *room, size_t room_size, struct v7_answer *answer);
 
 /* Writes the file that a listing describes, as `v7-object` does: v7-object(1) has the form. TEXT may have notes and remarks, which are

@@ -71,8 +71,8 @@ class Programs:
         listing = given(v7.listing, data)
         if isinstance(listing, v7.Fault):
             return remarks == found and not any(line and not line.startswith("/") for line in lines)
-        again = v7.from_listing(listing)
-        return remarks == found and listing.split("\n") == [line for line in lines if not line.startswith("/")] and data.startswith(again)
+        again = v7.from_listing(listing)  # a name keeps no bytes after its NUL
+        return remarks == found and listing.split("\n") == [line for line in lines if not line.startswith("/")] and v7.listing(again) == listing
 
     def listed(self, text):
         """Whether a listing makes the file that v7-object makes, or has the mistake that it reports."""

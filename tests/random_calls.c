@@ -366,11 +366,12 @@ static int is_disassembled(const struct buffer *b)
     return answer.fault == 0 && shows(&words, 0, text, answer.size);
 }
 
-/* whether the listing of a file is that file again */
+/* whether the listing of a file describes that file again: it has the same listing, and stripped the same bytes. A name keeps no bytes
+ * after its NUL */
 static int is_listed(const struct buffer *b)
 {
-    static unsigned char room[SPACE], text[SPACE];
-    struct v7_answer whole, answer;
+    static unsigned char room[SPACE], text[SPACE], made[SPACE], again[SPACE];
+    struct v7_answer whole, answer, other;
 
     v7_strip(b->at, b->size, room, SPACE, &whole);
     if (whole.fault != 0)
@@ -380,8 +381,14 @@ static int is_listed(const struct buffer *b)
         return 0;
     place(&words, answer.size, (int)below(2));
     memcpy(words.at, text, answer.size);
-    v7_from_listing(text, words.size, room, SPACE, &answer);
-    return answer.fault == 0 && answer.size <= b->size && memcmp(room, b->at, answer.size) == 0 && shows(&words, DESCRIBED, room, answer.size);
+    v7_from_listing(text, words.size, made, SPACE, &answer);
+    if (answer.fault != 0 || !shows(&words, DESCRIBED, made, answer.size))
+        return 0;
+    v7_strip(made, answer.size, again, SPACE, &other);
+    if (other.size != whole.size || memcmp(again, room, whole.size) != 0)
+        return 0;
+    v7_list(made, answer.size, again, SPACE, &other);
+    return other.size == words.size && memcmp(again, words.at, words.size) == 0;
 }
 
 int main(int argc, char **argv)
