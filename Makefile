@@ -108,7 +108,7 @@ wheel: lib
 
 # installs the library into a folder, calls it there with an input for each fault of each call, and compares what the examples in
 # C, C++, Python and Rust link with what v7 links
-check-lib: lib build/v7 build/v7-explain
+check-lib: lib build/v7 build/v7-explain build/v7-object build/v7-from-gnu
 	CC='$(CC)' CXX='$(CXX)' sh tests/library.sh
 
 # the release: packages of what was proved and built, in dist. check-dist makes them twice, in two folders, compares them, and runs
