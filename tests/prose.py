@@ -60,9 +60,6 @@ EXCEPTIONS = [
 NAME_EXCEPTIONS = [
     ("surroundings device_tests", "office", 7, "`Office`, what a command asks of the system, is a public name"),
     ("v7_c", "room", 1, "V7_NO_ROOM of v7.h, with which callers compare"),
-    ("link_session", "room tells told", 37, "not yet: memory that is requested before an addition, and which cells wait"),
-    ("link_out link_laws", "lie lies room rooms stand stands tells told", 41, "not yet: space of commons, partial links and replies"),
-    ("laws", "lie lies room stand stands told", 32, "not yet: where the words of a loaded program are"),
 ]
 
 # targets of make that a document may show although .ci/run does not run them, and why

@@ -278,7 +278,7 @@ values_without_table law =
             (link_of (moved_o ∷ c_o ∷ []) plain_s) d_o moved_o c_o (record { 0 = 0o11 }) w.one w.other → ⊥
         by_same (inl e) =
             counts (λ (n : ℕ). n) 0o177772 0o177770 refl
-            (some_word 0o177772 w.one w.stands ∙ e ∙ sym (some_word 0o177770 w.other w.stands_too))
+            (some_word 0o177772 w.one w.is_there ∙ e ∙ sym (some_word 0o177770 w.other w.is_there_too))
         by_same (inr f) = let bad : None ≡ Some f.row = f.found in absurd (cc)
 
 -- the entry point may be a name that is redefined

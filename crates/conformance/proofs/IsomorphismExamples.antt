@@ -31,7 +31,7 @@ use Rattle.laws.specs.Core.{Space, of_instructions, of_data, core, IsWordAt}
 use Rattle.laws.specs.CoreLaws.{space_of}
 use Rattle.laws.specs.Operands.{operand}
 use Rattle.laws.specs.Orders.{missing, Means}
-use Rattle.laws.specs.Isomorphism.{Place, of_object, of_common, segment_at, value_in, address_at, LiesAt, AreRenumbered}
+use Rattle.laws.specs.Isomorphism.{Place, of_object, of_common, segment_at, value_in, address_at, IsLoadedAt, AreRenumbered}
 use Rattle.laws.specs.Isomorphism.{moved, Target, to_place, to_end, to_nothing, address_to, moved_target, IsDefinedAt}
 use Rattle.laws.specs.Isomorphism.{RefersTo, AreLinks, IsUnrelocated, MovesAsTarget, AreIsomorphic, LinksAreIsomorphic}
 use Rattle.conformance.specs.Samples.{sym as entry, object, _f, _x, _twice, main_o, twice_o, count_o}
@@ -133,7 +133,7 @@ BytesAgree IsSuch AreSo =
     AllByRecursion IsObject os → o.keep ≢ Nothing → o.relocatable ≡ false → x.report.multiples ≡ [] →
     (to from : ℕ → ℕ) → AreSo os ps to from →
     (place : Place) → IsSuch os place → (space space_too : Space) (address address_too : ℕ) →
-    LiesAt forced os x.file place space address → LiesAt forced ps y.file (moved to place) space_too address_too →
+    IsLoadedAt forced os x.file place space address → IsLoadedAt forced ps y.file (moved to place) space_too address_too →
     core y.file space_too address_too ≡ core x.file space address
 
 law_of_bytes : LinksAreIsomorphic → BytesAgree IsUnrelocated AreRenumbered
@@ -165,8 +165,8 @@ bytes_by_number law =
 
 apart_in_two_spaces : ((forced : List (List ℕ)) (os : List Contents) (o : Choices) (x : Outcome) →
     AllByRecursion IsObject os → o.keep ≢ Nothing → lays_commons o ≡ true → link forced os o ≡ Ok x →
-    (one two : Place) (space space_too : Space) (address : ℕ) → LiesAt forced os x.file one space address →
-    LiesAt forced os x.file two space_too address → one ≡ two) → ⊥
+    (one two : Place) (space space_too : Space) (address : ℕ) → IsLoadedAt forced os x.file one space address →
+    IsLoadedAt forced os x.file two space_too address → one ≡ two) → ⊥
 apart_in_two_spaces law =
     let e : of_object 0 TextSeg 0 ≡ of_object 2 DataSeg 0 =
     law [] main_first (with_layout Split plain) (link_of main_first (with_layout Split plain)) all_good all_kept refl
@@ -185,8 +185,8 @@ common_name (of_common name n) = name
 
 apart_without_symbols : ((forced : List (List ℕ)) (os : List Contents) (o : Choices) (x : Outcome) →
     AllByRecursion IsObject os → lays_commons o ≡ true → link forced os o ≡ Ok x →
-    (one two : Place) (space : Space) (address : ℕ) → LiesAt forced os x.file one space address →
-    LiesAt forced os x.file two space address → one ≡ two) → ⊥
+    (one two : Place) (space : Space) (address : ℕ) → IsLoadedAt forced os x.file one space address →
+    IsLoadedAt forced os x.file two space address → one ≡ two) → ⊥
 apart_without_symbols law =
     counts (λ (p : Place). sum_of (common_name p)) (of_common _x 0) (of_common _f 0) refl
     (law [] two_commons plain_s (link_of two_commons plain_s) (
@@ -221,7 +221,7 @@ odd = object [] [] [] [] 0 (entry _x 0o40 3 ∷ [])
 bytes_of_unrounded : ((forced : List (List ℕ)) (os : List Contents) (o : Choices) (x : Outcome) →
     AllByRecursion IsObject os → o.keep ≢ Nothing → lays_commons o ≡ true → link forced os o ≡ Ok x →
     (space : Space) (address byte : ℕ) → core x.file space address ≡ Some byte →
-    (place : Place) × (LiesAt forced os x.file place space address × IsUnrounded forced os place)) → ⊥
+    (place : Place) × (IsLoadedAt forced os x.file place space address × IsUnrounded forced os place)) → ⊥
 bytes_of_unrounded law =
     let found = law [] (odd ∷ []) plain (link_of (odd ∷ []) plain)
     (as_object odd refl refl refl refl refl refl refl refl, tt) all_kept refl refl of_data 3 0 refl in
@@ -241,7 +241,7 @@ bytes_of_unrounded law =
     small : (name : List ℕ) (size most : ℕ) → IsCommon [] (odd ∷ []) name size → (name ≡ _x → 3 ≤ most) → size ≤ most
     small name size most c h = c.wanted.least most ((λ same n e. let is : 3 ≡ n = cc in subst (λ (m : ℕ). m ≤ most) is (h same)), tt)
 
-    none : (place : Place) → LiesAt [] (odd ∷ []) file place of_data 3 → IsUnrounded [] (odd ∷ []) place → ⊥
+    none : (place : Place) → IsLoadedAt [] (odd ∷ []) file place of_data 3 → IsUnrounded [] (odd ∷ []) place → ⊥
     none (of_object zero segment n) l u =
         empty segment n (subst (λ (c : Contents). n < size_of segment c) (sym (same_Some odd l.is.object l.is.is)) l.is.inside)
     none (of_object (suc i) segment n) l u = let bad : None ≡ Some l.is.object = l.is.is in cc
@@ -294,7 +294,7 @@ words_unchanged law =
         after = count_o ∷ [];
         all = refl;
         number = 0;
-        stands = refl;
+        is_there = refl;
         outer = refl;
         inner = refl;
         names = refl;
@@ -314,7 +314,7 @@ words_unchanged law =
         after = main_o ∷ count_o ∷ [];
         all = refl;
         number = 0;
-        stands = refl;
+        is_there = refl;
         outer = refl;
         inner = refl;
         names = refl;

@@ -13,7 +13,7 @@ use Rattle.tool_options.specs.declared.options.Keep.TheVariants.{NotL}
 use Rattle.link_out.specs.declared.linked.LinkFault.{LinkFault}
 use Rattle.link_out.specs.function.Link.{Outcome, link}
 use Rattle.link_out.specs.laws.PartialLinks.{IsPartialLink}
-use Rattle.link_out.proofs.partial_links.PartialTheorem.{partial_stands_among}
+use Rattle.link_out.proofs.partial_links.PartialTheorem.{partial_replaces_among}
 use Rattle.conformance.specs.Samples.{_f, sym, object, c_o, d_o, d2_o, e_o, p_o, q_o, r_o, plain, plain_s, relocatable, with_keep}
 use Rattle.std.specs.Prelude.{Result}
 
@@ -32,7 +32,7 @@ m3_is_partial = record { allowed = refl; relocatable = refl; no_commons = refl; 
 
 among : link [] (p_o ∷ m3.file ∷ []) plain_s ≡ link [] (p_o ∷ (q_o ∷ (r_o ∷ []))) plain_s
 among =
-    partial_stands_among [] (p_o ∷ []) (q_o ∷ r_o ∷ []) [] relocatable plain_s m3 (refl, tt)
+    partial_replaces_among [] (p_o ∷ []) (q_o ∷ r_o ∷ []) [] relocatable plain_s m3 (refl, tt)
     (refl, (refl, tt)) tt m3_is_partial (λ name h. absurd (cc)) refl
 
 abbrev m6 : Outcome
@@ -43,7 +43,7 @@ m6_is_partial = record { allowed = refl; relocatable = refl; no_commons = refl; 
 
 before_another : link [] (m6.file ∷ d_o ∷ []) (with_keep NotL plain) ≡ link [] (c_o ∷ (d_o ∷ [])) (with_keep NotL plain)
 before_another =
-    partial_stands_among [] [] (c_o ∷ []) (d_o ∷ []) (with_keep NotL relocatable) (with_keep NotL plain) m6 tt
+    partial_replaces_among [] [] (c_o ∷ []) (d_o ∷ []) (with_keep NotL relocatable) (with_keep NotL plain) m6 tt
     (refl, tt) (refl, tt) m6_is_partial (λ name h. h) refl
 
 -- where a name is multiply defined the words differ: those of the partial link are bound to its own definition

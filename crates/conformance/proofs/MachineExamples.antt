@@ -91,7 +91,7 @@ main_calls = record {
 
 twice_defined : Defines twice_o _twice TextSeg 0
 twice_defined =
-    record { number = 0; symbol = entry _twice 34 0; stands = refl; outer = refl; inner = refl; names = refl; is = refl; value = refl }
+    record { number = 0; symbol = entry _twice 34 0; is_there = refl; outer = refl; inner = refl; names = refl; is = refl; value = refl }
 
 forward_call : Arrives (file_of forward plain) of_instructions forward [] main_o TextSeg 3 (main_o ∷ []) twice_o TextSeg 0
 forward_call =
@@ -136,7 +136,7 @@ main_fetches = record {
 
 count_defined : Defines count_o _count DataSeg 0
 count_defined =
-    record { number = 0; symbol = entry _count 35 0; stands = refl; outer = refl; inner = refl; names = refl; is = refl; value = refl }
+    record { number = 0; symbol = entry _count 35 0; is_there = refl; outer = refl; inner = refl; names = refl; is = refl; value = refl }
 
 split_fetch : Arrives (file_of forward (with_layout Split plain)) of_data forward [] main_o TextSeg 1
     (main_o ∷ twice_o ∷ []) count_o DataSeg 0

@@ -25,7 +25,7 @@ use Rattle.link_out.specs.Results.{Outcome}
 use Rattle.link_out.specs.function.Link.{link}
 use Rattle.link_laws.specs.WordsAndNames.{IsSaid, HasTwoDefinitions, MultiplesDiffer}
 use Rattle.link_laws.specs.CommonsAndLayouts.{DifferInPlace, LayoutsDiffer}
-use Rattle.link_laws.specs.relation.Refusals.{CommonsTake, EndsAt, entry_count, HasFarWord, RefusedExactly}
+use Rattle.link_laws.specs.relation.Refusals.{CommonsTake, EndsAt, entry_count, HasNumberTooLarge, RefusedExactly}
 use Rattle.conformance.specs.Samples.{sym as entry_of, object, _f, _x, L1, a_o, c_o, d_o, i_o, plain, relocatable, with_layout}
 use Rattle.conformance.proofs.LawExamples.{outcome_of}
 use Rattle.conformance.proofs.ClauseLemmas.{only_object, only_word, no_word, as_object, at_most_so, less_so, only_wanted}
@@ -63,7 +63,7 @@ defined_once = record {
   all = refl;
   number = 0;
   symbol = entry_of _f 34 2;
-  stands = refl;
+  is_there = refl;
   outer = refl;
   names = refl;
   is = refl;
@@ -88,7 +88,7 @@ mention_beside_definition_unreported law =
         all = refl;
         number = 0;
         symbol = entry_of _f 32 0;
-        stands = refl;
+        is_there = refl;
         outer = refl;
         names = refl;
         is = refl;
@@ -100,7 +100,7 @@ mention_beside_definition_unreported law =
         all = refl;
         number = 0;
         symbol = entry_of _f 34 2;
-        stands = refl;
+        is_there = refl;
         outer = refl;
         names = refl;
         is = refl;
@@ -147,7 +147,7 @@ IsRefusedAbove last most number forced os o TooManySymbols =
     (end : ℕ) × EndsAt forced os o end × (end ≤ last) × (most < entry_count forced os o)
 IsRefusedAbove last most number forced os o SymbolNumber =
     (end : ℕ) × EndsAt forced os o end × (end ≤ last) × (entry_count forced os o ≤ most) × (o.relocatable ≡ true)
-    × HasFarWord number forced os o
+    × HasNumberTooLarge number forced os o
 IsRefusedAbove last most number forced os o Memory = ⊥
 
 abbrev RefusedAbove : ℕ → ℕ → ℕ → Type 0
@@ -250,7 +250,7 @@ number_at_4095 law =
         size = 0;
         wanted = only_wanted _f 0;
         waits = inl refl;
-        far = less_so 4094 4095 refl;
+        large = less_so 4094 4095 refl;
       },
     ) in
     absurd (cc)
@@ -263,7 +263,7 @@ refused_at_4096 law =
     let symbol : f.symbol ≡ entry_of _f 0o40 0 =
     only_object RefersToIt (far_o 4096) by_segment f.before f.k f.after f.all f.segment f.i f.w f.r f.word f.reloc f.symbol f.named in
     let place : place_of f.symbol.name (_f ∷ []) ≡ 0 = ap (λ (s : Symbol). place_of s.name (_f ∷ [])) symbol in
-    not_far (place_of f.symbol.name (_f ∷ [])) place f.far
+    not_large (place_of f.symbol.name (_f ∷ [])) place f.large
   where
     in_text : (symbol : Symbol) → slice_get (far_o 4096).symbols 0 ≡ Some symbol → symbol ≡ entry_of _f 0o40 0
     in_text symbol e = let it : Some (entry_of _f 0o40 0) ≡ Some symbol = e in let same : entry_of _f 0o40 0 ≡ symbol = cc in sym same
@@ -274,5 +274,5 @@ refused_at_4096 law =
         symbol ≡ entry_of _f 0o40 0) 0 (record { 0 = 0o10 }) in_text i w r e f
     by_segment segment i w r e f = absurd (no_word [] refl i w e)
 
-    not_far : (place : ℕ) → place ≡ 0 → 4096 < 4096 + place → ⊥
-    not_far place e f = omega arith
+    not_large : (place : ℕ) → place ≡ 0 → 4096 < 4096 + place → ⊥
+    not_large place e f = omega arith

@@ -346,7 +346,7 @@ names_with_relocation law =
     let row : entry _x 32 4 ≡ h.row = cc in
     let at : h.more.address ≡ 0 = h.more.place.sum in
     let word : h.more.word ≡ 2 + 256 * 0 = word_is 2 0 h.more.word (ap (λ (a : ℕ). core f of_instructions a) (sym at)
-    ∙ h.more.stands.low) (ap (λ (a : ℕ). core f of_instructions (a + 1)) (sym at) ∙ h.more.stands.high) in
+    ∙ h.more.is_there.low) (ap (λ (a : ℕ). core f of_instructions (a + 1)) (sym at) ∙ h.more.is_there.high) in
     let finds : plus 0 h.more.word ≡ plus h.row.value 2 = h.more.finds in
     different 2 6 refl (ap (λ (n : ℕ). plus 0 n) (sym word) ∙ finds ∙ ap (λ (s : Symbol). plus s.value 2) (sym row))
 
@@ -390,8 +390,8 @@ segments_stay law =
     let h = law [] (b_o ∷ []) a_o [] plain (outcome (b_o ∷ a_o ∷ []) plain) (b_good, (a_good, tt)) refl TextSeg 1 4
     (record { 0 = 4 }) refl refl kinds.DataSeg DataSeg refl refl in
     let at : h.address ≡ 4 = h.place.sum in
-    let word : h.word ≡ 6 + 256 * 0 = word_is 6 0 h.word (ap (λ (a : ℕ). core f of_instructions a) (sym at) ∙ h.stands.low)
-    (ap (λ (a : ℕ). core f of_instructions (a + 1)) (sym at) ∙ h.stands.high) in
+    let word : h.word ≡ 6 + 256 * 0 = word_is 6 0 h.word (ap (λ (a : ℕ). core f of_instructions a) (sym at) ∙ h.is_there.low)
+    (ap (λ (a : ℕ). core f of_instructions (a + 1)) (sym at) ∙ h.is_there.high) in
     let finds : plus 0 h.word ≡ 4 = h.finds in
     different 6 4 refl (ap (λ (n : ℕ). plus 0 n) (sym word) ∙ finds)
 
@@ -412,7 +412,8 @@ c_calls = record {
 }
 
 d2_defines : Defines d2_o _f TextSeg 0
-d2_defines = record { number = 0; symbol = entry _f 34 0; stands = refl; outer = refl; inner = refl; names = refl; is = refl; value = refl }
+d2_defines =
+    record { number = 0; symbol = entry _f 34 0; is_there = refl; outer = refl; inner = refl; names = refl; is = refl; value = refl }
 
 calls_of_multiples : ((forced : List (List ℕ)) (os : List Contents) (o : Choices) (x : Outcome) →
     AllByRecursion IsObject os → o.keep ≢ Nothing → link forced os o ≡ Ok x →
@@ -427,8 +428,8 @@ calls_of_multiples law =
     (c_good, (d_good, (as_object d2_o refl refl refl refl refl refl refl refl, tt))) all_kept refl
     [] c_o (d_o ∷ d2_o ∷ []) refl (c_o ∷ d_o ∷ []) d2_o [] refl TextSeg TextSeg 1 0 _f c_calls d2_defines of_instructions refl in
     let at : h.address ≡ 2 = h.place.sum in
-    let word : h.word ≡ 2 + 256 * 0 = word_is 2 0 h.word (ap (λ (a : ℕ). core f of_instructions a) (sym at) ∙ h.stands.low)
-    (ap (λ (a : ℕ). core f of_instructions (a + 1)) (sym at) ∙ h.stands.high) in
+    let word : h.word ≡ 2 + 256 * 0 = word_is 2 0 h.word (ap (λ (a : ℕ). core f of_instructions a) (sym at) ∙ h.is_there.low)
+    (ap (λ (a : ℕ). core f of_instructions (a + 1)) (sym at) ∙ h.is_there.high) in
     let target : h.target ≡ 8 = h.there.sum in
     let arrives : plus (h.address + 2) h.word ≡ h.target % 65536 = h.arrives in
     different 6 8 refl ((λ i. plus (sym at i + 2) (sym word i)) ∙ arrives ∙ ap (λ (t : ℕ). t % 65536) target)
@@ -464,7 +465,7 @@ calls_in_any_space : CallsGive Defines (λ magic to space. Unit {0}) Arrives →
 calls_in_any_space law =
     let os : List Contents = c_o ∷ f_data ∷ [] in
     let defined : Defines f_data _f DataSeg 0 =
-    record { number = 0; symbol = entry _f 35 0; stands = refl; outer = refl; inner = refl; names = refl; is = refl; value = refl } in
+    record { number = 0; symbol = entry _f 35 0; is_there = refl; outer = refl; inner = refl; names = refl; is = refl; value = refl } in
     let h = law [] os split (outcome os split) (c_good, (as_object f_data refl refl refl refl refl refl refl refl, tt)) all_kept refl refl
     [] c_o (f_data ∷ []) refl (c_o ∷ []) f_data [] refl TextSeg DataSeg 1 0 _f c_calls defined of_instructions tt in
     let bad : false ≡ true = h.loaded (less_so 0 2 refl) in
@@ -483,7 +484,7 @@ abbrev at_end : Symbol
 at_end = entry _f 34 2
 
 end_defined : Defines (text_and at_end) _f TextSeg 2
-end_defined = record { number = 0; symbol = at_end; stands = refl; outer = refl; inner = refl; names = refl; is = refl; value = refl }
+end_defined = record { number = 0; symbol = at_end; is_there = refl; outer = refl; inner = refl; names = refl; is = refl; value = refl }
 
 end_good : IsObject (text_and at_end)
 end_good = as_object (text_and at_end) refl refl refl refl refl refl refl refl
@@ -505,7 +506,7 @@ absolute = entry _f 33 64
 
 absolute_defined : Defines (text_and absolute) _f Absolute 64
 absolute_defined =
-    record { number = 0; symbol = absolute; stands = refl; outer = refl; inner = refl; names = refl; is = refl; value = refl }
+    record { number = 0; symbol = absolute; is_there = refl; outer = refl; inner = refl; names = refl; is = refl; value = refl }
 
 absolute_good : IsObject (text_and absolute)
 absolute_good = as_object (text_and absolute) refl refl refl refl refl refl refl refl
@@ -540,8 +541,8 @@ calls_of_references law =
     [] c_o (text_and wanted ∷ []) refl (c_o ∷ []) (text_and wanted) [] refl TextSeg Undefined 1 10 _f c_calls
     (record { number = 0; symbol = wanted; found = refl; outer = refl; names = refl; is = refl; value = refl }) of_data refl in
     let at : h.address ≡ 2 = h.place.sum in
-    let word : h.word ≡ 2 + 256 * 0 = word_is 2 0 h.word (ap (λ (a : ℕ). core f of_instructions a) (sym at) ∙ h.stands.low)
-    (ap (λ (a : ℕ). core f of_instructions (a + 1)) (sym at) ∙ h.stands.high) in
+    let word : h.word ≡ 2 + 256 * 0 = word_is 2 0 h.word (ap (λ (a : ℕ). core f of_instructions a) (sym at) ∙ h.is_there.low)
+    (ap (λ (a : ℕ). core f of_instructions (a + 1)) (sym at) ∙ h.is_there.high) in
     let target : h.target ≡ 10 = h.there.sum in
     let arrives : plus (h.address + 2) h.word ≡ h.target % 65536 = h.arrives in
     different 6 10 refl ((λ i. plus (sym at i + 2) (sym word i)) ∙ arrives ∙ ap (λ (t : ℕ). t % 65536) target)
@@ -564,7 +565,7 @@ abbrev in_text : Symbol
 in_text = entry _f 34 0
 
 text_defined : Defines (text_and in_text) _f TextSeg 0
-text_defined = record { number = 0; symbol = in_text; stands = refl; outer = refl; inner = refl; names = refl; is = refl; value = refl }
+text_defined = record { number = 0; symbol = in_text; is_there = refl; outer = refl; inner = refl; names = refl; is = refl; value = refl }
 
 arrive_in_the_other_space : ((forced : List (List ℕ)) (os : List Contents) (o : Choices) (x : Outcome) →
     AllByRecursion IsObject os → o.keep ≢ Nothing → link forced os o ≡ Ok x → x.report.multiples ≡ [] →

@@ -22,7 +22,7 @@ use Rattle.link_out.specs.function.Link.{link}
 use Rattle.link_out.specs.laws.PartialLinks.{KeepsNoMore, IsPartialLink, without_multiples}
 use Rattle.link_laws.specs.relation.Relocated.{entry_of, IsRelocated, HoldsObjects, IsEntry}
 use Rattle.link_laws.specs.WordsAndNames.{IsDefined}
-use Rattle.link_laws.specs.CommonsAndLayouts.{IsCommon, HasRoom}
+use Rattle.link_laws.specs.CommonsAndLayouts.{IsCommon, HasSpace}
 use Rattle.conformance.specs.Samples.{sym as entry, sized, _f, _x, _z, c_o, d_o, d2_o, x4_o, plain, plain_s}
 use Rattle.conformance.specs.Samples.{relocatable, relocatable_d, with_keep, with_entry}
 use Rattle.conformance.proofs.LawExamples.{outcome_of}
@@ -126,7 +126,7 @@ missing_without_table law =
 
 -- the sizes of commons, where none are laid out
 size_of_waiting : ((forced : List (List ℕ)) (os : List Contents) (o : Choices) (x : Outcome) → o.keep ≢ Nothing → link forced os o ≡ Ok x →
-    (name : List ℕ) (size : ℕ) → IsCommon forced os name size → HasRoom x.file os name size) → ⊥
+    (name : List ℕ) (size : ℕ) → IsCommon forced os name size → HasSpace x.file os name size) → ⊥
 size_of_waiting law =
     let h = law [] (x4_o ∷ []) relocatable (link_of (x4_o ∷ []) relocatable) all_kept refl _x 4
     (record { wanted = only_wanted _x 4; sized = refl }) in
@@ -137,7 +137,7 @@ size_of_waiting law =
 -- a common has no byte more than it wants
 one_byte_more : ((forced : List (List ℕ)) (os : List Contents) (o : Choices) (x : Outcome) → o.keep ≢ Nothing →
     lays_commons o ≡ true → link forced os o ≡ Ok x →
-    (name : List ℕ) (size : ℕ) → IsCommon forced os name size → HasRoom x.file os name (size + 1)) → ⊥
+    (name : List ℕ) (size : ℕ) → IsCommon forced os name size → HasSpace x.file os name (size + 1)) → ⊥
 one_byte_more law =
     let h = law [] (x4_o ∷ []) plain (link_of (x4_o ∷ []) plain) all_kept refl refl _x 4
     (record { wanted = only_wanted _x 4; sized = refl }) in

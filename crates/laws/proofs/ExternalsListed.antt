@@ -26,7 +26,7 @@ use Rattle.link_out.specs.Results.{Outcome}
 use Rattle.link_laws.specs.relation.NameStates.{HasState}
 use Rattle.aout_core.specs.Addresses.{data_start_in}
 use Rattle.link_laws.specs.relation.Relocated.{base_in, entry_of}
-use Rattle.link_laws.specs.relation.LinkedTable.{shown as row_of_name, row_for, room_for, AreRows, moved_local_in, moved_locals_in}
+use Rattle.link_laws.specs.relation.LinkedTable.{shown as row_of_name, row_for, space_for, AreRows, moved_local_in, moved_locals_in}
 use Rattle.link_laws.specs.relation.Refusals.{CommonsTake}
 use Rattle.link_laws.specs.relation.LinkedFrom.{IsLinkedFrom}
 use Rattle.link_out.proofs.RowLemmas.{rows_kept-others}
@@ -182,7 +182,7 @@ module _ (h : Header) (bss : ℕ) (o : Choices) (ms : List Mention) where
   rows_outer : (rows : List Symbol) (at end : ℕ) → AreRows h bss o ms at rows end → AllByRecursion (λ s. is_external s ≡ true) rows
   rows_outer [] at end are = tt
   rows_outer (r ∷ rs) at end are =
-      (ap is_external are.2 ∙ row_outer h bss o at r.name are.0, rows_outer rs (at + room_for o are.0) end are.3)
+      (ap is_external are.2 ∙ row_outer h bss o at r.name are.0, rows_outer rs (at + space_for o are.0) end are.3)
 
   -- one of these rows, the first of which would have a common at the start
   record IsRowOf (rows : List Symbol) (start : ℕ) (name : List ℕ) : Type 0 where
@@ -207,13 +207,13 @@ module _ (h : Header) (bss : ℕ) (o : Choices) (ms : List Mention) where
       (name : List ℕ) → is_among (map (λ s. s.name) rows) name ≡ true → IsRowOf rows at name
   one_row [] at end are lie name known = absurd (cc)
   one_row (r ∷ rs) at end are lie name known =
-      by_test (bytes_eq name r.name) refl known (one_row rs (at + room_for o are.0) end are.3 lie.1 name)
+      by_test (bytes_eq name r.name) refl known (one_row rs (at + space_for o are.0) end are.3 lie.1 name)
     where
       outer : is_external r ≡ true
       outer = ap is_external are.2 ∙ row_outer h bss o at r.name are.0
 
       by_test : (t : Bool) → bytes_eq name r.name ≡ t → (t || is_among (map (λ s. s.name) rs) name) ≡ true →
-          (is_among (map (λ s. s.name) rs) name ≡ true → IsRowOf rs (at + room_for o are.0) name) → IsRowOf (r ∷ rs) at name
+          (is_among (map (λ s. s.name) rs) name ≡ true → IsRowOf rs (at + space_for o are.0) name) → IsRowOf (r ∷ rs) at name
       by_test true e known rest =
           let same : name ≡ r.name = (bytes_eq-Decides name r.name).0 e in
           let none : filter (is_named name) rs ≡ [] = none_named rs name (ap (is_among (map (λ s. s.name) rs)) same ∙ lie.0) in
@@ -230,7 +230,7 @@ module _ (h : Header) (bss : ℕ) (o : Choices) (ms : List Mention) where
             is = are.2 ∙ (λ i. row_for h bss o (here at i) (sym same i) are.0);
           }
       by_test false e known rest =
-          let found : IsRowOf rs (at + room_for o are.0) name = rest known in
+          let found : IsRowOf rs (at + space_for o are.0) name = rest known in
           record {
             row = found.row;
             once = (λ i. cond (outer i && e i) (r ∷ filter (is_named name) rs) (filter (is_named name) rs)) ∙ found.once;
@@ -239,9 +239,9 @@ module _ (h : Header) (bss : ℕ) (o : Choices) (ms : List Mention) where
             earlier = r.name ∷ found.earlier;
             later = found.later;
             order = ap (λ (ns : List (List ℕ)). r.name ∷ ns) found.order;
-            taken = room_for o are.0 + found.taken;
+            taken = space_for o are.0 + found.taken;
             take = (are.0, are.1, (found.taken, refl, found.take));
-            is = found.is ∙ ap (λ (a : ℕ). row_for h bss o a name found.state) (further at (room_for o are.0) found.taken);
+            is = found.is ∙ ap (λ (a : ℕ). row_for h bss o a name found.state) (further at (space_for o are.0) found.taken);
           }
 
 -- the table of a link

@@ -24,7 +24,7 @@ use Rattle.link_out.specs.function.Plans.{Plan, plan, commons_laid}
 use Rattle.link_out.specs.function.Finals.{final}
 use Rattle.link_out.specs.function.Words.{final_word, final_words}
 use Rattle.link_out.specs.function.Tables.{is_kept_local, rows_kept, local_rows, external_rows, table}
-use Rattle.link_out.specs.function.Tables.{name_bits, referent_bits, has_far_word}
+use Rattle.link_out.specs.function.Tables.{name_bits, referent_bits, has_number_too_large}
 use Rattle.link_out.specs.function.Reports.{report_of, entry_word}
 use Rattle.link_out.specs.function.Link.{Outcome, linked_header, linked_file, link}
 use Rattle.link_session.proofs.NeighbourLemmas.{mentions_in_same}
@@ -113,7 +113,8 @@ module _ (forced : List (List ℕ)) (before : List Contents) (k l : Contents) (a
   abbrev link_at : ℕ → ℕ → Result Outcome LinkFault
   link_at end count =
       cond (nat_lt 65535 end) (Err DoesNotFit) (cond (nat_lt 5461 count) (Err TooManySymbols)
-      (cond (o.relocatable && has_far_word q ps) (Err SymbolNumber) (Ok (record { file = linked_file q ps; report = report_of q }))))
+      (cond (o.relocatable && has_number_too_large q ps) (Err SymbolNumber)
+      (Ok (record { file = linked_file q ps; report = report_of q }))))
 
   other_link : link_at p.at.bss_end (length (table p os)) ≡ link forced ps o
   other_link = λ i. link_at (same_plan i).at.bss_end (table_counted i)
@@ -121,10 +122,10 @@ module _ (forced : List (List ℕ)) (before : List Contents) (k l : Contents) (a
   pub linked_alike : o.relocatable ≡ false → AreAlike (link forced os o) (link forced ps o)
   linked_alike plain =
       subst (λ (r : Result Outcome LinkFault). AreAlike (link forced os o) r) other_link
-      (by_tests (nat_lt 65535 p.at.bss_end) (nat_lt 5461 (length (table p os))) (o.relocatable && has_far_word p os)
-      (o.relocatable && has_far_word q ps)
+      (by_tests (nat_lt 65535 p.at.bss_end) (nat_lt 5461 (length (table p os))) (o.relocatable && has_number_too_large p os)
+      (o.relocatable && has_number_too_large q ps)
       (record { file = linked_file p os; report = report_of p }) (record { file = linked_file q ps; report = report_of q })
-      (λ i. plain i && has_far_word p os) (λ i. plain i && has_far_word q ps))
+      (λ i. plain i && has_number_too_large p os) (λ i. plain i && has_number_too_large q ps))
     where
       by_tests : (t u v w : Bool) (x y : Outcome) → v ≡ false → w ≡ false →
           AreAlike (cond t (Err DoesNotFit) (cond u (Err TooManySymbols) (cond v (Err SymbolNumber) (Ok x))))
@@ -138,8 +139,8 @@ module _ (forced : List (List ℕ)) (before : List Contents) (k l : Contents) (a
   pub refused_alike : (fault : LinkFault) → fault ≢ SymbolNumber → link forced os o ≡ Err fault → link forced ps o ≡ Err fault
   refused_alike fault others h =
       sym other_link
-      ∙ by_tests (nat_lt 65535 p.at.bss_end) (nat_lt 5461 (length (table p os))) (o.relocatable && has_far_word p os)
-      (o.relocatable && has_far_word q ps)
+      ∙ by_tests (nat_lt 65535 p.at.bss_end) (nat_lt 5461 (length (table p os))) (o.relocatable && has_number_too_large p os)
+      (o.relocatable && has_number_too_large q ps)
       (record { file = linked_file p os; report = report_of p }) (record { file = linked_file q ps; report = report_of q }) h
     where
       by_tests : (t u v w : Bool) (x y : Outcome) →

@@ -112,8 +112,8 @@ module _ (at : Segment → ℕ) where
         number = suc c.number;
         one = c.one;
         other = c.other;
-        stands = c.stands;
-        stands_too = c.stands_too;
+        is_there = c.is_there;
+        is_there_too = c.is_there_too;
         names = c.names;
         differ = c.differ;
       }
@@ -149,8 +149,8 @@ module _ (at : Segment → ℕ) where
             number = 0;
             one = s;
             other = t;
-            stands = refl;
-            stands_too = refl;
+            is_there = refl;
+            is_there_too = refl;
             names = (bytes_eq-Decides name s.name).0 ue;
             differ = λ same. let bad : true ≡ false = sym (eq-eqb s.value t.value same) ∙ ve in cc;
           })

@@ -26,7 +26,7 @@ use Rattle.link_out.specs.Layouts.{Bases, bases, magic_of}
 use Rattle.link_out.specs.ReservedNames.{reserved_names}
 use Rattle.link_laws.specs.relation.Refusals.{kept_locals}
 use Rattle.link_laws.specs.relation.Relocated.{entry_of}
-use Rattle.link_out.specs.function.Plans.{Plan, plan, common_size, room_of, common_offset, commons_laid}
+use Rattle.link_out.specs.function.Plans.{Plan, plan, common_size, commons_size, common_offset, commons_laid}
 use Rattle.link_out.specs.function.Finals.{Final, final, final_at, type_of}
 use Rattle.link_out.specs.function.Tables.{local_rows, external_row, external_rows, table, name_bits, referent_bits}
 use Rattle.link_out.specs.function.Reports.{report_of, entry_word, entry_found_bad, is_undefined, undefined_names}
@@ -158,18 +158,18 @@ module _ (forced : List (List ℕ)) (before : List Contents) (k l : Contents) (a
 
   -- the plan but for the mentions
 
-  same_room : (xs : List (List ℕ)) → room_of ms xs ≡ room_of ns xs
-  same_room xs = λ i. sum_by (λ n. near_size (state ms n) (state ns n) (near n) i) xs
+  same_space : (xs : List (List ℕ)) → commons_size ms xs ≡ commons_size ns xs
+  same_space xs = λ i. sum_by (λ n. near_size (state ms n) (state ns n) (near n) i) xs
 
   same_offset : (name : List ℕ) → common_offset ms name ≡ common_offset ns name
   same_offset name =
-      same_room (take (place_of name (names_by_first_mention ms)) (names_by_first_mention ms))
-      ∙ ap (λ (xs : List (List ℕ)). room_of ns (take (place_of name xs) xs)) same_names
+      same_space (take (place_of name (names_by_first_mention ms)) (names_by_first_mention ms))
+      ∙ ap (λ (xs : List (List ℕ)). commons_size ns (take (place_of name xs) xs)) same_names
 
   same_laid : commons_laid o ms ≡ commons_laid o ns
   same_laid =
       ap (λ (n : ℕ). cond (lays_commons o) n 0)
-      (same_room (names_by_first_mention ms) ∙ ap (λ (xs : List (List ℕ)). room_of ns xs) same_names)
+      (same_space (names_by_first_mention ms) ∙ ap (λ (xs : List (List ℕ)). commons_size ns xs) same_names)
 
   same_bases : (plan forced os o).at ≡ (plan forced ps o).at
   same_bases =

@@ -99,8 +99,8 @@ module _ (x y : Outcome) (k l m : Contents) (xs ys f g : List Contents)
   word_stays segment i w r h j = record {
     one = minus (plus w h.added) (cond (is_pc_relative r) (move_in x.file.header xs f m segment) 0);
     other = minus (plus w j.added) (cond (is_pc_relative r) (move_in y.file.header ys g m segment) 0);
-    stands = h.word;
-    stands_too = ap (λ (n : ℕ). slice_get (segment_words segment y.file) (n / 2 + i)) (totals segment) ∙ j.word;
+    is_there = h.word;
+    is_there_too = ap (λ (n : ℕ). slice_get (segment_words segment y.file) (n / 2 + i)) (totals segment) ∙ j.word;
     same = by_added (added_alike r (kind_of r) refl h.added j.added h.is j.is);
   }
     where

@@ -97,9 +97,9 @@ module _ (forced : List (List ℕ)) (os : List Contents) (o : Choices) (x : Outc
       (moves_low k.text_reloc q p.reloc p.at still) p.is p.there
 
   -- where the text of k begins and ends in that of the file
-  pub text_room : (before : List Contents) (k : Contents) (after : List Contents) → os ≡ before ++ k ∷ after →
+  pub text_within : (before : List Contents) (k : Contents) (after : List Contents) → os ≡ before ++ k ∷ after →
       IsObject k → total TextSeg before / 2 + length k.text_words ≤ length x.file.text_words
-  text_room before k after e is =
+  text_within before k after e is =
       let sum : total TextSeg os ≡ total TextSeg before + (0 + k.header.text_size + total TextSeg after) =
       ap (λ (ys : List Contents). total TextSeg ys) e ∙ sum_by-append (size_of TextSeg) before (k ∷ after)
       ∙ ap (λ (m : ℕ). total TextSeg before + m) (sum_by-append (size_of TextSeg) (k ∷ []) after) in
@@ -112,7 +112,7 @@ module _ (forced : List (List ℕ)) (os : List Contents) (o : Choices) (x : Outc
       let vs : List ℕ = drop (total TextSeg before / 2) x.file.text_words in
       begin_alike (IsLinkedWord x.file l.rows os before k) (λ place. is_relocated (slice_get k.text_reloc place))
       (length k.text_words) (length vs) 0 k.text_words vs
-      (omega (arith, text_room before k after e is, length-drop (total TextSeg before / 2) x.file.text_words)) (omega arith) (omega arith)
+      (omega (arith, text_within before k after e is, length-drop (total TextSeg before / 2) x.file.text_words)) (omega arith) (omega arith)
       (linked_pairs before k after e is) (linked_same before k after e is has.words) has.whole
 
   -- the texts of the objects from k on

@@ -30,7 +30,7 @@ use Rattle.link_out.specs.function.Link.{link}
 use Rattle.link_laws.specs.relation.Relocated.{base_in, move_in, entry_of, address_in, IsAdded}
 use Rattle.link_laws.specs.relation.LinkedTable.{shown, undefined_row}
 use Rattle.link_laws.specs.WordsAndNames.{IsDefined}
-use Rattle.link_laws.specs.CommonsAndLayouts.{HasRoom}
+use Rattle.link_laws.specs.CommonsAndLayouts.{HasSpace}
 use Rattle.link_laws.proofs.SegmentLemmas.{HasWords}
 use Rattle.link_laws.proofs.DefinedLemmas.{definitions_hold}
 use Rattle.instructions.proofs.AlikeLemmas.{get_inside}
@@ -39,7 +39,7 @@ use Rattle.laws.specs.CoreLaws.{space_of, IsPlace, IsLoaded}
 use Rattle.laws.specs.Operands.{operand, FindsMore}
 use Rattle.laws.specs.Orders.{Meaning, definition, common, missing, IsDefinedBy, Means, MeansTheSame}
 use Rattle.laws.specs.Orders.{AreOrders, OrderKeepsReferents, OrderKeepsMeanings}
-use Rattle.laws.specs.Isomorphism.{Place, of_object, of_common, IsPlaceOf, segment_at, value_in, address_at, LiesAt}
+use Rattle.laws.specs.Isomorphism.{Place, of_object, of_common, IsPlaceOf, segment_at, value_in, address_at, IsLoadedAt}
 use Rattle.laws.specs.Isomorphism.{PlacesAreLoaded, AreRenumbered, moved, Target, to_place, to_end, to_nothing}
 use Rattle.laws.specs.Isomorphism.{address_to, moved_target, missing_target, IsDefinedAt, IsTargetOf, RefersTo}
 use Rattle.laws.specs.Isomorphism.{AreLinks, IsUnrelocated, MovesAsTarget, LinksAreIsomorphic, LinksKeepReferents}
@@ -159,13 +159,13 @@ module _ (forced : List (List ℕ)) (os : List Contents) (o : Choices) (x : Outc
 
   -- bss and commons are zeros
   zero_at_place : lays_commons o ≡ true → (place : Place) → segment_at place ≡ BssSeg → (space : Space) (address : ℕ) →
-      LiesAt forced os x.file place space address → core x.file space address ≡ Some 0
+      IsLoadedAt forced os x.file place space address → core x.file space address ≡ Some 0
   zero_at_place lays place bss space address l =
       core_at x.file space address 0 BssSeg (ap (λ (s : Segment). is_in x.file.header space s address) (sym bss)
       ∙ place_in forced os o x kept lays linked good place space address l) refl
 
   loaded_place : lays_commons o ≡ true → (place : Place) (space : Space) (address : ℕ) →
-      LiesAt forced os x.file place space address → (byte : ℕ) × (core x.file space address ≡ Some byte)
+      IsLoadedAt forced os x.file place space address → (byte : ℕ) × (core x.file space address ≡ Some byte)
   loaded_place lays (of_common name n) space address l = (0, zero_at_place lays (of_common name n) refl space address l)
   loaded_place lays (of_object number BssSeg n) space address l = (0, zero_at_place lays (of_object number BssSeg n) refl space address l)
   loaded_place lays (of_object number TextSeg n) space address l =
@@ -254,7 +254,7 @@ missing_value o nr file os name is row found =
     by_tests false false false = refl
 
 -- a common gives the address of its first byte
-common_value : (file : Contents) (os : List Contents) (name : List ℕ) (size : ℕ) → HasRoom file os name size → (row : Symbol) →
+common_value : (file : Contents) (os : List Contents) (name : List ℕ) (size : ℕ) → HasSpace file os name size → (row : Symbol) →
     entry_of file.symbols name ≡ Some row → address_in row % 65536 ≡ address_at file os (of_common name 0) % 65536
 common_value file os name size has row found =
     let value : address_in row ≡ has.row.value =
@@ -325,13 +325,13 @@ module _ (forced : List (List ℕ)) (os ps : List Contents) (o : Choices) (layou
           after = drop (suc i) os;
           all = all;
           number = d.number;
-          stands = d.stands;
+          is_there = d.is_there;
           outer = d.outer;
           inner = d.inner;
           names = d.names;
           is = subst (λ (ks : List Contents). IsDefined x.file ks (take i os) k s) (sym all)
               (definitions_hold forced (take i os) k (drop (suc i) os) o x kept
-              (subst (λ (ks : List Contents). link forced ks o ≡ Ok x) all h.one) single d.number s d.stands d.outer d.inner);
+              (subst (λ (ks : List Contents). link forced ks o ≡ Ok x) all h.one) single d.number s d.is_there d.outer d.inner);
         };
         number_is = long os i k here;
         segment_is = refl;
@@ -406,9 +406,9 @@ module _ (forced : List (List ℕ)) (os ps : List Contents) (o : Choices) (layou
         refers = refers;
         refers_too = refers_too;
         word = f.word;
-        stands = subst (λ (a : ℕ). IsWordAt x.file (space_of segment) a f.word) f.place.sum f.stands;
+        is_there = subst (λ (a : ℕ). IsWordAt x.file (space_of segment) a f.word) f.place.sum f.is_there;
         other = f_too.word;
-        stands_too = subst (λ (a : ℕ). IsWordAt y.file (space_of segment) a f_too.word) f_too.place.sum f_too.stands;
+        is_there_too = subst (λ (a : ℕ). IsWordAt y.file (space_of segment) a f_too.word) f_too.place.sum f_too.is_there;
         differ =
             (λ j. minus (operand (is_pc_relative r) (sym f_too.place.sum j) f_too.word)
             (operand (is_pc_relative r) (sym f.place.sum j) f.word))
@@ -511,8 +511,8 @@ module _ (forced : List (List ℕ)) (os ps : List Contents) (o : Choices) (layou
   -- and has the same byte there, but for relocated words
   same_word_byte : (number : ℕ) (segment : Segment) (has : HasWords segment) (n : ℕ) →
       IsUnrelocated os (of_object number segment n) → (space space_too : Space) (address address_too : ℕ) →
-      LiesAt forced os x.file (of_object number segment n) space address →
-      LiesAt forced ps y.file (of_object (to number) segment n) space_too address_too →
+      IsLoadedAt forced os x.file (of_object number segment n) space address →
+      IsLoadedAt forced ps y.file (of_object (to number) segment n) space_too address_too →
       core y.file space_too address_too ≡ core x.file space address
   same_word_byte number segment has n free space space_too address address_too l l_too =
       let k : Contents = l.is.object in
@@ -525,14 +525,14 @@ module _ (forced : List (List ℕ)) (os ps : List Contents) (o : Choices) (layou
 
   same_zero : (place : Place) → segment_at place ≡ BssSeg → segment_at (moved to place) ≡ BssSeg →
       (space space_too : Space) (address address_too : ℕ) →
-      LiesAt forced os x.file place space address → LiesAt forced ps y.file (moved to place) space_too address_too →
+      IsLoadedAt forced os x.file place space address → IsLoadedAt forced ps y.file (moved to place) space_too address_too →
       core y.file space_too address_too ≡ core x.file space address
   same_zero place bss bss_too space space_too address address_too l l_too =
       zero_at_place forced ps q y good_too kept h.other (laid o nr) (moved to place) bss_too space_too address_too l_too
       ∙ sym (zero_at_place forced os o x good kept h.one (laid o nr) place bss space address l)
 
   same_byte : (place : Place) → IsUnrelocated os place → (space space_too : Space) (address address_too : ℕ) →
-      LiesAt forced os x.file place space address → LiesAt forced ps y.file (moved to place) space_too address_too →
+      IsLoadedAt forced os x.file place space address → IsLoadedAt forced ps y.file (moved to place) space_too address_too →
       core y.file space_too address_too ≡ core x.file space address
   same_byte (of_common name n) free s t a b l k = same_zero (of_common name n) refl refl s t a b l k
   same_byte (of_object number BssSeg n) free s t a b l k = same_zero (of_object number BssSeg n) refl refl s t a b l k

@@ -31,16 +31,16 @@ use Rattle.link_out.specs.function.Tables.{external_row}
 use Rattle.link_out.specs.function.Link.{link}
 use Rattle.link_laws.specs.relation.NameStates.{HasState}
 use Rattle.link_laws.specs.relation.Relocated.{base_in, entry_of, HoldsObjects}
-use Rattle.link_laws.specs.CommonsAndLayouts.{IsCommon, HasRoom}
+use Rattle.link_laws.specs.CommonsAndLayouts.{IsCommon, HasSpace}
 use Rattle.link_laws.proofs.HasStateLemmas.{has_state, state_is}
 use Rattle.link_out.proofs.OutcomeLemmas.{made_file, made_fits}
 use Rattle.link_laws.proofs.ExternalLemmas.{entry_in_table, entry_there}
 use Rattle.link_laws.proofs.MoveLemmas.{data_begun}
-use Rattle.link_laws.proofs.CommonLemmas.{commons_have_room}
+use Rattle.link_laws.proofs.CommonLemmas.{commons_have_space}
 use Rattle.link_laws.proofs.RelocatedLemmas.{objects_fill}
 use Rattle.laws.specs.Core.{Space, has_segment, first_address, bytes_of, is_in, core}
 use Rattle.laws.specs.Isomorphism.{Place, of_object, of_common, IsInObject, IsInCommon, IsPlaceOf, segment_at, value_in}
-use Rattle.laws.specs.Isomorphism.{address_at, LiesAt, PlacesLieApart, BytesHavePlaces}
+use Rattle.laws.specs.Isomorphism.{address_at, IsLoadedAt, PlacesAreApart, BytesHavePlaces}
 use Rattle.laws.proofs.CoreLemmas.{IsWithin, within, within_back, segments_apart, IsByteOf, core_back}
 use Rattle.laws.proofs.NameListLemmas.{AreOnce, new_once}
 use Rattle.laws.proofs.OperandLemmas.{byte_in}
@@ -79,8 +79,8 @@ module _ (forced : List (List ℕ)) (os : List Contents) (o : Choices) (x : Outc
   names = names_by_first_mention ms
 
   -- the bytes that a name takes as a common
-  abbrev room : List ℕ → ℕ
-  room n = common_size (state ms n)
+  abbrev common_bytes : List ℕ → ℕ
+  common_bytes n = common_size (state ms n)
 
   -- commons
 
@@ -90,27 +90,27 @@ module _ (forced : List (List ℕ)) (os : List Contents) (o : Choices) (x : Outc
   -- where the bytes of a common begin
   record Begins (name : List ℕ) (size : ℕ) : Type 0 where
     known : slice_get names (place_of name names) ≡ Some name
-    room_is : room name ≡ size + size % 2
-    value : value_in (entry_of x.file.symbols name) ≡ data_end + sum_by room (take (place_of name names) names)
+    space_is : common_bytes name ≡ size + size % 2
+    value : value_in (entry_of x.file.symbols name) ≡ data_end + sum_by common_bytes (take (place_of name names) names)
 
   begins : (name : List ℕ) (size : ℕ) → IsCommon forced os name size → Begins name size
   begins name size c = record {
     known = get_place names name among;
-    room_is = room_is;
+    space_is = space_is;
     value = ap value_in found ∙ value;
   }
     where
       p : Plan
       p = plan forced os o
 
-      has : HasRoom x.file os name size
-      has = commons_have_room forced os o x kept lays linked name size c
+      has : HasSpace x.file os name size
+      has = commons_have_space forced os o x kept lays linked name size c
 
       is_state : state ms name ≡ Wanted size
       is_state = state_is ms name (Wanted size) c.wanted
 
-      room_is : room name ≡ size + size % 2
-      room_is = ap common_size is_state
+      space_is : common_bytes name ≡ size + size % 2
+      space_is = ap common_size is_state
 
       among : is_among names name ≡ true
       among = by_test (is_among names name) refl
@@ -136,27 +136,28 @@ module _ (forced : List (List ℕ)) (os : List Contents) (o : Choices) (x : Outc
           ap (λ (n : ℕ). n + total DataSeg os) (data_begun o.layout (total TextSeg os))
           ∙ ap (λ (f : Contents). data_start_in f.header + f.header.data_size) (made_file p os x linked)
 
-      value : (external_row p name).value ≡ data_end + sum_by room (take (place_of name names) names)
+      value : (external_row p name).value ≡ data_end + sum_by common_bytes (take (place_of name names) names)
       value =
           ap (λ (f : Final). f.written) final_is
-          ∙ small p.at.data_end (sum_by room (take (place_of name names) names)) (room name) (sum_by room names)
+          ∙ small p.at.data_end (sum_by common_bytes (take (place_of name names) names)) (common_bytes name) (sum_by common_bytes names)
           (commons_laid o ms) (total BssSeg os)
-          (unit_inside room names (place_of name names) name
+          (unit_inside common_bytes names (place_of name names) name
           (get_place names name among)) (ap (λ (t : Bool). cond t (commons_total ms) 0) lays) (made_fits p os x linked)
-          ∙ ap (λ (n : ℕ). n + sum_by room (take (place_of name names) names)) ends
+          ∙ ap (λ (n : ℕ). n + sum_by common_bytes (take (place_of name names) names)) ends
         where
           small : (d a r t l b : ℕ) → a + r ≤ t → l ≡ t → d + l + b ≤ 65535 → plus d a ≡ d + a
           small d a r t l b h e f = omega arith
 
   -- commons, and then the objects' bss
-  bss_is : x.file.header.bss_size ≡ sum_by room names + total BssSeg os
+  bss_is : x.file.header.bss_size ≡ sum_by common_bytes names + total BssSeg os
   bss_is =
       sym (ap (λ (f : Contents). f.header.bss_size) (made_file (plan forced os o) os x linked))
       ∙ ap (λ (t : Bool). cond t (commons_total ms) 0 + total BssSeg os) lays
 
-  bss_base : base_in x.file.header (total BssSeg os) BssSeg ≡ data_end + sum_by room names
+  bss_base : base_in x.file.header (total BssSeg os) BssSeg ≡ data_end + sum_by common_bytes names
   bss_base =
-      rest (data_start_in x.file.header + x.file.header.data_size) x.file.header.bss_size (sum_by room names) (total BssSeg os) bss_is
+      rest (data_start_in x.file.header + x.file.header.data_size) x.file.header.bss_size (sum_by common_bytes names)
+      (total BssSeg os) bss_is
     where
       rest : (e b r t : ℕ) → b ≡ r + t → e + (b - t) ≡ e + r
       rest e b r t f = omega arith
@@ -186,11 +187,11 @@ module _ (forced : List (List ℕ)) (os : List Contents) (o : Choices) (x : Outc
         let b = begins name is.size is.is in
         within_back x.file.header space BssSeg (address_at x.file os (of_common name n)) (record {
           has = has;
-          from = over data_end (sum_by room (take (place_of name names) names)) n (value_in (entry_of x.file.symbols name)) b.value;
+          from = over data_end (sum_by common_bytes (take (place_of name names) names)) n (value_in (entry_of x.file.symbols name)) b.value;
           before =
-              under data_end (sum_by room (take (place_of name names) names)) n (value_in (entry_of x.file.symbols name))
-              (room name) (is.size + is.size % 2) (sum_by room names) x.file.header.bss_size (total BssSeg os)
-              b.value b.room_is is.inside (unit_inside room names (place_of name names) name b.known) bss_is;
+              under data_end (sum_by common_bytes (take (place_of name names) names)) n (value_in (entry_of x.file.symbols name))
+              (common_bytes name) (is.size + is.size % 2) (sum_by common_bytes names) x.file.header.bss_size (total BssSeg os)
+              b.value b.space_is is.inside (unit_inside common_bytes names (place_of name names) name b.known) bss_is;
         })
       where
         over : (e t n v : ℕ) → v ≡ e + t → e ≤ v + n
@@ -199,7 +200,7 @@ module _ (forced : List (List ℕ)) (os : List Contents) (o : Choices) (x : Outc
         under : (e t n v r s all b more : ℕ) → v ≡ e + t → r ≡ s → n < s → t + r ≤ all → b ≡ all + more → v + n < e + b
         under e t n v r s all b more f g h k l = omega arith
 
-    pub place_in : (place : Place) (space : Space) (address : ℕ) → LiesAt forced os x.file place space address →
+    pub place_in : (place : Place) (space : Space) (address : ℕ) → IsLoadedAt forced os x.file place space address →
         is_in x.file.header space (segment_at place) address ≡ true
     place_in (of_object number segment n) space address l =
         ap (λ (a : ℕ). is_in x.file.header space segment a) l.at ∙ object_in number segment n space l.is l.in
@@ -212,11 +213,11 @@ module _ (forced : List (List ℕ)) (os : List Contents) (o : Choices) (x : Outc
         segment ≡ BssSeg → address_at x.file os (of_object i segment n) ≡ address_at x.file os (of_common name m) → ⊥
     object_or_common i segment n name m c same e =
         let b = begins name c.size c.is in
-        far data_end (sum_by room names) (value_in (entry_of x.file.symbols name)) m
-        (sum_by room (take (place_of name names) names)) (room name) (c.size + c.size % 2)
+        far data_end (sum_by common_bytes names) (value_in (entry_of x.file.symbols name)) m
+        (sum_by common_bytes (take (place_of name names) names)) (common_bytes name) (c.size + c.size % 2)
         (base_in x.file.header (total BssSeg os) BssSeg) (total BssSeg (take i os)) n bss_base
         (ap (λ (s : Segment). base_in x.file.header (total BssSeg os) s + total s (take i os) + n) (sym same) ∙ e)
-        b.value b.room_is c.inside (unit_inside room names (place_of name names) name b.known)
+        b.value b.space_is c.inside (unit_inside common_bytes names (place_of name names) name b.known)
       where
         far : (e all v m t r s base before n : ℕ) → base ≡ e + all → base + before + n ≡ v + m → v ≡ e + t → r ≡ s → m < s → t + r ≤ all → ⊥
         far e all v m t r s base before n f q g h k l = omega arith
@@ -240,10 +241,11 @@ module _ (forced : List (List ℕ)) (os : List Contents) (o : Choices) (x : Outc
     apart_in (of_common name n) (of_common other m) is is_too same e =
         let b = begins name is.size is.is in
         let c = begins other is_too.size is_too.is in
-        let r = one_unit room names (place_of name names) (place_of other names) name other n m b.known c.known
-        (less n (room name) (is.size + is.size % 2) b.room_is is.inside)
-        (less m (room other) (is_too.size + is_too.size % 2) c.room_is is_too.inside)
-        (without data_end (sum_by room (take (place_of name names) names)) n (sum_by room (take (place_of other names) names))
+        let r = one_unit common_bytes names (place_of name names) (place_of other names) name other n m b.known c.known
+        (less n (common_bytes name) (is.size + is.size % 2) b.space_is is.inside)
+        (less m (common_bytes other) (is_too.size + is_too.size % 2) c.space_is is_too.inside)
+        (without data_end (sum_by common_bytes (take (place_of name names) names)) n
+        (sum_by common_bytes (take (place_of other names) names))
         m (value_in (entry_of x.file.symbols name)) (value_in (entry_of x.file.symbols other)) b.value c.value e) in
         let named : name ≡ other = same_Some name other (sym b.known ∙ ap (λ (q : ℕ). slice_get names q) r.0 ∙ c.known) in
         λ q. of_common (named q) (r.1 q)
@@ -254,8 +256,8 @@ module _ (forced : List (List ℕ)) (os : List Contents) (o : Choices) (x : Outc
         without : (d t n u m v w : ℕ) → v ≡ d + t → w ≡ d + u → v + n ≡ w + m → t + n ≡ u + m
         without d t n u m v w f g h = omega arith
 
-    lie_apart : (one two : Place) (space : Space) (address : ℕ) → LiesAt forced os x.file one space address →
-        LiesAt forced os x.file two space address → one ≡ two
+    lie_apart : (one two : Place) (space : Space) (address : ℕ) → IsLoadedAt forced os x.file one space address →
+        IsLoadedAt forced os x.file two space address → one ≡ two
     lie_apart one two space address l k =
         apart_in one two l.is k.is (segments_apart x.file.header space (segment_at one) (segment_at two) address
         (place_in one space address l) (place_in two space address k)) (sym l.at ∙ k.at)
@@ -267,7 +269,7 @@ module _ (forced : List (List ℕ)) (os : List Contents) (o : Choices) (x : Outc
 
     of_segment : (segment : Segment) (space : Space) (address : ℕ) → base_in x.file.header (total BssSeg os) segment
         ≡ first_address x.file.header segment → bytes_of x.file.header segment ≡ total segment os →
-        is_in x.file.header space segment address ≡ true → (place : Place) × LiesAt forced os x.file place space address
+        is_in x.file.header space segment address ≡ true → (place : Place) × IsLoadedAt forced os x.file place space address
     of_segment segment space address start size inside =
         let w = within x.file.header space segment address inside in
         let u = unit_at (size_of segment) os (address - first_address x.file.header segment) (below address
@@ -289,11 +291,12 @@ module _ (forced : List (List ℕ)) (os : List Contents) (o : Choices) (x : Outc
         sums a f b t j g e h = omega arith
 
     -- a name that takes room is a common
-    is_common : (name : List ℕ) (j : ℕ) → j < room name → (size : ℕ) × (IsCommon forced os name size) × (room name ≡ size + size % 2)
+    is_common : (name : List ℕ) (j : ℕ) → j < common_bytes name → (size : ℕ) × (IsCommon forced os name size)
+        × (common_bytes name ≡ size + size % 2)
     is_common name j h = by_state (state ms name) refl (has_state ms name) h
       where
         by_state : (st : State) → state ms name ≡ st → HasState ms name st → j < common_size (state ms name) →
-            (size : ℕ) × (IsCommon forced os name size) × (room name ≡ size + size % 2)
+            (size : ℕ) × (IsCommon forced os name size) × (common_bytes name ≡ size + size % 2)
         by_state (Defined segment offset) e has h = absurd (let none : common_size (state ms name) ≡ 0 = ap common_size e in omega arith)
         by_state (Wanted size) e has h = (
           size,
@@ -308,26 +311,26 @@ module _ (forced : List (List ℕ)) (os : List Contents) (o : Choices) (x : Outc
                 let none : common_size (state ms name) ≡ size + size % 2 = ap common_size e in omega arith)
 
     of_bss : (space : Space) (address : ℕ) → is_in x.file.header space BssSeg address ≡ true →
-        (place : Place) × LiesAt forced os x.file place space address
-    of_bss space address inside = by_test (nat_lt (address - data_end) (sum_by room names)) refl
+        (place : Place) × IsLoadedAt forced os x.file place space address
+    of_bss space address inside = by_test (nat_lt (address - data_end) (sum_by common_bytes names)) refl
       where
         w : IsWithin x.file.header space BssSeg address
         w = within x.file.header space BssSeg address inside
 
-        by_test : (t : Bool) → nat_lt (address - data_end) (sum_by room names) ≡ t →
-            (place : Place) × LiesAt forced os x.file place space address
+        by_test : (t : Bool) → nat_lt (address - data_end) (sum_by common_bytes names) ≡ t →
+            (place : Place) × IsLoadedAt forced os x.file place space address
         by_test true e =
-            let u = unit_at room names (address - data_end) (ltb-true (address - data_end) (sum_by room names) e) in
+            let u = unit_at common_bytes names (address - data_end) (ltb-true (address - data_end) (sum_by common_bytes names) e) in
             let c = is_common u.element u.j u.inside in
             let b = begins u.element c.0 c.1 in
             let same : place_of u.element names ≡ u.i = place_once names u.i u.element (new_once [] (names_of ms)) u.is in (
               of_common u.element u.j,
               record {
-                is = record { size = c.0; is = c.1; inside = less u.j (room u.element) (c.0 + c.0 % 2) c.2 u.inside };
+                is = record { size = c.0; is = c.1; inside = less u.j (common_bytes u.element) (c.0 + c.0 % 2) c.2 u.inside };
                 «in» = w.has;
                 at =
-                    sums address data_end (sum_by room (take u.i names)) u.j (value_in (entry_of x.file.symbols u.element))
-                    w.from u.place (b.value ∙ ap (λ (q : ℕ). data_end + sum_by room (take q names)) same);
+                    sums address data_end (sum_by common_bytes (take u.i names)) u.j (value_in (entry_of x.file.symbols u.element))
+                    w.from u.place (b.value ∙ ap (λ (q : ℕ). data_end + sum_by common_bytes (take q names)) same);
               },
             )
           where
@@ -337,17 +340,17 @@ module _ (forced : List (List ℕ)) (os : List Contents) (o : Choices) (x : Outc
             sums : (a d t j v : ℕ) → d ≤ a → a - d ≡ t + j → v ≡ d + t → a ≡ v + j
             sums a d t j v f g h = omega arith
         by_test false e =
-            let u = unit_at (size_of BssSeg) os (address - data_end - sum_by room names)
-            (below address data_end (sum_by room names) (total BssSeg os) x.file.header.bss_size w.from w.before bss_is
-            (ltb-false (address - data_end) (sum_by room names) e)) in (
+            let u = unit_at (size_of BssSeg) os (address - data_end - sum_by common_bytes names)
+            (below address data_end (sum_by common_bytes names) (total BssSeg os) x.file.header.bss_size w.from w.before bss_is
+            (ltb-false (address - data_end) (sum_by common_bytes names) e)) in (
               of_object u.i BssSeg u.j,
               record {
                 is = record { object = u.element; is = u.is; inside = u.inside };
                 «in» = w.has;
                 at =
-                    sums address data_end (sum_by room names) (total BssSeg (take u.i os)) u.j
+                    sums address data_end (sum_by common_bytes names) (total BssSeg (take u.i os)) u.j
                     (base_in x.file.header (total BssSeg os) BssSeg) w.from
-                    (ltb-false (address - data_end) (sum_by room names) e) u.place bss_base;
+                    (ltb-false (address - data_end) (sum_by common_bytes names) e) u.place bss_base;
               },
             )
           where
@@ -358,16 +361,16 @@ module _ (forced : List (List ℕ)) (os : List Contents) (o : Choices) (x : Outc
             sums a d r t j b f g h k = omega arith
 
     has_place : (space : Space) (address byte : ℕ) → core x.file space address ≡ Some byte →
-        (place : Place) × LiesAt forced os x.file place space address
+        (place : Place) × IsLoadedAt forced os x.file place space address
     has_place space address byte e = by_case (core_back x.file space address byte e)
       where
         by_case : IsByteOf x.file space address byte TextSeg ⊎ (IsByteOf x.file space address byte DataSeg
-            ⊎ IsByteOf x.file space address byte BssSeg) → (place : Place) × LiesAt forced os x.file place space address
+            ⊎ IsByteOf x.file space address byte BssSeg) → (place : Place) × IsLoadedAt forced os x.file place space address
         by_case (inl b) = of_segment TextSeg space address refl full.text b.in
         by_case (inr (inl b)) = of_segment DataSeg space address refl full.data b.in
         by_case (inr (inr b)) = of_bss space address b.in
 
-pub places_apart : PlacesLieApart
+pub places_apart : PlacesAreApart
 places_apart forced os o x good kept lays linked = lie_apart forced os o x kept lays linked good
 
 pub bytes_placed : BytesHavePlaces

@@ -26,7 +26,7 @@ mod InstructionLemmas
 mod IsomorphismLists
 mod IsomorphismPlaces
 mod IsomorphismLemmas
-pub mod StandLemmas
+pub mod InstructionPlaceLemmas
 mod OperandWordLemmas
 pub mod OperandPlaceLemmas
 mod ShownInstructionLemmas

@@ -31,12 +31,12 @@ use Rattle.link_out.specs.function.Link.{link, linked_file}
 use Rattle.aout_core.specs.Addresses.{data_start_in}
 use Rattle.link_laws.specs.relation.Relocated.{base_in, move_in, entry_of, IsRelocated, HoldsObjects}
 use Rattle.link_laws.specs.relation.LinkedFrom.{IsLinkedFrom}
-use Rattle.link_laws.specs.CommonsAndLayouts.{IsCommon, HasRoom}
+use Rattle.link_laws.specs.CommonsAndLayouts.{IsCommon, HasSpace}
 use Rattle.link_out.proofs.OutcomeLemmas.{made_file, made_fits}
 use Rattle.link_laws.proofs.SegmentLemmas.{HasWords, made_length}
 use Rattle.link_laws.proofs.RelocatedLemmas.{words_relocated, objects_fill}
 use Rattle.link_laws.proofs.MoveLemmas.{data_begun}
-use Rattle.link_laws.proofs.CommonLemmas.{commons_have_room}
+use Rattle.link_laws.proofs.CommonLemmas.{commons_have_space}
 use Rattle.link_laws.proofs.LinkedTheorem.{linked_exactly}
 use Rattle.laws.specs.Core.{Space, of_instructions, of_data, has_one_space, has_segment, first_address}
 use Rattle.laws.specs.Core.{bytes_of, segment_byte, is_in, core, IsWordAt}
@@ -257,7 +257,7 @@ pub common_zero : (forced : List (List ℕ)) (os : List Contents) (o : Choices) 
     (name : List ℕ) (size : ℕ) → IsCommon forced os name size → (row : Symbol) →
     entry_of x.file.symbols name ≡ Some row → (n : ℕ) → n < size → core x.file of_data (row.value + n) ≡ Some 0
 common_zero forced os o x others lays linked name size common row found n h =
-    let room : HasRoom x.file os name size = commons_have_room forced os o x others lays linked name size common in
+    let room : HasSpace x.file os name size = commons_have_space forced os o x others lays linked name size common in
     let same : room.row ≡ row = same_Some room.row row (sym room.found ∙ found) in
     subst (λ (s : Symbol). core x.file of_data (s.value + n) ≡ Some 0) same
     (zero_at x.file (found_in forced os o x linked BssSeg tt) (room.row.value + n)

@@ -67,7 +67,7 @@ module _ (file : Contents) (rows : List Symbol) (os before : List Contents) (k :
     address = l.address;
     place = l.place;
     word = minus (plus w l.added) (cond (is_pc_relative r) (move_in file.header os before k TextSeg) 0);
-    stands = l.word;
+    is_there = l.word;
     finds =
         ap (λ (a : ℕ). operand (is_pc_relative r) a
         (minus (plus w l.added) (cond (is_pc_relative r) (move_in file.header os before k TextSeg) 0))) l.place.sum
@@ -77,7 +77,7 @@ module _ (file : Contents) (rows : List Symbol) (os before : List Contents) (k :
     address = l.address;
     place = l.place;
     word = minus (plus w l.added) (cond (is_pc_relative r) (move_in file.header os before k DataSeg) 0);
-    stands = l.word;
+    is_there = l.word;
     finds =
         ap (λ (a : ℕ). operand (is_pc_relative r) a
         (minus (plus w l.added) (cond (is_pc_relative r) (move_in file.header os before k DataSeg) 0))) l.place.sum
@@ -221,9 +221,9 @@ segments_found forced before k after o x good linked segment i w r ew er kind me
 -- calls
 
 -- segments without bytes take no room
-no_room : (segment : Segment) → ((k : Contents) → size_of segment k ≡ 0) → (os : List Contents) → total segment os ≡ 0
-no_room segment none [] = refl
-no_room segment none (k ∷ ks) = sum_by-append (size_of segment) (k ∷ []) ks ∙ (λ i. 0 + none k i + no_room segment none ks i)
+no_space : (segment : Segment) → ((k : Contents) → size_of segment k ≡ 0) → (os : List Contents) → total segment os ≡ 0
+no_space segment none [] = refl
+no_space segment none (k ∷ ks) = sum_by-append (size_of segment) (k ∷ []) ks ∙ (λ i. 0 + none k i + no_space segment none ks i)
 
 -- each definition has a place; an absolute one is its own
 module _ (h : Header) (os before : List Contents) (k : Contents) where
@@ -234,9 +234,9 @@ module _ (h : Header) (os before : List Contents) (k : Contents) where
   any_place TextSeg n = place_at h os before k TextSeg tt n
   any_place DataSeg n = place_at h os before k DataSeg tt n
   any_place BssSeg n = place_at h os before k BssSeg tt n
-  any_place Undefined n = record { sum = refl; symbol = unmoved (total Undefined before) n (no_room Undefined (λ c. refl) before) }
-  any_place Absolute n = record { sum = refl; symbol = unmoved (total Absolute before) n (no_room Absolute (λ c. refl) before) }
-  any_place Other n = record { sum = refl; symbol = unmoved (total Other before) n (no_room Other (λ c. refl) before) }
+  any_place Undefined n = record { sum = refl; symbol = unmoved (total Undefined before) n (no_space Undefined (λ c. refl) before) }
+  any_place Absolute n = record { sum = refl; symbol = unmoved (total Absolute before) n (no_space Absolute (λ c. refl) before) }
+  any_place Other n = record { sum = refl; symbol = unmoved (total Other before) n (no_space Other (λ c. refl) before) }
 
 -- a definition gives its value
 pub defined_address : (row : Symbol) (segment : Segment) → row.type_bits ≡ external_type segment → address_in row ≡ row.value
@@ -318,7 +318,7 @@ calls_arrive forced os o x good others linked once before k after all front c ba
     let is : IsDefined x.file os front c d.symbol =
     subst (λ (ys : List Contents). IsDefined x.file ys front c d.symbol) (sym other)
     (definitions_hold forced front c back o x others (ap (λ (ys : List Contents). link forced ys o) (sym other) ∙ linked)
-    once d.number d.symbol d.stands d.outer d.inner) in
+    once d.number d.symbol d.is_there d.outer d.inner) in
     let there : IsPlace x.file.header os front c to n (address_of x.file.header os front c to n) =
     any_place x.file.header os front c to n in
     let same : finds.symbol ≡ call.symbol = same_Some finds.symbol call.symbol (sym finds.named ∙ call.named) in
@@ -330,7 +330,7 @@ calls_arrive forced os o x good others linked once before k after all front c ba
       address = finds.more.address;
       place = finds.more.place;
       word = finds.more.word;
-      stands = finds.more.stands;
+      is_there = finds.more.is_there;
       target = address_of x.file.header os front c to n;
       there = there;
       loaded = byte_in forced os o x good linked front c back other space to usable n;

@@ -49,7 +49,7 @@ use Rattle.laws.specs.CoreLaws.{space_of}
 use Rattle.laws.specs.Operands.{operand, FindsMore, segment_meant, Defines}
 use Rattle.laws.specs.OperandWords.{is_relative, machine_value, space_used}
 use Rattle.laws.specs.OperandPlaces.{addressing_of, within_text, kind_meant, IsNamedByte, IsAddress, HasOperand}
-use Rattle.laws.specs.OperandPlaces.{IsOperand, OperandsStand, IsDirect, JumpsArrive, PointersToSegments}
+use Rattle.laws.specs.OperandPlaces.{IsOperand, OperandsAreThere, IsDirect, JumpsArrive, PointersToSegments}
 use Rattle.laws.specs.OperandPlaces.{PointersToNames}
 use Rattle.laws.proofs.InstructionLemmas.{relocs_long, reloc_inside}
 use Rattle.laws.proofs.LoadedLemmas.{address_of, words_there, words_of_rows}
@@ -73,8 +73,8 @@ module _ (file : Contents) (os before : List Contents) (k : Contents) (segment :
   same_found f g =
       let a : f.address ≡ g.address = f.place.sum ∙ sym g.place.sum in
       let there : IsWordAt file (space_of segment) g.address f.word =
-      subst (λ (p : ℕ). IsWordAt file (space_of segment) p f.word) a f.stands in
-      let b : f.word ≡ g.word = one_word file (space_of segment) g.address f.word g.word there g.stands in
+      subst (λ (p : ℕ). IsWordAt file (space_of segment) p f.word) a f.is_there in
+      let b : f.word ≡ g.word = one_word file (space_of segment) g.address f.word g.word there g.is_there in
       (λ j. operand (is_pc_relative r) (a j) (b j)) ∙ g.finds
 
 -- numbers of bytes, moved
@@ -115,7 +115,7 @@ module _ (forced : List (List ℕ)) (os : List Contents) (o : Choices) (x : Outc
         let is : IsDefined x.file os front c d.symbol =
         subst (λ (ys : List Contents). IsDefined x.file ys front c d.symbol) (sym all)
         (definitions_hold forced front c back o x kept (ap (λ (ys : List Contents). link forced ys o) (sym all) ∙ linked)
-        once d.number d.symbol d.stands d.outer d.inner) in
+        once d.number d.symbol d.is_there d.outer d.inner) in
         let same : row ≡ is.row =
         same_Some row is.row (sym found ∙ ap (λ (m : List ℕ). entry_of x.file.symbols m) (sym d.names) ∙ is.found) in
         ap address_in same
@@ -254,7 +254,7 @@ module _ (forced : List (List ℕ)) (before : List Contents) (k : Contents) (aft
       address = found.1.address;
       place = found.1.place;
       word = found.1.word;
-      stands = found.1.stands;
+      is_there = found.1.is_there;
       segments =
           λ to n b. address_by forced (before ++ k ∷ after) o x good linked before k after refl to n
           (space_used operation a) (machine_value a (found.1.address + 2) found.1.word)
@@ -336,8 +336,8 @@ word_inside ws i w following here instruction is whole operand p place takes =
         let sum : word_count_of instruction.first + word_count_of instruction.second ≤ length following = enough in
         omega arith
 
-pub operands_stand : OperandsStand
-operands_stand forced before k after o x good linked i w following here instruction is whole operand p place a e =
+pub operands_there : OperandsAreThere
+operands_there forced before k after o x good linked i w following here instruction is whole operand p place a e =
     let inside : p < length k.text_words =
     word_inside k.text_words i w following here instruction is whole operand p place (takes_its_word operand a e) in
     let word = get_inside k.text_words p inside in
@@ -359,7 +359,7 @@ jumps_arrive forced before k after o x good kept linked once i w following here 
       address = h.address;
       place = h.place;
       word = h.word;
-      stands = h.stands;
+      is_there = h.is_there;
       arrives =
           subst (λ (space : Space). IsAddress x.file (before ++ k ∷ after) front c to n space (machine_value a (h.address + 2) h.word))
           (jump_space instruction.row.operation a j direct) (h.names kept once front c back all to n b);
@@ -381,7 +381,7 @@ pointers_to_segments forced before k after o x good linked from i w r ew er alon
       address = f.address;
       place = f.place;
       word = f.word;
-      stands = f.stands;
+      is_there = f.is_there;
       points =
           λ space. address_by forced (before ++ k ∷ after) o x good linked before k after refl to n space
           (operand false f.address f.word)
@@ -398,7 +398,7 @@ pointers_to_names forced before k after o x good kept linked once from i w r ew 
       address = f.more.address;
       place = f.more.place;
       word = f.more.word;
-      stands = f.more.stands;
+      is_there = f.more.is_there;
       points =
           λ space. named_address forced (before ++ k ∷ after) o x good linked kept once front c back all k (kind_of r) r
           (w % 65536) (operand false f.more.address f.more.word)

@@ -39,7 +39,7 @@ gives_more file os before k i w r more a e f =
       address = f.address;
       place = f.place;
       word = f.word;
-      stands = f.stands;
+      is_there = f.is_there;
       gives =
           machine_is a (is_pc_relative r) e f.address f.word
           ∙ f.finds

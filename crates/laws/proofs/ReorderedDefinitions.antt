@@ -76,7 +76,7 @@ module _ (os : List Contents) (name : List ℕ) where
           all = all;
           number = length done + 0;
           symbol = s;
-          stands = ap (λ (xs : List Symbol). slice_get xs (length done + 0)) e ∙ slice_get_after done (s ∷ ss) (length done) 0 refl;
+          is_there = ap (λ (xs : List Symbol). slice_get xs (length done + 0)) e ∙ slice_get_after done (s ∷ ss) (length done) 0 refl;
           outer = te;
           names = (bytes_eq-Decides name s.name).0 ue;
           is = se;
@@ -156,7 +156,7 @@ said_again os ps same name segment n d =
         all = there.all;
         number = d.number;
         symbol = d.symbol;
-        stands = d.stands;
+        is_there = d.is_there;
         outer = d.outer;
         names = d.names;
         is = moved.1;
@@ -185,7 +185,7 @@ first_is_said forced os single name segment n d =
     let agree : AllByRecursion (AgreesIn ms) (mentions forced (d.before ++ d.k ∷ d.after)) =
     subst (λ (ks : List Contents). AllByRecursion (AgreesIn ms) (mentions forced ks)) d.all (none_differ ms ms single) in
     let own : differs (first_definition ms d.symbol.name) (statement d.before d.k (segment_of d.symbol) d.symbol.value)
-    ≡ false = of_entry (AgreesIn ms) forced d.before d.k d.after agree d.number d.symbol d.stands d.outer in
+    ≡ false = of_entry (AgreesIn ms) forced d.before d.k d.after agree d.number d.symbol d.is_there d.outer in
     let first : first_definition ms name ≡ Some (segment, n) =
     agrees_with (first_definition ms name) segment n (ap (λ (m : List ℕ). differs (first_definition ms m) (Defined segment n))
     d.names ∙ ap (λ (st : State). differs (first_definition ms d.symbol.name) st) (sym d.is) ∙ own) in

@@ -22,7 +22,7 @@ use Rattle.link_out.specs.Results.{ReportNames}
 use Rattle.link_laws.specs.relation.Refusals.{kept_locals, entries}
 use Rattle.link_out.specs.function.Plans.{Plan, plan, commons_laid, common_offset}
 use Rattle.link_out.specs.function.Finals.{Final, final, final_at, bound_at, waiting, etext, edata, end_name, type_of}
-use Rattle.link_out.specs.function.Tables.{table, has_far_word}
+use Rattle.link_out.specs.function.Tables.{table, has_number_too_large}
 use Rattle.link_out.specs.function.Reports.{report_of, entry_found_bad, undefined_names}
 use Rattle.link_out.specs.function.Link.{Outcome, linked_header, linked_file, link}
 use Rattle.link_laws.proofs.HasStateLemmas.{state_is}
@@ -76,14 +76,15 @@ module _ (forced : List (List ℕ)) (os ps : List Contents) (o : Choices) (same 
       subst (λ (n : ℕ). link_at n (length (table q ps)) ≡ Err fault) (ap (λ (b : Bases). b.bss_end) same_bases)
       (subst (λ (n : ℕ). link_at p.at.bss_end n ≡ Err fault) table_counted
       (refused_alike (nat_lt 65535 p.at.bss_end) (nat_lt 5461 (length (table p os)))
-      (o.relocatable && has_far_word p os) (o.relocatable && has_far_word q ps)
+      (o.relocatable && has_number_too_large p os) (o.relocatable && has_number_too_large q ps)
       (record { file = linked_file p os; report = report_of p }) (record { file = linked_file q ps; report = report_of q })
-      fault (λ i. r i && has_far_word p os) h))
+      fault (λ i. r i && has_number_too_large p os) h))
     where
       link_at : ℕ → ℕ → Result Outcome LinkFault
       link_at end count =
           cond (nat_lt 65535 end) (Err DoesNotFit) (cond (nat_lt 5461 count) (Err TooManySymbols)
-          (cond (o.relocatable && has_far_word q ps) (Err SymbolNumber) (Ok (record { file = linked_file q ps; report = report_of q }))))
+          (cond (o.relocatable && has_number_too_large q ps) (Err SymbolNumber)
+          (Ok (record { file = linked_file q ps; report = report_of q }))))
 
   same_header : (record (linked_header p os) { entry_point = (linked_header q ps).entry_point }) ≡ linked_header q ps
   same_header = λ i. record {

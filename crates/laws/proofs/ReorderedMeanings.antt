@@ -46,7 +46,7 @@ use Rattle.link_laws.proofs.HasStateLemmas.{has_state, state_is}
 use Rattle.link_out.proofs.OutcomeLemmas.{made_file, made_report}
 use Rattle.link_laws.proofs.MoveLemmas.{data_begun, move_by_header}
 use Rattle.link_laws.proofs.ExternalLemmas.{row_at, entry_there}
-use Rattle.link_laws.proofs.CommonLemmas.{commons_have_room}
+use Rattle.link_laws.proofs.CommonLemmas.{commons_have_space}
 use Rattle.link_laws.proofs.SegmentLemmas.{word_at}
 use Rattle.link_laws.proofs.RelocatedLemmas.{words_relocated}
 use Rattle.laws.specs.Orders.{definition, common, missing, IsDefinedBy, Means, MeansTheSame}
@@ -141,7 +141,7 @@ module _ (forced : List (List ℕ)) (os : List Contents) (o : Choices) (x : Outc
       eqb size 0 ≡ false → Means forced os o x.file name (common size)
   common_in lays name size wanted sized =
       let is : IsCommon forced os name size = record { wanted = wanted; sized = sized } in
-      (is, commons_have_room forced os o x others lays linked name size is)
+      (is, commons_have_space forced os o x others lays linked name size is)
 
   -- a definition that the state of its name is
   defined_in : (name : List ℕ) (segment : Segment) (n : ℕ) (d : IsSaid os name (Defined segment n)) →
@@ -151,7 +151,7 @@ module _ (forced : List (List ℕ)) (os : List Contents) (o : Choices) (x : Outc
     after = d.after;
     all = d.all;
     number = d.number;
-    stands = d.stands;
+    is_there = d.is_there;
     outer = d.outer;
     inner = defines os name segment n d;
     names = d.names;

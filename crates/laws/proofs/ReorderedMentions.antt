@@ -221,9 +221,9 @@ module _ (forced : List (List ℕ)) (os ps : List Contents) (same : IsPermutatio
   undefined_by None = false
   undefined_by (Some size) = eqb size 0
 
-  room_by : (s : State) → common_size s ≡ size_by (size_if_wanted s)
-  room_by (Wanted size) = refl
-  room_by (Defined segment offset) = refl
+  common_size_by : (s : State) → common_size s ≡ size_by (size_if_wanted s)
+  common_size_by (Wanted size) = refl
+  common_size_by (Defined segment offset) = refl
 
   pub same_undefined : (name : List ℕ) → is_undefined (state (mentions forced os) name) ≡ is_undefined (state (mentions forced ps) name)
   same_undefined name = by_wants is_undefined undefined_by is name
@@ -235,7 +235,7 @@ module _ (forced : List (List ℕ)) (os ps : List Contents) (same : IsPermutatio
   pub same_commons : commons_total (mentions forced os) ≡ commons_total (mentions forced ps)
   same_commons =
       sym (sum_by-IsPermutation (λ n. common_size (state ms n)) (names_by_first_mention ms) (names_by_first_mention ns) names_reordered)
-      ∙ ap (λ (f : List ℕ → ℕ). sum_by f (names_by_first_mention ns)) (λ i n. by_wants common_size size_by room_by n i)
+      ∙ ap (λ (f : List ℕ → ℕ). sum_by f (names_by_first_mention ns)) (λ i n. by_wants common_size size_by common_size_by n i)
 
   pub same_reserved : reserved_taken (mentions forced os) ≡ reserved_taken (mentions forced ps)
   same_reserved = ap (λ (f : List ℕ → Bool). filter f reserved_names) (λ i n. not (same_undefined n i))

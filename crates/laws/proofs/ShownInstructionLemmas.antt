@@ -18,7 +18,7 @@ use Rattle.disassemblies.specs.Naming.{relocated_text}
 use Rattle.disassemblies.specs.Lines.{decoded_text, text_by}
 use Rattle.laws.specs.Instructions.{IsLinkedWord, KeepsLineAt}
 use Rattle.laws.specs.ShownInstructions.{IsShown, ProgramsShowInstructions}
-use Rattle.laws.proofs.StandLemmas.{instructions_stand}
+use Rattle.laws.proofs.InstructionPlaceLemmas.{instructions_there}
 
 -- the word at a place, and those after it
 words_after : (ws : List ℕ) (i : ℕ) → i < length ws → drop i ws ≡ slice_index ws i ∷ drop (suc i) ws
@@ -79,7 +79,7 @@ programs_show_instructions forced before k after o x good small final l i inside
     let f : List ℕ = drop (i + 1) k.text_words in
     let n : ℕ = total TextSeg before / 2 + i in
     let h : KeepsLineAt x.file l.rows (before ++ k ∷ after) before k i (slice_index k.text_words i) (drop (i + 1) k.text_words) =
-    instructions_stand forced before k after o x good small l i (slice_index k.text_words i) (drop (i + 1) k.text_words)
+    instructions_there forced before k after o x good small l i (slice_index k.text_words i) (drop (i + 1) k.text_words)
     (words_from k.text_words i inside) still whole in
     let none : 2 * length x.file.text_reloc ≡ 0 = l.text_relocs ∙ ap (λ (b : Bool). cond b (total TextSeg (before ++ k ∷ after)) 0) final in
     record {

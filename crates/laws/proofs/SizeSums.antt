@@ -6,18 +6,18 @@ use Rattle.aout_core.specs.Contents.{Contents}
 use Rattle.link_session.specs.Mentions.{Mention, mentions, externals}
 use Rattle.link_session.specs.States.{state}
 use Rattle.tool_options.specs.Choices.{Choices, lays_commons}
-use Rattle.link_out.specs.function.Plans.{plan, common_size, room_of, commons_laid}
+use Rattle.link_out.specs.function.Plans.{plan, common_size, commons_size, commons_laid}
 use Rattle.link_out.specs.function.Link.{Outcome, link}
-use Rattle.link_laws.specs.relation.LinkedTable.{room_for}
+use Rattle.link_laws.specs.relation.LinkedTable.{space_for}
 use Rattle.link_laws.specs.relation.Refusals.{CommonsTake}
 use Rattle.link_laws.proofs.HasStateLemmas.{has_state}
-use Rattle.link_laws.proofs.LinkedRows.{room_laid}
+use Rattle.link_laws.proofs.LinkedRows.{space_laid}
 use Rattle.link_out.proofs.OutcomeLemmas.{made_file}
 use Rattle.symtools.specs.SizeLines.{size_line}
 use Rattle.laws.specs.Listings.{HasSizes}
 
 module _ (o : Choices) (ms : List Mention) where
-  names_take : (names : List (List ℕ)) → CommonsTake o ms names (cond (lays_commons o) (room_of ms names) 0)
+  names_take : (names : List (List ℕ)) → CommonsTake o ms names (cond (lays_commons o) (commons_size ms names) 0)
   names_take [] = either (lays_commons o)
     where
       either : (c : Bool) → (let none : ℕ = cond c 0 0 in none) ≡ 0
@@ -27,9 +27,9 @@ module _ (o : Choices) (ms : List Mention) where
     state ms n,
     has_state ms n,
     (
-      cond (lays_commons o) (room_of ms ns) 0,
-      both (room_of ms (n ∷ ns)) (room_for o (state ms n)) (common_size (state ms n)) (room_of ms ns) (lays_commons o)
-          (sum_by-cons (λ m. common_size (state ms m)) n ns) (room_laid o (state ms n)),
+      cond (lays_commons o) (commons_size ms ns) 0,
+      both (commons_size ms (n ∷ ns)) (space_for o (state ms n)) (common_size (state ms n)) (commons_size ms ns) (lays_commons o)
+          (sum_by-cons (λ m. common_size (state ms m)) n ns) (space_laid o (state ms n)),
       names_take ns,
     ),
   )

@@ -33,9 +33,9 @@ use Rattle.link_out.specs.function.Finals.{Final, bound_at, final, final_at, typ
 use Rattle.link_out.specs.function.Link.{Outcome, link}
 use Rattle.link_out.specs.function.Plans.{Plan, common_offset, plan}
 use Rattle.link_out.specs.function.Reports.{entry_word, is_in_text}
-use Rattle.link_out.specs.function.Tables.{external_row, external_rows, final_reloc, final_relocs, has_far_in}
-use Rattle.link_out.specs.function.Tables.{is_out_of_reach, local_rows, moved_local, moved_value, name_bits}
-use Rattle.link_out.specs.function.Tables.{referent_bits, row_of, segment_bits, table, waits_far}
+use Rattle.link_out.specs.function.Tables.{external_row, external_rows, final_reloc, final_relocs, has_too_large_in}
+use Rattle.link_out.specs.function.Tables.{needs_too_large, local_rows, moved_local, moved_value, name_bits}
+use Rattle.link_out.specs.function.Tables.{referent_bits, row_of, segment_bits, table, number_too_large}
 use Rattle.link_out.specs.function.Words.{final_word, final_words}
 use Rattle.link_out.proofs.FitLemmas.{linked_fits}
 use Rattle.link_out.proofs.OutcomeLemmas.{IsMade, made}
@@ -247,32 +247,32 @@ segment_bits_small BssSeg = omega arith
 segment_bits_small Other = omega arith
 
 module _ (p : Plan) (os : List Contents) where
-  name_bits_small : (bound : Option Segment) (row : ℕ) → waits_far bound row ≡ false → name_bits bound row ≤ 65528
+  name_bits_small : (bound : Option Segment) (row : ℕ) → number_too_large bound row ≡ false → name_bits bound row ≤ 65528
   name_bits_small (Some segment) row h = omega (arith, segment_bits_small segment)
   name_bits_small None row h = let low : row ≤ 4095 = ltb-false 4095 row h in omega arith
 
-  bits_small : (r : Referent) → is_out_of_reach p os r ≡ false → referent_bits p os r ≤ 65528
+  bits_small : (r : Referent) → needs_too_large p os r ≡ false → referent_bits p os r ≤ 65528
   bits_small (to_segment segment) h = omega (arith, segment_bits_small segment)
   bits_small (to_name name) h = name_bits_small (final p name).bound (row_of p os name) h
 
-  relocs_small : (segment : Segment) → has_far_in p os segment ≡ false → AllByRecursion IsRelocWord (final_relocs p os segment)
-  relocs_small segment near =
-      all_made_of IsRelocWord (λ o. list_any (λ wr. is_out_of_reach p os (referent o wr.1)) (words_of segment o) ≡ false)
+  relocs_small : (segment : Segment) → has_too_large_in p os segment ≡ false → AllByRecursion IsRelocWord (final_relocs p os segment)
+  relocs_small segment numbered =
+      all_made_of IsRelocWord (λ o. list_any (λ wr. needs_too_large p os (referent o wr.1)) (words_of segment o) ≡ false)
       (λ earlier o. map (λ wr. final_reloc p os o wr.1) (words_of segment o)) by_object [] os
-      (none_of (λ (o : Contents). list_any (λ wr. is_out_of_reach p os (referent o wr.1)) (words_of segment o)) os near)
+      (none_of (λ (o : Contents). list_any (λ wr. needs_too_large p os (referent o wr.1)) (words_of segment o)) os numbered)
     where
       by_object : (earlier : List Contents) (o : Contents) →
-          list_any (λ wr. is_out_of_reach p os (referent o wr.1)) (words_of segment o) ≡ false →
+          list_any (λ wr. needs_too_large p os (referent o wr.1)) (words_of segment o) ≡ false →
           AllByRecursion IsRelocWord (map (λ wr. final_reloc p os o wr.1) (words_of segment o))
       by_object earlier o h =
-          all_images (λ (wr : ℕ × Reloc). is_out_of_reach p os (referent o wr.1) ≡ false) IsRelocWord
+          all_images (λ (wr : ℕ × Reloc). needs_too_large p os (referent o wr.1) ≡ false) IsRelocWord
           (λ wr. final_reloc p os o wr.1) (λ wr k. let low = bits_small (referent o wr.1) k in omega arith) (words_of segment o)
-          (none_of (λ (wr : ℕ × Reloc). is_out_of_reach p os (referent o wr.1)) (words_of segment o) h)
+          (none_of (λ (wr : ℕ × Reloc). needs_too_large p os (referent o wr.1)) (words_of segment o) h)
 
-  relocs_kept_small : (t : Bool) (segment : Segment) → (t ≡ true → has_far_in p os segment ≡ false) →
+  relocs_kept_small : (t : Bool) (segment : Segment) → (t ≡ true → has_too_large_in p os segment ≡ false) →
       AllByRecursion IsRelocWord (cond t (final_relocs p os segment) [])
-  relocs_kept_small true segment near = relocs_small segment (near refl)
-  relocs_kept_small false segment near = tt
+  relocs_kept_small true segment numbered = relocs_small segment (numbered refl)
+  relocs_kept_small false segment numbered = tt
 
 -- ---- the file
 
@@ -314,10 +314,10 @@ linked_sound forced os o x names sound well text linked =
       data_words = words_small p DataSeg os sound;
       text_reloc =
           relocs_kept_small p os o.relocatable TextSeg
-          (λ e. (neither o.relocatable (has_far_in p os TextSeg) (has_far_in p os DataSeg) m.near e).0);
+          (λ e. (neither o.relocatable (has_too_large_in p os TextSeg) (has_too_large_in p os DataSeg) m.numbered e).0);
       data_reloc =
           relocs_kept_small p os o.relocatable DataSeg
-          (λ e. (neither o.relocatable (has_far_in p os TextSeg) (has_far_in p os DataSeg) m.near e).1);
+          (λ e. (neither o.relocatable (has_too_large_in p os TextSeg) (has_too_large_in p os DataSeg) m.numbered e).1);
       symbols = table_sound p ends small os sound;
     })
   where

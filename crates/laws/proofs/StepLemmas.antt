@@ -22,7 +22,7 @@ use Rattle.link_out.specs.Outcomes.{outcome_of, report_names}
 use Rattle.link_out.specs.Results.{Outcome}
 use Rattle.link_out.specs.function.Link.{link}
 use Rattle.link_out.specs.function.Reports.{ReportNames, report_text, status_of}
-use Rattle.link_laws.specs.PartialLinksAmongOthers.{PartialStandsAmongOthers}
+use Rattle.link_laws.specs.PartialLinksAmongOthers.{PartialReplacesAmongOthers}
 use Rattle.link_out.specs.laws.Stripping.{StripLaw}
 use Rattle.surroundings.specs.Events.{Event, opens, paths_of, stored}
 use Rattle.surroundings.specs.declared.office.Stored.TheVariants.{Kept}
@@ -79,8 +79,8 @@ module _ {W E : Type 0} (out_contents : W → Option (List ℕ)) (error_contents
     status = first ∙ ap status_of e ∙ sym second;
   }
 
-  pub link_steps : EncodingLaw → PartialStandsAmongOthers → LinkStepsLaw out_contents error_contents
-  link_steps encodes stands first second whole own forced by o m p q before parts after bs os cs first_links second_links
+  pub link_steps : EncodingLaw → PartialReplacesAmongOthers → LinkStepsLaw out_contents error_contents
+  link_steps encodes replaces first second whole own forced by o m p q before parts after bs os cs first_links second_links
       whole_links parts_at before_at after_at all_at intact sound names relocatable no_commons less part single =
       let x = linking first own by m parts os first_links parts_at in
       let file_sound : IsSound x.made.file = linked_sound own os by (outcome_of x.made) names sound x.well x.text x.link in
@@ -91,7 +91,7 @@ module _ {W E : Type 0} (out_contents : W → Option (List ℕ)) (error_contents
       let z = linking whole forced o q (before ++ (parts ++ after)) (bs ++ (os ++ cs)) whole_links all_at in
       let well = all_split IsWellFormed bs (os ++ cs) z.well in
       let same : link forced (bs ++ x.made.file ∷ cs) o ≡ link forced (bs ++ (os ++ cs)) o =
-      stands own forced bs os cs by o (outcome_of x.made) well.0 x.well (all_split IsWellFormed os cs well.1).1
+      replaces own forced bs os cs by o (outcome_of x.made) well.0 x.well (all_split IsWellFormed os cs well.1).1
       (record { allowed = first_links.asks.asks.whole.1; relocatable = relocatable; no_commons = no_commons; linked = x.link }) less
       part single in
       let outcome : outcome_of y.made ≡ outcome_of z.made =

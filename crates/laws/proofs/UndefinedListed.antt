@@ -98,24 +98,24 @@ locals_shown b o earlier (k ∷ ks) =
 -- externals
 
 -- the row of a name that is reported, or of another
-abbrev IsToldBy : Bool → List ℕ → Final → Type 0
-IsToldBy missing name f =
+abbrev IsReportedBy : Bool → List ℕ → Final → Type 0
+IsReportedBy missing name f =
     ((missing ≡ true) × (row_at name f ≡ undefined_symbol name))
     ⊎ ((missing ≡ false) × (is_shown_undefined (row_at name f) ≡ false))
 
-told_by : (p : Plan) (name : List ℕ) (st : State) → IsProper st → p.choices.relocatable ≡ false →
-    IsToldBy (is_missing name st) name (final_by p name st)
-told_by p name (Defined Undefined offset) h r = absurd h
-told_by p name (Defined Other offset) h r = absurd h
-told_by p name (Defined Absolute offset) h r = inr (refl, refl)
-told_by p name (Defined TextSeg offset) h r = inr (refl, refl)
-told_by p name (Defined DataSeg offset) h r = inr (refl, refl)
-told_by p name (Defined BssSeg offset) h r = inr (refl, refl)
-told_by p name (Wanted size) h r =
+reported_by : (p : Plan) (name : List ℕ) (st : State) → IsProper st → p.choices.relocatable ≡ false →
+    IsReportedBy (is_missing name st) name (final_by p name st)
+reported_by p name (Defined Undefined offset) h r = absurd h
+reported_by p name (Defined Other offset) h r = absurd h
+reported_by p name (Defined Absolute offset) h r = inr (refl, refl)
+reported_by p name (Defined TextSeg offset) h r = inr (refl, refl)
+reported_by p name (Defined DataSeg offset) h r = inr (refl, refl)
+reported_by p name (Defined BssSeg offset) h r = inr (refl, refl)
+reported_by p name (Wanted size) h r =
     by_tests (plus p.at.data_end (common_offset p.mentions name)) (eqb size 0) p.choices.relocatable r
     p.choices.force_commons (bytes_eq name etext) (bytes_eq name edata) (bytes_eq name end_name)
   where
-    by_tests : (a : ℕ) (z r : Bool) → r ≡ false → (c t d e : Bool) → IsToldBy (z && not (t || (d || (e || false)))) name
+    by_tests : (a : ℕ) (z r : Bool) → r ≡ false → (c t d e : Bool) → IsReportedBy (z && not (t || (d || (e || false)))) name
         (cond z (cond r (waiting 0) (cond t (bound_at TextSeg p.at.text_end) (cond d (bound_at DataSeg p.at.data_end)
         (cond e (bound_at BssSeg p.at.bss_end) (waiting 0))))) (cond (not r || c) (bound_at BssSeg a) (waiting size)))
     by_tests a z true h c t d e = absurd (cc)
@@ -138,9 +138,9 @@ module _ (forced : List (List ℕ)) (os : List Contents) (o : Choices) where
   rows_shown : o.relocatable ≡ false → (names : List (List ℕ)) →
       filter is_shown_undefined (map (external_row p) names) ≡ map undefined_symbol (filter missing names)
   rows_shown plain [] = refl
-  rows_shown plain (n ∷ ns) = by_row (told_by p n (state ms n) (state_is_proper forced os n) plain) (rows_shown plain ns)
+  rows_shown plain (n ∷ ns) = by_row (reported_by p n (state ms n) (state_is_proper forced os n) plain) (rows_shown plain ns)
     where
-      by_row : IsToldBy (missing n) n (final_by p n (state ms n)) →
+      by_row : IsReportedBy (missing n) n (final_by p n (state ms n)) →
           filter is_shown_undefined (map (external_row p) ns) ≡ map undefined_symbol (filter missing ns) →
           filter is_shown_undefined (map (external_row p) (n ∷ ns)) ≡ map undefined_symbol (filter missing (n ∷ ns))
       by_row (inl h) rest =

@@ -29,8 +29,8 @@ use Rattle.link_laws.specs.CommonsAndLayouts.{IsCommon}
 use Rattle.laws.specs.Core.{Space, of_instructions, of_data, has_segment, is_in, core, IsWordAt}
 
 -- no two segments share an address of a space, whatever the file
-abbrev pub SegmentsLieApart : Type 0
-SegmentsLieApart =
+abbrev pub SegmentsAreApart : Type 0
+SegmentsAreApart =
     (h : Header) (space : Space) (one two : Segment) (address : ℕ) → is_in h space one address ≡ true →
     is_in h space two address ≡ true → one ≡ two
 

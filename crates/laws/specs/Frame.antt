@@ -140,8 +140,8 @@ pub record HasOtherValue (ss ts : List Symbol) (name : List ℕ) : Type 0 where
   pub number : ℕ
   pub one : Symbol
   pub other : Symbol
-  pub stands : slice_get ss number ≡ Some one
-  pub stands_too : slice_get ts number ≡ Some other
+  pub is_there : slice_get ss number ≡ Some one
+  pub is_there_too : slice_get ts number ≡ Some other
   pub names : name ≡ one.name
   pub differ : one.value ≢ other.value
 
@@ -177,8 +177,8 @@ pub record Follows (x y : Outcome) (k l m : Contents) (r : Reloc) (one other : �
 pub record WordStays (x y : Outcome) (k l m : Contents) (segment : Segment) (place : ℕ) (r : Reloc) : Type 0 where
   pub one : ℕ
   pub other : ℕ
-  pub stands : slice_get (segment_words segment x.file) place ≡ Some one
-  pub stands_too : slice_get (segment_words segment y.file) place ≡ Some other
+  pub is_there : slice_get (segment_words segment x.file) place ≡ Some one
+  pub is_there_too : slice_get (segment_words segment y.file) place ≡ Some other
   pub same : (one ≡ other) ⊎ Follows x y k l m r one other
 
 -- so does each word of m, which stands after these objects

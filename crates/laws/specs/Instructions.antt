@@ -72,9 +72,9 @@ pub record KeepsLineAt (file : Contents) (rows : List Symbol) (os before : List 
 
 -- wherever an instruction begins in the text of k, if its first word is not relocated and it is not cut, it is in the file; nothing is
 -- asked of any other word
-abbrev pub InstructionsStand : Type 0
-InstructionsStand = (forced : List (List ℕ)) (before : List Contents) (k : Contents) (after : List Contents) (o : Choices) (x : Outcome) →
-    AllByRecursion IsObject (before ++ k ∷ after) → AllByRecursion IsWord k.text_words →
+abbrev pub InstructionsAreThere : Type 0
+InstructionsAreThere = (forced : List (List ℕ)) (before : List Contents) (k : Contents) (after : List Contents) (o : Choices)
+    (x : Outcome) → AllByRecursion IsObject (before ++ k ∷ after) → AllByRecursion IsWord k.text_words →
     (l : IsLinkedFrom forced (before ++ k ∷ after) o x) →
     (i w : ℕ) (following : List ℕ) → drop i k.text_words ≡ w ∷ following → is_relocated (slice_get k.text_reloc i) ≡ false →
     is_cut (instruction_of w) following ≡ false → KeepsLineAt x.file l.rows (before ++ k ∷ after) before k i w following

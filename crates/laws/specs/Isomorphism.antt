@@ -76,26 +76,26 @@ address_at file os (of_object number segment n) = base_in file.header (total Bss
 address_at file os (of_common name n) = value_in (entry_of file.symbols name) + n
 
 -- a place is loaded at this address of this space
-pub record LiesAt (forced : List (List ℕ)) (os : List Contents) (file : Contents) (place : Place) (space : Space)
+pub record IsLoadedAt (forced : List (List ℕ)) (os : List Contents) (file : Contents) (place : Place) (space : Space)
     (address : ℕ) : Type 0 where
   pub is : IsPlaceOf forced os place
   pub «in» : has_segment file.header.magic (segment_at place) space ≡ true
   pub at : address ≡ address_at file os place
 
 -- no two places are loaded at one address
-abbrev pub PlacesLieApart : Type 0
-PlacesLieApart =
+abbrev pub PlacesAreApart : Type 0
+PlacesAreApart =
     (forced : List (List ℕ)) (os : List Contents) (o : Choices) (x : Outcome) → AllByRecursion IsObject os →
     o.keep ≢ Nothing → lays_commons o ≡ true → link forced os o ≡ Ok x →
-    (one two : Place) (space : Space) (address : ℕ) → LiesAt forced os x.file one space address →
-    LiesAt forced os x.file two space address → one ≡ two
+    (one two : Place) (space : Space) (address : ℕ) → IsLoadedAt forced os x.file one space address →
+    IsLoadedAt forced os x.file two space address → one ≡ two
 
 -- each place has a byte
 abbrev pub PlacesAreLoaded : Type 0
 PlacesAreLoaded =
     (forced : List (List ℕ)) (os : List Contents) (o : Choices) (x : Outcome) → AllByRecursion IsObject os →
     o.keep ≢ Nothing → lays_commons o ≡ true → link forced os o ≡ Ok x →
-    (place : Place) (space : Space) (address : ℕ) → LiesAt forced os x.file place space address →
+    (place : Place) (space : Space) (address : ℕ) → IsLoadedAt forced os x.file place space address →
     (byte : ℕ) × (core x.file space address ≡ Some byte)
 
 -- each byte has a place
@@ -104,7 +104,7 @@ BytesHavePlaces =
     (forced : List (List ℕ)) (os : List Contents) (o : Choices) (x : Outcome) → AllByRecursion IsObject os →
     o.keep ≢ Nothing → lays_commons o ≡ true → link forced os o ≡ Ok x →
     (space : Space) (address byte : ℕ) → core x.file space address ≡ Some byte →
-    (place : Place) × LiesAt forced os x.file place space address
+    (place : Place) × IsLoadedAt forced os x.file place space address
 
 -- places in another order
 
@@ -204,9 +204,9 @@ pub record MovesAsTarget (forced : List (List ℕ)) (os ps : List Contents) (o :
   pub refers : RefersTo forced os o x.file number k (kind_of r) (symbol_number r) target
   pub refers_too : RefersTo forced ps o y.file (to number) k (kind_of r) (symbol_number r) (moved_target to target)
   pub word : ℕ
-  pub stands : IsWordAt x.file (space_of segment) (address_at x.file os (of_object number segment (2 * i))) word
+  pub is_there : IsWordAt x.file (space_of segment) (address_at x.file os (of_object number segment (2 * i))) word
   pub other : ℕ
-  pub stands_too : IsWordAt y.file (space_of segment) (address_at y.file ps (of_object (to number) segment (2 * i))) other
+  pub is_there_too : IsWordAt y.file (space_of segment) (address_at y.file ps (of_object (to number) segment (2 * i))) other
   pub differ : minus (operand (is_pc_relative r) (address_at y.file ps (of_object (to number) segment (2 * i))) other)
       (operand (is_pc_relative r) (address_at x.file os (of_object number segment (2 * i))) word)
       ≡ minus (address_to y.file ps (moved_target to target)) (address_to x.file os target)
@@ -217,7 +217,7 @@ pub record AreIsomorphic (forced : List (List ℕ)) (os ps : List Contents) (o :
   pub there : (place : Place) → IsPlaceOf forced os place → IsPlaceOf forced ps (moved to place) × (moved from (moved to place) ≡ place)
   pub back : (place : Place) → IsPlaceOf forced ps place → IsPlaceOf forced os (moved from place) × (moved to (moved from place) ≡ place)
   pub bytes : (place : Place) → IsUnrelocated os place → (space space_too : Space) (address address_too : ℕ) →
-      LiesAt forced os x.file place space address → LiesAt forced ps y.file (moved to place) space_too address_too →
+      IsLoadedAt forced os x.file place space address → IsLoadedAt forced ps y.file (moved to place) space_too address_too →
       core y.file space_too address_too ≡ core x.file space address
   pub words : (number : ℕ) (k : Contents) → slice_get os number ≡ Some k → (segment : Segment) (i w : ℕ) (r : Reloc) →
       slice_get (segment_words segment k) i ≡ Some w → slice_get (segment_relocs segment k) i ≡ Some r →

@@ -98,7 +98,7 @@ pub record HasOperand (os : List Contents) (o : Choices) (x : Outcome) (before :
   pub address : ℕ
   pub place : IsPlace x.file.header os before k TextSeg (2 * i) address
   pub word : ℕ
-  pub stands : IsWordAt x.file of_instructions address word
+  pub is_there : IsWordAt x.file of_instructions address word
   pub segments : (to : Segment) (n : ℕ) → IsOwnByte k (kind_meant a r) (machine_value a (2 * i + 2) w) to n →
       IsAddress x.file os before k to n (space_used operation a) (machine_value a (address + 2) word)
   -- by its name, in a link that keeps symbols: the value of the name's symbol, without relocation, and so much
@@ -116,8 +116,8 @@ IsOperand instruction i operand p =
     ((operand ≡ instruction.first) × (p ≡ i + 1)) ⊎ ((operand ≡ instruction.second) × (p ≡ i + 1 + word_count_of instruction.first))
 
 -- wherever an instruction begins in the text of k, and is not cut, each operand that has a word; nothing is asked of any other word
-abbrev pub OperandsStand : Type 0
-OperandsStand = (forced : List (List ℕ)) (before : List Contents) (k : Contents) (after : List Contents) (o : Choices) (x : Outcome) →
+abbrev pub OperandsAreThere : Type 0
+OperandsAreThere = (forced : List (List ℕ)) (before : List Contents) (k : Contents) (after : List Contents) (o : Choices) (x : Outcome) →
     AllByRecursion IsObject (before ++ k ∷ after) → link forced (before ++ k ∷ after) o ≡ Ok x →
     (i w : ℕ) (following : List ℕ) → drop i k.text_words ≡ w ∷ following → (instruction : Instruction) →
     instruction_of w ≡ Some instruction →
@@ -135,7 +135,7 @@ pub record JumpArrives (x : Outcome) (os before : List Contents) (k : Contents) 
   pub address : ℕ
   pub place : IsPlace x.file.header os before k TextSeg (2 * p) address
   pub word : ℕ
-  pub stands : IsWordAt x.file of_instructions address word
+  pub is_there : IsWordAt x.file of_instructions address word
   pub arrives : IsAddress x.file os front c to n of_instructions (machine_value a (address + 2) word)
 
 -- a jump or a call by one of these modes to a name arrives at its definition, in the space of instructions
@@ -157,7 +157,7 @@ pub record Points (x : Outcome) (os before : List Contents) (k : Contents) (from
   pub address : ℕ
   pub place : IsPlace x.file.header os before k from (2 * i) address
   pub word : ℕ
-  pub stands : IsWordAt x.file (space_of from) address word
+  pub is_there : IsWordAt x.file (space_of from) address word
   pub points : (space : Space) → IsAddress x.file os front c to n space (operand false address word)
 
 -- a word of text or data that refers to a segment of its object points to the same byte of it in the program

@@ -53,7 +53,7 @@ pub record GivesMore (file : Contents) (os before : List Contents) (k : Contents
   pub address : ℕ
   pub place : IsPlace file.header os before k TextSeg (2 * i) address
   pub word : ℕ
-  pub stands : IsWordAt file of_instructions address word
+  pub is_there : IsWordAt file of_instructions address word
   pub gives : machine_value a (address + 2) word ≡ plus more (machine_value a (2 * i + 2) w)
 
 -- if it refers to a name, it is the value of the name's external symbol more

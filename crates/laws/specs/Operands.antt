@@ -37,7 +37,7 @@ pub record FindsMore (file : Contents) (os before : List Contents) (k : Contents
   pub address : ℕ
   pub place : IsPlace file.header os before k segment (2 * i) address
   pub word : ℕ
-  pub stands : IsWordAt file (space_of segment) address word
+  pub is_there : IsWordAt file (space_of segment) address word
   pub finds : operand (is_pc_relative r) address word ≡ plus more (operand (is_pc_relative r) (own k segment + 2 * i) w)
 
 -- a word that refers to a name finds the value of the name's external symbol more
@@ -89,7 +89,7 @@ pub record Calls (k : Contents) (segment : Segment) (i : ℕ) (name : List ℕ) 
 pub record Defines (c : Contents) (name : List ℕ) (segment : Segment) (n : ℕ) : Type 0 where
   pub number : ℕ
   pub symbol : Symbol
-  pub stands : slice_get c.symbols number ≡ Some symbol
+  pub is_there : slice_get c.symbols number ≡ Some symbol
   pub outer : is_external symbol ≡ true
   pub inner : eqb (masked_type symbol) 0 ≡ false
   pub names : symbol.name ≡ name
@@ -110,7 +110,7 @@ pub record Arrives (file : Contents) (space : Space) (os before : List Contents)
   pub address : ℕ
   pub place : IsPlace file.header os before k from (2 * i) address
   pub word : ℕ
-  pub stands : IsWordAt file (space_of from) address word
+  pub is_there : IsWordAt file (space_of from) address word
   pub target : ℕ
   pub there : IsPlace file.header os front c to n target
   pub loaded : n < size_of to c → is_in file.header space to target ≡ true

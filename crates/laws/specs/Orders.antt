@@ -29,7 +29,7 @@ use Rattle.link_laws.specs.relation.NameStates.{IsWanted}
 use Rattle.link_laws.specs.relation.Relocated.{entry_of, IsRelocated}
 use Rattle.link_laws.specs.relation.LinkedTable.{undefined_row}
 use Rattle.link_laws.specs.WordsAndNames.{IsDefined}
-use Rattle.link_laws.specs.CommonsAndLayouts.{IsCommon, HasRoom}
+use Rattle.link_laws.specs.CommonsAndLayouts.{IsCommon, HasSpace}
 
 -- the links of the same objects in two orders, by the same options
 pub record AreOrders (forced : List (List ℕ)) (os ps : List Contents) (o : Choices) (x y : Outcome) : Type 0 where
@@ -107,7 +107,7 @@ pub record IsDefinedBy (file : Contents) (os : List Contents) (name : List ℕ) 
   pub after : List Contents
   pub all : os ≡ before ++ k ∷ after
   pub number : ℕ
-  pub stands : slice_get k.symbols number ≡ Some s
+  pub is_there : slice_get k.symbols number ≡ Some s
   pub outer : is_external s ≡ true
   pub inner : eqb (masked_type s) 0 ≡ false
   pub names : name ≡ s.name
@@ -116,7 +116,7 @@ pub record IsDefinedBy (file : Contents) (os : List Contents) (name : List ℕ) 
 -- a common has room, and a name that nothing defines has the row of an undefined one, where the linker may define its three names
 abbrev pub Means : List (List ℕ) → List Contents → Choices → Contents → List ℕ → Meaning → Type 0
 Means forced os o file name (definition k s) = IsDefinedBy file os name k s
-Means forced os o file name (common size) = IsCommon forced os name size × HasRoom file os name size
+Means forced os o file name (common size) = IsCommon forced os name size × HasSpace file os name size
 Means forced os o file name missing =
     IsWanted (mentions forced os) name 0 × (entry_of file.symbols name ≡ Some (undefined_row file.header o name))
 

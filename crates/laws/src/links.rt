@@ -1,12 +1,12 @@
 //! Laws of loaded programs, lists and orders. Each law is the contract of a function with an empty body.
-ghost use Rattle.laws.specs.CoreLaws.{SegmentsLieApart, SpacesAreOne, AddressesFit, WordsAreLoaded, WordsOfRowsAreLoaded, KeepChangesNothing, StrippedIsLoaded, BssIsZero, CommonsAreZero, NothingElse};
+ghost use Rattle.laws.specs.CoreLaws.{SegmentsAreApart, SpacesAreOne, AddressesFit, WordsAreLoaded, WordsOfRowsAreLoaded, KeepChangesNothing, StrippedIsLoaded, BssIsZero, CommonsAreZero, NothingElse};
 ghost use Rattle.laws.specs.Operands.{NamesAreFound, SegmentsAreFound, CallsArrive};
-ghost use Rattle.laws.specs.Instructions.{InstructionsAreKept, TextsAreKept, InstructionsStand};
+ghost use Rattle.laws.specs.Instructions.{InstructionsAreKept, TextsAreKept, InstructionsAreThere};
 ghost use Rattle.laws.specs.OperandWords.{OperandsGiveNames, OperandsGiveSegments};
-ghost use Rattle.laws.specs.OperandPlaces.{OperandsStand, JumpsArrive, PointersToSegments, PointersToNames};
+ghost use Rattle.laws.specs.OperandPlaces.{OperandsAreThere, JumpsArrive, PointersToSegments, PointersToNames};
 ghost use Rattle.laws.specs.ShownInstructions.{ProgramsShowInstructions};
 ghost use Rattle.laws.specs.Listings.{UndefinedAreListed, UndefinedLines, RowLines, ExternalsAreListed, SizesAreSums};
-ghost use Rattle.laws.specs.Isomorphism.{PlacesLieApart, PlacesAreLoaded, BytesHavePlaces, OrdersAreRenumbered, LinksAreIsomorphic, LinksKeepReferents};
+ghost use Rattle.laws.specs.Isomorphism.{PlacesAreApart, PlacesAreLoaded, BytesHavePlaces, OrdersAreRenumbered, LinksAreIsomorphic, LinksKeepReferents};
 ghost use Rattle.laws.specs.Orders.{OrderAddsAlike, OrderLinksAlike, OrderRefusesAlike, OrderKeepsSizes, OrderReportsAlike, OrderFindsEntry, OrderKeepsMeanings, OrderKeepsReferents, OnceInAnyOrder};
 
 /// Which byte is at which address when a linked file is loaded: `core` of specs/Core, for the space of instructions and that of
@@ -24,7 +24,7 @@ ghost use Rattle.laws.specs.Orders.{OrderAddsAlike, OrderLinksAlike, OrderRefuse
 /// - `commons`: in a link that keeps symbols and lays out commons, each byte of a common is a zero, from the value of its symbol on.
 /// - `nothing`: the core has no other bytes: each is of a word of an object, or a zero of bss.
 pub fn core_law()
-    ensures apart { SegmentsLieApart }
+    ensures apart { SegmentsAreApart }
     ensures one { SpacesAreOne }
     ensures fit { AddressesFit }
     ensures words { WordsAreLoaded }
@@ -56,7 +56,7 @@ pub fn operand_law()
 /// word is not relocated and the object's text does not end within it. The law requires nothing of any other word, so arguments of
 /// `sys`, tables of addresses and other data in text do not matter. (ld(1), the handbook of the PDP-11/70)
 ///
-/// - `stand`: in any link, also with `-r` or `-s`, the file's text has at the place of that word the same operation, modes,
+/// - `instructions`: in any link, also with `-r` or `-s`, the file's text has at the place of that word the same operation, modes,
 ///   registers and numbers. An operand word is the operand word of the object, relocated.
 /// - `operands`: by the addressing of the first word, each operand that has a word is the address of the byte to which it refers in
 ///   its object: a byte of a segment of that object, or one so far beyond a name, wherever the name is defined. The pc bit of the
@@ -71,8 +71,8 @@ pub fn operand_law()
 /// - `texts`: if this is so for all objects, the file's text, decoded from its beginning, has the lines of the objects in order, and
 ///   no others.
 pub fn instruction_law()
-    ensures stand { InstructionsStand }
-    ensures operands { OperandsStand }
+    ensures instructions { InstructionsAreThere }
+    ensures operands { OperandsAreThere }
     ensures jumps { JumpsArrive }
     ensures kept { InstructionsAreKept }
     ensures texts { TextsAreKept }
@@ -171,7 +171,7 @@ pub fn order_law()
 ///   of its object, the definition of a name, a common, the end of a segment if the linker defines the name so, or nothing.
 /// - `referents`: so each word of each object refers to the same. With one layout this is `referents` of `order_law`.
 pub fn isomorphism_law()
-    ensures apart { PlacesLieApart }
+    ensures apart { PlacesAreApart }
     ensures loaded { PlacesAreLoaded }
     ensures placed { BytesHavePlaces }
     ensures numbers { OrdersAreRenumbered }

@@ -35,7 +35,7 @@ use Rattle.link_out.specs.declared.linked.LinkFault.TheVariants as links
 use Rattle.link_out.specs.function.Link.{link, linked_file}
 use Rattle.link_out.specs.function.Plans.{plan}
 use Rattle.link_out.specs.function.Reports.{report_of}
-use Rattle.link_out.specs.function.Tables.{has_far_word, table}
+use Rattle.link_out.specs.function.Tables.{has_number_too_large, table}
 use Rattle.link_out.specs.Results.{Outcome}
 use Rattle.aout_core.specs.Strip.{stripped}
 use Rattle.symtools.specs.NmLists.{nm_text}
@@ -280,7 +280,7 @@ not_memory_link : (forced : List (List ℕ)) (os : List Contents) (o : Choices) 
 not_memory_link forced os o =
     let p = plan forced os o in
     not_memory_link_by (nat_lt 65535 p.at.bss_end) (nat_lt 5461 (length (table p os)))
-    (p.choices.relocatable && has_far_word p os) (record { file = linked_file p os; report = report_of p })
+    (p.choices.relocatable && has_number_too_large p os) (record { file = linked_file p os; report = report_of p })
 
 not_memory_linked : (forced : List (List ℕ)) (o : Choices) (bytes : List ℕ) → IsNotMemory (linked_in forced o bytes)
 not_memory_linked forced o bytes =

@@ -18,11 +18,11 @@ use Rattle.link_session.proofs.MentionLemmas.{is_among-externals}
 use Rattle.link_session.proofs.UpdateLemmas.{unmentioned}
 use Rattle.tool_options.specs.declared.options.Keep.TheVariants.{Nothing}
 use Rattle.tool_options.specs.Choices.{Choices, lays_commons}
-use Rattle.link_out.specs.function.Plans.{Plan, plan, commons_laid, common_offset, common_size, room_of, commons_total}
+use Rattle.link_out.specs.function.Plans.{Plan, plan, commons_laid, common_offset, common_size, commons_size, commons_total}
 use Rattle.link_out.specs.function.Finals.{Final, final, final_by, type_of, bound_at, waiting, reserved_or_waiting}
 use Rattle.link_out.specs.function.Tables.{external_row}
 use Rattle.link_out.specs.function.Link.{Outcome, linked_file, link}
-use Rattle.link_laws.specs.CommonsAndLayouts.{IsCommon, HasRoom}
+use Rattle.link_laws.specs.CommonsAndLayouts.{IsCommon, HasSpace}
 use Rattle.aout_core.specs.Addresses.{data_start_in}
 use Rattle.link_laws.specs.relation.Relocated.{entry_of}
 use Rattle.link_laws.proofs.HasStateLemmas.{state_is}
@@ -36,25 +36,25 @@ module _ (ms : List Mention) where
   abbrev size_at : List ℕ → ℕ
   size_at n = common_size (state ms n)
 
-  room_more : (n : List ℕ) (ns : List (List ℕ)) → room_of ms (n ∷ ns) ≡ size_at n + room_of ms ns
-  room_more n ns = sum_by-append (λ m. common_size (state ms m)) (n ∷ []) ns ∙ omega arith
+  space_more : (n : List ℕ) (ns : List (List ℕ)) → commons_size ms (n ∷ ns) ≡ size_at n + commons_size ms ns
+  space_more n ns = sum_by-append (λ m. common_size (state ms m)) (n ∷ []) ns ∙ omega arith
 
   -- the room before a name in a list
   abbrev before_in : List (List ℕ) → List ℕ → ℕ
-  before_in ns name = room_of ms (take (place_of name ns) ns)
+  before_in ns name = commons_size ms (take (place_of name ns) ns)
 
   before_next : (n : List ℕ) (ns : List (List ℕ)) (name : List ℕ) → bytes_eq name n ≡ false →
       before_in (n ∷ ns) name ≡ size_at n + before_in ns name
   before_next n ns name e =
-      ap (λ (t : Bool). room_of ms (take (cond t 0 (place_of name ns + 1)) (n ∷ ns))) e
-      ∙ ap (λ (k : ℕ). room_of ms (take k (n ∷ ns))) (add-one (place_of name ns))
-      ∙ room_more n (take (place_of name ns) ns)
+      ap (λ (t : Bool). commons_size ms (take (cond t 0 (place_of name ns + 1)) (n ∷ ns))) e
+      ∙ ap (λ (k : ℕ). commons_size ms (take k (n ∷ ns))) (add-one (place_of name ns))
+      ∙ space_more n (take (place_of name ns) ns)
 
   before_first : (n : List ℕ) (ns : List (List ℕ)) (name : List ℕ) → bytes_eq name n ≡ true → before_in (n ∷ ns) name ≡ 0
-  before_first n ns name e = ap (λ (t : Bool). room_of ms (take (cond t 0 (place_of name ns + 1)) (n ∷ ns))) e
+  before_first n ns name e = ap (λ (t : Bool). commons_size ms (take (cond t 0 (place_of name ns + 1)) (n ∷ ns))) e
 
   -- a name's room lies within the room of all
-  within : (ns : List (List ℕ)) (name : List ℕ) → is_among ns name ≡ true → before_in ns name + size_at name ≤ room_of ms ns
+  within : (ns : List (List ℕ)) (name : List ℕ) → is_among ns name ≡ true → before_in ns name + size_at name ≤ commons_size ms ns
   within [] name h = absurd (cc)
   within (n ∷ ns) name h = by_test (bytes_eq name n) refl h (within ns name)
     where
@@ -65,14 +65,15 @@ module _ (ms : List Mention) where
       next b s c t r all e f g = omega arith
 
       by_test : (t : Bool) → bytes_eq name n ≡ t → (t || is_among ns name) ≡ true →
-          (is_among ns name ≡ true → before_in ns name + size_at name ≤ room_of ms ns) →
-          before_in (n ∷ ns) name + size_at name ≤ room_of ms (n ∷ ns)
+          (is_among ns name ≡ true → before_in ns name + size_at name ≤ commons_size ms ns) →
+          before_in (n ∷ ns) name + size_at name ≤ commons_size ms (n ∷ ns)
       by_test true e h rest =
-          first (before_in (n ∷ ns) name) (size_at n) (size_at name) (room_of ms ns) (room_of ms (n ∷ ns)) (before_first n ns name e)
-          (ap (λ (k : List ℕ). common_size (state ms k)) ((bytes_eq-Decides name n).0 e)) (room_more n ns)
+          first (before_in (n ∷ ns) name) (size_at n) (size_at name) (commons_size ms ns) (commons_size ms (n ∷ ns))
+          (before_first n ns name e)
+          (ap (λ (k : List ℕ). common_size (state ms k)) ((bytes_eq-Decides name n).0 e)) (space_more n ns)
       by_test false e h rest =
-          next (before_in (n ∷ ns) name) (size_at n) (before_in ns name) (size_at name) (room_of ms ns)
-          (room_of ms (n ∷ ns)) (before_next n ns name e) (rest h) (room_more n ns)
+          next (before_in (n ∷ ns) name) (size_at n) (before_in ns name) (size_at name) (commons_size ms ns)
+          (commons_size ms (n ∷ ns)) (before_next n ns name e) (rest h) (space_more n ns)
 
   -- two names' rooms lie apart
   abbrev Apart : List (List ℕ) → List ℕ → List ℕ → Type 0
@@ -152,8 +153,8 @@ module _ (forced : List (List ℕ)) (os : List Contents) (o : Choices) (others :
       (external_row p name).value ≡ p.at.data_end + common_offset ms name
   common_row fits name size c = ap (λ (f : Final). f.written) (common_final name size c) ∙ common_place fits name size c
 
-  room_for : p.at.bss_end ≤ 65535 → (name : List ℕ) (size : ℕ) → IsCommon forced os name size → HasRoom (linked_file p os) os name size
-  room_for fits name size c =
+  space_for : p.at.bss_end ≤ 65535 → (name : List ℕ) (size : ℕ) → IsCommon forced os name size → HasSpace (linked_file p os) os name size
+  space_for fits name size c =
       let start : p.at.data_end ≡ data_start_in (linked_file p os).header + total DataSeg os =
       ap (λ (n : ℕ). n + total DataSeg os) (data_begun o.layout (total TextSeg os)) in
       let rest : (linked_file p os).header.bss_size - total BssSeg os ≡ commons_laid o ms =
@@ -178,10 +179,10 @@ module _ (forced : List (List ℕ)) (os : List Contents) (o : Choices) (others :
       under : (v d a s n r l : ℕ) → v ≡ d + a → d ≡ s → r ≡ l → a + n ≤ l → v + n ≤ s + r
       under v d a s n r l e f g h = omega arith
 
-  rooms_apart : p.at.bss_end ≤ 65535 → (a b : List ℕ) (size more : ℕ) → IsCommon forced os a size →
+  spaces_apart : p.at.bss_end ≤ 65535 → (a b : List ℕ) (size more : ℕ) → IsCommon forced os a size →
       IsCommon forced os b more → bytes_eq a b ≡ false →
       ((external_row p a).value + size ≤ (external_row p b).value) ⊎ ((external_row p b).value + more ≤ (external_row p a).value)
-  rooms_apart fits a b size more c d different =
+  spaces_apart fits a b size more c d different =
       lie (external_row p a).value (external_row p b).value p.at.data_end (common_offset ms a) (common_offset ms b)
       (common_size (state ms a)) (common_size (state ms b))
       (common_row fits a size c) (common_row fits b more d) (ap common_size (state_is ms a (Wanted size) c.wanted))
@@ -194,20 +195,20 @@ module _ (forced : List (List ℕ)) (os : List Contents) (o : Choices) (others :
       lie v w e x y s t f g h k (inr l) = inr (omega arith)
 
 -- each common has its room between data and bss
-pub commons_have_room : (forced : List (List ℕ)) (os : List Contents) (o : Choices) (x : Outcome) → o.keep ≢ Nothing →
+pub commons_have_space : (forced : List (List ℕ)) (os : List Contents) (o : Choices) (x : Outcome) → o.keep ≢ Nothing →
     lays_commons o ≡ true → link forced os o ≡ Ok x →
-    (name : List ℕ) (size : ℕ) → IsCommon forced os name size → HasRoom x.file os name size
-commons_have_room forced os o x others lays linked name size c =
-    subst (λ (f : Contents). HasRoom f os name size) (made_file (plan forced os o) os x linked)
-    (room_for forced os o others lays (made_fits (plan forced os o) os x linked) name size c)
+    (name : List ℕ) (size : ℕ) → IsCommon forced os name size → HasSpace x.file os name size
+commons_have_space forced os o x others lays linked name size c =
+    subst (λ (f : Contents). HasSpace f os name size) (made_file (plan forced os o) os x linked)
+    (space_for forced os o others lays (made_fits (plan forced os o) os x linked) name size c)
 
 -- no two commons share a byte
-pub commons_lie_apart : (forced : List (List ℕ)) (os : List Contents) (o : Choices) (x : Outcome) → o.keep ≢ Nothing →
+pub commons_apart : (forced : List (List ℕ)) (os : List Contents) (o : Choices) (x : Outcome) → o.keep ≢ Nothing →
     lays_commons o ≡ true → link forced os o ≡ Ok x →
     (a b : List ℕ) (size more : ℕ) → IsCommon forced os a size → IsCommon forced os b more → bytes_eq a b ≡ false →
     (p q : Symbol) → entry_of x.file.symbols a ≡ Some p → entry_of x.file.symbols b ≡ Some q →
     (p.value + size ≤ q.value) ⊎ (q.value + more ≤ p.value)
-commons_lie_apart forced os o x others lays linked a b size more c d different r s found there =
+commons_apart forced os o x others lays linked a b size more c d different r s found there =
     let file = made_file (plan forced os o) os x linked in
     let one : external_row (plan forced os o) a ≡ r =
     same a r (sym (entry_there (plan forced os o) os a others (common_known forced os o others lays a size c))
@@ -218,7 +219,7 @@ commons_lie_apart forced os o x others lays linked a b size more c d different r
     subst (λ (u : Symbol). (u.value + size ≤ s.value) ⊎ (s.value + more ≤ u.value)) one
     (subst (λ (u : Symbol). ((external_row (plan forced os o) a).value + size ≤ u.value)
     ⊎ (u.value + more ≤ (external_row (plan forced os o) a).value)) two
-    (rooms_apart forced os o others lays (made_fits (plan forced os o) os x linked) a b size more c d different))
+    (spaces_apart forced os o others lays (made_fits (plan forced os o) os x linked) a b size more c d different))
   where
     same : (n : List ℕ) (t : Symbol) → Some (external_row (plan forced os o) n) ≡ Some t → external_row (plan forced os o) n ≡ t
     same n t e = cc

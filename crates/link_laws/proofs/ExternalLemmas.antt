@@ -115,9 +115,9 @@ names_of_rows p [] = refl
 names_of_rows p (n ∷ ns) = ap (λ (ms : List (List ℕ)). n ∷ ms) (names_of_rows p ns)
 
 -- each external has one row, in order of first mention
-pub entries_stand_once : (forced : List (List ℕ)) (os : List Contents) (o : Choices) (x : Outcome) → o.keep ≢ Nothing →
+pub entries_once : (forced : List (List ℕ)) (os : List Contents) (o : Choices) (x : Outcome) → o.keep ≢ Nothing →
     link forced os o ≡ Ok x → map (λ s. s.name) (filter is_external x.file.symbols) ≡ externals forced os
-entries_stand_once forced os o x others linked =
+entries_once forced os o x others linked =
     subst (λ (f : Contents). map (λ s. s.name) (filter is_external f.symbols) ≡ externals forced os)
     (made_file (plan forced os o) os x linked)
     (ap (λ (rows : List Symbol). map (λ s. s.name) (filter is_external rows))

@@ -19,14 +19,14 @@ use Rattle.link_out.specs.function.Link.{Outcome, link}
 use Rattle.link_out.specs.laws.PartialLinks.{KeepsNoMore, IsPartialLink, IsPart, DefinesNoMultiple}
 use Rattle.link_laws.specs.PartialLinksAmongOthers.{IsGrouped, ungrouped, grouped}
 use Rattle.link_out.proofs.partial_links.PartialLemmas.{partial_file}
-use Rattle.link_out.proofs.partial_links.PartialNames.{HasTable, has_table, told, told_alone}
+use Rattle.link_out.proofs.partial_links.PartialNames.{HasTable, has_table, final_mention, final_alone}
 use Rattle.link_out.proofs.ObjectLemmas.{linked_is_object}
 use Rattle.link_out.proofs.partial_links.SameLinks.{with_multiples}
 use Rattle.link_session.proofs.NeighbourLemmas.{AreAsLong, as_long_append, as_long_self}
 use Rattle.link_out.proofs.partial_links.NeighbourMentions.{partial_as_long, states_same}
 use Rattle.link_session.proofs.AgreementLemmas.{AgreesIn, no_multiples, own_again}
 use Rattle.link_out.proofs.partial_links.PartialAmong.{names_alike, alone_alike, partial_options}
-use Rattle.link_out.proofs.partial_links.PartialMultiples.{stands_among_others, multiples_alike}
+use Rattle.link_out.proofs.partial_links.PartialMultiples.{replaces_among_others, multiples_alike}
 
 -- again
 
@@ -44,12 +44,12 @@ again_the_same forced os by x good p =
     none_alone : HasTable forced os by.keep by.entry → multiple_names (mentions forced (partial_file forced os by.keep by.entry ∷ [])) ≡ []
     none_alone has =
         let M = mentions forced (partial_file forced os by.keep by.entry ∷ []) in
-        let told_all : AllByRecursion (AgreesIn M) (mentions_in [] (partial_file forced os by.keep by.entry)) =
-        subst (λ (ms : List Mention). AllByRecursion (AgreesIn M) ms) (sym (told_alone forced os by.keep by.entry has))
-        (told_agrees (names_by_first_mention (mentions forced os))) in
+        let final_all : AllByRecursion (AgreesIn M) (mentions_in [] (partial_file forced os by.keep by.entry)) =
+        subst (λ (ms : List Mention). AllByRecursion (AgreesIn M) ms) (sym (final_alone forced os by.keep by.entry has))
+        (final_agrees (names_by_first_mention (mentions forced os))) in
         no_multiples M M (all_append (AgreesIn M) (map forced_mention forced)
         (mentions_in [] (partial_file forced os by.keep by.entry) ++ []) (forced_agree forced)
-        (all_append (AgreesIn M) (mentions_in [] (partial_file forced os by.keep by.entry)) [] told_all tt))
+        (all_append (AgreesIn M) (mentions_in [] (partial_file forced os by.keep by.entry)) [] final_all tt))
       where
         forced_agree : (names : List (List ℕ)) →
             AllByRecursion (AgreesIn (mentions forced (partial_file forced os by.keep by.entry ∷ []))) (map forced_mention names)
@@ -62,14 +62,14 @@ again_the_same forced os by x good p =
             ∙ ap definition_by (states_same forced [] os [] by.keep by.entry has n
             ∙ ap (λ (xs : List Contents). state (mentions forced xs) n) (append-nil os))
 
-        told_agrees : (names : List (List ℕ)) →
+        final_agrees : (names : List (List ℕ)) →
             AllByRecursion (AgreesIn (mentions forced (partial_file forced os by.keep by.entry ∷ [])))
-            (map (told (mentions forced os)) names)
-        told_agrees [] = tt
-        told_agrees (n ∷ ns) = (
+            (map (final_mention (mentions forced os)) names)
+        final_agrees [] = tt
+        final_agrees (n ∷ ns) = (
           own_again (state (mentions forced os) n)
               (first_definition (mentions forced (partial_file forced os by.keep by.entry ∷ [])) n) (same_definition n),
-          told_agrees ns,
+          final_agrees ns,
         )
 
 -- grouping
@@ -100,7 +100,7 @@ groups_well forced less os ps good single (grouped own before run after by x g p
               subst (λ (f : Contents). multiple_names (mentions forced (before ++ f ∷ after)) ≡ []) file.0
               (multiples_alike own forced part before run after by.keep by.entry file.1 none ∙ h.single);
           same =
-              λ o e. stands_among_others own forced before run after by o x front.0 rest.0 rest.1 p
+              λ o e. replaces_among_others own forced before run after by o x front.0 rest.0 rest.1 p
               (subst (λ (l : Keep). KeepsNoMore l by.keep) (sym e) k) part none ∙ h.same o e;
         }
 

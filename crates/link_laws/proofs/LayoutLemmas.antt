@@ -48,8 +48,8 @@ less_base a n = omega arith
 less_start : (a n : ℕ) → minus (a + n) a ≡ n % 65536
 less_start a n = omega arith
 
-less_room : (a n c : ℕ) → minus (plus a n) (a + c) ≡ minus n c
-less_room a n c = omega arith
+less_space : (a n c : ℕ) → minus (plus a n) (a + c) ≡ minus n c
+less_space a n c = omega arith
 
 less_moved : (v a s : ℕ) → minus (plus v (plus a s)) a ≡ plus v s
 less_moved v a s = omega arith
@@ -129,8 +129,8 @@ module _ (forced : List (List ℕ)) (os : List Contents) (o : Choices) (layout :
 
   at_common : (n : ℕ) → minus (plus p.at.data_end n) (base_in g bss BssSeg) ≡ minus (plus q.at.data_end n) (base_in h bss BssSeg)
   at_common n =
-      ap (λ (b : ℕ). minus (plus p.at.data_end n) b) bss_p ∙ less_room p.at.data_end n (commons_laid o ms)
-      ∙ sym (ap (λ (b : ℕ). minus (plus q.at.data_end n) b) bss_q ∙ less_room q.at.data_end n (commons_laid o ms))
+      ap (λ (b : ℕ). minus (plus p.at.data_end n) b) bss_p ∙ less_space p.at.data_end n (commons_laid o ms)
+      ∙ sym (ap (λ (b : ℕ). minus (plus q.at.data_end n) b) bss_q ∙ less_space q.at.data_end n (commons_laid o ms))
 
   -- externals
 

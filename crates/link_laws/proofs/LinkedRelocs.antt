@@ -32,7 +32,7 @@ use Rattle.link_out.specs.function.Plans.{Plan, plan, common_offset}
 use Rattle.link_out.specs.function.Finals.{final, final_by, type_of, bound_at, waiting, etext, edata, end_name}
 use Rattle.link_out.specs.function.Tables.{is_kept_local, moved_value, moved_local, local_rows, external_row}
 use Rattle.link_out.specs.function.Tables.{external_rows, row_of, name_bits, referent_bits, final_reloc, final_relocs}
-use Rattle.link_out.specs.function.Tables.{waits_far, is_out_of_reach, has_far_in}
+use Rattle.link_out.specs.function.Tables.{number_too_large, needs_too_large, has_too_large_in}
 use Rattle.link_out.specs.function.Link.{linked_header}
 use Rattle.link_laws.specs.relation.Relocated.{entry_of}
 use Rattle.link_laws.specs.relation.LinkedTable.{moved_value_in, moved_local_in, moved_locals_in}
@@ -103,23 +103,23 @@ bits_same name value (Some TextSeg) h n = refl
 bits_same name value (Some DataSeg) h n = refl
 bits_same name value (Some BssSeg) h n = refl
 
-far_same : (b : Option Segment) → IsPlace b → (n : ℕ) → waits_far b n ≡ (eqb (type_of b % 32) 0 && nat_lt 4095 n)
-far_same None h n = refl
-far_same (Some Undefined) h n = absurd h
-far_same (Some Other) h n = absurd h
-far_same (Some Absolute) h n = refl
-far_same (Some TextSeg) h n = refl
-far_same (Some DataSeg) h n = refl
-far_same (Some BssSeg) h n = refl
+large_same : (b : Option Segment) → IsPlace b → (n : ℕ) → number_too_large b n ≡ (eqb (type_of b % 32) 0 && nat_lt 4095 n)
+large_same None h n = refl
+large_same (Some Undefined) h n = absurd h
+large_same (Some Other) h n = absurd h
+large_same (Some Absolute) h n = refl
+large_same (Some TextSeg) h n = refl
+large_same (Some DataSeg) h n = refl
+large_same (Some BssSeg) h n = refl
 
--- not far means near
-near_of : (z : Bool) (n : ℕ) → (z && nat_lt 4095 n) ≡ false → z ≡ true → n ≤ 4095
-near_of true n h e = ltb-false 4095 n h
-near_of false n h e = absurd (cc)
+-- a number that is not too large fits
+numbered_of : (z : Bool) (n : ℕ) → (z && nat_lt 4095 n) ≡ false → z ≡ true → n ≤ 4095
+numbered_of true n h e = ltb-false 4095 n h
+numbered_of false n h e = absurd (cc)
 
-far_of : (z : Bool) (n : ℕ) → (z ≡ true → n ≤ 4095) → (z && nat_lt 4095 n) ≡ false
-far_of false n h = refl
-far_of true n h = by_test (nat_lt 4095 n) refl (h refl)
+large_of : (z : Bool) (n : ℕ) → (z ≡ true → n ≤ 4095) → (z && nat_lt 4095 n) ≡ false
+large_of false n h = refl
+large_of true n h = by_test (nat_lt 4095 n) refl (h refl)
   where
     by_test : (t : Bool) → nat_lt 4095 n ≡ t → n ≤ 4095 → t ≡ false
     by_test false e l = refl
@@ -152,21 +152,21 @@ module _ (forced : List (List ℕ)) (os : List Contents) (o : Choices) where
 
   bits_by : (k : Contents) (kind : Option Kind) (number n : ℕ) → kind_fault k.symbols n kind number ≡ None →
       RefersAmong (names_of (mentions forced os)) (referent_by k number kind) →
-      is_out_of_reach p os (referent_by k number kind) ≡ false →
+      needs_too_large p os (referent_by k number kind) ≡ false →
       AreBits rows locals k kind number (referent_bits p os (referent_by k number kind))
-  bits_by k None number n h known near = absurd (cc)
-  bits_by k (Some kinds.Absolute) number n h known near = refl
-  bits_by k (Some kinds.TextSeg) number n h known near = refl
-  bits_by k (Some kinds.DataSeg) number n h known near = refl
-  bits_by k (Some kinds.BssSeg) number n h known near = refl
-  bits_by k (Some kinds.External) number n h known near = by_slot (slice_get k.symbols number) refl h known near
+  bits_by k None number n h known numbered = absurd (cc)
+  bits_by k (Some kinds.Absolute) number n h known numbered = refl
+  bits_by k (Some kinds.TextSeg) number n h known numbered = refl
+  bits_by k (Some kinds.DataSeg) number n h known numbered = refl
+  bits_by k (Some kinds.BssSeg) number n h known numbered = refl
+  bits_by k (Some kinds.External) number n h known numbered = by_slot (slice_get k.symbols number) refl h known numbered
     where
       by_slot : (slot : Option Symbol) → slice_get k.symbols number ≡ slot → cond (is_wanted slot) None
           (Some (ObjectFault.BadSymbolNumber n)) ≡ None → is_among (names_of (mentions forced os)) (name_in slot) ≡ true →
-          waits_far (final p (name_in slot)).bound (row_of p os (name_in slot)) ≡ false →
+          number_too_large (final p (name_in slot)).bound (row_of p os (name_in slot)) ≡ false →
           IsNamedBy rows locals k number (name_bits (final p (name_in slot)).bound (row_of p os (name_in slot)))
-      by_slot None e h known near = absurd (cc)
-      by_slot (Some s) e h known near = record {
+      by_slot None e h known numbered = absurd (cc)
+      by_slot (Some s) e h known numbered = record {
         symbol = s;
         row = external_row p s.name;
         named = e;
@@ -174,15 +174,15 @@ module _ (forced : List (List ℕ)) (os : List Contents) (o : Choices) where
         are =
             sym (ap (λ (m : ℕ). row_bits (external_row p s.name) m) (number_same s.name)
             ∙ bits_same s.name (final p s.name).written (final p s.name).bound (placed s.name) (row_of p os s.name));
-        near = λ z. subst (λ (m : ℕ). m ≤ 4095) (sym (number_same s.name))
-            (near_of (eqb (type_of (final p s.name).bound % 32) 0) (row_of p os s.name)
-            (sym (far_same (final p s.name).bound (placed s.name) (row_of p os s.name)) ∙ near) z);
+        numbered = λ z. subst (λ (m : ℕ). m ≤ 4095) (sym (number_same s.name))
+            (numbered_of (eqb (type_of (final p s.name).bound % 32) 0) (row_of p os s.name)
+            (sym (large_same (final p s.name).bound (placed s.name) (row_of p os s.name)) ∙ numbered) z);
       }
 
   -- no other bits, and none that are too large
   bits_are : (k : Contents) (kind : Option Kind) (number bits : ℕ) →
       RefersAmong (names_of (mentions forced os)) (referent_by k number kind) → AreBits rows locals k kind number bits →
-      (bits ≡ referent_bits p os (referent_by k number kind)) × (is_out_of_reach p os (referent_by k number kind) ≡ false)
+      (bits ≡ referent_bits p os (referent_by k number kind)) × (needs_too_large p os (referent_by k number kind) ≡ false)
   bits_are k None number bits known is = absurd is
   bits_are k (Some kinds.Absolute) number bits known is = (is, refl)
   bits_are k (Some kinds.TextSeg) number bits known is = (is, refl)
@@ -196,13 +196,13 @@ module _ (forced : List (List ℕ)) (os : List Contents) (o : Choices) where
       let here : bits ≡ name_bits (final p name).bound (row_of p os name) =
       is.are ∙ (λ i. row_bits (same i) (number_same name i))
       ∙ bits_same name (final p name).written (final p name).bound (placed name) (row_of p os name) in
-      let near : (eqb (type_of (final p name).bound % 32) 0 ≡ true) → row_of p os name ≤ 4095 =
-      λ z. subst (λ (m : ℕ). m ≤ 4095) (number_same name) (is.near (ap (λ (r : Symbol). eqb (r.type_bits % 32) 0) same ∙ z)) in
-      let far : waits_far (final p name).bound (row_of p os name) ≡ false =
-      far_same (final p name).bound (placed name) (row_of p os name)
-      ∙ far_of (eqb (type_of (final p name).bound % 32) 0) (row_of p os name) near in (
+      let numbered : (eqb (type_of (final p name).bound % 32) 0 ≡ true) → row_of p os name ≤ 4095 =
+      λ z. subst (λ (m : ℕ). m ≤ 4095) (number_same name) (is.numbered (ap (λ (r : Symbol). eqb (r.type_bits % 32) 0) same ∙ z)) in
+      let large : number_too_large (final p name).bound (row_of p os name) ≡ false =
+      large_same (final p name).bound (placed name) (row_of p os name)
+      ∙ large_of (eqb (type_of (final p name).bound % 32) 0) (row_of p os name) numbered in (
         here ∙ ap (λ (s : Option Symbol). name_bits (final p (name_in s)).bound (row_of p os (name_in s))) (sym is.named),
-        ap (λ (s : Option Symbol). waits_far (final p (name_in s)).bound (row_of p os (name_in s))) is.named ∙ far,
+        ap (λ (s : Option Symbol). number_too_large (final p (name_in s)).bound (row_of p os (name_in s))) is.named ∙ large,
       )
     where
       inside : (a b : Symbol) → Some a ≡ Some b → a ≡ b
@@ -212,21 +212,21 @@ module _ (forced : List (List ℕ)) (os : List Contents) (o : Choices) where
 
   -- the relocation words of the link are those that the relation allows
   pub kept_by : (file : Contents) (segment : Segment) → HasWords segment → AllByRecursion IsObject os →
-      segment_relocs segment file ≡ final_relocs p os segment → has_far_in p os segment ≡ false →
+      segment_relocs segment file ≡ final_relocs p os segment → has_too_large_in p os segment ≡ false →
       AreKept file rows locals os segment
-  kept_by file segment has good relocs near before k after all i w r ew er =
+  kept_by file segment has good relocs numbered before k after all i w r ew er =
       let word = word_at forced os before k after all good segment i w r ew er in
       record {
         bits = referent_bits p os (referent k r);
         are =
             bits_by k (kind_of r) (symbol_number r) word.number word.fine word.known
-            (none_far segment near before k after all i (w, r) word.stands);
+            (none_large segment numbered before k after all i (w, r) word.is_there);
         word =
             ap (λ (rs : List Reloc). slice_get rs (total segment before / 2 + i)) relocs
             ∙ ap (λ (xs : List Contents). slice_get (blocks (λ earlier c. map (λ wr. final_reloc p os c wr.1) (words_of segment c)) [] xs)
             (total segment before / 2 + i)) all
             ∙ made_found (λ earlier c w r. final_reloc p os c r) segment has before k after
-            (front_objects forced os before k after all good) i w r word.stands;
+            (front_objects forced os before k after all good) i w r word.is_there;
       }
     where
       any_at : {A : Type 0} (t : A → Bool) (xs : List A) (i : ℕ) (x : A) → list_any t xs ≡ false → slice_get xs i ≡ Some x → t x ≡ false
@@ -242,17 +242,17 @@ module _ (forced : List (List ℕ)) (os : List Contents) (o : Choices) where
           rest true v h = absurd (cc)
           rest false v h = h
 
-      none_far : (segment : Segment) → has_far_in p os segment ≡ false →
+      none_large : (segment : Segment) → has_too_large_in p os segment ≡ false →
           (before : List Contents) (k : Contents) (after : List Contents) → os ≡ before ++ k ∷ after →
-          (i : ℕ) (wr : ℕ × Reloc) → slice_get (words_of segment k) i ≡ Some wr → is_out_of_reach p os (referent k wr.1) ≡ false
-      none_far segment h before k after all i wr e =
-          any_at (λ wr. is_out_of_reach p os (referent k wr.1)) (words_of segment k) i wr
-          (either (list_any (λ (c : Contents). list_any (λ wr. is_out_of_reach p os (referent c wr.1)) (words_of segment c)) before)
-          (list_any (λ wr. is_out_of_reach p os (referent k wr.1)) (words_of segment k))
-          (list_any (λ (c : Contents). list_any (λ wr. is_out_of_reach p os (referent c wr.1)) (words_of segment c)) after)
+          (i : ℕ) (wr : ℕ × Reloc) → slice_get (words_of segment k) i ≡ Some wr → needs_too_large p os (referent k wr.1) ≡ false
+      none_large segment h before k after all i wr e =
+          any_at (λ wr. needs_too_large p os (referent k wr.1)) (words_of segment k) i wr
+          (either (list_any (λ (c : Contents). list_any (λ wr. needs_too_large p os (referent c wr.1)) (words_of segment c)) before)
+          (list_any (λ wr. needs_too_large p os (referent k wr.1)) (words_of segment k))
+          (list_any (λ (c : Contents). list_any (λ wr. needs_too_large p os (referent c wr.1)) (words_of segment c)) after)
           (sym (ap (λ (xs : List Contents).
-          list_any (λ (c : Contents). list_any (λ wr. is_out_of_reach p os (referent c wr.1)) (words_of segment c)) xs) all
-          ∙ list_any-append (λ (c : Contents). list_any (λ wr. is_out_of_reach p os (referent c wr.1)) (words_of segment c))
+          list_any (λ (c : Contents). list_any (λ wr. needs_too_large p os (referent c wr.1)) (words_of segment c)) xs) all
+          ∙ list_any-append (λ (c : Contents). list_any (λ wr. needs_too_large p os (referent c wr.1)) (words_of segment c))
           before (k ∷ after)) ∙ h)) e
         where
           either : (a b c : Bool) → (a || (b || c)) ≡ false → b ≡ false
@@ -263,7 +263,7 @@ module _ (forced : List (List ℕ)) (os : List Contents) (o : Choices) where
   -- the relation allows no others, and none whose number is too large
   pub kept_whole : (file : Contents) (segment : Segment) → HasWords segment → AllByRecursion IsObject os →
       2 * length (segment_relocs segment file) ≡ total segment os → AreKept file rows locals os segment →
-      (segment_relocs segment file ≡ final_relocs p os segment) × (has_far_in p os segment ≡ false)
+      (segment_relocs segment file ≡ final_relocs p os segment) × (has_too_large_in p os segment ≡ false)
   kept_whole file segment has good long kept = (
     made_whole (λ earlier c w r. final_reloc p os c r) segment has os good (segment_relocs segment file) long
         (λ before k after all i w r e.
@@ -275,7 +275,7 @@ module _ (forced : List (List ℕ)) (os : List Contents) (o : Choices) where
       facts : (before : List Contents) (k : Contents) (after : List Contents) → os ≡ before ++ k ∷ after →
           (i w : ℕ) (r : Reloc) → slice_get (words_of segment k) i ≡ Some (w, r) →
           (bits : ℕ) × (slice_get (segment_relocs segment file) (total segment before / 2 + i) ≡ Some (record { 0 = r.0 % 2 + bits }))
-          × ((bits ≡ referent_bits p os (referent k r)) × (is_out_of_reach p os (referent k r) ≡ false))
+          × ((bits ≡ referent_bits p os (referent k r)) × (needs_too_large p os (referent k r) ≡ false))
       facts before k after all i w r e =
           let back = words_back segment k i (w, r) e in
           let word = word_at forced os before k after all good segment i w r back.0 back.1 in
@@ -288,9 +288,9 @@ module _ (forced : List (List ℕ)) (os : List Contents) (o : Choices) where
       none_any t (x ∷ xs) h = (λ i. h 0 x refl i || none_any t xs (λ j y e. h (suc j) y e) i)
 
       none_in : (before rest : List Contents) → os ≡ before ++ rest →
-          list_any (λ (c : Contents). list_any (λ wr. is_out_of_reach p os (referent c wr.1)) (words_of segment c)) rest ≡ false
+          list_any (λ (c : Contents). list_any (λ wr. needs_too_large p os (referent c wr.1)) (words_of segment c)) rest ≡ false
       none_in before [] all = refl
       none_in before (k ∷ ks) all =
-          λ j. none_any (λ wr. is_out_of_reach p os (referent k wr.1)) (words_of segment k)
+          λ j. none_any (λ wr. needs_too_large p os (referent k wr.1)) (words_of segment k)
           (λ i wr e. (facts before k ks all i wr.0 wr.1 e).2.1) j
           || none_in (before ++ k ∷ []) ks (all ∙ sym (append_assoc before (k ∷ []) ks)) j

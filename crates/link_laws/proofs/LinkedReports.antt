@@ -102,20 +102,20 @@ other_differs ms m h = by_test (differs (first_definition ms m.name) m.says) ref
 abbrev pub others_of : List Mention → List Mention
 others_of ms = filter (λ m. differs (first_definition ms m.name) m.says) ms
 
-others_told : (ms : List Mention) → AllByRecursion (λ m. differs (first_definition ms m.name) m.says ≡ true → IsOther ms m) ms
-others_told ms =
+others_reported : (ms : List Mention) → AllByRecursion (λ m. differs (first_definition ms m.name) m.says ≡ true → IsOther ms m) ms
+others_reported ms =
     all_map (λ m. first_definition ms m.name ≡ None → definition_by m.says ≡ None)
     (λ m. differs (first_definition ms m.name) m.says ≡ true → IsOther ms m) (λ m known. other_of ms m known) ms (all_known ms)
 
 -- the multiples of the link are those that the relation picks
 pub others_picked : (ms : List Mention) → ArePicked (IsOther ms) ms (others_of ms)
 others_picked ms =
-    picked_by (IsOther ms) (λ m. differs (first_definition ms m.name) m.says) ms (others_told ms) (λ m h. other_differs ms m h)
+    picked_by (IsOther ms) (λ m. differs (first_definition ms m.name) m.says) ms (others_reported ms) (λ m h. other_differs ms m h)
 
 -- the relation picks no others
 pub others_are : (ms others : List Mention) → ArePicked (IsOther ms) ms others → others ≡ others_of ms
 others_are ms others h =
-    picked_is (IsOther ms) (λ m. differs (first_definition ms m.name) m.says) ms others (others_told ms)
+    picked_is (IsOther ms) (λ m. differs (first_definition ms m.name) m.says) ms others (others_reported ms)
     (λ m k. other_differs ms m k) h
 
 -- undefined names
@@ -131,8 +131,8 @@ wanted_none_is : (ms : List Mention) (name : List ℕ) → IsWanted ms name 0 �
 wanted_none_is ms name h = ap is_undefined (state_is ms name (Wanted 0) h)
 
 module _ (ms : List Mention) where
-  reserved_told : (name : List ℕ) → not (is_undefined (state ms name)) ≡ true → IsWanted ms name 0 → ⊥
-  reserved_told name e h = absurd (let bad : false ≡ true = ap not (sym (wanted_none_is ms name h)) ∙ e in cc)
+  reserved_reported : (name : List ℕ) → not (is_undefined (state ms name)) ≡ true → IsWanted ms name 0 → ⊥
+  reserved_reported name e h = absurd (let bad : false ≡ true = ap not (sym (wanted_none_is ms name h)) ∙ e in cc)
 
   reserved_only : (name : List ℕ) → (IsWanted ms name 0 → ⊥) → not (is_undefined (state ms name)) ≡ true
   reserved_only name h = by_test (is_undefined (state ms name)) refl
@@ -145,17 +145,17 @@ module _ (ms : List Mention) where
   pub reserved_picked : ArePicked (λ name. IsWanted ms name 0 → ⊥) reserved_names (reserved_taken ms)
   reserved_picked =
       picked_by (λ name. IsWanted ms name 0 → ⊥) (λ n. not (is_undefined (state ms n))) reserved_names
-      (every (λ n. not (is_undefined (state ms n)) ≡ true → IsWanted ms n 0 → ⊥) reserved_told reserved_names) reserved_only
+      (every (λ n. not (is_undefined (state ms n)) ≡ true → IsWanted ms n 0 → ⊥) reserved_reported reserved_names) reserved_only
 
   -- the relation picks no others
   pub reserved_are : (names : List (List ℕ)) → ArePicked (λ name. IsWanted ms name 0 → ⊥) reserved_names names → names ≡ reserved_taken ms
   reserved_are names h =
       picked_is (λ name. IsWanted ms name 0 → ⊥) (λ n. not (is_undefined (state ms n))) reserved_names names
-      (every (λ n. not (is_undefined (state ms n)) ≡ true → IsWanted ms n 0 → ⊥) reserved_told reserved_names) reserved_only h
+      (every (λ n. not (is_undefined (state ms n)) ≡ true → IsWanted ms n 0 → ⊥) reserved_reported reserved_names) reserved_only h
 
-  undefined_told : (name : List ℕ) → (is_undefined (state ms name) && not (is_among reserved_names name)) ≡ true →
+  undefined_reported : (name : List ℕ) → (is_undefined (state ms name) && not (is_among reserved_names name)) ≡ true →
       IsWanted ms name 0 × (is_among reserved_names name ≡ false)
-  undefined_told name e =
+  undefined_reported name e =
       let parts = and_parts (is_undefined (state ms name)) (not (is_among reserved_names name)) e in
       (is_wanted_none ms name parts.0, turned (is_among reserved_names name) parts.1)
     where
@@ -175,7 +175,7 @@ module _ (ms : List Mention) where
       picked_by (λ name. IsWanted ms name 0 × (is_among reserved_names name ≡ false))
       (λ n. is_undefined (state ms n) && not (is_among reserved_names n)) names
       (every (λ n. (is_undefined (state ms n) && not (is_among reserved_names n)) ≡ true →
-      IsWanted ms n 0 × (is_among reserved_names n ≡ false)) undefined_told names) undefined_only
+      IsWanted ms n 0 × (is_among reserved_names n ≡ false)) undefined_reported names) undefined_only
 
   -- the relation picks no others
   pub undefined_are : (names picked : List (List ℕ)) →
@@ -185,4 +185,4 @@ module _ (ms : List Mention) where
       picked_is (λ name. IsWanted ms name 0 × (is_among reserved_names name ≡ false))
       (λ n. is_undefined (state ms n) && not (is_among reserved_names n)) names picked
       (every (λ n. (is_undefined (state ms n) && not (is_among reserved_names n)) ≡ true →
-      IsWanted ms n 0 × (is_among reserved_names n ≡ false)) undefined_told names) undefined_only h
+      IsWanted ms n 0 × (is_among reserved_names n ≡ false)) undefined_reported names) undefined_only h

@@ -16,9 +16,9 @@ use Rattle.link_out.specs.function.Plans.{Plan, common_size}
 use Rattle.link_out.specs.function.Finals.{Final, final, bound_at, waiting, reserved_or_waiting, etext, edata, end_name}
 use Rattle.link_out.specs.function.Tables.{external_row}
 use Rattle.link_out.specs.function.Finals.{final_at}
-use Rattle.link_out.specs.internal.InOrder.{finals_from, room_in}
+use Rattle.link_out.specs.internal.InOrder.{finals_from, commons_size_in}
 use Rattle.aout_core.specs.Addresses.{data_start_in}
-use Rattle.link_laws.specs.relation.LinkedTable.{undefined_row, row_for, room_for, AreRows}
+use Rattle.link_laws.specs.relation.LinkedTable.{undefined_row, row_for, space_for, AreRows}
 use Rattle.link_out.proofs.partial_links.PartialLemmas.{IsProper}
 use Rattle.link_laws.proofs.ExternalLemmas.{row_at}
 use Rattle.link_out.proofs.InOrderLemmas.{named_by}
@@ -30,14 +30,14 @@ rows_at (n ∷ ns) (f ∷ fs) = row_at n f ∷ rows_at ns fs
 rows_at _ _ = []
 
 -- a header says where the segments lie
-pub record Tells (h : Header) (bss : ℕ) (b : Bases) : Type 0 where
+pub record GivesBases (h : Header) (bss : ℕ) (b : Bases) : Type 0 where
   pub text_end : h.text_size ≡ b.text_end
   pub data_start : data_start_in h ≡ b.data_start
   pub data_end : data_start_in h + h.data_size ≡ b.data_end
   pub bss_start : data_start_in h + h.data_size + (h.bss_size - bss) ≡ b.bss_start
   pub bss_end : data_start_in h + h.data_size + h.bss_size ≡ b.bss_end
 
-module _ (h : Header) (bss : ℕ) (o : Choices) (b : Bases) (tells : Tells h bss b) where
+module _ (h : Header) (bss : ℕ) (o : Choices) (b : Bases) (gives_bases : GivesBases h bss b) where
   undefined_same : (name : List ℕ) → undefined_row h o name ≡ row_at name (cond o.relocatable (waiting 0) (reserved_or_waiting b name))
   undefined_same name = by_tests o.relocatable (bytes_eq name etext) (bytes_eq name edata) (bytes_eq name end_name)
     where
@@ -52,10 +52,11 @@ module _ (h : Header) (bss : ℕ) (o : Choices) (b : Bases) (tells : Tells h bss
           ≡ row_at name (cond r (waiting 0) (cond t (bound_at TextSeg b.text_end)
           (cond d (bound_at DataSeg b.data_end) (cond e (bound_at BssSeg b.bss_end) (waiting 0)))))
       by_tests true t d e = refl
-      by_tests false true d e = ap (λ (n : ℕ). let s : Symbol = record { name = name; type_bits = 34; value = n } in s) tells.text_end
-      by_tests false false true e = ap (λ (n : ℕ). let s : Symbol = record { name = name; type_bits = 35; value = n } in s) tells.data_end
+      by_tests false true d e = ap (λ (n : ℕ). let s : Symbol = record { name = name; type_bits = 34; value = n } in s) gives_bases.text_end
+      by_tests false false true e =
+          ap (λ (n : ℕ). let s : Symbol = record { name = name; type_bits = 35; value = n } in s) gives_bases.data_end
       by_tests false false false true =
-          ap (λ (n : ℕ). let s : Symbol = record { name = name; type_bits = 36; value = n } in s) tells.bss_end
+          ap (λ (n : ℕ). let s : Symbol = record { name = name; type_bits = 36; value = n } in s) gives_bases.bss_end
       by_tests false false false false = refl
 
   -- the row of a name in a state is that of its final name
@@ -66,9 +67,9 @@ module _ (h : Header) (bss : ℕ) (o : Choices) (b : Bases) (tells : Tells h bss
   row_same at offset lies name (Defined Absolute n) p = refl
   row_same at offset lies name (Defined TextSeg n) p = refl
   row_same at offset lies name (Defined DataSeg n) p =
-      ap (λ (s : ℕ). let r : Symbol = record { name = name; type_bits = 35; value = plus s n } in r) tells.data_start
+      ap (λ (s : ℕ). let r : Symbol = record { name = name; type_bits = 35; value = plus s n } in r) gives_bases.data_start
   row_same at offset lies name (Defined BssSeg n) p =
-      ap (λ (s : ℕ). let r : Symbol = record { name = name; type_bits = 36; value = plus s n } in r) tells.bss_start
+      ap (λ (s : ℕ). let r : Symbol = record { name = name; type_bits = 36; value = plus s n } in r) gives_bases.bss_start
   row_same at offset lies name (Wanted size) p = by_tests (eqb size 0) (lays_commons o) lies
     where
       by_tests : (z c : Bool) → (c ≡ true → at ≡ plus b.data_end offset) →
@@ -81,29 +82,29 @@ module _ (h : Header) (bss : ℕ) (o : Choices) (b : Bases) (tells : Tells h bss
       by_tests false false lies = refl
 
 -- the room that commons take
-pub room_laid : (o : Choices) (st : State) → room_for o st ≡ cond (lays_commons o) (common_size st) 0
-room_laid o (Wanted size) = refl
-room_laid o (Defined segment offset) = by_test (lays_commons o)
+pub space_laid : (o : Choices) (st : State) → space_for o st ≡ cond (lays_commons o) (common_size st) 0
+space_laid o (Wanted size) = refl
+space_laid o (Defined segment offset) = by_test (lays_commons o)
   where
     by_test : (c : Bool) → (let none : ℕ = 0 in none) ≡ cond c 0 0
     by_test true = refl
     by_test false = refl
 
 -- where commons lie, as long as they fit
-pub record Lies (o : Choices) (b : Bases) (at offset end rest : ℕ) : Type 0 where
+pub record IsLaid (o : Choices) (b : Bases) (at offset end rest : ℕ) : Type 0 where
   pub here : lays_commons o ≡ true → at ≡ b.data_end + offset
   pub ends : at + cond (lays_commons o) rest 0 ≡ end
 
-lies_at : (o : Choices) (b : Bases) (at offset end rest : ℕ) → Lies o b at offset end rest → end ≤ 65535 →
+laid_at : (o : Choices) (b : Bases) (at offset end rest : ℕ) → IsLaid o b at offset end rest → end ≤ 65535 →
     lays_commons o ≡ true → at ≡ plus b.data_end offset
-lies_at o b at offset end rest l short lays = small at b.data_end offset end (cond (lays_commons o) rest 0) (l.here lays) l.ends short
+laid_at o b at offset end rest l short lays = small at b.data_end offset end (cond (lays_commons o) rest 0) (l.here lays) l.ends short
   where
     small : (a d n e r : ℕ) → a ≡ d + n → a + r ≡ e → e ≤ 65535 → a ≡ (d + n) % 65536
     small a d n e r f g s = omega arith
 
-lies_next : (o : Choices) (b : Bases) (at offset end rest : ℕ) (st : State) →
-    Lies o b at offset end (common_size st + rest) → Lies o b (at + room_for o st) (offset + common_size st) end rest
-lies_next o b at offset end rest st l = by_test (lays_commons o) refl (room_laid o st) l.here l.ends
+laid_next : (o : Choices) (b : Bases) (at offset end rest : ℕ) (st : State) →
+    IsLaid o b at offset end (common_size st + rest) → IsLaid o b (at + space_for o st) (offset + common_size st) end rest
+laid_next o b at offset end rest st l = by_test (lays_commons o) refl (space_laid o st) l.here l.ends
   where
     sum : (a r c d n : ℕ) → r ≡ c → a ≡ d + n → a + r ≡ d + (n + c)
     sum a r c d n e f = omega arith
@@ -111,26 +112,26 @@ lies_next o b at offset end rest st l = by_test (lays_commons o) refl (room_laid
     all : (a r c x e : ℕ) → r ≡ c → a + (c + x) ≡ e → (a + r) + x ≡ e
     all a r c x e f g = omega arith
 
-    by_test : (c : Bool) → lays_commons o ≡ c → room_for o st ≡ cond c (common_size st) 0 →
+    by_test : (c : Bool) → lays_commons o ≡ c → space_for o st ≡ cond c (common_size st) 0 →
         (lays_commons o ≡ true → at ≡ b.data_end + offset) → at + cond (lays_commons o) (common_size st + rest) 0 ≡ end →
-        Lies o b (at + room_for o st) (offset + common_size st) end rest
+        IsLaid o b (at + space_for o st) (offset + common_size st) end rest
     by_test true c r here ends = record {
-      here = λ lays. sum at (room_for o st) (common_size st) b.data_end offset r (here lays);
+      here = λ lays. sum at (space_for o st) (common_size st) b.data_end offset r (here lays);
       ends =
-          ap (λ (t : Bool). (at + room_for o st) + cond t rest 0) c ∙ all at (room_for o st) (common_size st) rest end r
+          ap (λ (t : Bool). (at + space_for o st) + cond t rest 0) c ∙ all at (space_for o st) (common_size st) rest end r
           (sym (ap (λ (t : Bool). at + cond t (common_size st + rest) 0) c) ∙ ends);
     }
     by_test false c r here ends = record {
       here = λ lays. absurd (let bad : true ≡ false = sym lays ∙ c in cc);
       ends =
-          ap (λ (t : Bool). (at + room_for o st) + cond t rest 0) c
-          ∙ all at (room_for o st) 0 0 end r (sym (ap (λ (t : Bool). at + cond t (common_size st + rest) 0) c) ∙ ends);
+          ap (λ (t : Bool). (at + space_for o st) + cond t rest 0) c
+          ∙ all at (space_for o st) 0 0 end r (sym (ap (λ (t : Bool). at + cond t (common_size st + rest) 0) c) ∙ ends);
     }
 
-module _ (h : Header) (bss : ℕ) (o : Choices) (b : Bases) (tells : Tells h bss b) (ms : List Mention)
+module _ (h : Header) (bss : ℕ) (o : Choices) (b : Bases) (gives_bases : GivesBases h bss b) (ms : List Mention)
     (proper : (name : List ℕ) → IsProper (state ms name)) (end : ℕ) (short : end ≤ 65535) where
   -- the rows of names with these commons before them
-  pub are_rows : (names : List (List ℕ)) (at offset : ℕ) → Lies o b at offset end (room_in (named_by ms names)) →
+  pub are_rows : (names : List (List ℕ)) (at offset : ℕ) → IsLaid o b at offset end (commons_size_in (named_by ms names)) →
       AreRows h bss o ms at (rows_at names (finals_from o b offset (named_by ms names))) end
   are_rows [] at offset l = nothing at end (lays_commons o) l.ends
     where
@@ -140,31 +141,32 @@ module _ (h : Header) (bss : ℕ) (o : Choices) (b : Bases) (tells : Tells h bss
   are_rows (n ∷ ns) at offset l = (
     state ms n,
     has_state ms n,
-    sym (row_same h bss o b tells at offset (lies_at o b at offset end (room_in (named_by ms (n ∷ ns))) l short) n (state ms n) (proper n)),
-    are_rows ns (at + room_for o (state ms n)) (offset + common_size (state ms n))
-        (lies_next o b at offset end (room_in (named_by ms ns)) (state ms n) l),
+    sym (row_same h bss o b gives_bases at offset (laid_at o b at offset end (commons_size_in (named_by ms (n ∷ ns))) l short) n
+        (state ms n) (proper n)),
+    are_rows ns (at + space_for o (state ms n)) (offset + common_size (state ms n))
+        (laid_next o b at offset end (commons_size_in (named_by ms ns)) (state ms n) l),
   )
 
   -- and no others
   pub rows_are : (rs : List Symbol) (at offset : ℕ) →
-      Lies o b at offset end (room_in (named_by ms (map (λ s. s.name) rs))) → AreRows h bss o ms at rs end →
+      IsLaid o b at offset end (commons_size_in (named_by ms (map (λ s. s.name) rs))) → AreRows h bss o ms at rs end →
       rs ≡ rows_at (map (λ s. s.name) rs) (finals_from o b offset (named_by ms (map (λ s. s.name) rs)))
   rows_are [] at offset l are = refl
   rows_are (r ∷ rs) at offset l are =
       let st : state ms r.name ≡ are.0 = state_is ms r.name are.0 are.1 in
       let here : r ≡ row_at r.name (final_at o b offset r.name (state ms r.name)) =
-      are.2 ∙ ap (λ (s : State). row_for h bss o at r.name s) (sym st) ∙ row_same h bss o b tells at offset
-      (lies_at o b at offset end (room_in (named_by ms (map (λ s. s.name) (r ∷ rs)))) l short) r.name
+      are.2 ∙ ap (λ (s : State). row_for h bss o at r.name s) (sym st) ∙ row_same h bss o b gives_bases at offset
+      (laid_at o b at offset end (commons_size_in (named_by ms (map (λ s. s.name) (r ∷ rs)))) l short) r.name
       (state ms r.name) (proper r.name) in
-      let rest : AreRows h bss o ms (at + room_for o (state ms r.name)) rs end =
-      subst (λ (s : State). AreRows h bss o ms (at + room_for o s) rs end) (sym st) are.3 in
-      let more = rows_are rs (at + room_for o (state ms r.name)) (offset + common_size (state ms r.name))
-      (lies_next o b at offset end (room_in (named_by ms (map (λ s. s.name) rs))) (state ms r.name) l) rest in
+      let rest : AreRows h bss o ms (at + space_for o (state ms r.name)) rs end =
+      subst (λ (s : State). AreRows h bss o ms (at + space_for o s) rs end) (sym st) are.3 in
+      let more = rows_are rs (at + space_for o (state ms r.name)) (offset + common_size (state ms r.name))
+      (laid_next o b at offset end (commons_size_in (named_by ms (map (λ s. s.name) rs))) (state ms r.name) l) rest in
       λ i. here i ∷ more i
 
 -- rows end after the room of their commons
 pub rows_end : (h : Header) (bss : ℕ) (o : Choices) (ms : List Mention) (rs : List Symbol) (at end : ℕ) →
-    AreRows h bss o ms at rs end → at + cond (lays_commons o) (room_in (named_by ms (map (λ s. s.name) rs))) 0 ≡ end
+    AreRows h bss o ms at rs end → at + cond (lays_commons o) (commons_size_in (named_by ms (map (λ s. s.name) rs))) 0 ≡ end
 rows_end h bss o ms [] at end are = nothing at end (lays_commons o) are
   where
     nothing : (a e : ℕ) (c : Bool) → a ≡ e → a + cond c 0 0 ≡ e
@@ -172,9 +174,9 @@ rows_end h bss o ms [] at end are = nothing at end (lays_commons o) are
     nothing a e false f = omega arith
 rows_end h bss o ms (r ∷ rs) at end are =
     let st : state ms r.name ≡ are.0 = state_is ms r.name are.0 are.1 in
-    let rest = rows_end h bss o ms rs (at + room_for o are.0) end are.3 in
-    both at (room_for o are.0) (common_size (state ms r.name)) (room_in (named_by ms (map (λ s. s.name) rs))) end
-    (lays_commons o) (room_laid o are.0 ∙ ap (λ (s : State). cond (lays_commons o) (common_size s) 0) (sym st)) rest
+    let rest = rows_end h bss o ms rs (at + space_for o are.0) end are.3 in
+    both at (space_for o are.0) (common_size (state ms r.name)) (commons_size_in (named_by ms (map (λ s. s.name) rs))) end
+    (lays_commons o) (space_laid o are.0 ∙ ap (λ (s : State). cond (lays_commons o) (common_size s) 0) (sym st)) rest
   where
     both : (a r c x e : ℕ) (t : Bool) → r ≡ cond t c 0 → (a + r) + cond t x 0 ≡ e → a + cond t (c + x) 0 ≡ e
     both a r c x e true f g = omega arith

@@ -19,10 +19,10 @@ use Rattle.tool_options.specs.Choices.{Choices, lays_commons}
 use Rattle.link_out.specs.Layouts.{data_base}
 use Rattle.link_out.specs.function.Plans.{Plan, plan, commons_laid}
 use Rattle.link_out.specs.function.Tables.{local_rows, external_row, external_rows, rows_kept, table, final_reloc}
-use Rattle.link_out.specs.function.Tables.{final_relocs, has_far_in, has_far_word}
+use Rattle.link_out.specs.function.Tables.{final_relocs, has_too_large_in, has_number_too_large}
 use Rattle.link_out.specs.function.Words.{final_words}
 use Rattle.link_out.specs.function.Reports.{report_of, reserved_names, undefined_names, entry_word, entry_found_bad}
-use Rattle.link_out.specs.internal.InOrder.{finals_from, room_in}
+use Rattle.link_out.specs.internal.InOrder.{finals_from, commons_size_in}
 use Rattle.link_out.specs.function.Link.{Outcome, linked_header, linked_file, link}
 use Rattle.aout_core.specs.Addresses.{data_start_in}
 use Rattle.link_laws.specs.relation.Relocated.{base_in, IsEntry}
@@ -35,11 +35,11 @@ use Rattle.link_out.proofs.partial_links.PartialLemmas.{IsProper, state_is_prope
 use Rattle.link_out.proofs.OutcomeLemmas.{IsMade, made, is_made, not_over}
 use Rattle.link_laws.proofs.MoveLemmas.{data_begun, rest_back}
 use Rattle.link_laws.proofs.ExternalLemmas.{names_of_rows, entry_among}
-use Rattle.link_out.proofs.InOrderLemmas.{named_by, finals-in_order, room-commons}
+use Rattle.link_out.proofs.InOrderLemmas.{named_by, finals-in_order, commons_size-all}
 use Rattle.link_laws.proofs.EntryPointLemmas.{entry_made, entry_once}
 use Rattle.link_laws.proofs.SegmentLemmas.{made_length}
 use Rattle.link_laws.proofs.RelocatedLemmas.{AreThere, relocated_at, relocated_whole, file_filled}
-use Rattle.link_laws.proofs.LinkedRows.{Tells, Lies, are_rows, rows_are, rows_end, rows_at, rows_for_finals}
+use Rattle.link_laws.proofs.LinkedRows.{GivesBases, IsLaid, are_rows, rows_are, rows_end, rows_at, rows_for_finals}
 use Rattle.link_laws.proofs.LinkedRelocs.{locals_same, kept_by, kept_whole}
 use Rattle.link_laws.proofs.LinkedReports.{others_of, others_picked, others_are, reserved_picked, reserved_are}
 use Rattle.link_laws.proofs.LinkedReports.{undefined_picked, undefined_are}
@@ -61,8 +61,8 @@ module _ (forced : List (List ℕ)) (os : List Contents) (o : Choices) where
   abbrev header_with : ℕ → ℕ → Header
   header_with symbol_size entry_point = record (linked_header p os) { symbol_size = symbol_size; entry_point = entry_point }
 
-  tells : (s e : ℕ) → Tells (header_with s e) bss p.at
-  tells s e =
+  gives_bases : (s e : ℕ) → GivesBases (header_with s e) bss p.at
+  gives_bases s e =
       let start : data_start_in (header_with s e) ≡ data_base o.layout (total TextSeg os) = sym (data_begun o.layout (total TextSeg os)) in
       record {
         text_end = refl;
@@ -103,32 +103,34 @@ module _ (forced : List (List ℕ)) (os : List Contents) (o : Choices) where
     abbrev end : ℕ
     end = base_in h bss BssSeg
 
-    told : Tells h bss p.at
-    told = tells (12 * length (table p os)) (entry_word p o.entry)
+    given : GivesBases h bss p.at
+    given = gives_bases (12 * length (table p os)) (entry_word p o.entry)
 
     fits : p.at.bss_end ≤ 65535
     fits = ltb-false 65535 p.at.bss_end m.short
 
     short : end ≤ 65535
-    short = less (data_start_in h + h.data_size) h.bss_size bss p.at.bss_end told.bss_end fits
+    short = less (data_start_in h + h.data_size) h.bss_size bss p.at.bss_end given.bss_end fits
       where
         less : (a b n e : ℕ) → a + b ≡ e → e ≤ 65535 → a + (b - n) ≤ 65535
         less a b n e f g = omega arith
 
-    lies : Lies o p.at at 0 end (room_in (named_by ms names))
+    lies : IsLaid o p.at at 0 end (commons_size_in (named_by ms names))
     lies = record {
-      here = λ lays. told.data_end ∙ omega arith;
-      ends = (λ i. told.data_end i + cond (lays_commons o) (room-commons ms i) 0) ∙ sym told.bss_start;
+      here = λ lays. given.data_end ∙ omega arith;
+      ends = (λ i. given.data_end i + cond (lays_commons o) (commons_size-all ms i) 0) ∙ sym given.bss_start;
     }
 
     shown : AreRows h bss o ms at (external_rows p) end
     shown =
         subst (λ (rs : List Symbol). AreRows h bss o ms at rs end) rows_finals
-        (are_rows h bss o p.at told ms proper end short names at 0 lies)
+        (are_rows h bss o p.at given ms proper end short names at 0 lies)
 
-    -- no word is far where relocation is kept
-    near : o.relocatable ≡ true → (has_far_in p os TextSeg ≡ false) × (has_far_in p os DataSeg ≡ false)
-    near r = either (has_far_in p os TextSeg) (has_far_in p os DataSeg) (ap (λ (t : Bool). t && has_far_word p os) (sym r) ∙ m.near)
+    -- no number is too large where relocation is kept
+    numbered : o.relocatable ≡ true → (has_too_large_in p os TextSeg ≡ false) × (has_too_large_in p os DataSeg ≡ false)
+    numbered r =
+        either (has_too_large_in p os TextSeg) (has_too_large_in p os DataSeg)
+        (ap (λ (t : Bool). t && has_number_too_large p os) (sym r) ∙ m.numbered)
 
     relocs_long : (t : Bool) (rs : List Reloc) (n : ℕ) → 2 * length rs ≡ n → 2 * length (cond t rs []) ≡ cond t n 0
     relocs_long true rs n e = e
@@ -155,7 +157,7 @@ module _ (forced : List (List ℕ)) (os : List Contents) (o : Choices) where
         symbol_size = refl;
         unused = refl;
         flag = refl;
-        short = subst (λ (n : ℕ). n ≤ 65535) (sym told.bss_end) fits;
+        short = subst (λ (n : ℕ). n ≤ 65535) (sym given.bss_end) fits;
         few = ltb-false 5461 (length (table p os)) m.few;
       };
       names = names_of_rows p names;
@@ -175,12 +177,12 @@ module _ (forced : List (List ℕ)) (os : List Contents) (o : Choices) where
           λ r. subst (λ (n : ℕ). AreKept (linked_file p os) (external_rows p) n os TextSeg)
           (ap (λ (ls : List Symbol). length ls) (sym (locals_same forced os o)))
           (kept_by forced os o (linked_file p os) TextSeg tt good
-          (ap (λ (t : Bool). let rs : List Reloc = cond t (final_relocs p os TextSeg) [] in rs) r) (near r).0);
+          (ap (λ (t : Bool). let rs : List Reloc = cond t (final_relocs p os TextSeg) [] in rs) r) (numbered r).0);
       data_kept =
           λ r. subst (λ (n : ℕ). AreKept (linked_file p os) (external_rows p) n os DataSeg)
           (ap (λ (ls : List Symbol). length ls) (sym (locals_same forced os o)))
           (kept_by forced os o (linked_file p os) DataSeg tt good
-          (ap (λ (t : Bool). let rs : List Reloc = cond t (final_relocs p os DataSeg) [] in rs) r) (near r).1);
+          (ap (λ (t : Bool). let rs : List Reloc = cond t (final_relocs p os DataSeg) [] in rs) r) (numbered r).1);
       entry = entry_made p (external_rows p) (entry_among p names) o.entry;
       report = reported;
     }
@@ -194,14 +196,14 @@ module _ (forced : List (List ℕ)) (os : List Contents) (o : Choices) where
     -- the rows' commons and the objects' bytes are bss
     bss_same : g.bss_size ≡ commons_laid o ms + bss
     bss_same =
-        let room : (data_start_in g + g.data_size)
-        + cond (lays_commons o) (room_in (named_by ms (map (λ s. s.name) l.rows))) 0 ≡ base_in g bss BssSeg =
+        let space : (data_start_in g + g.data_size)
+        + cond (lays_commons o) (commons_size_in (named_by ms (map (λ s. s.name) l.rows))) 0 ≡ base_in g bss BssSeg =
         rows_end g bss o ms l.rows (data_start_in g + g.data_size) (base_in g bss BssSeg) l.are_rows in
-        let laid : cond (lays_commons o) (room_in (named_by ms (map (λ s. s.name) l.rows))) 0 ≡ commons_laid o ms =
-        ap (λ (ns : List (List ℕ)). cond (lays_commons o) (room_in (named_by ms ns)) 0) l.names
-        ∙ ap (λ (n : ℕ). cond (lays_commons o) n 0) (room-commons ms) in
-        sums (data_start_in g + g.data_size) (cond (lays_commons o) (room_in (named_by ms (map (λ s. s.name) l.rows))) 0)
-        (commons_laid o ms) g.bss_size bss room laid l.holds.bss
+        let laid : cond (lays_commons o) (commons_size_in (named_by ms (map (λ s. s.name) l.rows))) 0 ≡ commons_laid o ms =
+        ap (λ (ns : List (List ℕ)). cond (lays_commons o) (commons_size_in (named_by ms ns)) 0) l.names
+        ∙ ap (λ (n : ℕ). cond (lays_commons o) n 0) (commons_size-all ms) in
+        sums (data_start_in g + g.data_size) (cond (lays_commons o) (commons_size_in (named_by ms (map (λ s. s.name) l.rows))) 0)
+        (commons_laid o ms) g.bss_size bss space laid l.holds.bss
       where
         sums : (a r c b n : ℕ) → a + r ≡ a + (b - n) → r ≡ c → n ≤ b → b ≡ c + n
         sums a r c b n e f k = omega arith
@@ -218,15 +220,15 @@ module _ (forced : List (List ℕ)) (os : List Contents) (o : Choices) where
       flag = l.header.flag i;
     }
 
-    told_back : Tells g bss p.at
-    told_back = subst (λ (k : Header). Tells k bss p.at) (sym sizes) (tells g.symbol_size g.entry_point)
+    gives_back : GivesBases g bss p.at
+    gives_back = subst (λ (k : Header). GivesBases k bss p.at) (sym sizes) (gives_bases g.symbol_size g.entry_point)
 
     rows_same : l.rows ≡ external_rows p
     rows_same =
-        rows_are g bss o p.at told_back ms proper (base_in g bss BssSeg)
+        rows_are g bss o p.at gives_back ms proper (base_in g bss BssSeg)
         (less (data_start_in g + g.data_size) g.bss_size bss l.header.short) l.rows (data_start_in g + g.data_size) 0
         (record {
-          here = λ lays. told_back.data_end ∙ omega arith;
+          here = λ lays. gives_back.data_end ∙ omega arith;
           ends = rows_end g bss o ms l.rows (data_start_in g + g.data_size) (base_in g bss BssSeg) l.are_rows;
         }) l.are_rows
         ∙ ap (λ (ns : List (List ℕ)). rows_at ns (finals_from o p.at 0 (named_by ms ns))) l.names
@@ -263,7 +265,7 @@ module _ (forced : List (List ℕ)) (os : List Contents) (o : Choices) where
     record AreSame : Type 0 where
       text : x.file.text_reloc ≡ cond o.relocatable (final_relocs p os TextSeg) []
       «data» : x.file.data_reloc ≡ cond o.relocatable (final_relocs p os DataSeg) []
-      near : (o.relocatable && has_far_word p os) ≡ false
+      numbered : (o.relocatable && has_number_too_large p os) ≡ false
 
     relocs_same : AreSame
     relocs_same = by_test o.relocatable refl
@@ -280,7 +282,7 @@ module _ (forced : List (List ℕ)) (os : List Contents) (o : Choices) where
           «data» =
               none x.file.data_reloc (l.data_relocs ∙ ap (λ (t : Bool). cond t (total DataSeg os) 0) e)
               ∙ sym (ap (λ (t : Bool). let rs : List Reloc = cond t (final_relocs p os DataSeg) [] in rs) e);
-          near = ap (λ (t : Bool). t && has_far_word p os) e;
+          numbered = ap (λ (t : Bool). t && has_number_too_large p os) e;
         }
         by_test true e =
             let count : length (moved_locals_in g os o) ≡ length (local_rows p os) = ap (λ (ls : List Symbol). length ls) locals_back in
@@ -294,7 +296,7 @@ module _ (forced : List (List ℕ)) (os : List Contents) (o : Choices) where
             record {
               text = text.0 ∙ sym (ap (λ (t : Bool). let rs : List Reloc = cond t (final_relocs p os TextSeg) [] in rs) e);
               «data» = datas.0 ∙ sym (ap (λ (t : Bool). let rs : List Reloc = cond t (final_relocs p os DataSeg) [] in rs) e);
-              near = λ i. e i && (text.1 i || datas.1 i);
+              numbered = λ i. e i && (text.1 i || datas.1 i);
             }
 
     undefined_same : x.report.undefined ≡ cond o.relocatable [] (undefined_names ms)
@@ -325,9 +327,9 @@ module _ (forced : List (List ℕ)) (os : List Contents) (o : Choices) where
 
     answered : IsMade p os x
     answered = record {
-      short = not_over 65535 p.at.bss_end (subst (λ (n : ℕ). n ≤ 65535) told_back.bss_end l.header.short);
+      short = not_over 65535 p.at.bss_end (subst (λ (n : ℕ). n ≤ 65535) gives_back.bss_end l.header.short);
       few = not_over 5461 (length (table p os)) (subst (λ (ss : List Symbol). length ss ≤ 5461) symbols_same l.header.few);
-      near = relocs_same.near;
+      numbered = relocs_same.numbered;
       outcome = λ i. record { file = file_same i; report = report_same i };
     }
 

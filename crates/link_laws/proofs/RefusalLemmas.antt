@@ -34,18 +34,18 @@ use Rattle.link_out.specs.Layouts.{data_base}
 use Rattle.link_out.specs.function.Plans.{Plan, plan, common_size, common_offset}
 use Rattle.link_out.specs.function.Finals.{final, final_by, bound_at, waiting, reserved_or_waiting}
 use Rattle.link_out.specs.function.Tables.{is_kept_local, rows_kept, moved_local, local_rows, external_row}
-use Rattle.link_out.specs.function.Tables.{external_rows, table, row_of, waits_far, is_out_of_reach, has_far_in}
-use Rattle.link_out.specs.function.Tables.{has_far_word}
+use Rattle.link_out.specs.function.Tables.{external_rows, table, row_of, number_too_large, needs_too_large, has_too_large_in}
+use Rattle.link_out.specs.function.Tables.{has_number_too_large}
 use Rattle.link_out.specs.function.Reports.{report_of}
-use Rattle.link_out.specs.internal.InOrder.{room_in}
+use Rattle.link_out.specs.internal.InOrder.{commons_size_in}
 use Rattle.link_laws.specs.relation.NameStates.{HasState, IsWanted}
-use Rattle.link_laws.specs.relation.LinkedTable.{room_for}
+use Rattle.link_laws.specs.relation.LinkedTable.{space_for}
 use Rattle.link_out.specs.function.Link.{Outcome, linked_file, link}
-use Rattle.link_laws.specs.relation.Refusals.{CommonsTake, EndsAt, kept_locals, entries, entry_count, HasFarWord, IsRefused}
-use Rattle.link_out.proofs.InOrderLemmas.{named_by, room-commons}
+use Rattle.link_laws.specs.relation.Refusals.{CommonsTake, EndsAt, kept_locals, entries, entry_count, HasNumberTooLarge, IsRefused}
+use Rattle.link_out.proofs.InOrderLemmas.{named_by, commons_size-all}
 use Rattle.link_laws.proofs.HasStateLemmas.{has_state, state_is}
 use Rattle.link_laws.proofs.SegmentLemmas.{words_back, word_at}
-use Rattle.link_laws.proofs.LinkedRows.{room_laid}
+use Rattle.link_laws.proofs.LinkedRows.{space_laid}
 use Rattle.link_out.proofs.OutcomeLemmas.{not_over}
 
 -- no two of these are equal
@@ -77,7 +77,7 @@ is_over m n h = by_test (nat_lt m n) refl
 -- commons
 
 commons_take : (o : Choices) (ms : List Mention) (names : List (List ℕ)) →
-    CommonsTake o ms names (cond (lays_commons o) (room_in (named_by ms names)) 0)
+    CommonsTake o ms names (cond (lays_commons o) (commons_size_in (named_by ms names)) 0)
 commons_take o ms [] = nothing (lays_commons o)
   where
     nothing : (c : Bool) → (let none : ℕ = cond c 0 0 in none) ≡ 0
@@ -87,9 +87,9 @@ commons_take o ms (n ∷ ns) = (
   state ms n,
   has_state ms n,
   (
-    cond (lays_commons o) (room_in (named_by ms ns)) 0,
-    both (room_for o (state ms n)) (common_size (state ms n)) (room_in (named_by ms ns)) (lays_commons o)
-        (room_laid o (state ms n)),
+    cond (lays_commons o) (commons_size_in (named_by ms ns)) 0,
+    both (space_for o (state ms n)) (common_size (state ms n)) (commons_size_in (named_by ms ns)) (lays_commons o)
+        (space_laid o (state ms n)),
     commons_take o ms ns,
   ),
 )
@@ -98,17 +98,17 @@ commons_take o ms (n ∷ ns) = (
     both r c x true e = omega arith
     both r c x false e = omega arith
 
-commons_are : (o : Choices) (ms : List Mention) (names : List (List ℕ)) (room : ℕ) → CommonsTake o ms names room →
-    room ≡ cond (lays_commons o) (room_in (named_by ms names)) 0
-commons_are o ms [] room take = take ∙ nothing (lays_commons o)
+commons_are : (o : Choices) (ms : List Mention) (names : List (List ℕ)) (space : ℕ) → CommonsTake o ms names space →
+    space ≡ cond (lays_commons o) (commons_size_in (named_by ms names)) 0
+commons_are o ms [] space take = take ∙ nothing (lays_commons o)
   where
     nothing : (c : Bool) → (let none : ℕ = 0 in none) ≡ cond c 0 0
     nothing true = refl
     nothing false = refl
-commons_are o ms (n ∷ ns) room take =
+commons_are o ms (n ∷ ns) space take =
     let st : state ms n ≡ take.0 = state_is ms n take.0 take.1 in
-    both room (room_for o take.0) (common_size (state ms n)) take.2.0 (room_in (named_by ms ns)) (lays_commons o)
-    take.2.1 (room_laid o take.0 ∙ ap (λ (s : State). cond (lays_commons o) (common_size s) 0) (sym st))
+    both space (space_for o take.0) (common_size (state ms n)) take.2.0 (commons_size_in (named_by ms ns)) (lays_commons o)
+    take.2.1 (space_laid o take.0 ∙ ap (λ (s : State). cond (lays_commons o) (common_size s) 0) (sym st))
     (commons_are o ms ns take.2.0 take.2.2)
   where
     both : (a r c y x : ℕ) (t : Bool) → a ≡ r + y → r ≡ cond t c 0 → y ≡ cond t x 0 → a ≡ cond t (c + x) 0
@@ -162,11 +162,11 @@ module _ (forced : List (List ℕ)) (os : List Contents) (o : Choices) where
 
   ends_here : EndsAt forced os o p.at.bss_end
   ends_here = record {
-    commons = cond (lays_commons o) (room_in (named_by ms names)) 0;
+    commons = cond (lays_commons o) (commons_size_in (named_by ms names)) 0;
     take = commons_take o ms names;
     is =
         ap (λ (n : ℕ). data_base o.layout (total TextSeg os) + total DataSeg os + cond (lays_commons o) n 0 + total BssSeg os)
-        (sym (room-commons ms));
+        (sym (commons_size-all ms));
   }
 
   ends_is : (end : ℕ) → EndsAt forced os o end → end ≡ p.at.bss_end
@@ -175,7 +175,7 @@ module _ (forced : List (List ℕ)) (os : List Contents) (o : Choices) where
       ∙ ap (λ (n : ℕ). data_base o.layout (total TextSeg os) + total DataSeg os + n + total BssSeg os)
       (commons_are o ms names e.commons e.take)
       ∙ ap (λ (n : ℕ). data_base o.layout (total TextSeg os) + total DataSeg os + cond (lays_commons o) n 0 + total BssSeg os)
-      (room-commons ms)
+      (commons_size-all ms)
 
   -- the entries
 
@@ -206,17 +206,17 @@ module _ (forced : List (List ℕ)) (os : List Contents) (o : Choices) where
   number_same : (name : List ℕ) → row_of p os name ≡ length (kept_locals o os) + place_of name (externals forced os)
   number_same name = ap (λ (n : ℕ). n + place_of name names) (locals_long [] os)
 
-  -- far words
+  -- numbers that are too large
 
-  -- a name that waits at a far row is wanted and has no address
-  far_state : (name : List ℕ) (n : ℕ) (st : State) → o.relocatable ≡ true →
-      HasState ms name st → waits_far (final_by p name st).bound n ≡ true →
+  -- a name that waits at a row whose number is too large is wanted and has no address
+  large_state : (name : List ℕ) (n : ℕ) (st : State) → o.relocatable ≡ true →
+      HasState ms name st → number_too_large (final_by p name st).bound n ≡ true →
       (size : ℕ) × IsWanted ms name size × ((size ≡ 0) ⊎ (lays_commons o ≡ false)) × (4095 < n)
-  far_state name n (Defined segment offset) r h e = absurd (false_true e)
-  far_state name n (Wanted size) r h e = by_tests (eqb size 0) refl o.relocatable r (lays_commons o) refl e
+  large_state name n (Defined segment offset) r h e = absurd (false_true e)
+  large_state name n (Wanted size) r h e = by_tests (eqb size 0) refl o.relocatable r (lays_commons o) refl e
     where
       by_tests : (z : Bool) → eqb size 0 ≡ z → (r : Bool) → r ≡ true → (c : Bool) → lays_commons o ≡ c →
-          waits_far (cond z (cond r (waiting 0) (reserved_or_waiting p.at name))
+          number_too_large (cond z (cond r (waiting 0) (reserved_or_waiting p.at name))
           (cond c (bound_at BssSeg (plus p.at.data_end (common_offset ms name))) (waiting size))).bound n ≡ true →
           (size : ℕ) × IsWanted ms name size × ((size ≡ 0) ⊎ (lays_commons o ≡ false)) × (4095 < n)
       by_tests true ze true re c ce e = (size, h, inl (eqb-true size 0 ze), ltb-true 4095 n e)
@@ -224,43 +224,43 @@ module _ (forced : List (List ℕ)) (os : List Contents) (o : Choices) where
       by_tests false ze r re true ce e = absurd (false_true e)
       by_tests false ze r re false ce e = (size, h, inr ce, ltb-true 4095 n e)
 
-  state_far : (name : List ℕ) (n size : ℕ) → o.relocatable ≡ true → IsWanted ms name size →
-      (size ≡ 0) ⊎ (lays_commons o ≡ false) → 4095 < n → waits_far (final p name).bound n ≡ true
-  state_far name n size r h w far =
-      ap (λ (s : State). waits_far (final_by p name s).bound n) (state_is ms name (Wanted size) h)
+  state_large : (name : List ℕ) (n size : ℕ) → o.relocatable ≡ true → IsWanted ms name size →
+      (size ≡ 0) ⊎ (lays_commons o ≡ false) → 4095 < n → number_too_large (final p name).bound n ≡ true
+  state_large name n size r h w large =
+      ap (λ (s : State). number_too_large (final_by p name s).bound n) (state_is ms name (Wanted size) h)
       ∙ by_tests (eqb size 0) refl o.relocatable r (lays_commons o) refl w
     where
       by_tests : (z : Bool) → eqb size 0 ≡ z → (r : Bool) → r ≡ true → (c : Bool) → lays_commons o ≡ c →
           (size ≡ 0) ⊎ (lays_commons o ≡ false) →
-          waits_far (cond z (cond r (waiting 0) (reserved_or_waiting p.at name))
+          number_too_large (cond z (cond r (waiting 0) (reserved_or_waiting p.at name))
           (cond c (bound_at BssSeg (plus p.at.data_end (common_offset ms name))) (waiting size))).bound n ≡ true
-      by_tests true ze true re c ce w = is_over 4095 n far
+      by_tests true ze true re c ce w = is_over 4095 n large
       by_tests true ze false re c ce w = absurd (false_true re)
-      by_tests false ze r re false ce w = is_over 4095 n far
+      by_tests false ze r re false ce w = is_over 4095 n large
       by_tests false ze r re true ce (inl w) = absurd (false_true (sym ze ∙ ap (λ (m : ℕ). eqb m 0) w))
       by_tests false ze r re true ce (inr w) = absurd (false_true (sym w ∙ ce))
 
-  abbrev IsFarIn : Segment → Contents → Bool
-  IsFarIn segment k = list_any (λ wr. is_out_of_reach p os (referent k wr.1)) (words_of segment k)
+  abbrev IsTooLargeIn : Segment → Contents → Bool
+  IsTooLargeIn segment k = list_any (λ wr. needs_too_large p os (referent k wr.1)) (words_of segment k)
 
   record IsFar (k : Contents) (r : Reloc) : Type 0 where
     kind : kind_of r ≡ Some kinds.External
     symbol : Symbol
     named : slice_get k.symbols (symbol_number r) ≡ Some symbol
-    far : waits_far (final p symbol.name).bound (row_of p os symbol.name) ≡ true
+    large : number_too_large (final p symbol.name).bound (row_of p os symbol.name) ≡ true
 
-  is_far : (k : Contents) (r : Reloc) (n : ℕ) → kind_fault k.symbols n (kind_of r) (symbol_number r) ≡ None →
-      is_out_of_reach p os (referent k r) ≡ true → IsFar k r
-  is_far k r n fine e = by_kind (kind_of r) refl fine e
+  target_too_large : (k : Contents) (r : Reloc) (n : ℕ) → kind_fault k.symbols n (kind_of r) (symbol_number r) ≡ None →
+      needs_too_large p os (referent k r) ≡ true → IsFar k r
+  target_too_large k r n fine e = by_kind (kind_of r) refl fine e
     where
       by_slot : kind_of r ≡ Some kinds.External → (slot : Option Symbol) → slice_get k.symbols (symbol_number r) ≡ slot →
           cond (is_wanted slot) None (Some (ObjectFault.BadSymbolNumber n)) ≡ None →
-          waits_far (final p (name_in slot)).bound (row_of p os (name_in slot)) ≡ true → IsFar k r
+          number_too_large (final p (name_in slot)).bound (row_of p os (name_in slot)) ≡ true → IsFar k r
       by_slot ke None se h f = absurd (fault_none _ h)
-      by_slot ke (Some s) se h f = record { kind = ke; symbol = s; named = se; far = f }
+      by_slot ke (Some s) se h f = record { kind = ke; symbol = s; named = se; large = f }
 
       by_kind : (kind : Option Kind) → kind_of r ≡ kind → kind_fault k.symbols n kind (symbol_number r) ≡ None →
-          is_out_of_reach p os (referent_by k (symbol_number r) kind) ≡ true → IsFar k r
+          needs_too_large p os (referent_by k (symbol_number r) kind) ≡ true → IsFar k r
       by_kind None ke h f = absurd (fault_none _ h)
       by_kind (Some kinds.Absolute) ke h f = absurd (false_true f)
       by_kind (Some kinds.TextSeg) ke h f = absurd (false_true f)
@@ -268,15 +268,15 @@ module _ (forced : List (List ℕ)) (os : List Contents) (o : Choices) where
       by_kind (Some kinds.BssSeg) ke h f = absurd (false_true f)
       by_kind (Some kinds.External) ke h f = by_slot ke (slice_get k.symbols (symbol_number r)) refl h f
 
-  far_by : (name : List ℕ) → 4095 < row_of p os name → 4095 < length (kept_locals o os) + place_of name (externals forced os)
-  far_by name far = subst (λ (n : ℕ). 4095 < n) (number_same name) far
+  large_by : (name : List ℕ) → 4095 < row_of p os name → 4095 < length (kept_locals o os) + place_of name (externals forced os)
+  large_by name large = subst (λ (n : ℕ). 4095 < n) (number_same name) large
 
-  far_word : (before : List Contents) (k : Contents) (after : List Contents) → os ≡ before ++ k ∷ after →
+  large_word : (before : List Contents) (k : Contents) (after : List Contents) → os ≡ before ++ k ∷ after →
       (segment : Segment) (i w : ℕ) (r : Reloc) → slice_get (segment_words segment k) i ≡ Some w →
       slice_get (segment_relocs segment k) i ≡ Some r →
       (f : IsFar k r) → (size : ℕ) × IsWanted ms f.symbol.name size × ((size ≡ 0) ⊎ (lays_commons o ≡ false))
-      × (4095 < row_of p os f.symbol.name) → HasFarWord 4095 forced os o
-  far_word before k after all segment i w r word reloc f (size, wanted, waits, far) =
+      × (4095 < row_of p os f.symbol.name) → HasNumberTooLarge 4095 forced os o
+  large_word before k after all segment i w r word reloc f (size, wanted, waits, large) =
       record {
         before = before;
         k = k;
@@ -294,67 +294,68 @@ module _ (forced : List (List ℕ)) (os : List Contents) (o : Choices) where
         size = size;
         wanted = wanted;
         waits = waits;
-        far = far_by f.symbol.name far;
+        large = large_by f.symbol.name large;
       }
 
-  far_in : AllByRecursion IsObject os → o.relocatable ≡ true → (segment : Segment) → has_far_in p os segment ≡ true →
-      HasFarWord 4095 forced os o
-  far_in good rel segment h = by_object (any_split (IsFarIn segment) os h)
+  too_large_in : AllByRecursion IsObject os → o.relocatable ≡ true → (segment : Segment) → has_too_large_in p os segment ≡ true →
+      HasNumberTooLarge 4095 forced os o
+  too_large_in good rel segment h = by_object (any_split (IsTooLargeIn segment) os h)
     where
       by_index : (before : List Contents) (k : Contents) (after : List Contents) → os ≡ before ++ k ∷ after →
           (i : ℕ) × ((wr : ℕ × Reloc) × (slice_get (words_of segment k) i ≡ Some wr)
-          × (is_out_of_reach p os (referent k wr.1) ≡ true)) → HasFarWord 4095 forced os o
+          × (needs_too_large p os (referent k wr.1) ≡ true)) → HasNumberTooLarge 4095 forced os o
       by_index before k after all (i, ((w, r), at, out)) =
           let back = words_back segment k i (w, r) at in
           let word = word_at forced os before k after all good segment i w r back.0 back.1 in
-          let f = is_far k r word.number word.fine out in
-          far_word before k after all segment i w r back.0 back.1 f
-          (far_state f.symbol.name (row_of p os f.symbol.name) (state ms f.symbol.name) rel (has_state ms f.symbol.name) f.far)
+          let f = target_too_large k r word.number word.fine out in
+          large_word before k after all segment i w r back.0 back.1 f
+          (large_state f.symbol.name (row_of p os f.symbol.name) (state ms f.symbol.name) rel (has_state ms f.symbol.name) f.large)
 
       by_object : (before : List Contents)
-          × ((k : Contents) × ((after : List Contents) × (os ≡ before ++ k ∷ after) × (IsFarIn segment k ≡ true))) →
-          HasFarWord 4095 forced os o
-      by_object (before, (k, (after, all, far))) =
-          by_index before k after all (any_index (λ wr. is_out_of_reach p os (referent k wr.1)) (words_of segment k) far)
+          × ((k : Contents) × ((after : List Contents) × (os ≡ before ++ k ∷ after) × (IsTooLargeIn segment k ≡ true))) →
+          HasNumberTooLarge 4095 forced os o
+      by_object (before, (k, (after, all, large))) =
+          by_index before k after all (any_index (λ wr. needs_too_large p os (referent k wr.1)) (words_of segment k) large)
 
-  far_found : AllByRecursion IsObject os → o.relocatable ≡ true → has_far_word p os ≡ true → HasFarWord 4095 forced os o
-  far_found good rel h = by_text (has_far_in p os TextSeg) refl h
+  large_found : AllByRecursion IsObject os → o.relocatable ≡ true → has_number_too_large p os ≡ true → HasNumberTooLarge 4095 forced os o
+  large_found good rel h = by_text (has_too_large_in p os TextSeg) refl h
     where
-      by_text : (t : Bool) → has_far_in p os TextSeg ≡ t → (t || has_far_in p os DataSeg) ≡ true → HasFarWord 4095 forced os o
-      by_text true e h = far_in good rel TextSeg e
-      by_text false e h = far_in good rel DataSeg h
+      by_text : (t : Bool) → has_too_large_in p os TextSeg ≡ t → (t || has_too_large_in p os DataSeg) ≡ true →
+          HasNumberTooLarge 4095 forced os o
+      by_text true e h = too_large_in good rel TextSeg e
+      by_text false e h = too_large_in good rel DataSeg h
 
-  far_back : AllByRecursion IsObject os → o.relocatable ≡ true → HasFarWord 4095 forced os o → has_far_word p os ≡ true
-  far_back good rel f = by_segment f.segment f.word here
+  large_back : AllByRecursion IsObject os → o.relocatable ≡ true → HasNumberTooLarge 4095 forced os o → has_number_too_large p os ≡ true
+  large_back good rel f = by_segment f.segment f.word here
     where
-      reach : is_out_of_reach p os (referent f.k f.r) ≡ true
-      reach =
-          (λ i. is_out_of_reach p os (referent_by f.k (symbol_number f.r) (f.kind i)))
-          ∙ ap (λ (s : Option Symbol). waits_far (final p (name_in s)).bound (row_of p os (name_in s))) f.named
-          ∙ state_far f.symbol.name (row_of p os f.symbol.name) f.size rel f.wanted f.waits
-          (subst (λ (n : ℕ). 4095 < n) (sym (number_same f.symbol.name)) f.far)
+      large : needs_too_large p os (referent f.k f.r) ≡ true
+      large =
+          (λ i. needs_too_large p os (referent_by f.k (symbol_number f.r) (f.kind i)))
+          ∙ ap (λ (s : Option Symbol). number_too_large (final p (name_in s)).bound (row_of p os (name_in s))) f.named
+          ∙ state_large f.symbol.name (row_of p os f.symbol.name) f.size rel f.wanted f.waits
+          (subst (λ (n : ℕ). 4095 < n) (sym (number_same f.symbol.name)) f.large)
 
       or_middle : (a b c : Bool) → b ≡ true → (a || (b || c)) ≡ true
       or_middle true b c h = refl
       or_middle false true c h = refl
       or_middle false false c h = absurd (false_true h)
 
-      here : has_far_in p os f.segment ≡ true
+      here : has_too_large_in p os f.segment ≡ true
       here =
-          ap (λ (xs : List Contents). list_any (IsFarIn f.segment) xs) f.all
-          ∙ list_any-append (IsFarIn f.segment) f.before (f.k ∷ f.after)
-          ∙ or_middle (list_any (IsFarIn f.segment) f.before) (IsFarIn f.segment f.k) (list_any (IsFarIn f.segment) f.after)
-          (any_here (λ wr. is_out_of_reach p os (referent f.k wr.1)) (words_of f.segment f.k) f.i (f.w, f.r)
-          (word_at forced os f.before f.k f.after f.all good f.segment f.i f.w f.r f.word f.reloc).stands reach)
+          ap (λ (xs : List Contents). list_any (IsTooLargeIn f.segment) xs) f.all
+          ∙ list_any-append (IsTooLargeIn f.segment) f.before (f.k ∷ f.after)
+          ∙ or_middle (list_any (IsTooLargeIn f.segment) f.before) (IsTooLargeIn f.segment f.k) (list_any (IsTooLargeIn f.segment) f.after)
+          (any_here (λ wr. needs_too_large p os (referent f.k wr.1)) (words_of f.segment f.k) f.i (f.w, f.r)
+          (word_at forced os f.before f.k f.after f.all good f.segment f.i f.w f.r f.word f.reloc).is_there large)
 
       by_segment : (segment : Segment) → slice_get (segment_words segment f.k) f.i ≡ Some f.w →
-          has_far_in p os segment ≡ true → has_far_word p os ≡ true
+          has_too_large_in p os segment ≡ true → has_number_too_large p os ≡ true
       by_segment Undefined w h = absurd (none_word f.w w)
       by_segment Absolute w h = absurd (none_word f.w w)
       by_segment BssSeg w h = absurd (none_word f.w w)
       by_segment Other w h = absurd (none_word f.w w)
-      by_segment TextSeg w h = ap (λ (t : Bool). t || has_far_in p os DataSeg) h
-      by_segment DataSeg w h = or_right (has_far_in p os TextSeg) (has_far_in p os DataSeg) h
+      by_segment TextSeg w h = ap (λ (t : Bool). t || has_too_large_in p os DataSeg) h
+      by_segment DataSeg w h = or_right (has_too_large_in p os TextSeg) (has_too_large_in p os DataSeg) h
         where
           or_right : (u v : Bool) → v ≡ true → (u || v) ≡ true
           or_right true v h = refl
@@ -369,10 +370,11 @@ module _ (forced : List (List ℕ)) (os : List Contents) (o : Choices) where
 
   refused_by : AllByRecursion IsObject os → (fault : LinkFault) → link forced os o ≡ Err fault → IsRefused forced os o fault
   refused_by good fault h =
-      by_tests (nat_lt 65535 p.at.bss_end) refl (nat_lt 5461 (length (table p os))) refl o.relocatable refl (has_far_word p os) refl h
+      by_tests (nat_lt 65535 p.at.bss_end) refl (nat_lt 5461 (length (table p os))) refl o.relocatable refl
+      (has_number_too_large p os) refl h
     where
       by_tests : (t : Bool) → nat_lt 65535 p.at.bss_end ≡ t → (u : Bool) → nat_lt 5461 (length (table p os)) ≡ u →
-          (r : Bool) → o.relocatable ≡ r → (v : Bool) → has_far_word p os ≡ v → made_by t u (r && v) ≡ Err fault →
+          (r : Bool) → o.relocatable ≡ r → (v : Bool) → has_number_too_large p os ≡ v → made_by t u (r && v) ≡ Err fault →
           IsRefused forced os o fault
       by_tests true te u ue r re v ve h =
           let same : DoesNotFit ≡ fault = same_fault DoesNotFit fault h in
@@ -393,7 +395,7 @@ module _ (forced : List (List ℕ)) (os : List Contents) (o : Choices) where
             ltb-false 65535 p.at.bss_end te,
             subst (λ (n : ℕ). n ≤ 5461) table_long (ltb-false 5461 (length (table p os)) ue),
             re,
-            far_found good re ve,
+            large_found good re ve,
           )
       by_tests false te false ue true re false ve h = absurd (made_refused _ fault h)
       by_tests false te false ue false re v ve h = absurd (made_refused _ fault h)
@@ -404,13 +406,13 @@ module _ (forced : List (List ℕ)) (os : List Contents) (o : Choices) where
   refused_is : AllByRecursion IsObject os → (fault : LinkFault) → IsRefused forced os o fault → link forced os o ≡ Err fault
   refused_is good DoesNotFit h =
       λ i. made_by (is_over 65535 p.at.bss_end (subst (λ (n : ℕ). 65535 < n) (ends_is h.0 h.1) h.2) i)
-      (nat_lt 5461 (length (table p os))) (o.relocatable && has_far_word p os)
+      (nat_lt 5461 (length (table p os))) (o.relocatable && has_number_too_large p os)
   refused_is good TooManySymbols h =
       λ i. made_by (short_by h.0 h.1 h.2 i) (is_over 5461 (length (table p os))
-      (subst (λ (n : ℕ). 5461 < n) (sym table_long) h.3) i) (o.relocatable && has_far_word p os)
+      (subst (λ (n : ℕ). 5461 < n) (sym table_long) h.3) i) (o.relocatable && has_number_too_large p os)
   refused_is good SymbolNumber h =
       λ i. made_by (short_by h.0 h.1 h.2 i) (not_over 5461 (length (table p os))
-      (subst (λ (n : ℕ). n ≤ 5461) (sym table_long) h.3) i) (h.4 i && far_back good h.4 h.5 i)
+      (subst (λ (n : ℕ). n ≤ 5461) (sym table_long) h.3) i) (h.4 i && large_back good h.4 h.5 i)
   refused_is good Memory h = absurd h
 
 -- a link is refused with a fault if and only if the relation of refusals holds of it

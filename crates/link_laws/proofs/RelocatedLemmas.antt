@@ -111,7 +111,7 @@ module _ (forced : List (List ℕ)) (os : List Contents) (o : Choices) where
           ap (λ (ws : List ℕ). slice_get ws (total segment before / 2 + i))
           (words ∙ ap (λ (xs : List Contents). final_words p segment xs) all)
           ∙ made_found (λ earlier o w r. final_word p earlier o segment w r) segment has before k after
-          (front_objects forced os before k after all good) i w r is.stands
+          (front_objects forced os before k after all good) i w r is.is_there
           ∙ ap (λ (n : ℕ). let f : Option ℕ = Some n in f) (sym (word_same segment w r))
           ∙ ap (λ (g : Header). let f : Option ℕ = Some (minus (plus w (referent_move p before k (referent k r)))
           (cond (is_pc_relative r) (move_in g os before k segment) 0)) in f) (sym same);

@@ -59,7 +59,7 @@ entries_say os before k after all done (s ∷ ss) e =
         all = all;
         number = length done + 0;
         symbol = s;
-        stands = ap (λ (xs : List Symbol). slice_get xs (length done + 0)) e ∙ slice_get_after done (s ∷ ss) (length done) 0 refl;
+        is_there = ap (λ (xs : List Symbol). slice_get xs (length done + 0)) e ∙ slice_get_after done (s ∷ ss) (length done) 0 refl;
         outer = te;
         names = refl;
         is = h;
@@ -86,11 +86,11 @@ all_said forced os =
 record IsMentioned (ms : List Mention) (name : List ℕ) : Type 0 where
   m : Mention
   i : ℕ
-  stands : slice_get ms i ≡ Some m
+  is_there : slice_get ms i ≡ Some m
   named : name ≡ m.name
 
 abbrev mentioned_next : (m : Mention) (ms : List Mention) (name : List ℕ) → IsMentioned ms name → IsMentioned (m ∷ ms) name
-mentioned_next m ms name h = record { m = h.m; i = suc h.i; stands = h.stands; named = h.named }
+mentioned_next m ms name h = record { m = h.m; i = suc h.i; is_there = h.is_there; named = h.named }
 
 -- a multiple has a mention that differs from the first definition
 found_multiple : (all ms : List Mention) (name : List ℕ) →
@@ -106,7 +106,7 @@ found_multiple all (m ∷ ms) name h =
         (is_among (map (λ k. k.name) (filter (λ k. differs (first_definition all k.name) k.says) ms)) name ≡ true →
         (h : IsMentioned ms name) × (differs (first_definition all h.m.name) h.m.says ≡ true)) →
         (h : IsMentioned (m ∷ ms) name) × (differs (first_definition all h.m.name) h.m.says ≡ true)
-    by_tests true te true ue h rest = (record { m = m; i = zero; stands = refl; named = (bytes_eq-Decides name m.name).0 ue }, te)
+    by_tests true te true ue h rest = (record { m = m; i = zero; is_there = refl; named = (bytes_eq-Decides name m.name).0 ue }, te)
     by_tests true te false ue h rest =
         let r = rest (sym (ap (λ (b : Bool). b
         || is_among (map (λ k. k.name) (filter (λ k. differs (first_definition all k.name) k.says) ms)) name) ue) ∙ h) in
@@ -127,7 +127,7 @@ found_definition (m ∷ ms) name d f = by_test (bytes_eq name m.name) refl m.say
     by_test true te (Wanted size) se f rest = let r = rest f in (mentioned_next m ms name r.0, r.1)
     by_test true te (Defined segment offset) se f rest =
         let same : (segment, offset) ≡ d = cc in (
-          record { m = m; i = zero; stands = refl; named = (bytes_eq-Decides name m.name).0 te },
+          record { m = m; i = zero; is_there = refl; named = (bytes_eq-Decides name m.name).0 te },
           se ∙ ap (λ (x : Definition). Defined x.0 x.1) same,
         )
 
@@ -139,7 +139,7 @@ module _ (forced : List (List ℕ)) (os : List Contents) (name : List ℕ) where
       IsSaid os name (Defined segment offset)
   said_of h segment offset e =
       subst (λ (n : List ℕ). IsSaid os n (Defined segment offset)) (sym h.named)
-      (all_get (IsMadeIn os) ms h.i h.m (all_said forced os) h.stands segment offset e)
+      (all_get (IsMadeIn os) ms h.i h.m (all_said forced os) h.is_there segment offset e)
 
   two_differ : is_among (multiple_names ms) name ≡ true → HasTwoDefinitions os name
   two_differ h =
@@ -153,7 +153,7 @@ module _ (forced : List (List ℕ)) (os : List Contents) (name : List ℕ) where
           absurd (let bad : false ≡ true = ap (λ (s : State). differs (first_definition ms name) s) (sym se) ∙ e in cc)
       by_first None de h e (Defined segment offset) se =
           absurd (let none : definition_by h.m.says ≡ None = all_get (λ m. bytes_eq name m.name ≡ true → definition_by m.says
-          ≡ None) ms h.i h.m (none_defines ms name de) h.stands ((bytes_eq-Decides name h.m.name).1 h.named) in
+          ≡ None) ms h.i h.m (none_defines ms name de) h.is_there ((bytes_eq-Decides name h.m.name).1 h.named) in
           let bad : Some (segment, offset) ≡ None = ap definition_by (sym se) ∙ none in cc)
       by_first (Some d) de h e (Defined segment offset) se =
           let g = found_definition ms name d de in
@@ -178,7 +178,7 @@ module _ (forced : List (List ℕ)) (os : List Contents) (name : List ℕ) where
       subst (λ (xs : List Contents). AllByRecursion (λ m. bytes_eq name m.name ≡ true → AgreesIn ms m) (mentions forced xs)) s.all agree in
       let fine : differs (first_definition ms s.symbol.name) (statement s.before s.k (segment_of s.symbol) s.symbol.value) ≡ false =
       of_entry (λ m. bytes_eq name m.name ≡ true → AgreesIn ms m) forced s.before s.k s.after here s.number s.symbol
-      s.stands s.outer ((bytes_eq-Decides name s.symbol.name).1 s.names) in
+      s.is_there s.outer ((bytes_eq-Decides name s.symbol.name).1 s.names) in
       agrees_with (first_definition ms name) segment offset
       (ap (λ (n : List ℕ). differs (first_definition ms n) (Defined segment offset)) s.names
       ∙ ap (λ (st : State). differs (first_definition ms s.symbol.name) st) (sym s.is) ∙ fine)

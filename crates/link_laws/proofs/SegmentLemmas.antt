@@ -172,7 +172,7 @@ no_fault symbols n (a ∷ rs) (suc i) r h e =
 
 -- a word of an object with its relocation word, whose kind and number are fine, and whose name is mentioned
 pub record IsWord (forced : List (List ℕ)) (os : List Contents) (k : Contents) (segment : Segment) (i w : ℕ) (r : Reloc) : Type 0 where
-  pub stands : slice_get (words_of segment k) i ≡ Some (w, r)
+  pub is_there : slice_get (words_of segment k) i ≡ Some (w, r)
   pub number : ℕ
   pub fine : word_fault k.symbols number r ≡ None
   pub known : RefersAmong (names_of (mentions forced os)) (referent k r)
@@ -213,12 +213,12 @@ module _ (forced : List (List ℕ)) (os before : List Contents) (k : Contents) (
   word_at BssSeg i w r ew er = absurd (cc)
   word_at Other i w r ew er = absurd (cc)
   word_at TextSeg i w r ew er =
-      let stands = zip_get k.text_words k.text_reloc i w r ew er in
+      let is_there = zip_get k.text_words k.text_reloc i w r ew er in
       let fault = no_fault k.symbols 0 (k.text_reloc ++ k.data_reloc) i r (well_formed_parts k object.well).1
       (get_append k.text_reloc k.data_reloc i r er) in
-      record { stands = stands; number = fault.0; fine = fault.1; known = refers TextSeg i w r stands }
+      record { is_there = is_there; number = fault.0; fine = fault.1; known = refers TextSeg i w r is_there }
   word_at DataSeg i w r ew er =
-      let stands = zip_get k.data_words k.data_reloc i w r ew er in
+      let is_there = zip_get k.data_words k.data_reloc i w r ew er in
       let fault = no_fault k.symbols 0 (k.text_reloc ++ k.data_reloc) (length k.text_reloc + i) r
       (well_formed_parts k object.well).1 (slice_get_after k.text_reloc k.data_reloc (length k.text_reloc) i refl ∙ er) in
-      record { stands = stands; number = fault.0; fine = fault.1; known = refers DataSeg i w r stands }
+      record { is_there = is_there; number = fault.0; fine = fault.1; known = refers DataSeg i w r is_there }

@@ -27,7 +27,7 @@ pub record IsCommon (forced : List (List ℕ)) (os : List Contents) (name : List
   pub sized : eqb size 0 ≡ false
 
 -- a symbol of bss with so many bytes of its own between data and the objects' bss
-pub record HasRoom (file : Contents) (os : List Contents) (name : List ℕ) (size : ℕ) : Type 0 where
+pub record HasSpace (file : Contents) (os : List Contents) (name : List ℕ) (size : ℕ) : Type 0 where
   pub row : Symbol
   pub found : entry_of file.symbols name ≡ Some row
   pub type_bits : row.type_bits ≡ 0o44
@@ -35,14 +35,14 @@ pub record HasRoom (file : Contents) (os : List Contents) (name : List ℕ) (siz
   pub before : row.value + size ≤ base_in file.header (total BssSeg os) BssSeg
 
 -- where commons are laid out, each has room
-abbrev pub CommonsHaveRoom : Type 0
-CommonsHaveRoom =
+abbrev pub CommonsHaveSpace : Type 0
+CommonsHaveSpace =
     (forced : List (List ℕ)) (os : List Contents) (o : Choices) (x : Outcome) → o.keep ≢ Nothing → lays_commons o ≡ true →
-    link forced os o ≡ Ok x → (name : List ℕ) (size : ℕ) → IsCommon forced os name size → HasRoom x.file os name size
+    link forced os o ≡ Ok x → (name : List ℕ) (size : ℕ) → IsCommon forced os name size → HasSpace x.file os name size
 
 -- and no two share any of it
-abbrev pub CommonsLieApart : Type 0
-CommonsLieApart =
+abbrev pub CommonsAreApart : Type 0
+CommonsAreApart =
     (forced : List (List ℕ)) (os : List Contents) (o : Choices) (x : Outcome) → o.keep ≢ Nothing →
     lays_commons o ≡ true → link forced os o ≡ Ok x →
     (a b : List ℕ) (size more : ℕ) → IsCommon forced os a size → IsCommon forced os b more → bytes_eq a b ≡ false →

@@ -11,25 +11,25 @@ use Rattle.link_session.specs.Limits.{limit_passed}
 use Rattle.tool_options.specs.declared.options.Keep.{Keep}
 use Rattle.tool_options.specs.Choices.{Choices}
 use Rattle.link_out.specs.function.Link.{Outcome, link}
-use Rattle.link_out.specs.laws.PartialLinks.{KeepsNoMore, IsPartialLink, without_multiples, IsPart, DefinitionsStand, DefinesNoMultiple}
+use Rattle.link_out.specs.laws.PartialLinks.{KeepsNoMore, IsPartialLink, without_multiples, IsPart, DefinitionsAreKept, DefinesNoMultiple}
 
 -- a partial link whose forced names are forced later too stands for its objects wherever their definitions stand: the same
 -- file or refusal, and reports that differ at most in the multiples
-abbrev pub PartialStandsFor : Type 0
-PartialStandsFor = (own forced : List (List ℕ)) (before os after : List Contents) (by o : Choices) (x : Outcome) →
+abbrev pub PartialReplaces : Type 0
+PartialReplaces = (own forced : List (List ℕ)) (before os after : List Contents) (by o : Choices) (x : Outcome) →
     AllByRecursion IsWellFormed before → AllByRecursion IsWellFormed os → AllByRecursion IsWellFormed after →
-    IsPartialLink own os by x → KeepsNoMore o.keep by.keep → IsPart own forced → DefinitionsStand forced before os after →
+    IsPartialLink own os by x → KeepsNoMore o.keep by.keep → IsPart own forced → DefinitionsAreKept forced before os after →
     without_multiples (link forced (before ++ x.file ∷ after) o) ≡ without_multiples (link forced (before ++ (os ++ after)) o)
 
 -- alone the definitions always stand, so it needs no such premise
-abbrev pub PartialStandsAlways : Type 0
-PartialStandsAlways = (own forced : List (List ℕ)) (os : List Contents) (by o : Choices) (x : Outcome) → AllByRecursion IsWellFormed os →
+abbrev pub PartialAlwaysReplaces : Type 0
+PartialAlwaysReplaces = (own forced : List (List ℕ)) (os : List Contents) (by o : Choices) (x : Outcome) → AllByRecursion IsWellFormed os →
     IsPartialLink own os by x → KeepsNoMore o.keep by.keep → IsPart own forced →
     without_multiples (link forced (x.file ∷ []) o) ≡ without_multiples (link forced os o)
 
 -- whatever is multiply defined by others: the same file and report, or the same refusal
-abbrev pub PartialStandsAmongOthers : Type 0
-PartialStandsAmongOthers = (own forced : List (List ℕ)) (before os after : List Contents) (by o : Choices) (x : Outcome) →
+abbrev pub PartialReplacesAmongOthers : Type 0
+PartialReplacesAmongOthers = (own forced : List (List ℕ)) (before os after : List Contents) (by o : Choices) (x : Outcome) →
     AllByRecursion IsWellFormed before → AllByRecursion IsWellFormed os → AllByRecursion IsWellFormed after →
     IsPartialLink own os by x → KeepsNoMore o.keep by.keep → IsPart own forced → DefinesNoMultiple forced before os after →
     link forced (before ++ x.file ∷ after) o ≡ link forced (before ++ (os ++ after)) o

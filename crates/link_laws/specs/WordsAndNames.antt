@@ -57,7 +57,7 @@ pub record IsSaid (os : List Contents) (name : List ℕ) (says : State) : Type 0
   pub all : os ≡ before ++ k ∷ after
   pub number : ℕ
   pub symbol : Symbol
-  pub stands : slice_get k.symbols number ≡ Some symbol
+  pub is_there : slice_get k.symbols number ≡ Some symbol
   pub outer : is_external symbol ≡ true
   pub names : name ≡ symbol.name
   pub is : statement before k (segment_of symbol) symbol.value ≡ says
@@ -84,6 +84,6 @@ NamesHaveAddresses = (forced : List (List ℕ)) (os : List Contents) (o : Choice
     (name : List ℕ) (row : Symbol) → entry_of x.file.symbols name ≡ Some row → eqb (masked_type row) 0 ≡ false
 
 -- each external name of the objects, and each forced one, has one external symbol and no more
-abbrev pub EntriesStandOnce : Type 0
-EntriesStandOnce = (forced : List (List ℕ)) (os : List Contents) (o : Choices) (x : Outcome) → o.keep ≢ Nothing → link forced os o ≡ Ok x →
+abbrev pub EntriesAreOnce : Type 0
+EntriesAreOnce = (forced : List (List ℕ)) (os : List Contents) (o : Choices) (x : Outcome) → o.keep ≢ Nothing → link forced os o ≡ Ok x →
     map (λ s. s.name) (filter is_external x.file.symbols) ≡ externals forced os

@@ -1,6 +1,6 @@
 //! What a linked file means, over definitions alone. The law is the contract of a function with an empty body.
-ghost use Rattle.link_laws.specs.WordsAndNames.{WordsAreRelocated, ObjectsFill, DefinitionsHold, MultiplesDiffer, NamesHaveAddresses, EntriesStandOnce};
-ghost use Rattle.link_laws.specs.CommonsAndLayouts.{CommonsHaveRoom, CommonsLieApart, EntryIsFound, MissingHaveNoAddress, PartialMayBeAdded, LayoutsDiffer};
+ghost use Rattle.link_laws.specs.WordsAndNames.{WordsAreRelocated, ObjectsFill, DefinitionsHold, MultiplesDiffer, NamesHaveAddresses, EntriesAreOnce};
+ghost use Rattle.link_laws.specs.CommonsAndLayouts.{CommonsHaveSpace, CommonsAreApart, EntryIsFound, MissingHaveNoAddress, PartialMayBeAdded, LayoutsDiffer};
 
 /// What a linked file means, stated over the files that were linked and its own header and symbol table. All clauses that
 /// look something up in the table are about links that keep symbols. (a.out(5), ld(1))
@@ -13,7 +13,7 @@ ghost use Rattle.link_laws.specs.CommonsAndLayouts.{CommonsHaveRoom, CommonsLieA
 /// - `multiples`: a name is reported as multiply defined if and only if the objects have two definitions of it that differ.
 /// - `names`: in a link without `-r`, if no name is reported undefined, each external symbol has an address.
 /// - `once`: each external of the objects, and each forced name, has one external symbol, in order of first mention.
-/// - `room`, `apart`: commons that are laid out are between data and bss, each on bytes of its own.
+/// - `space`, `apart`: commons that are laid out are between data and bss, each on bytes of its own.
 /// - `entry`: if an entry name is given that is an external in text, the entry word is its address. If it is not one, the word is 0,
 ///   and the name is reported. If no name is given, the word is 0.
 /// - `missing`: a name that is reported undefined has a symbol without an address.
@@ -27,9 +27,9 @@ pub fn meaning_law()
     ensures definitions { DefinitionsHold }
     ensures multiples { MultiplesDiffer }
     ensures names { NamesHaveAddresses }
-    ensures once { EntriesStandOnce }
-    ensures room { CommonsHaveRoom }
-    ensures apart { CommonsLieApart }
+    ensures once { EntriesAreOnce }
+    ensures space { CommonsHaveSpace }
+    ensures apart { CommonsAreApart }
     ensures entry { EntryIsFound }
     ensures missing { MissingHaveNoAddress }
     ensures added { PartialMayBeAdded }

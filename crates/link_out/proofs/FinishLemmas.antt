@@ -20,10 +20,10 @@ use Rattle.link_out.specs.Layouts.{Bases}
 use Rattle.link_out.specs.function.Plans.{Plan, commons_laid}
 use Rattle.link_out.specs.function.Words.{final_words}
 use Rattle.link_out.specs.function.Finals.{Final}
-use Rattle.link_out.specs.internal.FromCells.{finals, word_of_cell, reloc_of_cell, is_far}
+use Rattle.link_out.specs.internal.FromCells.{finals, word_of_cell, reloc_of_cell, target_too_large}
 use Rattle.link_out.specs.internal.Headers.{header_of}
 use Rattle.link_out.specs.internal.InOrder.{finals_from}
-use Rattle.link_out.specs.function.Tables.{table, final_relocs, has_far_in}
+use Rattle.link_out.specs.function.Tables.{table, final_relocs, has_too_large_in}
 use Rattle.link_out.specs.function.Reports.{entry_word, report_of}
 use Rattle.link_out.specs.function.Link.{Outcome, linked_header, linked_file, link_by, link}
 use Rattle.link_out.specs.internal.Passes.{IsPassed}
@@ -35,7 +35,7 @@ use Rattle.link_out.specs.declared.linked.LinkFault.{LinkFault}
 use Rattle.link_out.specs.declared.linked.LinkFault.TheVariants.{Memory}
 use Rattle.link_out.proofs.InOrderLemmas.{finals-in_order}
 use Rattle.link_out.proofs.CellWordLemmas.{final_words-cells}
-use Rattle.link_out.proofs.CellRelocLemmas.{final_relocs-cells, has_far_in-cells}
+use Rattle.link_out.proofs.CellRelocLemmas.{final_relocs-cells, has_too_large_in-cells}
 use Rattle.link_out.proofs.ObjectLemmas.{linked_object}
 use Rattle.link_out.proofs.OutcomeLemmas.{passed_link, refused_link}
 
@@ -100,28 +100,28 @@ module _ (p : code.Plan) where
       (λ i. cond o.relocatable (map (reloc_of_cell (named i) (passed.count i)) (image i)) [])
       ∙ ap (λ rs. cond o.relocatable rs []) (final_relocs-cells planned segment os (objects_refer p.session.now.forced segment os well))
 
-  far_planned : (segment : Segment) (names : List Final) (locals : ℕ) (cs : List Cell) → IsPassed planned os locals →
+  large_planned : (segment : Segment) (names : List Final) (locals : ℕ) (cs : List Cell) → IsPassed planned os locals →
       names ≡ finals planned → cs ≡ cells planned.mentions segment os →
-      list_any (λ (c : Cell). is_far names locals c.target) cs ≡ has_far_in planned os segment
-  far_planned segment names locals cs passed named image =
-      (λ i. list_any (λ (c : Cell). is_far (named i) (passed.count i) c.target) (image i))
-      ∙ has_far_in-cells planned segment os (objects_refer p.session.now.forced segment os well)
+      list_any (λ (c : Cell). target_too_large names locals c.target) cs ≡ has_too_large_in planned os segment
+  large_planned segment names locals cs passed named image =
+      (λ i. list_any (λ (c : Cell). target_too_large (named i) (passed.count i) c.target) (image i))
+      ∙ has_too_large_in-cells planned segment os (objects_refer p.session.now.forced segment os well)
 
   -- no word of text waits for a name whose number is too large
-  pub near_text : (names : List Final) (locals : ℕ) (cs : List Cell) → IsPassed planned os locals →
+  pub text_numbered : (names : List Final) (locals : ℕ) (cs : List Cell) → IsPassed planned os locals →
       names ≡ finals planned → cs ≡ cells planned.mentions TextSeg os → o.relocatable ≡ true →
-      list_any (λ (c : Cell). is_far names locals c.target) cs ≡ false
-  near_text names locals cs passed named image kept =
-      far_planned TextSeg names locals cs passed named image
-      ∙ (or_parts (has_far_in planned os TextSeg) (has_far_in planned os DataSeg) (passed.near kept)).0
+      list_any (λ (c : Cell). target_too_large names locals c.target) cs ≡ false
+  text_numbered names locals cs passed named image kept =
+      large_planned TextSeg names locals cs passed named image
+      ∙ (or_parts (has_too_large_in planned os TextSeg) (has_too_large_in planned os DataSeg) (passed.numbered kept)).0
 
   -- the same of data
-  pub near_data : (names : List Final) (locals : ℕ) (cs : List Cell) → IsPassed planned os locals →
+  pub data_numbered : (names : List Final) (locals : ℕ) (cs : List Cell) → IsPassed planned os locals →
       names ≡ finals planned → cs ≡ cells planned.mentions DataSeg os → o.relocatable ≡ true →
-      list_any (λ (c : Cell). is_far names locals c.target) cs ≡ false
-  near_data names locals cs passed named image kept =
-      far_planned DataSeg names locals cs passed named image
-      ∙ (or_parts (has_far_in planned os TextSeg) (has_far_in planned os DataSeg) (passed.near kept)).1
+      list_any (λ (c : Cell). target_too_large names locals c.target) cs ≡ false
+  data_numbered names locals cs passed named image kept =
+      large_planned DataSeg names locals cs passed named image
+      ∙ (or_parts (has_too_large_in planned os TextSeg) (has_too_large_in planned os DataSeg) (passed.numbered kept)).1
 
 -- if the end of bss fits a word, the other ends do
 pub short_ends : (p : code.Plan) → p.bases.bss_end ≤ 65535 → AreShort p.bases

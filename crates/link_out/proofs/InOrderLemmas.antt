@@ -12,26 +12,26 @@ use Rattle.link_session.specs.Mentions.{Mention, names_of, names_by_first_mentio
 use Rattle.link_session.specs.States.{state}
 use Rattle.tool_options.proofs.NameListLemmas.{is_among-append}
 use Rattle.link_session.proofs.UpdateLemmas.{own_name}
-use Rattle.link_out.specs.function.Plans.{Plan, common_size, room_of, commons_total, common_offset}
+use Rattle.link_out.specs.function.Plans.{Plan, common_size, commons_size, commons_total, common_offset}
 use Rattle.link_out.specs.function.Finals.{final}
 use Rattle.link_out.specs.internal.FromCells.{finals}
 use Rattle.link_out.specs.function.Finals.{final_at}
-use Rattle.link_out.specs.internal.InOrder.{finals_from, room_in}
+use Rattle.link_out.specs.internal.InOrder.{finals_from, commons_size_in}
 
 -- names with their states
 abbrev pub named_by : List Mention → List (List ℕ) → Named
 named_by ms names = map {B = List ℕ × State} (λ n. (n, state ms n)) names
 
 -- the room of all names
-room-named : (ms : List Mention) (names : List (List ℕ)) → room_in (named_by ms names) ≡ room_of ms names
-room-named ms [] = refl
-room-named ms (n ∷ ns) =
-    ap (λ (k : ℕ). common_size (state ms n) + k) (room-named ms ns)
+commons_size-named : (ms : List Mention) (names : List (List ℕ)) → commons_size_in (named_by ms names) ≡ commons_size ms names
+commons_size-named ms [] = refl
+commons_size-named ms (n ∷ ns) =
+    ap (λ (k : ℕ). common_size (state ms n) + k) (commons_size-named ms ns)
     ∙ sym (sum_by-append (λ m. common_size (state ms m)) (n ∷ []) ns ∙ omega arith)
 
 -- the space of all commons, name by name
-pub room-commons : (ms : List Mention) → room_in (named_states ms) ≡ commons_total ms
-room-commons ms = room-named ms (names_by_first_mention ms)
+pub commons_size-all : (ms : List Mention) → commons_size_in (named_states ms) ≡ commons_total ms
+commons_size-all ms = commons_size-named ms (names_by_first_mention ms)
 
 -- a name stands after those that it is not among
 place_after : (before after : List (List ℕ)) (name : List ℕ) → is_among before name ≡ false →
@@ -46,15 +46,15 @@ place_after (x ∷ xs) after name h = by_test (bytes_eq name x) h (place_after x
 
 -- the commons before a name are those of the names before it
 offset_after : (ms : List Mention) (before after : List (List ℕ)) (name : List ℕ) → is_among before name ≡ false →
-    before ++ name ∷ after ≡ names_by_first_mention ms → common_offset ms name ≡ room_of ms before
+    before ++ name ∷ after ≡ names_by_first_mention ms → common_offset ms name ≡ commons_size ms before
 offset_after ms before after name new all =
-    ap (λ (names : List (List ℕ)). room_of ms (take (place_of name names) names)) (sym all)
-    ∙ ap (λ (k : ℕ). room_of ms (take k (before ++ name ∷ after))) (place_after before after name new)
-    ∙ ap (λ (names : List (List ℕ)). room_of ms names) (take-append_seam before (name ∷ after))
+    ap (λ (names : List (List ℕ)). commons_size ms (take (place_of name names) names)) (sym all)
+    ∙ ap (λ (k : ℕ). commons_size ms (take k (before ++ name ∷ after))) (place_after before after name new)
+    ∙ ap (λ (names : List (List ℕ)). commons_size ms names) (take-append_seam before (name ∷ after))
 
-room_more : (ms : List Mention) (before : List (List ℕ)) (name : List ℕ) →
-    room_of ms (before ++ name ∷ []) ≡ room_of ms before + common_size (state ms name)
-room_more ms before name = sum_by-append (λ n. common_size (state ms n)) before (name ∷ []) ∙ omega arith
+commons_size_more : (ms : List Mention) (before : List (List ℕ)) (name : List ℕ) →
+    commons_size ms (before ++ name ∷ []) ≡ commons_size ms before + common_size (state ms name)
+commons_size_more ms before name = sum_by-append (λ n. common_size (state ms n)) before (name ∷ []) ∙ omega arith
 
 -- what is not seen is not before
 not_before : (seen before : List (List ℕ)) (name : List ℕ) → (is_among before name ≡ true → is_among seen name ≡ true) →
@@ -77,7 +77,7 @@ or_still a s x h e = let yes = h e in rw yes refl
 finals_new : (p : Plan) (seen before names : List (List ℕ)) →
     ((n : List ℕ) → is_among before n ≡ true → is_among seen n ≡ true) →
     before ++ new_names seen names ≡ names_by_first_mention p.mentions →
-    finals_from p.choices p.at (room_of p.mentions before) (named_by p.mentions (new_names seen names))
+    finals_from p.choices p.at (commons_size p.mentions before) (named_by p.mentions (new_names seen names))
     ≡ map (final p) (new_names seen names)
 finals_new p seen before [] within all = refl
 finals_new p seen before (x ∷ xs) within all =
@@ -92,19 +92,19 @@ finals_new p seen before (x ∷ xs) within all =
 
     by_test : (t : Bool) → is_among seen x ≡ t → before ++ cond t rest (x ∷ rest) ≡ names_by_first_mention p.mentions →
         (before ++ rest ≡ names_by_first_mention p.mentions →
-        finals_from p.choices p.at (room_of p.mentions before) (named_by p.mentions rest) ≡ map (final p) rest) →
+        finals_from p.choices p.at (commons_size p.mentions before) (named_by p.mentions rest) ≡ map (final p) rest) →
         ((before ++ x ∷ []) ++ rest ≡ names_by_first_mention p.mentions →
-        finals_from p.choices p.at (room_of p.mentions (before ++ x ∷ [])) (named_by p.mentions rest) ≡ map (final p) rest) →
-        finals_from p.choices p.at (room_of p.mentions before) (named_by p.mentions (cond t rest (x ∷ rest)))
+        finals_from p.choices p.at (commons_size p.mentions (before ++ x ∷ [])) (named_by p.mentions rest) ≡ map (final p) rest) →
+        finals_from p.choices p.at (commons_size p.mentions before) (named_by p.mentions (cond t rest (x ∷ rest)))
         ≡ map (final p) (cond t rest (x ∷ rest))
     by_test true e all same more = same all
     by_test false e all same more =
         let offset = offset_after p.mentions before rest x (not_before seen before x (within x) e) all in
-        let head : final_at p.choices p.at (room_of p.mentions before) x (state p.mentions x) ≡ final p x =
+        let head : final_at p.choices p.at (commons_size p.mentions before) x (state p.mentions x) ≡ final p x =
         ap (λ (k : ℕ). final_at p.choices p.at k x (state p.mentions x)) (sym offset) in
-        let tail : finals_from p.choices p.at (room_of p.mentions before + common_size (state p.mentions x))
+        let tail : finals_from p.choices p.at (commons_size p.mentions before + common_size (state p.mentions x))
         (named_by p.mentions rest) ≡ map (final p) rest =
-        ap (λ (k : ℕ). finals_from p.choices p.at k (named_by p.mentions rest)) (sym (room_more p.mentions before x))
+        ap (λ (k : ℕ). finals_from p.choices p.at k (named_by p.mentions rest)) (sym (commons_size_more p.mentions before x))
         ∙ more (append_assoc before (x ∷ []) rest ∙ all) in
         λ i. head i ∷ tail i
 

@@ -8,7 +8,7 @@ pub mod OutcomeLemmas
 pub mod ReportLemmas
 pub mod InOrderLemmas
 pub mod RowLemmas
-pub mod ReachLemmas
+pub mod SymbolNumberLemmas
 pub mod ReportNameLemmas
 pub mod FinishLemmas
 pub mod RunLemmas

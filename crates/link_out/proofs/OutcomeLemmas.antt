@@ -6,7 +6,7 @@ use Rattle.aout_core.specs.Contents.{Contents}
 use Rattle.link_out.specs.declared.linked.LinkFault.{LinkFault}
 use Rattle.link_out.specs.declared.linked.LinkFault.TheVariants.{DoesNotFit, TooManySymbols, SymbolNumber, Memory}
 use Rattle.link_out.specs.function.Plans.{Plan}
-use Rattle.link_out.specs.function.Tables.{table, has_far_word}
+use Rattle.link_out.specs.function.Tables.{table, has_number_too_large}
 use Rattle.link_out.specs.function.Reports.{report_of}
 use Rattle.link_out.specs.function.Link.{Outcome, linked_file, link_by}
 use Rattle.link_out.specs.internal.Passes.{IsPassed}
@@ -16,31 +16,31 @@ use Rattle.link_out.specs.Outcomes.{IsLinkOf}
 pub record IsMade (p : Plan) (os : List Contents) (x : Outcome) : Type 0 where
   pub short : nat_lt 65535 p.at.bss_end ≡ false
   pub few : nat_lt 5461 (length (table p os)) ≡ false
-  pub near : p.choices.relocatable && has_far_word p os ≡ false
+  pub numbered : p.choices.relocatable && has_number_too_large p os ≡ false
   pub outcome : (let y : Outcome = record { file = linked_file p os; report = report_of p } in y) ≡ x
 
 -- what a link that is made has passed, and what it gives
 pub made : (p : Plan) (os : List Contents) (x : Outcome) → link_by p os ≡ Ok x → IsMade p os x
 made p os x h =
     by_tests (nat_lt 65535 p.at.bss_end) refl (nat_lt 5461 (length (table p os))) refl
-    (p.choices.relocatable && has_far_word p os) refl h
+    (p.choices.relocatable && has_number_too_large p os) refl h
   where
     by_tests : (t : Bool) → nat_lt 65535 p.at.bss_end ≡ t → (u : Bool) → nat_lt 5461 (length (table p os)) ≡ u →
-        (v : Bool) → p.choices.relocatable && has_far_word p os ≡ v →
+        (v : Bool) → p.choices.relocatable && has_number_too_large p os ≡ v →
         (let r : Result Outcome LinkFault = cond t (Err DoesNotFit) (cond u (Err TooManySymbols)
         (cond v (Err SymbolNumber) (Ok (record { file = linked_file p os; report = report_of p })))) in r) ≡ Ok x →
         IsMade p os x
     by_tests true te u ue v ve h = absurd (cc)
     by_tests false te true ue v ve h = absurd (cc)
     by_tests false te false ue true ve h = absurd (cc)
-    by_tests false te false ue false ve h = record { short = te; few = ue; near = ve; outcome = cc }
+    by_tests false te false ue false ve h = record { short = te; few = ue; numbered = ve; outcome = cc }
 
 -- the other way round
 pub is_made : (p : Plan) (os : List Contents) (x : Outcome) → IsMade p os x → link_by p os ≡ Ok x
 is_made p os x m =
     λ i. let r : Result Outcome LinkFault =
     cond (m.short i) (Err DoesNotFit)
-    (cond (m.few i) (Err TooManySymbols) (cond (m.near i) (Err SymbolNumber) (Ok (m.outcome i)))) in r
+    (cond (m.few i) (Err TooManySymbols) (cond (m.numbered i) (Err SymbolNumber) (Ok (m.outcome i)))) in r
 
 -- its file
 pub made_file : (p : Plan) (os : List Contents) (x : Outcome) → link_by p os ≡ Ok x → linked_file p os ≡ x.file
@@ -70,19 +70,19 @@ passed_link p os locals h =
     (record {
       short = not_over 65535 p.at.bss_end h.short;
       few = not_over 5461 (length (table p os)) h.few;
-      near = near p.choices.relocatable h.near;
+      numbered = numbered p.choices.relocatable h.numbered;
       outcome = refl;
     })
   where
-    near : (r : Bool) → (r ≡ true → has_far_word p os ≡ false) → r && has_far_word p os ≡ false
-    near true h = h refl
-    near false h = refl
+    numbered : (r : Bool) → (r ≡ true → has_number_too_large p os ≡ false) → r && has_number_too_large p os ≡ false
+    numbered true h = h refl
+    numbered false h = refl
 
 -- a link is not refused for want of memory
 never_memory : (p : Plan) (os : List Contents) → link_by p os ≡ Err Memory → ⊥
 never_memory p os =
     by_tests (record { file = linked_file p os; report = report_of p })
-    (nat_lt 65535 p.at.bss_end) (nat_lt 5461 (length (table p os))) (p.choices.relocatable && has_far_word p os)
+    (nat_lt 65535 p.at.bss_end) (nat_lt 5461 (length (table p os))) (p.choices.relocatable && has_number_too_large p os)
   where
     by_tests : (x : Outcome) (t u v : Bool) →
         (let r : Result Outcome LinkFault = cond t (Err DoesNotFit) (cond u (Err TooManySymbols) (cond v (Err SymbolNumber) (Ok x))) in r)

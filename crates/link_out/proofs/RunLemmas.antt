@@ -152,10 +152,10 @@ one_more_done old new last edits edit replies next h one =
           ∙ (λ i. kept_after (h.forced i) (h.kept i) (change_of edit))
           ∙ sym (survivors-one_more old.forced old.entries cs (change_of edit))
           ∙ ap (survivors_from old.forced old.entries) (sym more);
-      told = h.told ++ one.reply ∷ [];
-      lists = one.put h.told h.lists;
+      noted = h.noted ++ one.reply ∷ [];
+      lists = one.put h.noted h.lists;
       answers =
-          map-append answer_of h.told (one.reply ∷ [])
+          map-append answer_of h.noted (one.reply ∷ [])
           ∙ (λ i. h.answers i ++ one.done.answer i ∷ [])
           ∙ (λ i. answers_from old.forced old.entries cs ++ answer_to (h.forced i) (h.kept i) (change_of edit) ∷ [])
           ∙ sym (answers-one_more old.forced old.entries cs (change_of edit))
@@ -177,7 +177,7 @@ module _ (old new : Kept) (cs : List Change) (o : Choices) (replies : Option (Ve
       by_link : (r : Result (Vec Reply Global × Linked) RunFault) (x : Result Outcome LinkFault) →
           IsLinkedWith replies x r → IsRunOf r (answers_from old.forced old.entries cs) x
       by_link (Ok run) x (is, made) =
-          (ap (map answer_of) (subst (λ (rs : Option (Vec Reply Global)). Lists rs done.told) is done.lists) ∙ done.answers, made)
+          (ap (map answer_of) (subst (λ (rs : Option (Vec Reply Global)). Lists rs done.noted) is done.lists) ∙ done.answers, made)
       by_link (Err faults.Memory) x h = tt
       by_link (Err (faults.Link links.Memory)) x h = h
       by_link (Err (faults.Link links.DoesNotFit)) x h = h

@@ -6,7 +6,7 @@ pub mod InOrder
 pub mod OneProof
 pub mod Passes
 pub mod Planned
-pub mod Reach
+pub mod SymbolNumbers
 pub mod Rows
 pub mod Replies
 pub mod ReportParts

@@ -1,6 +1,6 @@
 //! Laws of linking, over its definitions alone: each is the contract of a function with an empty body.
 ghost use Rattle.link_out.specs.laws.Stripping.{StripLaw, StripsOnce};
-ghost use Rattle.link_out.specs.laws.PartialLinks.{PartialIsObject, PartialStandsAlone, PartialStandsAmong};
+ghost use Rattle.link_out.specs.laws.PartialLinks.{PartialIsObject, PartialReplacesAlone, PartialReplacesAmong};
 
 /// Stripping and linking go together: wherever a link without relocation gives a file, that file stripped is what the
 /// link gives that keeps no symbols, and the reports are the same; and stripping twice is stripping once. (strip(1))
@@ -15,6 +15,6 @@ pub fn strip_law()
 /// The file of any link with `-r` is an object. (ld(1), the options `-r` and `-d`)
 pub fn partial_law()
     ensures object { PartialIsObject }
-    ensures alone { PartialStandsAlone }
-    ensures among { PartialStandsAmong }
+    ensures alone { PartialReplacesAlone }
+    ensures among { PartialReplacesAmong }
 {}

@@ -8,7 +8,7 @@ ghost use Rattle.link_session.specs.Undo.{image_of};
 ghost use Rattle.aout_core.specs.declared.symbol.Segment.TheVariants.{TextSeg, DataSeg};
 ghost use Rattle.link_out.specs.Layouts.{bases, data_base};
 ghost use Rattle.link_out.specs.function.Plans.{common_size, commons_laid, plan_of};
-ghost use Rattle.link_out.specs.internal.InOrder.{mentions_of, room_in};
+ghost use Rattle.link_out.specs.internal.InOrder.{mentions_of, commons_size_in};
 
 use aout_core::next_boundary;
 use link_session::{Session, State};
@@ -84,7 +84,7 @@ pub(crate) fn common_size(state: State) -> u64
 
 /// The bytes of all commons of a session.
 fn commons_total(session: &Session) -> u64
-    ensures value { result ≡ room_in (image_of session.now).externals }
+    ensures value { result ≡ commons_size_in (image_of session.now).externals }
     ensures small { result ≤ 65535 * 65536 }
 {
     let mut total = 0;

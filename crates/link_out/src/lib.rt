@@ -42,11 +42,11 @@ mod layout;
 mod linked;
 mod linker;
 mod plan;
-mod reach;
 mod relocs;
 mod report;
 mod reserved_names;
 mod runner;
+mod symbol_numbers;
 mod table;
 mod words;
 

@@ -14,9 +14,9 @@ use crate::finals::{Final, finals_of};
 use crate::kept_symbols::locals_within;
 use crate::linked::{LinkFault, Linked};
 use crate::plan::Plan;
-use crate::reach::has_far_word;
 use crate::relocs::{Relocs, relocs_of};
 use crate::report::{entry_point, report_of};
+use crate::symbol_numbers::has_number_too_large;
 use crate::table::table;
 use crate::words::{Words, words_of};
 use aout_core::{File, Parts, Symbol};
@@ -42,7 +42,7 @@ pub fn finish(alloc: Global, session: &Session, options: &Options) -> Result<Lin
     // the layout: where each segment begins, with the commons before bss
     let plan = Plan::of(session, options);
     // first, so that no refusal depends on memory, and each address and number below fits its bits
-    let locals = limits_passed(&plan)?;
+    let locals = check_limits(&plan)?;
     // the address of each external, if it has one: of its definition, of its common, or of a reserved name such as `_end`
     let finals = finals_of(alloc, &plan)?;
     let words = words_of(alloc, &plan, &finals)?;
@@ -56,9 +56,9 @@ pub fn finish(alloc: Global, session: &Session, options: &Options) -> Result<Lin
     Ok(Linked { file, report })
 }
 
-/// Checks the limits of the format: the first fault, or how many locals the table has if no limit is exceeded. With `-r`
-/// the latter is also the number of the first external. This takes no memory.
-fn limits_passed(plan: &Plan<'_>) -> Result<u16, LinkFault>
+/// Refuses a link that exceeds a limit of the format, with the first fault. If none is exceeded, this gives how many locals
+/// the table has; with `-r` that is also the number of the first external. This takes no memory.
+fn check_limits(plan: &Plan<'_>) -> Result<u16, LinkFault>
     ensures passed { IfOk result (IsPassed (plan_in plan.now) (objects_in plan.now)) }
     ensures short { IfOk result (λ _. plan.now.bases.bss_end ≤ 65535) }
     ensures refused { IfErr result (λ fault. link_in plan.now ≡ Err fault) }
@@ -69,8 +69,8 @@ fn limits_passed(plan: &Plan<'_>) -> Result<u16, LinkFault>
     let Some(locals) = locals_within(plan) else {
         return Err(LinkFault::TooManySymbols);
     };
-    // far: its symbol has a number that does not fit the 12 bits of a relocation word
-    if plan.options.is_relocatable() && has_far_word(plan, locals) {
+    // a relocation word has 12 bits for the number of a symbol
+    if plan.options.is_relocatable() && has_number_too_large(plan, locals) {
         return Err(LinkFault::SymbolNumber);
     }
     Ok(locals)

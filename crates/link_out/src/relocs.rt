@@ -1,8 +1,8 @@
 //! The relocation words of a linked file, from the cells of the merged image.
 ghost use Rattle.std.specs.Prelude.{◌≡◌, ◌≤◌, map, slice_get, IfOk, true, false};
-ghost use Rattle.link_out.specs.function.Tables.{name_bits, segment_bits, waits_far};
+ghost use Rattle.link_out.specs.function.Tables.{name_bits, segment_bits, number_too_large};
 ghost use Rattle.link_out.specs.internal.FromCells as from_cells;
-ghost use Rattle.link_out.specs.internal.FromCells.{bound_of, is_far, is_any_far, kept_relocs, reloc_of_cell, target_bits};
+ghost use Rattle.link_out.specs.internal.FromCells.{bound_of, target_too_large, any_too_large, kept_relocs, reloc_of_cell, target_bits};
 ghost use Rattle.link_out.specs.internal.Passes.{IsPassed};
 ghost use Rattle.link_out.specs.internal.Planned.{plan_in, objects_in, AreRelocs};
 
@@ -27,8 +27,8 @@ fn bound_of(finals: &[Final], index: u16) -> Option<Segment>
 }
 
 /// Whether a name is not bound, and its number in the table too large for a relocation word.
-pub(crate) fn waits_far(bound: Option<Segment>, row: u32) -> bool
-    ensures { result ≡ waits_far bound row }
+pub(crate) fn number_too_large(bound: Option<Segment>, row: u32) -> bool
+    ensures { result ≡ number_too_large bound row }
 {
     match bound {
         Some(_) => false,
@@ -51,7 +51,7 @@ fn segment_bits(segment: Segment) -> u16
 
 /// The bits of a name in a relocation word: those of its segment, or 010 and its number in the table.
 fn name_bits(bound: Option<Segment>, row: u32) -> u16
-    requires { waits_far bound row ≡ false }
+    requires { number_too_large bound row ≡ false }
     ensures value { result ≡ name_bits bound row }
     ensures small { result ≤ 65528 }
 {
@@ -63,7 +63,7 @@ fn name_bits(bound: Option<Segment>, row: u32) -> u16
 
 /// The bits of what a cell refers to; `locals` rows come before the externals.
 fn target_bits(finals: &[Final], locals: u16, target: Target) -> u16
-    requires { is_far finals.now locals target ≡ false }
+    requires { target_too_large finals.now locals target ≡ false }
     ensures value { result ≡ target_bits finals.now locals target }
     ensures small { result ≤ 65528 }
 {
@@ -80,7 +80,7 @@ fn target_bits(finals: &[Final], locals: u16, target: Target) -> u16
 
 /// The relocation word of a cell; `locals` rows come before the externals.
 fn reloc_of_cell(finals: &[Final], locals: u16, cell: Cell) -> Reloc
-    requires { is_far finals.now locals cell.target ≡ false }
+    requires { target_too_large finals.now locals cell.target ≡ false }
     ensures { result ≡ reloc_of_cell finals.now locals cell }
 {
     let pc = if cell.pc { 1 } else { 0 };
@@ -95,7 +95,7 @@ fn relocs_of_cells(
     finals: &[Final],
     locals: u16,
 ) -> Result<Vec<Reloc>, AllocError>
-    requires { is_any_far finals.now locals cells.now ≡ false }
+    requires { any_too_large finals.now locals cells.now ≡ false }
     ensures { IfOk result (λ relocs. relocs.items ≡ map (reloc_of_cell finals.now locals) cells.now) }
 {
     let mut relocs = Vec::with_capacity(alloc, cells.len())?;
@@ -113,7 +113,7 @@ fn kept_relocs(
     finals: &[Final],
     locals: u16,
 ) -> Result<Vec<Reloc>, AllocError>
-    requires { options.now.relocatable ≡ true → is_any_far finals.now locals cells.now ≡ false }
+    requires { options.now.relocatable ≡ true → any_too_large finals.now locals cells.now ≡ false }
     ensures { IfOk result (λ relocs. relocs.items ≡ kept_relocs options.now finals.now locals cells.now) }
 {
     if options.is_relocatable() {

@@ -8,7 +8,7 @@ ghost use Rattle.link_session.specs.Sessions.{labelled};
 ghost use Rattle.link_out.specs.declared.edit.RunFault.TheVariants as run_faults;
 ghost use Rattle.link_out.specs.function.Link.{link_of};
 ghost use Rattle.link_out.specs.Runs.{change_of, link_after, IsDone, IsRunOf};
-ghost use Rattle.link_out.specs.internal.Replies.{HasRoom, IsReplied, AreDone, StopsAmong, IsLinkedWith, IsRunFrom, RunsOut};
+ghost use Rattle.link_out.specs.internal.Replies.{HasCapacity, IsReplied, AreDone, StopsAmong, IsLinkedWith, IsRunFrom, RunsOut};
 
 use crate::edit::{Edit, Reply, RunFault};
 use crate::linked::Linked;
@@ -67,9 +67,9 @@ fn put_reply(
     edit: Edit,
     replies: &mut Option<Vec<Reply>>,
 ) -> Result<(), AllocError>
-    requires { HasRoom 1 replies.old }
+    requires { HasCapacity 1 replies.old }
     ensures replied { IfOk result (λ done. IsReplied session.old session.new (change_of edit) replies.old replies.new) }
-    ensures room { (n : ℕ) → HasRoom (1 + n) replies.old → HasRoom n replies.new }
+    ensures capacity { (n : ℕ) → HasCapacity (1 + n) replies.old → HasCapacity n replies.new }
     ensures accepted { IfErr result (λ _. answer_to session.old.forced session.old.entries (change_of edit) ≡ added) }
     ensures same { IfErr result (λ _. session.new ≡ session.old) }
 {

@@ -16,12 +16,12 @@ use Rattle.link_session.specs.declared.mark.Place.TheVariants.{InText, InData}
 use Rattle.link_session.specs.Image.{Named, state_at}
 use Rattle.link_session.specs.internal.Additions.{bound_by, bound_or}
 use Rattle.link_session.specs.internal.Chains.{Link, IsChain, is_on, AreApart, IsWithin, IsBoundTo, bound_where}
-use Rattle.link_session.specs.internal.Chains.{bound_if, marks_of, waits_at, Tells, Waits, head_for, with_head}
+use Rattle.link_session.specs.internal.Chains.{bound_if, marks_of, waits_at, FindsWaiting, Waits, head_for, with_head}
 use Rattle.link_session.specs.internal.Chains.{threaded, AreChained}
 use Rattle.link_session.proofs.ListLemmas.{all_split}
 use Rattle.link_session.proofs.ChainLemmas.{length-bound_where, on_either, apart_parts, apart_from, own_number, chain-unique, none_ahead}
 use Rattle.link_session.specs.internal.Settled.{settled_at}
-use Rattle.link_session.proofs.WaitLemmas.{bound_on_chain, rest_tells, other_tells}
+use Rattle.link_session.proofs.WaitLemmas.{bound_on_chain, rest_finds, other_finds}
 use Rattle.link_session.proofs.PushLemmas.{push_text, pass_text, push_data, pass_data}
 use Rattle.link_session.proofs.CountLemmas.{waits_is}
 
@@ -62,11 +62,11 @@ module _ (texts datas : List Cell) (ts ds heads : List Link) (a : AreChained tex
     all_places : (a.each k).places ≡ w.done ++ w.rest
     all_places = chain-unique ts ds (slice_index_or heads k None) (a.each k).places (w.done ++ w.rest) (a.each k).visits w.visits
 
-    text_told : Tells (λ i. is_on (w.done ++ w.rest) (InText i)) k texts
-    text_told = subst (λ (ps : List Place). Tells (λ i. is_on ps (InText i)) k texts) all_places (a.each k).text
+    text_told : FindsWaiting (λ i. is_on (w.done ++ w.rest) (InText i)) k texts
+    text_told = subst (λ (ps : List Place). FindsWaiting (λ i. is_on ps (InText i)) k texts) all_places (a.each k).text
 
-    data_told : Tells (λ i. is_on (w.done ++ w.rest) (InData i)) k datas
-    data_told = subst (λ (ps : List Place). Tells (λ i. is_on ps (InData i)) k datas) all_places (a.each k).data
+    data_told : FindsWaiting (λ i. is_on (w.done ++ w.rest) (InData i)) k datas
+    data_told = subst (λ (ps : List Place). FindsWaiting (λ i. is_on ps (InData i)) k datas) all_places (a.each k).data
 
     abbrev bound_texts : List Cell
     bound_texts = bound_where (λ i. is_on w.done (InText i)) segment offset texts
@@ -94,11 +94,11 @@ module _ (texts datas : List Cell) (ts ds heads : List Link) (a : AreChained tex
       apart = (apart_parts w.done w.rest w.apart).1;
       inside = inside_still w.rest (all_split (IsWithin (length texts) (length datas)) w.done w.rest w.inside).1;
       text =
-          rest_tells segment offset k (λ i. is_on w.done (InText i)) (λ i. is_on (w.done ++ w.rest) (InText i))
+          rest_finds segment offset k (λ i. is_on w.done (InText i)) (λ i. is_on (w.done ++ w.rest) (InText i))
           (λ i. is_on w.rest (InText i))
           (λ i. apart_from w.done w.rest w.apart (InText i)) (λ i. on_rest (InText i)) texts text_told;
       «data» =
-          rest_tells segment offset k (λ i. is_on w.done (InData i)) (λ i. is_on (w.done ++ w.rest) (InData i))
+          rest_finds segment offset k (λ i. is_on w.done (InData i)) (λ i. is_on (w.done ++ w.rest) (InData i))
           (λ i. is_on w.rest (InData i))
           (λ i. apart_from w.done w.rest w.apart (InData i)) (λ i. on_rest (InData i)) datas data_told;
     }
@@ -110,11 +110,11 @@ module _ (texts datas : List Cell) (ts ds heads : List Link) (a : AreChained tex
       apart = (a.each j).apart;
       inside = inside_still (a.each j).places (a.each j).inside;
       text =
-          other_tells segment offset k j ne (λ i. is_on w.done (InText i)) (λ i. is_on (w.done ++ w.rest) (InText i))
+          other_finds segment offset k j ne (λ i. is_on w.done (InText i)) (λ i. is_on (w.done ++ w.rest) (InText i))
           (λ i. is_on (a.each j).places (InText i))
           (λ i. on_all (InText i)) texts text_told (a.each j).text;
       «data» =
-          other_tells segment offset k j ne (λ i. is_on w.done (InData i)) (λ i. is_on (w.done ++ w.rest) (InData i))
+          other_finds segment offset k j ne (λ i. is_on w.done (InData i)) (λ i. is_on (w.done ++ w.rest) (InData i))
           (λ i. is_on (a.each j).places (InData i))
           (λ i. on_all (InData i)) datas data_told (a.each j).data;
     }

@@ -15,7 +15,7 @@ use Rattle.link_session.specs.declared.mark.Place.TheVariants.{InText, InData}
 use Rattle.link_session.specs.Cells.{segment_target}
 use Rattle.link_session.specs.Image.{Named, state_at}
 use Rattle.link_session.specs.internal.Additions.{bound_by, binding_at, binding, bound_or}
-use Rattle.link_session.specs.internal.Chains.{Link, is_on, AreApart, IsWithin, waits_at, Tells, Waits, bound_to}
+use Rattle.link_session.specs.internal.Chains.{Link, is_on, AreApart, IsWithin, waits_at, FindsWaiting, Waits, bound_to}
 use Rattle.link_session.specs.internal.Counts.{waiting_for, to_bind}
 use Rattle.link_session.proofs.ChainLemmas.{own_number, other_number}
 use Rattle.link_session.specs.internal.Settled.{settled_at}
@@ -60,7 +60,7 @@ places_counted (InData i ∷ ps) texts datas a h =
     (λ j ne. ap (λ (t : Bool). t || is_on ps (InData j)) (sym (other_number j i (λ e. ne (sym e))))) in
     omega arith
 
-waiting_counted : (test : ℕ → Bool) (k : ℕ) (cs : List Cell) → Tells test k cs → count_where test cs ≡ length (waiting_for k cs)
+waiting_counted : (test : ℕ → Bool) (k : ℕ) (cs : List Cell) → FindsWaiting test k cs → count_where test cs ≡ length (waiting_for k cs)
 waiting_counted test k [] h = refl
 waiting_counted test k (c ∷ cs) h =
     let rest = waiting_counted (λ i. test (suc i)) k cs h.1 in

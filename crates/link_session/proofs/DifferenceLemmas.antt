@@ -157,10 +157,10 @@ place_there seen (x ∷ xs) i name at = by_test (is_among seen x) refl i at (λ 
 
 module _ (kept i : ℕ) (name : List ℕ) (low : i < kept) where
   -- one mention
-  mention_told : (earlier : List Mention) (m : Mention) → slice_get (names_by_first_mention earlier) i ≡ Some name →
+  mention_noted : (earlier : List Mention) (m : Mention) → slice_get (names_by_first_mention earlier) i ≡ Some name →
       place_of name (names_by_first_mention earlier) ≡ i →
       states_marked i (state_mark kept (named_states earlier) m) ≡ state_changed earlier m name
-  mention_told earlier m at place = by_test (bytes_eq name m.name) refl
+  mention_noted earlier m at place = by_test (bytes_eq name m.name) refl
     where
       place_is : (x : List ℕ) → place_in (named_states earlier) x ≡ place_of x (names_by_first_mention earlier)
       place_is x = ap (place_of x) (keys-named_states earlier)
@@ -208,15 +208,15 @@ module _ (kept i : ℕ) (name : List ℕ) (low : i < kept) where
           ∙ ap (λ (t : Bool). cond t [] (state earlier name ∷ [])) (own_state (state earlier name)))
 
   -- several
-  mentions_told : (earlier ms : List Mention) → slice_get (names_by_first_mention earlier) i ≡ Some name →
+  mentions_noted : (earlier ms : List Mention) → slice_get (names_by_first_mention earlier) i ≡ Some name →
       place_of name (names_by_first_mention earlier) ≡ i →
       states_marked i (state_marks kept (named_states earlier) ms) ≡ states_changed earlier ms name
-  mentions_told earlier [] at place = refl
-  mentions_told earlier (m ∷ ms) at place =
+  mentions_noted earlier [] at place = refl
+  mentions_noted earlier (m ∷ ms) at place =
       states_marked-append i (state_mark kept (named_states earlier) m) (state_marks kept (with_mention (named_states earlier) m) ms)
       ∙ ap (λ (es : Named). states_marked i (state_mark kept (named_states earlier) m)
       ++ states_marked i (state_marks kept es ms)) (with_mention-named_states earlier m)
-      ∙ (λ j. mention_told earlier m at place j ++ mentions_told (earlier ++ m ∷ []) ms
+      ∙ (λ j. mention_noted earlier m at place j ++ mentions_noted (earlier ++ m ∷ []) ms
       (ap (λ (l : List (List ℕ)). slice_get l i) names
       ∙ get_append (names_by_first_mention earlier) (new_names (names_of earlier) (names_of (m ∷ []))) i name at)
       (ap (place_of name) names ∙ place_of-append (names_by_first_mention earlier)
@@ -243,7 +243,7 @@ taken_difference forced os o heads marks good b = record {
       b.states_are i
       ∙ ap (λ (ms : List Mention). states_marked i (state_marks (length (image forced os).externals) (image forced os).externals ms))
       (next_mentions-in forced os o good)
-      ∙ mentions_told (length (image forced os).externals) i name (kept forced os i name there) (mentions forced os)
+      ∙ mentions_noted (length (image forced os).externals) i name (kept forced os i name there) (mentions forced os)
       (mentions_in os o) there (place_there [] (names_of (mentions forced os)) i name there);
 }
   where

@@ -5,14 +5,14 @@ use Rattle.link_session.specs.declared.mark.Place.{Place}
 use Rattle.link_session.specs.declared.mark.Place.TheVariants.{InText, InData}
 use Rattle.link_session.specs.Image.{Named, state_at}
 use Rattle.link_session.specs.internal.Additions.{bound_by, bound_or}
-use Rattle.link_session.specs.internal.Chains.{Link, IsChain, is_on, Tells, Waits}
+use Rattle.link_session.specs.internal.Chains.{Link, IsChain, is_on, FindsWaiting, Waits}
 use Rattle.link_session.specs.internal.Settled.{settled_at}
 
 no_places : (ts ds : List Link) (head : Link) (ps : List Place) → head ≡ None → IsChain ts ds head ps → ps ≡ []
 no_places ts ds head [] e c = refl
 no_places ts ds head (p ∷ ps) e c = absurd (let first = c.0 in cc)
 
-unsettled : (es : Named) (k : ℕ) (cs : List Cell) → Tells (λ i. false) k cs → cs ≡ map (settled_at es k) cs
+unsettled : (es : Named) (k : ℕ) (cs : List Cell) → FindsWaiting (λ i. false) k cs → cs ≡ map (settled_at es k) cs
 unsettled es k [] h = refl
 unsettled es k (c ∷ cs) h = λ i. one i ∷ unsettled es k cs h.1 i
   where
@@ -26,7 +26,7 @@ module _ (es : Named) (k : ℕ) (texts datas : List Cell) (ts ds : List Link) (h
   none = no_places ts ds head waits.places empty waits.visits
 
   pub no_text : texts ≡ map (settled_at es k) texts
-  no_text = unsettled es k texts (subst (λ (ps : List Place). Tells (λ i. is_on ps (InText i)) k texts) none waits.text)
+  no_text = unsettled es k texts (subst (λ (ps : List Place). FindsWaiting (λ i. is_on ps (InText i)) k texts) none waits.text)
 
   pub no_data : datas ≡ map (settled_at es k) datas
-  no_data = unsettled es k datas (subst (λ (ps : List Place). Tells (λ i. is_on ps (InData i)) k datas) none waits.data)
+  no_data = unsettled es k datas (subst (λ (ps : List Place). FindsWaiting (λ i. is_on ps (InData i)) k datas) none waits.data)

@@ -224,32 +224,32 @@ all_seen seen (n ∷ ns) h =
     (all_seen (seen ++ n ∷ []) ns (λ m e. rw is_among-append (or_left _ _ (h m (or_right _ _ e)))))
 
 -- names by first mention, where some are told by their first mention alone
-pub names_told_once : (forced front told back : List (List ℕ)) →
-    new_names [] ((forced ++ front) ++ (new_names [] (forced ++ told) ++ back)) ≡ new_names [] ((forced ++ front) ++ (told ++ back))
-names_told_once forced front told back =
+pub names_mentioned_once : (forced front given back : List (List ℕ)) →
+    new_names [] ((forced ++ front) ++ (new_names [] (forced ++ given) ++ back)) ≡ new_names [] ((forced ++ front) ++ (given ++ back))
+names_mentioned_once forced front given back =
     let A = forced ++ front in
-    let N = new_names [] (forced ++ told) in
+    let N = new_names [] (forced ++ given) in
     let seen : new_names A forced ≡ [] = all_seen A forced (λ n e. rw is_among-append (or_left _ _ e)) in
     let twice : (n : List ℕ) → is_among (A ++ forced) n ≡ is_among A n =
     λ n. is_among-append A forced n ∙ ap (λ (t : Bool). t || is_among forced n) (is_among-append forced front n)
     ∙ absorbed (is_among forced n) (is_among front n) ∙ sym (is_among-append forced front n) in
-    let first : new_names A N ≡ new_names A told =
-    new_of_new A [] (forced ++ told) (λ n e. absurd (cc)) ∙ new_names-append A forced told
-    ∙ ap (λ (ns : List (List ℕ)). ns ++ new_names (A ++ forced) told) seen ∙ new_names-seen (A ++ forced) A told twice in
-    let same : (n : List ℕ) → is_among (A ++ N) n ≡ is_among (A ++ told) n =
+    let first : new_names A N ≡ new_names A given =
+    new_of_new A [] (forced ++ given) (λ n e. absurd (cc)) ∙ new_names-append A forced given
+    ∙ ap (λ (ns : List (List ℕ)). ns ++ new_names (A ++ forced) given) seen ∙ new_names-seen (A ++ forced) A given twice in
+    let same : (n : List ℕ) → is_among (A ++ N) n ≡ is_among (A ++ given) n =
     λ n. is_among-append A N n
     ∙ ap (λ (t : Bool). t || is_among N n) (is_among-append forced front n)
     ∙ ap (λ (t : Bool). (is_among forced n || is_among front n) || t)
-    (is_among-new_names [] (forced ++ told) n ∙ is_among-append forced told n)
-    ∙ merged (is_among forced n) (is_among front n) (is_among told n)
-    ∙ ap (λ (t : Bool). t || is_among told n) (sym (is_among-append forced front n))
-    ∙ sym (is_among-append A told n) in
+    (is_among-new_names [] (forced ++ given) n ∙ is_among-append forced given n)
+    ∙ merged (is_among forced n) (is_among front n) (is_among given n)
+    ∙ ap (λ (t : Bool). t || is_among given n) (sym (is_among-append forced front n))
+    ∙ sym (is_among-append A given n) in
     new_names-append [] A (N ++ back)
     ∙ ap (λ (ns : List (List ℕ)). new_names [] A ++ ns)
     (new_names-append A N back ∙ ap (λ (ns : List (List ℕ)). ns ++ new_names (A ++ N) back) first
-    ∙ ap (λ (ns : List (List ℕ)). new_names A told ++ ns) (new_names-seen (A ++ N) (A ++ told) back same)
-    ∙ sym (new_names-append A told back))
-    ∙ sym (new_names-append [] A (told ++ back))
+    ∙ ap (λ (ns : List (List ℕ)). new_names A given ++ ns) (new_names-seen (A ++ N) (A ++ given) back same)
+    ∙ sym (new_names-append A given back))
+    ∙ sym (new_names-append [] A (given ++ back))
   where
     absorbed : (f g : Bool) → ((f || g) || f) ≡ (f || g)
     absorbed true g = refl

@@ -8,7 +8,7 @@ use Rattle.link_session.specs.declared.cell.Cell.{Cell}
 use Rattle.link_session.specs.declared.mark.Place.{Place}
 use Rattle.link_session.specs.declared.mark.Place.TheVariants.{InText, InData}
 use Rattle.link_session.specs.Marks.{same_place}
-use Rattle.link_session.specs.internal.Chains.{Link, link_at, IsChain, is_on, IsWithin, waits_at, Tells, Waits}
+use Rattle.link_session.specs.internal.Chains.{Link, link_at, IsChain, is_on, IsWithin, waits_at, FindsWaiting, Waits}
 use Rattle.link_session.proofs.ListLemmas.{all_map}
 use Rattle.link_session.proofs.ChainLemmas.{own_number, other_number}
 
@@ -36,29 +36,29 @@ chain_grown_data ts ds x t head (p ∷ ps) h c =
 
 -- Tests of cells.
 
-tells_same : (f g : ℕ → Bool) (k : ℕ) (cs : List Cell) → ((i : ℕ) → i < length cs → f i ≡ g i) → Tells f k cs → Tells g k cs
-tells_same f g k [] same h = tt
-tells_same f g k (c ∷ cs) same h =
-    (sym (same 0 (omega arith)) ∙ h.0, tells_same (λ i. f (suc i)) (λ i. g (suc i)) k cs (λ i lt. same (suc i) (omega arith)) h.1)
+finds_same : (f g : ℕ → Bool) (k : ℕ) (cs : List Cell) → ((i : ℕ) → i < length cs → f i ≡ g i) → FindsWaiting f k cs → FindsWaiting g k cs
+finds_same f g k [] same h = tt
+finds_same f g k (c ∷ cs) same h =
+    (sym (same 0 (omega arith)) ∙ h.0, finds_same (λ i. f (suc i)) (λ i. g (suc i)) k cs (λ i lt. same (suc i) (omega arith)) h.1)
 
-tells_push : (f : ℕ → Bool) (k : ℕ) (cs : List Cell) (c : Cell) → Tells f k cs → f (length cs) ≡ waits_at k c.target →
-    Tells f k (cs ++ c ∷ [])
-tells_push f k [] c h e = (e, tt)
-tells_push f k (x ∷ cs) c h e = (h.0, tells_push (λ i. f (suc i)) k cs c h.1 e)
+finds_push : (f : ℕ → Bool) (k : ℕ) (cs : List Cell) (c : Cell) → FindsWaiting f k cs → f (length cs) ≡ waits_at k c.target →
+    FindsWaiting f k (cs ++ c ∷ [])
+finds_push f k [] c h e = (e, tt)
+finds_push f k (x ∷ cs) c h e = (h.0, finds_push (λ i. f (suc i)) k cs c h.1 e)
 
 -- no cell waits for the external
 abbrev pub NoneWaits : ℕ → List Cell → Type 0
 NoneWaits k cs = AllByRecursion (λ c. waits_at k c.target ≡ false) cs
 
-none_tells : (k : ℕ) (cs : List Cell) → NoneWaits k cs → Tells (λ i. false) k cs
-none_tells k [] h = tt
-none_tells k (c ∷ cs) h = (sym h.0, none_tells k cs h.1)
+none_finds : (k : ℕ) (cs : List Cell) → NoneWaits k cs → FindsWaiting (λ i. false) k cs
+none_finds k [] h = tt
+none_finds k (c ∷ cs) h = (sym h.0, none_finds k cs h.1)
 
 -- a new name has an empty chain
 pub new_chain : (ts ds : List Link) (texts datas : List Cell) (k : ℕ) → NoneWaits k texts → NoneWaits k datas →
     Waits ts ds None texts datas k
 new_chain ts ds texts datas k t d =
-    record { places = []; visits = refl; apart = tt; inside = tt; text = none_tells k texts t; «data» = none_tells k datas d }
+    record { places = []; visits = refl; apart = tt; inside = tt; text = none_finds k texts t; «data» = none_finds k datas d }
 
 -- Places after the last cell.
 
@@ -109,8 +109,8 @@ module _ (ts ds : List Link) (head : Link) (texts datas : List Cell) (k : ℕ) (
               (wider (length texts) (length datas) (length (texts ++ c ∷ [])) (length datas)
               (let more = more_text in omega arith) (omega arith)) w.places w.inside,
         );
-        text = tells_push (λ i. is_on (InText (length texts) ∷ w.places) (InText i)) k texts c
-            (tells_same (λ i. is_on w.places (InText i)) (λ i. is_on (InText (length texts) ∷ w.places) (InText i)) k texts
+        text = finds_push (λ i. is_on (InText (length texts) ∷ w.places) (InText i)) k texts c
+            (finds_same (λ i. is_on w.places (InText i)) (λ i. is_on (InText (length texts) ∷ w.places) (InText i)) k texts
             (λ i lt. let other = other_number i (length texts) (λ e. omega arith) in
             ap (λ (t : Bool). t || is_on w.places (InText i)) (sym other)) w.text)
             (ap (λ (t : Bool). t || is_on w.places (InText (length texts))) (own_number (length texts)) ∙ sym waits);
@@ -130,7 +130,7 @@ module _ (ts ds : List Link) (head : Link) (texts datas : List Cell) (k : ℕ) (
             (wider (length texts) (length datas) (length (texts ++ c ∷ [])) (length datas)
             (let more = more_text in omega arith) (omega arith)) w.places w.inside;
         text =
-            tells_push (λ i. is_on w.places (InText i)) k texts c w.text
+            finds_push (λ i. is_on w.places (InText i)) k texts c w.text
             (new_text (length texts) (length datas) w.places w.inside ∙ sym waits);
         «data» = w.data;
       }
@@ -156,8 +156,8 @@ module _ (ts ds : List Link) (head : Link) (texts datas : List Cell) (k : ℕ) (
               (let more = more_data in omega arith)) w.places w.inside,
         );
         text = w.text;
-        «data» = tells_push (λ i. is_on (InData (length datas) ∷ w.places) (InData i)) k datas c
-            (tells_same (λ i. is_on w.places (InData i)) (λ i. is_on (InData (length datas) ∷ w.places) (InData i)) k datas
+        «data» = finds_push (λ i. is_on (InData (length datas) ∷ w.places) (InData i)) k datas c
+            (finds_same (λ i. is_on w.places (InData i)) (λ i. is_on (InData (length datas) ∷ w.places) (InData i)) k datas
             (λ i lt. let other = other_number i (length datas) (λ e. omega arith) in
             ap (λ (t : Bool). t || is_on w.places (InData i)) (sym other)) w.data)
             (ap (λ (t : Bool). t || is_on w.places (InData (length datas))) (own_number (length datas)) ∙ sym waits);
@@ -176,6 +176,6 @@ module _ (ts ds : List Link) (head : Link) (texts datas : List Cell) (k : ℕ) (
             (let more = more_data in omega arith)) w.places w.inside;
         text = w.text;
         «data» =
-            tells_push (λ i. is_on w.places (InData i)) k datas c w.data
+            finds_push (λ i. is_on w.places (InData i)) k datas c w.data
             (new_data (length texts) (length datas) w.places w.inside ∙ sym waits);
       }

@@ -10,7 +10,7 @@ use Rattle.link_session.specs.declared.mark.Place.{Place}
 use Rattle.link_session.specs.declared.mark.Place.TheVariants.{InText, InData}
 use Rattle.link_session.specs.Undo.{put_all_back, IsInside}
 use Rattle.link_session.specs.Marks.{cells_marked}
-use Rattle.link_session.specs.internal.Chains.{Link, is_on, IsWithin, IsBoundTo, Tells, bound_if, bound_where, cell_at}
+use Rattle.link_session.specs.internal.Chains.{Link, is_on, IsWithin, IsBoundTo, FindsWaiting, bound_if, bound_where, cell_at}
 use Rattle.link_session.specs.internal.Chains.{nowhere, marks_of, heads_back, AreChained}
 use Rattle.link_session.specs.internal.Restores.{Restores, LeavesMarks, HoldBound}
 use Rattle.link_session.proofs.ListLemmas.{all_append}
@@ -24,11 +24,11 @@ use Rattle.link_session.proofs.CountLemmas.{waits_is}
 use Rattle.link_session.proofs.ChainBackLemmas.{chain_back, chain_inside, heads_back-append}
 
 -- the cell at an index that passes the test waits
-told : (test : ℕ → Bool) (k : ℕ) (cs : List Cell) → Tells test k cs → (i : ℕ) → i < length cs → test i ≡ true →
+found_waits : (test : ℕ → Bool) (k : ℕ) (cs : List Cell) → FindsWaiting test k cs → (i : ℕ) → i < length cs → test i ≡ true →
     (slice_index_or cs i nowhere).target ≡ External k
-told test k [] h i lt e = absurd (omega arith)
-told test k (c ∷ cs) h zero lt e = waits_is k c.target (sym h.0 ∙ e)
-told test k (c ∷ cs) h (suc i) lt e = told (λ n. test (suc n)) k cs h.1 i (omega arith) e
+found_waits test k [] h i lt e = absurd (omega arith)
+found_waits test k (c ∷ cs) h zero lt e = waits_is k c.target (sym h.0 ∙ e)
+found_waits test k (c ∷ cs) h (suc i) lt e = found_waits (λ n. test (suc n)) k cs h.1 i (omega arith) e
 
 module _ (ts ds : List Link) (texts datas : List Cell) (heads : List Link) (a : AreChained texts datas ts ds heads) (k : ℕ)
     (segment : Segment) (offset : ℕ) (next : Link) (marks : List Mark) (new_texts new_datas : List Cell) (new_marks : List Mark)
@@ -44,10 +44,10 @@ module _ (ts ds : List Link) (texts datas : List Cell) (heads : List Link) (a : 
 
   waits_there : (p : Place) → is_on w.done p ≡ true → (cell_at texts datas p).target ≡ External k
   waits_there (InText i) e =
-      told (λ j. is_on (a.each k).places (InText j)) k texts (a.each k).text i
+      found_waits (λ j. is_on (a.each k).places (InText j)) k texts (a.each k).text i
       (on_inside (length texts) (length datas) w.done (InText i) inside_done e) (on_places (InText i) e)
   waits_there (InData i) e =
-      told (λ j. is_on (a.each k).places (InData j)) k datas (a.each k).data i
+      found_waits (λ j. is_on (a.each k).places (InData j)) k datas (a.each k).data i
       (on_inside (length texts) (length datas) w.done (InData i) inside_done e) (on_places (InData i) e)
 
   -- the first part of one chain

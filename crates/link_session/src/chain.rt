@@ -59,7 +59,7 @@ pub(crate) fn begin_chain(heads: &mut [Link], index: u16, link: Link)
     }
 }
 
-/// Gives the externals after the last head a chain without cells. There is room for their heads.
+/// Gives the externals after the last head a chain without cells. There is space for their heads.
 pub(crate) fn grow_heads(heads: &mut Vec<Link>, count: usize)
     requires { count ≤ vec_capacity heads.old }
     ensures { heads.new.items ≡ grown_heads count heads.old.items }

@@ -4,7 +4,7 @@ ghost use Rattle.indexmap.specs.IndexMap.{spare};
 ghost use Rattle.aout_core.specs.declared.symbol.Segment.TheVariants as segments;
 ghost use Rattle.aout_core.specs.Contents.{Fits};
 ghost use Rattle.aout_core.specs.WellFormed.{is_external, IsWellFormed};
-ghost use Rattle.link_session.specs.internal.Fields.{image_in, threads_in, with_cells, with_heads, with_own_cells, with_own_threads, HoldsChains, LeavesMarksIn, NotesBoundIn, KeepsRoom, IsSmall};
+ghost use Rattle.link_session.specs.internal.Fields.{image_in, threads_in, with_cells, with_heads, with_own_cells, with_own_threads, HoldsChains, LeavesMarksIn, NotesBoundIn, KeepsCapacity, IsSmall};
 ghost use Rattle.link_session.specs.internal.Restores.{TakesBack};
 ghost use Rattle.link_session.specs.internal.Settled.{settled_over, IsCovered};
 ghost use Rattle.link_session.specs.internal.Threads.{cut_heads, next_threads, IsThreaded};
@@ -49,7 +49,7 @@ fn data_of(file: &File) -> Words<'_>
     }
 }
 
-/// Makes room for so many cells, each with its link. An error changes nothing but room.
+/// Requests memory for so many cells, each with its link. An error changes nothing but capacity.
 fn reserve_cells(
     cells: &mut Vec<Cell>,
     links: &mut Vec<Link>,
@@ -57,14 +57,14 @@ fn reserve_cells(
 ) -> Result<(), AllocError>
     ensures cells { cells.new.items ≡ cells.old.items }
     ensures links { links.new.items ≡ links.old.items }
-    ensures cells_room { OnOk result (vec_len cells.new + count ≤ vec_capacity cells.new) }
-    ensures links_room { OnOk result (vec_len links.new + count ≤ vec_capacity links.new) }
+    ensures cells_space { OnOk result (vec_len cells.new + count ≤ vec_capacity cells.new) }
+    ensures links_space { OnOk result (vec_len links.new + count ≤ vec_capacity links.new) }
 {
     cells.reserve(count)?;
     links.reserve(count)
 }
 
-/// Makes room for so many names, with what is noted of them. An error changes nothing but room.
+/// Requests memory for so many names, with what is noted of them. An error changes nothing but capacity.
 fn reserve_names(
     externals: &mut Externals,
     heads: &mut Vec<Link>,
@@ -76,10 +76,10 @@ fn reserve_names(
     ensures heads { heads.new.items ≡ heads.old.items }
     ensures multiples { multiples.new.items ≡ multiples.old.items }
     ensures marks { marks.new.items ≡ marks.old.items }
-    ensures names_room { OnOk result (count ≤ spare externals.new) }
-    ensures heads_room { OnOk result (vec_len heads.new + count ≤ vec_capacity heads.new) }
-    ensures multiples_room { OnOk result (vec_len multiples.new + count ≤ vec_capacity multiples.new) }
-    ensures marks_room { OnOk result (vec_len marks.new + count ≤ vec_capacity marks.new) }
+    ensures names_space { OnOk result (count ≤ spare externals.new) }
+    ensures heads_space { OnOk result (vec_len heads.new + count ≤ vec_capacity heads.new) }
+    ensures multiples_space { OnOk result (vec_len multiples.new + count ≤ vec_capacity multiples.new) }
+    ensures marks_space { OnOk result (vec_len marks.new + count ≤ vec_capacity marks.new) }
 {
     heads.reserve(count)?;
     externals.reserve(count)?;
@@ -87,8 +87,8 @@ fn reserve_names(
     marks.reserve(count)
 }
 
-/// Makes room for an object. An error changes nothing but room.
-fn make_room(
+/// Requests memory for an object. An error changes nothing but capacity.
+fn reserve_all(
     image: &mut Merged,
     marks: &mut Vec<Mark>,
     places: &mut Vec<u16>,
@@ -106,7 +106,7 @@ fn make_room(
     ensures multiples { OnOk result (vec_len image.new.multiples + length (filter is_external file.now.symbols) ≤ vec_capacity image.new.multiples) }
     ensures states { OnOk result (vec_len marks.new + length (filter is_external file.now.symbols) ≤ vec_capacity marks.new) }
     ensures places { places.new.items ≡ places.old.items }
-    ensures places_room { OnOk result (vec_len places.new + length file.now.symbols ≤ vec_capacity places.new) }
+    ensures places_space { OnOk result (vec_len places.new + length file.now.symbols ≤ vec_capacity places.new) }
 {
     let entries = count_external(file.symbols());
     let text = file.text_words().len();
@@ -123,18 +123,18 @@ fn make_room(
     places.reserve(file.symbols().len())
 }
 
-/// Appends heads for the object's new names, and then its own cells and its bss. There is room for them.
+/// Appends heads for the object's new names, and then its own cells and its bss. There is space for them.
 fn append_object(image: &mut Merged, file: &File, shifts: &Shifts, places: &[u16])
     requires bss { image.old.bss_total + file.now.header.bss_size ≤ 65534 }
     requires well { IsWellFormed file.now }
     requires places { places.now ≡ all_places image.old.externals.entries file.now.symbols }
     requires text_small { length image.old.text_links.items ≤ 32767 }
     requires data_small { length image.old.data_links.items ≤ 32767 }
-    requires text_room { vec_len image.old.text_cells + length file.now.text_words ≤ vec_capacity image.old.text_cells }
-    requires data_room { vec_len image.old.data_cells + length file.now.data_words ≤ vec_capacity image.old.data_cells }
-    requires text_links_room { vec_len image.old.text_links + length file.now.text_words ≤ vec_capacity image.old.text_links }
-    requires data_links_room { vec_len image.old.data_links + length file.now.data_words ≤ vec_capacity image.old.data_links }
-    requires heads_room { length image.old.externals.entries ≤ vec_capacity image.old.heads }
+    requires text_space { vec_len image.old.text_cells + length file.now.text_words ≤ vec_capacity image.old.text_cells }
+    requires data_space { vec_len image.old.data_cells + length file.now.data_words ≤ vec_capacity image.old.data_cells }
+    requires text_links_space { vec_len image.old.text_links + length file.now.text_words ≤ vec_capacity image.old.text_links }
+    requires data_links_space { vec_len image.old.data_links + length file.now.data_words ≤ vec_capacity image.old.data_links }
+    requires heads_space { length image.old.externals.entries ≤ vec_capacity image.old.heads }
     ensures image { image_in image.new ≡ with_own_cells (image_in image.old) file.now shifts.now }
     ensures threads { threads_in image.new ≡ with_own_threads (image_in image.old) file.now shifts.now (threads_in image.old) }
 {
@@ -175,7 +175,7 @@ fn bind_waiting(image: &mut Merged, places: &[u16], marks: &mut Vec<Mark>) -> Re
     ensures few { OnOk result (NotesBoundIn image.old image.new marks.old.items marks.new.items) }
     ensures else_same { image_in image.new ≡ with_cells image.new.text_cells.items image.new.data_cells.items (image_in image.old) }
     ensures links { threads_in image.new ≡ with_heads image.new.heads.items (threads_in image.old) }
-    ensures room { KeepsRoom image.old image.new }
+    ensures capacity { KeepsCapacity image.old image.new }
 {
     let links = Links {
         text: &image.text_links,
@@ -215,7 +215,7 @@ pub(crate) fn join(
     let shifts = next_shifts(image, object);
     let mut marks = Vec::new(alloc);
     let mut places = Vec::new(alloc);
-    make_room(image, &mut marks, &mut places, file)?;
+    reserve_all(image, &mut marks, &mut places, file)?;
     let table = Table {
         symbols: file.symbols(),
         shifts,

@@ -65,7 +65,7 @@ fn count_again(externals: &Externals, symbols: &[Symbol]) -> usize
     count
 }
 
-/// Enters a name, if it is not there. There is room for it.
+/// Enters a name, if it is not there. There is space for it.
 fn enter_name(names: &mut Externals, name: Name)
     requires { 0 < spare names.old }
     ensures names { keys_of names.new.entries ≡ with_entered (keys_of names.old.entries) name }
@@ -74,7 +74,7 @@ fn enter_name(names: &mut Externals, name: Name)
     mention(names, name, State::Wanted(0));
 }
 
-/// Enters the name that a symbol adds to these externals, if it adds one. There is room for it.
+/// Enters the name that a symbol adds to these externals, if it adds one. There is space for it.
 fn enter_new(fresh: &mut Externals, externals: &Externals, symbol: &Symbol)
     requires { 0 < spare fresh.old }
     ensures names { keys_of fresh.new.entries ≡ with_new (keys_of externals.now.entries) (keys_of fresh.old.entries) symbol.now }

@@ -59,10 +59,10 @@ fn definition(segment: Segment, value: u16, shifts: &Shifts) -> State
     State::Defined(segment, value.wrapping_add(shifts.of(segment)))
 }
 
-/// Marks the state of an earlier name that a mention changes. There is room for the mark.
+/// Marks the state of an earlier name that a mention changes. There is space for the mark.
 fn note_state(marks: &mut Vec<Mark>, kept: usize, place: usize, was: State, says: State)
     requires small { kept ≤ 65535 }
-    requires room { vec_len marks.old < vec_capacity marks.old }
+    requires space { vec_len marks.old < vec_capacity marks.old }
     ensures marks { marks.new.items ≡ marks.old.items ++ cond (nat_lt place kept && changes was says) (Mark.StateWas place was ∷ []) [] }
     ensures len { vec_len marks.new ≤ vec_len marks.old + 1 }
     ensures capacity { vec_capacity marks.old ≤ vec_capacity marks.new }
@@ -72,7 +72,7 @@ fn note_state(marks: &mut Vec<Mark>, kept: usize, place: usize, was: State, says
     }
 }
 
-/// Notes a name that is defined again, and differently. There is room for it.
+/// Notes a name that is defined again, and differently. There is space for it.
 fn note_clash(multiples: &mut Vec<Name>, name: Name, was: State, says: State)
     requires { vec_len multiples.old < vec_capacity multiples.old }
     ensures names { multiples.new.items ≡ multiples.old.items ++ cond (clashes was says) (name ∷ []) [] }
@@ -84,7 +84,7 @@ fn note_clash(multiples: &mut Vec<Name>, name: Name, was: State, says: State)
     }
 }
 
-/// Mentions a name, and answers its place and the state that it had. There is room for it.
+/// Mentions a name, and answers its place and the state that it had. There is space for it.
 fn update(externals: &mut Externals, name: Name, says: State) -> (usize, State)
     requires { 0 < spare externals.old }
     ensures place { result.0 ≡ place_in externals.old.entries name }
@@ -103,7 +103,7 @@ fn update(externals: &mut Externals, name: Name, says: State) -> (usize, State)
     }
 }
 
-/// Mentions a name. There is room for it.
+/// Mentions a name. There is space for it.
 pub(crate) fn mention(externals: &mut Externals, name: Name, says: State)
     requires { 0 < spare externals.old }
     ensures names { externals.new.entries ≡ with_mention externals.old.entries (mention_of name says) }
@@ -126,7 +126,7 @@ fn plain_mention(externals: &Externals, claim: &Claim) -> Option<usize>
     }
 }
 
-/// Enters an external symbol of an object, and answers the place of its name. There is room for it; `kept` names were
+/// Enters an external symbol of an object, and answers the place of its name. There is space for it; `kept` names were
 /// there before the object.
 fn enter(
     externals: &mut Externals,
@@ -137,9 +137,9 @@ fn enter(
 ) -> u16
     requires small { kept ≤ 65535 }
     requires names { length externals.old.entries ≤ 65535 }
-    requires names_room { 0 < spare externals.old }
-    requires multiples_room { vec_len multiples.old < vec_capacity multiples.old }
-    requires marks_room { vec_len marks.old < vec_capacity marks.old }
+    requires names_space { 0 < spare externals.old }
+    requires multiples_space { vec_len multiples.old < vec_capacity multiples.old }
+    requires marks_space { vec_len marks.old < vec_capacity marks.old }
     ensures place { result ≡ place_in externals.old.entries claim.name }
     ensures names { externals.new.entries ≡ with_mention externals.old.entries (mention_of claim.name claim.says) }
     ensures multiples { multiples.new.items ≡ multiples.old.items ++ clash externals.old.entries (mention_of claim.name claim.says) }
@@ -167,7 +167,7 @@ pub(crate) fn count_external(symbols: &[Symbol]) -> usize
     symbols.iter().filter(|symbol| symbol.is_external()).count()
 }
 
-/// Enters all external symbols of an object, in order, and appends the place of each symbol's name. There is room for
+/// Enters all external symbols of an object, in order, and appends the place of each symbol's name. There is space for
 /// them.
 pub(crate) fn enter_all(
     externals: &mut Externals,
@@ -177,10 +177,10 @@ pub(crate) fn enter_all(
     table: &Table<'_>,
 )
     requires names { length (with_mentions externals.old.entries (mentions_by table.now.shifts table.now.symbols.now)) ≤ 65535 }
-    requires names_room { length (filter is_external table.now.symbols.now) ≤ spare externals.old }
-    requires multiples_room { vec_len multiples.old + length (filter is_external table.now.symbols.now) ≤ vec_capacity multiples.old }
-    requires marks_room { vec_len marks.old + length (filter is_external table.now.symbols.now) ≤ vec_capacity marks.old }
-    requires places_room { vec_len places.old + length table.now.symbols.now ≤ vec_capacity places.old }
+    requires names_space { length (filter is_external table.now.symbols.now) ≤ spare externals.old }
+    requires multiples_space { vec_len multiples.old + length (filter is_external table.now.symbols.now) ≤ vec_capacity multiples.old }
+    requires marks_space { vec_len marks.old + length (filter is_external table.now.symbols.now) ≤ vec_capacity marks.old }
+    requires places_space { vec_len places.old + length table.now.symbols.now ≤ vec_capacity places.old }
     ensures names { externals.new.entries ≡ with_mentions externals.old.entries (mentions_by table.now.shifts table.now.symbols.now) }
     ensures multiples { multiples.new.items ≡ multiples.old.items ++ all_clashes externals.old.entries (mentions_by table.now.shifts table.now.symbols.now) }
     ensures marks { marks.new.items ≡ marks.old.items

@@ -227,7 +227,7 @@ fn fill_cells(
     }
 }
 
-/// Appends the cells of an object's words, each in front of the chain that it waits in. There is room for them and
+/// Appends the cells of an object's words, each in front of the chain that it waits in. There is space for them and
 /// for their links.
 pub(crate) fn append_cells(
     cells: &mut Vec<Cell>,
@@ -238,8 +238,8 @@ pub(crate) fn append_cells(
 )
     requires beside { length own.now.words.now ≡ length own.now.relocs.now }
     requires small { length links.old.items + length own.now.words.now ≤ 65535 }
-    requires room { vec_len cells.old + length own.now.words.now ≤ vec_capacity cells.old }
-    requires links_room { vec_len links.old + length own.now.words.now ≤ vec_capacity links.old }
+    requires space { vec_len cells.old + length own.now.words.now ≤ vec_capacity cells.old }
+    requires links_space { vec_len links.old + length own.now.words.now ≤ vec_capacity links.old }
     ensures cells { cells.new.items ≡ cells.old.items ++ own_placed scope.now own.now }
     ensures links { links.new.items ≡ links.old.items ++ (own_threaded own.now (own_placed scope.now own.now) links.old.items heads.old).0 }
     ensures heads { heads.new ≡ (own_threaded own.now (own_placed scope.now own.now) links.old.items heads.old).1 }

@@ -77,7 +77,7 @@ impl Model for Session {
     ghost invariant = { λ s. IsSession s.forced s.entries.items s.undo_records.items (image_in s.image) (threads_in s.image) };
 }
 
-/// Mentions the forced names. There is room for them.
+/// Mentions the forced names. There is space for them.
 fn force_names(externals: &mut Externals, names: &[Name])
     requires { length names.now ≤ spare externals.old }
     ensures { externals.new.entries ≡ with_mentions externals.old.entries (map forced_mention names.now) }
@@ -297,7 +297,7 @@ impl Session {
     }
 }
 
-/// Makes room for an object and its marks, and joins it to the image. An error changes nothing but room.
+/// Requests memory for an object and its marks, and joins it to the image. An error changes nothing but capacity.
 fn take_in(
     entries: &mut Vec<Entry>,
     undo_records: &mut Vec<UndoRecord>,
@@ -311,8 +311,8 @@ fn take_in(
     requires fits { next_limit (image_in image.old) object.now ≡ None }
     ensures entries { entries.new.items ≡ entries.old.items }
     ensures undo_records { undo_records.new.items ≡ undo_records.old.items }
-    ensures entries_room { OnOk result (vec_len entries.new < vec_capacity entries.new) }
-    ensures undo_records_room { OnOk result (vec_len undo_records.new < vec_capacity undo_records.new) }
+    ensures entries_space { OnOk result (vec_len entries.new < vec_capacity entries.new) }
+    ensures undo_records_space { OnOk result (vec_len undo_records.new < vec_capacity undo_records.new) }
     ensures image { OnOk result (image_in image.new ≡ joined_image (image_in image.old) object.now) }
     ensures threads { OnOk result (threads_in image.new ≡ next_threads (image_in image.old) object.now (threads_in image.old)) }
     ensures marks { IfOk result (λ marks. TakesBack (image_in image.old) object.now (threads_in image.old).heads marks.items) }

@@ -18,7 +18,7 @@ use Rattle.link_out.specs.Results.{Outcome}
 use Rattle.link_out.specs.function.Link.{link}
 use Rattle.aout_core.specs.Addresses.{data_start_in}
 use Rattle.link_laws.specs.relation.Relocated.{base_in, HoldsObjects, IsEntry}
-pub use Rattle.link_laws.specs.relation.LinkedTable.{shown, undefined_row, row_for, room_for, AreRows, moved_value_in}
+pub use Rattle.link_laws.specs.relation.LinkedTable.{shown, undefined_row, row_for, space_for, AreRows, moved_value_in}
 pub use Rattle.link_laws.specs.relation.LinkedTable.{moved_local_in, moved_locals_in}
 pub use Rattle.link_laws.specs.relation.LinkedWords.{AreRelocated, row_bits, IsNamedBy, AreBits, IsKept, AreKept}
 pub use Rattle.link_laws.specs.relation.Reported.{ArePicked, IsOther, IsReported}

@@ -44,15 +44,15 @@ row_for h bss o at name (Wanted size) =
     else shown name 0o40 size)
 
 -- the bytes that a name in this state takes as a common, rounded up to even
-abbrev pub room_for : Choices → State → ℕ
-room_for o (Defined segment offset) = 0
-room_for o (Wanted size) = cond (lays_commons o) (size + size % 2) 0
+abbrev pub space_for : Choices → State → ℕ
+space_for o (Defined segment offset) = 0
+space_for o (Wanted size) = cond (lays_commons o) (size + size % 2) 0
 
 -- rows in order, whose commons lie one after another, from one address up to the other
 abbrev pub AreRows : Header → ℕ → Choices → List Mention → ℕ → List Symbol → ℕ → Type 0
 AreRows h bss o ms at [] end = at ≡ end
 AreRows h bss o ms at (r ∷ rows) end =
-    (st : State) × HasState ms r.name st × (r ≡ row_for h bss o at r.name st) × AreRows h bss o ms (at + room_for o st) rows end
+    (st : State) × HasState ms r.name st × (r ≡ row_for h bss o at r.name st) × AreRows h bss o ms (at + space_for o st) rows end
 
 -- a local of text, data or bss is moved with its segment
 abbrev pub moved_value_in : Header → List Contents → List Contents → Contents → Segment → ℕ → ℕ

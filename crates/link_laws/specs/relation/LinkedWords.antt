@@ -33,7 +33,7 @@ pub record IsNamedBy (rows : List Symbol) (locals : ℕ) (k : Contents) (number 
   pub named : slice_get k.symbols number ≡ Some symbol
   pub found : entry_of rows symbol.name ≡ Some row
   pub are : bits ≡ row_bits row (locals + place_of symbol.name (map (λ s. s.name) rows))
-  pub near : eqb (masked_type row) 0 ≡ true → locals + place_of symbol.name (map (λ s. s.name) rows) ≤ 4095
+  pub numbered : eqb (masked_type row) 0 ≡ true → locals + place_of symbol.name (map (λ s. s.name) rows) ≤ 4095
 
 abbrev pub AreBits : List Symbol → ℕ → Contents → Option Kind → ℕ → ℕ → Type 0
 AreBits rows locals k None number bits = ⊥

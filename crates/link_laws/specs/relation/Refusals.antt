@@ -25,13 +25,13 @@ use Rattle.tool_options.specs.Choices.{Choices, lays_commons}
 use Rattle.link_out.specs.Layouts.{data_base}
 use Rattle.link_laws.specs.relation.NameStates.{HasState, IsWanted}
 use Rattle.link_out.specs.KeptSymbols.{is_kept_local}
-use Rattle.link_laws.specs.relation.LinkedTable.{room_for}
+use Rattle.link_laws.specs.relation.LinkedTable.{space_for}
 use Rattle.link_out.specs.function.Link.{link}
 
 -- the commons among these names take so many bytes
 abbrev pub CommonsTake : Choices → List Mention → List (List ℕ) → ℕ → Type 0
-CommonsTake o ms [] room = room ≡ 0
-CommonsTake o ms (n ∷ ns) room = (st : State) × HasState ms n st × ((rest : ℕ) × (room ≡ room_for o st + rest) × CommonsTake o ms ns rest)
+CommonsTake o ms [] size = size ≡ 0
+CommonsTake o ms (n ∷ ns) size = (st : State) × HasState ms n st × ((rest : ℕ) × (size ≡ space_for o st + rest) × CommonsTake o ms ns rest)
 
 -- bss ends there: after the objects' text and data, the commons, and the objects' bss
 pub record EndsAt (forced : List (List ℕ)) (os : List Contents) (o : Choices) (end : ℕ) : Type 0 where
@@ -51,7 +51,7 @@ abbrev pub entry_count : List (List ℕ) → List Contents → Choices → ℕ
 entry_count forced os o = entries o.keep (length (kept_locals o os) + length (externals forced os))
 
 -- a word refers to a name that a link with relocation does not bind, and whose number in the table would be over this one
-pub record HasFarWord (number : ℕ) (forced : List (List ℕ)) (os : List Contents) (o : Choices) : Type 0 where
+pub record HasNumberTooLarge (number : ℕ) (forced : List (List ℕ)) (os : List Contents) (o : Choices) : Type 0 where
   pub before : List Contents
   pub k : Contents
   pub after : List Contents
@@ -68,7 +68,7 @@ pub record HasFarWord (number : ℕ) (forced : List (List ℕ)) (os : List Conte
   pub size : ℕ
   pub wanted : IsWanted (mentions forced os) symbol.name size
   pub waits : (size ≡ 0) ⊎ (lays_commons o ≡ false)
-  pub far : number < length (kept_locals o os) + place_of symbol.name (externals forced os)
+  pub large : number < length (kept_locals o os) + place_of symbol.name (externals forced os)
 
 -- the first of these that applies: the end is over 65,535, there are more than 5,461 symbols, or a number is too large
 abbrev pub IsRefused : List (List ℕ) → List Contents → Choices → LinkFault → Type 0
@@ -76,7 +76,7 @@ IsRefused forced os o DoesNotFit = (end : ℕ) × EndsAt forced os o end × (655
 IsRefused forced os o TooManySymbols = (end : ℕ) × EndsAt forced os o end × (end ≤ 65535) × (5461 < entry_count forced os o)
 IsRefused forced os o SymbolNumber =
     (end : ℕ) × EndsAt forced os o end × (end ≤ 65535) × (entry_count forced os o ≤ 5461) × (o.relocatable ≡ true)
-    × HasFarWord 4095 forced os o
+    × HasNumberTooLarge 4095 forced os o
 IsRefused forced os o Memory = ⊥
 
 -- the function `link` gives a fault if and only if the link is refused for it

@@ -14,11 +14,11 @@ use Rattle.link_session.proofs.MentionLemmas.{mentions-append, names_of-append, 
 use Rattle.link_session.proofs.StateLemmas.{state-append}
 use Rattle.tool_options.specs.declared.options.Keep.{Keep}
 use Rattle.link_out.proofs.partial_links.PartialLemmas.{partial_file}
-use Rattle.link_out.proofs.partial_links.PartialNames.{HasTable, told, told_alone, told_state, said_once}
+use Rattle.link_out.proofs.partial_links.PartialNames.{HasTable, final_mention, final_alone, final_state, said_once}
 use Rattle.link_session.proofs.NeighbourLemmas.{AreAsLong, as_long_append, as_long_self, blocks_same, blocks-append}
 use Rattle.link_session.proofs.NeighbourLemmas.{mentions_in_same, mentions_after, raised, raise, mentions_in_raised}
 use Rattle.link_session.proofs.NeighbourLemmas.{mentions_after-raised, names_of_raised, forced_front, names_of_forced}
-use Rattle.link_session.proofs.NeighbourLemmas.{names_told_once}
+use Rattle.link_session.proofs.NeighbourLemmas.{names_mentioned_once}
 
 pub state_raised : (bs : List Contents) (ms : List Mention) (name : List ℕ) → state (map (raise bs) ms) name ≡ raised bs (state ms name)
 state_raised bs [] name = refl
@@ -38,8 +38,8 @@ state_raised bs (m ∷ ms) name =
     both (Wanted size) (Defined segment offset) = refl
     both (Wanted size) (Wanted more) = refl
 
-names_of_told : (ms : List Mention) (ns : List (List ℕ)) → names_of (map (told ms) ns) ≡ ns
-names_of_told ms ns = names_of-map (told ms) (λ n. n) (λ n. refl) ns ∙ map-id ns
+names_of_finals : (ms : List Mention) (ns : List (List ℕ)) → names_of (map (final_mention ms) ns) ≡ ns
+names_of_finals ms ns = names_of-map (final_mention ms) (λ n. n) (λ n. refl) ns ∙ map-id ns
 
 module _ (forced : List (List ℕ)) (bs os cs : List Contents) (keep : Keep) (entry : Option (List ℕ))
     (has : HasTable forced os keep entry) where
@@ -79,10 +79,10 @@ module _ (forced : List (List ℕ)) (bs os cs : List Contents) (keep : Keep) (en
       (bs ++ m ∷ []) (bs ++ os) cs (as_long_append bs bs (m ∷ []) os (as_long_self bs) partial_as_long))
 
   -- what the partial link tells after the others
-  pub told_after : partial_said ≡ map (raise bs) (map (told (mentions forced os)) (names_by_first_mention (mentions forced os)))
-  told_after =
+  pub final_after : partial_said ≡ map (raise bs) (map (final_mention (mentions forced os)) (names_by_first_mention (mentions forced os)))
+  final_after =
       ap (λ (es : List Contents). mentions_in es m) (sym (append-nil bs)) ∙ mentions_in_raised bs [] m
-      ∙ ap (λ (ms : List Mention). map (raise bs) ms) (told_alone forced os keep entry has)
+      ∙ ap (λ (ms : List Mention). map (raise bs) ms) (final_alone forced os keep entry has)
 
   -- the state of a name among the objects alone, and after others
   pub state_alone : (name : List ℕ) → state (mentions forced os) name ≡ state (mentions_after [] os) name
@@ -96,9 +96,9 @@ module _ (forced : List (List ℕ)) (bs os cs : List Contents) (keep : Keep) (en
 
   pub state_partial : (name : List ℕ) → state partial_said name ≡ state whole_said name
   state_partial name =
-      ap (λ (ms : List Mention). state ms name) told_after
-      ∙ state_raised bs (map (told (mentions forced os)) (names_by_first_mention (mentions forced os))) name
-      ∙ ap (λ (s : State). raised bs s) (told_state (mentions forced os) name)
+      ap (λ (ms : List Mention). state ms name) final_after
+      ∙ state_raised bs (map (final_mention (mentions forced os)) (names_by_first_mention (mentions forced os))) name
+      ∙ ap (λ (s : State). raised bs s) (final_state (mentions forced os) name)
       ∙ sym (state_after name)
 
   -- every name has the same state
@@ -122,18 +122,18 @@ module _ (forced : List (List ℕ)) (bs os cs : List Contents) (keep : Keep) (en
       let own : names_by_first_mention (mentions forced os) ≡ new_names [] (forced ++ O) =
       ap (λ (ns : List (List ℕ)). new_names [] ns) (names_of-append (map forced_mention forced) (mentions_after [] os)
       ∙ ap (λ (ns : List (List ℕ)). ns ++ O) (names_of_forced forced)) in
-      let told : names_of partial_said ≡ new_names [] (forced ++ O) =
-      ap names_of told_after ∙ names_of_raised bs (map (told (mentions forced os)) (names_by_first_mention (mentions forced os)))
-      ∙ names_of_told (mentions forced os) (names_by_first_mention (mentions forced os)) ∙ own in
+      let final_mention : names_of partial_said ≡ new_names [] (forced ++ O) =
+      ap names_of final_after ∙ names_of_raised bs (map (final_mention (mentions forced os)) (names_by_first_mention (mentions forced os)))
+      ∙ names_of_finals (mentions forced os) (names_by_first_mention (mentions forced os)) ∙ own in
       let whole : names_of whole_said ≡ O = ap names_of (mentions_after-raised bs os) ∙ names_of_raised bs (mentions_after [] os) in
       let part_names : names_of (front_said ++ (partial_said ++ back_said)) ≡ (forced ++ B) ++ (new_names [] (forced ++ O) ++ C) =
       names_of-append front_said (partial_said ++ back_said) ∙ (λ i. fore i ++ names_of-append partial_said back_said i)
-      ∙ ap (λ (ns : List (List ℕ)). (forced ++ B) ++ (ns ++ C)) told in
+      ∙ ap (λ (ns : List (List ℕ)). (forced ++ B) ++ (ns ++ C)) final_mention in
       let whole_names : names_of (front_said ++ (whole_said ++ back_said)) ≡ (forced ++ B) ++ (O ++ C) =
       names_of-append front_said (whole_said ++ back_said) ∙ (λ i. fore i ++ names_of-append whole_said back_said i)
       ∙ ap (λ (ns : List (List ℕ)). (forced ++ B) ++ (ns ++ C)) whole in
       ap names_by_first_mention mentions_of_part
       ∙ ap (λ (ns : List (List ℕ)). new_names [] ns) part_names
-      ∙ names_told_once forced B O C
+      ∙ names_mentioned_once forced B O C
       ∙ ap (λ (ns : List (List ℕ)). new_names [] ns) (sym whole_names)
       ∙ ap names_by_first_mention (sym mentions_of_whole)

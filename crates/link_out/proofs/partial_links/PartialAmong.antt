@@ -19,7 +19,7 @@ use Rattle.tool_options.specs.declared.options.Keep.{Keep}
 use Rattle.tool_options.specs.declared.options.Keep.TheVariants.{Nothing}
 use Rattle.tool_options.specs.Choices.{Choices}
 use Rattle.link_out.specs.function.Link.{Outcome, link, linked_file}
-use Rattle.link_out.specs.laws.PartialLinks.{KeepsNoMore, IsPartialLink, without_multiples, IsPart, offset_after, DefinitionsStand}
+use Rattle.link_out.specs.laws.PartialLinks.{KeepsNoMore, IsPartialLink, without_multiples, IsPart, offset_after, DefinitionsAreKept}
 use Rattle.link_out.specs.declared.linked.LinkFault.{LinkFault}
 use Rattle.link_out.specs.function.Plans.{plan}
 use Rattle.link_out.proofs.partial_links.PartialLemmas.{partial_file, IsProper, state_is_proper, partly}
@@ -129,25 +129,25 @@ start_after bs DataSeg offset = refl
 start_after bs BssSeg offset = refl
 
 -- definitions that stand among all hold there
-pub stand_holds : (own forced : List (List ℕ)) (part : IsPart own forced) (bs os cs : List Contents) (keep : Keep)
+pub kept_holds : (own forced : List (List ℕ)) (part : IsPart own forced) (bs os cs : List Contents) (keep : Keep)
     (entry : Option (List ℕ)) (has : HasTable own os keep entry) →
-    DefinitionsStand forced bs os cs → HoldsAmong (mentions forced (bs ++ partial_file own os keep entry ∷ cs)) bs (mentions own os)
-stand_holds own forced part bs os cs keep entry has stand name segment offset e =
+    DefinitionsAreKept forced bs os cs → HoldsAmong (mentions forced (bs ++ partial_file own os keep entry ∷ cs)) bs (mentions own os)
+kept_holds own forced part bs os cs keep entry has are_kept name segment offset e =
     states_alike own forced part bs os cs keep entry has name
-    ∙ stand name segment offset (other_forced [] own os name ∙ e)
+    ∙ are_kept name segment offset (other_forced [] own os name ∙ e)
     ∙ ap (λ (n : ℕ). Defined segment n) (start_after bs segment offset)
 
 -- a partial link stands for its objects among others if their definitions stand
-pub stands_for : (own forced : List (List ℕ)) (before os after : List Contents) (by o : Choices) (x : Outcome) →
+pub replaces_for : (own forced : List (List ℕ)) (before os after : List Contents) (by o : Choices) (x : Outcome) →
     AllByRecursion IsWellFormed before → AllByRecursion IsWellFormed os → AllByRecursion IsWellFormed after →
-    IsPartialLink own os by x → KeepsNoMore o.keep by.keep → IsPart own forced → DefinitionsStand forced before os after →
+    IsPartialLink own os by x → KeepsNoMore o.keep by.keep → IsPart own forced → DefinitionsAreKept forced before os after →
     without_multiples (link forced (before ++ x.file ∷ after) o) ≡ without_multiples (link forced (before ++ (os ++ after)) o)
-stands_for own forced bs os cs by o x good_bs good_os good_cs p less part stand =
+replaces_for own forced bs os cs by o x good_bs good_os good_cs p less part are_kept =
     let file = partial_options own os by x p in
     let has : HasTable own os by.keep by.entry = has_table own os by.keep by.entry file.1 in
     subst (λ (f : Contents). without_multiples (link forced (bs ++ f ∷ cs) o) ≡ without_multiples (link forced (bs ++ (os ++ cs)) o)) file.0
     (ap without_multiples (link_alike own forced part bs os cs by.keep by.entry has good_bs good_os good_cs
-    (stand_holds own forced part bs os cs by.keep by.entry has stand) o less)
+    (kept_holds own forced part bs os cs by.keep by.entry has are_kept) o less)
     ∙ other_multiples (multiple_names (mentions forced (bs ++ partial_file own os by.keep by.entry ∷ cs)))
     (link forced (bs ++ (os ++ cs)) o))
 
@@ -169,8 +169,8 @@ proper_start segment offset h = by_segment segment h
     by_segment BssSeg h = ap (λ (n : ℕ). Defined BssSeg n) (kept h)
 
 -- alone, definitions always stand
-stand_alone : (forced : List (List ℕ)) (os : List Contents) → DefinitionsStand forced [] os []
-stand_alone forced os name segment offset e =
+kept_alone : (forced : List (List ℕ)) (os : List Contents) → DefinitionsAreKept forced [] os []
+kept_alone forced os name segment offset e =
     ap (λ (xs : List Contents). state (mentions forced xs) name) (append-nil os)
     ∙ other_forced forced [] os name
     ∙ e
@@ -185,14 +185,14 @@ pub alone_alike : (own forced : List (List ℕ)) → IsPart own forced → (os :
 alone_alike own forced part os keep entry o good table less =
     let has : HasTable own os keep entry = has_table own os keep entry table in
     link_alike own forced part [] os [] keep entry has tt good tt
-    (stand_holds own forced part [] os [] keep entry has (stand_alone forced os)) o less
+    (kept_holds own forced part [] os [] keep entry has (kept_alone forced os)) o less
     ∙ ap (λ (xs : List Contents). with_multiples (multiple_names (mentions forced (partial_file own os keep entry ∷ [])))
     (link forced xs o)) (append-nil os)
 
 -- alone a partial link stands for its objects
-pub stands_always : (own forced : List (List ℕ)) (os : List Contents) (by o : Choices) (x : Outcome) → AllByRecursion IsWellFormed os →
+pub always_replaces : (own forced : List (List ℕ)) (os : List Contents) (by o : Choices) (x : Outcome) → AllByRecursion IsWellFormed os →
     IsPartialLink own os by x → KeepsNoMore o.keep by.keep → IsPart own forced →
     without_multiples (link forced (x.file ∷ []) o) ≡ without_multiples (link forced os o)
-stands_always own forced os by o x good p less part =
-    stands_for own forced [] os [] by o x tt good tt p less part (stand_alone forced os)
+always_replaces own forced os by o x good p less part =
+    replaces_for own forced [] os [] by o x tt good tt p less part (kept_alone forced os)
     ∙ ap (λ (xs : List Contents). without_multiples (link forced xs o)) (append-nil os)

@@ -20,16 +20,16 @@ use Rattle.tool_options.specs.declared.options.Keep.{Keep}
 use Rattle.tool_options.specs.declared.options.Keep.TheVariants.{Nothing}
 use Rattle.tool_options.specs.Choices.{Choices}
 use Rattle.link_out.specs.function.Link.{Outcome, link}
-use Rattle.link_out.specs.laws.PartialLinks.{KeepsNoMore, IsPartialLink, IsPart, DefinitionsStand, DefinesNoMultiple}
+use Rattle.link_out.specs.laws.PartialLinks.{KeepsNoMore, IsPartialLink, IsPart, DefinitionsAreKept, DefinesNoMultiple}
 use Rattle.link_out.proofs.partial_links.PartialLemmas.{partial_file}
-use Rattle.link_out.proofs.partial_links.PartialNames.{HasTable, has_table, told}
+use Rattle.link_out.proofs.partial_links.PartialNames.{HasTable, has_table, final_mention}
 use Rattle.link_out.proofs.partial_links.SameLinks.{with_multiples, own_multiples}
 use Rattle.link_session.proofs.NeighbourLemmas.{as_long_append, as_long_self, start, blocks_same, mentions_in_same, raise, raised}
 use Rattle.link_out.proofs.partial_links.NeighbourMentions.{partial_as_long, whole_said, back_said, front_said}
-use Rattle.link_out.proofs.partial_links.NeighbourMentions.{mentions_of_whole, told_after, state_after}
+use Rattle.link_out.proofs.partial_links.NeighbourMentions.{mentions_of_whole, final_after, state_after}
 use Rattle.link_session.proofs.AgreementLemmas.{AgreesIn, not_multiple, one_definition, none_defines, no_definition}
 use Rattle.link_session.proofs.AgreementLemmas.{of_each_name, none_kept, own_again}
-use Rattle.link_out.proofs.partial_links.PartialAmong.{other_forced, states_alike, link_alike, start_after, stand_holds, partial_options}
+use Rattle.link_out.proofs.partial_links.PartialAmong.{other_forced, states_alike, link_alike, start_after, kept_holds, partial_options}
 
 -- the objects define no multiple of all
 module _ (own forced : List (List ℕ)) (part : IsPart own forced) (bs os cs : List Contents) (keep : Keep)
@@ -97,9 +97,9 @@ module _ (own forced : List (List ℕ)) (part : IsPart own forced) (bs os cs : L
       (λ name. inner_agrees_for name (is_among (multiple_names all) name) refl))
 
   -- a definition of the objects is the first one of all
-  stands_inside : (name : List ℕ) (segment : Segment) (offset : ℕ) → state (mentions [] os) name ≡ Defined segment offset →
+  kept_inside : (name : List ℕ) (segment : Segment) (offset : ℕ) → state (mentions [] os) name ≡ Defined segment offset →
       first_definition all name ≡ Some (segment, plus (start bs segment) offset)
-  stands_inside name segment offset e =
+  kept_inside name segment offset e =
       let found : first_definition inner name ≡ Some (segment, plus (start bs segment) offset) =
       inner_definition name ∙ ap (λ (s : State). definition_by (raised bs s)) e in
       let whole : first_definition all name ≡ first_of (first_definition fore name) (Some (segment, plus (start bs segment) offset)) =
@@ -118,9 +118,9 @@ module _ (own forced : List (List ℕ)) (part : IsPart own forced) (bs os cs : L
           all_map (AgreesIn all) (λ m. bytes_eq name m.name ≡ true → AgreesIn all m) (λ m h k. h) inner inner_agrees in
           w ∙ one_definition all inner name (segment, plus (start bs segment) offset) d agree found w
 
-  stand : DefinitionsStand forced bs os cs
-  stand name segment offset e =
-      ap (λ (x : Option Definition). state_by x (wanted_size all name)) (stands_inside name segment offset e)
+  are_kept : DefinitionsAreKept forced bs os cs
+  are_kept name segment offset e =
+      ap (λ (x : Option Definition). state_by x (wanted_size all name)) (kept_inside name segment offset e)
       ∙ ap (λ (n : ℕ). Defined segment n) (sym (start_after bs segment offset))
 
   definitions_alike : (name : List ℕ) → first_definition among name ≡ first_definition all name
@@ -128,20 +128,20 @@ module _ (own forced : List (List ℕ)) (part : IsPart own forced) (bs os cs : L
       definition_of among name ∙ ap definition_by (states_alike own forced part bs os cs keep entry has name)
       ∙ sym (definition_of all name)
 
-  told_agree : (names : List (List ℕ)) → AllByRecursion (AgreesIn all) (map (raise bs) (map (told (mentions own os)) names))
-  told_agree [] = tt
-  told_agree (n ∷ ns) = (by_state (state (mentions own os) n) refl, told_agree ns)
+  finals_agree : (names : List (List ℕ)) → AllByRecursion (AgreesIn all) (map (raise bs) (map (final_mention (mentions own os)) names))
+  finals_agree [] = tt
+  finals_agree (n ∷ ns) = (by_state (state (mentions own os) n) refl, finals_agree ns)
     where
       by_state : (s : State) → state (mentions own os) n ≡ s → differs (first_definition all n) (raised bs s) ≡ false
       by_state (Wanted size) e = refl
       by_state (Defined segment offset) e =
           own_again (Defined segment (plus (start bs segment) offset)) (first_definition all n)
-          (stands_inside n segment offset (other_forced [] own os n ∙ e))
+          (kept_inside n segment offset (other_forced [] own os n ∙ e))
 
   one_agrees : AllByRecursion (AgreesIn all) one
   one_agrees =
-      subst (λ (ms : List Mention). AllByRecursion (AgreesIn all) ms) (sym (told_after own bs os cs keep entry has))
-      (told_agree (names_by_first_mention (mentions own os)))
+      subst (λ (ms : List Mention). AllByRecursion (AgreesIn all) ms) (sym (final_after own bs os cs keep entry has))
+      (finals_agree (names_by_first_mention (mentions own os)))
 
   -- the multiples are the same, in the same order
   pub multiples_alike : multiple_names among ≡ multiple_names all
@@ -163,16 +163,16 @@ module _ (own forced : List (List ℕ)) (part : IsPart own forced) (bs os cs : L
           ∙ ap (λ (ns : List Mention). ns ++ filter (λ m. differs (first_definition all m.name) m.says) back) (none_kept all ms h))
 
 -- with the multiples, if the objects define none of the names that are multiply defined
-pub stands_among_others : (own forced : List (List ℕ)) (before os after : List Contents) (by o : Choices) (x : Outcome) →
+pub replaces_among_others : (own forced : List (List ℕ)) (before os after : List Contents) (by o : Choices) (x : Outcome) →
     AllByRecursion IsWellFormed before → AllByRecursion IsWellFormed os → AllByRecursion IsWellFormed after →
     IsPartialLink own os by x → KeepsNoMore o.keep by.keep → IsPart own forced → DefinesNoMultiple forced before os after →
     link forced (before ++ x.file ∷ after) o ≡ link forced (before ++ (os ++ after)) o
-stands_among_others own forced bs os cs by o x good_bs good_os good_cs p less part single =
+replaces_among_others own forced bs os cs by o x good_bs good_os good_cs p less part single =
     let file = partial_options own os by x p in
     let has : HasTable own os by.keep by.entry = has_table own os by.keep by.entry file.1 in
     subst (λ (f : Contents). link forced (bs ++ f ∷ cs) o ≡ link forced (bs ++ (os ++ cs)) o) file.0
-    (link_alike own forced part bs os cs by.keep by.entry has good_bs good_os good_cs (stand_holds own forced part bs os
-    cs by.keep by.entry has (stand own forced part bs os cs by.keep by.entry file.1 single)) o less
+    (link_alike own forced part bs os cs by.keep by.entry has good_bs good_os good_cs (kept_holds own forced part bs os
+    cs by.keep by.entry has (are_kept own forced part bs os cs by.keep by.entry file.1 single)) o less
     ∙ ap (λ (names : List (List ℕ)). with_multiples names (link forced (bs ++ (os ++ cs)) o))
     (multiples_alike own forced part bs os cs by.keep by.entry file.1 single)
     ∙ own_multiples forced (bs ++ (os ++ cs)) o)

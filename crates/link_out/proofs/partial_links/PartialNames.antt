@@ -22,8 +22,8 @@ use Rattle.link_out.proofs.partial_links.PartialLemmas.{partial_plan, partial_fi
 use Rattle.link_out.proofs.RowLemmas.{rows_kept-others}
 
 -- the names told again, each with its state
-abbrev pub told : List Mention → List ℕ → Mention
-told ms name = record { name = name; says = state ms name }
+abbrev pub final_mention : List Mention → List ℕ → Mention
+final_mention ms name = record { name = name; says = state ms name }
 
 -- the file keeps its table
 abbrev pub HasTable : List (List ℕ) → List Contents → Keep → Option (List ℕ) → Type 0
@@ -36,19 +36,20 @@ pub has_table : (forced : List (List ℕ)) (os : List Contents) (keep : Keep) (e
 has_table forced os keep entry h = rows_kept-others keep (let p = partial_plan forced os keep entry in local_rows p os ++ external_rows p) h
 
 -- what a partial link mentions
-pub told_alone : (forced : List (List ℕ)) (os : List Contents) (keep : Keep) (entry : Option (List ℕ)) → HasTable forced os keep entry →
-    mentions_in [] (partial_file forced os keep entry) ≡ map (told (mentions forced os)) (names_by_first_mention (mentions forced os))
-told_alone forced os keep entry has =
+pub final_alone : (forced : List (List ℕ)) (os : List Contents) (keep : Keep) (entry : Option (List ℕ)) → HasTable forced os keep entry →
+    mentions_in [] (partial_file forced os keep entry)
+    ≡ map (final_mention (mentions forced os)) (names_by_first_mention (mentions forced os))
+final_alone forced os keep entry has =
     ap (λ (ss : List Symbol). map (mention [] (partial_file forced os keep entry)) ss)
     (ap (λ (ss : List Symbol). filter is_external ss) has ∙ externals_in_table (partial_plan forced os keep entry) os)
     ∙ from (names_by_first_mention (mentions forced os))
   where
     from : (ns : List (List ℕ)) → map (mention [] (partial_file forced os keep entry))
-        (map (external_row (partial_plan forced os keep entry)) ns) ≡ map (told (mentions forced os)) ns
+        (map (external_row (partial_plan forced os keep entry)) ns) ≡ map (final_mention (mentions forced os)) ns
     from [] = refl
     from (n ∷ ns) =
         let head : mention [] (partial_file forced os keep entry) (external_row (partial_plan forced os keep entry) n)
-        ≡ told (mentions forced os) n =
+        ≡ final_mention (mentions forced os) n =
         ap (λ (s : State). let m : Mention = record { name = n; says = s } in m)
         (row_says forced os keep entry n (state (mentions forced os) n) (state_is_proper forced os n)) in
         let tail = from ns in
@@ -59,28 +60,28 @@ abbrev pub said_once : Bool → State → State
 said_once t s = state_by (cond t (first_of (definition_by s) None) None) (cond t (max (size_wanted_by s) 0) 0)
 
 -- told names: those that are among them have their states, and no other is wanted
-state_told : (ms : List Mention) (ns : List (List ℕ)) (name : List ℕ) →
-    state (map (told ms) ns) name ≡ cond (is_among ns name) (state ms name) (Wanted 0)
-state_told ms [] name = refl
-state_told ms (n ∷ ns) name =
-    state-append (told ms n ∷ []) (map (told ms) ns) name
-    ∙ by_test (bytes_eq name n) refl (is_among ns name) (state_told ms ns name)
+state_final : (ms : List Mention) (ns : List (List ℕ)) (name : List ℕ) →
+    state (map (final_mention ms) ns) name ≡ cond (is_among ns name) (state ms name) (Wanted 0)
+state_final ms [] name = refl
+state_final ms (n ∷ ns) name =
+    state-append (final_mention ms n ∷ []) (map (final_mention ms) ns) name
+    ∙ by_test (bytes_eq name n) refl (is_among ns name) (state_final ms ns name)
   where
     again : (s : State) (u : Bool) → updated_state (said_once true s) (cond u s (Wanted 0)) ≡ s
     again (Defined segment offset) u = refl
     again (Wanted size) true = ap (λ (k : ℕ). Wanted k) (omega arith)
     again (Wanted size) false = ap (λ (k : ℕ). Wanted k) (omega arith)
 
-    by_test : (t : Bool) → bytes_eq name n ≡ t → (u : Bool) → state (map (told ms) ns) name ≡ cond u (state ms name) (Wanted 0) →
-        updated_state (said_once t (state ms n)) (state (map (told ms) ns) name) ≡ cond (t || u) (state ms name) (Wanted 0)
+    by_test : (t : Bool) → bytes_eq name n ≡ t → (u : Bool) → state (map (final_mention ms) ns) name ≡ cond u (state ms name) (Wanted 0) →
+        updated_state (said_once t (state ms n)) (state (map (final_mention ms) ns) name) ≡ cond (t || u) (state ms name) (Wanted 0)
     by_test true e u h =
         let same : name ≡ n = (bytes_eq-Decides name n).0 e in
         rw (h, ← same) (again (state ms name) u)
-    by_test false e u h = says_alone (state (map (told ms) ns) name) ∙ h
+    by_test false e u h = says_alone (state (map (final_mention ms) ns) name) ∙ h
 
 -- every name, told again, has its state
-pub told_state : (ms : List Mention) (name : List ℕ) → state (map (told ms) (names_by_first_mention ms)) name ≡ state ms name
-told_state ms name = state_told ms (names_by_first_mention ms) name ∙ by_test (is_among (names_by_first_mention ms) name) refl
+pub final_state : (ms : List Mention) (name : List ℕ) → state (map (final_mention ms) (names_by_first_mention ms)) name ≡ state ms name
+final_state ms name = state_final ms (names_by_first_mention ms) name ∙ by_test (is_among (names_by_first_mention ms) name) refl
   where
     by_test : (t : Bool) → is_among (names_by_first_mention ms) name ≡ t → cond t (state ms name) (Wanted 0) ≡ state ms name
     by_test true e = refl

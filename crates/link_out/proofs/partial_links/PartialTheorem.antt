@@ -16,8 +16,8 @@ use Rattle.link_out.specs.laws.PartialLinks.{KeepsNoMore, IsPartialLink, without
 use Rattle.link_out.proofs.OutcomeLemmas.{made_file}
 use Rattle.link_out.proofs.FitLemmas.{linked_fits}
 use Rattle.link_out.proofs.ObjectLemmas.{linked_object}
-use Rattle.link_out.proofs.partial_links.PartialAmong.{stands_always}
-use Rattle.link_out.proofs.partial_links.PartialMultiples.{stands_among_others}
+use Rattle.link_out.proofs.partial_links.PartialAmong.{always_replaces}
+use Rattle.link_out.proofs.partial_links.PartialMultiples.{replaces_among_others}
 
 -- the file of a link with relocation, with or without laid commons, is an object
 pub relocatable_is_object : (forced : List (List ℕ)) (os : List Contents) (o : Choices) (x : Outcome) → AllByRecursion IsWellFormed os →
@@ -34,18 +34,18 @@ may_be_added forced os o x good allowed r linked = record {
 }
 
 -- alone: the same file or the same refusal, and reports that differ at most in the multiples
-pub partial_stands_alone : (forced : List (List ℕ)) (os : List Contents) (by o : Choices) (x : Outcome) →
+pub partial_replaces_alone : (forced : List (List ℕ)) (os : List Contents) (by o : Choices) (x : Outcome) →
     AllByRecursion IsWellFormed os → IsPartialLink forced os by x → KeepsNoMore o.keep by.keep →
     without_multiples (link forced (x.file ∷ []) o) ≡ without_multiples (link forced os o)
-partial_stands_alone forced os by o x good p less = stands_always forced forced os by o x good p less (λ name e. e)
+partial_replaces_alone forced os by o x good p less = always_replaces forced forced os by o x good p less (λ name e. e)
 
 -- among others, where no name is multiply defined: the same file and report, or the same refusal
-pub partial_stands_among : (forced : List (List ℕ)) (bs os cs : List Contents) (by o : Choices) (x : Outcome) →
+pub partial_replaces_among : (forced : List (List ℕ)) (bs os cs : List Contents) (by o : Choices) (x : Outcome) →
     AllByRecursion IsWellFormed bs → AllByRecursion IsWellFormed os → AllByRecursion IsWellFormed cs →
     IsPartialLink forced os by x → KeepsNoMore o.keep by.keep → multiple_names (mentions forced (bs ++ (os ++ cs))) ≡ [] →
     link forced (bs ++ x.file ∷ cs) o ≡ link forced (bs ++ (os ++ cs)) o
-partial_stands_among forced bs os cs by o x good_bs good_os good_cs p less single =
-    stands_among_others forced forced bs os cs by o x good_bs good_os good_cs p less (λ name e. e) none
+partial_replaces_among forced bs os cs by o x good_bs good_os good_cs p less single =
+    replaces_among_others forced forced bs os cs by o x good_bs good_os good_cs p less (λ name e. e) none
   where
     none : DefinesNoMultiple forced bs os cs
     none name e = absurd (let bad : false ≡ true = ap (λ (ns : List (List ℕ)). is_among ns name) (sym single) ∙ e in cc)

@@ -21,17 +21,17 @@ use Rattle.link_out.specs.declared.linked.LinkFault.{LinkFault}
 use Rattle.link_out.specs.declared.linked.LinkFault.TheVariants.{DoesNotFit, TooManySymbols, SymbolNumber}
 use Rattle.tool_options.specs.Choices.{Choices, lays_commons}
 use Rattle.link_out.specs.Layouts.{Bases, bases, magic_of}
-use Rattle.link_out.specs.function.Plans.{Plan, plan, commons_laid, common_size, room_of, commons_total, common_offset}
+use Rattle.link_out.specs.function.Plans.{Plan, plan, commons_laid, common_size, commons_size, commons_total, common_offset}
 use Rattle.link_out.specs.function.Finals.{Final, final, type_of, final_by, waiting, reserved_or_waiting, bound_at}
 use Rattle.link_out.specs.function.Words.{final_words}
 use Rattle.link_out.specs.function.Tables.{rows_kept, local_rows, external_rows, table, final_relocs}
-use Rattle.link_out.specs.function.Tables.{has_far_in, has_far_word, external_row}
+use Rattle.link_out.specs.function.Tables.{has_too_large_in, has_number_too_large, external_row}
 use Rattle.link_out.specs.function.Reports.{report_of, is_in_text, entry_word, entry_found_bad, is_undefined}
 use Rattle.link_out.specs.function.Reports.{reserved_taken, undefined_names, reserved_names}
 use Rattle.link_out.specs.function.Link.{Outcome, linked_file, link_by, link}
-use Rattle.link_out.specs.internal.FromCells.{finals, word_of_cell, reloc_of_cell, is_far}
+use Rattle.link_out.specs.internal.FromCells.{finals, word_of_cell, reloc_of_cell, target_too_large}
 use Rattle.link_out.proofs.CellWordLemmas.{final_words-cells}
-use Rattle.link_out.proofs.CellRelocLemmas.{final_relocs-cells, has_far_in-cells}
+use Rattle.link_out.proofs.CellRelocLemmas.{final_relocs-cells, has_too_large_in-cells}
 use Rattle.link_session.proofs.NeighbourLemmas.{AreAsLong}
 
 -- two plans with the same options and bases, whose mentions give the same names and states
@@ -43,16 +43,16 @@ module _ (o : Choices) (b : Bases) (ms ns : List Mention) (names : names_by_firs
   abbrev second : Plan
   second = record { choices = o; mentions = ns; at = b }
 
-  same_room : (xs : List (List ℕ)) → room_of ms xs ≡ room_of ns xs
+  same_room : (xs : List (List ℕ)) → commons_size ms xs ≡ commons_size ns xs
   same_room xs = ap (λ (f : List ℕ → ℕ). sum_by f xs) (λ i n. common_size (states_alike n i))
 
   same_total : commons_total ms ≡ commons_total ns
-  same_total = same_room (names_by_first_mention ms) ∙ ap (λ (xs : List (List ℕ)). room_of ns xs) names
+  same_total = same_room (names_by_first_mention ms) ∙ ap (λ (xs : List (List ℕ)). commons_size ns xs) names
 
   same_offset : (name : List ℕ) → common_offset ms name ≡ common_offset ns name
   same_offset name =
       same_room (take (place_of name (names_by_first_mention ms)) (names_by_first_mention ms))
-      ∙ ap (λ (xs : List (List ℕ)). room_of ns (take (place_of name xs) xs)) names
+      ∙ ap (λ (xs : List (List ℕ)). commons_size ns (take (place_of name xs) xs)) names
 
   same_final : (name : List ℕ) → final first name ≡ final second name
   same_final name = ap (λ (s : State). final_by first name s) (states_alike name) ∙ by_state (states.state ns name)
@@ -100,7 +100,7 @@ pub own_multiples : (forced : List (List ℕ)) (os : List Contents) (o : Choices
 own_multiples forced os o =
     let p = plan forced os o in
     sym (answer_with (states.multiple_names p.mentions) (nat_lt 65535 p.at.bss_end) (nat_lt 5461 (length (table p os)))
-    (o.relocatable && has_far_word p os) (record { file = linked_file p os; report = report_of p }))
+    (o.relocatable && has_number_too_large p os) (record { file = linked_file p os; report = report_of p }))
 
 -- the objects of two links
 pub record AreAlike (forced : List (List ℕ)) (xs ys : List Contents) : Type 0 where
@@ -157,10 +157,11 @@ module _ (forced : List (List ℕ)) (xs ys : List Contents) (alike : AreAlike fo
       ∙ (λ i. map (reloc_of_cell (lists i) (length (same_locals i))) (same i))
       ∙ final_relocs-cells all segment ys (objects_refer forced segment ys alike.good_ys)
 
-  fars : (segment : Segment) → cells ms segment xs ≡ cells ns segment ys → has_far_in one xs segment ≡ has_far_in all ys segment
-  fars segment same = sym (has_far_in-cells one segment xs (objects_refer forced segment xs alike.good_xs))
-      ∙ (λ i. list_any (λ (c : Cell). is_far (lists i) (length (same_locals i)) c.target) (same i))
-      ∙ has_far_in-cells all segment ys (objects_refer forced segment ys alike.good_ys)
+  same_large : (segment : Segment) → cells ms segment xs ≡ cells ns segment ys → has_too_large_in one xs segment
+      ≡ has_too_large_in all ys segment
+  same_large segment same = sym (has_too_large_in-cells one segment xs (objects_refer forced segment xs alike.good_xs))
+      ∙ (λ i. list_any (λ (c : Cell). target_too_large (lists i) (length (same_locals i)) c.target) (same i))
+      ∙ has_too_large_in-cells all segment ys (objects_refer forced segment ys alike.good_ys)
 
   in_text : (name : List ℕ) → is_in_text one name ≡ is_in_text all name
   in_text name = ap (λ (xs : List (List ℕ)). is_among xs name && eqb (type_of (final one name).bound) 34) alike.names
@@ -218,6 +219,6 @@ module _ (forced : List (List ℕ)) (xs ys : List Contents) (alike : AreAlike fo
   same_link =
       ap (λ (at : Bases). link_by (record { choices = o; mentions = ms; at = at }) xs) same_bases
       ∙ (λ i. answer (nat_lt 65535 b.bss_end) (nat_lt 5461 (length (tables i))) (o.relocatable
-      && (fars TextSeg alike.text i || fars DataSeg alike.data i)) (record { file = files i; report = reports i }))
+      && (same_large TextSeg alike.text i || same_large DataSeg alike.data i)) (record { file = files i; report = reports i }))
       ∙ answer_with (states.multiple_names ms) (nat_lt 65535 b.bss_end) (nat_lt 5461 (length (table all ys)))
-      (o.relocatable && has_far_word all ys) (record { file = linked_file all ys; report = report_of all })
+      (o.relocatable && has_number_too_large all ys) (record { file = linked_file all ys; report = report_of all })

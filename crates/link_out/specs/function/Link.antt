@@ -14,7 +14,7 @@ use Rattle.tool_options.specs.Choices.{Choices}
 use Rattle.link_out.specs.Layouts.{magic_of}
 use Rattle.link_out.specs.function.Plans.{Plan, plan, commons_laid}
 use Rattle.link_out.specs.function.Words.{final_words}
-use Rattle.link_out.specs.function.Tables.{table, final_relocs, has_far_word}
+use Rattle.link_out.specs.function.Tables.{table, final_relocs, has_number_too_large}
 use Rattle.link_out.specs.function.Reports.{report_of, entry_word}
 pub use Rattle.link_out.specs.Results.{Outcome}
 
@@ -44,7 +44,7 @@ abbrev pub link_by : Plan → List Contents → Result Outcome LinkFault
 link_by p os =
     if nat_lt 65535 p.at.bss_end then Err DoesNotFit
     else (if nat_lt 5461 (length (table p os)) then Err TooManySymbols
-    else (if p.choices.relocatable && has_far_word p os then Err SymbolNumber
+    else (if p.choices.relocatable && has_number_too_large p os then Err SymbolNumber
     else Ok (record { file = linked_file p os; report = report_of p })))
 
 abbrev pub link : List (List ℕ) → List Contents → Choices → Result Outcome LinkFault

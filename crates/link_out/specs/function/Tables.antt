@@ -73,17 +73,17 @@ abbrev pub final_relocs : Plan → List Contents → Segment → List Reloc
 final_relocs p os segment = flat_map (λ q. map (λ wr. final_reloc p os q.1 wr.1) (words_of segment q.1)) (with_earlier [] os)
 
 -- not bound, and of a number that is too large for a relocation word
-abbrev pub waits_far : Option Segment → ℕ → Bool
-waits_far (Some segment) row = false
-waits_far None row = nat_lt 4095 row
+abbrev pub number_too_large : Option Segment → ℕ → Bool
+number_too_large (Some segment) row = false
+number_too_large None row = nat_lt 4095 row
 
 -- a word refers to such a name
-abbrev pub is_out_of_reach : Plan → List Contents → Referent → Bool
-is_out_of_reach p os (to_segment segment) = false
-is_out_of_reach p os (to_name name) = waits_far (final p name).bound (row_of p os name)
+abbrev pub needs_too_large : Plan → List Contents → Referent → Bool
+needs_too_large p os (to_segment segment) = false
+needs_too_large p os (to_name name) = number_too_large (final p name).bound (row_of p os name)
 
-abbrev pub has_far_in : Plan → List Contents → Segment → Bool
-has_far_in p os segment = list_any (λ (o : Contents). list_any (λ wr. is_out_of_reach p os (referent o wr.1)) (words_of segment o)) os
+abbrev pub has_too_large_in : Plan → List Contents → Segment → Bool
+has_too_large_in p os segment = list_any (λ (o : Contents). list_any (λ wr. needs_too_large p os (referent o wr.1)) (words_of segment o)) os
 
-abbrev pub has_far_word : Plan → List Contents → Bool
-has_far_word p os = has_far_in p os TextSeg || has_far_in p os DataSeg
+abbrev pub has_number_too_large : Plan → List Contents → Bool
+has_number_too_large p os = has_too_large_in p os TextSeg || has_too_large_in p os DataSeg

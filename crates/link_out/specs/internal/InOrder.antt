@@ -20,9 +20,9 @@ finals_from o b offset [] = []
 finals_from o b offset (e ∷ es) = final_at o b offset e.0 e.1 ∷ finals_from o b (offset + common_size e.1) es
 
 -- the space of the commons among names
-abbrev pub room_in : Named → ℕ
-room_in [] = 0
-room_in (e ∷ es) = common_size e.1 + room_in es
+abbrev pub commons_size_in : Named → ℕ
+commons_size_in [] = 0
+commons_size_in (e ∷ es) = common_size e.1 + commons_size_in es
 
 -- those of the names that a link without relocation reports as undefined
 abbrev pub missing_among : Named → List (List ℕ)

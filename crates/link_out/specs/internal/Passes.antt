@@ -3,12 +3,12 @@ use Rattle.std.specs.Prelude.{◌≡◌, ℕ, ◌≤◌, true, false, List, leng
 use Rattle.aout_core.specs.Contents.{Contents}
 use Rattle.tool_options.specs.Choices.{option_fault}
 use Rattle.link_out.specs.function.Plans.{Plan}
-use Rattle.link_out.specs.function.Tables.{local_rows, table, has_far_word}
+use Rattle.link_out.specs.function.Tables.{local_rows, table, has_number_too_large}
 
 -- the options are allowed, no fault refuses the link, and so many locals are written
 pub record IsPassed (p : Plan) (os : List Contents) (locals : ℕ) : Type 0 where
   pub allowed : option_fault p.choices.layout p.choices.relocatable p.choices.keep ≡ None
   pub short : p.at.bss_end ≤ 65535
   pub few : length (table p os) ≤ 5461
-  pub near : p.choices.relocatable ≡ true → has_far_word p os ≡ false
+  pub numbered : p.choices.relocatable ≡ true → has_number_too_large p os ≡ false
   pub count : locals ≡ length (local_rows p os)

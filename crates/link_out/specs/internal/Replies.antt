@@ -18,27 +18,27 @@ use Rattle.link_out.specs.Runs.{answer_of, IsDone, IsRunOf}
 
 -- replies, where there was room for them, are these
 abbrev pub Lists : Option (Vec Reply Global) → List Reply → Type 0
-Lists None told = Unit {0}
-Lists (Some list) told = list.items ≡ told
+Lists None noted = Unit {0}
+Lists (Some list) noted = list.items ≡ noted
 
 -- there is room for so many replies more, where there was room for any
-abbrev pub HasRoom : ℕ → Option (Vec Reply Global) → Type 0
-HasRoom n None = Unit {0}
-HasRoom n (Some list) = vec_len list + n ≤ vec_capacity list
+abbrev pub HasCapacity : ℕ → Option (Vec Reply Global) → Type 0
+HasCapacity n None = Unit {0}
+HasCapacity n (Some list) = vec_len list + n ≤ vec_capacity list
 
 -- a change was made, and its reply appended where there is room
 pub record IsReplied (old new : Kept) (change : Change) (before after : Option (Vec Reply Global)) : Type 0 where
   pub reply : Reply
   pub done : IsDone old new change reply
-  pub put : (told : List Reply) → Lists before told → Lists after (told ++ reply ∷ [])
+  pub put : (noted : List Reply) → Lists before noted → Lists after (noted ++ reply ∷ [])
 
 -- changes were made in order, and the replies, where there was room for them, are the answers to them
 pub record AreDone (old new : Kept) (changes : List Change) (replies : Option (Vec Reply Global)) : Type 0 where
   pub forced : new.forced ≡ old.forced
   pub kept : new.entries ≡ survivors_from old.forced old.entries changes
-  pub told : List Reply
-  pub lists : Lists replies told
-  pub answers : map answer_of told ≡ answers_from old.forced old.entries changes
+  pub noted : List Reply
+  pub lists : Lists replies noted
+  pub answers : map answer_of noted ≡ answers_from old.forced old.entries changes
 
 -- memory ran out at an addition that is accepted, and the changes before it were made
 pub record StopsAmong (old new : Kept) (changes : List Change) : Type 0 where

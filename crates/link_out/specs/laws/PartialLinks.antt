@@ -48,8 +48,8 @@ offset_after before BssSeg offset = plus (total BssSeg before) offset
 offset_after before _ offset = plus 0 offset
 
 -- each definition of these objects is that of its name among all objects too, moved after those before them
-abbrev pub DefinitionsStand : List (List ℕ) → List Contents → List Contents → List Contents → Type 0
-DefinitionsStand forced before os after =
+abbrev pub DefinitionsAreKept : List (List ℕ) → List Contents → List Contents → List Contents → Type 0
+DefinitionsAreKept forced before os after =
     (name : List ℕ) (segment : Segment) (offset : ℕ) → state (mentions [] os) name ≡ Defined segment offset →
     state (mentions forced (before ++ (os ++ after))) name ≡ Defined segment (offset_after before segment offset)
 
@@ -65,14 +65,14 @@ PartialIsObject = (forced : List (List ℕ)) (os : List Contents) (o : Choices) 
     option_fault o.layout o.relocatable o.keep ≡ None → o.relocatable ≡ true → link forced os o ≡ Ok x → IsWellFormed x.file
 
 -- a partial link alone gives what its objects give: the same file or the same refusal, and reports that differ at most in the multiples
-abbrev pub PartialStandsAlone : Type 0
-PartialStandsAlone = (forced : List (List ℕ)) (os : List Contents) (by o : Choices) (x : Outcome) → AllByRecursion IsWellFormed os →
+abbrev pub PartialReplacesAlone : Type 0
+PartialReplacesAlone = (forced : List (List ℕ)) (os : List Contents) (by o : Choices) (x : Outcome) → AllByRecursion IsWellFormed os →
     IsPartialLink forced os by x → KeepsNoMore o.keep by.keep →
     without_multiples (link forced (x.file ∷ []) o) ≡ without_multiples (link forced os o)
 
 -- a partial link among others gives what its objects give among them, where no name of all is multiply defined
-abbrev pub PartialStandsAmong : Type 0
-PartialStandsAmong = (forced : List (List ℕ)) (before os after : List Contents) (by o : Choices) (x : Outcome) →
+abbrev pub PartialReplacesAmong : Type 0
+PartialReplacesAmong = (forced : List (List ℕ)) (before os after : List Contents) (by o : Choices) (x : Outcome) →
     AllByRecursion IsWellFormed before → AllByRecursion IsWellFormed os → AllByRecursion IsWellFormed after →
     IsPartialLink forced os by x → KeepsNoMore o.keep by.keep → multiple_names (mentions forced (before ++ (os ++ after))) ≡ [] →
     link forced (before ++ x.file ∷ after) o ≡ link forced (before ++ (os ++ after)) o

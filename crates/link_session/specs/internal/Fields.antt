@@ -105,7 +105,7 @@ with_own_threads m o shifts t =
     (with_heads (grown_heads (length m.externals) t.heads) t))
 
 -- there is room for as many cells, links and heads as before
-pub record KeepsRoom (old new : Merged) : Type 0 where
+pub record KeepsCapacity (old new : Merged) : Type 0 where
   pub text : vec_capacity old.text_cells ≤ vec_capacity new.text_cells
   pub «data» : vec_capacity old.data_cells ≤ vec_capacity new.data_cells
   pub text_links : vec_capacity old.text_links ≤ vec_capacity new.text_links

@@ -1,13 +1,13 @@
 use Rattle.laws.proofs.InstructionLemmas.{instructions_kept, texts_kept}
-use Rattle.laws.proofs.StandLemmas.{instructions_stand}
-use Rattle.laws.proofs.OperandPlaceLemmas.{operands_stand, jumps_arrive}
+use Rattle.laws.proofs.InstructionPlaceLemmas.{instructions_there}
+use Rattle.laws.proofs.OperandPlaceLemmas.{operands_there, jumps_arrive}
 use Rattle.laws.proofs.links.instruction_law.Goals as goal
 
-pub returns-clause-stand : goal.returns-clause-stand
-returns-clause-stand c = instructions_stand
+pub returns-clause-instructions : goal.returns-clause-instructions
+returns-clause-instructions c = instructions_there
 
 pub returns-clause-operands : goal.returns-clause-operands
-returns-clause-operands c = operands_stand
+returns-clause-operands c = operands_there
 
 pub returns-clause-jumps : goal.returns-clause-jumps
 returns-clause-jumps c = jumps_arrive

@@ -2,8 +2,8 @@ use Rattle.link_laws.proofs.RelocatedLemmas.{words_relocated, objects_fill}
 use Rattle.link_laws.proofs.DefinedLemmas.{definitions_hold}
 use Rattle.link_laws.proofs.SaidLemmas.{multiples_differ}
 use Rattle.link_laws.proofs.UndefinedLemmas.{names_have_addresses, missing_have_no_address}
-use Rattle.link_laws.proofs.ExternalLemmas.{entries_stand_once}
-use Rattle.link_laws.proofs.CommonLemmas.{commons_have_room, commons_lie_apart}
+use Rattle.link_laws.proofs.ExternalLemmas.{entries_once}
+use Rattle.link_laws.proofs.CommonLemmas.{commons_have_space, commons_apart}
 use Rattle.link_laws.proofs.EntryPointLemmas.{entry_is_found}
 use Rattle.link_out.proofs.partial_links.PartialTheorem.{may_be_added}
 use Rattle.link_laws.proofs.LayoutLemmas.{layouts_differ}
@@ -25,13 +25,13 @@ pub returns-clause-names : goal.returns-clause-names
 returns-clause-names c = names_have_addresses
 
 pub returns-clause-once : goal.returns-clause-once
-returns-clause-once c = entries_stand_once
+returns-clause-once c = entries_once
 
-pub returns-clause-room : goal.returns-clause-room
-returns-clause-room c = commons_have_room
+pub returns-clause-space : goal.returns-clause-space
+returns-clause-space c = commons_have_space
 
 pub returns-clause-apart : goal.returns-clause-apart
-returns-clause-apart c = commons_lie_apart
+returns-clause-apart c = commons_apart
 
 pub returns-clause-entry : goal.returns-clause-entry
 returns-clause-entry c = entry_is_found

@@ -1,16 +1,16 @@
-use Rattle.link_out.proofs.partial_links.PartialAmong.{stands_for, stands_always}
-use Rattle.link_out.proofs.partial_links.PartialMultiples.{stands_among_others}
+use Rattle.link_out.proofs.partial_links.PartialAmong.{replaces_for, always_replaces}
+use Rattle.link_out.proofs.partial_links.PartialMultiples.{replaces_among_others}
 use Rattle.link_laws.proofs.GroupingLemmas.{again_the_same, grouping_changes_nothing, is_accepted}
 use Rattle.link_laws.proofs.partial.beyond_law.Goals as goal
 
-pub returns-clause-stands : goal.returns-clause-stands
-returns-clause-stands c = stands_for
+pub returns-clause-replaces : goal.returns-clause-replaces
+returns-clause-replaces c = replaces_for
 
 pub returns-clause-always : goal.returns-clause-always
-returns-clause-always c = stands_always
+returns-clause-always c = always_replaces
 
 pub returns-clause-others : goal.returns-clause-others
-returns-clause-others c = stands_among_others
+returns-clause-others c = replaces_among_others
 
 pub returns-clause-again : goal.returns-clause-again
 returns-clause-again c = again_the_same

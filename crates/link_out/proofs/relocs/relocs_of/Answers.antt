@@ -1,16 +1,16 @@
 use Rattle.std.proofs.Common.{◌∙◌}
 use Rattle.aout_core.specs.declared.symbol.Segment.TheVariants.{TextSeg, DataSeg}
-use Rattle.link_out.proofs.FinishLemmas.{near_text, near_data, relocs_planned}
+use Rattle.link_out.proofs.FinishLemmas.{text_numbered, data_numbered, relocs_planned}
 use Rattle.link_out.proofs.relocs.relocs_of.Goals as goal
 
 pub kept_relocs-requires : goal.kept_relocs-requires
 kept_relocs-requires c =
-    near_text c.args.plan.now c.args.finals.now c.args.locals c.text_cells-text.result.now
+    text_numbered c.args.plan.now c.args.finals.now c.args.locals c.text_cells-text.result.now
     c.requires.passed c.requires.finals c.text_cells-text.ensures.value
 
 pub kept_relocs-requires-2 : goal.kept_relocs-requires-2
 kept_relocs-requires-2 c =
-    near_data c.args.plan.now c.args.finals.now c.args.locals c.data_cells-data.result.now
+    data_numbered c.args.plan.now c.args.finals.now c.args.locals c.data_cells-data.result.now
     c.requires.passed c.requires.finals c.data_cells-data.ensures.value
 
 pub returns : goal.returns

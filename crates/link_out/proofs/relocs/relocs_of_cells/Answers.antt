@@ -1,13 +1,13 @@
 use Rattle.std.proofs.Common.{arith}
 use Rattle.std.proofs.lemmas.Grind.{common_steps}
 use Rattle.link_session.specs.declared.cell.Cell.{Cell}
-use Rattle.link_out.specs.internal.FromCells.{is_far}
+use Rattle.link_out.specs.internal.FromCells.{target_too_large}
 use Rattle.link_out.proofs.CellRelocLemmas.{none_at}
 use Rattle.link_out.proofs.relocs.relocs_of_cells.Goals as goal
 
 pub reloc_of_cell-requires : goal.reloc_of_cell-requires
 reloc_of_cell-requires c =
-    none_at (λ (x : Cell). is_far c.args.finals.now c.args.locals x.target) c.args.cells.now c.loop-cell.cell-index _
+    none_at (λ (x : Cell). target_too_large c.args.finals.now c.args.locals x.target) c.args.cells.now c.loop-cell.cell-index _
     c.loop-cell-test.true c.requires
 
 pub loop-cell-preserved : goal.loop-cell-preserved

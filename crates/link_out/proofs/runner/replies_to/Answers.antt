@@ -1,5 +1,5 @@
 use Rattle.std.proofs.Common.{◌≡◌, ◌+◌, ◌++◌, ◌∷◌, length, arith, ap, subst, ◌∙◌}
-use Rattle.link_out.specs.internal.Replies.{HasRoom}
+use Rattle.link_out.specs.internal.Replies.{HasCapacity}
 use Rattle.link_out.proofs.RunLemmas.{if_error, one_more, one_more_done, stopped_among}
 use Rattle.link_out.proofs.runner.replies_to.Goals as goal
 
@@ -15,9 +15,9 @@ loop-edit-preserved c =
       order =
           one_more c.args.edits.items c.loop-edit.yielded c.loop-edit.edit-iterator.rest.items left c.in-Some.edit
           c.loop-edit.invariant.order split;
-      room =
-          c.in_ok-put_reply.ensures.room (length left)
-          (subst (λ n. HasRoom n c.loop-edit.replies) (ap length split ∙ one) c.loop-edit.invariant.room);
+      capacity =
+          c.in_ok-put_reply.ensures.capacity (length left)
+          (subst (λ n. HasCapacity n c.loop-edit.replies) (ap length split ∙ one) c.loop-edit.invariant.capacity);
     }
 
 pub returns-in_err-put_reply-clause-stopped : goal.returns-in_err-put_reply-clause-stopped

@@ -1,6 +1,6 @@
 use Rattle.std.proofs.Common.{◌≡◌, ◌++◌, map, length}
 use Rattle.link_out.specs.Runs.{change_of}
-use Rattle.link_out.specs.internal.Replies.{AreDone, HasRoom}
+use Rattle.link_out.specs.internal.Replies.{AreDone, HasCapacity}
 use Rattle.link_out.proofs.runner.replies_to.Given as goal
 
 -- the edits so far are done, and there is room for a reply to each of those left
@@ -8,5 +8,5 @@ abbrev pub invariant-loop-edit : goal.invariant-loop-edit
 invariant-loop-edit l = record {
   done : AreDone l.initial.session l.session (map change_of l.yielded) l.replies;
   order : l.fn.edits.items ≡ l.yielded ++ l.edit-iterator.rest.items;
-  room : HasRoom (length l.edit-iterator.rest.items) l.replies;
+  capacity : HasCapacity (length l.edit-iterator.rest.items) l.replies;
 }

@@ -11,7 +11,7 @@ loop-heads-preserved c =
       heads =
           c.loop-heads.invariant.heads ∙ grown_by_one c.args.count c.loop-heads.heads.items below
           ∙ ap (grown_heads c.args.count) (sym pushed);
-      room = search rules;
+      space = search rules;
     }
 
 pub returns : goal.returns

@@ -7,7 +7,7 @@ use Rattle.link_session.proofs.chain.grow_heads.Given as goal
 abbrev pub invariant-loop-heads : goal.invariant-loop-heads
 invariant-loop-heads l = record {
   heads : grown_heads l.count l.initial.heads.items ≡ grown_heads l.count l.heads.items;
-  room : l.count ≤ vec_capacity l.heads;
+  space : l.count ≤ vec_capacity l.heads;
 }
 
 abbrev pub decreases-loop-heads : goal.decreases-loop-heads

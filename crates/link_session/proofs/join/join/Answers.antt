@@ -22,7 +22,7 @@ enter_all-requires-clause-names c =
     let o = c.args.object.now in
     let table : c.symbols.result.now ≡ o.symbols = c.symbols.ensures.value ∙ ap (λ (f : Contents). f.symbols) c.file-file.ensures.value in
     subst (λ (P : Type 0). P)
-    (λ i. let n : Image = sym c.make_room.ensures.image i in
+    (λ i. let n : Image = sym c.reserve_all.ensures.image i in
     length (with_mentions n.externals (mentions_by (sym c.next_shifts-shifts.ensures i) (sym table i))) ≤ 65535)
     (few_named m o c.requires.fits)
 
@@ -30,7 +30,7 @@ pub bind_waiting-requires : goal.bind_waiting-requires
 bind_waiting-requires c =
     record {
       chained = subst (λ (P : Type 0). P)
-          (λ i. let n : Image = sym c.make_room.ensures.image i in let t : Threads = sym c.make_room.ensures.threads i in
+          (λ i. let n : Image = sym c.reserve_all.ensures.image i in let t : Threads = sym c.reserve_all.ensures.threads i in
           AreChained n.text_cells n.data_cells t.text_links t.data_links t.heads)
           c.requires.threaded.chained;
     }
@@ -56,23 +56,23 @@ returns-in-Err-clause-err c =
     let m = image_in c.args.image.now in
     let o = c.args.object.now in
     let t = threads_in c.args.image.now in
-    let n : Image = record (image_in c.make_room.new.image) {
+    let n : Image = record (image_in c.reserve_all.new.image) {
       externals = c.enter_all.new.externals.entries;
       multiples = c.enter_all.new.multiples.items;
     } in
-    let u = threads_in c.make_room.new.image in
+    let u = threads_in c.reserve_all.new.image in
     let b = image_in c.bind_waiting.new.image in
     let v = threads_in c.bind_waiting.new.image in
-    let e = entered-is m (image_in c.make_room.new.image) o c.file-file.result.now c.next_shifts-shifts.result
+    let e = entered-is m (image_in c.reserve_all.new.image) o c.file-file.result.now c.next_shifts-shifts.result
     c.symbols.result.now c.enter_all.new.externals.entries c.enter_all.new.multiples.items
-    c.make_room.ensures.image c.file-file.ensures.value c.symbols.ensures.value c.next_shifts-shifts.ensures
+    c.reserve_all.ensures.image c.file-file.ensures.value c.symbols.ensures.value c.next_shifts-shifts.ensures
     c.enter_all.ensures.names c.enter_all.ensures.multiples in
     let states : c.enter_all.new.marks.items ≡ state_marks (length m.externals) m.externals (next_mentions m o) = search rules in
     let texts : length b.text_cells ≡ length m.text_cells = search rules in
     let datas : length b.data_cells ≡ length m.data_cells = search rules in
     let left : c.deref-in-Err.result.now ≡ c.bind_waiting.new.marks.items = c.deref-in-Err.ensures.value in
     let back = undone m n b o t u v c.requires.threaded c.enter_all.new.marks.items c.bind_waiting.new.marks.items
-    e c.make_room.ensures.threads c.bind_waiting.ensures.else_same c.bind_waiting.ensures.links texts datas states
+    e c.reserve_all.ensures.threads c.bind_waiting.ensures.else_same c.bind_waiting.ensures.links texts datas states
     c.bind_waiting.ensures.back in (
       c.undo.ensures.image m c.sizes-sizes.ensures ∙ ap (λ ks. undo ks b m) left ∙ back.0,
       c.undo.ensures.threads ∙ (λ i. with_heads_back (left i) (threads_by (c.sizes-sizes.ensures i) b v)) ∙ back.1,
@@ -96,19 +96,19 @@ append_object-requires-clause-data_small c =
     let same : length c.bind_waiting.new.image.data_links.items ≡ length c.args.image.now.data_links.items = search rules in
     omega (arith, same, c.requires.threaded.chained.data, c.requires.small.data)
 
-pub append_object-requires-clause-heads_room : goal.append_object-requires-clause-heads_room
-append_object-requires-clause-heads_room c =
+pub append_object-requires-clause-heads_space : goal.append_object-requires-clause-heads_space
+append_object-requires-clause-heads_space c =
     let m = image_in c.args.image.now in
     let o = c.args.object.now in
-    let e = entered-is m (image_in c.make_room.new.image) o c.file-file.result.now c.next_shifts-shifts.result
+    let e = entered-is m (image_in c.reserve_all.new.image) o c.file-file.result.now c.next_shifts-shifts.result
     c.symbols.result.now c.enter_all.new.externals.entries c.enter_all.new.multiples.items
-    c.make_room.ensures.image c.file-file.ensures.value c.symbols.ensures.value c.next_shifts-shifts.ensures
+    c.reserve_all.ensures.image c.file-file.ensures.value c.symbols.ensures.value c.next_shifts-shifts.ensures
     c.enter_all.ensures.names c.enter_all.ensures.multiples in
     let few : length c.bind_waiting.new.image.externals.entries ≤ length m.externals + length (filter is_external o.symbols) =
     subst (λ (x : Image). length x.externals ≤ length m.externals + length (filter is_external o.symbols))
     (sym c.bind_waiting.ensures.else_same)
     (subst (λ (x : Image). length x.externals ≤ length m.externals + length (filter is_external o.symbols)) (sym e) (few_new m o)) in
-    let heads : vec_len c.make_room.new.image.heads ≡ length c.args.image.now.heads.items = search rules in
+    let heads : vec_len c.reserve_all.new.image.heads ≡ length c.args.image.now.heads.items = search rules in
     let entries : filter is_external c.file-file.result.now.symbols ≡ filter is_external o.symbols =
     ap (λ (f : Contents). filter is_external f.symbols) c.file-file.ensures.value in
     omega (
@@ -116,8 +116,8 @@ append_object-requires-clause-heads_room c =
       few,
       heads,
       ap (λ (l : List Symbol). length l) entries,
-      c.in_ok-make_room.ensures.heads,
-      c.bind_waiting.ensures.room.heads,
+      c.in_ok-reserve_all.ensures.heads,
+      c.bind_waiting.ensures.capacity.heads,
       c.requires.threaded.heads,
     )
 
@@ -126,16 +126,16 @@ returns c =
     let m = image_in c.args.image.now in
     let o = c.args.object.now in
     let t = threads_in c.args.image.now in
-    let n : Image = record (image_in c.make_room.new.image) {
+    let n : Image = record (image_in c.reserve_all.new.image) {
       externals = c.enter_all.new.externals.entries;
       multiples = c.enter_all.new.multiples.items;
     } in
-    let u = threads_in c.make_room.new.image in
+    let u = threads_in c.reserve_all.new.image in
     let b = image_in c.bind_waiting.new.image in
     let v = threads_in c.bind_waiting.new.image in
-    let e = entered-is m (image_in c.make_room.new.image) o c.file-file.result.now c.next_shifts-shifts.result
+    let e = entered-is m (image_in c.reserve_all.new.image) o c.file-file.result.now c.next_shifts-shifts.result
     c.symbols.result.now c.enter_all.new.externals.entries c.enter_all.new.multiples.items
-    c.make_room.ensures.image c.file-file.ensures.value c.symbols.ensures.value c.next_shifts-shifts.ensures
+    c.reserve_all.ensures.image c.file-file.ensures.value c.symbols.ensures.value c.next_shifts-shifts.ensures
     c.enter_all.ensures.names c.enter_all.ensures.multiples in
     let places : c.deref.result.now ≡ all_places n.externals c.symbols.result.now = c.deref.ensures.value ∙ (search rules) in
     let few : length n.externals ≤ 65535 = subst (λ (x : Image). length x.externals ≤ 65535) (sym e) (few_named m o c.requires.fits) in
@@ -147,7 +147,7 @@ returns c =
     ∙ cut_places n.externals few c.symbols.result.now u.heads in
     let table : c.symbols.result.now ≡ o.symbols = c.symbols.ensures.value ∙ ap (λ (f : Contents). f.symbols) c.file-file.ensures.value in
     let bound = bound-is m n o c.symbols.result.now e table c.requires.covered b c.bind_waiting.ensures.else_same texts datas in
-    let heads = heads-are m n o c.symbols.result.now e table t u v c.make_room.ensures.threads c.bind_waiting.ensures.links cut in
+    let heads = heads-are m n o c.symbols.result.now e table t u v c.reserve_all.ensures.threads c.bind_waiting.ensures.links cut in
     let states : c.enter_all.new.marks.items ≡ state_marks (length m.externals) m.externals (next_mentions m o) = search rules in record {
       image =
           joined-is m b o c.file-file.result.now c.next_shifts-shifts.result bound c.file-file.ensures.value
@@ -156,7 +156,7 @@ returns c =
           joined_threads m b o c.file-file.result.now c.next_shifts-shifts.result bound c.file-file.ensures.value
           c.next_shifts-shifts.ensures t v (threads_in c.append_object.new.image) heads c.append_object.ensures.threads;
       marks =
-          marks-are m n o c.symbols.result.now e table c.requires.covered t u c.make_room.ensures.threads b.text_cells
+          marks-are m n o c.symbols.result.now e table c.requires.covered t u c.reserve_all.ensures.threads b.text_cells
           b.data_cells v.heads c.enter_all.new.marks.items c.bind_waiting.new.marks.items states texts datas cut
           c.bind_waiting.ensures.back c.in_default.ensures.few;
       err = search rules;

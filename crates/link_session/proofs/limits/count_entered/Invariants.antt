@@ -9,5 +9,5 @@ abbrev pub invariant-loop-symbol : goal.invariant-loop-symbol
 invariant-loop-symbol l = record {
   names : with_all_new (keys_of l.externals.entries) [] l.symbols
       ≡ with_all_new (keys_of l.externals.entries) (keys_of l.fresh.entries) (drop l.symbol-index l.symbols);
-  room : length (drop l.symbol-index l.symbols) ≤ spare l.fresh;
+  space : length (drop l.symbol-index l.symbols) ≤ spare l.fresh;
 }

@@ -11,14 +11,14 @@ enter-place-requires-clause-small c =
     let all = mentions_by c.args.table.now.shifts c.args.table.now.symbols.now in
     omega (arith, c.loop-symbol.invariant.kept, length-with_mentions c.args.externals.now.entries all, c.requires.names)
 
-pub enter-place-requires-clause-names_room : goal.enter-place-requires-clause-names_room
-enter-place-requires-clause-names_room c = grind (arith, common_steps)
+pub enter-place-requires-clause-names_space : goal.enter-place-requires-clause-names_space
+enter-place-requires-clause-names_space c = grind (arith, common_steps)
 
-pub enter-place-requires-clause-multiples_room : goal.enter-place-requires-clause-multiples_room
-enter-place-requires-clause-multiples_room c = grind (arith, common_steps)
+pub enter-place-requires-clause-multiples_space : goal.enter-place-requires-clause-multiples_space
+enter-place-requires-clause-multiples_space c = grind (arith, common_steps)
 
-pub enter-place-requires-clause-marks_room : goal.enter-place-requires-clause-marks_room
-enter-place-requires-clause-marks_room c = grind (arith, common_steps)
+pub enter-place-requires-clause-marks_space : goal.enter-place-requires-clause-marks_space
+enter-place-requires-clause-marks_space c = grind (arith, common_steps)
 
 pub enter-place-requires-clause-names : goal.enter-place-requires-clause-names
 enter-place-requires-clause-names c =

@@ -18,8 +18,8 @@ invariant-loop-symbol l = record {
       ≡ l.marks.items ++ state_marks l.kept l.externals.entries (mentions_by l.table.shifts (drop l.symbol-index l.table.symbols.now));
   places : l.initial.places.items ++ noted_places l.table.shifts l.initial.externals.entries l.table.symbols.now
       ≡ l.places.items ++ noted_places l.table.shifts l.externals.entries (drop l.symbol-index l.table.symbols.now);
-  names_room : length (filter is_external (drop l.symbol-index l.table.symbols.now)) ≤ spare l.externals;
-  multiples_room : vec_len l.multiples + length (filter is_external (drop l.symbol-index l.table.symbols.now)) ≤ vec_capacity l.multiples;
-  marks_room : vec_len l.marks + length (filter is_external (drop l.symbol-index l.table.symbols.now)) ≤ vec_capacity l.marks;
-  places_room : vec_len l.places + length (drop l.symbol-index l.table.symbols.now) ≤ vec_capacity l.places;
+  names_space : length (filter is_external (drop l.symbol-index l.table.symbols.now)) ≤ spare l.externals;
+  multiples_space : vec_len l.multiples + length (filter is_external (drop l.symbol-index l.table.symbols.now)) ≤ vec_capacity l.multiples;
+  marks_space : vec_len l.marks + length (filter is_external (drop l.symbol-index l.table.symbols.now)) ≤ vec_capacity l.marks;
+  places_space : vec_len l.places + length (drop l.symbol-index l.table.symbols.now) ≤ vec_capacity l.places;
 }

@@ -13,7 +13,7 @@ use Rattle.link_session.proofs.session.enter_forced.Goals as goal
 pub grow_heads-requires : goal.grow_heads-requires
 grow_heads-requires c =
     let names : c.force_names.new.externals.entries ≡ with_mentions [] (map forced_mention c.args.names.now) = search rules in
-    let room : vec_len c.reserve-2.new.self + length c.args.names.now ≤ vec_capacity c.reserve-2.new.self = search rules in
+    let space : vec_len c.reserve-2.new.self + length c.args.names.now ≤ vec_capacity c.reserve-2.new.self = search rules in
     omega (
       arith,
       ap (λ (es : Named). length es) names,
@@ -21,7 +21,7 @@ grow_heads-requires c =
       length-new_names [] (names_of (map forced_mention c.args.names.now)),
       length-map (map forced_mention c.args.names.now) (λ (k : Mention). k.name),
       length-map c.args.names.now forced_mention,
-      room,
+      space,
     )
 
 pub returns-clause-heads : goal.returns-clause-heads

@@ -9,5 +9,5 @@ abbrev pub invariant-loop-name : goal.invariant-loop-name
 invariant-loop-name l = record {
   names : with_mentions l.initial.externals.entries (map forced_mention l.names)
       ≡ with_mentions l.externals.entries (map forced_mention (drop l.name-index l.names));
-  room : length (drop l.name-index l.names) ≤ spare l.externals;
+  space : length (drop l.name-index l.names) ≤ spare l.externals;
 }

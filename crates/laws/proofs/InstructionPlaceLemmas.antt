@@ -12,19 +12,19 @@ use Rattle.instructions.specs.Lines.{line_of}
 use Rattle.instructions.specs.Relocated.{is_relocated}
 use Rattle.instructions.specs.Alike.{AlikeLine, is_cut}
 use Rattle.instructions.proofs.AlikeLemmas.{Pairs, Same, drop_twice, pairs_from, line_alike}
-use Rattle.laws.specs.Instructions.{IsLinkedWord, InstructionsStand}
-use Rattle.laws.proofs.InstructionLemmas.{linked_pairs, linked_same, text_room}
+use Rattle.laws.specs.Instructions.{IsLinkedWord, InstructionsAreThere}
+use Rattle.laws.proofs.InstructionLemmas.{linked_pairs, linked_same, text_within}
 
 -- what stands at a place of another text
-record StandsIn (P : ℕ → ℕ → ℕ → Type 0) (i w : ℕ) (f gs : List ℕ) : Type 0 where
+record IsLineIn (P : ℕ → ℕ → ℕ → Type 0) (i w : ℕ) (f gs : List ℕ) : Type 0 where
   pub more : List ℕ
   pub there : gs ≡ w ∷ more
   pub alike : AlikeLine P i (line_of (instruction_of w) w f) (line_of (instruction_of w) w more)
 
-stands_by : (P : ℕ → ℕ → ℕ → Type 0) (moves : ℕ → Bool) (i w : ℕ) (f gs : List ℕ) → length (w ∷ f) ≤ length gs →
-    Pairs P i (w ∷ f) gs → Pairs (Same moves) i (w ∷ f) gs → moves i ≡ false → is_cut (instruction_of w) f ≡ false → StandsIn P i w f gs
-stands_by P moves i w f [] more pairs same still whole = absurd (omega arith)
-stands_by P moves i w f (v ∷ g) more pairs same still whole =
+line_in_by : (P : ℕ → ℕ → ℕ → Type 0) (moves : ℕ → Bool) (i w : ℕ) (f gs : List ℕ) → length (w ∷ f) ≤ length gs →
+    Pairs P i (w ∷ f) gs → Pairs (Same moves) i (w ∷ f) gs → moves i ≡ false → is_cut (instruction_of w) f ≡ false → IsLineIn P i w f gs
+line_in_by P moves i w f [] more pairs same still whole = absurd (omega arith)
+line_in_by P moves i w f (v ∷ g) more pairs same still whole =
     let e : v ≡ w = same 0 i w v (omega arith) refl refl still in
     let tails : length f ≤ length g = omega arith in
     record {
@@ -33,8 +33,8 @@ stands_by P moves i w f (v ∷ g) more pairs same still whole =
       alike = line_alike P i (instruction_of w) w f g whole tails (subst (λ n. Pairs P i (w ∷ f) (n ∷ g)) e pairs);
     }
 
-pub instructions_stand : InstructionsStand
-instructions_stand forced before k after o x all small l i w f here still whole =
+pub instructions_there : InstructionsAreThere
+instructions_there forced before k after o x all small l i w f here still whole =
     let os : List Contents = before ++ k ∷ after in
     let is : IsObject k = (all_split IsObject before (k ∷ after) all).1.0 in
     let n : ℕ = total TextSeg before / 2 in
@@ -50,8 +50,8 @@ instructions_stand forced before k after o x all small l i w f here still whole 
     subst (λ m. Pairs (Same moves) m (w ∷ f) (drop i vs)) none (subst (λ ws. Pairs (Same moves) (0 + i) ws (drop i vs)) here
     (pairs_from (Same moves) 0 i k.text_words vs (linked_same forced os o x all l before k after refl is small))) in
     let here_long : length (drop i k.text_words) ≡ length (w ∷ f) = ap (λ (ws : List ℕ). length ws) here in
-    let space = text_room forced os o x all l before k after refl is in
+    let space = text_within forced os o x all l before k after refl is in
     let long : length (w ∷ f) ≤ length (drop i vs) =
     omega (arith, here_long, space, length-drop i k.text_words, length-drop i vs, length-drop n x.file.text_words) in
-    let s = stands_by P moves i w f (drop i vs) long pairs same still whole in
+    let s = line_in_by P moves i w f (drop i vs) long pairs same still whole in
     record { more = s.more; there = sym (drop_twice n i x.file.text_words) ∙ s.there; alike = s.alike }

@@ -2,12 +2,12 @@
 ghost use Rattle.std.specs.Prelude.{◌≡◌, true, length, slice_get};
 ghost use Rattle.std.specs.List.{list_any};
 ghost use Rattle.link_session.specs.Undo.{image_of};
-ghost use Rattle.link_out.specs.function.Tables.{has_far_word};
+ghost use Rattle.link_out.specs.function.Tables.{has_number_too_large};
 ghost use Rattle.link_out.specs.internal.Planned.{plan_in, objects_in, locals_in};
-ghost use Rattle.link_out.specs.internal.Reach.{kept_bound, kept_bound_of, is_out};
+ghost use Rattle.link_out.specs.internal.SymbolNumbers.{kept_bound, kept_bound_of, is_too_large};
 
 use crate::plan::Plan;
-use crate::relocs::waits_far;
+use crate::relocs::number_too_large;
 use aout_core::Segment;
 use link_session::{Cell, Session, State, Target};
 
@@ -34,36 +34,36 @@ fn kept_bound_of(session: &Session, commons: bool, index: u16) -> Option<Segment
 }
 
 /// Whether a word with this target would need a number over 4,095; `locals` rows come before the externals.
-fn is_out(session: &Session, commons: bool, locals: u16, target: Target) -> bool
-    ensures { result ≡ is_out (image_of session.now).externals commons locals target }
+fn is_too_large(session: &Session, commons: bool, locals: u16, target: Target) -> bool
+    ensures { result ≡ is_too_large (image_of session.now).externals commons locals target }
 {
     match target {
         Target::External(index) => {
             let row = locals as u32 + index as u32;
-            waits_far(kept_bound_of(session, commons, index), row)
+            number_too_large(kept_bound_of(session, commons, index), row)
         }
         Target::Absolute | Target::TextSeg | Target::DataSeg | Target::BssSeg => false,
     }
 }
 
 /// Whether one of the cells would need a number over 4,095.
-fn is_any_out(session: &Session, commons: bool, locals: u16, cells: &[Cell]) -> bool
-    ensures { result ≡ list_any (λ (c : Cell). is_out (image_of session.now).externals commons locals c.target) cells.now }
+fn is_any_too_large(session: &Session, commons: bool, locals: u16, cells: &[Cell]) -> bool
+    ensures { result ≡ list_any (λ (c : Cell). is_too_large (image_of session.now).externals commons locals c.target) cells.now }
 {
     cells
         .iter()
-        .any(|cell| is_out(session, commons, locals, cell.target))
+        .any(|cell| is_too_large(session, commons, locals, cell.target))
 }
 
 /// Whether a file with relocation would need a symbol number over 4,095; `locals` rows come before the externals.
-pub(crate) fn has_far_word(plan: &Plan<'_>, locals: u16) -> bool
+pub(crate) fn has_number_too_large(plan: &Plan<'_>, locals: u16) -> bool
     requires relocatable { plan.now.options.now.relocatable ≡ true }
     requires locals { locals ≡ length (locals_in plan.now) }
-    ensures { result ≡ has_far_word (plan_in plan.now) (objects_in plan.now) }
+    ensures { result ≡ has_number_too_large (plan_in plan.now) (objects_in plan.now) }
 {
     let session = plan.session;
     let commons = plan.options.lays_commons();
-    let in_text = is_any_out(session, commons, locals, session.text_cells());
-    let in_data = is_any_out(session, commons, locals, session.data_cells());
+    let in_text = is_any_too_large(session, commons, locals, session.text_cells());
+    let in_data = is_any_too_large(session, commons, locals, session.data_cells());
     in_text || in_data
 }

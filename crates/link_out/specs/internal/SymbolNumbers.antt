@@ -1,4 +1,4 @@
--- What is out of reach in a file with relocation, by the states of the names alone.
+-- Which numbers of symbols are too large in a file with relocation, by the states of the names alone.
 use Rattle.std.specs.Prelude.{ℕ, ◌+◌, Bool, false, not, ◌&&◌, cond, eqb, List, Option, Some, None, slice_get}
 use Rattle.aout_core.specs.declared.symbol.Segment.{Segment}
 use Rattle.aout_core.specs.declared.symbol.Segment.TheVariants.{BssSeg}
@@ -6,7 +6,7 @@ use Rattle.link_session.specs.declared.cell.Target.{Target}
 use Rattle.link_session.specs.declared.cell.Target.TheVariants.{External}
 use Rattle.link_session.specs.declared.state.State.{State}
 use Rattle.link_session.specs.declared.state.State.TheVariants.{Defined, Wanted}
-use Rattle.link_out.specs.function.Tables.{waits_far}
+use Rattle.link_out.specs.function.Tables.{number_too_large}
 
 -- the segment that a name is bound to, where commons are laid out or not
 abbrev pub kept_bound : Bool → State → Option Segment
@@ -17,6 +17,6 @@ abbrev pub kept_bound_of : Bool → Option (List ℕ × State) → Option Segmen
 kept_bound_of commons None = None
 kept_bound_of commons (Some e) = kept_bound commons e.1
 
-abbrev pub is_out : List (List ℕ × State) → Bool → ℕ → Target → Bool
-is_out es commons locals (External i) = waits_far (kept_bound_of commons (slice_get es i)) (locals + i)
-is_out es commons locals _ = false
+abbrev pub is_too_large : List (List ℕ × State) → Bool → ℕ → Target → Bool
+is_too_large es commons locals (External i) = number_too_large (kept_bound_of commons (slice_get es i)) (locals + i)
+is_too_large es commons locals _ = false

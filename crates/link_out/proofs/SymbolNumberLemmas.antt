@@ -1,4 +1,4 @@
--- What is out of reach by the states of the names is so by what becomes of them.
+-- A number that is too large by the states of the names is so by what becomes of them.
 use Rattle.std.proofs.Common.{◌≡◌, ℕ, ◌+◌, Bool, true, false, cond, not, ◌&&◌, ◌||◌, eqb, List}
 use Rattle.std.proofs.Common.{length, Option, Some, None, refl, sym, ◌∙◌, ap}
 use Rattle.std.specs.Prelude.{slice_get, option_map, if◌then◌else◌}
@@ -24,11 +24,11 @@ use Rattle.link_session.proofs.AdditionLemmas.{well_formed}
 use Rattle.link_session.proofs.WellFormedLemmas.{objects_refer}
 use Rattle.tool_options.specs.Choices.{Choices, lays_commons}
 use Rattle.link_out.specs.function.Finals.{bound_at, waiting, reserved_or_waiting, final, final_by}
-use Rattle.link_out.specs.internal.FromCells.{bound_of, finals, is_far}
+use Rattle.link_out.specs.internal.FromCells.{bound_of, finals, target_too_large}
 use Rattle.link_out.specs.function.Plans.{Plan, plan, common_offset}
-use Rattle.link_out.specs.function.Tables.{waits_far, local_rows, has_far_in, has_far_word}
-use Rattle.link_out.specs.internal.Reach.{kept_bound, kept_bound_of, is_out}
-use Rattle.link_out.proofs.CellRelocLemmas.{has_far_in-cells}
+use Rattle.link_out.specs.function.Tables.{number_too_large, local_rows, has_too_large_in, has_number_too_large}
+use Rattle.link_out.specs.internal.SymbolNumbers.{kept_bound, kept_bound_of, is_too_large}
+use Rattle.link_out.proofs.CellRelocLemmas.{has_too_large_in-cells}
 
 module _ (p : Plan) (kept : p.choices.relocatable ≡ true) where
   -- a name is bound by its state as it is in the end
@@ -59,36 +59,37 @@ module _ (p : Plan) (kept : p.choices.relocatable ≡ true) where
       by_name None = refl
       by_name (Some n) = bound_by n (state p.mentions n)
 
-  out_far : (locals : ℕ) (t : Target) → is_out (named_states p.mentions) (lays_commons p.choices) locals t ≡ is_far (finals p) locals t
-  out_far locals targets.Absolute = refl
-  out_far locals targets.TextSeg = refl
-  out_far locals targets.DataSeg = refl
-  out_far locals targets.BssSeg = refl
-  out_far locals (targets.External i) = ap (λ (b : Option Segment). waits_far b (locals + i)) (bound_at_place i)
+  same_too_large : (locals : ℕ) (t : Target) → is_too_large (named_states p.mentions) (lays_commons p.choices) locals t
+      ≡ target_too_large (finals p) locals t
+  same_too_large locals targets.Absolute = refl
+  same_too_large locals targets.TextSeg = refl
+  same_too_large locals targets.DataSeg = refl
+  same_too_large locals targets.BssSeg = refl
+  same_too_large locals (targets.External i) = ap (λ (b : Option Segment). number_too_large b (locals + i)) (bound_at_place i)
 
-  out_far_in : (os : List Contents) (segment : Segment) (locals : ℕ) → locals ≡ length (local_rows p os) →
+  same_too_large_in : (os : List Contents) (segment : Segment) (locals : ℕ) → locals ≡ length (local_rows p os) →
       AllByRecursion (λ o. AllReferAmong (names_of p.mentions) o (words_of segment o)) os →
-      list_any (λ (c : Cell). is_out (named_states p.mentions) (lays_commons p.choices) locals c.target)
-      (cells p.mentions segment os) ≡ has_far_in p os segment
-  out_far_in os segment locals many refer =
-      (λ i. list_any (λ (c : Cell). is_out (named_states p.mentions) (lays_commons p.choices) (many i) c.target)
+      list_any (λ (c : Cell). is_too_large (named_states p.mentions) (lays_commons p.choices) locals c.target)
+      (cells p.mentions segment os) ≡ has_too_large_in p os segment
+  same_too_large_in os segment locals many refer =
+      (λ i. list_any (λ (c : Cell). is_too_large (named_states p.mentions) (lays_commons p.choices) (many i) c.target)
       (cells p.mentions segment os))
-      ∙ (λ i. list_any (λ (c : Cell). out_far (length (local_rows p os)) c.target i) (cells p.mentions segment os))
-      ∙ has_far_in-cells p segment os refer
+      ∙ (λ i. list_any (λ (c : Cell). same_too_large (length (local_rows p os)) c.target i) (cells p.mentions segment os))
+      ∙ has_too_large_in-cells p segment os refer
 
 -- the words of a session's objects, from its cells of text and of data
-pub far_word : (forced : List (List ℕ)) (os : List Contents) (o : Choices) (locals : ℕ) (text datas : List Cell)
+pub large_word : (forced : List (List ℕ)) (os : List Contents) (o : Choices) (locals : ℕ) (text datas : List Cell)
     (commons in_text in_data : Bool) → o.relocatable ≡ true →
     locals ≡ length (local_rows (plan forced os o) os) → AllByRecursion IsObject os → commons ≡ lays_commons o →
     text ≡ (image forced os).text_cells → datas ≡ (image forced os).data_cells →
-    in_text ≡ list_any (λ (c : Cell). is_out (image forced os).externals commons locals c.target) text →
-    in_data ≡ list_any (λ (c : Cell). is_out (image forced os).externals commons locals c.target) datas →
-    (in_text || in_data) ≡ has_far_word (plan forced os o) os
-far_word forced os o locals text datas commons in_text in_data kept many good laid t d far_text far_data =
+    in_text ≡ list_any (λ (c : Cell). is_too_large (image forced os).externals commons locals c.target) text →
+    in_data ≡ list_any (λ (c : Cell). is_too_large (image forced os).externals commons locals c.target) datas →
+    (in_text || in_data) ≡ has_number_too_large (plan forced os o) os
+large_word forced os o locals text datas commons in_text in_data kept many good laid t d large_text large_data =
     let p = plan forced os o in
     let well : AllByRecursion IsWellFormed os = well_formed os good in
-    (λ i. far_text i || far_data i)
-    ∙ (λ i. list_any (λ (c : Cell). is_out (image forced os).externals (laid i) locals c.target) (t i)
-    || list_any (λ (c : Cell). is_out (image forced os).externals (laid i) locals c.target) (d i))
-    ∙ (λ i. out_far_in p kept os TextSeg locals many (objects_refer forced TextSeg os well) i
-    || out_far_in p kept os DataSeg locals many (objects_refer forced DataSeg os well) i)
+    (λ i. large_text i || large_data i)
+    ∙ (λ i. list_any (λ (c : Cell). is_too_large (image forced os).externals (laid i) locals c.target) (t i)
+    || list_any (λ (c : Cell). is_too_large (image forced os).externals (laid i) locals c.target) (d i))
+    ∙ (λ i. same_too_large_in p kept os TextSeg locals many (objects_refer forced TextSeg os well) i
+    || same_too_large_in p kept os DataSeg locals many (objects_refer forced DataSeg os well) i)
