@@ -1,7 +1,8 @@
 #!/usr/bin/env python3
 """Compares what docs/PROOFS.md quotes of the code, and docs/LIBRARY.md of the examples, with these. A block that is indented by four
-blanks quotes the file whose path, in backquotes, is the last one before it; its comments are the page's own. A block of commands
-is not a quotation. docs/TRUST.md has the theorem as README.md states it, word for word."""
+blanks quotes the file whose path, in backquotes, is the last one before it; its comments are the page's own, and a clause that the
+file has on several lines may be on one. A block of commands is not a quotation. docs/TRUST.md has the theorem as README.md states
+it, word for word."""
 import os
 import re
 import sys
@@ -28,12 +29,19 @@ def quotes(text):
         before = line
 
 
+def statements(text):
+    """The lines of a text, and each clause that has several lines as one."""
+    found = [line.strip() for line in text.splitlines()]
+    clauses = re.findall(r"^( +)((?:ensures|requires).*(?:\n\1 .*)+)", text, re.M)
+    return {*found, *(" ".join(clause.split()) for _, clause in clauses)}
+
+
 def faults_in(page, text):
     count, faults = 0, []
     for number, path, line in quotes(text):
         count += 1
         with open(path, encoding="utf-8") as file:
-            if line not in (known.strip() for known in file):
+            if line not in statements(file.read()):
                 faults.append(f"{page}:{number}: {path} has no such line: {line}")
     return count, faults
 

@@ -4,8 +4,8 @@
 usage: tests/shape.py        prints the figures; an error if a file has more lines over 160 columns than are noted
        tests/shape.py -w     notes in tests/shape.seen how many each file has now
 
-A clause is what `ensures`, `requires` or `invariant` says, in one line or many. A lemma is a statement at the beginning of a
-line of a file in proofs/; it has a comment if the line above it is one.
+A clause is what `ensures`, `requires` or `invariant` says, in one line or many; it is wide if one of its lines is. A lemma is a
+statement at the beginning of a line of a file in proofs/; it has a comment if the line above it is one.
 """
 import collections
 import os
@@ -16,6 +16,7 @@ import sys
 SEEN = "tests/shape.seen"
 WIDE, TOO_WIDE, WIDE_CLAUSE = 140, 160, 100
 CLAUSE = re.compile(r"^\s*(?:ensures|requires|invariant)\b")
+QUOTED = re.compile(r'"(?:\\.|[^"\\])*"|\'(?:\\.[^\']*|[^\'\\])\'')
 STATEMENT = re.compile(r"^(?:pub )?([^\s:(){}]+) : ")
 
 
@@ -37,6 +38,21 @@ def lemmas(path):
     return len(found), sum(at > 0 and text[at - 1].startswith("--") for at in found)
 
 
+def clauses(path):
+    """The clauses of a source, each as its lines: up to the brace that closes it, past braces in texts and characters."""
+    text = lines(path)
+    for at, line in enumerate(text):
+        if not CLAUSE.match(line):
+            continue
+        depth, last = 0, at
+        for last in range(at, len(text)):
+            plain = QUOTED.sub("", text[last])
+            depth += plain.count("{") - plain.count("}")
+            if depth <= 0:
+                break
+        yield text[at:last + 1]
+
+
 def noted():
     """The files that may have lines over 160 columns, and how many."""
     if not os.path.exists(SEEN):
@@ -53,13 +69,13 @@ def main(words):
         crates[path.split("/")[1]] += len(text)
     every = [(path, line) for path, text in texts.items() for line in text]
     told = [lemmas(path) for path in proofs if "/proofs/" in path]
-    clauses = [line for path in sources for line in lines(path) if CLAUSE.match(line)]
+    widths = [max(map(len, clause)) for path in sources for clause in clauses(path)]
     print(f"lines of .antt files: {len(every)}, of which {sum(line.startswith(('use ', 'pub use ')) for _, line in every)} are imports")
     for crate, count in crates.most_common(5):
         print(f"  {crate}: {count}")
     print(f"lines over {WIDE} columns: {sum(len(line) > WIDE for _, line in every)}, the widest {max(len(line) for _, line in every)}")
-    print(f"clauses: {len(clauses)}, of which {sum(len(line) > WIDE_CLAUSE for line in clauses)} are over {WIDE_CLAUSE} columns, "
-          f"the widest {max(map(len, clauses))}")
+    print(f"clauses: {len(widths)}, of which {sum(width > WIDE_CLAUSE for width in widths)} have a line over {WIDE_CLAUSE} columns, "
+          f"the widest {max(widths)}")
     print(f"lemmas: {sum(all_ for all_, _ in told)}, of which {sum(some for _, some in told)} have a comment")
     wide = collections.Counter(path for path, line in every if len(line) > TOO_WIDE)
     if "-w" in words:

@@ -44,6 +44,9 @@ PLACE = re.compile(r"(?:note: )?(?:\./)?((?:src|specs|proofs)/[^:\s]+):(\d+):\d+
 SHAPE = re.compile(r"has no field|is not in scope|has no `|was not admitted|cannot be named from here")
 UNREAD = re.compile(r"is not in scope|has no field|is no name|operand is missing|expected the end|cannot continue")
 CALLED = re.compile(r"`([^`]+)`")
+# what is between two words of a source, and what has to stay as it is: a text, a character, and a comment after code
+BETWEEN = re.compile(r"""(?P<blank>\s*\n\s*(?://[^\n]*(?:\n\s*|\Z))*|\s+)
+    |\bb?r(?P<marks>\#*)".*?"(?P=marks)|"(?:\\.|[^"\\])*"|'(?:\\.[^'\n]*|[^'\\\n])'|(?://|--)[^\n]*""", re.S | re.X)
 # two imports from one module, of which the first goes on as far as the other's first item
 IMPORTS = re.compile(r"^(((?:pub )?use \S+\.\{)[^}\n]*)\}\n\2", re.M)
 
@@ -412,8 +415,20 @@ class Below(prove.Proving):
 
 
 def without_comments(text):
-    """A text of code or of definitions without the lines that are comments: no contract is weaker for these."""
+    """A text of definitions without the lines that are comments: no contract is weaker for these."""
     return "\n".join(line for line in text.split("\n") if not re.match(r"\s*(//|--)", line))
+
+
+def on_one_blank(text):
+    """A text of code with one blank for what is between two words: blanks, line ends and lines of comments; and with nothing for that
+    after `(` or before `)`. So a line that is broken says the same. Texts and characters stay as they are, and a comment after code
+    goes to the end of its line as before."""
+    def plain(found):
+        around = found.string[found.start() - 1:found.start()], found.string[found.end():found.end() + 1]
+        if found["blank"]:
+            return "" if around[0] == "(" or around[1] == ")" else " "
+        return f"{found[0]}\n" if found[0].startswith(("//", "--")) else found[0]
+    return BETWEEN.sub(plain, f"\n{text}").strip()
 
 
 def on_one_line(text):
@@ -434,15 +449,18 @@ def on_one_line(text):
 
 
 def digest(crate):
-    """The digest of the code and the definitions of a crate, without comments and by statements, and of its edits."""
+    """The digest of the code and the definitions of a crate, without comments and wherever lines are broken, and of its edits."""
     whole = hashlib.sha256()
     paths = [f"{at}/{file}" for part in ("src", "specs") for at, _, files in os.walk(f"crates/{crate}/{part}") for file in files]
     texts = [(os.path.relpath(path, f"crates/{crate}"), path) for path in paths]
     texts += [(f"edits/{os.path.basename(path)}", path) for path in edits.edits_of(crate)]
     for name, path in sorted(texts):
         text = edits.read(path)
-        text = text if name.startswith("edits/") else without_comments(text)
-        whole.update(f"{name}\n{on_one_line(text) if name.endswith('.antt') else text}\n".encode())
+        if name.endswith(".rt"):
+            text = on_one_blank(text)
+        elif name.endswith(".antt"):
+            text = on_one_line(without_comments(text))
+        whole.update(f"{name}\n{text}\n".encode())
     return whole.hexdigest()
 
 

@@ -88,6 +88,34 @@ EDITS = {
     "unfit": (LIB, "no such text", "another", "it cannot be made"),
 }
 WAITS = "harmless_caller"
+# lines that are broken: a file, and the text before and after
+BROKEN = [
+    (SUMS, "other = one", "other =\n    one"),
+    (SUMS, "{ℕ, ", "{ℕ}\nuse Rattle.std.specs.Prelude.{"),
+    (LIB, "{ result ≡ number + number }", "{ result\n        ≡ number + number }"),
+]
+# sources, and whether two of them say the same
+SOURCES = [
+    ("a(b, c)\n", "a(b,\n        c)", True),
+    ("a\n    // b\n    /// c\nd", "a d", True),
+    ("//! a\nb", "b\n// c", True),
+    ("a(\n    b c\n)", "a(b c)", True),
+    ("a - b", "a-b", False),
+    ("a (b)", "a(b)", False),
+    ("'(' a", "'('a", False),
+    ("a // (\n b", "a // ( b", False),
+    ("a; // b\nc;", "a; // b c;", False),
+    ("{ a -- b\n c }", "{ a -- b c }", False),
+    ("a\n--b", "a\n--c", False),
+    ('"a\n  // b"', '"a\n  // c"', False),
+    ('"a  b"', '"a b"', False),
+    ('"\\"  a"', '"\\" a"', False),
+    ("'\"' + \"a  b\"", "'\"' + \"a b\"", False),
+    ("'\\'' + \"'a  b\"", "'\\'' + \"'a b\"", False),
+    ("<'a> + \"b'  c\"", "<'a> + \"b' c\"", False),
+    ('r#"a  "b"#', 'r#"a "b"#', False),
+    ("a + b' '", "a + b''", False),
+]
 
 
 def write():
@@ -137,7 +165,7 @@ def faults_of_digests():
     for text, wanted in texts.items():
         if shown_as_changed(text) != wanted:
             yield f"the digests {text!r} have to show as changed: {wanted}"
-    for path, more in ((LIB, "\n"), (SUMS, "\nabbrev pub one : ℕ\n"), (SUMS, "  one = 1\n"), ("must-fail/wrong.edit", "\n")):
+    for path, more in ((LIB, "const ONE: u8 = 1;\n"), (SUMS, "\nabbrev pub one : ℕ\n"), (SUMS, "  one = 1\n"), ("must-fail/wrong.edit", "\n")):
         with open(f"crates/tried/{path}", "a", encoding="utf-8") as file:
             file.write(more)
         if shown_as_changed(f"tried {digest}\n") != ["tried"]:
@@ -148,12 +176,16 @@ def faults_of_digests():
             file.write(f"{comment}\n")
         if shown_as_changed(f"tried {digest}\n"):
             yield f"a comment of {path} is not a change"
-    for old, new in (("other = one", "other =\n    one"), ("{ℕ, ", "{ℕ}\nuse Rattle.std.specs.Prelude.{")):
-        text = wrong_bodies.edits.read(f"crates/tried/{SUMS}")
-        with open(f"crates/tried/{SUMS}", "w", encoding="utf-8") as file:
+    for path, old, new in BROKEN:
+        text = wrong_bodies.edits.read(f"crates/tried/{path}")
+        with open(f"crates/tried/{path}", "w", encoding="utf-8") as file:
             file.write(text.replace(old, new))
         if text.count(old) != 1 or shown_as_changed(f"tried {digest}\n"):
             yield f"a line that is broken is not a change: {new!r}"
+    for one, other, are_alike in SOURCES:
+        if (wrong_bodies.on_one_blank(one) == wrong_bodies.on_one_blank(other)) != are_alike:
+            yield f"{one!r} and {other!r} {'say the same' if are_alike else 'differ'}"
+    text = wrong_bodies.edits.read(f"crates/tried/{SUMS}")
     with open(f"crates/tried/{SUMS}", "w", encoding="utf-8") as file:
         file.write(text.replace("\n  one = 1", "\none = 1"))
     if shown_as_changed(f"tried {digest}\n") != ["tried"]:

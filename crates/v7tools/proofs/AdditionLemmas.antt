@@ -23,7 +23,7 @@ use Rattle.v7tools.specs.FaultTexts.{fault_of_addition}
 use Rattle.v7tools.specs.Loads.{read_of, IsAtPath}
 use Rattle.v7tools.specs.LinkAnswers.{WantsMemory}
 use Rattle.v7tools.specs.internal.InputParts.{IsCheckOf}
-use Rattle.v7tools.specs.internal.StepParts.{IsFound, IsAddition, IsObjectAddition}
+use Rattle.v7tools.specs.internal.StepParts.{IsFound, IsAddition}
 
 -- ---- what was read
 
@@ -150,7 +150,8 @@ not_fit known old new path label o cause is_found same why real unchanged = (
   }),
 )
 
-addition_refused : (known : Option (List ℕ)) (old new : Kept) (path label : String Global) (o : Contents) (cause : AddFault) →
+-- an object that was read at a path is refused
+pub addition_refused : (known : Option (List ℕ)) (old new : Kept) (path label : String Global) (o : Contents) (cause : AddFault) →
     IsFound known (Ok o) → label ≡ path →
     IsCause (refusal old.forced (objects old.entries) o) cause → new ≡ old →
     IsAddition known old new path (Err (fault_of_addition label cause))
@@ -170,11 +171,11 @@ addition_refused known old new path label o adds.BssFull found same why unchange
 addition_refused known old new path label o adds.NamesFull found same why unchanged =
     not_fit known old new path label o adds.NamesFull found same why (λ e. absurd (cc)) unchanged
 
--- what became of an object that was read at a path
-pub addition_of_object : (known : Option (List ℕ)) (old new : Kept) (path label : String Global) (o : Contents)
-    (r : Result (Unit {0}) CliFault) → IsFound known (Ok o) → label ≡ path →
-    IsObjectAddition old new label o r → IsAddition known old new path r
-addition_of_object known old new path label o (Ok x) found same (within, adds) =
+-- it is added
+pub addition_made : (known : Option (List ℕ)) (old new : Kept) (path label : String Global) (o : Contents) →
+    IsFound known (Ok o) → label ≡ path → refusal old.forced (objects old.entries) o ≡ None →
+    Adds old new (labelled label o) → IsAddition known old new path (Ok tt)
+addition_made known old new path label o found same within adds =
     let added : Adds old new (labelled path o) = subst (λ (p : String Global). Adds old new (labelled p o)) same adds in (
       o,
       record {
@@ -185,9 +186,6 @@ addition_of_object known old new path label o (Ok x) found same (within, adds) =
             ∙ ap (λ (es : List Labelled). Ok es) (sym added.entries);
       },
     )
-addition_of_object known old new path label o (Err fault) found same (unchanged, (cause, is, why)) =
-    subst (λ (f : CliFault). IsAddition known old new path (Err f)) (sym is)
-    (addition_refused known old new path label o cause found same why unchanged)
 
 -- a fault that is carried on
 pub carried : (r : Result (Unit {0}) CliFault) (fault : CliFault) → IsErrAnd r (λ f. f ≡ fault) → r ≡ Err fault

@@ -17,11 +17,14 @@ use Rattle.v7tools.specs.Answers.{giving, withdraw_step, link_answer_text, link_
 use Rattle.surroundings.specs.Events.{Event, History, Extends, opened, stored}
 use Rattle.v7tools.specs.FaultTexts.{cli_text, fault_of_link}
 use Rattle.v7tools.specs.Inputs.{Cause, kept_with}
+use Rattle.command_words.specs.declared.lines.Line.{Line}
+use Rattle.command_words.specs.declared.lines.Line.TheVariants as lines
+use Rattle.command_words.specs.ScriptAnswers.{asked_by}
 use Rattle.command_words.specs.Scripts.{Asked, to_add, to_withdraw, for_externals, for_undefined, to_link, for_nothing}
 use Rattle.v7tools.specs.LineRuns.{DoesStep, IsAddOf, IsLineOf, LineRun, OnlyAnswers, TakesLast, status_after}
 use Rattle.v7tools.specs.internal.StepParts.{RefusesLink}
-use Rattle.v7tools.specs.internal.SessionParts.{AnswersLine, IsNoLink, IsOpenedAt, TakesPlainStep, AnswersStep}
-use Rattle.v7tools.specs.SessionSteps.{AddsIf, Does, GoesOut, IsAddBy, IsAddOn, IsStepOn, verdict_of}
+use Rattle.v7tools.specs.internal.SessionParts.{AnswersLine, AnswersStep, IsCommandOf, IsNoLink, IsOpenedAt, PassesOn, TakesPlainStep}
+use Rattle.v7tools.specs.SessionSteps.{AddsIf, Does, GoesOut, IsAddBy, IsAddOn, IsStepOn, TakesStep, verdict_of}
 use Rattle.v7tools.specs.declared.session.commands.Command.{Command}
 use Rattle.v7tools.specs.declared.session.commands.Step.{Step}
 use Rattle.v7tools.specs.declared.session.commands.Command.TheVariants.{Add, Withdraw, Externals, Undefined, Link, Bad}
@@ -29,8 +32,7 @@ use Rattle.v7tools.specs.declared.fault.CliFault.{CliFault}
 use Rattle.v7tools.specs.declared.fault.CliFault.TheVariants as faults
 use Rattle.surroundings.specs.declared.office.Stored.{Stored}
 use Rattle.surroundings.proofs.EventLemmas.{nothing_asked}
-use Rattle.v7tools.proofs.StepLemmas.{link_refused_by, no_value, refused_as}
-use Rattle.aout_core.proofs.PutsLemmas.{put_broke_off}
+use Rattle.v7tools.proofs.StepLemmas.{link_refused_by, refused_as}
 
 -- ---- a step that is no link
 
@@ -218,6 +220,51 @@ module _ {W : Type 0} (contents : W → Option (List ℕ)) where
           answered_by o for_nothing [] did kept left h h result before after told (nothing_asked h)
           (answers_line for_nothing did _ kept left e told.entries changes)
 
+    -- a line that is not a link, from the step that it asks for
+    pub line_by_step : (old new : History) (line : Line) (command : Command R) → IsCommandOf remaining old new line command →
+        TakesPlainStep remaining contents o command kept left result before after →
+        AnswersLine contents o (asked_by line) kept left old new result before after
+    line_by_step old new (lines.Add path) command (wire, is, found) told =
+        added_line old new path (string_bytes path) wire refl found (rw is at told)
+    line_by_step old new lines.Withdraw command (is, same) told = rw same (withdraw_line old (rw is at told))
+    line_by_step old new lines.Externals command (is, same) told = rw same (externals_line old (rw is at told))
+    line_by_step old new lines.Undefined command (is, same) told = rw same (undefined_line old (rw is at told))
+    line_by_step old new (lines.Link path) command h told = absurd h
+    line_by_step old new lines.Bad command (is, same) told = rw same (bad_line old (rw is at told))
+
+  module _ {R : Type 0} (remaining : R → Option (List ℕ)) where
+    step_of_line : (old new : History) (line : Line) (command : Command R) → IsCommandOf remaining old new line command →
+        IsNoLink command
+    step_of_line old new (lines.Add path) command (wire, is, found) = rw is tt
+    step_of_line old new lines.Withdraw command (is, same) = rw is tt
+    step_of_line old new lines.Externals command (is, same) = rw is tt
+    step_of_line old new lines.Undefined command (is, same) = rw is tt
+    step_of_line old new (lines.Link path) command h = absurd h
+    step_of_line old new lines.Bad command (is, same) = rw is tt
+
+    module _ (o : Choices) (kept left : Kept) (before after : Latched W) (old new : History) (line : Line) (command : Command R)
+        (asks : IsCommandOf remaining old new line command) where
+      -- its answer went out whole
+      pub line_answered : (s : Step) (status : ℕ) → TakesStep remaining contents o command kept left (Ok s) before after →
+          status ≡ status_after (verdict_of s) →
+          AnswersLine contents o (asked_by line) kept left old new (Ok status) before after
+      line_answered s status (did, on, changes, does) is =
+          let plain = plain_stores remaining o kept command did (step_of_line old new line command asks) on in
+          line_by_step remaining o kept left (Ok status) before after old new line command asks (
+            did,
+            on,
+            changes,
+            answers_status did left s status before after does (λ x e. plain (x, sym does.verdict ∙ e)) is,
+          )
+
+      -- or only a prefix of it
+      pub line_cut_short : (fault : CliFault) (result : Result ℕ CliFault) →
+          TakesStep remaining contents o command kept left (Err fault) before after → fault ≡ faults.WriteFailed →
+          result ≡ Err fault → AnswersLine contents o (asked_by line) kept left old new result before after
+      line_cut_short fault result (did, on, changes, does) is e =
+          line_by_step remaining o kept left result before after old new line command asks
+          (did, on, changes, answers_fault did left fault result before after does is e)
+
   module _ (o : Choices) (path : List ℕ) (kept : Kept) (result : Result ℕ CliFault) (before after : Latched W) where
     -- there is no link
     pub refused_link : (h : History) → RefusesLink contents (link kept.forced (objects kept.entries) o) result before after →
@@ -269,26 +316,33 @@ module _ {W : Type 0} (contents : W → Option (List ℕ)) where
       subst (λ (w : Latched W). AnswersLine contents o asks kept left old new result w after) e h
 
   -- the whole answer is after a flush that failed
-  pub not_passed : (a b c : Option (List ℕ)) (answer : List ℕ) → Appends a b answer → Keeps b c → AppendsPrefix a c answer
+  not_passed : (a b c : Option (List ℕ)) (answer : List ℕ) → Appends a b answer → Keeps b c → AppendsPrefix a c answer
   not_passed a b c answer sent kept = (answer, [], sym (append-nil answer), Appends-kept a b c answer sent kept)
 
-  -- a line was answered, and its answer is not passed on
-  pub not_passed_on : (o : Choices) (asks : Asked) (kept left : Kept) (old new : History)
-      (status : ℕ) (result : Result ℕ CliFault) (before between after : Latched W) →
+  -- a line was answered, and its answer is passed on, or is not
+  pub line_passed : (o : Choices) (asks : Asked) (kept left : Kept) (old new : History) (status : ℕ)
+      (result : Result ℕ CliFault) (before between after : Latched W) →
       AnswersLine contents o asks kept left old new (Ok status) before between →
-      Keeps (contents between.device) (contents after.device) → IsErr result →
-      IfErr result (λ fault. fault ≡ faults.WriteFailed) → IsTrue after.has_failed →
-      AnswersLine contents o asks kept left old new result before after
-  not_passed_on o asks kept left old new status result before between after h keeps err write_failed failed = record {
+      PassesOn contents status result between after → AnswersLine contents o asks kept left old new result before after
+  line_passed o asks kept left old new status (Ok same) before between after h passes = record {
     run = h.run;
     line = h.line;
     leaves = h.leaves;
     is_run = h.is_run;
     asked = h.asked;
-    status = no_value result (λ s. s ≡ h.run.status) err;
-    write_failed = write_failed;
-    fault = (λ _. failed, λ _. err);
-    bytes =
-        put_broke_off result (contents before.device) (contents after.device) h.run.answer err
-        (not_passed (contents before.device) (contents between.device) (contents after.device) h.run.answer h.bytes keeps);
+    status = passes.same ∙ h.status;
+    write_failed = tt;
+    fault = passes.fault;
+    bytes = Appends-kept (contents before.device) (contents between.device) (contents after.device) h.run.answer h.bytes passes.bytes;
+  }
+  line_passed o asks kept left old new status (Err fault) before between after h passes = record {
+    run = h.run;
+    line = h.line;
+    leaves = h.leaves;
+    is_run = h.is_run;
+    asked = h.asked;
+    status = tt;
+    write_failed = passes.write_failed;
+    fault = passes.fault;
+    bytes = not_passed (contents before.device) (contents between.device) (contents after.device) h.run.answer h.bytes passes.bytes;
   }

@@ -1,5 +1,5 @@
 -- The lines of a script, run one after another on a session.
-use Rattle.std.proofs.Common.{◌≡◌, ℕ, ◌+◌, ◌≤◌, max, List, [], ◌∷◌, ◌++◌, Option, Some, None, Result, Ok, Err, refl}
+use Rattle.std.proofs.Common.{◌≡◌, ℕ, ◌+◌, max, List, [], ◌∷◌, ◌++◌, Option, Some, None, Result, Ok, Err, refl}
 use Rattle.std.proofs.Common.{sym, ap, ◌∙◌, subst, inl, inr, append_assoc, append-nil, arith}
 use Rattle.std.specs.Prelude.{IfSome, IsSome, IsTrue, ◌⊎◌}
 use Rattle.std.specs.List.{flat_map}
@@ -40,9 +40,6 @@ worst_more (s ∷ ss) r = let h : worst (ss ++ r ∷ []) ≡ max (worst ss) r.st
 
 row_more : {A : Type 0} (f : LineRun → List A) (runs : List LineRun) (r : LineRun) → flat_map f (runs ++ r ∷ []) ≡ flat_map f runs ++ f r
 row_more {A} f runs r = flat_map-append f runs (r ∷ []) ∙ ap (λ (l : List A). flat_map f runs ++ l) (append-nil (f r))
-
-pub larger_small : (a b : ℕ) → a ≤ 1 → b ≤ 1 → max a b ≤ 1
-larger_small a b p q = omega arith
 
 -- ---- what a script gave so far
 

@@ -35,6 +35,7 @@ mod link;
 mod parsing;
 mod program;
 mod session;
+mod status;
 
 pub use command_words::{BlockWriter, Call, Line};
 pub use fault::CliFault;

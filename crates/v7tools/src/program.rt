@@ -8,6 +8,7 @@ use crate::files::commands::{list_files, size_files, strip_files};
 use crate::link::command::{LinkCall, link_files};
 use crate::parsing::parse;
 use crate::session::command::{Setting, answer_script};
+use crate::status::Status;
 use aout_core::{BufferedWrite, Wire};
 use command_words::{BlockWriter, Call};
 use std::alloc::Global;
@@ -23,8 +24,7 @@ fn run_call<O: Office, R: Read + Drop, W: BufferedWrite>(
     script: R,
     output: &mut Wire<W>,
     call: Call,
-) -> Result<u8, CliFault>
-    ensures small { IfOk result (λ status. status ≤ 1) }
+) -> Result<Status, CliFault>
     ensures run { IsCallRun W.contents (R.remaining script) call
         (O.history office.old) (O.history office.new) result output.old output.new }
     ensures passed { IsPassedOn W.waiting output.old → IsPassedOn W.waiting output.new }
@@ -64,8 +64,7 @@ fn run_words<O: Office, R: Read + Drop, W: BufferedWrite>(
     script: R,
     output: &mut Wire<W>,
     words: Vec<String>,
-) -> Result<u8, CliFault>
-    ensures small { IfOk result (λ status. status ≤ 1) }
+) -> Result<Status, CliFault>
     ensures run { RunsWords W.contents (map string_bytes words.items) (R.remaining script)
         (O.history office.old) (O.history office.new) result output.old output.new }
     ensures passed { IsPassedOn W.waiting output.old → IsPassedOn W.waiting output.new }
@@ -93,7 +92,7 @@ pub fn perform<O: Office, R: Read + Drop, W: BufferedWrite, E: Write>(
     ensures passed { IsPassedOn W.waiting outputs.old.output → IsPassedOn W.waiting outputs.new.output }
 {
     match run_words(alloc, office, script, &mut outputs.output, words) {
-        Ok(status) => status,
+        Ok(status) => status.code(),
         Err(fault) => {
             let _ = fault.write(&mut outputs.error);
             2
@@ -112,7 +111,8 @@ pub fn attempt<H: Runtime + AllocGlobal, R: Read + Drop>(
 {
     let mut office = Disk::new(rt);
     let mut output = Wire::new(BlockWriter::new(io::writer(rt)));
-    run_words(rt.alloc(), &mut office, script, &mut output, words)
+    let status = run_words(rt.alloc(), &mut office, script, &mut output, words)?;
+    Ok(status.code())
 }
 
 /// Does what the arguments ask for, and returns the status of the program (own choice):

@@ -1,14 +1,18 @@
 -- How a session answers a line: the file that is opened, the step that is taken, and what goes out.
 use Rattle.std.specs.Prelude.{◌≡◌, ◌↔◌, ℕ, false, List, [], ◌∷◌, Option, Some, None, Result, IfErr, IfOk, IsErr, IsTrue}
+use Rattle.std.specs.Prelude.{string_bytes}
+use Rattle.std.specs.Io.KnownBytes.{Keeps}
 use Rattle.aout_core.specs.Wires.{Latched, Puts}
 use Rattle.link_session.specs.Undo.{Kept}
 use Rattle.tool_options.specs.Choices.{Choices}
 use Rattle.v7tools.specs.Answers.{Stepped}
 use Rattle.surroundings.specs.Events.{History, Extends, opened}
+use Rattle.command_words.specs.declared.lines.Line.{Line}
+use Rattle.command_words.specs.declared.lines.Line.TheVariants as lines
 use Rattle.command_words.specs.Scripts.{Asked}
 use Rattle.v7tools.specs.SessionSteps.{Changes, IsStepOn}
 use Rattle.v7tools.specs.declared.session.commands.Command.{Command}
-use Rattle.v7tools.specs.declared.session.commands.Command.TheVariants.{Link}
+use Rattle.v7tools.specs.declared.session.commands.Command.TheVariants.{Add, Withdraw, Externals, Undefined, Link, Bad}
 use Rattle.v7tools.specs.declared.fault.CliFault.{CliFault}
 use Rattle.v7tools.specs.declared.fault.CliFault.TheVariants as faults
 use Rattle.v7tools.specs.LineRuns.{IsLineOf, LineRun, status_after}
@@ -19,6 +23,22 @@ IsOpenedAt remaining old new path None = Extends old new (opened path None ∷ [
 IsOpenedAt remaining old new path (Some wire) =
     (wire.has_failed ≡ false) × Extends old new (opened path (Some (remaining wire.device)) ∷ [])
 
+-- a line that does not ask for a link
+abbrev pub IsNoLinkLine : Line → Type 0
+IsNoLinkLine (lines.Link path) = ⊥
+IsNoLinkLine _ = Unit {0}
+
+-- the step that a line asks for, with the file at its path opened
+abbrev pub IsCommandOf : {R : Type 0} → (R → Option (List ℕ)) → History → History → Line → Command R → Type 0
+IsCommandOf {R} remaining old new (lines.Add path) command =
+    (wire : Option (Latched R)) × (command ≡ Add path wire) × IsOpenedAt remaining old new (string_bytes path) wire
+IsCommandOf remaining old new lines.Withdraw command = (command ≡ Withdraw) × (new ≡ old)
+IsCommandOf remaining old new lines.Externals command = (command ≡ Externals) × (new ≡ old)
+IsCommandOf remaining old new lines.Undefined command = (command ≡ Undefined) × (new ≡ old)
+IsCommandOf remaining old new (lines.Link path) command = ⊥
+IsCommandOf remaining old new lines.Bad command = (command ≡ Bad) × (new ≡ old)
+
+-- a step that is not a link
 abbrev pub IsNoLink : {R : Type 0} → Command R → Type 0
 IsNoLink Link = ⊥
 IsNoLink _ = Unit {0}
@@ -51,3 +71,11 @@ pub record AnswersLine {W : Type 0} (contents : W → Option (List ℕ)) (o : Ch
   pub write_failed : IfErr result (λ fault. fault ≡ faults.WriteFailed)
   pub fault : IsErr result ↔ IsTrue after.has_failed
   pub bytes : Puts result (contents before.device) (contents after.device) run.answer
+
+-- an answer that was written is passed on, or its device fails; the status of its line stays
+pub record PassesOn {W : Type 0} (contents : W → Option (List ℕ)) (status : ℕ) (result : Result ℕ CliFault)
+    (before after : Latched W) : Type 0 where
+  pub same : IfOk result (λ same. same ≡ status)
+  pub write_failed : IfErr result (λ fault. fault ≡ faults.WriteFailed)
+  pub fault : IsErr result ↔ IsTrue after.has_failed
+  pub bytes : Keeps (contents before.device) (contents after.device)

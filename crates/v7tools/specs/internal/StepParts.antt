@@ -7,11 +7,9 @@ use Rattle.aout_core.specs.Contents.{Contents}
 use Rattle.aout_core.specs.Decoding.{decode}
 use Rattle.aout_core.specs.Wires.{Latched, Writes}
 use Rattle.link_session.specs.declared.state.State.{State}
-use Rattle.link_session.specs.declared.entry.AddFault.{AddFault}
-use Rattle.link_session.specs.Limits.{refusal}
 use Rattle.link_session.specs.Edits.{last_of}
-use Rattle.link_session.specs.Labelled.{Labelled, objects}
-use Rattle.link_session.specs.Sessions.{Adds, IsCause, labelled}
+use Rattle.link_session.specs.Labelled.{Labelled}
+use Rattle.link_session.specs.Sessions.{Adds}
 use Rattle.link_session.specs.Undo.{Kept}
 use Rattle.link_out.specs.declared.linked.LinkFault.{LinkFault}
 use Rattle.link_out.specs.declared.linked.Linked.{Linked}
@@ -23,7 +21,7 @@ use Rattle.v7tools.specs.declared.fault.CliFault.{CliFault}
 use Rattle.v7tools.specs.declared.fault.CliFault.TheVariants as faults
 use Rattle.v7tools.specs.declared.session.commands.Step.{Step}
 use Rattle.v7tools.specs.Inputs.{Cause, bad_file, object_in, kept_with}
-use Rattle.v7tools.specs.FaultTexts.{cli_text, fault_at, fault_of_addition, fault_of_link}
+use Rattle.v7tools.specs.FaultTexts.{cli_text, fault_at, fault_of_link}
 use Rattle.v7tools.specs.LinkAnswers.{WantsMemory}
 use Rattle.v7tools.specs.Answers.{failing, giving, Stepped, add_step, withdraw_step, input_from}
 use Rattle.v7tools.specs.SessionSteps.{without_memory, AddsIf, WithdrawsIf, Does}
@@ -54,13 +52,6 @@ pub record IsAccepted (known : Option (List ℕ)) (old new : Kept) (path : List 
   pub adds : Adds old new (record { label = path; object = object })
   pub is_found : IsFound known (Ok object)
   pub accepts : kept_with old.forced old.entries path (Ok object) ≡ Ok new.entries
-
--- an object was added, or the fault says why it was not: a limit that it passes, or else that memory ran out
-abbrev pub IsObjectAddition : Kept → Kept → String Global → Contents → Result (Unit {0}) CliFault → Type 0
-IsObjectAddition old new path object (Ok _) = (refusal old.forced (objects old.entries) object ≡ None) × Adds old new (labelled path object)
-IsObjectAddition old new path object (Err fault) =
-    (new ≡ old) × ((cause : AddFault) × (fault ≡ fault_of_addition path cause)
-    × IsCause (refusal old.forced (objects old.entries) object) cause)
 
 -- the file at a path was added, or the fault says why it was not; memory runs out only if it is wanted
 abbrev pub IsAddition : Option (List ℕ) → Kept → Kept → String Global → Result (Unit {0}) CliFault → Type 0

@@ -1,5 +1,4 @@
 //! The commands nm, size and strip, over any `Office`.
-ghost use Rattle.std.specs.Prelude.{◌≤◌, IfOk};
 ghost use Rattle.aout_core.specs.Wires.{IsPassedOn};
 ghost use Rattle.symtools.specs.Files.{by_bytes};
 ghost use Rattle.symtools.specs.NmLists.{nm_text};
@@ -9,6 +8,7 @@ ghost use Rattle.v7tools.specs.internal.Openings.{IsLoading};
 
 use crate::fault::CliFault;
 use crate::files::loading::load;
+use crate::status::Status;
 use aout_core::{BufferedWrite, File, Wire, strip_file};
 use std::alloc::Global;
 use surroundings::{Office, Stored};
@@ -50,29 +50,27 @@ fn put_names<W: BufferedWrite>(
     options: NmOptions,
     files: &[(String, File)],
     output: &mut Wire<W>,
-) -> Result<u8, CliFault>
-    ensures small { IfOk result (λ status. status ≤ 1) }
+) -> Result<Status, CliFault>
     ensures run { Lists W.contents (OrMemory options (by_bytes files.now)) (nm_text options (by_bytes files.now)) result output.old output.new }
     ensures passed { IsPassedOn W.waiting output.new }
 {
     let listed = nm(alloc, files, options, output);
     output.pass_on()?;
     listed?;
-    Ok(0)
+    Ok(Status::new(0))
 }
 
 /// Writes the sizes of the files.
 fn put_sizes<W: BufferedWrite>(
     files: &[(String, File)],
     output: &mut Wire<W>,
-) -> Result<u8, CliFault>
-    ensures small { IfOk result (λ status. status ≤ 1) }
+) -> Result<Status, CliFault>
     ensures run { Lists W.contents (OnlyWriteFailed (by_bytes files.now)) (size_text (by_bytes files.now)) result output.old output.new }
     ensures passed { IsPassedOn W.waiting output.new }
 {
     size(files, output)?;
     output.pass_on()?;
-    Ok(0)
+    Ok(Status::new(0))
 }
 
 /// Lists the symbols of the files.
@@ -82,8 +80,7 @@ pub(crate) fn list_files<O: Office, W: BufferedWrite>(
     options: NmOptions,
     files: Vec<String>,
     output: &mut Wire<W>,
-) -> Result<u8, CliFault>
-    ensures small { IfOk result (λ status. status ≤ 1) }
+) -> Result<Status, CliFault>
     ensures run { IsListRun W.contents (OrMemory options) (nm_text options) files.items
         (O.history office.old) (O.history office.new) result output.old output.new }
     ensures passed { IsPassedOn W.waiting output.old → IsPassedOn W.waiting output.new }
@@ -98,8 +95,7 @@ pub(crate) fn size_files<O: Office, W: BufferedWrite>(
     office: &mut O,
     files: Vec<String>,
     output: &mut Wire<W>,
-) -> Result<u8, CliFault>
-    ensures small { IfOk result (λ status. status ≤ 1) }
+) -> Result<Status, CliFault>
     ensures run { IsListRun W.contents OnlyWriteFailed size_text files.items
         (O.history office.old) (O.history office.new) result output.old output.new }
     ensures passed { IsPassedOn W.waiting output.old → IsPassedOn W.waiting output.new }
@@ -120,15 +116,17 @@ fn check_stored(path: String, stored: Stored) -> Result<(), CliFault>
 }
 
 /// Stores each file stripped at its own path, in order; a fault leaves those after it as they were.
-fn store_stripped<O: Office>(office: &mut O, loaded: Vec<(String, File)>) -> Result<u8, CliFault>
-    ensures small { IfOk result (λ status. status ≤ 1) }
-    ensures run { IsStripping (O.history office.old) (O.history office.new) loaded.items result }
+fn store_stripped<O: Office>(
+    office: &mut O,
+    loaded: Vec<(String, File)>,
+) -> Result<Status, CliFault>
+    ensures { IsStripping (O.history office.old) (O.history office.new) loaded.items result }
 {
     for (path, file) in loaded {
         let stored = office.store(path.as_str(), &strip_file(file));
         check_stored(path, stored)?;
     }
-    Ok(0)
+    Ok(Status::new(0))
 }
 
 /// Strips the files in their places, once all of them are read.
@@ -136,9 +134,8 @@ pub(crate) fn strip_files<O: Office>(
     alloc: Global,
     office: &mut O,
     files: Vec<String>,
-) -> Result<u8, CliFault>
-    ensures small { IfOk result (λ status. status ≤ 1) }
-    ensures run { IsStripRun (O.history office.old) (O.history office.new) files.items result }
+) -> Result<Status, CliFault>
+    ensures { IsStripRun (O.history office.old) (O.history office.new) files.items result }
 {
     let loaded = load_all(alloc, office, files)?;
     store_stripped(office, loaded)

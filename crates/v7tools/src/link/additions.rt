@@ -4,7 +4,7 @@ ghost use Rattle.aout_core.specs.declared.file.ReadFault.TheVariants.{Device};
 ghost use Rattle.v7tools.specs.declared.fault.CliFault.TheVariants.{BadFile};
 ghost use Rattle.v7tools.specs.internal.InputParts.{IsCheckOf, IsPossible};
 ghost use Rattle.v7tools.specs.LinkAnswers.{said_by};
-ghost use Rattle.v7tools.specs.internal.StepParts.{IsAddition, IsObjectAddition};
+ghost use Rattle.v7tools.specs.internal.StepParts.{IsAddition};
 
 use crate::fault::CliFault;
 use crate::files::loading::load;
@@ -23,13 +23,6 @@ fn object_at(path: String, file: File) -> Result<(String, Object), CliFault>
     }
 }
 
-/// Adds an object to the session, which a fault leaves as it was.
-fn add_object(session: &mut Session, path: String, object: Object) -> Result<(), CliFault>
-    ensures { IsObjectAddition session.old session.new path object result }
-{
-    Ok(session.add(path, object)?)
-}
-
 /// Reads the file at a path, checks it and adds it to the session, which a fault leaves as it was.
 pub(crate) fn add_file<R: Read>(
     alloc: Global,
@@ -44,5 +37,5 @@ pub(crate) fn add_file<R: Read>(
 {
     let (path, file) = load(alloc, path, wire)?;
     let (path, object) = object_at(path, file)?;
-    add_object(session, path, object)
+    Ok(session.add(path, object)?)
 }

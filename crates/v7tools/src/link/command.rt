@@ -1,5 +1,5 @@
 //! The command ld, over any `Office`.
-ghost use Rattle.std.specs.Prelude.{◌≤◌, map, string_bytes, IfOk};
+ghost use Rattle.std.specs.Prelude.{map, string_bytes};
 ghost use Rattle.aout_core.specs.Wires.{IsPassedOn};
 ghost use Rattle.link_out.specs.Outcomes.{report_names};
 ghost use Rattle.v7tools.specs.LinkRuns.{IsLinkRun, Reports, ReportsIf};
@@ -7,6 +7,7 @@ ghost use Rattle.v7tools.specs.internal.Openings.{IsOpening};
 
 use crate::fault::CliFault;
 use crate::link::linking::ld;
+use crate::status::Status;
 use aout_core::{BufferedWrite, Wire};
 use link_out::{Linked, Options, Report};
 use link_session::Forced;
@@ -32,14 +33,13 @@ fn open_all<O: Office>(
 }
 
 /// Writes a report and flushes it, and returns its status.
-fn put_report<W: BufferedWrite>(report: &Report, output: &mut Wire<W>) -> Result<u8, CliFault>
-    ensures small { IfOk result (λ status. status ≤ 1) }
+fn put_report<W: BufferedWrite>(report: &Report, output: &mut Wire<W>) -> Result<Status, CliFault>
     ensures run { Reports W.contents (report_names report.now) result output.old output.new }
     ensures passed { IsPassedOn W.waiting output.new }
 {
     report.write(output)?;
     output.pass_on()?;
-    Ok(report.status())
+    Ok(Status::new(report.status()))
 }
 
 /// Reports a link, once it is known what became of its file.
@@ -48,8 +48,7 @@ fn report_stored<W: BufferedWrite>(
     out: String,
     stored: Stored,
     output: &mut Wire<W>,
-) -> Result<u8, CliFault>
-    ensures small { IfOk result (λ status. status ≤ 1) }
+) -> Result<Status, CliFault>
     ensures run { ReportsIf W.contents stored out (report_names report.now) result output.old output.new }
     ensures passed { IsPassedOn W.waiting output.old → IsPassedOn W.waiting output.new }
 {
@@ -77,8 +76,7 @@ pub(crate) fn link_files<O: Office, W: BufferedWrite>(
     office: &mut O,
     call: LinkCall,
     output: &mut Wire<W>,
-) -> Result<u8, CliFault>
-    ensures small { IfOk result (λ status. status ≤ 1) }
+) -> Result<Status, CliFault>
     ensures run { IsLinkRun W.contents call.forced call.options call.out (map string_bytes call.files.items)
         (O.history office.old) (O.history office.new) result output.old output.new }
     ensures passed { IsPassedOn W.waiting output.old → IsPassedOn W.waiting output.new }

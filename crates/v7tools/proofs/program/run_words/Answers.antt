@@ -3,9 +3,6 @@ use Rattle.surroundings.proofs.EventLemmas.{nothing_asked}
 use Rattle.v7tools.proofs.EventLemmas.{passed_on}
 use Rattle.v7tools.proofs.program.run_words.Goals as goal
 
-pub returns-clause-small : goal.returns-clause-small
-returns-clause-small g c = c.run_call.ensures.small
-
 pub returns-clause-run : goal.returns-clause-run
 returns-clause-run g c =
     let asked = c.in_ok-call.ensures in

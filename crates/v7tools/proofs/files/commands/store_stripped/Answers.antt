@@ -20,8 +20,8 @@ loop-path-preserved g c =
           (c.in-Some.path, c.in-Some.file) c.store-stored.result done.2 asked c.in_ok-check_stored.ensures,
     )
 
-pub returns-in_err-check_stored-clause-run : goal.returns-in_err-check_stored-clause-run
-returns-in_err-check_stored-clause-run g c =
+pub returns-in_err-check_stored : goal.returns-in_err-check_stored
+returns-in_err-check_stored g c =
     let old = g.O.Office.history c.args.office.now in
     let before = g.O.Office.history c.loop-path.office in
     let new = g.O.Office.history c.store-stored.new.self in

@@ -2,14 +2,14 @@ use Rattle.std.proofs.Common.{inl, inr}
 use Rattle.v7tools.proofs.EventLemmas.{passed_on}
 use Rattle.v7tools.proofs.files.commands.strip_files.Goals as goal
 
-pub returns-in_err-loaded-clause-run : goal.returns-in_err-loaded-clause-run
-returns-in_err-loaded-clause-run g c =
+pub returns-in_err-loaded : goal.returns-in_err-loaded
+returns-in_err-loaded g c =
     inl (
       c.in_err-loaded.field-0.0,
       c.in_err-loaded.ensures,
       passed_on c.from_residual.result c.in_err-loaded.field-0.0 c.from_residual.ensures.1,
     )
 
-pub returns-clause-run : goal.returns-clause-run
-returns-clause-run g c =
-    inr (c.in_ok-loaded.loaded.items, g.O.Office.history c.load_all.new.office, c.in_ok-loaded.ensures, c.store_stripped.ensures.run)
+pub returns : goal.returns
+returns g c =
+    inr (c.in_ok-loaded.loaded.items, g.O.Office.history c.load_all.new.office, c.in_ok-loaded.ensures, c.store_stripped.ensures)

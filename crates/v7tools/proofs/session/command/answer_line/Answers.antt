@@ -1,44 +1,44 @@
 use Rattle.std.proofs.Common.{◌≡◌, sym, rules}
 use Rattle.std.specs.Prelude.{string_bytes}
-use Rattle.v7tools.proofs.LineRunLemmas.{bad_line, externals_line, undefined_line, withdraw_line}
+use Rattle.command_words.specs.Scripts.{to_link}
+use Rattle.command_words.specs.ScriptAnswers.{asked_by}
+use Rattle.v7tools.proofs.EventLemmas.{passed_on}
+use Rattle.v7tools.proofs.LineRunLemmas.{line_answered, line_cut_short, line_passed}
 use Rattle.v7tools.proofs.session.command.answer_line.Goals as goal
-use Rattle.v7tools.proofs.session.command.answer_line.Goals.{in-Withdraw, in-Externals, in-Undefined, in-Bad}
 
-pub returns-clause-run : goal.returns-clause-run
-returns-clause-run g c =
-    let contents = g.W.Write.contents in
-    let remaining = g.O.Source.Read.remaining in
-    let o = c.args.setting.now.options.now in
-    let kept = c.args.session.now in
-    let left = c.take_step.new.session in
-    let result = c.take_step.result in
-    let before = c.args.answers.now in
-    let after = c.take_step.new.answers in
-    let h = g.O.Office.history c.args.office.now in
-    elim c.match-line.branch [
-      | in-Withdraw w ↦ rw w.in-Withdraw.is
-          (withdraw_line contents remaining o kept left result before after h (rw w.command-is at c.take_step.ensures.run))
-      | in-Externals w ↦ rw w.in-Externals.is
-          (externals_line contents remaining o kept left result before after h (rw w.command-is at c.take_step.ensures.run))
-      | in-Undefined w ↦ rw w.in-Undefined.is
-          (undefined_line contents remaining o kept left result before after h (rw w.command-is at c.take_step.ensures.run))
-      | in-Bad w ↦ rw w.in-Bad.is
-          (bad_line contents remaining o kept left result before after h (rw w.command-is at c.take_step.ensures.run))
-    ]
-
-pub returns-clause-small : goal.returns-clause-small
-returns-clause-small g c = c.take_step.ensures.small
-
-pub returns-in-Add-clause-small : goal.returns-in-Add-clause-small
-returns-in-Add-clause-small g c = c.answer_add.ensures.small
-
-pub returns-in-Add-clause-run : goal.returns-in-Add-clause-run
-returns-in-Add-clause-run g c = rw c.in-Add.is c.answer_add.ensures.run
-
-pub returns-in-Link-clause-small : goal.returns-in-Link-clause-small
-returns-in-Link-clause-small g c = c.answer_link.ensures.small
-
-pub returns-in-Link-clause-run : goal.returns-in-Link-clause-run
-returns-in-Link-clause-run g c =
+pub returns-in_ok-status-in-Link-clause-run : goal.returns-in_ok-status-in-Link-clause-run
+returns-in_ok-status-in-Link-clause-run g c =
     let at : c.as_str.result.now ≡ string_bytes c.in-Link.path = search rules in
-    rw (c.in-Link.is, sym at) c.answer_link.ensures.run
+    let history = g.O.Office.history in
+    rw (c.in-Link.is, sym at)
+    (line_passed g.W.Write.contents c.args.setting.now.options.now (to_link c.as_str.result.now) c.args.session.now
+    c.args.session.now (history c.args.office.now) (history c.answer_link.new.office) c.in_ok-status-in-Link.status
+    c.pass_on.result c.args.answers.now c.answer_link.new.answers c.pass_on.new.answers c.in_ok-status-in-Link.ensures.run
+    c.pass_on.ensures.run)
+
+pub returns-in_err-taken-in_default-clause-run : goal.returns-in_err-taken-in_default-clause-run
+returns-in_err-taken-in_default-clause-run g c =
+    let history = g.O.Office.history in
+    let asks = c.command_of-command.ensures in
+    let fault = c.in_err-taken-in_default.field-0.0 in
+    let told = c.in_err-taken-in_default.ensures in
+    let r = c.from_residual-in_err-taken-in_default.result in
+    line_cut_short g.W.Write.contents g.O.Source.Read.remaining c.args.setting.now.options.now c.args.session.now
+    c.step.new.session c.args.answers.now c.step.new.answers (history c.args.office.now)
+    (history c.command_of-command.new.office) c.args.line c.command_of-command.result asks fault r told.step told.write_failed
+    (passed_on r fault c.from_residual-in_err-taken-in_default.ensures.1)
+
+pub returns-in_ok-taken-in_default-clause-run : goal.returns-in_ok-taken-in_default-clause-run
+returns-in_ok-taken-in_default-clause-run g c =
+    let history = g.O.Office.history in
+    let contents = g.W.Write.contents in
+    let o = c.args.setting.now.options.now in
+    let asks = c.command_of-command.ensures in
+    let told =
+    line_answered contents g.O.Source.Read.remaining o c.args.session.now c.step.new.session c.args.answers.now
+    c.step.new.answers (history c.args.office.now) (history c.command_of-command.new.office) c.args.line
+    c.command_of-command.result asks c.in_ok-taken-in_default.taken c.status_of.result
+    c.in_ok-taken-in_default.ensures.step c.status_of.ensures in
+    line_passed contents o (asked_by c.args.line) c.args.session.now c.step.new.session (history c.args.office.now)
+    (history c.command_of-command.new.office) c.status_of.result c.pass_on-in_default.result c.args.answers.now c.step.new.answers
+    c.pass_on-in_default.new.answers told c.pass_on-in_default.ensures.run

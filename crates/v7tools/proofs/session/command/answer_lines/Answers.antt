@@ -6,7 +6,7 @@ use Rattle.v7tools.specs.SessionRuns.{lines_asked}
 use Rattle.v7tools.specs.declared.fault.CliFault.{CliFault}
 use Rattle.v7tools.proofs.EventLemmas.{passed_on}
 use Rattle.v7tools.proofs.ScriptCallLemmas.{gave_end, gave_line}
-use Rattle.v7tools.proofs.SessionRunLemmas.{all_run, broke_off, larger_small, left_of, reads_ended, reads_fault}
+use Rattle.v7tools.proofs.SessionRunLemmas.{all_run, broke_off, left_of, reads_ended, reads_fault}
 use Rattle.v7tools.proofs.SessionRunLemmas.{reads_given, run_up_to, runs_more, runs_none, stays_alone}
 use Rattle.v7tools.proofs.session.command.answer_lines.Goals as goal
 
@@ -15,14 +15,14 @@ loop-init g c =
     let script = c.args.script.now in
     let none : script.line_count ≡ 0 = ap (λ (p : Progress _). p.line_count) c.requires.fresh in
     record {
-      small = search rules;
       count = none;
       bound = omega (arith, none);
       passed = λ h. h;
       running =
-          runs_none g.R.Read.remaining g.W.Write.contents c.args.setting.now.options.now c.args.session.now script
+          rw c.new-status.ensures
+          (runs_none g.R.Read.remaining g.W.Write.contents c.args.setting.now.options.now c.args.session.now script
           (g.O.Office.history c.args.office.now) c.args.answers.now none
-          (ap (λ (p : Progress _). p.settled) c.requires.fresh);
+          (ap (λ (p : Progress _). p.settled) c.requires.fresh));
     }
 
 pub returns-in_err-line-clause-run : goal.returns-in_err-line-clause-run
@@ -83,11 +83,11 @@ returns-in_err-answered-clause-run g c =
     (g.O.Office.history c.args.office.now) (g.O.Office.history c.loop.office) c.args.answers.now c.loop.answers
     c.loop.status running
     c.args.session.now.forced c.args.script.now.wire c.requires.empty (ap (λ (p : Progress _). p.held) c.requires.fresh)
-    refl r next it c.pass_answer.new.session (g.O.Office.history c.pass_answer.new.office) c.pass_answer.new.answers fault
+    refl r next it c.answer_line.new.session (g.O.Office.history c.answer_line.new.office) c.answer_line.new.answers fault
     (reads_given (left_of remaining begun) (left_of remaining script) (left_of remaining next) script.line_count
     script.settled next.settled (lines_asked running.runs) running.reading answer it next.line_count
     line (stays_alone script.settled answer (next ≡ script) gives.stays) gives.settles gives.next gives.count)
-    c.in_err-answered.ensures.run c.pass_answer.ensures.latched (passed_on r fault c.from_residual-in_err-answered.ensures.1)
+    c.in_err-answered.ensures.run c.answer_line.ensures.latched (passed_on r fault c.from_residual-in_err-answered.ensures.1)
 
 pub loop-preserved : goal.loop-preserved
 loop-preserved g c =
@@ -106,16 +106,15 @@ loop-preserved g c =
     let after =
     runs_more remaining g.W.Write.contents c.args.setting.now.options.now c.args.session.now c.loop.session begun script
     (g.O.Office.history c.args.office.now) (g.O.Office.history c.loop.office) c.args.answers.now c.loop.answers c.loop.status running
-    next it c.pass_answer.new.session (g.O.Office.history c.pass_answer.new.office) c.pass_answer.new.answers answered
+    next it c.answer_line.new.session (g.O.Office.history c.answer_line.new.office) c.answer_line.new.answers answered
     (reads_given (left_of remaining begun) (left_of remaining script) (left_of remaining next) script.line_count
     script.settled next.settled (lines_asked running.runs) running.reading answer it next.line_count
     line (stays_alone script.settled answer (next ≡ script) gives.stays) gives.settles gives.next gives.count)
-    c.in_ok-answered.ensures.run c.pass_answer.ensures.latched in
+    c.in_ok-answered.ensures.run c.answer_line.ensures.latched in
     record {
-      small = rw c.max-status.ensures (larger_small c.loop.status answered c.loop.invariant.small c.in_ok-answered.ensures.small);
       count = count ∙ ap (λ k. k + 1) c.loop.invariant.count;
       bound = gives.bound;
-      passed = λ h. c.pass_answer.ensures.passed;
+      passed = λ h. c.answer_line.ensures.passed;
       running = rw c.max-status.ensures after;
     }
 

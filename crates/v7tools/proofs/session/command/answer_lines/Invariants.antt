@@ -6,7 +6,6 @@ use Rattle.v7tools.proofs.session.command.answer_lines.Given as goal
 -- the lines so far were run, and the script counts them
 abbrev pub invariant-loop : goal.invariant-loop
 invariant-loop g l = record {
-  small : l.status ≤ 1;
   count : l.script.line_count ≡ l.counter;
   bound : l.script.line_count ≤ 1000000;
   passed : IsPassedOn g.W.BufferedWrite.waiting l.initial.answers → IsPassedOn g.W.BufferedWrite.waiting l.answers;

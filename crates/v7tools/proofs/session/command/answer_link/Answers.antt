@@ -21,25 +21,44 @@ returns-in_err-linked-clause-run g c =
     (only_fault r c.in_err-linked.field-0.0 WriteFailed
     (passed_on r c.in_err-linked.field-0.0 c.from_residual.ensures.1) c.in_err-linked.ensures.write_failed)
 
-pub returns-in-Some-clause-run : goal.returns-in-Some-clause-run
-returns-in-Some-clause-run g c =
+pub returns-in_err-status-in-Some-clause-run : goal.returns-in_err-status-in-Some-clause-run
+returns-in_err-status-in-Some-clause-run g c =
     let s = c.args.session.now in
     let o = c.args.setting.now.options.now in
     let (is, same) = rw c.in-Some.is at c.in_ok-linked.ensures.link in
     let old = g.O.Office.history c.args.office.now in
     let new = g.O.Office.history c.store-stored.new.self in
+    let fault = c.in_err-status-in-Some.field-0.0 in
+    let said = c.in_err-status-in-Some.ensures in
     let told =
-    stored_link g.W.Write.contents o c.args.path.now s c.link_answer.result c.make_link.new.answers c.link_answer.new.answers old new
-    c.in-Some.linked c.store-stored.result is c.store-stored.ensures c.link_answer.ensures.status
-    c.link_answer.ensures.write_failed c.link_answer.ensures.written.fault c.link_answer.ensures.written.bytes in
-    answered_from g.W.Write.contents o (to_link c.args.path.now) s s old new c.link_answer.result c.args.answers.now
-    c.make_link.new.answers c.link_answer.new.answers same told
+    stored_link g.W.Write.contents o c.args.path.now s (Err fault) c.make_link.new.answers c.link_answer.new.answers old new
+    c.in-Some.linked c.store-stored.result is c.store-stored.ensures tt said.write_failed said.written.fault said.written.bytes in
+    rw (passed_on c.from_residual-in_err-status-in-Some.result fault c.from_residual-in_err-status-in-Some.ensures.1)
+    (answered_from g.W.Write.contents o (to_link c.args.path.now) s s old new (Err fault) c.args.answers.now
+    c.make_link.new.answers c.link_answer.new.answers same told)
+
+pub returns-in_ok-status-in-Some-clause-run : goal.returns-in_ok-status-in-Some-clause-run
+returns-in_ok-status-in-Some-clause-run g c =
+    let s = c.args.session.now in
+    let o = c.args.setting.now.options.now in
+    let (is, same) = rw c.in-Some.is at c.in_ok-linked.ensures.link in
+    let old = g.O.Office.history c.args.office.now in
+    let new = g.O.Office.history c.store-stored.new.self in
+    let status = c.in_ok-status-in-Some.status in
+    let said = c.in_ok-status-in-Some.ensures in
+    let told =
+    stored_link g.W.Write.contents o c.args.path.now s (Ok status) c.make_link.new.answers c.link_answer.new.answers old new
+    c.in-Some.linked c.store-stored.result is c.store-stored.ensures said.status tt said.written.fault said.written.bytes in
+    rw c.new.ensures
+    (answered_from g.W.Write.contents o (to_link c.args.path.now) s s old new (Ok status) c.args.answers.now
+    c.make_link.new.answers c.link_answer.new.answers same told)
 
 pub returns-in-None-clause-run : goal.returns-in-None-clause-run
 returns-in-None-clause-run g c =
     let s = c.args.session.now in
     let o = c.args.setting.now.options.now in
-    refused_link g.W.Write.contents o c.args.path.now s (Ok 1) c.args.answers.now c.make_link.new.answers
+    rw c.new-in-None.ensures
+    (refused_link g.W.Write.contents o c.args.path.now s (Ok 1) c.args.answers.now c.make_link.new.answers
     (g.O.Office.history c.args.office.now)
     (refused_with g.W.Write.contents (link s.forced (objects s.entries) o) c.args.answers.now c.make_link.new.answers
-    None 1 (rw c.in-None.is at c.in_ok-linked.ensures.link)) refl tt
+    None 1 (rw c.in-None.is at c.in_ok-linked.ensures.link)) refl tt)

@@ -1,15 +1,22 @@
-use Rattle.std.proofs.Common.{ap, subst}
+use Rattle.std.proofs.Common.{ap, sym, ◌∙◌}
+use Rattle.command_words.specs.ScriptAnswers.{Progress}
 use Rattle.link_session.specs.Undo.{Kept}
-use Rattle.v7tools.specs.SessionRuns.{IsSessionRun}
+use Rattle.v7tools.proofs.EventLemmas.{passed_on}
+use Rattle.v7tools.proofs.SessionRunLemmas.{no_memory}
 use Rattle.v7tools.proofs.session.command.answer_script.Goals as goal
+
+pub returns-in_err-script-clause-run : goal.returns-in_err-script-clause-run
+returns-in_err-script-clause-run g c =
+    let fault = c.in_err-script.field-0.0 in
+    let r = c.from_residual-in_err-script.result in
+    no_memory g.W.Write.contents c.args.setting.now.options.now c.args.forced.now
+    (g.R.Read.remaining c.args.reader) (g.O.Office.history c.args.office.now) c.args.answers.now fault r
+    c.in_err-script.ensures.err (passed_on r fault c.from_residual-in_err-script.ensures.1)
 
 pub returns-clause-run : goal.returns-clause-run
 returns-clause-run g c =
     let history = g.O.Office.history in
-    subst (λ forced. IsSessionRun g.W.Write.contents forced c.args.setting.now.options.now
-    (g.R.Read.remaining c.args.script) (history c.args.office.now)
-    (history c.answer_reader.new.office) c.answer_reader.result c.args.answers.now c.answer_reader.new.answers)
-    (ap (λ (k : Kept). k.forced) c.in_ok-session.ensures.kept) c.answer_reader.ensures.run
-
-pub returns-clause-small : goal.returns-clause-small
-returns-clause-small g c = c.answer_reader.ensures.small
+    let same = ap (λ (p : Progress _). g.R.Read.remaining p.wire.device) c.in_ok-script.ensures.ok
+    ∙ ap g.R.Read.remaining c.new.ensures.device in
+    let forced = ap (λ (k : Kept). k.forced) c.in_ok-session.ensures.kept in
+    rw (sym forced, sym same) c.answer_lines.ensures.run
