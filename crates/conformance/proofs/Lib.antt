@@ -26,3 +26,4 @@ mod TextExamples
 mod InstructionExamples
 mod TableExamples
 mod CallExamples
+mod ReachedExamples

@@ -72,7 +72,7 @@ main_good = as_object main_o refl refl refl refl refl refl refl refl
 pub twice_good : IsObject twice_o
 twice_good = as_object twice_o refl refl refl refl refl refl refl refl
 
-count_good : IsObject count_o
+pub count_good : IsObject count_o
 count_good = as_object count_o refl refl refl refl refl refl refl refl
 
 main_calls : Calls main_o TextSeg 3 _twice

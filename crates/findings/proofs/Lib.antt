@@ -1,3 +1,4 @@
 pub mod BadWordLemmas
 pub mod SymbolLemmas
 pub mod TextLemmas
+pub mod WrongLemmas

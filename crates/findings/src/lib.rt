@@ -19,6 +19,7 @@
 mod finding;
 mod heading;
 mod kind;
+pub mod laws;
 mod notes;
 mod odd;
 mod other_files;

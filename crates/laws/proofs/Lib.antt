@@ -30,6 +30,7 @@ pub mod InstructionPlaceLemmas
 mod OperandWordLemmas
 pub mod OperandPlaceLemmas
 mod ShownInstructionLemmas
+pub mod ReachedInstructionLemmas
 pub mod CallLemmas
 pub mod RunLemmas
 pub mod DiskLemmas

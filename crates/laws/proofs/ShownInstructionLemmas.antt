@@ -26,7 +26,7 @@ words_after [] i h = absurd (omega arith)
 words_after (w ∷ ws) zero h = refl
 words_after (w ∷ ws) (suc i) h = words_after ws i (omega arith)
 
-words_from : (ws : List ℕ) (i : ℕ) → i < length ws → drop i ws ≡ slice_index ws i ∷ drop (i + 1) ws
+pub words_from : (ws : List ℕ) (i : ℕ) → i < length ws → drop i ws ≡ slice_index ws i ∷ drop (i + 1) ws
 words_from ws i h = let e : suc i ≡ i + 1 = omega arith in words_after ws i h ∙ ap (λ (n : ℕ). slice_index ws i ∷ drop n ws) e
 
 head_of : (ws : List ℕ) (i w : ℕ) (more : List ℕ) → drop i ws ≡ w ∷ more →
@@ -39,7 +39,7 @@ head_of (v ∷ ws) zero w more e =
     (λ j. line_of (instruction_of (same j)) (same j) (rest j))
 head_of (v ∷ ws) (suc i) w more e = head_of ws i w more e
 
-at_head : (ws : List ℕ) (i w : ℕ) (more : List ℕ) → drop i ws ≡ w ∷ more → line_at ws i ≡ line_of (instruction_of w) w more
+pub at_head : (ws : List ℕ) (i w : ℕ) (more : List ℕ) → drop i ws ≡ w ∷ more → line_at ws i ≡ line_of (instruction_of w) w more
 at_head ws i w more e =
     let next : i + 1 ≡ suc i = omega arith in
     ap (λ (n : ℕ). line_of (instruction_of (slice_index ws i)) (slice_index ws i) (drop n ws)) next ∙ head_of ws i w more e

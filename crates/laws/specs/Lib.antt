@@ -10,5 +10,6 @@ pub mod Instructions
 pub mod OperandWords
 pub mod OperandPlaces
 pub mod ShownInstructions
+pub mod ReachedInstructions
 pub mod Disks
 pub mod StepsByCommands

@@ -5,6 +5,7 @@ ghost use Rattle.laws.specs.Instructions.{InstructionsAreKept, TextsAreKept, Ins
 ghost use Rattle.laws.specs.OperandWords.{OperandsGiveNames, OperandsGiveSegments};
 ghost use Rattle.laws.specs.OperandPlaces.{OperandsAreThere, JumpsArrive, PointersToSegments, PointersToNames};
 ghost use Rattle.laws.specs.ShownInstructions.{ProgramsShowInstructions};
+ghost use Rattle.laws.specs.ReachedInstructions.{ReachedInstructionsAreKept, SurePlacesBegin};
 ghost use Rattle.laws.specs.Listings.{UndefinedAreListed, UndefinedLines, RowLines, ExternalsAreListed, SizesAreSums};
 ghost use Rattle.laws.specs.Isomorphism.{PlacesAreApart, PlacesAreLoaded, BytesHavePlaces, OrdersAreRenumbered, LinksAreIsomorphic, LinksKeepReferents};
 ghost use Rattle.laws.specs.Orders.{OrderAddsAlike, OrderLinksAlike, OrderRefusesAlike, OrderKeepsSizes, OrderReportsAlike, OrderFindsEntry, OrderKeepsMeanings, OrderKeepsReferents, OnceInAnyOrder};
@@ -76,6 +77,19 @@ pub fn instruction_law()
     ensures jumps { JumpsArrive }
     ensures kept { InstructionsAreKept }
     ensures texts { TextsAreKept }
+{}
+
+/// What it means for a program that nothing is suspicious for sure in an object: that `v7-explain` reports nothing odd of its instructions
+/// without "if this is an instruction", as `suspicions` defines it. (ld(1), the handbook of the PDP-11/70; what is suspicious: own choice)
+///
+/// - `reached`: each instruction of the object that symbols or distances reach, and that is not cut, is in the program, by `instructions` of
+///   `instruction_law`: its first word is not relocated. Each operand that has a word is the address of the byte to which its relocation
+///   word refers, by `operands` of `instruction_law`: the pc bit is set in modes 67 and 77 alone. A word that is not relocated is a
+///   distance within the text in these modes, and in others a number, which the program has too.
+/// - `sure`: an instruction or a system call begins at each place that distances reach, and is not cut.
+pub fn reached_instruction_law()
+    ensures reached { ReachedInstructionsAreKept }
+    ensures sure { SurePlacesBegin }
 {}
 
 /// A disassembly of the program shows, at the place of a word of an object, what a disassembly of the object shows at that word: a line

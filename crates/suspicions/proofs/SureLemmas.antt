@@ -1,11 +1,16 @@
--- If nothing is suspicious, an instruction begins at each sure place, and its branches are inside.
+-- If nothing is suspicious for sure, an instruction begins at each sure place, its branches are inside, and its pc bits suit its modes.
 use Rattle.std.proofs.Common.{◌≡◌, ℕ, zero, suc, ◌+◌, ◌-◌, ◌*◌, ◌/◌, ◌<◌, ◌≤◌, Option, Some, None}
 use Rattle.std.proofs.Common.{refl, sym, ap, ◌∙◌, subst, inl, inr, arith}
 use Rattle.std.specs.Prelude.{Bool, true, false, not, ◌&&◌, ◌||◌, eqb, nat_lt, if◌then◌else◌, List}
 use Rattle.std.specs.Prelude.{[], ◌∷◌, ◌++◌, length, slice_get, slice_index}
-use Rattle.std.specs.List.{list_any}
+use Rattle.std.specs.List.{list_any, AllByRecursion, Contains}
 use Rattle.std.proofs.lemmas.Bool.{cases_lt, eqb-true, lt-ltb, le-ltb, ltb-false, or_cases}
+use Rattle.std.proofs.lemmas.List.Elements.{Contains-append_left, Contains-append_right}
+use Rattle.aout_core.specs.declared.reloc.Reloc.{Reloc}
 use Rattle.aout_core.specs.Contents.{Contents}
+use Rattle.aout_core.specs.WellFormed.{is_pc_relative}
+use Rattle.instructions.specs.declared.operand.Operand.{Operand}
+use Rattle.instructions.specs.declared.operand.Operand.TheVariants.{General, Accumulator, Register, Forward, Backward, Number}
 use Rattle.instructions.specs.declared.instruction.Instruction.{Instruction}
 use Rattle.instructions.specs.declared.line.Line.TheVariants.{Plain, Decoded}
 use Rattle.instructions.specs.declared.unix.Decoder.TheVariants.{Unix}
@@ -18,18 +23,19 @@ use Rattle.instructions.proofs.UnixLemmas.{unix_short}
 use Rattle.disassemblies.specs.Lines.{unix_line_in}
 use Rattle.disassemblies.specs.Starts.{starts, is_start}
 use Rattle.findings.specs.Found.{Found}
-use Rattle.findings.specs.declared.finding.FindingKind.TheVariants.{RelocatedFirstWord, BranchOutside}
+use Rattle.findings.specs.declared.finding.FindingKind.TheVariants.{RelocatedFirstWord, UnsuitablePcBit, BranchOutside}
+use Rattle.suspicions.specs.declared.evidence.Evidence.{Evidence}
 use Rattle.suspicions.specs.declared.evidence.Evidence.TheVariants.{Symbols, Distances}
 use Rattle.suspicions.specs.declared.trust.Trust.{Trust}
-use Rattle.suspicions.specs.Reached.{branch_of, is_reached}
+use Rattle.suspicions.specs.Reached.{branch_of, counts_from_pc, is_reached}
 use Rattle.suspicions.specs.ReachedLaw.{IsReached, Evident, Led}
 use Rattle.suspicions.specs.Trust.{is_sure, is_likely, is_plain, past_place, trust}
-use Rattle.suspicions.specs.Branches.{word_place, has_word_at, enters, entered_by, entered, suspicious_entry, suspicious_branch}
-use Rattle.suspicions.specs.Suspicions.{reloc_place, may_begin, suspicious_lack, suspicious_plain, suspicious_operand}
-use Rattle.suspicions.specs.Suspicions.{suspicious_line, suspicious_at, suspicious_place, suspicious_words}
-use Rattle.suspicions.specs.Suspicions.{suspicions}
-use Rattle.suspicions.specs.SuspicionTexts.{relocated_first_text, outside_in}
-use Rattle.suspicions.specs.SureLaw.{targets, IsInside, AreInside, SureLaw}
+use Rattle.suspicions.specs.Branches.{word_place, has_word_at, enters, entered_by, entered, suspicious_entry, suspicious_target, suspicious_branch}
+use Rattle.suspicions.specs.Suspicions.{reloc_place, may_begin, differ, suspicious_bit, suspicious_by, suspicious_lack, suspicious_plain}
+use Rattle.suspicions.specs.Suspicions.{suspicious_operand, suspicious_line, suspicious_at, suspicious_place, suspicious_words}
+use Rattle.suspicions.specs.SureSuspicions.{sure_trust, sure_suspicions_from, sure_suspicions}
+use Rattle.suspicions.specs.SuspicionTexts.{relocated_first_text, pc_bit_in, outside_in}
+use Rattle.suspicions.specs.SureLaw.{SureAreSuspicious, targets, IsInside, AreInside, SureLaw, SuitsMode, SuitsModes, ReachedWordsLaw}
 use Rattle.suspicions.proofs.ReachLemmas.{reached_places}
 
 nil_parts : (xs ys : List Found) → xs ++ ys ≡ [] → (xs ≡ []) × (ys ≡ [])
@@ -44,20 +50,19 @@ or-true : (a b : Bool) → b ≡ true → (a || b) ≡ true
 or-true true b e = refl
 or-true false b e = e
 
--- nothing is suspicious at a place of these words, which begin at another one
-place_nil : (c : Contents) (words : List ℕ) (before : Bool) (place p i : ℕ) → i < length words → p ≡ place + i →
-    suspicious_words c before place words ≡ [] → (b : Bool) × (suspicious_place c (trust c b p) (is_start (starts Unix c) p) p ≡ [])
-place_nil c [] before place p i h is e = absurd (omega arith)
-place_nil c (w ∷ ws) before place p zero h is e =
-    let here : List Found = suspicious_place c (trust c before place) (is_start (starts Unix c) place) place in
+-- nothing is suspicious for sure at a place of these words, which begin at another one
+place_nil : (c : Contents) (words : List ℕ) (place p i : ℕ) → i < length words → p ≡ place + i →
+    sure_suspicions_from c place words ≡ [] → suspicious_place c (sure_trust c p) false p ≡ []
+place_nil c [] place p i h is e = absurd (omega arith)
+place_nil c (w ∷ ws) place p zero h is e =
+    let here : List Found = suspicious_place c (sure_trust c place) false place in
     let same : place ≡ p = omega arith in
-    let none : here ≡ [] = (nil_parts here (suspicious_words c (past_place c place before) (place + 1) ws) e).0 in
-    (before, subst (λ (k : ℕ). suspicious_place c (trust c before k) (is_start (starts Unix c) k) k ≡ []) same none)
-place_nil c (w ∷ ws) before place p (suc i) h is e =
-    let here : List Found = suspicious_place c (trust c before place) (is_start (starts Unix c) place) place in
-    let later : suspicious_words c (past_place c place before) (place + 1) ws ≡ [] =
-    (nil_parts here (suspicious_words c (past_place c place before) (place + 1) ws) e).1 in
-    place_nil c ws (past_place c place before) (place + 1) p i (omega arith) (omega arith) later
+    let none : here ≡ [] = (nil_parts here (sure_suspicions_from c (place + 1) ws) e).0 in
+    subst (λ (k : ℕ). suspicious_place c (sure_trust c k) false k ≡ []) same none
+place_nil c (w ∷ ws) place p (suc i) h is e =
+    let here : List Found = suspicious_place c (sure_trust c place) false place in
+    let later : sure_suspicions_from c (place + 1) ws ≡ [] = (nil_parts here (sure_suspicions_from c (place + 1) ws) e).1 in
+    place_nil c ws (place + 1) p i (omega arith) (omega arith) later
 
 looked_at : (reached begins : Bool) (xs : List Found) → reached ≡ true → (if reached || begins then xs else []) ≡ [] → xs ≡ []
 looked_at true begins xs r e = e
@@ -107,9 +112,9 @@ line_short c place =
     short_by (is_relocated (slice_get c.text_reloc place)) (slice_index c.text_words place) (unix_line_at Unix c.text_words place)
     (unix_short Unix c.text_words place).1
 
-place_below : (c : Contents) (place : ℕ) → IsReached Distances c place → place < length c.text_words
-place_below c p (Evident place below led) = below
-place_below c p (Led from place r below led) = below
+pub place_below : (v : Evidence) (c : Contents) (place : ℕ) → IsReached v c place → place < length c.text_words
+place_below v c p (Evident place below led) = below
+place_below v c p (Led from place r below led) = below
 
 all_hold : (a b s l : Bool) → a ≡ false → b ≡ true → s ≡ true → l ≡ true → (not a && (b && (s && l))) ≡ false → ⊥
 all_hold false true true true e f g h n = absurd cc
@@ -133,7 +138,7 @@ ends_before c place none start r before = elim (cases_lt place (start + unix_len
       sym (ap (λ (k : ℕ). not (nat_lt place back) && has_word_at c k back) same) ∙ out in
       absurd (all_hold (nat_lt place back) (nat_lt start (length c.text_words)) (is_sure c start)
       (nat_lt back (unix_length (unix_line_in Unix c start)))
-      (le-ltb place back (omega arith)) (lt-ltb start (length c.text_words) (place_below c start r))
+      (le-ltb place back (omega arith)) (lt-ltb start (length c.text_words) (place_below Distances c start r))
       ((reached_places Distances c start).1 r)
       (lt-ltb back (unix_length (unix_line_in Unix c start)) (omega arith)) there)
 ]
@@ -189,11 +194,171 @@ line_inside c t place (Machine (Decoded i a b)) s r e =
     )
 line_inside c t place (Call k) s r e = (refl, tt)
 
+-- nothing is suspicious for sure at a place that is reached
+nothing_at : (c : Contents) (place : ℕ) → sure_suspicions c ≡ [] → place < length c.text_words →
+    (sure_trust c place).is_reached ≡ true → suspicious_at c (sure_trust c place) place ≡ []
+nothing_at c place none below reached =
+    looked_at (sure_trust c place).is_reached false (suspicious_at c (sure_trust c place) place) reached
+    (place_nil c c.text_words 0 place place below (omega arith) none)
+
 pub sure_places : SureLaw
 sure_places c none place r =
     let sure : is_sure c place ≡ true = (reached_places Distances c place).1 r in
-    let (b, here) = place_nil c c.text_words false 0 place place (place_below c place r) (omega arith) none in
-    let t : Trust = trust c b place in
+    let t : Trust = sure_trust c place in
     let is_reached : t.is_reached ≡ true = or-true (is_reached Symbols c place) (is_sure c place) sure in
     line_inside c t place (unix_line_in Unix c place) sure is_reached
-    (looked_at t.is_reached (is_start (starts Unix c) place) (suspicious_at c t place) is_reached here)
+    (nothing_at c place none (place_below Distances c place r) is_reached)
+
+-- the words of a place that is reached
+
+reached_for_sure : (v : Evidence) (c : Contents) (place : ℕ) → IsReached v c place → (sure_trust c place).is_reached ≡ true
+reached_for_sure Symbols c place r =
+    true-or (is_reached Symbols c place) (is_sure c place) ((reached_places Symbols c place).1 r)
+reached_for_sure Distances c place r =
+    or-true (is_reached Symbols c place) (is_sure c place) ((reached_places Distances c place).1 r)
+
+-- a relocated word there is reported
+moved_is_reported : (moves reached begins : Bool) (first : Found) (others : List Found) → moves ≡ true → reached ≡ true →
+    (if moves then (if moves && (reached || begins) then first ∷ [] else []) else others) ≡ [] → ⊥
+moved_is_reported true true begins first others m r e = absurd cc
+moved_is_reported true false begins first others m r e = absurd cc
+moved_is_reported false reached begins first others m r e = absurd cc
+
+not_moved : (c : Contents) (t : Trust) (place : ℕ) (b : Bool) → is_relocated (slice_get c.text_reloc place) ≡ b → t.is_reached ≡ true →
+    suspicious_line c t place (if b then Machine (Plain (slice_index c.text_words place)) else unix_line_at Unix c.text_words place) ≡ [] →
+    b ≡ false
+not_moved c t place false is r e = refl
+not_moved c t place true is r e =
+    let w : ℕ = slice_index c.text_words place in
+    let lack : List Found = if t.is_sure then suspicious_lack place (instruction_of w) else [] in
+    absurd (moved_is_reported (is_relocated (slice_get c.text_reloc place)) t.is_reached (may_begin c place) (first_word c t place) lack
+    is r e)
+
+agree : (moves p q : Bool) (f : Found) → moves ≡ true → (if moves && differ p q then f ∷ [] else []) ≡ [] → p ≡ q
+agree true true true f m e = refl
+agree true true false f m e = absurd cc
+agree true false true f m e = absurd cc
+agree true false false f m e = refl
+agree false p q f m e = absurd cc
+
+-- what is reported of an operand word
+abbrev bit_found : Contents → Bool → ℕ → ℕ → Reloc → Found
+bit_found c is_sure start place r = record {
+  place = reloc_place c place;
+  kind = UnsuitablePcBit;
+  text = pc_bit_in c start place (is_pc_relative r) is_sure;
+}
+
+suits : (c : Contents) (is_sure : Bool) (start place : ℕ) (x : Option Operand) →
+    suspicious_operand c is_sure start place x ≡ [] → SuitsMode c place x
+suits c is_sure start place None e = tt
+suits c is_sure start place (Some (General m register)) e =
+    λ a r way at moved.
+    let of_mode : suspicious_bit c is_sure start place a (slice_get c.text_reloc place) ≡ [] =
+    ap (suspicious_by c is_sure start place) (sym way) ∙ e in
+    let none : suspicious_bit c is_sure start place a (Some r) ≡ [] = ap (suspicious_bit c is_sure start place a) (sym at) ∙ of_mode in
+    agree (is_relocated (Some r)) (is_pc_relative r) (counts_from_pc a) (bit_found c is_sure start place r) moved none
+suits c is_sure start place (Some (Accumulator v)) e = tt
+suits c is_sure start place (Some (Register r)) e = tt
+suits c is_sure start place (Some (Forward v)) e = tt
+suits c is_sure start place (Some (Backward v)) e = tt
+suits c is_sure start place (Some (Number v)) e = tt
+
+suits_line : (c : Contents) (t : Trust) (place : ℕ) (line : UnixLine) → suspicious_line c t place line ≡ [] → SuitsModes c place line
+suits_line c t place (Machine (Plain w)) e = tt
+suits_line c t place (Machine (Decoded i a b)) e =
+    let first : List Found = suspicious_operand c t.is_reached place (place + 1) i.first in
+    let second : List Found = suspicious_operand c t.is_reached place (place + 1 + word_count_of i.first) i.second in
+    let branches : List Found =
+    suspicious_branch c t place (branch_of (2 * place) i.first) ++ suspicious_branch c t place (branch_of (2 * place) i.second) in
+    let both : (first ≡ []) × (second ≡ []) = nil_parts first second (nil_parts (first ++ second) branches e).0 in (
+      suits c t.is_reached place (place + 1) i.first both.0,
+      suits c t.is_reached place (place + 1 + word_count_of i.first) i.second both.1,
+    )
+suits_line c t place (Call k) e = tt
+
+pub reached_words : ReachedWordsLaw
+reached_words c none v place r =
+    let t : Trust = sure_trust c place in
+    let reached : t.is_reached ≡ true = reached_for_sure v c place r in
+    let here : suspicious_at c t place ≡ [] = nothing_at c place none (place_below v c place r) reached in (
+      not_moved c t place (is_relocated (slice_get c.text_reloc place)) refl reached here,
+      suits_line c t place (unix_line_in Unix c place) here,
+    )
+
+-- what is suspicious for sure is suspicious
+
+abbrev AreOf : List Found → List Found → Type 0
+AreOf more fewer = AllByRecursion (Contains more) fewer
+
+are_of : (P Q : Found → Type 0) (xs : List Found) → ((x : Found) → P x → Q x) → AllByRecursion P xs → AllByRecursion Q xs
+are_of P Q [] f h = tt
+are_of P Q (x ∷ xs) f h = (f x h.0, are_of P Q xs f h.1)
+
+all_own : (xs : List Found) → AreOf xs xs
+all_own [] = tt
+all_own (x ∷ xs) = (
+  (0, omega arith, refl),
+  are_of (Contains xs) (Contains (x ∷ xs)) xs (λ y h. Contains-append_right (x ∷ []) xs y h) (all_own xs),
+)
+
+joined : (P : Found → Type 0) (xs ys : List Found) → AllByRecursion P xs → AllByRecursion P ys → AllByRecursion P (xs ++ ys)
+joined P [] ys h k = k
+joined P (x ∷ xs) ys h k = (h.0, joined P xs ys h.1 k)
+
+side_by_side : (xs ys fewer less : List Found) → AreOf xs fewer → AreOf ys less → AreOf (xs ++ ys) (fewer ++ less)
+side_by_side xs ys fewer less h k =
+    joined (Contains (xs ++ ys)) fewer less
+    (are_of (Contains xs) (Contains (xs ++ ys)) fewer (λ x. Contains-append_left xs ys x) h)
+    (are_of (Contains ys) (Contains (xs ++ ys)) less (λ x. Contains-append_right xs ys x) k)
+
+branch_shown : (reached sure between : Bool) (xs : List Found) →
+    AreOf (if sure || (reached && between) then xs else []) (if sure || (reached && false) then xs else [])
+branch_shown reached true between xs = all_own xs
+branch_shown true false between xs = tt
+branch_shown false false between xs = tt
+
+target_shown : (c : Contents) (before : Bool) (place : ℕ) (o : Option ℕ) →
+    AreOf (suspicious_branch c (trust c before place) place o) (suspicious_branch c (sure_trust c place) place o)
+target_shown c before place None = tt
+target_shown c before place (Some target) =
+    let t : Trust = trust c before place in
+    branch_shown t.is_reached t.is_sure t.is_between (suspicious_target c t place target)
+
+line_shown : (c : Contents) (before : Bool) (place : ℕ) (line : UnixLine) →
+    AreOf (suspicious_line c (trust c before place) place line) (suspicious_line c (sure_trust c place) place line)
+line_shown c before place (Machine (Plain w)) = all_own (suspicious_plain c (sure_trust c place) place w)
+line_shown c before place (Machine (Decoded i a b)) =
+    let t : Trust = trust c before place in
+    let s : Trust = sure_trust c place in
+    let operands : List Found =
+    suspicious_operand c t.is_reached place (place + 1) i.first
+    ++ suspicious_operand c t.is_reached place (place + 1 + word_count_of i.first) i.second in
+    let first : Option ℕ = branch_of (2 * place) i.first in
+    let second : Option ℕ = branch_of (2 * place) i.second in
+    side_by_side operands (suspicious_branch c t place first ++ suspicious_branch c t place second)
+    operands (suspicious_branch c s place first ++ suspicious_branch c s place second) (all_own operands)
+    (side_by_side (suspicious_branch c t place first) (suspicious_branch c t place second)
+    (suspicious_branch c s place first) (suspicious_branch c s place second)
+    (target_shown c before place first) (target_shown c before place second))
+line_shown c before place (Call k) = tt
+
+place_shown : (reached begins : Bool) (more fewer : List Found) → AreOf more fewer →
+    AreOf (if reached || begins then more else []) (if reached || false then fewer else [])
+place_shown true begins more fewer h = h
+place_shown false begins more fewer h = tt
+
+words_shown : (c : Contents) (before : Bool) (place : ℕ) (words : List ℕ) →
+    AreOf (suspicious_words c before place words) (sure_suspicions_from c place words)
+words_shown c before place [] = tt
+words_shown c before place (w ∷ ws) =
+    let t : Trust = trust c before place in
+    let begins : Bool = is_start (starts Unix c) place in
+    side_by_side (suspicious_place c t begins place) (suspicious_words c (past_place c place before) (place + 1) ws)
+    (suspicious_place c (sure_trust c place) false place) (sure_suspicions_from c (place + 1) ws)
+    (place_shown t.is_reached begins (suspicious_at c t place) (suspicious_at c (sure_trust c place) place)
+    (line_shown c before place (unix_line_in Unix c place)))
+    (words_shown c (past_place c place before) (place + 1) ws)
+
+pub sure_shown : SureAreSuspicious
+sure_shown c = words_shown c false 0 c.text_words

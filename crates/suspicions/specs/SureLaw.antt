@@ -1,17 +1,32 @@
--- What it means for the sure places of a text that nothing is suspicious, without a word of how it is found. (own choice)
-use Rattle.std.specs.Prelude.{◌≡◌, ℕ, ◌+◌, ◌*◌, ◌/◌, ◌<◌, ◌≤◌, false, List, [], ◌∷◌, length, Option, Some, None}
+-- What it means for the places of a text that nothing is suspicious for sure, without a word of how it is found. (own choice)
+use Rattle.std.specs.Prelude.{◌≡◌, ℕ, ◌+◌, ◌*◌, ◌/◌, ◌<◌, ◌≤◌, true, false, List, [], ◌∷◌, length, slice_get, Option, Some, None}
+use Rattle.std.specs.List.{AllByRecursion, Contains}
+use Rattle.aout_core.specs.declared.reloc.Reloc.{Reloc}
 use Rattle.aout_core.specs.Contents.{Contents}
+use Rattle.aout_core.specs.WellFormed.{is_pc_relative}
+use Rattle.instructions.specs.declared.mode.Addressing.{Addressing}
+use Rattle.instructions.specs.declared.operand.Operand.{Operand}
+use Rattle.instructions.specs.declared.operand.Operand.TheVariants.{General}
 use Rattle.instructions.specs.declared.line.Line.TheVariants.{Decoded}
 use Rattle.instructions.specs.declared.unix.Decoder.TheVariants.{Unix}
 use Rattle.instructions.specs.declared.unix.UnixLine.{UnixLine}
 use Rattle.instructions.specs.declared.unix.UnixLine.TheVariants.{Machine}
+use Rattle.instructions.specs.Modes.{addressing}
+use Rattle.instructions.specs.Instructions.{word_count_of}
+use Rattle.instructions.specs.Relocated.{is_relocated}
 use Rattle.instructions.specs.UnixLines.{unix_length}
 use Rattle.disassemblies.specs.Lines.{unix_line_in}
+use Rattle.suspicions.specs.declared.evidence.Evidence.{Evidence}
 use Rattle.suspicions.specs.declared.evidence.Evidence.TheVariants.{Distances}
-use Rattle.suspicions.specs.Reached.{branch_of}
+use Rattle.suspicions.specs.Reached.{branch_of, counts_from_pc}
 use Rattle.suspicions.specs.ReachedLaw.{IsReached}
 use Rattle.suspicions.specs.Trust.{is_plain}
 use Rattle.suspicions.specs.Suspicions.{suspicions}
+use Rattle.suspicions.specs.SureSuspicions.{sure_suspicions}
+
+-- what is suspicious for sure is suspicious
+abbrev pub SureAreSuspicious : Type 0
+SureAreSuspicious = (c : Contents) → AllByRecursion (Contains (suspicions c)) (sure_suspicions c)
 
 -- the targets of the branch that a line at a place is
 abbrev pub targets : ℕ → UnixLine → List (Option ℕ)
@@ -32,5 +47,24 @@ AreInside c (o ∷ os) = IsInside c o × AreInside c os
 -- a whole instruction or a call begins at each sure place, and its branches are inside
 abbrev pub SureLaw : Type 0
 SureLaw =
-    (c : Contents) → suspicions c ≡ [] → (place : ℕ) → IsReached Distances c place →
+    (c : Contents) → sure_suspicions c ≡ [] → (place : ℕ) → IsReached Distances c place →
     (is_plain (unix_line_in Unix c place) ≡ false) × AreInside c (targets place (unix_line_in Unix c place))
+
+-- an operand has no word, or the word at a place; if that is relocated, it has the pc bit exactly if it counts from the pc
+abbrev pub SuitsMode : Contents → ℕ → Option Operand → Type 0
+SuitsMode c place (Some (General m r)) =
+    (a : Addressing) (reloc : Reloc) → addressing m r ≡ Some a → slice_get c.text_reloc place ≡ Some reloc →
+    is_relocated (Some reloc) ≡ true → is_pc_relative reloc ≡ counts_from_pc a
+SuitsMode c place _ = Unit {0}
+
+-- so it is for both operands of the line at a place
+abbrev pub SuitsModes : Contents → ℕ → UnixLine → Type 0
+SuitsModes c place (Machine (Decoded i a b)) =
+    SuitsMode c (place + 1) i.first × SuitsMode c (place + 1 + word_count_of i.first) i.second
+SuitsModes c place line = Unit {0}
+
+-- by symbols or by distances: at no place that is reached the word is relocated, and the pc bits suit the modes
+abbrev pub ReachedWordsLaw : Type 0
+ReachedWordsLaw =
+    (c : Contents) → sure_suspicions c ≡ [] → (e : Evidence) (place : ℕ) → IsReached e c place →
+    (is_relocated (slice_get c.text_reloc place) ≡ false) × SuitsModes c place (unix_line_in Unix c place)

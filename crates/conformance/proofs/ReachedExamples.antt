@@ -1,0 +1,144 @@
+-- The law of instructions that are reached, at samples, and statements near it that do not hold.
+use Rattle.std.proofs.Common.{◌≡◌, ◌≢◌, ℕ, ◌+◌, ◌*◌, ◌/◌, false, List, [], ◌∷◌, ◌++◌, drop, Option, Some, None, inl, refl, ap, ◌∙◌, arith}
+use Rattle.std.specs.Prelude.{Ok, slice_get}
+use Rattle.std.specs.List.{AllByRecursion}
+use Rattle.aout_core.specs.declared.symbol.Symbol.{Symbol}
+use Rattle.aout_core.specs.declared.symbol.Segment.TheVariants.{TextSeg}
+use Rattle.aout_core.specs.declared.reloc.Reloc.{Reloc}
+use Rattle.aout_core.specs.declared.reloc.Kind.TheVariants as kinds
+use Rattle.aout_core.specs.Contents.{Contents}
+use Rattle.aout_core.specs.Words.{plus}
+use Rattle.aout_core.specs.WellFormed.{kind_of, symbol_number}
+use Rattle.link_session.specs.Starts.{total}
+use Rattle.link_session.specs.Sessions.{IsObject}
+use Rattle.tool_options.specs.declared.options.Keep.TheVariants.{Nothing}
+use Rattle.tool_options.specs.Choices.{Choices}
+use Rattle.link_out.specs.Results.{Outcome}
+use Rattle.link_out.specs.function.Link.{link}
+use Rattle.link_laws.specs.relation.Relocated.{entry_of}
+use Rattle.link_laws.specs.relation.LinkedFrom.{IsLinkedFrom}
+use Rattle.link_laws.proofs.LinkedTheorem.{linked_exactly}
+use Rattle.instructions.specs.declared.field.Field.TheVariants as fields
+use Rattle.instructions.specs.declared.operation.Operation.TheVariants.{Mov, Jsr}
+use Rattle.instructions.specs.declared.mode.Mode.TheVariants.{Direct, Index}
+use Rattle.instructions.specs.declared.mode.Register.TheVariants as registers
+use Rattle.instructions.specs.declared.mode.Addressing.{Addressing}
+use Rattle.instructions.specs.declared.mode.Addressing.TheVariants.{Relative}
+use Rattle.instructions.specs.declared.operand.Operand.{Operand}
+use Rattle.instructions.specs.declared.operand.Operand.TheVariants.{General, Register}
+use Rattle.instructions.specs.declared.instruction.Instruction.{Instruction}
+use Rattle.instructions.specs.Rows.{begins, row_of}
+use Rattle.instructions.specs.Instructions.{instruction_of}
+use Rattle.instructions.specs.Alike.{is_cut}
+use Rattle.instructions.specs.UnixLines.{call_of}
+use Rattle.suspicions.specs.declared.evidence.Evidence.{Evidence}
+use Rattle.suspicions.specs.declared.evidence.Evidence.TheVariants.{Symbols, Distances}
+use Rattle.suspicions.specs.ReachedLaw.{IsReached, Evident, Led}
+use Rattle.suspicions.specs.SureSuspicions.{sure_suspicions}
+use Rattle.laws.specs.OperandWords.{machine_value}
+use Rattle.laws.specs.OperandPlaces.{addressing_of, IsOperand}
+use Rattle.laws.specs.ReachedInstructions.{KeepsInstruction, BeginsInstruction}
+use Rattle.laws.proofs.ReachedInstructionLemmas.{reached_instructions_kept}
+use Rattle.conformance.specs.Samples.{sym as entry, object, _f, _count, b_o, main_o, twice_o, count_o, plain}
+use Rattle.conformance.proofs.LawExamples.{outcome_of}
+use Rattle.conformance.proofs.ClauseLemmas.{as_object}
+use Rattle.conformance.proofs.NearLaws.{different}
+use Rattle.conformance.proofs.NeededPremises.{all_kept}
+use Rattle.conformance.proofs.MachineExamples.{forward, main_good, twice_good, count_good}
+
+-- nothing is suspicious in `main.o`; distances reach `mov _count,r0`, which leads to the call, and symbols what follows that too
+
+main_is_sure : sure_suspicions main_o ≡ []
+unfolding row_of begins call_of
+main_is_sure = refl
+
+fetch_reached : IsReached Distances main_o 0
+unfolding row_of begins call_of
+fetch_reached = Evident 0 (omega arith) refl
+
+call_reached : IsReached Distances main_o 2
+unfolding row_of begins call_of
+call_reached = Led 0 2 fetch_reached (omega arith) refl
+
+return_reached : IsReached Symbols main_o 4
+unfolding row_of begins call_of
+return_reached = Led 2 4 (Led 0 2 (Evident 0 (omega arith) refl) (omega arith) refl) (omega arith) refl
+
+abbrev x : Outcome
+x = outcome_of (link [] forward plain)
+
+all_good : AllByRecursion IsObject forward
+all_good = (main_good, (twice_good, (count_good, tt)))
+
+main_linked : IsLinkedFrom [] forward plain x
+main_linked = (linked_exactly [] forward plain x all_good).0 refl
+
+abbrev call : Instruction
+call = record {
+  row = record { operation = Jsr; base = 0o4000; first = Some fields.Register; second = Some fields.Destination };
+  first = Some (Register registers.Pc);
+  second = Some (General Index registers.Pc);
+}
+
+-- so the call is in the program, with what its relocation word says
+main_call : KeepsInstruction plain x main_linked.rows forward [] main_o 2 0o4767 (0o177770 ∷ 0o207 ∷ []) call
+unfolding row_of begins
+main_call =
+    reached_instructions_kept [] [] main_o (twice_o ∷ count_o ∷ []) plain x all_good
+    (omega arith, (omega arith, (omega arith, (omega arith, (omega arith, tt))))) main_is_sure main_linked
+    Distances 2 call_reached 0o4767 (0o177770 ∷ 0o207 ∷ []) refl call refl refl
+
+-- without the premise: an operand word whose pc bit was forgotten refers to a name, and finds another place in the program
+abbrev forgotten_o : Contents
+forgotten_o =
+    object (0o16700 ∷ 0o177774 ∷ 0o207 ∷ []) (0 ∷ 0o30 ∷ 0 ∷ []) [] [] 0 (entry _f 0o42 0 ∷ entry _count 0o40 0 ∷ [])
+
+-- an operand that refers to a name is as far beyond its value as in the object
+abbrev FindsItsName : (Contents → Type 0) → Type 0
+FindsItsName Premise =
+    (forced : List (List ℕ)) (before : List Contents) (k : Contents) (after : List Contents) (o : Choices) (x : Outcome) →
+    AllByRecursion IsObject (before ++ k ∷ after) → Premise k → o.keep ≢ Nothing → o.relocatable ≡ false →
+    link forced (before ++ k ∷ after) o ≡ Ok x →
+    (e : Evidence) (i : ℕ) → IsReached e k i → (w : ℕ) (following : List ℕ) → drop i k.text_words ≡ w ∷ following →
+    (instruction : Instruction) → instruction_of w ≡ Some instruction → is_cut (instruction_of w) following ≡ false →
+    (operand : Option Operand) (p : ℕ) → IsOperand instruction i operand p → (a : Addressing) → addressing_of operand ≡ Some a →
+    (u word : ℕ) (r : Reloc) (s row : Symbol) → slice_get k.text_words p ≡ Some u → slice_get k.text_reloc p ≡ Some r →
+    kind_of r ≡ Some kinds.External → slice_get k.symbols (symbol_number r) ≡ Some s → entry_of x.file.symbols s.name ≡ Some row →
+    slice_get x.file.text_words (total TextSeg before / 2 + p) ≡ Some word →
+    machine_value a (total TextSeg before + 2 * p + 2) word ≡ plus row.value (machine_value a (2 * p + 2) u)
+
+abbrev fetch : Instruction
+fetch = record {
+  row = record { operation = Mov; base = 0o10000; first = Some fields.Source; second = Some fields.Destination };
+  first = Some (General Index registers.Pc);
+  second = Some (General Direct registers.R0);
+}
+
+forgotten_pc_bit : FindsItsName (λ k. Unit {0}) → ⊥
+unfolding row_of begins call_of
+forgotten_pc_bit law =
+    different 10 8 refl
+    (law [] (b_o ∷ []) forgotten_o (count_o ∷ []) plain (outcome_of (link [] (b_o ∷ forgotten_o ∷ count_o ∷ []) plain))
+    (as_object b_o refl refl refl refl refl refl refl refl,
+    (as_object forgotten_o refl refl refl refl refl refl refl refl, (count_good, tt))) tt all_kept refl refl
+    Symbols 0 (Evident 0 (omega arith) refl) 0o16700 (0o177774 ∷ 0o207 ∷ []) refl fetch refl refl
+    (Some (General Index registers.Pc)) 1 (inl (refl, refl)) Relative refl
+    0o177774 4 (record { 0 = 0o30 }) (entry _count 0o40 0) (entry _count 0o43 8) refl refl refl refl refl refl)
+
+-- and this is suspicious for sure
+forgotten_is_reported : sure_suspicions forgotten_o ≡ [] → ⊥
+unfolding row_of begins call_of
+forgotten_is_reported e = absurd cc
+
+-- places that only symbols reach: a word with a name may be data
+abbrev named_data_o : Contents
+named_data_o = object (7 ∷ []) (0 ∷ []) [] [] 0 (entry _f 0o42 0 ∷ [])
+
+begin_by_symbols : ((k : Contents) → sure_suspicions k ≡ [] → (i : ℕ) → IsReached Symbols k i → BeginsInstruction k i) → ⊥
+unfolding row_of begins call_of
+begin_by_symbols law =
+    let b = law named_data_o refl 0 (Evident 0 (omega arith) refl) in
+    let here : 7 ∷ [] ≡ b.w ∷ b.following = b.here in
+    let word : 7 ≡ b.w = cc in
+    let none : None ≡ Some b.instruction = ap instruction_of word ∙ b.is in
+    absurd cc

@@ -1,0 +1,14 @@
+-- What it means that no relocation word is shown as wrong. (own choice)
+use Rattle.std.specs.Prelude.{◌≡◌, ◌↔◌, true, eqb, [], ◌++◌, None}
+use Rattle.aout_core.specs.Contents.{Contents}
+use Rattle.aout_core.specs.WellFormed.{first_bad_word, IsWellFormed}
+use Rattle.findings.specs.Wrong.{wrong_words}
+
+-- the check of an object finds no bad relocation word
+abbrev pub WrongWordsLaw : Type 0
+WrongWordsLaw = (c : Contents) → (wrong_words c ≡ []) ↔ (first_bad_word c.symbols 0 (c.text_reloc ++ c.data_reloc) ≡ None)
+
+-- so the objects are the files with the magic number of one and with relocation of which none is shown
+abbrev pub WrongObjectsLaw : Type 0
+WrongObjectsLaw =
+    (c : Contents) → IsWellFormed c ↔ ((eqb c.header.magic 0o407 ≡ true) × (eqb c.header.flag 0 ≡ true) × (wrong_words c ≡ []))
