@@ -4,3 +4,4 @@ pub mod StartLemmas
 pub mod LabelLemmas
 pub mod PlainLemmas
 pub mod ColumnLemmas
+pub mod SweptLemmas

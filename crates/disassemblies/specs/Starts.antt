@@ -3,6 +3,8 @@ use Rattle.std.specs.Prelude.{ℕ, zero, suc, ◌+◌, ◌-◌, Bool, true, fals
 use Rattle.std.specs.Prelude.{◌++◌, Option, Some, None, length, replicate, slice_get}
 use Rattle.aout_core.specs.Contents.{Contents}
 use Rattle.instructions.specs.declared.unix.Decoder.{Decoder}
+use Rattle.instructions.specs.declared.unix.Decoder.TheVariants.{Unix}
+use Rattle.instructions.specs.declared.unix.UnixLine.{UnixLine}
 use Rattle.instructions.specs.UnixLines.{unix_length}
 use Rattle.disassemblies.specs.Lines.{unix_line_in}
 
@@ -37,3 +39,7 @@ is_start starts i = start_by (slice_get starts i)
 abbrev pub line_start : List Bool → ℕ → ℕ
 line_start starts zero = 0
 line_start starts (suc i) = if is_start starts (suc i) then suc i else line_start starts i
+
+-- the line that begins at a place of a text of Unix, if one does
+abbrev pub swept_line : Contents → ℕ → Option UnixLine
+swept_line c place = if is_start (starts Unix c) place then Some (unix_line_in Unix c place) else None

@@ -1,3 +1,4 @@
 -- Definitions for the code alone: what its loops and private functions do. No contract of a public function leads here.
 pub mod Blocks
 pub mod FirstNamed
+pub mod Swept

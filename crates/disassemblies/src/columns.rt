@@ -4,14 +4,15 @@ ghost use Rattle.std.specs.List.{flat_map};
 ghost use Rattle.texts.specs.Numbers.{six_digits};
 ghost use Rattle.texts.specs.Texts.{Puts};
 ghost use Rattle.instructions.specs.Lines.{words_of};
+ghost use Rattle.disassemblies.specs.Lines.{unix_line_in};
 ghost use Rattle.disassemblies.specs.Labels.{labels};
 ghost use Rattle.disassemblies.specs.Columns.{word_column, columns, rest_row, row_of, row, labelled_row, disassembly, plain_row, plain_disassembly};
 
 use crate::label::put_labels;
-use crate::line::{put_line_text, unix_line_in};
+use crate::line::{put_text_of, unix_line_in};
 use crate::named::NamedFile;
 use aout_core::File;
-use instructions::{Decoder, Line, decode};
+use instructions::{Decoder, Line, UnixLine, decode};
 use texts::Text;
 
 /// Appends words, each with a blank after it.
@@ -92,46 +93,52 @@ fn first_three(words: &[u16]) -> (&[u16], &[u16])
     (&words[..3], &words[3..])
 }
 
-/// Appends these words of the line at a place, in columns.
-fn put_row_of(text: &mut Text, decoder: Decoder, file: &NamedFile<'_>, place: usize, words: &[u16])
-    requires within { place < length file.now.text_words }
-    requires some { 1 ≤ length words.now }
-    ensures { Puts text.old text.new (row_of decoder file.now place words.now) }
-{
-    let _text_words = file.file().text_words();
-    let (shown, rest) = first_three(words);
-    put_columns(text, (2 * place) as u16, shown);
-    put_line_text(text, decoder, file, place);
-    text.put("\n");
-    put_rest_row(text, place + 3, rest);
-}
-
-/// Appends the line of so many words at a place, in columns.
-fn put_row(text: &mut Text, decoder: Decoder, file: &NamedFile<'_>, place: usize, count: usize)
-    requires within { place + count ≤ length file.now.text_words }
-    requires some { 1 ≤ count }
-    ensures { Puts text.old text.new (row decoder file.now place count) }
-{
-    let words = file.file().text_words();
-    put_row_of(text, decoder, file, place, &words[place..place + count]);
-}
-
-/// Appends the labels and the line of so many words at a place.
-fn put_labelled_row(
-    text: &mut Text,
+/// A line of a file's text, which begins at a place.
+#[derive(Clone, Copy)]
+struct PlacedLine<'a> {
     decoder: Decoder,
-    file: &NamedFile<'_>,
+    file: &'a NamedFile<'a>,
     place: usize,
-    count: usize,
-)
-    requires within { place + count ≤ length file.now.text_words }
+    line: UnixLine,
+}
+
+/// Appends these words of a line, in columns.
+fn put_row_of(text: &mut Text, at: &PlacedLine<'_>, words: &[u16])
+    requires within { at.now.place < length at.now.file.now.text_words }
+    requires line { at.now.line ≡ unix_line_in at.now.decoder at.now.file.now at.now.place }
+    requires some { 1 ≤ length words.now }
+    ensures { Puts text.old text.new (row_of at.now.decoder at.now.file.now at.now.place words.now) }
+{
+    let _text_words = at.file.file().text_words();
+    let (shown, rest) = first_three(words);
+    put_columns(text, (2 * at.place) as u16, shown);
+    put_text_of(text, at.decoder, at.file, at.place, &at.line);
+    text.put("\n");
+    put_rest_row(text, at.place + 3, rest);
+}
+
+/// Appends a line of so many words, in columns.
+fn put_row(text: &mut Text, at: &PlacedLine<'_>, count: usize)
+    requires within { at.now.place + count ≤ length at.now.file.now.text_words }
+    requires line { at.now.line ≡ unix_line_in at.now.decoder at.now.file.now at.now.place }
+    requires some { 1 ≤ count }
+    ensures { Puts text.old text.new (row at.now.decoder at.now.file.now at.now.place count) }
+{
+    let words = at.file.file().text_words();
+    put_row_of(text, at, &words[at.place..at.place + count]);
+}
+
+/// Appends the labels and the words of a line of so many words.
+fn put_labelled_row(text: &mut Text, at: &PlacedLine<'_>, count: usize)
+    requires within { at.now.place + count ≤ length at.now.file.now.text_words }
+    requires line { at.now.line ≡ unix_line_in at.now.decoder at.now.file.now at.now.place }
     requires some { 1 ≤ count }
     requires short { count ≤ 5 }
-    ensures { Puts text.old text.new (labelled_row decoder file.now place count) }
+    ensures { Puts text.old text.new (labelled_row at.now.decoder at.now.file.now at.now.place count) }
 {
-    let _words = file.file().text_words();
-    put_labels(text, file, (2 * place) as u16, count as u8);
-    put_row(text, decoder, file, place, count);
+    let _words = at.file.file().text_words();
+    put_labels(text, at.file, (2 * at.place) as u16, count as u8);
+    put_row(text, at, count);
 }
 
 /// Appends the labels of the end of the text.
@@ -150,8 +157,15 @@ fn put_rows(text: &mut Text, decoder: Decoder, named: &NamedFile<'_>, file: &Fil
     let end = file.text_words().len();
     let mut place = 0;
     while place < end {
-        let count = unix_line_in(decoder, file, place).length();
-        put_labelled_row(text, decoder, named, place, count);
+        let line = unix_line_in(decoder, file, place);
+        let count = line.length();
+        let at = PlacedLine {
+            decoder,
+            file: &*named,
+            place,
+            line,
+        };
+        put_labelled_row(text, &at, count);
         place += count;
     }
     put_end_labels(text, named);

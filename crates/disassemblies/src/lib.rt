@@ -18,6 +18,7 @@
 //! - `unix_line_in`: the line at a place of a file's text
 //! - `put_line_text`: appends the text of that line
 //! - `put_labels`: appends the labels before a line
+//! - `Sweep`: a file and the lines of its text, decoded once for all that is said of them
 //! - `line_starts`: for each word of a text, whether a line begins there
 //! - `is_start`, `line_start`: whether a line begins at a place, and where the line begins that has the word there
 //!
@@ -35,9 +36,11 @@ mod names;
 mod naming;
 mod relocated;
 mod starts;
+mod sweep;
 
 pub use columns::{put_disassembly, put_plain_disassembly};
 pub use label::put_labels;
 pub use line::{put_line_text, unix_line_in};
 pub use named::NamedFile;
 pub use starts::{is_start, line_start, line_starts};
+pub use sweep::Sweep;

@@ -3,7 +3,7 @@ ghost use Rattle.instructions.specs.UnixLines.{unix_length};
 ghost use Rattle.std.specs.Prelude.{◌≡◌, ◌≤◌, ◌<◌, ◌*◌, ◌+◌, length, take, drop, slice_get, option_copied};
 ghost use Rattle.texts.specs.Texts.{Puts};
 ghost use Rattle.instructions.specs.declared.unix.UnixLine.TheVariants.{Call};
-ghost use Rattle.disassemblies.specs.Lines.{unix_line_in, word_reference, general_reference, branch_reference, operand_reference, references, argument_reference, arguments_text, unix_text_in, decoded_text, line_text_in};
+ghost use Rattle.disassemblies.specs.Lines.{unix_line_in, word_reference, general_reference, branch_reference, operand_reference, references, argument_reference, arguments_text, unix_text_in, line_text_in};
 
 use crate::linked::{linked_reference, located};
 use crate::named::NamedFile;
@@ -182,17 +182,40 @@ fn put_call(text: &mut Text, file: &NamedFile<'_>, place: usize, call: &CallRow)
 }
 
 /// Appends the text of an instruction, a system call or a plain word that is not relocated.
-fn put_decoded(text: &mut Text, decoder: Decoder, file: &NamedFile<'_>, place: usize)
-    requires { place < length file.now.text_words }
-    ensures { Puts text.old text.new (decoded_text decoder file.now place) }
+fn put_decoded(text: &mut Text, file: &NamedFile<'_>, place: usize, line: &UnixLine)
+    requires within { place < length file.now.text_words }
+    requires fits { place + unix_length line.now ≤ length file.now.text_words }
+    ensures { Puts text.old text.new (unix_text_in file.now place line.now) }
 {
-    let words = file.file().text_words();
-    match decode_by(decoder, words, place) {
-        UnixLine::Call(call) => put_call(text, file, place, &call),
+    let _words = file.file().text_words();
+    match line {
+        UnixLine::Call(call) => put_call(text, file, place, call),
         UnixLine::Machine(line) => {
-            let references = references(file, place, &line);
+            let references = references(file, place, line);
             line.put_text_with((2 * place) as u16, &references, text);
         }
+    }
+}
+
+/// Appends the text of the line at a place of a file's text, which has been decoded.
+#[tactic(auto, using(crate::proofs::StartLemmas::line_fits))]
+pub(crate) fn put_text_of(
+    text: &mut Text,
+    decoder: Decoder,
+    file: &NamedFile<'_>,
+    place: usize,
+    line: &UnixLine,
+)
+    requires within { place < length file.now.text_words }
+    requires line { line.now ≡ unix_line_in decoder file.now place }
+    ensures { Puts text.old text.new (line_text_in decoder file.now place) }
+{
+    let words = file.file().text_words();
+    match reloc_at(file.file(), place) {
+        Some(reloc) if is_relocated(Some(reloc)) => {
+            put_relocated(text, file.names(), reloc, words[place], (2 * place) as u16);
+        }
+        _ => put_decoded(text, file, place, line),
     }
 }
 
@@ -203,11 +226,6 @@ pub fn put_line_text(text: &mut Text, decoder: Decoder, file: &NamedFile<'_>, pl
     requires { place < length file.now.text_words }
     ensures { Puts text.old text.new (line_text_in decoder file.now place) }
 {
-    let words = file.file().text_words();
-    match reloc_at(file.file(), place) {
-        Some(reloc) if is_relocated(Some(reloc)) => {
-            put_relocated(text, file.names(), reloc, words[place], (2 * place) as u16);
-        }
-        _ => put_decoded(text, decoder, file, place),
-    }
+    let line = unix_line_in(decoder, file.file(), place);
+    put_text_of(text, decoder, file, place, &line);
 }

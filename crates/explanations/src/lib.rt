@@ -6,7 +6,7 @@
 //! /// The listing of a file, without notes.
 //! fn plain_listing(alloc: Global, file: &File) -> Result<Vec<u8>, AllocError> {
 //!     let none = Notes::new(alloc);
-//!     write_explained(alloc, file, &none, &none)
+//!     write_explained(alloc, &Sweep::new(alloc, file)?, &none, &none)
 //! }
 //! ```
 //!

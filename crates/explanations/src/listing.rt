@@ -7,10 +7,8 @@ ghost use Rattle.disassemblies.specs.Starts.{starts};
 ghost use Rattle.explanations.specs.Said.{explained};
 
 use crate::remarks::Explained;
-use aout_core::File;
-use disassemblies::{NamedFile, line_starts};
+use disassemblies::Sweep;
 use findings::Notes;
-use instructions::Decoder;
 use listings::write_listing;
 use std::alloc::{AllocError, Global};
 
@@ -20,20 +18,17 @@ use std::alloc::{AllocError, Global};
 /// Errors: `AllocError` if memory runs out.
 pub fn write_explained(
     alloc: Global,
-    file: &File,
+    sweep: &Sweep<'_>,
     notes: &Notes,
     findings: &Notes,
 ) -> Result<Vec<u8>, AllocError>
-    ensures lists { IfOk result (λ v. v.items ≡ listing (explained (starts Unix file.now) file.now notes.now.lines findings.now.lines) file.now) }
-    ensures again { IfOk result (λ v. read v.items ≡ Ok file.now) }
+    ensures lists { IfOk result (λ v. v.items ≡ listing (explained (starts Unix sweep.now) sweep.now notes.now.lines findings.now.lines) sweep.now) }
+    ensures again { IfOk result (λ v. read v.items ≡ Ok sweep.now) }
 {
-    let starts = line_starts(alloc, Decoder::Unix, file)?;
-    let named = NamedFile::new(alloc, file)?;
     let remarks = Explained {
-        file: &named,
-        starts: &starts,
+        sweep,
         notes,
         findings,
     };
-    write_listing(alloc, file, &remarks)
+    write_listing(alloc, sweep.file(), &remarks)
 }

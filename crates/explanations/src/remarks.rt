@@ -6,15 +6,16 @@ ghost use Rattle.aout_core.specs.Addresses.{data_start_in};
 ghost use Rattle.listings.specs.Listing.{remarked, note_lines};
 ghost use Rattle.findings.specs.Found.{Holds};
 ghost use Rattle.instructions.specs.declared.unix.Decoder.TheVariants.{Unix};
-ghost use Rattle.disassemblies.specs.Lines.{line_text_in};
+ghost use Rattle.disassemblies.specs.Lines.{unix_line_in, line_text_in};
+ghost use Rattle.disassemblies.specs.Starts.{starts};
 ghost use Rattle.disassemblies.specs.Labels.{label_lines};
 ghost use Rattle.explanations.specs.Said.{printed_byte, printed, is_plain, reloc_said, text_said, data_said, labels_said};
 
 use crate::words_in::put_word_text;
 use aout_core::{File, Part, Reloc, Symbol};
-use disassemblies::{NamedFile, is_start, put_labels, put_line_text, unix_line_in};
+use disassemblies::{NamedFile, Sweep, put_labels};
 use findings::Notes;
-use instructions::Decoder;
+use instructions::UnixLine;
 use listings::Remark;
 use std::alloc::Global;
 use symtools::letter;
@@ -23,9 +24,7 @@ use texts::Text;
 /// A file that is listed, with what is remarked of it.
 #[derive(Clone, Copy)]
 pub(crate) struct Explained<'a> {
-    pub(crate) file: &'a NamedFile<'a>,
-    /// For each word of the text, whether a line of instructions begins there.
-    pub(crate) starts: &'a [bool],
+    pub(crate) sweep: &'a Sweep<'a>,
     /// Lines before the file, each without its slash.
     pub(crate) notes: &'a Notes,
     /// Lines after it.
@@ -171,44 +170,45 @@ fn data_spot(file: &File, place: usize) -> PlacedWord
 }
 
 /// The instruction that begins at a place of the text.
-fn instruction_text(alloc: Global, file: &NamedFile<'_>, place: usize) -> Text
-    requires { place < length file.now.text_words }
-    ensures { Holds result (line_text_in Unix file.now place) }
+fn instruction_text(alloc: Global, sweep: &Sweep<'_>, place: usize, line: &UnixLine) -> Text
+    requires within { place < length sweep.now.text_words }
+    requires line { line.now ≡ unix_line_in Unix sweep.now place }
+    ensures { Holds result (line_text_in Unix sweep.now place) }
 {
     let mut text = Text::new(alloc);
-    put_line_text(&mut text, Decoder::Unix, file, place);
+    sweep.put_text(&mut text, place, line);
     text
 }
 
 /// Appends the instruction that begins at a place of the text.
-fn put_instruction(text: &mut Text, file: &NamedFile<'_>, place: usize)
-    requires { place < length file.now.text_words }
-    ensures { Puts text.old text.new (remarked (printed (line_text_in Unix file.now place))) }
+fn put_instruction(text: &mut Text, sweep: &Sweep<'_>, place: usize, line: &UnixLine)
+    requires within { place < length sweep.now.text_words }
+    requires line { line.now ≡ unix_line_in Unix sweep.now place }
+    ensures { Puts text.old text.new (remarked (printed (line_text_in Unix sweep.now place))) }
 {
-    let remark = instruction_text(text.allocator(), file, place);
+    let remark = instruction_text(text.allocator(), sweep, place, line);
     put_made(text, remark);
 }
 
 /// Appends what is remarked of a word of text: its instruction, or what its relocation word says.
 fn put_text_remark(x: &Explained<'_>, text: &mut Text, place: usize)
-    ensures { Puts text.old text.new (remarked (printed (text_said x.now.starts.now x.now.file.now place))) }
+    ensures { Puts text.old text.new (remarked (printed (text_said (starts Unix x.now.sweep.now) x.now.sweep.now place))) }
 {
-    let file = x.file.file();
+    let file = x.sweep.file();
     if place >= file.text_words().len() {
         return;
     }
-    if is_start(x.starts, place) {
-        put_instruction(text, x.file, place);
-    } else {
-        put_reloc(text, file.symbols(), text_spot(file, place));
+    match x.sweep.line_from(place) {
+        Some(line) => put_instruction(text, x.sweep, place, &line),
+        None => put_reloc(text, file.symbols(), text_spot(file, place)),
     }
 }
 
 /// Appends what is remarked of a word of data.
 fn put_data_remark(x: &Explained<'_>, text: &mut Text, place: usize)
-    ensures { Puts text.old text.new (remarked (printed (data_said x.now.file.now place))) }
+    ensures { Puts text.old text.new (remarked (printed (data_said x.now.sweep.now place))) }
 {
-    let file = x.file.file();
+    let file = x.sweep.file();
     if place < file.data_words().len() {
         put_reloc(text, file.symbols(), data_spot(file, place));
     }
@@ -224,15 +224,16 @@ fn put_line_labels(text: &mut Text, file: &NamedFile<'_>, place: usize, length: 
 
 /// Appends the labels before the line that begins at a place of the text, or at the end of the text.
 fn put_text_labels(x: &Explained<'_>, text: &mut Text, place: usize)
-    ensures { Puts text.old text.new (text_of (labels_said x.now.starts.now x.now.file.now place)) }
+    ensures { Puts text.old text.new (text_of (labels_said (starts Unix x.now.sweep.now) x.now.sweep.now place)) }
 {
-    let end = x.file.file().text_words().len();
+    let end = x.sweep.file().text_words().len();
     if place == end {
-        return put_line_labels(text, x.file, place, 0);
+        return put_line_labels(text, x.sweep.named(), place, 0);
     }
-    if place < end && is_start(x.starts, place) {
-        let length = unix_line_in(Decoder::Unix, x.file.file(), place).length() as u8;
-        put_line_labels(text, x.file, place, length);
+    if place < end
+        && let Some(line) = x.sweep.line_from(place)
+    {
+        put_line_labels(text, x.sweep.named(), place, line.length() as u8);
     }
 }
 
@@ -240,7 +241,7 @@ impl Remark for Explained<'_> {
     ghost use Rattle.explanations.specs.Said.{explained};
     ghost use Rattle.explanations.specs.internal.Lines.{explained_lines};
 
-    ghost said = { λ x. explained x.starts.now x.file.now x.notes.now.lines x.findings.now.lines };
+    ghost said = { λ x. explained (starts Unix x.sweep.now) x.sweep.now x.notes.now.lines x.findings.now.lines };
 
     fn put_notes(&self, text: &mut Text) {
         put_lines(text, self.notes);
@@ -268,5 +269,5 @@ impl Remark for Explained<'_> {
         put_remark(text, &[letter(symbol)]);
     }
 
-    ghost are = { λ x. explained_lines x.starts.now x.file.now x.notes.now.lines x.findings.now.lines };
+    ghost are = { λ x. explained_lines (starts Unix x.sweep.now) x.sweep.now x.notes.now.lines x.findings.now.lines };
 }

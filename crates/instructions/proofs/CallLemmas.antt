@@ -1,8 +1,8 @@
 -- What holds of each row of the table of calls: by its name it is found again.
-use Rattle.std.proofs.Common.{◌≡◌, ℕ, ◌≤◌, Bool, true, false, eqb, nat_lt, Option, Some, None, List}
+use Rattle.std.proofs.Common.{◌≡◌, ℕ, ◌≤◌, ◌<◌, ◌/◌, Bool, true, false, ◌&&◌, eqb, nat_lt, Option, Some, None, List}
 use Rattle.std.proofs.Common.{[], ◌∷◌, ◌++◌, slice_index, refl, subst, cond, arith}
 use Rattle.std.specs.Prelude.{IfSome}
-use Rattle.std.proofs.lemmas.Bool.Decides.{Decides-eqb}
+use Rattle.std.proofs.lemmas.Bool.Decides.{Decides-eqb, nat_tests}
 use Rattle.std.specs.List.{find}
 use Rattle.instructions.specs.declared.call_table.CallRow.{CallRow}
 use Rattle.instructions.specs.declared.unix.Decoder.{Decoder}
@@ -76,6 +76,35 @@ call_small w = small_by w (call_of w) refl
 pub calls_found : (w : ℕ) (o : Option CallRow) → o ≡ call_in CALLS w → o ≡ call_of w
 unfolding call_of
 calls_found w o e = e
+
+-- each call is made by a word whose high byte is that of the first
+abbrev are_low : List CallRow → Bool
+are_low [] = true
+are_low (c ∷ calls) = nat_lt c.number 256 && are_low calls
+
+both : (a b : Bool) → (a && b) ≡ true → (a ≡ true) × (b ≡ true)
+both true b h = (refl, h)
+both false b h = absurd cc
+
+other_by : (w : ℕ) (c : CallRow) (rest : Option CallRow) (b : Bool) → eqb (call_word c) w ≡ b → (w / 256 ≡ 137 → ⊥) → c.number < 256 →
+    rest ≡ None → cond b (Some c) rest ≡ None
+other_by w c rest true t other low none =
+    let same : call_word c ≡ w = (Decides-eqb (call_word c) w).0 t in
+    let high : w / 256 ≡ 137 = omega (arith, same, low) in
+    absurd (other high)
+other_by w c rest false t other low none = none
+
+other_found : (w : ℕ) (calls : List CallRow) → are_low calls ≡ true → (w / 256 ≡ 137 → ⊥) → find (λ c. eqb (call_word c) w) calls ≡ None
+other_found w [] h other = refl
+other_found w (c ∷ calls) h other =
+    let parts = both (nat_lt c.number 256) (are_low calls) h in
+    let low : c.number < 256 = grind (arith, nat_tests) in
+    other_by w c (find (λ c. eqb (call_word c) w) calls) (eqb (call_word c) w) refl other low (other_found w calls parts.1 other)
+
+-- a word with another high byte makes none
+pub no_call : (w : ℕ) → (w / 256 ≡ 137 → ⊥) → call_of w ≡ None
+unfolding call_of
+no_call w other = other_found w system_calls refl other
 
 pub each_made_by_sys : AreMadeBySys system_calls
 unfolding row_of begins

@@ -2,7 +2,7 @@
 --
 -- Nothing is lost or normalized, the first word alone decides which line it is, if enough words follow it, and at one address different
 -- words have different texts.
-use Rattle.std.specs.Prelude.{◌≡◌, ℕ, ◌+◌, ◌<◌, ◌≤◌, List, ◌∷◌, length, take, drop, map, Option, Some, None}
+use Rattle.std.specs.Prelude.{◌≡◌, ℕ, ◌+◌, ◌<◌, ◌≤◌, List, ◌∷◌, length, take, drop, map, Some, None}
 use Rattle.std.specs.List.{flat_map}
 use Rattle.instructions.specs.declared.field.Field.TheVariants.{Byte}
 use Rattle.instructions.specs.declared.operation.Operation.TheVariants.{Sys}

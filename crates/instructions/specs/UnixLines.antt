@@ -8,7 +8,6 @@ use Rattle.std.specs.Prelude.{[], ◌∷◌, ◌++◌, codes, length, take, drop
 use Rattle.std.specs.List.{find, flat_map}
 use Rattle.texts.specs.Numbers.{six_digits}
 use Rattle.instructions.specs.declared.call_table.CallRow.{CallRow}
-use Rattle.instructions.specs.declared.line.Line.{Line}
 use Rattle.instructions.specs.declared.line.Line.TheVariants.{Plain}
 use Rattle.instructions.specs.declared.unix.Decoder.{Decoder}
 use Rattle.instructions.specs.declared.unix.Decoder.TheVariants as decoders

@@ -45,6 +45,9 @@ pub fn call_of(word: u16) -> Option<CallRow>
     ensures value { result ≡ call_of word }
     ensures small { IfSome result (λ c. c.words ≤ 4) }
 {
+    if word / 0o400 != 0o104400 / 0o400 {
+        return None;
+    }
     call_in(&CALLS, word)
 }
 

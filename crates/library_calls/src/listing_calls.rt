@@ -11,6 +11,7 @@ use crate::cause::{Cause, Refusal};
 use crate::file_calls::bytes_of;
 use crate::first::first_file;
 use aout_core::File;
+use disassemblies::Sweep;
 use explanations::write_explained;
 use findings::Notes;
 use listings::{ListingFault, read_listing};
@@ -21,7 +22,7 @@ fn listing_of(alloc: Global, file: &File) -> Result<Vec<u8>, AllocError>
     ensures { IfOk result (λ text. text.items ≡ listed file.now) }
 {
     let none = Notes::new(alloc);
-    write_explained(alloc, file, &none, &none)
+    write_explained(alloc, &Sweep::new(alloc, file)?, &none, &none)
 }
 
 /// The listing of the file that the bytes begin with, as v7-explain(1) prints it but for the lines that begin with a slash.

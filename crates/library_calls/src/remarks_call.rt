@@ -11,6 +11,7 @@ ghost use Rattle.library_calls.specs.declared.cause.Cause.TheVariants.{Memory};
 use crate::cause::Cause;
 use crate::first::first_file;
 use aout_core::{File, Object, ObjectFault};
+use disassemblies::Sweep;
 use findings::{Finding, FindingKind, odd_of, wrong_bytes, wrong_words};
 use std::alloc::{AllocError, Global};
 use suspicions::suspicions_of;
@@ -150,7 +151,7 @@ fn odd_in(alloc: Global, bytes: &[u8], file: &File) -> Result<Vec<Finding>, Allo
     ensures { IfOk result (λ found. all_found found.items ≡ odd bytes.now file.now ++ suspicions file.now) }
 {
     let mut found = odd_of(alloc, bytes, file)?;
-    let mut more = suspicions_of(alloc, file)?;
+    let mut more = suspicions_of(alloc, &Sweep::new(alloc, file)?)?;
     found.append(&mut more)?;
     Ok(found)
 }

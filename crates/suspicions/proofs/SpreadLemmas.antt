@@ -1,6 +1,6 @@
 -- The places that lead to more, one after the other.
 use Rattle.std.proofs.Common.{◌≡◌, ℕ, zero, suc, ◌+◌, ◌-◌, ◌<◌, ◌≤◌, refl, sym, ap, ◌∙◌, arith, append_assoc}
-use Rattle.std.specs.Prelude.{Bool, true, false, nat_lt, if◌then◌else◌, List, ◌++◌, length, drop, slice_index}
+use Rattle.std.specs.Prelude.{Bool, if◌then◌else◌, List, ◌++◌, length, drop, slice_index}
 use Rattle.std.proofs.lemmas.Bool.{lt-ltb, le-ltb}
 use Rattle.std.proofs.lemmas.List.{drop_more}
 use Rattle.aout_core.specs.Contents.{Contents}

@@ -2,8 +2,8 @@
 -- own choice)
 --
 -- The end of the text counts as inside, since another text may follow it. Only sure instructions count as those that a target is within.
-use Rattle.std.specs.Prelude.{ℕ, ◌+◌, ◌-◌, ◌*◌, ◌/◌, Bool, true, false, not, ◌&&◌, nat_lt, if◌then◌else◌}
-use Rattle.std.specs.Prelude.{List, [], ◌∷◌, ◌++◌, length, Option, Some, None}
+use Rattle.std.specs.Prelude.{ℕ, ◌+◌, ◌-◌, ◌*◌, ◌/◌, Bool, true, not, ◌&&◌, nat_lt, if◌then◌else◌}
+use Rattle.std.specs.Prelude.{List, [], ◌∷◌, length, Option, Some, None}
 use Rattle.aout_core.specs.Contents.{Contents}
 use Rattle.instructions.specs.declared.unix.Decoder.TheVariants.{Unix}
 use Rattle.instructions.specs.UnixLines.{unix_length}

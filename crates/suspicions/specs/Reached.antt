@@ -20,7 +20,6 @@ use Rattle.instructions.specs.declared.mode.Addressing.{Addressing}
 use Rattle.instructions.specs.declared.mode.Addressing.TheVariants as ways
 use Rattle.instructions.specs.declared.operand.Operand.{Operand}
 use Rattle.instructions.specs.declared.operand.Operand.TheVariants.{General, Forward, Backward}
-use Rattle.instructions.specs.declared.instruction.Instruction.{Instruction}
 use Rattle.instructions.specs.declared.line.Line.TheVariants.{Plain, Decoded}
 use Rattle.instructions.specs.declared.call.SystemCall.{SystemCall}
 use Rattle.instructions.specs.declared.call.SystemCall.TheVariants as calls

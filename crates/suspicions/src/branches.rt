@@ -8,17 +8,15 @@ ghost use Rattle.suspicions.specs.SuspicionTexts.{branch_text, outside_text, wit
 
 use crate::reached::is_marked;
 use crate::suspect::{Suspect, doubt_text};
-use disassemblies::unix_line_in;
 use findings::{FilePlaces, FindingKind, Findings, put_instruction};
-use instructions::Decoder;
 use texts::Text;
 
 /// The byte of the file that a word of text has.
 pub(crate) fn word_place(at: &Suspect<'_>) -> usize
-    requires { at.now.start < length at.now.file.now.text_words }
+    requires { at.now.start < length at.now.sweep.now.text_words }
     ensures { result ≡ word_place at.now.start }
 {
-    let file = at.file.file();
+    let file = at.sweep.file();
     let _words = file.text_words();
     FilePlaces::of(file.header()).text + 2 * at.start
 }
@@ -62,53 +60,52 @@ fn within_text(findings: &Findings, address: u32, target: u16, start: u32, is_su
 
 /// The first of these with the instruction.
 fn outside_in(findings: &Findings, at: &Suspect<'_>, target: u16) -> Text
-    requires { at.now.start < length at.now.file.now.text_words }
-    ensures { Holds result (outside_in at.now.file.now at.now.start target at.now.trust.is_sure) }
+    requires { at.now.start < length at.now.sweep.now.text_words }
+    ensures { Holds result (outside_in at.now.sweep.now at.now.start target at.now.trust.is_sure) }
 {
-    let size = (2 * at.file.file().text_words().len()) as u32;
+    let size = (2 * at.sweep.file().text_words().len()) as u32;
     let address = (2 * at.start) as u32;
     let mut text = outside_text(findings, address, target, size, at.trust.is_sure);
-    put_instruction(&mut text, at.file, at.start);
+    put_instruction(&mut text, at.sweep.named(), at.start);
     text
 }
 
 /// The second.
 fn within_in(findings: &Findings, at: &Suspect<'_>, target: u16, start: usize) -> Text
-    requires inside { at.now.start < length at.now.file.now.text_words }
+    requires inside { at.now.start < length at.now.sweep.now.text_words }
     requires before { start < 32768 }
-    ensures { Holds result (within_in at.now.file.now at.now.start target start at.now.trust.is_sure) }
+    ensures { Holds result (within_in at.now.sweep.now at.now.start target start at.now.trust.is_sure) }
 {
-    let _words = at.file.file().text_words();
+    let _words = at.sweep.file().text_words();
     let address = (2 * at.start) as u32;
     let start = (2 * start) as u32;
     let mut text = within_text(findings, address, target, start, at.trust.is_sure);
-    put_instruction(&mut text, at.file, at.start);
+    put_instruction(&mut text, at.sweep.named(), at.start);
     text
 }
 
 /// Whether a sure line begins at a place, and has the word so many places after it.
 fn has_word_at(at: &Suspect<'_>, start: usize, back: usize) -> bool
-    requires sure { (i : ℕ) → get_or at.now.sure.now i false ≡ is_sure at.now.file.now i }
-    ensures { result ≡ has_word_at at.now.file.now start back }
+    requires sure { (i : ℕ) → get_or at.now.sure.now i false ≡ is_sure at.now.sweep.now i }
+    ensures { result ≡ has_word_at at.now.sweep.now start back }
 {
-    let file = at.file.file();
-    start < file.text_words().len()
+    start < at.sweep.file().text_words().len()
         && is_marked(at.sure, start)
-        && back < unix_line_in(Decoder::Unix, file, start).length()
+        && back < at.sweep.line_at(start).length()
 }
 
 /// Whether a sure line begins so many words before a place, and has its word.
 fn enters(at: &Suspect<'_>, place: usize, back: usize) -> bool
-    requires sure { (i : ℕ) → get_or at.now.sure.now i false ≡ is_sure at.now.file.now i }
-    ensures { result ≡ enters at.now.file.now place back }
+    requires sure { (i : ℕ) → get_or at.now.sure.now i false ≡ is_sure at.now.sweep.now i }
+    ensures { result ≡ enters at.now.sweep.now place back }
 {
     place >= back && has_word_at(at, place - back, back)
 }
 
 /// The nearest place before this one at which a sure line begins that has its word.
 fn entered(at: &Suspect<'_>, place: usize) -> Option<usize>
-    requires sure { (i : ℕ) → get_or at.now.sure.now i false ≡ is_sure at.now.file.now i }
-    ensures value { result ≡ entered at.now.file.now place }
+    requires sure { (i : ℕ) → get_or at.now.sure.now i false ≡ is_sure at.now.sweep.now i }
+    ensures value { result ≡ entered at.now.sweep.now place }
     ensures before { IfSome result (λ start. start ≤ place) }
 {
     if enters(at, place, 1) {
@@ -126,9 +123,9 @@ fn entered(at: &Suspect<'_>, place: usize) -> Option<usize>
 
 /// Adds a branch that leads within a line.
 fn find_entry(findings: &mut Findings, at: &Suspect<'_>, target: u16)
-    requires inside { at.now.start < length at.now.file.now.text_words }
-    requires sure { (i : ℕ) → get_or at.now.sure.now i false ≡ is_sure at.now.file.now i }
-    ensures { Finds findings.old findings.new (suspicious_entry at.now.file.now at.now.trust at.now.start target (entered at.now.file.now (target / 2))) }
+    requires inside { at.now.start < length at.now.sweep.now.text_words }
+    requires sure { (i : ℕ) → get_or at.now.sure.now i false ≡ is_sure at.now.sweep.now i }
+    ensures { Finds findings.old findings.new (suspicious_entry at.now.sweep.now at.now.trust at.now.start target (entered at.now.sweep.now (target / 2))) }
 {
     if let Some(start) = entered(at, usize::from(target / 2)) {
         let text = within_in(findings, at, target, start);
@@ -138,11 +135,11 @@ fn find_entry(findings: &mut Findings, at: &Suspect<'_>, target: u16)
 
 /// Adds a branch to a target, if it is suspicious.
 fn find_target(findings: &mut Findings, at: &Suspect<'_>, target: u16)
-    requires inside { at.now.start < length at.now.file.now.text_words }
-    requires sure { (i : ℕ) → get_or at.now.sure.now i false ≡ is_sure at.now.file.now i }
-    ensures { Finds findings.old findings.new (suspicious_target at.now.file.now at.now.trust at.now.start target) }
+    requires inside { at.now.start < length at.now.sweep.now.text_words }
+    requires sure { (i : ℕ) → get_or at.now.sure.now i false ≡ is_sure at.now.sweep.now i }
+    ensures { Finds findings.old findings.new (suspicious_target at.now.sweep.now at.now.trust at.now.start target) }
 {
-    if usize::from(target) > 2 * at.file.file().text_words().len() {
+    if usize::from(target) > 2 * at.sweep.file().text_words().len() {
         let text = outside_in(findings, at, target);
         findings.find(word_place(at), FindingKind::BranchOutside, text);
     } else {
@@ -152,9 +149,9 @@ fn find_target(findings: &mut Findings, at: &Suspect<'_>, target: u16)
 
 /// Adds a branch, if it is likely that it is one, and suspicious.
 pub(crate) fn find_branch(findings: &mut Findings, at: &Suspect<'_>, target: Option<u16>)
-    requires inside { at.now.start < length at.now.file.now.text_words }
-    requires sure { (i : ℕ) → get_or at.now.sure.now i false ≡ is_sure at.now.file.now i }
-    ensures { Finds findings.old findings.new (suspicious_branch at.now.file.now at.now.trust at.now.start target) }
+    requires inside { at.now.start < length at.now.sweep.now.text_words }
+    requires sure { (i : ℕ) → get_or at.now.sure.now i false ≡ is_sure at.now.sweep.now i }
+    ensures { Finds findings.old findings.new (suspicious_branch at.now.sweep.now at.now.trust at.now.start target) }
 {
     if let Some(target) = target {
         if at.trust.is_likely() {

@@ -5,7 +5,6 @@ ghost use Rattle.suspicions.specs.Reached.{ends, may_not_return, stops, returns,
 
 use crate::evidence::Evidence;
 use aout_core::{File, Reloc};
-use disassemblies::unix_line_in;
 use instructions::{
     Addressing, Decoder, Line, Operand, Operation, SystemCall, UnixLine, branch_back_target,
     branch_target,

@@ -3,9 +3,7 @@ ghost use Rattle.std.specs.Prelude.{◌≡◌, ◌<◌, ◌+◌, ◌++◌, ◌�
 ghost use Rattle.instructions.specs.UnixLines.{unix_length};
 ghost use Rattle.instructions.specs.declared.line.Line.TheVariants.{Decoded};
 ghost use Rattle.instructions.specs.declared.unix.UnixLine.TheVariants.{Machine};
-ghost use Rattle.instructions.specs.declared.unix.Decoder.TheVariants.{Unix};
 ghost use Rattle.instructions.specs.Instructions.{word_count_of};
-ghost use Rattle.disassemblies.specs.Starts as lines;
 ghost use Rattle.suspicions.specs.Reached.{leads_by, leads_to, visited, visited_all, named, counts_from_pc, is_distance, has_distance, is_shown_by, shown, shown_from, evident, spread, reached, is_reached};
 ghost use Rattle.suspicions.specs.declared.evidence.Evidence.TheVariants.{Symbols, Distances};
 ghost use Rattle.suspicions.specs.internal.Marks.{AreMarks, is_unmarked};
@@ -13,8 +11,8 @@ ghost use Rattle.suspicions.specs.internal.Marks.{AreMarks, is_unmarked};
 use crate::evidence::Evidence;
 use crate::leads::{branch_of, jump, next_of};
 use aout_core::{File, Reloc, Segment, Symbol};
-use disassemblies::{is_start, unix_line_in};
-use instructions::{Addressing, Decoder, Instruction, Line, Operand, UnixLine, is_relocated};
+use disassemblies::Sweep;
+use instructions::{Addressing, Instruction, Line, Operand, UnixLine, is_relocated};
 use std::alloc::{AllocError, Global};
 
 /// Whether a place is marked.
@@ -161,16 +159,15 @@ fn is_shown(file: &File, place: usize, line: &UnixLine) -> bool
 }
 
 /// The address of a place at which a line begins that has such a word.
-fn shown(file: &File, starts: &[bool], place: usize) -> Option<u16>
-    requires inside { place < length file.now.text_words }
-    requires starts { starts.now ≡ lines.starts Unix file.now }
-    ensures { result ≡ shown file.now place }
+fn shown(sweep: &Sweep<'_>, place: usize) -> Option<u16>
+    requires { place < length sweep.now.text_words }
+    ensures { result ≡ shown sweep.now place }
 {
+    let file = sweep.file();
     let _words = file.text_words();
-    if is_start(starts, place) && is_shown(file, place, &unix_line_in(Decoder::Unix, file, place)) {
-        Some((2 * place) as u16)
-    } else {
-        None
+    match sweep.line_from(place) {
+        Some(line) if is_shown(file, place, &line) => Some((2 * place) as u16),
+        _ => None,
     }
 }
 
@@ -178,18 +175,16 @@ fn shown(file: &File, starts: &[bool], place: usize) -> Option<u16>
 fn visit_distances(
     marks: &mut [bool],
     found: &mut Vec<usize>,
-    file: &File,
-    starts: &[bool],
+    sweep: &Sweep<'_>,
 ) -> Result<(), AllocError>
-    requires starts { starts.now ≡ lines.starts Unix file.now }
-    requires marks { AreMarks marks.old found.old.items }
-    ensures found { OnOk result (found.new.items ≡ visited_all (length marks.old) found.old.items (evident Distances file.now)) }
+    requires { AreMarks marks.old found.old.items }
+    ensures found { OnOk result (found.new.items ≡ visited_all (length marks.old) found.old.items (evident Distances sweep.now)) }
     ensures marks { OnOk result (AreMarks marks.new found.new.items) }
     ensures same { length marks.new ≡ length marks.old }
 {
-    let words = file.text_words();
+    let words = sweep.file().text_words();
     for (place, _) in words.iter().enumerate() {
-        visit(marks, found, shown(file, starts, place))?;
+        visit(marks, found, shown(sweep, place))?;
     }
     Ok(())
 }
@@ -224,17 +219,18 @@ fn visit_leads(
     marks: &mut [bool],
     found: &mut Vec<usize>,
     evidence: Evidence,
-    file: &File,
+    sweep: &Sweep<'_>,
     place: usize,
 ) -> Result<(), AllocError>
-    requires inside { place < length file.now.text_words }
+    requires inside { place < length sweep.now.text_words }
     requires marks { AreMarks marks.old found.old.items }
-    ensures found { OnOk result (found.new.items ≡ visited_all (length marks.old) found.old.items (leads_to evidence file.now place)) }
+    ensures found { OnOk result (found.new.items ≡ visited_all (length marks.old) found.old.items (leads_to evidence sweep.now place)) }
     ensures marks { OnOk result (AreMarks marks.new found.new.items) }
     ensures same { length marks.new ≡ length marks.old }
 {
+    let file = sweep.file();
     let _words = file.text_words();
-    let line = unix_line_in(Decoder::Unix, file, place);
+    let line = sweep.line_at(place);
     match line {
         UnixLine::Machine(Line::Decoded(instruction, word, other)) => visit_all(
             marks,
@@ -255,43 +251,42 @@ fn spread(
     marks: &mut [bool],
     found: &mut Vec<usize>,
     evidence: Evidence,
-    file: &File,
+    sweep: &Sweep<'_>,
 ) -> Result<(), AllocError>
-    requires all { length marks.old ≡ length file.now.text_words }
+    requires all { length marks.old ≡ length sweep.now.text_words }
     requires marks { AreMarks marks.old found.old.items }
-    ensures found { OnOk result (found.new.items ≡ spread evidence file.now (length file.now.text_words) 0 found.old.items) }
+    ensures found { OnOk result (found.new.items ≡ spread evidence sweep.now (length sweep.now.text_words) 0 found.old.items) }
     ensures marks { OnOk result (AreMarks marks.new found.new.items) }
 {
-    for next in 0..file.text_words().len() {
+    for next in 0..sweep.file().text_words().len() {
         if next >= found.len() {
             return Ok(());
         }
         let place = found[next];
-        visit_leads(marks, found, evidence, file, place)?;
+        visit_leads(marks, found, evidence, sweep, place)?;
     }
     Ok(())
 }
 
 /// For each word of a file's text, whether its symbols show that it is reached. An error: out of memory. (own choice)
-pub fn reached_places(alloc: Global, file: &File) -> Result<Vec<bool>, AllocError>
-    ensures { IfOk result (λ marks. (place : ℕ) → get_or marks.items place false ≡ is_reached Symbols file.now place) }
+pub fn reached_places(alloc: Global, sweep: &Sweep<'_>) -> Result<Vec<bool>, AllocError>
+    ensures { IfOk result (λ marks. (place : ℕ) → get_or marks.items place false ≡ is_reached Symbols sweep.now place) }
 {
+    let file = sweep.file();
     let mut marks = vec![in alloc; false; file.text_words().len()]?;
     let mut found = Vec::new(alloc);
     visit_symbols(&mut marks, &mut found, file, file.symbols())?;
-    spread(&mut marks, &mut found, Evidence::Symbols, file)?;
+    spread(&mut marks, &mut found, Evidence::Symbols, sweep)?;
     Ok(marks)
 }
 
-/// For each word of a file's text, whether its distances show that it is reached, by what `line_starts` gives for Unix. An error: out
-/// of memory. (own choice)
-pub fn sure_places(alloc: Global, file: &File, starts: &[bool]) -> Result<Vec<bool>, AllocError>
-    requires { starts.now ≡ lines.starts Unix file.now }
-    ensures { IfOk result (λ marks. (place : ℕ) → get_or marks.items place false ≡ is_reached Distances file.now place) }
+/// For each word of a file's text, whether its distances show that it is reached. An error: out of memory. (own choice)
+pub fn sure_places(alloc: Global, sweep: &Sweep<'_>) -> Result<Vec<bool>, AllocError>
+    ensures { IfOk result (λ marks. (place : ℕ) → get_or marks.items place false ≡ is_reached Distances sweep.now place) }
 {
-    let mut marks = vec![in alloc; false; file.text_words().len()]?;
+    let mut marks = vec![in alloc; false; sweep.file().text_words().len()]?;
     let mut found = Vec::new(alloc);
-    visit_distances(&mut marks, &mut found, file, starts)?;
-    spread(&mut marks, &mut found, Evidence::Distances, file)?;
+    visit_distances(&mut marks, &mut found, sweep)?;
+    spread(&mut marks, &mut found, Evidence::Distances, sweep)?;
     Ok(marks)
 }

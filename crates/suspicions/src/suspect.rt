@@ -3,13 +3,13 @@ ghost use Rattle.suspicions.specs.SuspicionTexts.{doubt_text};
 ghost use Rattle.std.specs.Prelude.{◌≡◌};
 
 use crate::trust::Trust;
-use disassemblies::NamedFile;
+use disassemblies::Sweep;
 
 /// A line of a file's text: the place at which it begins, and how far it is sure that it is an instruction; for each word of the text,
 /// whether that is sure.
 #[derive(Clone, Copy)]
 pub(crate) struct Suspect<'a> {
-    pub(crate) file: &'a NamedFile<'a>,
+    pub(crate) sweep: &'a Sweep<'a>,
     pub(crate) sure: &'a [bool],
     pub(crate) start: usize,
     pub(crate) trust: Trust,

@@ -20,11 +20,9 @@ use crate::reached::{counts_from_pc, is_marked, reached_places, sure_places};
 use crate::suspect::{Suspect, doubt_text};
 use crate::trust::{Trust, past_place, sure_ahead};
 use aout_core::{File, Reloc};
-use disassemblies::{NamedFile, is_start, line_starts, unix_line_in};
+use disassemblies::Sweep;
 use findings::{FilePlaces, Finding, FindingKind, Findings, put_instruction};
-use instructions::{
-    Addressing, Decoder, Instruction, Line, Operand, UnixLine, decode, is_relocated,
-};
+use instructions::{Addressing, Instruction, Line, Operand, UnixLine, decode, is_relocated};
 use std::alloc::{AllocError, Global};
 use texts::Text;
 
@@ -67,10 +65,10 @@ fn pc_bit_text(findings: &Findings, address: u32, is_set: bool, is_sure: bool) -
 /// The same of a word at a place of a line, with the instruction.
 fn pc_bit_in(findings: &Findings, at: &Suspect<'_>, place: usize, is_set: bool) -> Text
     requires { place < 2 ^ 20 }
-    ensures { Holds result (pc_bit_in at.now.file.now at.now.start place is_set at.now.trust.is_reached) }
+    ensures { Holds result (pc_bit_in at.now.sweep.now at.now.start place is_set at.now.trust.is_reached) }
 {
     let mut text = pc_bit_text(findings, (2 * place) as u32, is_set, at.trust.is_reached);
-    put_instruction(&mut text, at.file, at.start);
+    put_instruction(&mut text, at.sweep.named(), at.start);
     text
 }
 
@@ -101,10 +99,10 @@ fn may_begin(file: &File, place: usize) -> bool
 
 /// Adds a plain word, if it is relocated.
 fn find_first(findings: &mut Findings, at: &Suspect<'_>)
-    requires { at.now.start < length at.now.file.now.text_words }
-    ensures { Finds findings.old findings.new (suspicious_first at.now.file.now at.now.trust.is_reached at.now.start) }
+    requires { at.now.start < length at.now.sweep.now.text_words }
+    ensures { Finds findings.old findings.new (suspicious_first at.now.sweep.now at.now.trust.is_reached at.now.start) }
 {
-    let file = at.file.file();
+    let file = at.sweep.file();
     let _words = file.text_words();
     if is_relocated(reloc_at(file, at.start))
         && (at.trust.is_reached || may_begin(file, at.start))
@@ -128,9 +126,9 @@ fn is_unsuitable(reloc: Reloc, addressing: Addressing) -> bool
 /// Adds an operand word at a place whose pc bit does not suit its operand.
 fn find_bit(findings: &mut Findings, at: &Suspect<'_>, place: usize, addressing: Addressing)
     requires { place < 2 ^ 20 }
-    ensures { Finds findings.old findings.new (suspicious_bit at.now.file.now at.now.trust.is_reached at.now.start place addressing (slice_get at.now.file.now.text_reloc place)) }
+    ensures { Finds findings.old findings.new (suspicious_bit at.now.sweep.now at.now.trust.is_reached at.now.start place addressing (slice_get at.now.sweep.now.text_reloc place)) }
 {
-    let file = at.file.file();
+    let file = at.sweep.file();
     let Some(reloc) = reloc_at(file, place) else {
         return;
     };
@@ -143,7 +141,7 @@ fn find_bit(findings: &mut Findings, at: &Suspect<'_>, place: usize, addressing:
 /// Adds what is suspicious of an operand; its word, if it has one, is at a place.
 fn find_operand(findings: &mut Findings, at: &Suspect<'_>, place: usize, operand: Option<Operand>)
     requires { place < 2 ^ 20 }
-    ensures { Finds findings.old findings.new (suspicious_operand at.now.file.now at.now.trust.is_reached at.now.start place operand) }
+    ensures { Finds findings.old findings.new (suspicious_operand at.now.sweep.now at.now.trust.is_reached at.now.start place operand) }
 {
     let Some(Operand::General(mode, register)) = operand else {
         return;
@@ -180,10 +178,10 @@ fn no_instruction_text(findings: &Findings, address: u32) -> Text
 
 /// Adds a plain word to which an instruction leads.
 fn find_lack(findings: &mut Findings, at: &Suspect<'_>, word: u16)
-    requires { at.now.start < length at.now.file.now.text_words }
+    requires { at.now.start < length at.now.sweep.now.text_words }
     ensures { Finds findings.old findings.new (suspicious_lack at.now.start (instruction_of word)) }
 {
-    let _words = at.file.file().text_words();
+    let _words = at.sweep.file().text_words();
     let address = (2 * at.start) as u32;
     if Instruction::from_first_word(word).is_some() {
         let text = cut_text(findings, address);
@@ -196,10 +194,10 @@ fn find_lack(findings: &mut Findings, at: &Suspect<'_>, word: u16)
 
 /// Adds what is suspicious of a plain word.
 fn find_plain(findings: &mut Findings, at: &Suspect<'_>, word: u16)
-    requires { at.now.start < length at.now.file.now.text_words }
-    ensures { Finds findings.old findings.new (suspicious_plain at.now.file.now at.now.trust at.now.start word) }
+    requires { at.now.start < length at.now.sweep.now.text_words }
+    ensures { Finds findings.old findings.new (suspicious_plain at.now.sweep.now at.now.trust at.now.start word) }
 {
-    if is_relocated(reloc_at(at.file.file(), at.start)) {
+    if is_relocated(reloc_at(at.sweep.file(), at.start)) {
         find_first(findings, at);
     } else if at.trust.is_sure {
         find_lack(findings, at, word);
@@ -210,8 +208,8 @@ fn find_plain(findings: &mut Findings, at: &Suspect<'_>, word: u16)
 fn find_operands(findings: &mut Findings, at: &Suspect<'_>, instruction: &Instruction)
     requires { at.now.start < 2 ^ 19 }
     ensures { Finds findings.old findings.new
-        (suspicious_operand at.now.file.now at.now.trust.is_reached at.now.start (at.now.start + 1) instruction.now.first
-        ++ suspicious_operand at.now.file.now at.now.trust.is_reached at.now.start (at.now.start + 1 + word_count_of instruction.now.first) instruction.now.second) }
+        (suspicious_operand at.now.sweep.now at.now.trust.is_reached at.now.start (at.now.start + 1) instruction.now.first
+        ++ suspicious_operand at.now.sweep.now at.now.trust.is_reached at.now.start (at.now.start + 1 + word_count_of instruction.now.first) instruction.now.second) }
 {
     let place = at.start + 1;
     find_operand(findings, at, place, instruction.first);
@@ -225,13 +223,13 @@ fn find_operands(findings: &mut Findings, at: &Suspect<'_>, instruction: &Instru
 
 /// Adds what is suspicious of the branch that an instruction is.
 fn find_branches(findings: &mut Findings, at: &Suspect<'_>, instruction: &Instruction)
-    requires inside { at.now.start < length at.now.file.now.text_words }
-    requires sure { (i : ℕ) → get_or at.now.sure.now i false ≡ is_sure at.now.file.now i }
+    requires inside { at.now.start < length at.now.sweep.now.text_words }
+    requires sure { (i : ℕ) → get_or at.now.sure.now i false ≡ is_sure at.now.sweep.now i }
     ensures { Finds findings.old findings.new
-        (suspicious_branch at.now.file.now at.now.trust at.now.start (branch_of (2 * at.now.start) instruction.now.first)
-        ++ suspicious_branch at.now.file.now at.now.trust at.now.start (branch_of (2 * at.now.start) instruction.now.second)) }
+        (suspicious_branch at.now.sweep.now at.now.trust at.now.start (branch_of (2 * at.now.start) instruction.now.first)
+        ++ suspicious_branch at.now.sweep.now at.now.trust at.now.start (branch_of (2 * at.now.start) instruction.now.second)) }
 {
-    let _words = at.file.file().text_words();
+    let _words = at.sweep.file().text_words();
     let address = (2 * at.start) as u16;
     find_branch(findings, at, branch_of(address, instruction.first));
     find_branch(findings, at, branch_of(address, instruction.second));
@@ -239,13 +237,12 @@ fn find_branches(findings: &mut Findings, at: &Suspect<'_>, instruction: &Instru
 
 /// Adds what is suspicious of a line.
 fn find_line(findings: &mut Findings, at: &Suspect<'_>)
-    requires inside { at.now.start < length at.now.file.now.text_words }
-    requires sure { (i : ℕ) → get_or at.now.sure.now i false ≡ is_sure at.now.file.now i }
-    ensures { Finds findings.old findings.new (suspicious_at at.now.file.now at.now.trust at.now.start) }
+    requires inside { at.now.start < length at.now.sweep.now.text_words }
+    requires sure { (i : ℕ) → get_or at.now.sure.now i false ≡ is_sure at.now.sweep.now i }
+    ensures { Finds findings.old findings.new (suspicious_at at.now.sweep.now at.now.trust at.now.start) }
 {
-    let file = at.file.file();
-    let _words = file.text_words();
-    match unix_line_in(Decoder::Unix, file, at.start) {
+    let _words = at.sweep.file().text_words();
+    match at.sweep.line_at(at.start) {
         UnixLine::Machine(Line::Plain(word)) => find_plain(findings, at, word),
         UnixLine::Machine(Line::Decoded(instruction, _, _)) => {
             find_operands(findings, at, &instruction);
@@ -255,12 +252,11 @@ fn find_line(findings: &mut Findings, at: &Suspect<'_>)
     }
 }
 
-/// A file, and for each word of its text whether a line begins there, whether symbols or distances show that it is reached, and whether
-/// from there on a sure line comes before a plain word.
+/// A file, and for each word of its text whether symbols or distances show that it is reached, and whether from there on a sure line comes
+/// before a plain word.
 #[derive(Clone, Copy)]
 struct Marked<'a> {
-    file: &'a NamedFile<'a>,
-    starts: &'a [bool],
+    sweep: &'a Sweep<'a>,
     reached: &'a [bool],
     sure: &'a [bool],
     ahead: &'a [bool],
@@ -268,10 +264,10 @@ struct Marked<'a> {
 
 /// How far it is sure that the line at a place is an instruction, if going back from it a sure line comes before a plain word, or not.
 fn trust_at(marked: &Marked<'_>, before: bool, place: usize) -> Trust
-    requires reached { (i : ℕ) → get_or marked.now.reached.now i false ≡ is_reached Symbols marked.now.file.now i }
-    requires sure { (i : ℕ) → get_or marked.now.sure.now i false ≡ is_sure marked.now.file.now i }
-    requires ahead { (i : ℕ) → get_or marked.now.ahead.now i false ≡ sure_ahead marked.now.file.now i (drop i marked.now.file.now.text_words) }
-    ensures { result ≡ trust marked.now.file.now before place }
+    requires reached { (i : ℕ) → get_or marked.now.reached.now i false ≡ is_reached Symbols marked.now.sweep.now i }
+    requires sure { (i : ℕ) → get_or marked.now.sure.now i false ≡ is_sure marked.now.sweep.now i }
+    requires ahead { (i : ℕ) → get_or marked.now.ahead.now i false ≡ sure_ahead marked.now.sweep.now i (drop i marked.now.sweep.now.text_words) }
+    ensures { result ≡ trust marked.now.sweep.now before place }
 {
     let is_sure = is_marked(marked.sure, place);
     Trust {
@@ -283,18 +279,17 @@ fn trust_at(marked: &Marked<'_>, before: bool, place: usize) -> Trust
 
 /// Adds what is suspicious at a place.
 fn find_place(findings: &mut Findings, marked: &Marked<'_>, before: bool, place: usize)
-    requires inside { place < length marked.now.file.now.text_words }
-    requires starts { marked.now.starts.now ≡ starts Unix marked.now.file.now }
-    requires reached { (i : ℕ) → get_or marked.now.reached.now i false ≡ is_reached Symbols marked.now.file.now i }
-    requires sure { (i : ℕ) → get_or marked.now.sure.now i false ≡ is_sure marked.now.file.now i }
-    requires ahead { (i : ℕ) → get_or marked.now.ahead.now i false ≡ sure_ahead marked.now.file.now i (drop i marked.now.file.now.text_words) }
+    requires inside { place < length marked.now.sweep.now.text_words }
+    requires reached { (i : ℕ) → get_or marked.now.reached.now i false ≡ is_reached Symbols marked.now.sweep.now i }
+    requires sure { (i : ℕ) → get_or marked.now.sure.now i false ≡ is_sure marked.now.sweep.now i }
+    requires ahead { (i : ℕ) → get_or marked.now.ahead.now i false ≡ sure_ahead marked.now.sweep.now i (drop i marked.now.sweep.now.text_words) }
     ensures { Finds findings.old findings.new
-        (suspicious_place marked.now.file.now (trust marked.now.file.now before place) (is_start (starts Unix marked.now.file.now) place) place) }
+        (suspicious_place marked.now.sweep.now (trust marked.now.sweep.now before place) (is_start (starts Unix marked.now.sweep.now) place) place) }
 {
     let trust = trust_at(marked, before, place);
-    if trust.is_reached || is_start(marked.starts, place) {
+    if trust.is_reached || marked.sweep.is_start(place) {
         let at = Suspect {
-            file: marked.file,
+            sweep: marked.sweep,
             sure: marked.sure,
             start: place,
             trust,
@@ -305,24 +300,20 @@ fn find_place(findings: &mut Findings, marked: &Marked<'_>, before: bool, place:
 
 /// Whether a sure line comes before a plain word, going back from the place after this one, by what is so at this one.
 fn before_next(marked: &Marked<'_>, before: bool, place: usize) -> bool
-    requires inside { place < length marked.now.file.now.text_words }
-    requires starts { marked.now.starts.now ≡ starts Unix marked.now.file.now }
-    requires sure { (i : ℕ) → get_or marked.now.sure.now i false ≡ is_sure marked.now.file.now i }
-    ensures { result ≡ past_place marked.now.file.now place before }
+    requires { (i : ℕ) → get_or marked.now.sure.now i false ≡ is_sure marked.now.sweep.now i }
+    ensures { result ≡ past_place marked.now.sweep.now place before }
 {
-    let file = marked.file.file();
-    past_place(file, marked.starts, marked.sure, place, before)
+    past_place(marked.sweep, marked.sure, place, before)
 }
 
 /// Adds what is suspicious at each place.
 fn find_places(findings: &mut Findings, marked: &Marked<'_>)
-    requires starts { marked.now.starts.now ≡ starts Unix marked.now.file.now }
-    requires reached { (i : ℕ) → get_or marked.now.reached.now i false ≡ is_reached Symbols marked.now.file.now i }
-    requires sure { (i : ℕ) → get_or marked.now.sure.now i false ≡ is_sure marked.now.file.now i }
-    requires ahead { (i : ℕ) → get_or marked.now.ahead.now i false ≡ sure_ahead marked.now.file.now i (drop i marked.now.file.now.text_words) }
-    ensures { Finds findings.old findings.new (suspicions marked.now.file.now) }
+    requires reached { (i : ℕ) → get_or marked.now.reached.now i false ≡ is_reached Symbols marked.now.sweep.now i }
+    requires sure { (i : ℕ) → get_or marked.now.sure.now i false ≡ is_sure marked.now.sweep.now i }
+    requires ahead { (i : ℕ) → get_or marked.now.ahead.now i false ≡ sure_ahead marked.now.sweep.now i (drop i marked.now.sweep.now.text_words) }
+    ensures { Finds findings.old findings.new (suspicions marked.now.sweep.now) }
 {
-    let words = marked.file.file().text_words();
+    let words = marked.sweep.file().text_words();
     let mut before = false;
     for (place, _) in words.iter().enumerate() {
         find_place(findings, marked, before, place);
@@ -332,18 +323,15 @@ fn find_places(findings: &mut Findings, marked: &Marked<'_>)
 
 /// What is suspicious in the text of an object, in the order of the places. An error: out of memory. (a.out(5), the handbook of the
 /// PDP-11/70; what is suspicious: own choice)
-pub fn suspicions_of(alloc: Global, file: &File) -> Result<Vec<Finding>, AllocError>
-    ensures { IfOk result (λ findings. all_found findings.items ≡ suspicions file.now) }
+pub fn suspicions_of(alloc: Global, sweep: &Sweep<'_>) -> Result<Vec<Finding>, AllocError>
+    ensures { IfOk result (λ findings. all_found findings.items ≡ suspicions sweep.now) }
 {
     let mut findings = Findings::new(alloc);
-    let starts = line_starts(alloc, Decoder::Unix, file)?;
-    let reached = reached_places(alloc, file)?;
-    let sure = sure_places(alloc, file, &starts)?;
-    let ahead = sure_ahead(alloc, file, &starts, &sure)?;
-    let named = NamedFile::new(alloc, file)?;
+    let reached = reached_places(alloc, sweep)?;
+    let sure = sure_places(alloc, sweep)?;
+    let ahead = sure_ahead(alloc, sweep, &sure)?;
     let marked = Marked {
-        file: &named,
-        starts: &starts,
+        sweep,
         reached: &reached,
         sure: &sure,
         ahead: &ahead,

@@ -1,13 +1,10 @@
 //! How far it is sure that a line is an instruction.
 ghost use Rattle.std.specs.Prelude.{◌≡◌, ◌<◌, ◌||◌, ◌&&◌, ℕ, false, length, drop, get_or, IfOk};
-ghost use Rattle.instructions.specs.declared.unix.Decoder.TheVariants.{Unix};
-ghost use Rattle.disassemblies.specs.Starts as lines;
 ghost use Rattle.suspicions.specs.Trust as spec;
 
 use crate::reached::is_marked;
-use aout_core::File;
-use disassemblies::{is_start, unix_line_in};
-use instructions::{Decoder, Line, UnixLine};
+use disassemblies::Sweep;
+use instructions::{Line, UnixLine};
 use std::alloc::{AllocError, Global};
 
 /// How far it is sure that a line is an instruction.
@@ -40,47 +37,38 @@ fn is_plain(line: &UnixLine) -> bool
 }
 
 /// Whether a line of the sweep is a plain word at a place.
-fn breaks(file: &File, starts: &[bool], place: usize) -> bool
-    requires inside { place < length file.now.text_words }
-    requires starts { starts.now ≡ lines.starts Unix file.now }
-    ensures { result ≡ spec.breaks file.now place }
+fn breaks(sweep: &Sweep<'_>, place: usize) -> bool
+    ensures { result ≡ spec.breaks sweep.now place }
 {
-    is_start(starts, place) && is_plain(&unix_line_in(Decoder::Unix, file, place))
+    match sweep.line_from(place) {
+        Some(line) => is_plain(&line),
+        None => false,
+    }
 }
 
 /// Whether a sure line comes before a plain word, by what is so past a place.
-pub(crate) fn past_place(
-    file: &File,
-    starts: &[bool],
-    sure: &[bool],
-    place: usize,
-    rest: bool,
-) -> bool
-    requires inside { place < length file.now.text_words }
-    requires starts { starts.now ≡ lines.starts Unix file.now }
-    requires sure { (i : ℕ) → get_or sure.now i false ≡ spec.is_sure file.now i }
-    ensures { result ≡ spec.past_place file.now place rest }
+pub(crate) fn past_place(sweep: &Sweep<'_>, sure: &[bool], place: usize, rest: bool) -> bool
+    requires { (i : ℕ) → get_or sure.now i false ≡ spec.is_sure sweep.now i }
+    ensures { result ≡ spec.past_place sweep.now place rest }
 {
-    is_marked(sure, place) || (!breaks(file, starts, place) && rest)
+    is_marked(sure, place) || (!breaks(sweep, place) && rest)
 }
 
 /// For each word of a file's text, whether from there on a sure line comes before a plain word. An error: out of memory.
 pub(crate) fn sure_ahead(
     alloc: Global,
-    file: &File,
-    starts: &[bool],
+    sweep: &Sweep<'_>,
     sure: &[bool],
 ) -> Result<Vec<bool>, AllocError>
-    requires starts { starts.now ≡ lines.starts Unix file.now }
-    requires sure { (i : ℕ) → get_or sure.now i false ≡ spec.is_sure file.now i }
-    ensures { IfOk result (λ ahead. (i : ℕ) → get_or ahead.items i false ≡ spec.sure_ahead file.now i (drop i file.now.text_words)) }
+    requires { (i : ℕ) → get_or sure.now i false ≡ spec.is_sure sweep.now i }
+    ensures { IfOk result (λ ahead. (i : ℕ) → get_or ahead.items i false ≡ spec.sure_ahead sweep.now i (drop i sweep.now.text_words)) }
 {
-    let mut ahead = vec![in alloc; false; file.text_words().len()]?;
+    let mut ahead = vec![in alloc; false; sweep.file().text_words().len()]?;
     let mut place = ahead.len();
     let mut is_ahead = false;
     while place > 0 {
         place -= 1;
-        is_ahead = past_place(file, starts, sure, place, is_ahead);
+        is_ahead = past_place(sweep, sure, place, is_ahead);
         ahead[place] = is_ahead;
     }
     Ok(ahead)

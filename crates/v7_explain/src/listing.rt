@@ -3,6 +3,7 @@ use crate::output::Output;
 use crate::source::{GNU_NOTE, Source, as_object, bytes_at, file_in, put_kind_note, put_wrong};
 use crate::words::ListingWords;
 use aout_core::File;
+use disassemblies::Sweep;
 use explanations::write_explained;
 use findings::{Notes, is_of_gnu, odd_of, put_findings, put_header, wrong_words};
 use std::alloc::{AllocError, Global};
@@ -27,16 +28,17 @@ fn list_file(
         let wrong = wrong_words(alloc, &file)?;
         put_wrong(output, &mut findings, source, &wrong);
     }
+    let sweep = Sweep::new(alloc, &file)?;
     let odd = odd_of(alloc, source.bytes, &file)?;
     put_findings(&mut findings, "odd", &odd);
-    put_findings(&mut findings, "odd", &suspicions_of(alloc, &file)?);
+    put_findings(&mut findings, "odd", &suspicions_of(alloc, &sweep)?);
     if is_of_gnu(alloc, source.bytes, false)? {
         findings.put(GNU_NOTE);
     }
     if notes.is_cut() || findings.is_cut() {
         return Err(AllocError);
     }
-    let listing = write_explained(alloc, &file, notes, &findings)?;
+    let listing = write_explained(alloc, &sweep, notes, &findings)?;
     output.text.put_bytes(&listing);
     Ok(())
 }

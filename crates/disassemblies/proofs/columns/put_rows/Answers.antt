@@ -12,7 +12,7 @@ loop-place-preserved c =
     let file = c.args.file.now in
     let d = c.args.decoder in
     let count : c.length-count.result ≡ unix_length (unix_line_in d file c.loop-place.place) =
-    c.length-count.ensures ∙ ap unix_length c.unix_line_in.ensures.line in
+    c.length-count.ensures ∙ ap unix_length c.unix_line_in-line.ensures.line in
     let inside : c.loop-place.place < length file.text_words = search rules in
     let fits : c.loop-place.place + c.length-count.result ≤ length file.text_words = search rules in (
       λ whole.

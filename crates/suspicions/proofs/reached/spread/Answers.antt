@@ -8,7 +8,7 @@ use Rattle.suspicions.proofs.reached.spread.Goals as goal
 
 pub returns-then-next-len-clause-found : goal.returns-then-next-len-clause-found
 returns-then-next-len-clause-found c =
-    let file = c.args.file.now in
+    let file = c.args.sweep.now in
     let found = c.loop-next.found.items in
     let none_left : length found ≤ c.loop-next.next = search rules in
     sym (spread_all c.args.evidence file (length file.text_words - c.loop-next.next) c.loop-next.next found none_left)
@@ -25,7 +25,7 @@ visit_leads-requires-clause-inside c =
 
 pub loop-next-preserved : goal.loop-next-preserved
 loop-next-preserved c =
-    let file = c.args.file.now in
+    let file = c.args.sweep.now in
     let n : ℕ = length file.text_words in
     let found = c.loop-next.found.items in
     let place = c.index-place.result.now in

@@ -6,7 +6,7 @@ use Rattle.suspicions.proofs.reached.spread.Given as goal
 -- what the places that are left lead to, and the marks
 abbrev pub invariant-loop-next : goal.invariant-loop-next
 invariant-loop-next l =
-    (spread l.evidence l.file (length l.file.text_words - l.next) l.next l.found.items
-    ≡ spread l.evidence l.file (length l.file.text_words) 0 l.initial.found.items)
+    (spread l.evidence l.sweep (length l.sweep.text_words - l.next) l.next l.found.items
+    ≡ spread l.evidence l.sweep (length l.sweep.text_words) 0 l.initial.found.items)
     × AreMarks l.marks l.found.items
-    × (length l.marks ≡ length l.file.text_words)
+    × (length l.marks ≡ length l.sweep.text_words)

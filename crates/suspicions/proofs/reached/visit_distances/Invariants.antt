@@ -7,6 +7,6 @@ use Rattle.suspicions.proofs.reached.visit_distances.Given as goal
 -- what the places that are left give, and the marks
 abbrev pub invariant-loop-place : goal.invariant-loop-place
 invariant-loop-place l =
-    (visited_all (length l.initial.marks) l.found.items (shown_from l.file l.place (drop l.place l.words))
-    ≡ visited_all (length l.initial.marks) l.initial.found.items (evident Distances l.file))
+    (visited_all (length l.initial.marks) l.found.items (shown_from l.sweep l.place (drop l.place l.words))
+    ≡ visited_all (length l.initial.marks) l.initial.found.items (evident Distances l.sweep))
     × AreMarks l.marks l.found.items

@@ -5,7 +5,7 @@ use Rattle.suspicions.proofs.suspicions.find_places.Goals as goal
 
 pub loop-place-preserved : goal.loop-place-preserved
 loop-place-preserved c =
-    let file = c.args.marked.now.file.now in
+    let file = c.args.marked.now.sweep.now in
     λ whole.
     let put = c.find_place.ensures whole in
     let so_far = c.loop-place.invariant put.0 in (
