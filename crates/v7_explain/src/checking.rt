@@ -1,71 +1,86 @@
 //! Why files are not objects.
-use crate::output::Output;
-use crate::source::{GNU_NOTE, as_object, bytes_at, likeness_of};
-use aout_core::{File, ReadFault, Wire, read_file};
+ghost use Rattle.std.specs.Prelude.{◌≡◌, IfOk, OnOk, option_map};
+ghost use Rattle.aout_core.specs.WellFormed.{first_object_fault};
+ghost use Rattle.findings.specs.Kinds.{kind_text, or_nothing};
+ghost use Rattle.texts.specs.Texts.{Puts};
+ghost use Rattle.surroundings.specs.Answers.{only_errors};
+ghost use Rattle.v7_explain.specs.Files.{checked, checked_as, gnu_line, line_if, line_of, refused_lines};
+
+use crate::source::{
+    GNU_NOTE, Source, as_object, decoded, is_damaged, likeness_of, put_front, put_reports,
+    put_text_line,
+};
+use aout_core::{File, Header, ObjectFault, ReadFault};
 use findings::{is_of_gnu, put_kind, wrong_bytes, wrong_words};
 use std::alloc::{AllocError, Global};
-use std::str;
+use surroundings::{Answer, error_answer};
 use texts::Text;
 
-/// Reports why bytes that are not a file are not an object.
-fn report_refused(
-    alloc: Global,
-    output: &mut Output,
-    path: &str,
-    bytes: &[u8],
-    fault: ReadFault,
-) -> Result<(), AllocError> {
-    let wrong = wrong_bytes(alloc, bytes, fault)?;
-    output.report(path, &wrong);
-    if let Some(text) = likeness_of(bytes, fault) {
-        output.fault(path, text, 1);
+/// Puts a line with a text, if there is one.
+fn put_line_if(lines: &mut Text, path: &str, text: Option<&str>)
+    ensures { Puts lines.old lines.new (line_if path.now (option_map (λ text. text.now) text.entry)) }
+{
+    if let Some(text) = text {
+        put_text_line(lines, path, text);
     }
+}
+
+/// Puts a line if bytes are in the form of GNU's assembler.
+fn put_gnu_line(alloc: Global, lines: &mut Text, path: &str, bytes: &[u8]) -> Result<(), AllocError>
+    ensures { OnOk result (Puts lines.old lines.new (gnu_line path.now bytes.now)) }
+{
     if is_of_gnu(alloc, bytes, true)? {
-        output.fault(path, GNU_NOTE, 1);
+        put_text_line(lines, path, GNU_NOTE);
     }
     Ok(())
 }
 
-/// Reports why a file is not an object, if it is not.
-fn report_file(
-    alloc: Global,
-    output: &mut Output,
-    path: &str,
-    file: File,
-) -> Result<(), AllocError> {
+/// Why bytes that are not a file are not an object.
+fn check_refused(alloc: Global, source: Source<'_>, fault: ReadFault) -> Result<Answer, AllocError>
+    ensures { IfOk result (λ answer. answer ≡ only_errors (refused_lines source.entry.path.now source.entry.bytes.now fault) 1) }
+{
+    let wrong = wrong_bytes(alloc, source.bytes, fault)?;
+    let mut lines = Text::new(alloc);
+    put_reports(&mut lines, source.path, &wrong);
+    put_line_if(&mut lines, source.path, likeness_of(source.bytes, fault));
+    put_gnu_line(alloc, &mut lines, source.path, source.bytes)?;
+    error_answer(alloc, lines, 1)
+}
+
+/// The line with what a file is that is neither an object nor damaged.
+#[tactic(auto, unfolding(crate::specs::Files::line_of))]
+fn put_kind_line(lines: &mut Text, path: &str, header: &Header, refused: Option<ObjectFault>)
+    ensures { Puts lines.old lines.new (line_of path.now (or_nothing (kind_text header.now refused))) }
+{
+    put_front(lines, path);
+    put_kind(lines, header, refused);
+    lines.put("\n");
+}
+
+/// Why a file is not an object, if it is not.
+fn check_file(alloc: Global, path: &str, file: File) -> Result<Answer, AllocError>
+    ensures { IfOk result (λ answer. answer ≡ checked_as path.now file (first_object_fault file)) }
+{
     let (file, refused) = as_object(file);
+    let mut lines = Text::new(alloc);
     if refused.is_none() {
-        return Ok(());
+        return error_answer(alloc, lines, 0);
     }
-    let mut kind = Text::new(alloc);
-    if !put_kind(&mut kind, file.header(), refused) {
+    if is_damaged(refused) {
         let wrong = wrong_words(alloc, &file)?;
-        output.report(path, &wrong);
-        return Ok(());
+        put_reports(&mut lines, path, &wrong);
+    } else {
+        put_kind_line(&mut lines, path, file.header(), refused);
     }
-    let kind = kind.finish()?;
-    output.fault(path, str::from_utf8(&kind).unwrap_or(""), 1);
-    Ok(())
+    error_answer(alloc, lines, 1)
 }
 
-/// Reports why the file at a path is not an object, if it is not.
-fn check_at(rt: &HostRuntime, output: &mut Output, path: &str) -> Result<(), AllocError> {
-    let alloc = rt.alloc();
-    let Some(bytes) = bytes_at(rt, output, path)? else {
-        return Ok(());
-    };
-    match read_file(alloc, &mut Wire::new(bytes.as_slice())) {
-        Ok(file) => report_file(alloc, output, path, file),
-        Err(ReadFault::Memory) => Err(AllocError),
-        Err(fault) => report_refused(alloc, output, path, &bytes, fault),
+/// Why the bytes of a file are not an object, if they are not.
+pub(crate) fn check(alloc: Global, source: Source<'_>) -> Result<Answer, AllocError>
+    ensures { IfOk result (λ answer. answer ≡ checked source.entry.path.now source.entry.bytes.now) }
+{
+    match decoded(alloc, source.bytes)? {
+        Ok(file) => check_file(alloc, source.path, file),
+        Err(fault) => check_refused(alloc, source, fault),
     }
-}
-
-/// Why files are not objects, if they are not.
-pub(crate) fn check_files(rt: &HostRuntime, files: &[String]) -> Result<Output, AllocError> {
-    let mut output = Output::new(rt.alloc());
-    for path in files {
-        check_at(rt, &mut output, path.as_str())?;
-    }
-    Ok(output)
 }

@@ -1,77 +1,70 @@
 //! The texts of files as instructions.
-ghost use Rattle.std.specs.Prelude.{◌++◌, map};
-ghost use Rattle.texts.specs.Lines.{text_of};
-ghost use Rattle.texts.specs.Texts.{Puts};
-ghost use Rattle.listings.specs.Listing.{note_lines};
+ghost use Rattle.std.specs.Prelude.{◌≡◌, ◌++◌, IfOk, codes};
+ghost use Rattle.aout_core.specs.WellFormed.{first_object_fault};
+ghost use Rattle.findings.specs.Found.{all_found};
+ghost use Rattle.texts.specs.Texts.{Puts, nothing_written};
 ghost use Rattle.instructions.specs.declared.unix.Decoder.TheVariants.{Unix};
 ghost use Rattle.disassemblies.specs.Columns.{disassembly};
-ghost use Rattle.explanations.specs.Said.{printed};
+ghost use Rattle.v7_explain.specs.Files.{disassembled, disassembled_as, found_notes, lines_of};
+ghost use Rattle.v7_explain.specs.internal.Notes.{HasNotes};
 
-use crate::output::Output;
-use crate::source::{Source, as_object, bytes_at, file_in, put_kind_note, put_wrong};
+use crate::source::{
+    Source, as_object, decoded, explain_refused, front_notes, put_found, status_in, wrong_in,
+};
 use aout_core::File;
 use disassemblies::put_disassembly;
 use explanations::put_lines;
-use findings::{Notes, wrong_words};
+use findings::{Finding, Notes};
 use instructions::Decoder;
 use std::alloc::{AllocError, Global};
+use surroundings::Answer;
 use texts::Text;
 
-/// Appends the text of a file as instructions, with notes before it and findings after it.
-fn put_instructions(text: &mut Text, file: &File, notes: &Notes, findings: &Notes)
-    ensures { Puts text.old text.new
-        (text_of (note_lines (map printed notes.now.lines)) ++ disassembly Unix file.now
-        ++ text_of (note_lines (map printed findings.now.lines))) }
+/// The text of a file as instructions, with notes before it and findings after it.
+fn instructions(alloc: Global, file: &File, notes: &Notes, findings: &Notes) -> Text
+    ensures { Puts nothing_written result (lines_of notes.now.lines ++ disassembly Unix file.now ++ lines_of findings.now.lines) }
 {
-    put_lines(text, notes);
-    put_disassembly(text, Decoder::Unix, file);
-    put_lines(text, findings);
+    let mut text = Text::new(alloc);
+    put_lines(&mut text, notes);
+    put_disassembly(&mut text, Decoder::Unix, file);
+    put_lines(&mut text, findings);
+    text
 }
 
-/// Adds the text of a file as instructions, after these notes.
-fn disassemble_file(
-    alloc: Global,
-    output: &mut Output,
-    notes: &mut Notes,
-    source: Source<'_>,
-    file: File,
-) -> Result<(), AllocError> {
+/// What is wrong in a file, as notes.
+fn wrong_notes(alloc: Global, wrong: &[Finding]) -> Notes
+    ensures { HasNotes result (found_notes (codes "wrong") (all_found wrong.now)) }
+{
+    let mut notes = Notes::new(alloc);
+    put_found(&mut notes, "wrong", wrong);
+    notes
+}
+
+/// The text of a file as instructions, with its status.
+fn disassemble_file(alloc: Global, source: Source<'_>, file: File) -> Result<Answer, AllocError>
+    ensures { IfOk result (λ answer. answer
+        ≡ disassembled_as source.entry.path.now source.entry.bytes.now file (first_object_fault file)) }
+{
     let (file, refused) = as_object(file);
-    let mut findings = Notes::new(alloc);
-    if put_kind_note(notes, file.header(), refused) {
-        let wrong = wrong_words(alloc, &file)?;
-        put_wrong(output, &mut findings, source, &wrong);
-    }
+    let wrong = wrong_in(alloc, &file, refused)?;
+    let notes = front_notes(alloc, source, file.header(), refused);
+    let findings = wrong_notes(alloc, &wrong);
     if notes.is_cut() || findings.is_cut() {
         return Err(AllocError);
     }
-    put_instructions(&mut output.text, &file, notes, &findings);
-    Ok(())
+    Ok(Answer {
+        output: instructions(alloc, &file, &notes, &findings).finish()?,
+        errors: Vec::new(alloc),
+        status: status_in(refused),
+    })
 }
 
-/// Adds the text of the file at a path as instructions.
-fn disassemble_at(rt: &HostRuntime, output: &mut Output, path: &str) -> Result<(), AllocError> {
-    let alloc = rt.alloc();
-    let Some(bytes) = bytes_at(rt, output, path)? else {
-        return Ok(());
-    };
-    let source = Source {
-        path,
-        bytes: bytes.as_slice(),
-        is_reported: false,
-    };
-    let mut notes = Notes::new(alloc);
-    match file_in(alloc, output, &mut notes, source)? {
-        Some(file) => disassemble_file(alloc, output, &mut notes, source, file),
-        None => Ok(()),
+/// The text of the bytes of a file as instructions.
+pub(crate) fn disassemble(alloc: Global, source: Source<'_>) -> Result<Answer, AllocError>
+    ensures { IfOk result (λ answer. answer ≡ disassembled source.entry.path.now source.entry.bytes.now) }
+{
+    match decoded(alloc, source.bytes)? {
+        Ok(file) => disassemble_file(alloc, source, file),
+        Err(fault) => explain_refused(alloc, source, false, fault),
     }
-}
-
-/// The texts of the files as instructions.
-pub(crate) fn disassemble_files(rt: &HostRuntime, files: &[String]) -> Result<Output, AllocError> {
-    let mut output = Output::new(rt.alloc());
-    for path in files {
-        disassemble_at(rt, &mut output, path.as_str())?;
-    }
-    Ok(output)
 }

@@ -1,95 +1,100 @@
 //! Files as listings, in the form that `read_listing` of `listings` reads.
-use crate::output::Output;
-use crate::source::{GNU_NOTE, Source, as_object, bytes_at, file_in, put_kind_note, put_wrong};
-use crate::words::ListingWords;
-use aout_core::File;
+ghost use Rattle.std.specs.Prelude.{◌≡◌, false, IfOk};
+ghost use Rattle.aout_core.specs.WellFormed.{first_object_fault};
+ghost use Rattle.findings.specs.Found.{all_found};
+ghost use Rattle.v7_explain.specs.Files.{list_findings, list_notes, listed, listed_as, listing_with, wrong_in};
+ghost use Rattle.v7_explain.specs.internal.Notes.{HasNotes};
+
+use crate::source::{
+    Source, as_object, decoded, explain_refused, front_notes, put_found, put_gnu_note, reported,
+    status_in, wrong_in,
+};
+use aout_core::{File, ObjectFault};
 use disassemblies::Sweep;
 use explanations::write_explained;
-use findings::{Notes, is_of_gnu, odd_of, put_findings, put_header, wrong_words};
+use findings::{Finding, Notes, odd_of, put_header};
 use std::alloc::{AllocError, Global};
-use std::io::Write;
-use std::{fs, mem};
+use surroundings::Answer;
 use suspicions::suspicions_of;
-use texts::Text;
 
-/// Adds the listing of a file, after these notes.
-fn list_file(
+/// The notes before a file.
+fn list_notes(alloc: Global, source: Source<'_>, file: &File, refused: Option<ObjectFault>) -> Notes
+    ensures { HasNotes result (list_notes source.entry.path.now source.entry.bytes.now file.now refused) }
+{
+    let mut notes = front_notes(alloc, source, file.header(), refused);
+    put_header(&mut notes, file.header());
+    notes
+}
+
+/// What is found in a file, as notes after it.
+fn list_findings(
     alloc: Global,
-    output: &mut Output,
-    notes: &mut Notes,
-    source: Source<'_>,
-    file: File,
-) -> Result<(), AllocError> {
-    let (file, refused) = as_object(file);
-    let is_damaged = put_kind_note(notes, file.header(), refused);
-    put_header(notes, file.header());
+    bytes: &[u8],
+    sweep: &Sweep<'_>,
+    refused: Option<ObjectFault>,
+    wrong: &[Finding],
+) -> Result<Notes, AllocError>
+    requires { all_found wrong.now ≡ wrong_in refused sweep.now }
+    ensures { IfOk result (λ notes. HasNotes notes (list_findings bytes.now sweep.now refused)) }
+{
+    let odd = odd_of(alloc, bytes, sweep.file())?;
     let mut findings = Notes::new(alloc);
-    if is_damaged {
-        let wrong = wrong_words(alloc, &file)?;
-        put_wrong(output, &mut findings, source, &wrong);
-    }
-    let sweep = Sweep::new(alloc, &file)?;
-    let odd = odd_of(alloc, source.bytes, &file)?;
-    put_findings(&mut findings, "odd", &odd);
-    put_findings(&mut findings, "odd", &suspicions_of(alloc, &sweep)?);
-    if is_of_gnu(alloc, source.bytes, false)? {
-        findings.put(GNU_NOTE);
-    }
+    put_found(&mut findings, "wrong", wrong);
+    put_found(&mut findings, "odd", &odd);
+    put_found(&mut findings, "odd", &suspicions_of(alloc, sweep)?);
+    put_gnu_note(alloc, &mut findings, bytes, false)?;
+    Ok(findings)
+}
+
+/// The listing of a file, with notes before it and findings after it.
+#[tactic(auto, unfolding(crate::specs::Files::listing_with))]
+fn listing_with(
+    alloc: Global,
+    sweep: &Sweep<'_>,
+    notes: &Notes,
+    findings: &Notes,
+) -> Result<Vec<u8>, AllocError>
+    ensures whole { IfOk result (λ text. (notes.now.is_cut ≡ false) × (findings.now.is_cut ≡ false)) }
+    ensures text { IfOk result (λ text. text.items ≡ listing_with sweep.now notes.now.lines findings.now.lines) }
+{
     if notes.is_cut() || findings.is_cut() {
         return Err(AllocError);
     }
-    let listing = write_explained(alloc, &sweep, notes, &findings)?;
-    output.text.put_bytes(&listing);
-    Ok(())
+    write_explained(alloc, sweep, notes, findings)
 }
 
-/// Adds the listing of the file at a path.
-fn list_at(
-    rt: &HostRuntime,
-    output: &mut Output,
-    path: &str,
+/// The listing of a file, with its status.
+fn list_file(
+    alloc: Global,
+    source: Source<'_>,
     is_reported: bool,
-) -> Result<(), AllocError> {
-    let alloc = rt.alloc();
-    let Some(bytes) = bytes_at(rt, output, path)? else {
-        return Ok(());
-    };
-    let source = Source {
-        path,
-        bytes: bytes.as_slice(),
-        is_reported,
-    };
-    let mut notes = Notes::new(alloc);
-    match file_in(alloc, output, &mut notes, source)? {
-        Some(file) => list_file(alloc, output, &mut notes, source, file),
-        None => Ok(()),
-    }
+    file: File,
+) -> Result<Answer, AllocError>
+    ensures { IfOk result (λ answer. answer
+        ≡ listed_as is_reported source.entry.path.now source.entry.bytes.now file (first_object_fault file)) }
+{
+    let (file, refused) = as_object(file);
+    let wrong = wrong_in(alloc, &file, refused)?;
+    let notes = list_notes(alloc, source, &file, refused);
+    let sweep = Sweep::new(alloc, &file)?;
+    let findings = list_findings(alloc, source.bytes, &sweep, refused, &wrong)?;
+    Ok(Answer {
+        output: listing_with(alloc, &sweep, &notes, &findings)?,
+        errors: reported(alloc, is_reported, source.path, &wrong)?,
+        status: status_in(refused),
+    })
 }
 
-/// Stores the listing in place of writing it to standard output, if nothing was wrong.
-fn store(rt: &HostRuntime, output: &mut Output, path: &str) -> Result<(), AllocError> {
-    let text = mem::replace(&mut output.text, Text::new(rt.alloc())).finish()?;
-    if output.status == 0 {
-        match fs::create(rt, path) {
-            Ok(mut device) => {
-                if device.write_all(&text).is_err() {
-                    output.fault(path, "write error", 2);
-                }
-            }
-            Err(_) => output.fault(path, "cannot create", 2),
-        }
+/// The listing of the bytes of a file; what is wrong with them goes to standard error too, if it is reported.
+pub(crate) fn list(
+    alloc: Global,
+    source: Source<'_>,
+    is_reported: bool,
+) -> Result<Answer, AllocError>
+    ensures { IfOk result (λ answer. answer ≡ listed is_reported source.entry.path.now source.entry.bytes.now) }
+{
+    match decoded(alloc, source.bytes)? {
+        Ok(file) => list_file(alloc, source, is_reported, file),
+        Err(fault) => explain_refused(alloc, source, is_reported, fault),
     }
-    Ok(())
-}
-
-/// The listings of the files; they are stored if a file for them is given.
-pub(crate) fn list_files(rt: &HostRuntime, words: &ListingWords) -> Result<Output, AllocError> {
-    let mut output = Output::new(rt.alloc());
-    for path in &words.files {
-        list_at(rt, &mut output, path.as_str(), words.out.is_some())?;
-    }
-    if let Some(path) = &words.out {
-        store(rt, &mut output, path.as_str())?;
-    }
-    Ok(output)
 }

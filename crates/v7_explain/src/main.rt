@@ -4,58 +4,34 @@
 
 mod checking;
 mod disassembly;
+mod explaining;
 mod listing;
 mod map;
 mod map_limits;
 mod map_names;
 mod map_objects;
 mod map_text;
-mod output;
+mod program;
 mod source;
-mod words;
+mod storing;
 
-use aout_core::show;
-use checking::check_files;
-use disassembly::disassemble_files;
-use listing::list_files;
-use map::write_map;
-use output::write_output;
+use aout_core::Wire;
+use program::{NAME, USAGE, perform};
 use std::process::ExitCode;
-use words::{Asked, what_is_asked};
+use std::{env, io};
+use surroundings::{Disk, Outputs, StandardError, end, hold_streams, words};
 
-const SYNOPSIS: &str =
-    "usage: v7-explain [-o LISTING] FILE...\n       v7-explain -c FILE...\n       v7-explain -d FILE...\n       v7-explain -m [OPTIONS OF LD] FILE...\n       v7-explain --help | --version\n";
-
-/// The status if the arguments ask for nothing.
-fn usage(rt: &HostRuntime) -> u8 {
-    let _ = rt.eprint(SYNOPSIS);
-    2
-}
-
-/// The status if memory runs out.
-fn no_memory(rt: &HostRuntime) -> u8 {
-    let _ = rt.eprint("v7-explain: no memory\n");
-    2
-}
-
-/// Does what the arguments ask for, and returns the status.
-fn run(rt: &HostRuntime, asked: Asked) -> u8 {
-    let output = match &asked {
-        Asked::Nothing => return usage(rt),
-        Asked::Show(shown) => return show(rt, "v7-explain", SYNOPSIS, *shown),
-        Asked::Memory => return no_memory(rt),
-        Asked::Listing(listing) => list_files(rt, listing),
-        Asked::Check(files) => check_files(rt, files),
-        Asked::Disassembly(files) => disassemble_files(rt, files),
-        Asked::Map(call) => write_map(rt, call),
+/// The status of the program. The streams are held until it has ended.
+fn run(rt: &HostRuntime) -> io::Result<u8> {
+    let _held = hold_streams(rt)?;
+    let words = words(rt.alloc(), env::args(rt)?)?;
+    let mut outputs = Outputs {
+        output: Wire::new(io::writer(rt)),
+        error: Wire::new(StandardError::new(rt)),
     };
-    match write_output(rt, output) {
-        Ok(status) => status,
-        Err(_) => no_memory(rt),
-    }
+    Ok(perform(rt.alloc(), &mut Disk::new(rt), &mut outputs, &words))
 }
 
 fn main(rt: HostRuntime) -> ExitCode {
-    let asked = what_is_asked(&rt);
-    ExitCode::from(run(&rt, asked))
+    ExitCode::from(end(&rt, NAME, USAGE, run(&rt)))
 }

@@ -1,51 +1,157 @@
 //! The objects of a link, from their files.
-use crate::output::Output;
-use aout_core::{NoObject, Object, ReadFault, Wire, read_object};
+ghost use Rattle.std.specs.Prelude.{◌≡◌, ◌≢◌, IfErr, IfOk, Err, Ok, map, string_bytes};
+ghost use Rattle.link_maps.specs.Members.{all_of};
+ghost use Rattle.surroundings.specs.Answers.{Faults};
+ghost use Rattle.surroundings.specs.declared.answer.Fault.TheVariants.{Memory};
+ghost use Rattle.texts.specs.Texts.{Puts};
+ghost use Rattle.v7_explain.specs.Files.{line_of};
+ghost use Rattle.v7_explain.specs.Joined.{nothing_said};
+ghost use Rattle.v7_explain.specs.Maps.{IsTaking, at_word, object_in, object_text, read_text, refused_for};
+ghost use Rattle.v7_explain.specs.internal.Takes.{KeepsSplit, TakesNext, TakesOne, taken_by, taken_of};
+
+use crate::explaining::{join, nothing_said};
+use crate::program::NAME;
+use crate::source::{decoded, put_front, put_text_line};
+use aout_core::{Object, ObjectFault, ReadFault};
 use link_maps::Objects;
 use std::alloc::{AllocError, Global};
-use std::fs;
+use surroundings::{Answer, Fault, Office, error_answer, read_whole};
+use texts::Text;
 
-/// The object at a path; `None` if the path can't be opened.
-fn object_at(rt: &HostRuntime, path: &str) -> Option<Result<Object, NoObject>> {
-    match fs::open(rt, path) {
-        Ok(device) => Some(read_object(rt.alloc(), &mut Wire::new(device))),
-        Err(_) => None,
+/// Why bytes are not a file.
+fn read_text(fault: ReadFault) -> &'static str
+    ensures { result.now ≡ read_text fault }
+{
+    match fault {
+        ReadFault::ShortHeader => "short header",
+        ReadFault::BadMagic => "bad magic number",
+        ReadFault::OddSize => "odd size",
+        ReadFault::Truncated => "truncated",
+        ReadFault::Device => "read error",
+        ReadFault::Memory => "no memory",
     }
 }
 
-/// Reports why there is no object: status 1 for a file that `ld` refuses, 2 for one that can't be read.
-fn report_refused(
-    alloc: Global,
-    output: &mut Output,
-    path: &str,
-    refused: NoObject,
-) -> Result<(), AllocError> {
-    let status = match refused {
-        NoObject::NotRead(ReadFault::Device | ReadFault::Memory) => 2,
-        NoObject::NotRead(_) | NoObject::NotFit(_) => 1,
+/// Puts what is bad at a word.
+fn put_at_word(line: &mut Text, bad: &str, n: u16)
+    ensures { Puts line.old line.new (at_word bad.now n) }
+{
+    line.put(bad);
+    line.put(" at word ");
+    line.put_decimal(u64::from(n));
+}
+
+/// Puts why a file is not an object.
+fn put_object_text(line: &mut Text, fault: ObjectFault)
+    ensures { Puts line.old line.new (object_text fault) }
+{
+    match fault {
+        ObjectFault::NotAnObject => line.put("not an object"),
+        ObjectFault::NoRelocation => line.put("no relocation"),
+        ObjectFault::BadRelocation(n) => put_at_word(line, "bad relocation", n),
+        ObjectFault::BadSymbolNumber(n) => put_at_word(line, "bad symbol number", n),
+    }
+}
+
+/// The answer that bytes are not a file.
+fn not_read(alloc: Global, path: &str, fault: ReadFault) -> Result<Answer, AllocError>
+    ensures { IfOk result (λ a. a ≡ refused_for path.now (read_text fault)) }
+{
+    let mut line = Text::new(alloc);
+    put_text_line(&mut line, path, read_text(fault));
+    error_answer(alloc, line, 1)
+}
+
+/// Puts the line that a file is not an object.
+#[tactic(auto, unfolding(crate::specs::Files::line_of))]
+fn put_object_line(line: &mut Text, path: &str, fault: ObjectFault)
+    ensures { Puts line.old line.new (line_of path.now (object_text fault)) }
+{
+    put_front(line, path);
+    put_object_text(line, fault);
+    line.put("\n");
+}
+
+/// The answer that a file is not an object.
+fn not_fit(alloc: Global, path: &str, fault: ObjectFault) -> Result<Answer, AllocError>
+    ensures { IfOk result (λ a. a ≡ refused_for path.now (object_text fault)) }
+{
+    let mut line = Text::new(alloc);
+    put_object_line(&mut line, path, fault);
+    error_answer(alloc, line, 1)
+}
+
+/// The object in the bytes of a file, or why there is none.
+fn object_in(alloc: Global, path: &str, bytes: &[u8]) -> Result<Object, Fault>
+    ensures ok { IfOk result (λ object. object_in path.now bytes.now ≡ Ok object) }
+    ensures err { IfErr result (λ fault. Faults (object_in path.now bytes.now) fault) }
+{
+    let file = match decoded(alloc, bytes)? {
+        Ok(file) => file,
+        Err(fault) => return Err(Fault::Answered(not_read(alloc, path, fault)?)),
     };
-    let line = format!(in alloc; "{refused}")?;
-    output.fault(path, line.as_str(), status);
+    match Object::from_file(file) {
+        Ok(object) => Ok(object),
+        Err((_, fault)) => Err(Fault::Answered(not_fit(alloc, path, fault)?)),
+    }
+}
+
+/// Takes the object at a path, or returns why there is none.
+fn take_at<O: Office>(
+    alloc: Global,
+    office: &mut O,
+    objects: &mut Objects,
+    path: &str,
+) -> Result<(), Fault>
+    ensures taken { TakesOne (O.history office.old) (O.history office.new) path.now (all_of objects.old)
+        (all_of objects.new) result }
+    ensures forced { objects.new.session.forced ≡ objects.old.session.forced }
+    ensures split { result ≢ Err Memory → KeepsSplit objects.old → KeepsSplit objects.new }
+{
+    let bytes = read_whole(alloc, office, NAME, path)?;
+    let object = object_in(alloc, path, &bytes)?;
+    let label = String::from_str(alloc, path)?;
+    objects.take(alloc, label, object)?;
     Ok(())
 }
 
-/// Takes the objects at these paths in order, and reports what is not an object.
-pub(crate) fn read_objects(
-    rt: &HostRuntime,
+/// Takes the object at a path, or adds why there is none to what is said.
+fn take_next<O: Office>(
+    alloc: Global,
+    office: &mut O,
+    objects: &mut Objects,
+    said: &mut Answer,
+    path: &str,
+) -> Result<(), AllocError>
+    ensures taken { TakesNext (O.history office.old) (O.history office.new) (taken_of objects.old said.old) path.now
+        (taken_of objects.new said.new) result }
+    ensures forced { objects.new.session.forced ≡ objects.old.session.forced }
+    ensures split { IfOk result (λ _. KeepsSplit objects.old → KeepsSplit objects.new) }
+{
+    match take_at(alloc, office, objects, path) {
+        Ok(()) => Ok(()),
+        Err(Fault::Answered(more)) => join(said, &more),
+        Err(Fault::Memory) => Err(AllocError),
+    }
+}
+
+/// Takes the objects at these paths in order. The answer has a line for each file that is not an object.
+pub(crate) fn take_objects<O: Office>(
+    alloc: Global,
+    office: &mut O,
     objects: &mut Objects,
     paths: &[String],
-    output: &mut Output,
-) -> Result<(), AllocError> {
-    let alloc = rt.alloc();
+) -> Result<Answer, Fault>
+    ensures taken { IsTaking (O.history office.old) (O.history office.new) (taken_of objects.old nothing_said)
+        (map string_bytes paths.now) (taken_by objects.new result) }
+    ensures forced { objects.new.session.forced ≡ objects.old.session.forced }
+    ensures split { IfOk result (λ _. KeepsSplit objects.old → KeepsSplit objects.new) }
+{
+    let mut said = nothing_said(alloc);
     for path in paths {
-        match object_at(rt, path.as_str()) {
-            Some(Ok(object)) => {
-                let label = String::from_str(alloc, path.as_str())?;
-                objects.take(alloc, label, object)?;
-            }
-            Some(Err(refused)) => report_refused(alloc, output, path.as_str(), refused)?,
-            None => output.fault(path.as_str(), "cannot open", 2),
+        if take_next(alloc, office, objects, &mut said, path.as_str()).is_err() {
+            return Err(Fault::Memory);
         }
     }
-    Ok(())
+    Ok(said)
 }

@@ -1,74 +1,179 @@
 //! A file that is explained, and what is said of it whatever becomes of it.
-use crate::output::Output;
-use aout_core::{
-    File, FileFault, Header, Object, ObjectFault, ReadFault, Wire, read_all, read_file,
-};
+ghost use Rattle.std.specs.Prelude.{◌≡◌, ◌∷◌, [], false, length, option_map, IfOk, OnOk, Ok};
+ghost use Rattle.aout_core.specs.Decoding.{decode};
+ghost use Rattle.aout_core.specs.WellFormed.{first_object_fault};
+ghost use Rattle.findings.specs.Found.{all_found};
+ghost use Rattle.findings.specs.Notes.{AddsNotes, finding_text};
+ghost use Rattle.findings.specs.Kinds.{kind_text};
+ghost use Rattle.findings.specs.Wrong.{wrong_bytes};
+ghost use Rattle.texts.specs.Texts.{Puts};
+ghost use Rattle.v7_explain.specs.Files.{found_notes, front_notes, front_of, gnu_notes, header_notes, is_damaged, likeness_of};
+ghost use Rattle.v7_explain.specs.Files.{line_front, line_of, lines_of, note_if, refused_as, refused_notes, reported, reports};
+ghost use Rattle.v7_explain.specs.Files.{status_in, title, wrong_in};
+ghost use Rattle.v7_explain.specs.internal.Notes.{HasNotes};
+
+use crate::program::NAME;
+use aout_core::{File, Header, Object, ObjectFault, ReadFault, Wire, read_file};
 use explanations::put_lines;
 use findings::{
-    Finding, Notes, header_of, is_of_gnu, likeness, put_findings, put_header, put_kind, wrong_bytes,
+    Finding, Notes, header_of, is_of_gnu, likeness, put_finding_text, put_findings, put_header,
+    put_kind, wrong_bytes, wrong_words,
 };
 use std::alloc::{AllocError, Global};
+use surroundings::Answer;
+use texts::Text;
 
 /// That a file is in the form of GNU's assembler.
 pub(crate) const GNU_NOTE: &str =
-    "this file has the form of GNU's assembler and of 2.11BSD, with symbols of 8 bytes and a table of strings: v7-from-gnu makes an object of it";
+    "this file has the form of GNU's assembler and of 2.11BSD, with symbols of 8 bytes and a table of strings: \
+     v7-from-gnu makes an object of it";
 
-/// The bytes of a file.
+/// A file: its path and its bytes.
 #[derive(Clone, Copy)]
 pub(crate) struct Source<'a> {
     pub(crate) path: &'a str,
     pub(crate) bytes: &'a [u8],
-    /// Whether what is wrong goes to standard error too.
-    pub(crate) is_reported: bool,
 }
 
-/// The bytes of the file at a path; none if it was not read, which is reported.
-pub(crate) fn bytes_at(
-    rt: &HostRuntime,
-    output: &mut Output,
-    path: &str,
-) -> Result<Option<Vec<u8>>, AllocError> {
-    match read_all(rt, path) {
-        Ok(bytes) => return Ok(Some(bytes)),
-        Err(FileFault::NotOpened) => output.fault(path, "cannot open", 2),
-        Err(FileFault::Failed) => output.fault(path, "read error", 2),
-        Err(FileFault::Memory) => return Err(AllocError),
+/// The file that bytes begin with, or why they begin with none. No device can fail here: there are only bytes.
+pub(crate) fn decoded(alloc: Global, bytes: &[u8]) -> Result<Result<File, ReadFault>, AllocError>
+    ensures { IfOk result (λ read. read ≡ decode bytes.now) }
+{
+    match read_file(alloc, &mut Wire::new(bytes)) {
+        Ok(file) => Ok(Ok(file)),
+        Err(ReadFault::Memory | ReadFault::Device) => Err(AllocError),
+        Err(fault) => Ok(Err(fault)),
     }
-    Ok(None)
 }
 
 /// The file, and why `ld` does not take it as an object, if it does not.
-pub(crate) fn as_object(file: File) -> (File, Option<ObjectFault>) {
+pub(crate) fn as_object(file: File) -> (File, Option<ObjectFault>)
+    ensures file { result.0 ≡ file }
+    ensures refused { result.1 ≡ first_object_fault file }
+{
     match Object::from_file(file) {
         Ok(object) => (object.into_file(), None),
         Err((file, fault)) => (file, Some(fault)),
     }
 }
 
+/// Whether a word of a file makes `ld` refuse it.
+pub(crate) fn is_damaged(refused: Option<ObjectFault>) -> bool
+    ensures { result ≡ is_damaged refused }
+{
+    match refused {
+        Some(ObjectFault::BadRelocation(_) | ObjectFault::BadSymbolNumber(_)) => true,
+        _ => false,
+    }
+}
+
+/// The status of a file.
+pub(crate) fn status_in(refused: Option<ObjectFault>) -> u8
+    ensures { result ≡ status_in refused }
+{
+    if is_damaged(refused) { 1 } else { 0 }
+}
+
+/// What is wrong in a file.
+pub(crate) fn wrong_in(
+    alloc: Global,
+    file: &File,
+    refused: Option<ObjectFault>,
+) -> Result<Vec<Finding>, AllocError>
+    ensures { IfOk result (λ wrong. all_found wrong.items ≡ wrong_in refused file.now) }
+{
+    if is_damaged(refused) {
+        return wrong_words(alloc, file);
+    }
+    Ok(Vec::new(alloc))
+}
+
 /// What bytes are that are not a file, if it is known.
-pub(crate) fn likeness_of(bytes: &[u8], fault: ReadFault) -> Option<&'static str> {
+pub(crate) fn likeness_of(bytes: &[u8], fault: ReadFault) -> Option<&'static str>
+    ensures { option_map (λ text. text.now) result ≡ likeness_of fault bytes.now }
+{
     match fault {
         ReadFault::BadMagic | ReadFault::ShortHeader => likeness(bytes),
         _ => None,
     }
 }
 
-/// Adds what is wrong as notes.
-pub(crate) fn put_wrong(
-    output: &mut Output,
-    notes: &mut Notes,
-    source: Source<'_>,
-    wrong: &[Finding],
-) {
-    put_findings(notes, "wrong", wrong);
-    output.status = output.status.max(1);
-    if source.is_reported {
-        output.report(source.path, wrong);
+/// Puts a program and a path.
+#[tactic(auto, unfolding(crate::specs::Files::front_of))]
+fn put_program(lines: &mut Text, program: &str, path: &str)
+    ensures { Puts lines.old lines.new (front_of program.now path.now) }
+{
+    lines.put(program);
+    lines.put(": ");
+    lines.put(path);
+    lines.put(": ");
+}
+
+/// Puts the program and a path.
+pub(crate) fn put_front(lines: &mut Text, path: &str)
+    ensures { Puts lines.old lines.new (line_front path.now) }
+{
+    put_program(lines, NAME, path);
+}
+
+/// Puts a line with a text on a file.
+#[tactic(auto, unfolding(crate::specs::Files::line_of))]
+pub(crate) fn put_text_line(lines: &mut Text, path: &str, text: &str)
+    ensures { Puts lines.old lines.new (line_of path.now text.now) }
+{
+    put_front(lines, path);
+    lines.put(text);
+    lines.put("\n");
+}
+
+/// Puts a line with a finding in a file.
+#[tactic(auto, unfolding(crate::specs::Files::line_of))]
+fn put_finding_line(lines: &mut Text, path: &str, finding: &Finding)
+    ensures { Puts lines.old lines.new (line_of path.now (finding_text finding.now)) }
+{
+    put_front(lines, path);
+    put_finding_text(lines, finding);
+    lines.put("\n");
+}
+
+/// Puts findings as lines for standard error.
+pub(crate) fn put_reports(lines: &mut Text, path: &str, wrong: &[Finding])
+    ensures { Puts lines.old lines.new (reports path.now (all_found wrong.now)) }
+{
+    for finding in wrong {
+        put_finding_line(lines, path, finding);
     }
 }
 
+/// What is wrong as lines for standard error, if it is reported.
+pub(crate) fn reported(
+    alloc: Global,
+    is_reported: bool,
+    path: &str,
+    wrong: &[Finding],
+) -> Result<Vec<u8>, AllocError>
+    ensures { IfOk result (λ lines. lines.items ≡ reported is_reported path.now (all_found wrong.now)) }
+{
+    let mut lines = Text::new(alloc);
+    if is_reported {
+        put_reports(&mut lines, path, wrong);
+    }
+    lines.finish()
+}
+
+/// Adds what is found as notes, after a word.
+#[tactic(auto, using(crate::proofs::FoundLemmas::by_found))]
+pub(crate) fn put_found(notes: &mut Notes, word: &str, found: &[Finding])
+    ensures { AddsNotes notes.old notes.new (found_notes word.now (all_found found.now)) }
+{
+    put_findings(notes, word, found);
+}
+
 /// Adds a note with the path and the size.
-fn put_title(notes: &mut Notes, source: Source<'_>) {
+#[tactic(auto, unfolding(crate::specs::Files::title))]
+fn put_title(notes: &mut Notes, source: Source<'_>)
+    ensures { AddsNotes notes.old notes.new (title source.entry.path.now (length source.entry.bytes.now) ∷ []) }
+{
     let size = source.bytes.len() as u64;
     let mut note = notes.begin();
     note.put(source.path);
@@ -80,59 +185,110 @@ fn put_title(notes: &mut Notes, source: Source<'_>) {
     notes.add(note);
 }
 
-/// Adds a note with what a file is, unless it is damaged, and returns whether it is.
-pub(crate) fn put_kind_note(
-    notes: &mut Notes,
-    header: &Header,
-    refused: Option<ObjectFault>,
-) -> bool {
+/// Adds a note with what a file is, unless it is damaged.
+fn put_kind_note(notes: &mut Notes, header: &Header, refused: Option<ObjectFault>)
+    ensures { AddsNotes notes.old notes.new (note_if (kind_text header.now refused)) }
+{
     let mut note = notes.begin();
-    let is_named = put_kind(&mut note, header, refused);
-    if is_named {
+    if put_kind(&mut note, header, refused) {
         notes.add(note);
     }
-    !is_named
 }
 
-/// Explains bytes that are not a file, after these notes.
-fn put_refused(
+/// Adds a note if a file is in the form of GNU's assembler.
+pub(crate) fn put_gnu_note(
     alloc: Global,
-    output: &mut Output,
     notes: &mut Notes,
-    source: Source<'_>,
-    fault: ReadFault,
-) -> Result<(), AllocError> {
-    let known = likeness_of(source.bytes, fault);
-    if let (Some(header), None) = (header_of(source.bytes), known) {
-        put_header(notes, &header);
-    }
-    let wrong = wrong_bytes(alloc, source.bytes, fault)?;
-    put_wrong(output, notes, source, &wrong);
-    if let Some(note) = known {
-        notes.put(note);
-    }
-    if is_of_gnu(alloc, source.bytes, true)? {
+    bytes: &[u8],
+    is_odd: bool,
+) -> Result<(), AllocError>
+    ensures { OnOk result (AddsNotes notes.old notes.new (gnu_notes is_odd bytes.now)) }
+{
+    if is_of_gnu(alloc, bytes, is_odd)? {
         notes.put(GNU_NOTE);
     }
-    if notes.is_cut() {
-        return Err(AllocError);
-    }
-    put_lines(&mut output.text, notes);
     Ok(())
 }
 
-/// The file in these bytes, after its title was noted; if there is none, they are explained.
-pub(crate) fn file_in(
+/// The notes with which a file begins.
+pub(crate) fn front_notes(
     alloc: Global,
-    output: &mut Output,
-    notes: &mut Notes,
     source: Source<'_>,
-) -> Result<Option<File>, AllocError> {
-    put_title(notes, source);
-    match read_file(alloc, &mut Wire::new(source.bytes)) {
-        Ok(file) => return Ok(Some(file)),
-        Err(ReadFault::Memory) => return Err(AllocError),
-        Err(fault) => put_refused(alloc, output, notes, source, fault)?,
+    header: &Header,
+    refused: Option<ObjectFault>,
+) -> Notes
+    ensures { HasNotes result (front_notes source.entry.path.now source.entry.bytes.now header.now refused) }
+{
+    let mut notes = Notes::new(alloc);
+    put_title(&mut notes, source);
+    put_kind_note(&mut notes, header, refused);
+    notes
+}
+
+/// Adds the header that bytes begin with, unless it is known what else they are.
+fn put_header_notes(notes: &mut Notes, bytes: &[u8], known: Option<&str>)
+    ensures { AddsNotes notes.old notes.new (header_notes (option_map (λ text. text.now) known.entry) bytes.now) }
+{
+    if let (None, Some(header)) = (known, header_of(bytes)) {
+        put_header(notes, &header);
     }
-    Ok(None)
+}
+
+/// Adds a note with a text, if there is one.
+fn put_note_if(notes: &mut Notes, text: Option<&str>)
+    ensures { AddsNotes notes.old notes.new (note_if (option_map (λ text. text.now) text.entry)) }
+{
+    if let Some(text) = text {
+        notes.put(text);
+    }
+}
+
+/// The notes on bytes that are not a file.
+fn refused_notes(
+    alloc: Global,
+    source: Source<'_>,
+    fault: ReadFault,
+    wrong: &[Finding],
+) -> Result<Notes, AllocError>
+    requires { all_found wrong.now ≡ wrong_bytes fault source.bytes.now }
+    ensures { IfOk result (λ notes. HasNotes notes (refused_notes source.entry.path.now source.entry.bytes.now fault)) }
+{
+    let known = likeness_of(source.bytes, fault);
+    let mut notes = Notes::new(alloc);
+    put_title(&mut notes, source);
+    put_header_notes(&mut notes, source.bytes, known);
+    put_found(&mut notes, "wrong", wrong);
+    put_note_if(&mut notes, known);
+    put_gnu_note(alloc, &mut notes, source.bytes, true)?;
+    Ok(notes)
+}
+
+/// Notes as lines.
+fn lines_of(alloc: Global, notes: &Notes) -> Result<Vec<u8>, AllocError>
+    ensures { IfOk result (λ lines. (notes.now.is_cut ≡ false) × (lines.items ≡ lines_of notes.now.lines)) }
+{
+    if notes.is_cut() {
+        return Err(AllocError);
+    }
+    let mut lines = Text::new(alloc);
+    put_lines(&mut lines, notes);
+    lines.finish()
+}
+
+/// Explains bytes that are not a file.
+pub(crate) fn explain_refused(
+    alloc: Global,
+    source: Source<'_>,
+    is_reported: bool,
+    fault: ReadFault,
+) -> Result<Answer, AllocError>
+    ensures { IfOk result (λ answer. answer ≡ refused_as is_reported source.entry.path.now source.entry.bytes.now fault) }
+{
+    let wrong = wrong_bytes(alloc, source.bytes, fault)?;
+    let notes = refused_notes(alloc, source, fault, &wrong)?;
+    Ok(Answer {
+        output: lines_of(alloc, &notes)?,
+        errors: reported(alloc, is_reported, source.path, &wrong)?,
+        status: 1,
+    })
 }

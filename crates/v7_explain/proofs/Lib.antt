@@ -1,0 +1,7 @@
+pub mod FoundLemmas
+pub mod ExplainingLemmas
+pub mod TakingLemmas
+pub mod MapLemmas
+pub mod MapTextLemmas
+pub mod SizeLemmas
+pub mod PutLemmas

@@ -1,0 +1,249 @@
+-- The objects of a map as a session takes them, and the map of these.
+use Rattle.std.proofs.Common.{◌≡◌, ◌≢◌, ℕ, Bool, true, false, eqb, List, [], ◌∷◌, ◌++◌, Option, Some, None, map, refl, sym, ap, ◌∙◌}
+use Rattle.std.proofs.Common.{◌⊎◌, subst, inl, inr, arith}
+use Rattle.std.proofs.lemmas.Bool.Decides.{nat_tests}
+use Rattle.std.proofs.lemmas.List.{map-append}
+use Rattle.std.specs.Prelude.{Result, Ok, Err, IfSome, String, Vec, is_some, not, if◌then◌else◌}
+use Rattle.std.specs.declared.alloc.Global.{Global}
+use Rattle.aout_core.specs.Contents.{Contents}
+use Rattle.aout_core.specs.WellFormed.{first_of}
+use Rattle.command_words.specs.Calls.{AsksForNone, IsAsked, IsWhole, dashes_in, files_of}
+use Rattle.command_words.specs.declared.fault.WordsFault.TheVariants.{Usage}
+use Rattle.command_words.specs.declared.words.Call.{Call}
+use Rattle.command_words.specs.declared.words.Call.TheVariants.{Ld, Nm, Session, Size, Strip}
+use Rattle.link_maps.specs.Members.{all_of, cause_of, left_of}
+use Rattle.link_maps.specs.Rows.{IsOutcome}
+use Rattle.link_maps.specs.declared.members.Objects.{Objects}
+use Rattle.link_maps.specs.declared.members.Refused.{Refused}
+use Rattle.link_maps.specs.declared.outcome.Outcome.{Outcome as Made}
+use Rattle.link_out.specs.Outcomes.{IsLinkOf, outcome_of}
+use Rattle.link_out.specs.declared.linked.LinkFault.{LinkFault}
+use Rattle.link_out.specs.declared.linked.LinkFault.TheVariants.{DoesNotFit, Memory, SymbolNumber, TooManySymbols}
+use Rattle.link_out.specs.declared.linked.Linked.{Linked}
+use Rattle.link_out.specs.function.Link.{Outcome, link}
+use Rattle.link_session.specs.Labelled.{Labelled, objects}
+use Rattle.link_session.specs.Limits.{refusal}
+use Rattle.link_session.specs.Sessions.{nothing_kept}
+use Rattle.link_session.specs.Undo.{Kept}
+use Rattle.link_session.specs.declared.entry.AddFault.{AddFault}
+use Rattle.surroundings.specs.Answer.{Answer}
+use Rattle.surroundings.specs.Answers.{AnswersOr, says_usage}
+use Rattle.surroundings.specs.Events.{History}
+use Rattle.surroundings.specs.declared.answer.Fault.{Fault}
+use Rattle.surroundings.specs.declared.answer.Fault.TheVariants as faults
+use Rattle.tool_options.specs.Choices.{Choices}
+use Rattle.v7_explain.specs.Joined.{either, nothing_said, usage}
+use Rattle.v7_explain.specs.MapTexts.{map_text}
+use Rattle.v7_explain.specs.Maps.{AreTaken, IsMap, IsMapCall, IsMapping, IsTaking, MapsCall, Split, Taken, link_words, map_status}
+use Rattle.v7_explain.specs.Maps.{nothing_taken, status_by, status_linked}
+use Rattle.v7_explain.specs.Maps.{not_split, split, split_by, split_from, with_object}
+use Rattle.v7_explain.specs.internal.Takes.{IsMapAnswer, KeepsSplit, split_of, status_made, status_mapped, taken_by, taken_of}
+use Rattle.v7_explain.proofs.TakingLemmas.{taking_memory}
+
+-- ---- objects that a session takes, up to a limit
+
+abbrev split_with : Option AddFault → List Labelled → List Labelled → Split
+split_with cause kept left = record { kept = kept; cause = cause; left = left }
+
+-- as the code has it
+split_step : (s : Split) (x : Labelled) (cause : Option AddFault) (kept left : List Labelled) →
+    kept ≡ (if is_some cause then s.kept else s.kept ++ x ∷ []) → left ≡ (if is_some cause then s.left ++ x ∷ [] else []) →
+    split_with cause kept left ≡ split_by s x cause
+split_step s x None kept left k l = ap (λ (es : List Labelled). split_with None es left) k ∙ ap (split_with None (s.kept ++ x ∷ [])) l
+split_step s x (Some limit) kept left k l = ap (λ (es : List Labelled). split_with (Some limit) es left) k
+    ∙ ap (split_with (Some limit) s.kept) l
+
+-- one more object
+split_more : (forced : List (List ℕ)) (s : Split) (xs : List Labelled) (x : Labelled) →
+    split_from forced s (xs ++ x ∷ []) ≡ with_object forced (split_from forced s xs) x
+split_more forced s [] x = refl
+split_more forced s (y ∷ ys) x = split_more forced (with_object forced s y) ys x
+
+-- one more object, as the code takes it
+pub keeps_split : (old new : Objects) (x : Labelled) →
+    cause_of new.refused ≡ first_of (cause_of old.refused) (refusal old.session.forced (objects old.session.entries) x.object) →
+    left_of new.refused ≡ (if is_some (cause_of new.refused) then left_of old.refused ++ x ∷ [] else []) →
+    new.session.entries ≡ (if is_some (cause_of new.refused) then old.session.entries else old.session.entries ++ x ∷ []) →
+    all_of new ≡ all_of old ++ x ∷ [] → new.session.forced ≡ old.session.forced → KeepsSplit old → KeepsSplit new
+keeps_split old new x cause left entries all forced h =
+    let f : List (List ℕ) = old.session.forced in
+    let step : split_of new ≡ split_by (split_of old) x (cause_of new.refused) =
+    split_step (split_of old) x (cause_of new.refused) new.session.entries (left_of new.refused) entries left in
+    step ∙ ap (split_by (split_of old) x) cause
+    ∙ ap (λ (s : Split). with_object f s x) h
+    ∙ sym (split_more f not_split (all_of old) x)
+    ∙ ap (split f) (sym all)
+    ∙ ap (λ (names : List (List ℕ)). split names (all_of new)) (sym forced)
+
+-- the files of the objects, those that a session keeps before those that are left
+pub files_whole : (files some : List Contents) (o : Objects) → some ≡ [] ++ objects o.session.entries →
+    files ≡ some ++ objects (left_of o.refused) →
+    files ≡ objects (all_of o)
+files_whole files some o first more =
+    more ∙ ap (λ (os : List Contents). os ++ objects (left_of o.refused)) first
+    ∙ sym (map-append (λ (e : Labelled). e.object) o.session.entries (left_of o.refused))
+
+-- ---- the status
+
+status_of_link : (made : Result Linked LinkFault) (x : Result Outcome LinkFault) → IsLinkOf made x → made ≢ Err Memory →
+    status_made made ≡ status_linked x
+status_of_link (Ok linked) x h whole = ap status_linked (sym h)
+status_of_link (Err Memory) x h whole = absurd (whole refl)
+status_of_link (Err DoesNotFit) x h whole = ap status_linked (sym h)
+status_of_link (Err TooManySymbols) x h whole = ap status_linked (sym h)
+status_of_link (Err SymbolNumber) x h whole = ap status_linked (sym h)
+
+-- as the code has it
+pub mapped_status : (made : Option Made) (refused : Option Refused) (kept : Kept) (choices : Choices) →
+    is_some made ≡ not (is_some refused) → IfSome made (λ o. IsOutcome o kept choices) →
+    status_mapped made ≡ status_by (cause_of refused) (link kept.forced (objects kept.entries) choices)
+mapped_status None None kept choices h is = absurd (cc)
+mapped_status None (Some r) kept choices h is = refl
+mapped_status (Some o) None kept choices h is =
+    status_of_link o.linked (link kept.forced (objects kept.entries) choices) is.made is.no_memory
+mapped_status (Some o) (Some r) kept choices h is = absurd (cc)
+
+-- ---- a map, after the files were taken
+
+none_yet : (forced : List (List ℕ)) (o : Objects) → o.session ≡ nothing_kept forced → o.refused ≡ None → all_of o ≡ []
+none_yet forced o session refused =
+    ap (λ (k : Kept). k.entries ++ left_of o.refused) session ∙ ap (λ (r : Option Refused). left_of r) refused
+
+begins : (forced : List (List ℕ)) (o : Objects) → o.session ≡ nothing_kept forced → o.refused ≡ None →
+    taken_of o nothing_said ≡ nothing_taken
+begins forced o session refused =
+    ap (λ (os : List Labelled). let taken : Taken = record { objects = os; said = nothing_said } in taken)
+    (none_yet forced o session refused)
+
+none_split : (forced : List (List ℕ)) (o : Objects) → o.session ≡ nothing_kept forced → o.refused ≡ None → KeepsSplit o
+none_split forced o session refused =
+    ap (λ (k : Kept). split_with (cause_of o.refused) k.entries (left_of o.refused)) session
+    ∙ ap (λ (r : Option Refused). split_with (cause_of r) [] (left_of r)) refused
+    ∙ sym (ap (λ (os : List Labelled). split o.session.forced os) (none_yet forced o session refused))
+
+-- memory ran out
+pub map_ends : (forced : List (List ℕ)) (choices : Choices) (paths : List (List ℕ)) (old new : History) (o n : Objects) (fault : Fault)
+    (result : Result Answer Fault) → o.session ≡ nothing_kept forced → o.refused ≡ None →
+    IsTaking old new (taken_of o nothing_said) paths (taken_by n (Err fault)) → result ≡ Err fault →
+    IsMapping forced choices paths old new result
+map_ends forced choices paths old new o n fault result session refused takes is =
+    let taking : IsTaking old new nothing_taken paths (Err fault) =
+    subst (λ t. IsTaking old new t paths (Err fault)) (begins forced o session refused) takes in
+    let memory : fault ≡ faults.Memory = taking_memory old new nothing_taken paths fault taking in
+    inl (
+      subst (λ f. IsTaking old new nothing_taken paths (Err f)) memory taking,
+      is ∙ ap (λ (f : Fault). let ended : Result Answer Fault = Err f in ended) memory,
+    )
+
+abbrev pub answered : Answer → Result Answer Fault
+answered said = Ok said
+
+-- some files are not objects
+pub map_refused : (forced : List (List ℕ)) (choices : Choices) (paths : List (List ℕ)) (old new : History) (o n : Objects) (said : Answer) →
+    o.session ≡ nothing_kept forced → o.refused ≡ None → IsTaking old new (taken_of o nothing_said) paths (taken_by n (Ok said)) →
+    said.status ≢ 0 → IsMapping forced choices paths old new (Ok said)
+map_refused forced choices paths old new o n said session refused takes status =
+    let test : eqb said.status 0 ≡ false = grind (arith, nat_tests) in
+    inr (
+      taken_of n said,
+      subst (λ t. IsTaking old new t paths (Ok (taken_of n said))) (begins forced o session refused) takes,
+      subst (λ (t : Bool). either t (IsMap forced choices (all_of n) (Ok said)) (answered said ≡ answered said)) (sym test) refl,
+    )
+
+maps_by : (forced : List (List ℕ)) (choices : Choices) (paths : List (List ℕ)) (old new : History) (o n : Objects) (said : Answer)
+    (result : Result Answer Fault) → o.session ≡ nothing_kept forced → o.refused ≡ None →
+    IsTaking old new (taken_of o nothing_said) paths (taken_by n (Ok said)) →
+    said.status ≡ 0 → IsMap forced choices (all_of n) result → IsMapping forced choices paths old new result
+maps_by forced choices paths old new o n said result session refused takes status is =
+    let test : eqb said.status 0 ≡ true = ap (λ (k : ℕ). eqb k 0) status in
+    inr (
+      taken_of n said,
+      subst (λ t. IsTaking old new t paths (Ok (taken_of n said))) (begins forced o session refused) takes,
+      subst (λ (t : Bool). either t (IsMap forced choices (all_of n) result) (result ≡ Ok said)) (sym test) is,
+    )
+
+-- all are, and there is no memory for the map
+pub map_out : (forced : List (List ℕ)) (choices : Choices) (paths : List (List ℕ)) (old new : History) (o n : Objects) (said : Answer)
+    (result : Result Answer Fault) → o.session ≡ nothing_kept forced → o.refused ≡ None →
+    IsTaking old new (taken_of o nothing_said) paths (taken_by n (Ok said)) →
+    said.status ≡ 0 → result ≡ Err faults.Memory → IsMapping forced choices paths old new result
+map_out forced choices paths old new o n said result session refused takes status memory =
+    maps_by forced choices paths old new o n said result session refused takes status (inl memory)
+
+-- the objects as a session takes them
+are_taken : (forced : List (List ℕ)) (n : Objects) → n.session.forced ≡ forced → KeepsSplit n → AreTaken forced (all_of n) n
+are_taken forced n names keeps =
+    let is : split_of n ≡ split forced (all_of n) = keeps ∙ ap (λ (f : List (List ℕ)). split f (all_of n)) names in
+    record {
+      forced_names = names;
+      kept = ap (λ (s : Split). s.kept) is;
+      cause = ap (λ (s : Split). s.cause) is;
+      left = ap (λ (s : Split). s.left) is;
+    }
+
+abbrev answer_with : List ℕ → ℕ → Result Answer Fault
+answer_with text status = Ok (record { output = text; errors = []; status = status })
+
+maps_all : (forced : List (List ℕ)) (choices : Choices) (n : Objects) (a : Answer) → AreTaken forced (all_of n) n →
+    IsMapAnswer n forced choices a →
+    IsMap forced choices (all_of n) (Ok a)
+maps_all forced choices n a taken (m, map, same) =
+    let s : Split = split forced (all_of n) in
+    let coded : status_mapped m.outcome ≡ status_by (cause_of n.refused) (link n.session.forced (objects n.session.entries) choices) =
+    mapped_status m.outcome n.refused n.session choices map.made map.outcome in
+    let defined : status_mapped m.outcome ≡ map_status forced choices s =
+    coded
+    ∙ ap (λ (f : List (List ℕ)). status_by (cause_of n.refused) (link f (objects n.session.entries) choices)) taken.forced_names
+    ∙ ap (λ (es : List Labelled). status_by (cause_of n.refused) (link forced (objects es) choices)) taken.kept
+    ∙ ap (λ (cause : Option AddFault). status_by cause (link forced (objects s.kept) choices)) taken.cause in
+    inr (n, m, taken, map, ap (λ (one : Answer). let ok : Result Answer Fault = Ok one in ok) same
+    ∙ ap (answer_with (map_text choices n m)) defined)
+
+-- all are, and there is a map
+pub map_made : (forced : List (List ℕ)) (choices : Choices) (paths : List (List ℕ)) (old new : History) (o n : Objects) (said a : Answer) →
+    o.session ≡ nothing_kept forced → o.refused ≡ None → IsTaking old new (taken_of o nothing_said) paths (taken_by n (Ok said)) →
+    said.status ≡ 0 → (KeepsSplit o → KeepsSplit n) → n.session.forced ≡ o.session.forced → IsMapAnswer n forced choices a →
+    IsMapping forced choices paths old new (Ok a)
+map_made forced choices paths old new o n said a session refused takes status keeps same map =
+    let names : n.session.forced ≡ forced = same ∙ ap (λ (k : Kept). k.forced) session in
+    maps_by forced choices paths old new o n said (Ok a) session refused takes status
+    (maps_all forced choices n a (are_taken forced n names (keeps (none_split forced o session refused))) map)
+
+-- ---- what the arguments ask for
+
+-- memory runs out for them
+pub map_call_out : (words : List (List ℕ)) (old new : History) (result : Result Answer Fault) → new ≡ old → result ≡ Err faults.Memory →
+    IsMapCall words old new result
+map_call_out words old new result same memory = inl (same, memory)
+
+-- they ask for no call
+pub map_call_none : (words all : List (List ℕ)) (old new : History) (result : Result Answer Fault) → all ≡ link_words words →
+    AsksForNone all Usage → new ≡ old → AnswersOr result (says_usage usage) → IsMapCall words old new result
+map_call_none words all old new result same none still answers =
+    inr (inl (subst (λ (ws : List (List ℕ)). AsksForNone ws Usage) same none, still, answers))
+
+-- they ask for a call, which is mapped
+pub map_call_made : (words all : List (List ℕ)) (call : Call) (old new : History) (result : Result Answer Fault) → all ≡ link_words words →
+    IsWhole call → IsAsked all call → dashes_in all ≡ dashes_in (files_of call) →
+    ((new ≡ old) × (result ≡ Err faults.Memory)) ⊎ MapsCall call old new result → IsMapCall words old new result
+map_call_made words all call old new result same whole asked dashes maps =
+    inr (inr (
+      call,
+      whole,
+      subst (λ (ws : List (List ℕ)). IsAsked ws call) same asked,
+      subst (λ (ws : List (List ℕ)). dashes_in ws ≡ dashes_in (files_of call)) same dashes,
+      maps,
+    ))
+
+-- another call is not mapped
+pub maps_other : (call : Call) (old new : History) (result : Result Answer Fault) →
+    ((options : Choices) → (forced : List (List ℕ)) → (out : String Global) → (files : Vec (String Global) Global) →
+    call ≡ Ld options forced out files → ⊥) →
+    new ≡ old → AnswersOr result (says_usage usage) → MapsCall call old new result
+maps_other (Ld options forced out files) old new result never still answers = absurd (never options forced out files refl)
+maps_other (Nm options files) old new result never still answers = (still, answers)
+maps_other (Size files) old new result never still answers = (still, answers)
+maps_other (Strip files) old new result never still answers = (still, answers)
+maps_other (Session options forced) old new result never still answers = (still, answers)
+
+pub ruleset by_map_call = (map_call_out, map_call_none, map_call_made)

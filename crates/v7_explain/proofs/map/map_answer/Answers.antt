@@ -1,0 +1,15 @@
+use Rattle.std.proofs.Common.{rules}
+use Rattle.v7_explain.proofs.map.map_answer.Goals as goal
+
+pub returns : goal.returns
+returns c = (
+  c.in_ok-map.map,
+  record {
+    members = c.in_ok-map.ensures.members;
+    places = c.in_ok-map.ensures.places;
+    uses = c.in_ok-map.ensures.uses;
+    made = c.in_ok-map.ensures.made;
+    outcome = c.in_ok-map.ensures.outcome;
+  },
+  search rules,
+)

@@ -1,0 +1,62 @@
+use Rattle.std.proofs.Common.{rules, ◌≡◌, [], ◌∷◌, ◌++◌, ap, ◌∙◌, string_bytes, subst}
+use Rattle.std.specs.Prelude.{Ok}
+use Rattle.link_maps.specs.Members.{all_of}
+use Rattle.link_session.specs.Labelled.{Labelled, objects}
+use Rattle.link_session.specs.Limits.{refusal}
+use Rattle.link_session.specs.Sessions.{labelled}
+use Rattle.v7_explain.specs.Maps.{object_in}
+use Rattle.v7_explain.proofs.MapLemmas.{keeps_split}
+use Rattle.v7_explain.proofs.TakingLemmas.{taken_last, takes_none, takes_object, takes_out, takes_unread}
+use Rattle.v7_explain.proofs.map_objects.take_at.Goals as goal
+
+pub returns-clause-taken : goal.returns-clause-taken
+returns-clause-taken g c =
+    let before = c.args.objects.now in
+    let after = c.take.new.self in
+    let object = c.in_ok-object.object in
+    let bytes = c.in_ok-bytes.bytes.items in
+    let x : Labelled = labelled c.in_ok-label.label object in
+    let same : c.deref.result.now ≡ bytes = search rules in
+    let named : string_bytes c.in_ok-label.label ≡ c.args.path.now = search rules in
+    let grown : all_of after ≡ all_of before ++ x ∷ [] =
+    taken_last before after x (refusal before.session.forced (objects before.session.entries) object)
+    c.in_ok-take.ensures.cause c.in_ok-take.ensures.left c.in_ok-take.ensures.entries in
+    takes_object (g.O.Office.history c.args.office.now)
+    (g.O.Office.history c.read_whole.new.office) c.args.path.now bytes object (all_of before) (all_of after)
+    c.in_ok-bytes.ensures.ok (subst (λ b. object_in c.args.path.now b ≡ Ok object) same c.in_ok-object.ensures.ok)
+    (grown ∙ ap (λ path. all_of before ++ record { label = path; object = object } ∷ []) named)
+
+pub returns-clause-split : goal.returns-clause-split
+returns-clause-split g c =
+    let before = c.args.objects.now in
+    let after = c.take.new.self in
+    let object = c.in_ok-object.object in
+    let x : Labelled = labelled c.in_ok-label.label object in
+    let grown : all_of after ≡ all_of before ++ x ∷ [] =
+    taken_last before after x (refusal before.session.forced (objects before.session.entries) object)
+    c.in_ok-take.ensures.cause c.in_ok-take.ensures.left c.in_ok-take.ensures.entries in
+    λ _ h.
+    keeps_split before after x c.in_ok-take.ensures.cause c.in_ok-take.ensures.left c.in_ok-take.ensures.entries grown
+    c.take.ensures.forced h
+
+pub returns-in_err-bytes-clause-taken : goal.returns-in_err-bytes-clause-taken
+returns-in_err-bytes-clause-taken g c =
+    takes_unread (g.O.Office.history c.args.office.now) (g.O.Office.history c.read_whole.new.office) c.args.path.now
+    (all_of c.args.objects.now) _ _ c.in_err-bytes.ensures.err (search rules)
+
+pub returns-in_err-object-clause-taken : goal.returns-in_err-object-clause-taken
+returns-in_err-object-clause-taken g c =
+    let bytes = c.in_ok-bytes.bytes.items in
+    let same : c.deref.result.now ≡ bytes = search rules in
+    takes_none (g.O.Office.history c.args.office.now) (g.O.Office.history c.read_whole.new.office) c.args.path.now bytes
+    c.deref.result.now (all_of c.args.objects.now) _ _ same c.in_ok-bytes.ensures.ok c.in_err-object.ensures.err (search rules)
+
+pub returns-in_err-label-clause-taken : goal.returns-in_err-label-clause-taken
+returns-in_err-label-clause-taken g c =
+    takes_out (g.O.Office.history c.args.office.now) (g.O.Office.history c.read_whole.new.office) c.args.path.now
+    c.in_ok-bytes.bytes.items (all_of c.args.objects.now) (all_of c.args.objects.now) _ c.in_ok-bytes.ensures.ok (search rules)
+
+pub returns-in_err-take-clause-taken : goal.returns-in_err-take-clause-taken
+returns-in_err-take-clause-taken g c =
+    takes_out (g.O.Office.history c.args.office.now) (g.O.Office.history c.read_whole.new.office) c.args.path.now
+    c.in_ok-bytes.bytes.items (all_of c.args.objects.now) (all_of c.take.new.self) _ c.in_ok-bytes.ensures.ok (search rules)

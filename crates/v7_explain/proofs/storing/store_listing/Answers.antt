@@ -1,0 +1,25 @@
+use Rattle.std.proofs.Common.{rules, ◌≡◌, refl, subst, inl, inr}
+use Rattle.std.specs.Prelude.{true}
+use Rattle.v7_explain.specs.Files.{listed}
+use Rattle.v7_explain.specs.Runs.{IsStoring}
+use Rattle.v7_explain.proofs.storing.store_listing.Goals as goal
+
+pub returns : goal.returns
+returns g c =
+    let between = g.O.Office.history c.read_whole.new.office in
+    let new = g.O.Office.history c.store.new.office in
+    let same : c.deref.result.now ≡ c.in_ok-bytes.bytes.items = search rules in
+    let said : c.in_ok-said.said ≡ listed true c.args.path.now c.in_ok-bytes.bytes.items =
+    subst (λ bytes. c.in_ok-said.said ≡ listed true c.args.path.now bytes) same c.in_ok-said.ensures in
+    inr (
+      c.in_ok-check_path.ensures,
+      inr (
+        c.in_ok-bytes.bytes.items,
+        between,
+        c.in_ok-bytes.ensures.ok,
+        inr (subst (λ answer. IsStoring c.args.to.now answer between new c.store.result) said c.store.ensures),
+      ),
+    )
+
+pub returns-in_err-check_path : goal.returns-in_err-check_path
+returns-in_err-check_path g c = inl (c.in_err-check_path.field-0.0, c.in_err-check_path.ensures, refl, search rules)

@@ -1,0 +1,191 @@
+-- What v7-explain says of a file, by its path and its bytes: a listing, its instructions, or why it is not an object. (own choice)
+--
+-- What goes to standard output comes with lines for standard error and a status: 1 if there is something to report.
+use Rattle.std.specs.Prelude.{ℕ, Bool, true, false, nat_lt, if◌then◌else◌, codes, decimal}
+use Rattle.std.specs.Prelude.{List, [], ◌∷◌, ◌++◌, length, map, Option, Some, None, Result, Ok, Err}
+use Rattle.std.specs.List.{flat_map}
+use Rattle.aout_core.specs.Contents.{Contents}
+use Rattle.aout_core.specs.Decoding.{decode, header_in}
+use Rattle.aout_core.specs.WellFormed.{first_object_fault}
+use Rattle.aout_core.specs.declared.file.ReadFault.{ReadFault}
+use Rattle.aout_core.specs.declared.file.ReadFault.TheVariants as faults
+use Rattle.aout_core.specs.declared.header.Header.{Header}
+use Rattle.aout_core.specs.declared.object.ObjectFault.{ObjectFault}
+use Rattle.aout_core.specs.declared.object.ObjectFault.TheVariants as refusals
+use Rattle.disassemblies.specs.Columns.{disassembly}
+use Rattle.disassemblies.specs.Starts.{starts}
+use Rattle.findings.specs.Found.{Found}
+use Rattle.findings.specs.Kinds.{kind_text, or_nothing}
+use Rattle.findings.specs.Notes.{byte_text, header_lines, note_text}
+use Rattle.findings.specs.Odd.{odd}
+use Rattle.findings.specs.OtherFiles.{is_of_gnu, likeness}
+use Rattle.findings.specs.Wrong.{wrong_bytes, wrong_words}
+use Rattle.instructions.specs.declared.unix.Decoder.TheVariants.{Unix}
+use Rattle.listings.specs.Listing.{listing, note_lines}
+use Rattle.surroundings.specs.Answer.{Answer}
+use Rattle.surroundings.specs.Answers.{only_errors}
+use Rattle.suspicions.specs.Suspicions.{suspicions}
+use Rattle.texts.specs.Lines.{text_of}
+use Rattle.texts.specs.Numbers.{octal}
+use Rattle.explanations.specs.Said.{explained, printed}
+
+abbrev pub program : List ℕ
+program = codes "v7-explain"
+
+-- that a file is in the form of GNU's assembler
+abbrev pub gnu_text : List ℕ
+gnu_text =
+    codes "this file has the form of GNU's assembler and of 2.11BSD, with symbols of 8 bytes and a table of strings: v7-from-gnu "
+    ++ codes "makes an object of it"
+
+-- a line for standard error begins with the program and the path
+unfoldable pub front_of : List ℕ → List ℕ → List ℕ
+front_of program path = program ++ codes ": " ++ path ++ codes ": "
+
+abbrev pub line_front : List ℕ → List ℕ
+line_front path = front_of program path
+
+unfoldable pub line_of : List ℕ → List ℕ → List ℕ
+line_of path text = line_front path ++ text ++ codes "\n"
+
+-- ---- findings
+
+abbrev pub found_text : Found → List ℕ
+found_text f = byte_text f.place ++ codes ": " ++ f.text
+
+-- as a note, after a word
+abbrev pub found_note : List ℕ → Found → List ℕ
+found_note word f = note_text (word ++ codes ": " ++ found_text f)
+
+abbrev pub found_notes : List ℕ → List Found → List (List ℕ)
+found_notes word found = map (found_note word) found
+
+-- on standard error, a line each
+abbrev pub reports : List ℕ → List Found → List ℕ
+reports path found = flat_map (λ f. line_of path (found_text f)) found
+
+-- ---- notes
+
+unfoldable pub title : List ℕ → ℕ → List ℕ
+title path size = codes " " ++ path ++ codes ": 0" ++ octal size ++ codes " (" ++ decimal size ++ codes ") bytes"
+
+-- a note with a text, if there is one
+abbrev pub note_if : Option (List ℕ) → List (List ℕ)
+note_if None = []
+note_if (Some text) = note_text text ∷ []
+
+abbrev pub gnu_notes : Bool → List ℕ → List (List ℕ)
+gnu_notes odd bytes = if is_of_gnu odd bytes then note_text gnu_text ∷ [] else []
+
+-- the path with the size, and what the file is unless it is damaged
+abbrev pub front_notes : List ℕ → List ℕ → Header → Option ObjectFault → List (List ℕ)
+front_notes path bytes h refused = title path (length bytes) ∷ [] ++ note_if (kind_text h refused)
+
+abbrev pub lines_of : List (List ℕ) → List ℕ
+lines_of notes = text_of (note_lines (map printed notes))
+
+-- ---- damage
+
+-- a word makes ld refuse it
+abbrev pub is_damaged : Option ObjectFault → Bool
+is_damaged (Some (refusals.BadRelocation _)) = true
+is_damaged (Some (refusals.BadSymbolNumber _)) = true
+is_damaged _ = false
+
+abbrev pub wrong_in : Option ObjectFault → Contents → List Found
+wrong_in refused c = if is_damaged refused then wrong_words c else []
+
+abbrev pub status_in : Option ObjectFault → ℕ
+status_in refused = if is_damaged refused then 1 else 0
+
+-- ---- a file
+
+-- the listing of a file, with notes before it and findings after it
+unfoldable pub listing_with : Contents → List (List ℕ) → List (List ℕ) → List ℕ
+listing_with c notes findings = listing (explained (starts Unix c) c notes findings) c
+
+abbrev pub list_notes : List ℕ → List ℕ → Contents → Option ObjectFault → List (List ℕ)
+list_notes path bytes c refused = front_notes path bytes c.header refused ++ header_lines c.header
+
+abbrev pub list_findings : List ℕ → Contents → Option ObjectFault → List (List ℕ)
+list_findings bytes c refused =
+    found_notes (codes "wrong") (wrong_in refused c) ++ found_notes (codes "odd") (odd bytes c) ++ found_notes (codes "odd") (suspicions c)
+    ++ gnu_notes false bytes
+
+-- what is wrong goes to standard error too, if it is reported
+abbrev pub reported : Bool → List ℕ → List Found → List ℕ
+reported tells path found = if tells then reports path found else []
+
+abbrev pub listed_as : Bool → List ℕ → List ℕ → Contents → Option ObjectFault → Answer
+listed_as tells path bytes c refused = record {
+  output = listing_with c (list_notes path bytes c refused) (list_findings bytes c refused);
+  errors = reported tells path (wrong_in refused c);
+  status = status_in refused;
+}
+
+abbrev pub disassembled_as : List ℕ → List ℕ → Contents → Option ObjectFault → Answer
+disassembled_as path bytes c refused = record {
+  output =
+      lines_of (front_notes path bytes c.header refused) ++ disassembly Unix c
+      ++ lines_of (found_notes (codes "wrong") (wrong_in refused c));
+  errors = [];
+  status = status_in refused;
+}
+
+-- why it is not an object, if it is not: its name, or each bad word
+abbrev pub checked_as : List ℕ → Contents → Option ObjectFault → Answer
+checked_as path c None = only_errors [] 0
+checked_as path c (Some refused) =
+    if is_damaged (Some refused) then only_errors (reports path (wrong_words c)) 1
+    else only_errors (line_of path (or_nothing (kind_text c.header (Some refused)))) 1
+
+-- ---- bytes that are not a file
+
+-- what else they are, if it is known
+abbrev pub likeness_of : ReadFault → List ℕ → Option (List ℕ)
+likeness_of faults.BadMagic bytes = likeness bytes
+likeness_of faults.ShortHeader bytes = likeness bytes
+likeness_of _ bytes = None
+
+-- the header, unless it is known what else they are
+abbrev pub header_notes : Option (List ℕ) → List ℕ → List (List ℕ)
+header_notes None bytes = if nat_lt (length bytes) 16 then [] else header_lines (header_in bytes)
+header_notes (Some text) bytes = []
+
+abbrev pub refused_notes : List ℕ → List ℕ → ReadFault → List (List ℕ)
+refused_notes path bytes fault =
+    title path (length bytes) ∷ [] ++ header_notes (likeness_of fault bytes) bytes ++ found_notes (codes "wrong") (wrong_bytes fault bytes)
+    ++ note_if (likeness_of fault bytes) ++ gnu_notes true bytes
+
+abbrev pub refused_as : Bool → List ℕ → List ℕ → ReadFault → Answer
+refused_as tells path bytes fault = record {
+  output = lines_of (refused_notes path bytes fault);
+  errors = reported tells path (wrong_bytes fault bytes);
+  status = 1;
+}
+
+-- a line with a text, if there is one
+abbrev pub line_if : List ℕ → Option (List ℕ) → List ℕ
+line_if path None = []
+line_if path (Some text) = line_of path text
+
+abbrev pub gnu_line : List ℕ → List ℕ → List ℕ
+gnu_line path bytes = if is_of_gnu true bytes then line_of path gnu_text else []
+
+abbrev pub refused_lines : List ℕ → List ℕ → ReadFault → List ℕ
+refused_lines path bytes fault = reports path (wrong_bytes fault bytes) ++ line_if path (likeness_of fault bytes) ++ gnu_line path bytes
+
+-- ---- bytes
+
+abbrev pub by_reading : (Contents → Option ObjectFault → Answer) → (ReadFault → Answer) → Result Contents ReadFault → Answer
+by_reading file refused (Ok c) = file c (first_object_fault c)
+by_reading file refused (Err fault) = refused fault
+
+abbrev pub listed : Bool → List ℕ → List ℕ → Answer
+listed tells path bytes = by_reading (listed_as tells path bytes) (refused_as tells path bytes) (decode bytes)
+
+abbrev pub disassembled : List ℕ → List ℕ → Answer
+disassembled path bytes = by_reading (disassembled_as path bytes) (refused_as false path bytes) (decode bytes)
+
+abbrev pub checked : List ℕ → List ℕ → Answer
+checked path bytes = by_reading (checked_as path) (λ fault. only_errors (refused_lines path bytes fault) 1) (decode bytes)

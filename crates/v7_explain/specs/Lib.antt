@@ -1,0 +1,6 @@
+pub mod Files
+pub mod Joined
+pub mod MapTexts
+pub mod Maps
+pub mod Runs
+pub mod internal

@@ -1,0 +1,175 @@
+-- The map of a link: which files are opened, what is said of those that are not objects, and the map with its status. (own choice)
+--
+-- The files are those that `ld` takes with the same arguments. Each is read whole before the next one is opened. There is a map if all are
+-- objects; else the answer has a line for each that is not.
+use Rattle.std.specs.Prelude.{◌≡◌, ◌⊎◌, ℕ, List, [], ◌∷◌, ◌++◌, eqb, map, Option, Some, None, Result, Ok, Err, codes, decimal, string_bytes}
+use Rattle.aout_core.specs.Contents.{Contents}
+use Rattle.aout_core.specs.Decoding.{decode}
+use Rattle.aout_core.specs.WellFormed.{first_object_fault, first_of}
+use Rattle.aout_core.specs.declared.file.ReadFault.{ReadFault}
+use Rattle.aout_core.specs.declared.file.ReadFault.TheVariants as reads
+use Rattle.aout_core.specs.declared.object.ObjectFault.{ObjectFault}
+use Rattle.aout_core.specs.declared.object.ObjectFault.TheVariants.{NotAnObject, NoRelocation, BadRelocation, BadSymbolNumber}
+use Rattle.command_words.specs.Calls.{AsksForNone, IsAsked, IsWhole, dashes_in, files_of}
+use Rattle.command_words.specs.declared.fault.WordsFault.TheVariants.{Usage}
+use Rattle.command_words.specs.declared.words.Call.{Call}
+use Rattle.command_words.specs.declared.words.Call.TheVariants.{Ld}
+use Rattle.link_maps.specs.Maps.{IsMapOf}
+use Rattle.link_maps.specs.Members.{cause_of, left_of}
+use Rattle.link_maps.specs.declared.map.LinkMap.{LinkMap}
+use Rattle.link_maps.specs.declared.members.Objects.{Objects}
+use Rattle.link_out.specs.declared.linked.LinkFault.{LinkFault}
+use Rattle.link_out.specs.function.Link.{Outcome, link}
+use Rattle.link_out.specs.function.Reports.{status_of}
+use Rattle.link_session.specs.declared.entry.AddFault.{AddFault}
+use Rattle.link_session.specs.Labelled.{Labelled, objects}
+use Rattle.link_session.specs.Limits.{refusal}
+use Rattle.surroundings.specs.Answer.{Answer}
+use Rattle.surroundings.specs.Answers.{AnswersOr, failed_at, only_errors, says_usage}
+use Rattle.surroundings.specs.Events.{History, Extends, opened}
+use Rattle.surroundings.specs.Sources.{ReadsAt, unread_text}
+use Rattle.surroundings.specs.declared.answer.Fault.{Fault}
+use Rattle.surroundings.specs.declared.answer.Fault.TheVariants as faults
+use Rattle.tool_options.specs.Choices.{Choices}
+use Rattle.v7_explain.specs.Files.{line_of, program}
+use Rattle.v7_explain.specs.Joined.{either, joined, nothing_said, usage}
+use Rattle.v7_explain.specs.MapTexts.{map_text}
+
+-- ---- objects
+
+abbrev pub read_text : ReadFault → List ℕ
+read_text reads.ShortHeader = codes "short header"
+read_text reads.BadMagic = codes "bad magic number"
+read_text reads.OddSize = codes "odd size"
+read_text reads.Truncated = codes "truncated"
+read_text reads.Device = codes "read error"
+read_text reads.Memory = codes "no memory"
+
+abbrev pub at_word : List ℕ → ℕ → List ℕ
+at_word text n = text ++ codes " at word " ++ decimal n
+
+abbrev pub object_text : ObjectFault → List ℕ
+object_text NotAnObject = codes "not an object"
+object_text NoRelocation = codes "no relocation"
+object_text (BadRelocation n) = at_word (codes "bad relocation") n
+object_text (BadSymbolNumber n) = at_word (codes "bad symbol number") n
+
+-- a file is refused, with the status 1
+abbrev pub refused_for : List ℕ → List ℕ → Answer
+refused_for path text = only_errors (line_of path text) 1
+
+abbrev pub if_object : List ℕ → Contents → Option ObjectFault → Result Contents Answer
+if_object path c None = Ok c
+if_object path c (Some fault) = Err (refused_for path (object_text fault))
+
+abbrev pub if_file : List ℕ → Result Contents ReadFault → Result Contents Answer
+if_file path (Ok c) = if_object path c (first_object_fault c)
+if_file path (Err fault) = Err (refused_for path (read_text fault))
+
+-- the object in the bytes of a file, or why there is none
+abbrev pub object_in : List ℕ → List ℕ → Result Contents Answer
+object_in path bytes = if_file path (decode bytes)
+
+-- the file at a path is read, or it is not opened or not read
+abbrev pub TakesAt : History → History → List ℕ → Result Contents Answer → Type 0
+TakesAt old new path found =
+    ((bytes : List ℕ) × ReadsAt old new path bytes × (found ≡ object_in path bytes))
+    ⊎ ((why : Option (Option (List ℕ))) × Extends old new (opened path why ∷ []) × (found ≡ Err (failed_at program path (unread_text why))))
+
+-- the objects so far, and what was said of files that are not objects
+pub record Taken : Type 0 where
+  pub objects : List Labelled
+  pub said : Answer
+
+abbrev pub with_found : Taken → List ℕ → Result Contents Answer → Taken
+with_found taken path (Ok o) = record taken { objects = taken.objects ++ record { label = path; object = o } ∷ [] }
+with_found taken path (Err answer) = record taken { said = joined taken.said answer }
+
+-- these files are taken after others: what there is then, or memory runs out
+abbrev pub IsTaking : History → History → Taken → List (List ℕ) → Result Taken Fault → Type 0
+IsTaking old new taken [] result = (new ≡ old) × (result ≡ Ok taken)
+IsTaking old new taken (path ∷ paths) result =
+    (found : Result Contents Answer) × (between : History) × TakesAt old between path found
+    × (((new ≡ between) × (result ≡ Err faults.Memory)) ⊎ IsTaking between new (with_found taken path found) paths result)
+
+-- ---- the map
+
+-- the objects that a session keeps, the limit that the next one passes, and that one with those after it
+pub record Split : Type 0 where
+  pub kept : List Labelled
+  pub cause : Option AddFault
+  pub left : List Labelled
+
+abbrev pub not_split : Split
+not_split = record { kept = []; cause = None; left = [] }
+
+abbrev pub split_by : Split → Labelled → Option AddFault → Split
+split_by s x None = record { kept = s.kept ++ x ∷ []; cause = None; left = [] }
+split_by s x (Some limit) = record { kept = s.kept; cause = Some limit; left = s.left ++ x ∷ [] }
+
+-- with one more object; after one that is refused all are left
+abbrev pub with_object : List (List ℕ) → Split → Labelled → Split
+with_object forced s x = split_by s x (first_of s.cause (refusal forced (objects s.kept) x.object))
+
+abbrev pub split_from : List (List ℕ) → Split → List Labelled → Split
+split_from forced s [] = s
+split_from forced s (x ∷ xs) = split_from forced (with_object forced s x) xs
+
+abbrev pub split : List (List ℕ) → List Labelled → Split
+split forced xs = split_from forced not_split xs
+
+abbrev pub status_linked : Result Outcome LinkFault → ℕ
+status_linked (Ok made) = status_of made.report
+status_linked (Err fault) = 1
+
+abbrev pub status_by : Option AddFault → Result Outcome LinkFault → ℕ
+status_by None made = status_linked made
+status_by (Some limit) made = 1
+
+-- 0 for a link with nothing to report, and 1 for one that is refused too
+abbrev pub map_status : List (List ℕ) → Choices → Split → ℕ
+map_status forced choices s = status_by s.cause (link forced (objects s.kept) choices)
+
+-- these objects, as a session with these forced names takes them
+pub record AreTaken (forced : List (List ℕ)) (xs : List Labelled) (o : Objects) : Type 0 where
+  pub forced_names : o.session.forced ≡ forced
+  pub kept : o.session.entries ≡ (split forced xs).kept
+  pub cause : cause_of o.refused ≡ (split forced xs).cause
+  pub left : left_of o.refused ≡ (split forced xs).left
+
+-- the map of these objects, with its status; or memory ran out for it
+abbrev pub IsMap : List (List ℕ) → Choices → List Labelled → Result Answer Fault → Type 0
+IsMap forced choices xs result =
+    (result ≡ Err faults.Memory)
+    ⊎ ((o : Objects) × (m : LinkMap) × AreTaken forced xs o × IsMapOf o forced choices m
+    × (result ≡ Ok (record { output = map_text choices o m; errors = []; status = map_status forced choices (split forced xs) })))
+
+-- there is a map if each file is an object
+abbrev pub MapsTaken : List (List ℕ) → Choices → Result Answer Fault → Taken → Type 0
+MapsTaken forced choices result taken =
+    either (eqb taken.said.status 0) (IsMap forced choices taken.objects result) (result ≡ Ok taken.said)
+
+abbrev pub nothing_taken : Taken
+nothing_taken = record { objects = []; said = nothing_said }
+
+abbrev pub IsMapping : List (List ℕ) → Choices → List (List ℕ) → History → History → Result Answer Fault → Type 0
+IsMapping forced choices paths old new result =
+    (IsTaking old new nothing_taken paths (Err faults.Memory) × (result ≡ Err faults.Memory))
+    ⊎ ((taken : Taken) × IsTaking old new nothing_taken paths (Ok taken) × MapsTaken forced choices result taken)
+
+-- the files of a call of ld are mapped
+abbrev pub MapsCall : Call → History → History → Result Answer Fault → Type 0
+MapsCall (Ld options forced out files) old new result = IsMapping forced options (map string_bytes files.items) old new result
+MapsCall _ old new result = (new ≡ old) × AnswersOr result (says_usage usage)
+
+-- the arguments after -m are those of ld
+abbrev pub link_words : List (List ℕ) → List (List ℕ)
+link_words words = codes "ld" ∷ words
+
+-- memory runs out for the arguments, or they ask for no call, or for one that is mapped
+abbrev pub IsMapCall : List (List ℕ) → History → History → Result Answer Fault → Type 0
+IsMapCall words old new result =
+    ((new ≡ old) × (result ≡ Err faults.Memory))
+    ⊎ (AsksForNone (link_words words) Usage × (new ≡ old) × AnswersOr result (says_usage usage))
+    ⊎ ((call : Call) × IsWhole call × IsAsked (link_words words) call × (dashes_in (link_words words) ≡ dashes_in (files_of call))
+    × (((new ≡ old) × (result ≡ Err faults.Memory)) ⊎ MapsCall call old new result))

@@ -1,0 +1,132 @@
+-- What v7-explain does with its arguments: what it opens, reads and stores, what it writes, and its status. (own choice)
+--
+-- Each file is read whole and explained before the next one is opened. The answer has what is said of each, in order, and the largest
+-- status. If memory runs out, that is the answer, and nothing was stored.
+use Rattle.std.specs.Prelude.{◌≡◌, ◌⊎◌, ℕ, Bool, true, false, not, eqb, nat_eq, if◌then◌else◌, bytes_eq, codes}
+use Rattle.std.specs.Prelude.{List, [], ◌∷◌, Option, Some, None, Result, Ok, Err}
+use Rattle.std.specs.List.{starts_with}
+use Rattle.surroundings.specs.Answer.{Answer}
+use Rattle.surroundings.specs.Answers.{AnswersOr, Checks, Gives, HasAnswer, IsShownOr}
+use Rattle.surroundings.specs.Answers.{answer_in, failed_at, only_errors, says_usage, shown_in}
+use Rattle.surroundings.specs.Events.{History, Extends, Surroundings, opened, written}
+use Rattle.surroundings.specs.Paths.{path_answer}
+use Rattle.surroundings.specs.Sources.{EndsReading, ReadsAt, stored_text, unread_text}
+use Rattle.surroundings.specs.declared.answer.Fault.{Fault}
+use Rattle.surroundings.specs.declared.answer.Fault.TheVariants as faults
+use Rattle.surroundings.specs.declared.office.Stored.{Stored}
+use Rattle.v7_explain.specs.Files.{checked, disassembled, listed, program}
+use Rattle.v7_explain.specs.Joined.{either, joined, nothing_said, usage}
+use Rattle.v7_explain.specs.Maps.{IsMapCall}
+use Rattle.v7_explain.specs.declared.explaining.Mode.{Mode}
+use Rattle.v7_explain.specs.declared.explaining.Mode.TheVariants.{Listing, Disassembly, Check}
+
+-- ---- files one after another
+
+-- what is said of a file with this path and these bytes
+abbrev pub said_of : Mode → List ℕ → List ℕ → Answer
+said_of Listing path bytes = listed false path bytes
+said_of Disassembly path bytes = disassembled path bytes
+said_of Check path bytes = checked path bytes
+
+-- the file at a path is read and explained, or it is not opened or not read, and a line says so
+abbrev pub SaysAt : Mode → History → History → List ℕ → Answer → Type 0
+SaysAt mode old new path said =
+    ((bytes : List ℕ) × ReadsAt old new path bytes × (said ≡ said_of mode path bytes))
+    ⊎ ((found : Option (Option (List ℕ))) × Extends old new (opened path found ∷ []) × (said ≡ failed_at program path (unread_text found)))
+
+abbrev pub Explains : Mode → History → History → List ℕ → Result Answer Fault → Type 0
+Explains mode old new path result = (said : Answer) × SaysAt mode old new path said × AnswersOr result said
+
+-- what is said of each file, after what was said before; or memory runs out after a file
+abbrev pub IsExplaining : Mode → History → History → Answer → List (List ℕ) → Result Answer Fault → Type 0
+IsExplaining mode old new said [] result = (new ≡ old) × AnswersOr result said
+IsExplaining mode old new said (path ∷ paths) result =
+    (more : Answer) × (between : History) × SaysAt mode old between path more
+    × (((new ≡ between) × (result ≡ Err faults.Memory)) ⊎ IsExplaining mode between new (joined said more) paths result)
+
+-- ---- a listing that is stored
+
+-- what is said without the listing
+abbrev pub rest_of : Answer → Answer
+rest_of said = only_errors said.errors said.status
+
+-- what is said once the listing was to be stored, or why it was not stored
+abbrev pub AnswersStored : List ℕ → Answer → Option (List ℕ) → Result Answer Fault → Type 0
+AnswersStored to said None result = result ≡ Ok (rest_of said)
+AnswersStored to said (Some why) (Ok answer) = ⊥
+AnswersStored to said (Some why) (Err fault) = HasAnswer fault (failed_at program to why)
+
+-- the listing is stored if there is nothing to report
+abbrev pub IsStoring : List ℕ → Answer → History → History → Result Answer Fault → Type 0
+IsStoring to said old new result =
+    either (eqb said.status 0)
+    ((what : Stored) × Extends old new (written to said.output what ∷ []) × AnswersStored to said (stored_text what) result)
+    ((new ≡ old) × (result ≡ Ok (rest_of said)))
+
+-- the bytes of a file are listed, and the listing is stored; or memory ran out before
+abbrev pub AfterReading : List ℕ → List ℕ → List ℕ → History → History → Result Answer Fault → Type 0
+AfterReading to path bytes old new result =
+    ((new ≡ old) × (result ≡ Err faults.Memory)) ⊎ IsStoring to (listed true path bytes) old new result
+
+abbrev pub ReadsAndStores : List ℕ → List ℕ → History → History → Result Answer Fault → Type 0
+ReadsAndStores to path old new result =
+    ((fault : Fault) × EndsReading program old new path fault × (result ≡ Err fault))
+    ⊎ ((bytes : List ℕ) × (between : History) × ReadsAt old between path bytes × AfterReading to path bytes between new result)
+
+-- the paths are refused before anything is opened, or else the file is read and its listing stored
+abbrev pub StoresListing : List ℕ → List ℕ → History → History → Result Answer Fault → Type 0
+StoresListing to path old new result =
+    ((fault : Fault) × Checks (path_answer program path to) (Err fault) × (new ≡ old) × (result ≡ Err fault))
+    ⊎ ((path_answer program path to ≡ None) × ReadsAndStores to path old new result)
+
+-- ---- arguments
+
+-- what the arguments ask for: to explain files, to store the listing of a file, or the map of a link
+pub data Call : Type 0 where
+  explain : Mode → List (List ℕ) → Call
+  store : List ℕ → List ℕ → Call
+  map_link : List (List ℕ) → Call
+
+-- paths, of which the first does not begin with a hyphen
+abbrev pub are_files : List (List ℕ) → Bool
+are_files [] = false
+are_files (word ∷ words) = not (starts_with nat_eq word (codes "-"))
+
+abbrev pub explaining : Mode → List (List ℕ) → Option Call
+explaining mode words = if are_files words then Some (explain mode words) else None
+
+abbrev pub storing_at : List ℕ → List ℕ → Option Call
+storing_at to path = if starts_with nat_eq path (codes "-") then None else Some (store to path)
+
+abbrev pub storing : List (List ℕ) → Option Call
+storing (to ∷ path ∷ []) = storing_at to path
+storing _ = None
+
+abbrev pub asked_in : List (List ℕ) → Option Call
+asked_in [] = None
+asked_in (first ∷ rest) =
+    if bytes_eq first (codes "-o") then storing rest
+    else (if bytes_eq first (codes "-c") then explaining Check rest
+    else (if bytes_eq first (codes "-d") then explaining Disassembly rest
+    else (if bytes_eq first (codes "-m") then Some (map_link rest)
+    else explaining Listing (first ∷ rest))))
+
+-- ---- the program
+
+-- that is done, or how the program is called goes to standard error
+abbrev pub IsCall : Option Call → History → History → Result Answer Fault → Type 0
+IsCall None old new result = (new ≡ old) × AnswersOr result (says_usage usage)
+IsCall (Some (explain mode paths)) old new result = IsExplaining mode old new nothing_said paths result
+IsCall (Some (store to path)) old new result = StoresListing to path old new result
+IsCall (Some (map_link words)) old new result = IsMapCall words old new result
+
+-- what the arguments ask for is done
+abbrev pub IsAnswer : List (List ℕ) → History → History → Result Answer Fault → Type 0
+IsAnswer words old new result = IsShownOr program usage (shown_in words) old new result (IsCall (asked_in words) old new result)
+
+-- what the arguments ask for is done, and its answer is written
+abbrev pub PerformsExplain : {W E : Type 0} → (W → Option (List ℕ)) → (E → Option (List ℕ)) → List (List ℕ) →
+    Surroundings W E → Surroundings W E → ℕ → Type 0
+PerformsExplain contents error_contents words before after status =
+    (result : Result Answer Fault) × IsAnswer words before.asked after.asked result
+    × Gives contents error_contents program (answer_in program result) before.output after.output before.error after.error status

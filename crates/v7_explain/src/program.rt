@@ -1,0 +1,119 @@
+//! The program, over any files and any streams.
+ghost use Rattle.std.specs.Prelude.{◌≡◌, map, string_bytes};
+ghost use Rattle.v7_explain.specs.Runs.{IsAnswer, IsCall, PerformsExplain, are_files, asked_in, explaining, storing, storing_at};
+
+use crate::explaining::{Mode, explain_each};
+use crate::map::map_files;
+use crate::storing::store_listing;
+use std::alloc::Global;
+use std::io::Write;
+use surroundings::{Answer, Fault, Office, Outputs, give, shown_answer, shown_in, usage_answer};
+
+/// The name of the program.
+pub(crate) const NAME: &str = "v7-explain";
+
+/// How it is called.
+pub(crate) const USAGE: &str = "usage: v7-explain FILE...
+       v7-explain -o LISTING FILE
+       v7-explain -c FILE...
+       v7-explain -d FILE...
+       v7-explain -m [OPTIONS OF LD] FILE...
+       v7-explain --help | --version
+";
+
+/// Whether these are paths, of which the first is not an option.
+fn are_files(words: &[String]) -> bool
+    ensures { result ≡ are_files (map string_bytes words.now) }
+{
+    match words {
+        [] => false,
+        [first, ..] => !first.as_bytes().starts_with(b"-"),
+    }
+}
+
+/// Explains files, if these are paths.
+fn answer_files<O: Office>(
+    alloc: Global,
+    office: &mut O,
+    mode: Mode,
+    words: &[String],
+) -> Result<Answer, Fault>
+    ensures { IsCall (explaining mode (map string_bytes words.now)) (O.history office.old) (O.history office.new) result }
+{
+    if !are_files(words) {
+        return Ok(usage_answer(alloc, USAGE)?);
+    }
+    explain_each(alloc, office, mode, words)
+}
+
+/// Stores the listing of a file at a path, unless the path of the file begins with a hyphen.
+fn answer_two<O: Office>(
+    alloc: Global,
+    office: &mut O,
+    to: &str,
+    path: &str,
+) -> Result<Answer, Fault>
+    ensures { IsCall (storing_at to.now path.now) (O.history office.old) (O.history office.new) result }
+{
+    if path.as_bytes().starts_with(b"-") {
+        return Ok(usage_answer(alloc, USAGE)?);
+    }
+    store_listing(alloc, office, to, path)
+}
+
+/// Stores the listing of a file, if these are the path of the listing and that of the file.
+fn answer_stored<O: Office>(
+    alloc: Global,
+    office: &mut O,
+    words: &[String],
+) -> Result<Answer, Fault>
+    ensures { IsCall (storing (map string_bytes words.now)) (O.history office.old) (O.history office.new) result }
+{
+    match words {
+        [to, path] => answer_two(alloc, office, to.as_str(), path.as_str()),
+        _ => Ok(usage_answer(alloc, USAGE)?),
+    }
+}
+
+/// Does what the first argument asks for with those after it.
+fn answer_words<O: Office>(alloc: Global, office: &mut O, words: &[String]) -> Result<Answer, Fault>
+    ensures { IsCall (asked_in (map string_bytes words.now)) (O.history office.old) (O.history office.new) result }
+{
+    let [first, rest @ ..] = words else {
+        return Ok(usage_answer(alloc, USAGE)?);
+    };
+    match first.as_str() {
+        "-o" => answer_stored(alloc, office, rest),
+        "-c" => answer_files(alloc, office, Mode::Check, rest),
+        "-d" => answer_files(alloc, office, Mode::Disassembly, rest),
+        "-m" => map_files(alloc, office, rest),
+        _ => answer_files(alloc, office, Mode::Listing, words),
+    }
+}
+
+/// Does what the arguments ask for, and returns what is written at the end.
+#[tactic(auto, using(surroundings::proofs::ShownLemmas::by_shown))]
+fn answer<O: Office>(alloc: Global, office: &mut O, words: &[String]) -> Result<Answer, Fault>
+    ensures { IsAnswer (map string_bytes words.now) (O.history office.old) (O.history office.new) result }
+{
+    match shown_in(words) {
+        Some(shown) => Ok(shown_answer(alloc, NAME, USAGE, shown)?),
+        None => answer_words(alloc, office, words),
+    }
+}
+
+/// Does what the arguments ask for, over any `Office` and any streams, and returns the status of the program: 0 if there is nothing to
+/// report, 1 if there is something, and 2 for another fault. (own choice)
+pub fn perform<O: Office, W: Write, E: Write>(
+    alloc: Global,
+    office: &mut O,
+    outputs: &mut Outputs<W, E>,
+    words: &[String],
+) -> u8
+    ensures { PerformsExplain W.contents E.contents (map string_bytes words.now)
+        (record { asked = O.history office.old; output = outputs.old.output; error = outputs.old.error })
+        (record { asked = O.history office.new; output = outputs.new.output; error = outputs.new.error }) result }
+{
+    let answer = answer(alloc, office, words);
+    give(NAME, &answer, outputs)
+}

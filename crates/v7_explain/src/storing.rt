@@ -1,0 +1,49 @@
+//! The listing of a file, stored in place of being written to standard output.
+ghost use Rattle.std.specs.Prelude.{◌≡◌};
+ghost use Rattle.v7_explain.specs.Runs.{IsStoring, StoresListing};
+
+use crate::listing::list;
+use crate::program::NAME;
+use crate::source::Source;
+use std::alloc::Global;
+use surroundings::{Answer, Fault, Office, check_path, fault_at, read_whole, stored_text};
+
+/// Stores a listing, if nothing is wrong with the file; else the answer says what is wrong.
+fn store<O: Office>(alloc: Global, office: &mut O, to: &str, said: Answer) -> Result<Answer, Fault>
+    ensures { IsStoring to.now said (O.history office.old) (O.history office.new) result }
+{
+    let Answer {
+        output,
+        errors,
+        status,
+    } = said;
+    if status == 0 {
+        if let Some(why) = stored_text(office.store_text(to, &output)) {
+            return Err(fault_at(alloc, NAME, to, why));
+        }
+    }
+    Ok(Answer {
+        output: Vec::new(alloc),
+        errors,
+        status,
+    })
+}
+
+/// Stores the listing of the file at a path, if nothing is wrong with the file.
+pub(crate) fn store_listing<O: Office>(
+    alloc: Global,
+    office: &mut O,
+    to: &str,
+    path: &str,
+) -> Result<Answer, Fault>
+    ensures { StoresListing to.now path.now (O.history office.old) (O.history office.new) result }
+{
+    check_path(alloc, NAME, path, to)?;
+    let bytes = read_whole(alloc, office, NAME, path)?;
+    let source = Source {
+        path,
+        bytes: &bytes,
+    };
+    let said = list(alloc, source, true)?;
+    store(alloc, office, to, said)
+}
