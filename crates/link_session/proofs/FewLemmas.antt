@@ -1,14 +1,13 @@
 -- How many marks there are once chains are bound, and that they are no more than an addition may leave.
 use Rattle.std.proofs.Common.{◌≡◌, ◌≤◌, ◌+◌, ℕ, Bool, cond, List, [], ◌∷◌, ◌++◌, map, length, Option, Some, None}
-use Rattle.std.proofs.Common.{is_some, Result, Ok, Err, refl, sym, ap, ◌∙◌, arith, length-append}
-use Rattle.std.specs.Prelude.{filter, OnOk}
+use Rattle.std.proofs.Common.{is_some, refl, ap, ◌∙◌, arith, length-append}
+use Rattle.std.specs.Prelude.{filter}
 use Rattle.std.specs.List.{AllByRecursion}
 use Rattle.std.proofs.lemmas.List.{length-map}
 use Rattle.aout_core.specs.declared.symbol.Segment.{Segment}
 use Rattle.aout_core.specs.declared.symbol.Segment.TheVariants as segments
 use Rattle.aout_core.specs.Contents.{Contents}
 use Rattle.link_session.specs.declared.cell.Cell.{Cell}
-use Rattle.link_session.specs.declared.state.State.{State}
 use Rattle.link_session.specs.declared.state.State.TheVariants.{Defined}
 use Rattle.link_session.specs.declared.mark.Mark.{Mark}
 use Rattle.link_session.specs.declared.mark.Mark.TheVariants.{CellWas}
@@ -20,8 +19,8 @@ use Rattle.link_session.specs.Cells.{cells}
 use Rattle.link_session.specs.Bounds.{is_defined_by, waiting_in, most_marks}
 use Rattle.link_session.specs.Sessions.{IsObject}
 use Rattle.link_session.specs.Image.{Named, state_at}
-use Rattle.link_session.specs.internal.Additions.{bound_by, bound_or, next_named}
-use Rattle.link_session.specs.internal.Chains.{Link, Waits, waits_at, bound_if, cell_at, marks_of}
+use Rattle.link_session.specs.internal.Additions.{next_named}
+use Rattle.link_session.specs.internal.Chains.{Link, Waits, cell_at, marks_of}
 use Rattle.link_session.specs.internal.Settled.{settled_at}
 use Rattle.link_session.specs.internal.Counts.{to_bind, NotesWaiting, NotesBound}
 use Rattle.link_session.specs.internal.Restores.{TakesBack}
@@ -51,18 +50,6 @@ defined_noted es k segment offset at texts datas new_texts new_datas old new t d
     let nt = ap (λ (cs : List Cell). length (to_bind es cs)) t in
     let nd = ap (λ (cs : List Cell). length (to_bind es cs)) d in
     omega (arith, e)
-
--- the same where a call that may fail has bound and marked them
-pub defined_noted_ok : {T E : Type 0} (r : Result T E) (es : Named) (k : ℕ) (segment : Segment) (offset : ℕ) →
-    state_at es k ≡ Defined segment offset → (texts datas new_texts new_datas : List Cell) (old new : List Mark) →
-    OnOk r (new_texts ≡ map (bound_if k segment offset) texts) → OnOk r (new_datas ≡ map (bound_if k segment offset) datas) →
-    OnOk r (NotesWaiting k texts datas old new) → OnOk r (NotesBound es texts datas new_texts new_datas old new)
-defined_noted_ok (Err e) es k segment offset at texts datas new_texts new_datas old new t d h = tt
-defined_noted_ok (Ok x) es k segment offset at texts datas new_texts new_datas old new t d h =
-    defined_noted es k segment offset at texts datas new_texts new_datas old new (t ∙ settles texts) (d ∙ settles datas) h
-  where
-    settles : (cs : List Cell) → map (bound_if k segment offset) cs ≡ map (settled_at es k) cs
-    settles cs = ap (λ (s : State). map (λ (c : Cell). cond (waits_at k c.target) (bound_or (bound_by s c) c) c) cs) (sym at)
 
 -- marks after marks
 pub noted_then : (es : Named) (texts datas mid_texts mid_datas new_texts new_datas : List Cell) (old mid new : List Mark) →

@@ -49,3 +49,4 @@ pub mod PlacedCellLemmas
 pub mod ExternalLemmas
 pub mod AgreementLemmas
 pub mod NeighbourLemmas
+pub mod BindingLemmas

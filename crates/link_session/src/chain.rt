@@ -14,7 +14,7 @@
 //! - A withdrawal first takes the object's own cells out of the front, the last first. Then it puts the marks back, the
 //!   last first: each cell becomes the head again, and its link still names the cell after it.
 ghost use Rattle.std.specs.Prelude.{◌≡◌, ◌≤◌, length, slice_index_or, slice_set, None, Some, vec_capacity};
-ghost use Rattle.link_session.specs.internal.Chains.{link_at, head_for, with_head, unthreaded};
+ghost use Rattle.link_session.specs.internal.Chains.{head_for, with_head, unthreaded};
 ghost use Rattle.link_session.specs.internal.Threads.{grown_heads};
 
 use crate::cell::{Cell, Target};
@@ -23,29 +23,12 @@ use crate::mark::Place;
 /// The next place of a chain, or its end.
 pub(crate) type Link = Option<Place>;
 
-/// The links of all cells.
-#[derive(Clone, Copy)]
-pub(crate) struct Links<'a> {
-    pub(crate) text: &'a [Link],
-    pub(crate) data: &'a [Link],
-}
-
 pub(crate) fn link_in(links: &[Link], index: u16) -> Link
     ensures { result ≡ slice_index_or links.now index None }
 {
     match links.get(index as usize) {
         Some(link) => *link,
         None => None,
-    }
-}
-
-/// The link of a place.
-pub(crate) fn link_at(links: &Links<'_>, place: Place) -> Link
-    ensures { result ≡ link_at links.now.text.now links.now.data.now place }
-{
-    match place {
-        Place::InText(index) => link_in(links.text, index),
-        Place::InData(index) => link_in(links.data, index),
     }
 }
 

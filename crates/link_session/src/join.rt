@@ -1,22 +1,24 @@
 //! An object joined to the merged image.
-ghost use Rattle.std.specs.Prelude.{◌≡◌, ◌+◌, ◌*◌, ◌≤◌, ◌++◌, None, filter, length, map, vec_len, vec_capacity, OnOk, OnErr, IfOk};
+ghost use Rattle.std.specs.Prelude.{◌≡◌, ◌+◌, ◌*◌, ◌≤◌, ◌<◌, None, filter, length, vec_len, vec_capacity, OnOk, OnErr, IfOk};
 ghost use Rattle.indexmap.specs.IndexMap.{spare};
 ghost use Rattle.aout_core.specs.declared.symbol.Segment.TheVariants as segments;
 ghost use Rattle.aout_core.specs.Contents.{Fits};
 ghost use Rattle.aout_core.specs.WellFormed.{is_external, IsWellFormed};
-ghost use Rattle.link_session.specs.internal.Fields.{image_in, threads_in, with_cells, with_heads, with_own_cells, with_own_threads, HoldsChains, LeavesMarksIn, NotesBoundIn, KeepsCapacity, IsSmall};
+ghost use Rattle.link_session.specs.internal.Fields.{image_in, threads_in, with_own_cells, with_own_threads, IsSmall};
 ghost use Rattle.link_session.specs.internal.Restores.{TakesBack};
-ghost use Rattle.link_session.specs.internal.Settled.{settled_over, IsCovered};
-ghost use Rattle.link_session.specs.internal.Threads.{cut_heads, next_threads, IsThreaded};
+ghost use Rattle.link_session.specs.internal.Settled.{IsCovered};
+ghost use Rattle.link_session.specs.internal.Threads.{next_threads, IsThreaded};
 ghost use Rattle.link_session.specs.internal.Additions.{all_places, joined_image, next_limit};
 
-use crate::bind::{Mentioned, bind_names};
+use crate::bind::bind_waiting;
 use crate::cell::Cell;
-use crate::chain::{Link, Links, grow_heads};
+use crate::chain::{Link, grow_heads};
+use crate::entry::Entry;
 use crate::mark::Mark;
 use crate::mention::{Table, count_external, enter_all};
 use crate::merged::{Externals, Merged};
 use crate::relocate::{Scope, Shifts, Words, append_cells, next_shifts};
+use crate::session::UndoRecord;
 use crate::undo::undo;
 use aout_core::{File, Name, Object, Segment};
 use std::alloc::{AllocError, Global};
@@ -163,40 +165,11 @@ fn append_object(image: &mut Merged, file: &File, shifts: &Shifts, places: &[u16
     image.bss_total += bss_size;
 }
 
-/// Binds the cells that wait for the externals at these places, as far as they are defined, and marks them. After an
-/// error the marks bring back what was bound.
-fn bind_waiting(image: &mut Merged, places: &[u16], marks: &mut Vec<Mark>) -> Result<(), AllocError>
-    requires chained { HoldsChains image.old }
-    ensures chained { HoldsChains image.new }
-    ensures texts { OnOk result (image.new.text_cells.items ≡ map (settled_over image.old.externals.entries places.now) image.old.text_cells.items) }
-    ensures datas { OnOk result (image.new.data_cells.items ≡ map (settled_over image.old.externals.entries places.now) image.old.data_cells.items) }
-    ensures heads { OnOk result (image.new.heads.items ≡ cut_heads image.old.externals.entries places.now image.old.heads.items) }
-    ensures back { LeavesMarksIn image.old image.new marks.old.items marks.new.items }
-    ensures few { OnOk result (NotesBoundIn image.old image.new marks.old.items marks.new.items) }
-    ensures else_same { image_in image.new ≡ with_cells image.new.text_cells.items image.new.data_cells.items (image_in image.old) }
-    ensures links { threads_in image.new ≡ with_heads image.new.heads.items (threads_in image.old) }
-    ensures capacity { KeepsCapacity image.old image.new }
-{
-    let links = Links {
-        text: &image.text_links,
-        data: &image.data_links,
-    };
-    let mentioned = Mentioned {
-        links: &links,
-        externals: &image.externals,
-        places,
-    };
-    bind_names(
-        &mut image.text_cells,
-        &mut image.data_cells,
-        &mut image.heads,
-        marks,
-        &mentioned,
-    )
-}
-
-/// Joins an object to the image, and returns the marks of what it overwrote. An error leaves the image as it was.
-pub(crate) fn join(
+/// Requests memory for an object and its marks, and joins the object to the image: the marks hold what it overwrote. An error
+/// changes nothing but capacity.
+pub(crate) fn take_in(
+    entries: &mut Vec<Entry>,
+    undo_records: &mut Vec<UndoRecord>,
     image: &mut Merged,
     object: &Object,
     alloc: Global,
@@ -205,11 +178,17 @@ pub(crate) fn join(
     requires threaded { IsThreaded (image_in image.old) (threads_in image.old) }
     requires covered { IsCovered (image_in image.old) object.now }
     requires fits { next_limit (image_in image.old) object.now ≡ None }
+    ensures entries { entries.new.items ≡ entries.old.items }
+    ensures undo_records { undo_records.new.items ≡ undo_records.old.items }
+    ensures entries_space { OnOk result (vec_len entries.new < vec_capacity entries.new) }
+    ensures undo_records_space { OnOk result (vec_len undo_records.new < vec_capacity undo_records.new) }
     ensures image { OnOk result (image_in image.new ≡ joined_image (image_in image.old) object.now) }
     ensures threads { OnOk result (threads_in image.new ≡ next_threads (image_in image.old) object.now (threads_in image.old)) }
     ensures marks { IfOk result (λ marks. TakesBack (image_in image.old) object.now (threads_in image.old).heads marks.items) }
     ensures err { OnErr result ((image_in image.new ≡ image_in image.old) × (threads_in image.new ≡ threads_in image.old)) }
 {
+    entries.reserve(1)?;
+    undo_records.reserve(1)?;
     let file = object.file();
     let sizes = image.sizes();
     let shifts = next_shifts(image, object);
@@ -227,7 +206,7 @@ pub(crate) fn join(
         &mut places,
         &table,
     );
-    if let Err(refused) = bind_waiting(image, &places, &mut marks) {
+    if let Err(refused) = bind_waiting(image, &mut marks, &places) {
         undo(image, &marks, &sizes);
         return Err(refused);
     }

@@ -1,9 +1,11 @@
 //! The merged image, as the code keeps it.
-ghost use Rattle.std.specs.Prelude.{◌≡◌, []};
+ghost use Rattle.std.specs.Prelude.{◌≡◌, [], length};
+ghost use Rattle.link_session.specs.internal.Chains.{cell_at, link_at, IsWithin};
 ghost use Rattle.link_session.specs.internal.Fields.{image_in, threads_in, no_threads, sizes_of};
 
 use crate::cell::Cell;
-use crate::chain::Link;
+use crate::chain::{Link, link_in};
+use crate::mark::Place;
 use crate::state::State;
 use aout_core::Name;
 use indexmap::IndexMap;
@@ -69,6 +71,27 @@ impl Merged {
             bss_total: self.bss_total,
             externals: self.externals.len(),
             multiples: self.multiples.len(),
+        }
+    }
+
+    /// The cell at a place.
+    pub(crate) fn cell_at(&self, place: Place) -> Cell
+        requires { IsWithin (length self.now.text_cells.items) (length self.now.data_cells.items) place }
+        ensures { result ≡ cell_at self.now.text_cells.items self.now.data_cells.items place }
+    {
+        match place {
+            Place::InText(index) => self.text_cells[index as usize],
+            Place::InData(index) => self.data_cells[index as usize],
+        }
+    }
+
+    /// The place of the next cell that waits for the same name as the cell at a place.
+    pub(crate) fn link_at(&self, place: Place) -> Link
+        ensures { result ≡ link_at self.now.text_links.items self.now.data_links.items place }
+    {
+        match place {
+            Place::InText(index) => link_in(&self.text_links, index),
+            Place::InData(index) => link_in(&self.data_links, index),
         }
     }
 }

@@ -1,5 +1,5 @@
 //! The session: the objects that are kept, their merged image, and the journal.
-ghost use Rattle.std.specs.Prelude.{◌≡◌, ◌*◌, ◌≤◌, ◌<◌, ◌++◌, ◌∷◌, [], None, Some, length, map, replicate, position, slice_get, bytes_eq, IsOk, IfOk, IfErr, OnOk, OnErr, IfSome, IsNone, vec_len, vec_capacity};
+ghost use Rattle.std.specs.Prelude.{◌≡◌, ◌*◌, ◌≤◌, ◌<◌, ◌++◌, ◌∷◌, [], None, Some, length, map, replicate, position, slice_get, bytes_eq, IsOk, IfOk, IfErr, OnOk, OnErr, IfSome, IsNone};
 ghost use Rattle.std.specs.List.{AllByRecursion};
 ghost use Rattle.std.specs.Map.{keys_of};
 ghost use Rattle.indexmap.specs.IndexMap.{spare};
@@ -9,18 +9,14 @@ ghost use Rattle.link_session.specs.Labelled.{objects};
 ghost use Rattle.link_session.specs.Mentions.{externals, forced_mention};
 ghost use Rattle.link_session.specs.Limits.{limit_passed, refusal};
 ghost use Rattle.link_session.specs.Undo.{image_of, IsJournal};
-ghost use Rattle.link_session.specs.internal.Fields.{image_in, threads_in, IsSmall};
-ghost use Rattle.link_session.specs.internal.Threads.{next_threads, IsThreaded};
-ghost use Rattle.link_session.specs.internal.Settled.{IsCovered};
-ghost use Rattle.link_session.specs.internal.Restores.{TakesBack};
-ghost use Rattle.link_session.specs.internal.Additions.{with_mentions, joined_image, next_limit};
+ghost use Rattle.link_session.specs.internal.Additions.{with_mentions};
 ghost use Rattle.link_session.specs.Sessions.{nothing_kept, labelled, newest, Adds, Withdraws, IsCause, IsObject};
 
 use crate::cell::Cell;
 use crate::chain::{Link, grow_heads};
 use crate::entry::{AddFault, AddRefused, Entry};
 use crate::externals::ExternalStates;
-use crate::join::join;
+use crate::join::take_in;
 use crate::limits::limit_passed;
 use crate::mark::Mark;
 use crate::mention::mention;
@@ -295,30 +291,4 @@ impl Session {
             None => &[],
         }
     }
-}
-
-/// Requests memory for an object and its marks, and joins it to the image. An error changes nothing but capacity.
-fn take_in(
-    entries: &mut Vec<Entry>,
-    undo_records: &mut Vec<UndoRecord>,
-    image: &mut Merged,
-    object: &Object,
-    alloc: Global,
-) -> Result<Vec<Mark>, AllocError>
-    requires small { IsSmall (image_in image.old) }
-    requires threaded { IsThreaded (image_in image.old) (threads_in image.old) }
-    requires covered { IsCovered (image_in image.old) object.now }
-    requires fits { next_limit (image_in image.old) object.now ≡ None }
-    ensures entries { entries.new.items ≡ entries.old.items }
-    ensures undo_records { undo_records.new.items ≡ undo_records.old.items }
-    ensures entries_space { OnOk result (vec_len entries.new < vec_capacity entries.new) }
-    ensures undo_records_space { OnOk result (vec_len undo_records.new < vec_capacity undo_records.new) }
-    ensures image { OnOk result (image_in image.new ≡ joined_image (image_in image.old) object.now) }
-    ensures threads { OnOk result (threads_in image.new ≡ next_threads (image_in image.old) object.now (threads_in image.old)) }
-    ensures marks { IfOk result (λ marks. TakesBack (image_in image.old) object.now (threads_in image.old).heads marks.items) }
-    ensures err { OnErr result ((image_in image.new ≡ image_in image.old) × (threads_in image.new ≡ threads_in image.old)) }
-{
-    entries.reserve(1)?;
-    undo_records.reserve(1)?;
-    join(image, object, alloc)
 }

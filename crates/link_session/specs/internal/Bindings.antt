@@ -1,48 +1,67 @@
--- What binding names makes of cells, heads and marks, by the names that the code is given.
-use Rattle.std.specs.Prelude.{List, length}
-use Rattle.link_session.specs.declared.bind.Awaited.{Awaited}
-use Rattle.link_session.specs.declared.bind.Chain.{Chain}
-use Rattle.link_session.specs.declared.bind.Mentioned.{Mentioned}
+-- What binding makes of an image: its cells and heads by the states of names, and what stays.
+use Rattle.std.specs.Prelude.{◌≡◌, ℕ, List, [], ◌∷◌, ◌++◌, map, length}
+use Rattle.link_session.specs.declared.bind.Definition.{Definition}
 use Rattle.link_session.specs.declared.cell.Cell.{Cell}
 use Rattle.link_session.specs.declared.mark.Mark.{Mark}
-use Rattle.link_session.specs.Image.{state_at}
-use Rattle.link_session.specs.internal.Chains.{Link, EndsWithin, IsBoundTo, bound_if}
-use Rattle.link_session.specs.internal.Counts.{NotesBound}
-use Rattle.link_session.specs.internal.Settled.{settled_at, settled_over}
-use Rattle.link_session.specs.internal.Threads.{cut_by_state, cut_heads}
+use Rattle.link_session.specs.declared.mark.Mark.TheVariants.{CellWas}
+use Rattle.link_session.specs.declared.mark.Place.{Place}
+use Rattle.link_session.specs.declared.merged.Merged.{Merged}
+use Rattle.link_session.specs.Image.{Named, state_at}
+use Rattle.link_session.specs.internal.Chains.{Link, EndsWithin, IsBoundTo, IsWithin, cell_at, text_bound_at, data_bound_at}
+use Rattle.link_session.specs.internal.Fields.{image_in, threads_in, with_cells, with_heads, KeepsCapacity}
+use Rattle.link_session.specs.internal.Settled.{settled_at}
+use Rattle.link_session.specs.internal.Threads.{cut_by_state}
+
+-- what is bound: the cells of text and of data, and the heads of the chains
+pub record Bindable : Type 0 where
+  pub texts : List Cell
+  pub datas : List Cell
+  pub heads : List Link
+
+abbrev pub bindable_in : Merged → Bindable
+bindable_in m = record { texts = m.text_cells.items; datas = m.data_cells.items; heads = m.heads.items }
+
+-- nothing else changes
+pub record KeepsRest (old new : Merged) : Type 0 where
+  pub image : image_in new ≡ with_cells new.text_cells.items new.data_cells.items (image_in old)
+  pub threads : threads_in new ≡ with_heads new.heads.items (threads_in old)
+  pub capacity : KeepsCapacity old new
+
+-- the place is that of a cell
+abbrev pub IsPlaceIn : Merged → Place → Type 0
+IsPlaceIn m place = IsWithin (length m.text_cells.items) (length m.data_cells.items) place
+
+-- the cell at a place is bound and marked
+pub record BindsAt (to : Definition) (place : Place) (old new : Merged) (marks new_marks : List Mark) : Type 0 where
+  pub texts : new.text_cells.items ≡ text_bound_at place to.segment to.offset old.text_cells.items
+  pub datas : new.data_cells.items ≡ data_bound_at place to.segment to.offset old.data_cells.items
+  pub marked : new_marks ≡ marks ++ CellWas place (cell_at old.text_cells.items old.data_cells.items place) ∷ []
+  pub heads : new.heads.items ≡ old.heads.items
+  pub rest : KeepsRest old new
 
 -- the chain that begins here ends, and stays inside the cells
-abbrev pub IsChainOf : Chain → Link → List Cell → List Cell → Type 0
-IsChainOf chain head texts datas = EndsWithin chain.links.now.text.now chain.links.now.data.now head (length texts) (length datas)
+abbrev pub IsChainIn : Merged → Link → Type 0
+IsChainIn m head = EndsWithin m.text_links.items m.data_links.items head (length m.text_cells.items) (length m.data_cells.items)
 
 -- it is bound and marked to a link
-abbrev pub BindsTo : Chain → Link → Link → List Cell → List Cell → List Mark → List Cell → List Cell → List Mark → Type 0
-BindsTo chain head next texts datas marks new_texts new_datas new_marks =
-    IsBoundTo chain.links.now.text.now chain.links.now.data.now head next chain.definition.segment
-    chain.definition.offset texts datas marks new_texts new_datas new_marks
+pub record BindsTo (to : Definition) (head next : Link) (old new : Merged) (marks new_marks : List Mark) : Type 0 where
+  pub bound : IsBoundTo old.text_links.items old.data_links.items head next to.segment to.offset
+      old.text_cells.items old.data_cells.items marks new.text_cells.items new.data_cells.items new_marks
+  pub heads : new.heads.items ≡ old.heads.items
+  pub rest : KeepsRest old new
 
--- a cell once the chain is bound
-abbrev pub bound_on : Chain → Cell → Cell
-bound_on chain = bound_if chain.index chain.definition.segment chain.definition.offset
-
--- a cell and the heads once the external is bound, if it is defined; one more mark for each cell that is bound
-abbrev pub settled_for : Awaited → Cell → Cell
-settled_for awaited = settled_at awaited.externals.now.entries awaited.place
-
-abbrev pub heads_for : Awaited → List Link → List Link
-heads_for awaited = cut_by_state (state_at awaited.externals.now.entries awaited.place) awaited.place
-
-abbrev pub NotesAwaited : Awaited → List Cell → List Cell → List Cell → List Cell → List Mark → List Mark → Type 0
-NotesAwaited awaited texts datas new_texts new_datas old new =
-    NotesBound awaited.externals.now.entries texts datas new_texts new_datas old new
+-- once the chain of an external is bound, if that is defined
+abbrev pub settled : Named → ℕ → Bindable → Bindable
+settled es k b = record {
+  texts = map (settled_at es k) b.texts;
+  datas = map (settled_at es k) b.datas;
+  heads = cut_by_state (state_at es k) k b.heads;
+}
 
 -- the same of several externals, one after the other
-abbrev pub settled_by : Mentioned → Cell → Cell
-settled_by mentioned = settled_over mentioned.externals.now.entries mentioned.places.now
+abbrev pub settled_all : Named → List ℕ → Bindable → Bindable
+settled_all es [] b = b
+settled_all es (k ∷ ks) b = settled_all es ks (settled es k b)
 
-abbrev pub heads_by : Mentioned → List Link → List Link
-heads_by mentioned = cut_heads mentioned.externals.now.entries mentioned.places.now
-
-abbrev pub NotesMentioned : Mentioned → List Cell → List Cell → List Cell → List Cell → List Mark → List Mark → Type 0
-NotesMentioned mentioned texts datas new_texts new_datas old new =
-    NotesBound mentioned.externals.now.entries texts datas new_texts new_datas old new
+abbrev pub IsSettled : List ℕ → Merged → Merged → Type 0
+IsSettled ks old new = bindable_in new ≡ settled_all old.externals.entries ks (bindable_in old)

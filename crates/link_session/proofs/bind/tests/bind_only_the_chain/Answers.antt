@@ -1,12 +1,16 @@
-use Rattle.std.proofs.Common.{◌<◌, [], ◌∷◌, refl, arith}
+use Rattle.std.proofs.Common.{◌≡◌, ◌<◌, [], ◌∷◌, List, None, length, slice_index_or, refl, ap, arith, rules}
 use Rattle.link_session.specs.declared.mark.Place.TheVariants.{InText}
+use Rattle.link_session.specs.internal.Chains.{Link}
 use Rattle.link_session.proofs.bind.tests.bind_only_the_chain.Goals as goal
 
 -- the chain holds cell 2 only
-pub bind-rest-requires : goal.bind-rest-requires
-bind-rest-requires c d = record {
-  places = InText 2 ∷ [];
-  visits = (refl, refl);
-  apart = (refl, tt);
-  inside = ((let below : 2 < 4 = omega arith in below), tt);
-}
+pub bind_chain-rest-requires : goal.bind_chain-rest-requires
+bind_chain-rest-requires c d =
+    let links : d.in_ok-image-2.field-0.items ≡ None ∷ None ∷ None ∷ None ∷ [] = search rules in
+    let long : length d.in_ok-image.field-0.items ≡ 4 = search rules in
+    let below : 2 < length d.in_ok-image.field-0.items = omega (arith, long) in record {
+      places = InText 2 ∷ [];
+      visits = (refl, ap (λ (l : List Link). slice_index_or l 2 None) links);
+      apart = (refl, tt);
+      inside = (below, tt);
+    }

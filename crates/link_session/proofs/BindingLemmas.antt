@@ -1,0 +1,258 @@
+-- Binding as a change of the whole image: one cell, a chain, an external, and several externals.
+use Rattle.std.proofs.Common.{◌≡◌, ◌<◌, ◌+◌, ℕ, zero, suc, List, [], ◌∷◌, map, length, refl, ◌∙◌, sym, ap, subst, arith}
+use Rattle.std.proofs.Common.{cond, Some, None, slice_index_or, slice_set}
+use Rattle.link_session.specs.declared.bind.Definition.{Definition}
+use Rattle.link_session.specs.declared.cell.Cell.{Cell}
+use Rattle.link_session.specs.declared.mark.Mark.{Mark}
+use Rattle.link_session.specs.declared.mark.Place.{Place}
+use Rattle.link_session.specs.declared.merged.Merged.{Merged}
+use Rattle.link_session.specs.declared.state.State.{State}
+use Rattle.link_session.specs.declared.state.State.TheVariants.{Defined, Wanted}
+use Rattle.link_session.specs.Image.{Image, Named, state_at}
+use Rattle.link_session.specs.internal.Additions.{bound_by, bound_or}
+use Rattle.link_session.specs.internal.Chains.{Link, IsBoundTo, AreChained, link_at, walk, waits_at, bound_if}
+use Rattle.link_session.specs.internal.Counts.{NotesBound}
+use Rattle.link_session.specs.internal.Fields.{threads_in, with_cells, with_heads, HoldsChains, LeavesMarksIn, KeepsCapacity}
+use Rattle.link_session.specs.internal.Bindings.{Bindable, bindable_in, settled, settled_all, IsSettled, KeepsRest}
+use Rattle.link_session.specs.internal.Bindings.{IsChainIn, IsPlaceIn, BindsAt, BindsTo}
+use Rattle.link_session.specs.internal.Restores.{LeavesMarks}
+use Rattle.link_session.specs.internal.Settled.{settled_at, settled_over}
+use Rattle.link_session.specs.internal.Threads.{Threads, cut_by_state, cut_heads}
+use Rattle.link_session.proofs.WalkLemmas.{begun, next_inside, step, shorter}
+use Rattle.link_session.proofs.ChainedLemmas.{cut_to}
+use Rattle.link_session.proofs.RestoreLemmas.{chain_left, all_texts, all_datas, all_marks}
+use Rattle.link_session.proofs.FewLemmas.{chain_noted, defined_noted, noted_then}
+use Rattle.link_session.proofs.EmptyChainLemmas.{no_text, no_data}
+use Rattle.link_session.proofs.NamesLemmas.{all_one, none_left, unsettled, leaves_then}
+
+-- What stays.
+
+capacity_same : (m : Merged) → KeepsCapacity m m
+capacity_same m =
+    record { text = omega arith; «data» = omega arith; text_links = omega arith; data_links = omega arith; heads = omega arith }
+
+capacity_then : (old mid new : Merged) → KeepsCapacity old mid → KeepsCapacity mid new → KeepsCapacity old new
+capacity_then old mid new p q = record {
+  text = omega (arith, p.text, q.text);
+  «data» = omega (arith, p.data, q.data);
+  text_links = omega (arith, p.text_links, q.text_links);
+  data_links = omega (arith, p.data_links, q.data_links);
+  heads = omega (arith, p.heads, q.heads);
+}
+
+pub rest_same : (m : Merged) → KeepsRest m m
+rest_same m = record { image = refl; threads = refl; capacity = capacity_same m }
+
+pub rest_then : (old mid new : Merged) → KeepsRest old mid → KeepsRest mid new → KeepsRest old new
+rest_then old mid new p q = record {
+  image = q.image ∙ ap (with_cells new.text_cells.items new.data_cells.items) p.image;
+  threads = q.threads ∙ ap (with_heads new.heads.items) p.threads;
+  capacity = capacity_then old mid new p.capacity q.capacity;
+}
+
+link_same : (old new : Merged) → KeepsRest old new → (p : Place) →
+    link_at new.text_links.items new.data_links.items p ≡ link_at old.text_links.items old.data_links.items p
+link_same old new r p = ap (λ (t : Threads). link_at t.text_links t.data_links p) r.threads
+
+-- each cell has a link before and after, so the cells are as many as before
+module _ (old mid : Merged) (h : HoldsChains old) (same : threads_in mid ≡ threads_in old) (new : Merged) (g : HoldsChains new)
+    (r : threads_in new ≡ with_heads new.heads.items (threads_in mid)) where
+  links : (of : Threads → List Link) → of (threads_in new) ≡ of (with_heads new.heads.items (threads_in old))
+  links of = ap of r ∙ ap (λ (t : Threads). of (with_heads new.heads.items t)) same
+
+  pub texts_bound : length new.text_cells.items ≡ length old.text_cells.items
+  texts_bound = sym g.text ∙ ap (λ (l : List Link). length l) (links (λ t. t.text_links)) ∙ h.text
+
+  pub datas_bound : length new.data_cells.items ≡ length old.data_cells.items
+  datas_bound = sym g.data ∙ ap (λ (l : List Link). length l) (links (λ t. t.data_links)) ∙ h.data
+
+-- A chain, cell by cell.
+
+pub chain_begun : (to : Definition) (head : Link) (m : Merged) (marks : List Mark) → IsChainIn m head →
+    BindsTo to head head m m marks marks
+chain_begun to head m marks ends = record {
+  bound =
+      begun m.text_links.items m.data_links.items head to.segment to.offset m.text_cells.items m.data_cells.items marks ends;
+  heads = refl;
+  rest = rest_same m;
+}
+
+module _ (to : Definition) (head next : Link) (old mid : Merged) (marks mid_marks : List Mark)
+    (w : BindsTo to head next old mid marks mid_marks) (p : Place) (here : next ≡ Some p) where
+  abbrev ts : List Link
+  ts = old.text_links.items
+
+  abbrev ds : List Link
+  ds = old.data_links.items
+
+  abbrev texts : List Cell
+  texts = old.text_cells.items
+
+  abbrev datas : List Cell
+  datas = old.data_cells.items
+
+  pub chain_inside : IsPlaceIn mid p
+  chain_inside =
+      next_inside ts ds head to.segment to.offset texts datas marks next mid.text_cells.items mid.data_cells.items mid_marks
+      w.bound p here
+
+  module _ (new : Merged) (new_marks : List Mark) (b : BindsAt to p mid new mid_marks new_marks) (link : Link)
+      (goes_on : link ≡ link_at new.text_links.items new.data_links.items p) where
+    after : KeepsRest old new
+    after = rest_then old mid new w.rest b.rest
+
+    at : link ≡ link_at ts ds p
+    at = goes_on ∙ link_same old new after p
+
+    pub chain_step : BindsTo to head link old new marks new_marks
+    chain_step = record {
+      bound =
+          subst (λ (P : Type 0). P)
+          (λ i. IsBoundTo ts ds head (sym at i) to.segment to.offset texts datas marks (sym b.texts i) (sym b.datas i) (sym b.marked i))
+          (step ts ds head to.segment to.offset texts datas marks next mid.text_cells.items mid.data_cells.items mid_marks
+          w.bound p here);
+      heads = b.heads ∙ w.heads;
+      rest = after;
+    }
+
+    pub chain_shorter : length (walk (length texts + length datas) ts ds link) < length (walk (length texts + length datas) ts ds next)
+    chain_shorter =
+        subst (λ (l : Link). length (walk (length texts + length datas) ts ds l) < length (walk (length texts + length datas) ts ds next))
+        (sym at)
+        (shorter ts ds head to.segment to.offset texts datas marks next mid.text_cells.items mid.data_cells.items mid_marks
+        w.bound p here)
+
+-- The chain of an external, once it is cut to where binding stopped.
+
+module _ (to : Definition) (k : ℕ) (next : Link) (old mid : Merged) (marks new_marks : List Mark) (h : HoldsChains old)
+    (w : BindsTo to (slice_index_or old.heads.items k None) next old mid marks new_marks) (heads : List Link)
+    (cut : heads ≡ slice_set old.heads.items k next) where
+  abbrev texts_of : List Cell
+  texts_of = old.text_cells.items
+
+  abbrev datas_of : List Cell
+  datas_of = old.data_cells.items
+
+  pub chain_cut : AreChained mid.text_cells.items mid.data_cells.items mid.text_links.items mid.data_links.items heads
+  chain_cut =
+      subst (λ (P : Type 0). P)
+      (λ i. AreChained mid.text_cells.items mid.data_cells.items (sym w.rest.threads i).text_links (sym w.rest.threads i).data_links
+      (sym cut i))
+      (cut_to texts_of datas_of old.text_links.items old.data_links.items old.heads.items h k to.segment to.offset next marks
+      mid.text_cells.items mid.data_cells.items new_marks w.bound)
+
+  pub chain_back : LeavesMarks texts_of datas_of old.heads.items mid.text_cells.items mid.data_cells.items heads marks new_marks
+  chain_back =
+      subst (λ (hs : List Link). LeavesMarks texts_of datas_of old.heads.items mid.text_cells.items mid.data_cells.items hs marks
+      new_marks) (sym cut)
+      (chain_left old.text_links.items old.data_links.items texts_of datas_of old.heads.items h k to.segment to.offset next
+      marks mid.text_cells.items mid.data_cells.items new_marks w.bound)
+
+  -- it was bound to its end, and the external is defined so
+  module _ (end : next ≡ None) (es : Named) (defined : state_at es k ≡ Defined to.segment to.offset) where
+    bound_same : (cs : List Cell) → map (bound_if k to.segment to.offset) cs ≡ map (settled_at es k) cs
+    bound_same cs = ap (λ (s : State). map (λ (c : Cell). cond (waits_at k c.target) (bound_or (bound_by s c) c) c) cs) (sym defined)
+
+    texts_settled : mid.text_cells.items ≡ map (settled_at es k) texts_of
+    texts_settled =
+        all_texts old.text_links.items old.data_links.items texts_of datas_of old.heads.items h k to.segment to.offset next
+        marks mid.text_cells.items mid.data_cells.items new_marks w.bound end
+        ∙ bound_same texts_of
+
+    datas_settled : mid.data_cells.items ≡ map (settled_at es k) datas_of
+    datas_settled =
+        all_datas old.text_links.items old.data_links.items texts_of datas_of old.heads.items h k to.segment to.offset next
+        marks mid.text_cells.items mid.data_cells.items new_marks w.bound end
+        ∙ bound_same datas_of
+
+    heads_cut : heads ≡ cut_by_state (state_at es k) k old.heads.items
+    heads_cut =
+        cut ∙ ap (λ (l : Link). slice_set old.heads.items k l) end
+        ∙ ap (λ (s : State). cut_by_state s k old.heads.items) (sym defined)
+
+    pub chain_bound :
+        (let b : Bindable = record { texts = mid.text_cells.items; datas = mid.data_cells.items; heads = heads } in b)
+        ≡ settled es k (bindable_in old)
+    chain_bound = λ i. record { texts = texts_settled i; datas = datas_settled i; heads = heads_cut i }
+
+    pub chain_few : NotesBound es texts_of datas_of mid.text_cells.items mid.data_cells.items marks new_marks
+    chain_few =
+        defined_noted es k to.segment to.offset defined texts_of datas_of mid.text_cells.items mid.data_cells.items marks
+        new_marks texts_settled datas_settled
+        (chain_noted old.text_links.items old.data_links.items (slice_index_or old.heads.items k None) texts_of datas_of k
+        (h.each k) marks new_marks
+        (all_marks old.text_links.items old.data_links.items texts_of datas_of old.heads.items h k to.segment to.offset next
+        marks mid.text_cells.items mid.data_cells.items new_marks w.bound end))
+
+-- An external for which no cell waits, or that is not defined, leaves all as it is.
+
+set_none : (heads : List Link) (k : ℕ) → slice_index_or heads k None ≡ None → heads ≡ slice_set heads k None
+set_none [] k e = refl
+set_none (h ∷ hs) zero e = ap (λ (l : Link). l ∷ hs) e
+set_none (h ∷ hs) (suc k) e = ap (λ (l : List Link). h ∷ l) (set_none hs k e)
+
+heads_stay : (s : State) (heads : List Link) (k : ℕ) → slice_index_or heads k None ≡ None → heads ≡ cut_by_state s k heads
+heads_stay (Defined segment offset) heads k e = set_none heads k e
+heads_stay (Wanted size) heads k e = refl
+
+pub none_waits : (m : Merged) (k : ℕ) → HoldsChains m → slice_index_or m.heads.items k None ≡ None →
+    bindable_in m ≡ settled m.externals.entries k (bindable_in m)
+none_waits m k h empty = λ i. record {
+  texts =
+      no_text m.externals.entries k m.text_cells.items m.data_cells.items m.text_links.items m.data_links.items
+      (slice_index_or m.heads.items k None) empty (h.each k) i;
+  datas =
+      no_data m.externals.entries k m.text_cells.items m.data_cells.items m.text_links.items m.data_links.items
+      (slice_index_or m.heads.items k None) empty (h.each k) i;
+  heads = heads_stay (state_at m.externals.entries k) m.heads.items k empty i;
+}
+
+pub none_defined : (m : Merged) (k size : ℕ) → state_at m.externals.entries k ≡ Wanted size →
+    bindable_in m ≡ settled m.externals.entries k (bindable_in m)
+none_defined m k size wanted = λ i. record {
+  texts = unsettled m.externals.entries k size wanted m.text_cells.items i;
+  datas = unsettled m.externals.entries k size wanted m.data_cells.items i;
+  heads = ap (λ (s : State). cut_by_state s k m.heads.items) (sym wanted) i;
+}
+
+-- One external after another.
+
+module _ (old mid new : Merged) (marks mid_marks new_marks : List Mark) (r : KeepsRest old mid) where
+  names_same : mid.externals.entries ≡ old.externals.entries
+  names_same = ap (λ (x : Image). x.externals) r.image
+
+  pub back_then : HoldsChains old → HoldsChains mid → LeavesMarksIn old mid marks mid_marks →
+      LeavesMarksIn mid new mid_marks new_marks → LeavesMarksIn old new marks new_marks
+  back_then h g a b =
+      leaves_then old.text_cells.items old.data_cells.items mid.text_cells.items mid.data_cells.items new.text_cells.items
+      new.data_cells.items old.heads.items mid.heads.items new.heads.items marks mid_marks new_marks
+      (texts_bound old old h refl mid g r.threads) (datas_bound old old h refl mid g r.threads) a b
+
+  pub few_then : NotesBound old.externals.entries old.text_cells.items old.data_cells.items mid.text_cells.items
+      mid.data_cells.items marks mid_marks → NotesBound mid.externals.entries mid.text_cells.items mid.data_cells.items
+      new.text_cells.items new.data_cells.items mid_marks new_marks → NotesBound old.externals.entries
+      old.text_cells.items old.data_cells.items new.text_cells.items new.data_cells.items marks new_marks
+  few_then a b =
+      noted_then old.externals.entries old.text_cells.items old.data_cells.items mid.text_cells.items mid.data_cells.items
+      new.text_cells.items new.data_cells.items marks mid_marks new_marks a
+      (subst (λ (es : Named). NotesBound es mid.text_cells.items mid.data_cells.items new.text_cells.items
+      new.data_cells.items mid_marks new_marks) names_same b)
+
+  pub settled_then : (k : ℕ) (ks : List ℕ) → IsSettled (k ∷ []) mid new →
+      settled_all old.externals.entries (k ∷ ks) (bindable_in mid) ≡ settled_all old.externals.entries ks (bindable_in new)
+  settled_then k ks one =
+      ap (settled_all old.externals.entries ks) (sym (one ∙ ap (λ (es : Named). settled es k (bindable_in mid)) names_same))
+
+-- Several externals, list by list.
+
+pub several_texts : (es : Named) (ks : List ℕ) (b : Bindable) → (settled_all es ks b).texts ≡ map (settled_over es ks) b.texts
+several_texts es [] b = sym (none_left es b.texts)
+several_texts es (k ∷ ks) b = several_texts es ks (settled es k b) ∙ sym (all_one es k ks b.texts)
+
+pub several_datas : (es : Named) (ks : List ℕ) (b : Bindable) → (settled_all es ks b).datas ≡ map (settled_over es ks) b.datas
+several_datas es [] b = sym (none_left es b.datas)
+several_datas es (k ∷ ks) b = several_datas es ks (settled es k b) ∙ sym (all_one es k ks b.datas)
+
+pub several_heads : (es : Named) (ks : List ℕ) (b : Bindable) → (settled_all es ks b).heads ≡ cut_heads es ks b.heads
+several_heads es [] b = refl
+several_heads es (k ∷ ks) b = several_heads es ks (settled es k b)
