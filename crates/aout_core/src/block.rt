@@ -118,9 +118,11 @@ impl Block {
         requires { self.old ≡ [] }
         ensures fault { IsErr result ↔ IsTrue wire.new.has_failed }
         ensures latched { IsTrue wire.old.has_failed → (wire.new ≡ wire.old) }
-        ensures bytes { IfOk result (λ _. Consumes (R.remaining wire.old.device) (R.remaining wire.new.device) self.new) }
+        ensures bytes { IfOk result (λ _.
+            Consumes (R.remaining wire.old.device) (R.remaining wire.new.device) self.new) }
         ensures end { IfOk result (λ _. self.new ≡ [] → IsAtEnd (R.remaining wire.new.device)) }
-        ensures kept { IfErr result (λ _. Keeps (R.remaining wire.old.device) (R.remaining wire.new.device)) }
+        ensures kept { IfErr result (λ _.
+            Keeps (R.remaining wire.old.device) (R.remaining wire.new.device)) }
         ensures empty { IfErr result (λ _. self.new ≡ []) }
     {
         self.start = 0;
@@ -135,9 +137,11 @@ impl Block {
         requires { self.old ≡ [] }
         ensures fault { IsErr result ↔ IsTrue wire.new.has_failed }
         ensures latched { IsTrue wire.old.has_failed → (wire.new ≡ wire.old) }
-        ensures bytes { IfOk result (λ _. Consumes (R.remaining wire.old.device) (R.remaining wire.new.device) self.new) }
+        ensures bytes { IfOk result (λ _.
+            Consumes (R.remaining wire.old.device) (R.remaining wire.new.device) self.new) }
         ensures bound { IfOk result (λ _. length self.new ≤ min n BLOCK_SIZE) }
-        ensures end { IfOk result (λ _. length self.new < min n BLOCK_SIZE → IsAtEnd (R.remaining wire.new.device)) }
+        ensures end { IfOk result (λ _.
+            length self.new < min n BLOCK_SIZE → IsAtEnd (R.remaining wire.new.device)) }
         ensures empty { IfErr result (λ _. self.new ≡ []) }
     {
         let most = n.min(BLOCK_SIZE);

@@ -81,11 +81,16 @@ impl Parts {
     }
 
     fn lists_fit(&self) -> bool
-        ensures text { IsTrue result → 2 * length self.now.text_words.items ≡ self.now.header.text_size }
-        ensures datas { IsTrue result → 2 * length self.now.data_words.items ≡ self.now.header.data_size }
-        ensures first { IsTrue result → 2 * length self.now.text_reloc.items ≡ with_relocation self.now.header self.now.header.text_size }
-        ensures second { IsTrue result → 2 * length self.now.data_reloc.items ≡ with_relocation self.now.header self.now.header.data_size }
-        ensures table { IsTrue result → 12 * length self.now.symbols.items ≡ self.now.header.symbol_size }
+        ensures text { IsTrue result
+            → 2 * length self.now.text_words.items ≡ self.now.header.text_size }
+        ensures datas { IsTrue result
+            → 2 * length self.now.data_words.items ≡ self.now.header.data_size }
+        ensures first { IsTrue result → 2 * length self.now.text_reloc.items
+            ≡ with_relocation self.now.header self.now.header.text_size }
+        ensures second { IsTrue result → 2 * length self.now.data_reloc.items
+            ≡ with_relocation self.now.header self.now.header.data_size }
+        ensures table { IsTrue result
+            → 12 * length self.now.symbols.items ≡ self.now.header.symbol_size }
         ensures all { Fits (contents_of self.now) → IsTrue result }
     {
         let header = &self.header;

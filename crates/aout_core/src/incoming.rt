@@ -49,7 +49,8 @@ impl Incoming {
     /// Takes the first `n` bytes that were read.
     pub(crate) fn pass(&mut self, n: usize)
         requires { n ≤ length self.old.waiting }
-        ensures { self.new ≡ record { waiting = drop n self.old.waiting; missing = self.old.missing } }
+        ensures { self.new
+            ≡ record { waiting = drop n self.old.waiting; missing = self.old.missing } }
     {
         self.block.pass(n);
     }
@@ -59,8 +60,10 @@ impl Incoming {
         requires works { wire.old.has_failed ≡ false }
         requires empty { self.old.waiting ≡ [] }
         ensures device { (result ≡ Err ReadFault.Device) ↔ IsTrue wire.new.has_failed }
-        ensures value { IfOk result (λ _. Refills BLOCK_SIZE self.old.missing (R.remaining wire.old.device) (R.remaining wire.new.device) self.new) }
-        ensures end { IfErr result (λ fault. EndsBefore fault (R.remaining wire.old.device) (R.remaining wire.new.device) self.old.missing) }
+        ensures value { IfOk result (λ _. Refills BLOCK_SIZE self.old.missing
+            (R.remaining wire.old.device) (R.remaining wire.new.device) self.new) }
+        ensures end { IfErr result (λ fault. EndsBefore fault
+            (R.remaining wire.old.device) (R.remaining wire.new.device) self.old.missing) }
     {
         self.block.fill(self.missing, wire)?;
         let n = self.block.waiting().len();
@@ -81,8 +84,10 @@ impl Incoming {
         requires short { length out.old ≤ BLOCK_SIZE }
         requires within { length out.old ≤ awaited self.old }
         ensures device { (result ≡ Err ReadFault.Device) ↔ IsTrue wire.new.has_failed }
-        ensures value { IfOk result (λ _. Takes self.old (R.remaining wire.old.device) self.new (R.remaining wire.new.device) out.new) }
-        ensures end { IfErr result (λ fault. EndsAwaiting fault self.old (R.remaining wire.old.device) (R.remaining wire.new.device)) }
+        ensures value { IfOk result (λ _. Takes self.old (R.remaining wire.old.device) self.new
+            (R.remaining wire.new.device) out.new) }
+        ensures end { IfErr result (λ fault. EndsAwaiting fault self.old
+            (R.remaining wire.old.device) (R.remaining wire.new.device)) }
     {
         let n = self.block.give_out(out);
         if n < out.len() {

@@ -159,7 +159,8 @@ fn read_items<T: Item>(bytes: &[u8], count: usize, items: &mut Vec<T>)
 fn take_waiting<T: Item>(most: usize, items: &mut Vec<T>, incoming: &mut Incoming) -> usize
     requires { vec_len items.old + most ≤ vec_capacity items.old }
     ensures most { result ≤ most }
-    ensures value { (reader : Option (List ℕ)) → TakesRow T.item_in T.WIDTH result incoming.old reader incoming.new reader items.old.items items.new.items }
+    ensures value { (reader : Option (List ℕ)) → TakesRow T.item_in T.WIDTH result incoming.old
+        reader incoming.new reader items.old.items items.new.items }
     ensures reserved { vec_len items.new + (most - result) ≤ vec_capacity items.new }
 {
     let count = (incoming.waiting().len() / T::WIDTH).min(most);
@@ -173,8 +174,10 @@ fn take_item<T: Item, R: Read>(incoming: &mut Incoming, wire: &mut Wire<R>) -> R
     requires works { wire.old.has_failed ≡ false }
     requires within { T.WIDTH ≤ awaited incoming.old }
     ensures device { (result ≡ Err ReadFault.Device) ↔ IsTrue wire.new.has_failed }
-    ensures value { IfOk result (TakesItem T.item_in T.WIDTH incoming.old (R.remaining wire.old.device) incoming.new (R.remaining wire.new.device)) }
-    ensures end { IfErr result (λ fault. EndsAwaiting fault incoming.old (R.remaining wire.old.device) (R.remaining wire.new.device)) }
+    ensures value { IfOk result (TakesItem T.item_in T.WIDTH incoming.old
+        (R.remaining wire.old.device) incoming.new (R.remaining wire.new.device)) }
+    ensures end { IfErr result (λ fault. EndsAwaiting fault incoming.old
+        (R.remaining wire.old.device) (R.remaining wire.new.device)) }
 {
     let mut buffer = [0; MOST_WIDTH];
     let bytes = &mut buffer[..T::WIDTH];
@@ -193,8 +196,10 @@ pub(crate) fn take_items<T: Item, R: Read>(
     requires reserved { vec_len items.old + count ≤ vec_capacity items.old }
     requires within { T.WIDTH * count ≤ awaited incoming.old }
     ensures device { (result ≡ Err ReadFault.Device) ↔ IsTrue wire.new.has_failed }
-    ensures value { OnOk result (TakesAll T.item_in T.WIDTH count R.remaining incoming.old wire.old.device incoming.new wire.new.device items.old items.new) }
-    ensures end { IfErr result (λ fault. EndsAwaiting fault incoming.old (R.remaining wire.old.device) (R.remaining wire.new.device)) }
+    ensures value { OnOk result (TakesAll T.item_in T.WIDTH count R.remaining incoming.old
+        wire.old.device incoming.new wire.new.device items.old items.new) }
+    ensures end { IfErr result (λ fault. EndsAwaiting fault incoming.old
+        (R.remaining wire.old.device) (R.remaining wire.new.device)) }
 {
     let mut left = count;
     while left > 0 {
@@ -229,7 +234,8 @@ fn put_few<T: Item, W: Write>(
     requires works { wire.old.has_failed ≡ false }
     requires few { T.WIDTH * length items.now ≤ BLOCK_SIZE }
     ensures fault { IsErr result ↔ IsTrue wire.new.has_failed }
-    ensures bytes { PutsBut result (W.contents wire.old.device) (W.contents wire.new.device) outgoing.new (outgoing.old ++ flat_map T.encoding items.now) }
+    ensures bytes { PutsBut result (W.contents wire.old.device) (W.contents wire.new.device)
+        outgoing.new (outgoing.old ++ flat_map T.encoding items.now) }
 {
     let mut block = [0; BLOCK_SIZE];
     let bytes = &mut block[..T::WIDTH * items.len()];
@@ -245,7 +251,8 @@ pub(crate) fn put_items<T: Item, W: Write>(
 ) -> Result<(), DeviceFault>
     requires { wire.old.has_failed ≡ false }
     ensures fault { IsErr result ↔ IsTrue wire.new.has_failed }
-    ensures bytes { PutsBut result (W.contents wire.old.device) (W.contents wire.new.device) outgoing.new (outgoing.old ++ flat_map T.encoding items.now) }
+    ensures bytes { PutsBut result (W.contents wire.old.device) (W.contents wire.new.device)
+        outgoing.new (outgoing.old ++ flat_map T.encoding items.now) }
 {
     for few in items.chunks(BLOCK_SIZE / T::WIDTH) {
         put_few(few, outgoing, wire)?;
@@ -262,7 +269,9 @@ pub(crate) fn put_both<T: Item, W: Write>(
 ) -> Result<(), DeviceFault>
     requires { wire.old.has_failed ≡ false }
     ensures fault { IsErr result ↔ IsTrue wire.new.has_failed }
-    ensures bytes { PutsBoth T.encoding result (W.contents wire.old.device) (W.contents wire.new.device) outgoing.old outgoing.new first.now second.now }
+    ensures bytes { PutsBoth T.encoding result
+        (W.contents wire.old.device) (W.contents wire.new.device) outgoing.old outgoing.new
+        first.now second.now }
 {
     put_items(first, outgoing, wire)?;
     put_items(second, outgoing, wire)

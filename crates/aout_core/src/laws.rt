@@ -24,6 +24,7 @@ pub fn reading_law()
     ensures read { EncodedIsRead }
 {}
 
+// The functions below read each number only for the prover, which then knows that it has 16 bits, or 8: that is all they show.
 fn are_words(words: &[u16])
     ensures { AllByRecursion IsWord words.now }
 {

@@ -26,9 +26,11 @@ pub enum NoObject {
 /// Errors, the first that applies: `NotRead`, 1, with the fault of `read_file`, and then `NotFit`, 2, with that of
 /// `Object::from_file`.
 pub fn read_object<R: Read>(alloc: Global, wire: &mut Wire<R>) -> Result<Object, NoObject>
-    ensures device { (result ≡ Err (NoObject.NotRead ReadFault.Device)) ↔ IsTrue wire.new.has_failed }
+    ensures device { (result ≡ Err (NoObject.NotRead ReadFault.Device))
+        ↔ IsTrue wire.new.has_failed }
     ensures latched { IsTrue wire.old.has_failed → (wire.new ≡ wire.old) }
-    ensures reads { IfSome (R.remaining wire.old.device) (λ bytes. IsObjectRead result bytes (R.remaining wire.new.device)) }
+    ensures reads { IfSome (R.remaining wire.old.device) (λ bytes.
+        IsObjectRead result bytes (R.remaining wire.new.device)) }
 {
     let file = match read_file(alloc, wire) {
         Ok(file) => file,

@@ -66,7 +66,8 @@ impl Outgoing {
         requires works { wire.old.has_failed ≡ false }
         requires short { length bytes.now ≤ BLOCK_SIZE }
         ensures fault { IsErr result ↔ IsTrue wire.new.has_failed }
-        ensures bytes { PutsBut result (W.contents wire.old.device) (W.contents wire.new.device) self.new (self.old ++ bytes.now) }
+        ensures bytes { PutsBut result (W.contents wire.old.device) (W.contents wire.new.device)
+            self.new (self.old ++ bytes.now) }
     {
         let n = self.block.take_in(bytes);
         if n < bytes.len() {

@@ -55,8 +55,10 @@ fn read_lists<R: Read>(parts: &mut Parts, wire: &mut Wire<R>) -> Result<(), Read
     requires reserved { HasCapacity parts.old.header parts.old }
     requires sizes { IsTrue (has_whole_sizes parts.old.header) }
     ensures device { (result ≡ Err ReadFault.Device) ↔ IsTrue wire.new.has_failed }
-    ensures value { IfOk result (λ _. TakesBody parts.old.header (R.remaining wire.old.device) (R.remaining wire.new.device) (contents_of parts.new)) }
-    ensures end { IfErr result (λ fault. IsBodyRead parts.old.header (R.remaining wire.old.device) (R.remaining wire.new.device) (Err fault)) }
+    ensures value { IfOk result (λ _. TakesBody parts.old.header
+        (R.remaining wire.old.device) (R.remaining wire.new.device) (contents_of parts.new)) }
+    ensures end { IfErr result (λ fault. IsBodyRead parts.old.header
+        (R.remaining wire.old.device) (R.remaining wire.new.device) (Err fault)) }
 {
     let header = parts.header;
     let text_reloc = header.with_relocation(header.text_size) as usize;
@@ -84,7 +86,8 @@ fn read_lists<R: Read>(parts: &mut Parts, wire: &mut Wire<R>) -> Result<(), Read
 fn read_header<R: Read>(wire: &mut Wire<R>) -> Result<Header, ReadFault>
     ensures device { (result ≡ Err ReadFault.Device) ↔ IsTrue wire.new.has_failed }
     ensures latched { IsTrue wire.old.has_failed → (wire.new ≡ wire.old) }
-    ensures value { IsHeaderRead (R.remaining wire.old.device) (R.remaining wire.new.device) result }
+    ensures value { IsHeaderRead
+        (R.remaining wire.old.device) (R.remaining wire.new.device) result }
 {
     let mut start = [0u8; 16];
     if wire.fill(&mut start)? < 16 {
@@ -105,7 +108,8 @@ fn read_body<R: Read>(alloc: Global, header: Header, wire: &mut Wire<R>) -> Resu
     requires header { IsFileHeader header }
     requires works { wire.old.has_failed ≡ false }
     ensures device { (result ≡ Err ReadFault.Device) ↔ IsTrue wire.new.has_failed }
-    ensures value { IsBodyRead header (R.remaining wire.old.device) (R.remaining wire.new.device) result }
+    ensures value { IsBodyRead header
+        (R.remaining wire.old.device) (R.remaining wire.new.device) result }
 {
     let mut parts = parts_with_capacity(alloc, header)?;
     read_lists(&mut parts, wire)?;
@@ -121,7 +125,8 @@ fn read_body<R: Read>(alloc: Global, header: Header, wire: &mut Wire<R>) -> Resu
 pub fn read_file<R: Read>(alloc: Global, wire: &mut Wire<R>) -> Result<File, ReadFault>
     ensures device { (result ≡ Err ReadFault.Device) ↔ IsTrue wire.new.has_failed }
     ensures latched { IsTrue wire.old.has_failed → (wire.new ≡ wire.old) }
-    ensures decodes { IfSome (R.remaining wire.old.device) (λ bytes. IsReadOf result bytes × LeavesAfter result bytes (R.remaining wire.new.device)) }
+    ensures decodes { IfSome (R.remaining wire.old.device) (λ bytes.
+        IsReadOf result bytes × LeavesAfter result bytes (R.remaining wire.new.device)) }
 {
     let header = read_header(wire)?;
     read_body(alloc, header, wire)

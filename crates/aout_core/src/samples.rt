@@ -163,7 +163,8 @@ impl<'a> TestReader<'a> {
         failure: ErrorKind,
     ) -> TestReader<'a>
         requires { 0 < most }
-        ensures { result ≡ record { left = bytes.now; most = most; before_failure = before_failure; failure = failure; calls = 0 } }
+        ensures { result
+            ≡ record { left = bytes.now; most = most; before_failure = before_failure; failure = failure; calls = 0 } }
     {
         TestReader {
             left: bytes,
@@ -176,7 +177,8 @@ impl<'a> TestReader<'a> {
 
     /// A reader of these bytes that never fails. (own choice)
     pub fn whole(bytes: &'a [u8]) -> TestReader<'a>
-        ensures { result ≡ record { left = bytes.now; most = 2 ^ 64 - 1; before_failure = 2 ^ 64 - 1; failure = Other; calls = 0 } }
+        ensures { result
+            ≡ record { left = bytes.now; most = 2 ^ 64 - 1; before_failure = 2 ^ 64 - 1; failure = Other; calls = 0 } }
     {
         TestReader::new(bytes, usize::MAX, usize::MAX, ErrorKind::Other)
     }
@@ -207,7 +209,8 @@ impl Read for TestReader<'_> {
     fn read(&mut self, buf: &mut [u8]) -> io::Result<usize>
         ensures bound { ReadsAtMost result buf.new }
         ensures bytes { ReadConsumes (Some self.old.left) (Some self.new.left) result buf.new }
-        ensures count { IfOk result (λ n. n ≡ min (min self.old.most self.old.before_failure) (min (length self.old.left) (length buf.old))) }
+        ensures count { IfOk result (λ n. n ≡ min (min self.old.most self.old.before_failure)
+            (min (length self.old.left) (length buf.old))) }
         ensures fails { IsErr result ↔ (self.old.before_failure ≡ 0) }
         ensures kind { IfErr result (λ e. error_kind e ≡ self.old.failure) }
         ensures later { IfOk result (λ n. self.new.before_failure ≡ self.old.before_failure - n) }
@@ -268,7 +271,8 @@ impl Model for TestWriter {
 impl TestWriter {
     /// A writer that appends to the bytes in `taken`. (own choice)
     pub fn new(taken: Vec<u8>, most: usize, before_failure: usize, failure: Failing) -> TestWriter
-        ensures { result ≡ record { taken = taken.items; most = most; before_failure = before_failure; failure = failure; calls = 0; flushes = 0 } }
+        ensures { result
+            ≡ record { taken = taken.items; most = most; before_failure = before_failure; failure = failure; calls = 0; flushes = 0 } }
     {
         TestWriter {
             taken,
@@ -282,7 +286,8 @@ impl TestWriter {
 
     /// A writer that appends to the bytes in `taken`, and fails only if memory runs out. (own choice)
     pub fn whole(taken: Vec<u8>) -> TestWriter
-        ensures { result ≡ record { taken = taken.items; most = 2 ^ 64 - 1; before_failure = 2 ^ 64 - 1; failure = TakesNothing; calls = 0; flushes = 0 } }
+        ensures { result
+            ≡ record { taken = taken.items; most = 2 ^ 64 - 1; before_failure = 2 ^ 64 - 1; failure = TakesNothing; calls = 0; flushes = 0 } }
     {
         TestWriter::new(taken, usize::MAX, usize::MAX, Failing::TakesNothing)
     }
@@ -329,11 +334,15 @@ impl Write for TestWriter {
     fn write(&mut self, bytes: &[u8]) -> io::Result<usize>
         ensures bound { WritesAtMost result bytes.now }
         ensures bytes { WriteAppends (Some self.old.taken) (Some self.new.taken) result bytes.now }
-        ensures count { IfOk result (λ n. n ≡ min (min self.old.most self.old.before_failure) (length bytes.now)) }
-        ensures fails { self.old.before_failure ≡ 0 → (k : ErrorKind) → self.old.failure ≡ Fails k → IfErr result (λ e. error_kind e ≡ k) × IsErr result }
+        ensures count { IfOk result (λ n.
+            n ≡ min (min self.old.most self.old.before_failure) (length bytes.now)) }
+        ensures fails { self.old.before_failure ≡ 0 → (k : ErrorKind) → self.old.failure ≡ Fails k
+            → IfErr result (λ e. error_kind e ≡ k) × IsErr result }
         ensures later { IfOk result (λ n. self.new.before_failure ≡ self.old.before_failure - n) }
-        ensures nothing { self.old.before_failure ≡ 0 → self.old.failure ≡ Failing.TakesNothing → IsOk result }
-        ensures memory { 0 < self.old.before_failure → IfErr result (λ e. error_kind e ≡ ErrorKind.OutOfMemory) }
+        ensures nothing { self.old.before_failure ≡ 0 → self.old.failure ≡ Failing.TakesNothing
+            → IsOk result }
+        ensures memory { 0 < self.old.before_failure
+            → IfErr result (λ e. error_kind e ≡ ErrorKind.OutOfMemory) }
         ensures failed { IfErr result (λ _. self.new.before_failure ≡ self.old.before_failure) }
         ensures counted { self.new.calls ≡ min (self.old.calls + 1) (2 ^ 32 - 1) }
         ensures flushes { self.new.flushes ≡ self.old.flushes }
@@ -356,7 +365,8 @@ impl Write for TestWriter {
     fn flush(&mut self) -> io::Result<()>
         ensures bytes { Keeps (Some self.old.taken) (Some self.new.taken) }
         ensures calls { self.new.calls ≡ self.old.calls }
-        ensures fails { self.old.before_failure ≡ 0 → (k : ErrorKind) → self.old.failure ≡ Fails k → IfErr result (λ e. error_kind e ≡ k) × IsErr result }
+        ensures fails { self.old.before_failure ≡ 0 → (k : ErrorKind) → self.old.failure ≡ Fails k
+            → IfErr result (λ e. error_kind e ≡ k) × IsErr result }
         ensures works { 0 < self.old.before_failure → IsOk result }
         ensures nothing { self.old.failure ≡ Failing.TakesNothing → IsOk result }
         ensures most { self.new.most ≡ self.old.most }

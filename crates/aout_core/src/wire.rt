@@ -85,7 +85,8 @@ impl<R: Read> Wire<R> {
         ensures fault { IsErr result ↔ IsTrue self.new.has_failed }
         ensures latched { IsTrue self.old.has_failed → (self.new ≡ self.old) }
         ensures bound { ReadsAtMost result buf.new }
-        ensures bytes { ReadConsumes (R.remaining self.old.device) (R.remaining self.new.device) result buf.new }
+        ensures bytes { ReadConsumes
+            (R.remaining self.old.device) (R.remaining self.new.device) result buf.new }
         ensures untouched { IsTrue self.old.has_failed → (buf.new ≡ buf.old) }
     {
         if self.has_failed {
@@ -106,8 +107,10 @@ impl<R: Read> Wire<R> {
         ensures fault { IsErr result ↔ IsTrue self.new.has_failed }
         ensures latched { IsTrue self.old.has_failed → (self.new ≡ self.old) }
         ensures bound { IfOk result (λ n. n ≤ length buf.new) }
-        ensures bytes { IfOk result (λ n. Consumes (R.remaining self.old.device) (R.remaining self.new.device) (take n buf.new)) }
-        ensures end { IfOk result (λ n. n < length buf.new → IsAtEnd (R.remaining self.new.device)) }
+        ensures bytes { IfOk result (λ n.
+            Consumes (R.remaining self.old.device) (R.remaining self.new.device) (take n buf.new)) }
+        ensures end { IfOk result (λ n.
+            n < length buf.new → IsAtEnd (R.remaining self.new.device)) }
         ensures untouched { IsTrue self.old.has_failed → (buf.new ≡ buf.old) }
     {
         if self.has_failed {

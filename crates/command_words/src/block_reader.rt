@@ -41,14 +41,16 @@ impl<R: Read> BlockReader<R> {
     pub(crate) fn next_byte(&mut self) -> Result<Option<u8>, DeviceFault>
         ensures fault { IsErr result ↔ IsTrue self.new.wire.has_failed }
         ensures latched { IsTrue self.old.wire.has_failed → (self.new ≡ self.old) }
-        ensures byte { IfOk result (λ o. IfSome o (λ b.
-            Consumes (unread R.remaining self.old.held self.old.wire) (unread R.remaining self.new.held self.new.wire) (b ∷ []))) }
+        ensures byte { IfOk result (λ o. IfSome o (λ b. Consumes (unread R.remaining self.old.held
+            self.old.wire) (unread R.remaining self.new.held self.new.wire) (b ∷ []))) }
         ensures untouched { (self.old.held ≡ [] → ⊥) → self.new.wire ≡ self.old.wire }
-        ensures held { IfOk result (λ o. IfSome o (λ b. (self.old.held ≡ [] → ⊥) → self.old.held ≡ b ∷ self.new.held)) }
-        ensures end { IfOk result (λ o. IfNone o (
-            Consumes (unread R.remaining self.old.held self.old.wire) (unread R.remaining self.new.held self.new.wire) []
+        ensures held { IfOk result (λ o.
+            IfSome o (λ b. (self.old.held ≡ [] → ⊥) → self.old.held ≡ b ∷ self.new.held)) }
+        ensures end { IfOk result (λ o. IfNone o (Consumes (unread R.remaining self.old.held
+            self.old.wire) (unread R.remaining self.new.held self.new.wire) []
             × IsAtEnd (unread R.remaining self.new.held self.new.wire))) }
-        ensures kept { IfErr result (λ _. Keeps (unread R.remaining self.old.held self.old.wire) (unread R.remaining self.new.held self.new.wire)) }
+        ensures kept { IfErr result (λ _. Keeps (unread R.remaining self.old.held
+            self.old.wire) (unread R.remaining self.new.held self.new.wire)) }
     {
         if self.wire.failed() {
             return Err(DeviceFault);

@@ -43,7 +43,8 @@ impl<W: Write> BlockWriter<W> {
         ensures bound { IfOk result (λ n. n ≤ length self.old.waiting) }
         ensures left { IfOk result (λ n. self.new.waiting ≡ drop n self.old.waiting) }
         ensures waiting { IfErr result (λ _. self.new.waiting ≡ self.old.waiting) }
-        ensures kept { Keeps (append_known (W.contents self.old.device) self.old.waiting) (append_known (W.contents self.new.device) self.new.waiting) }
+        ensures kept { Keeps (append_known (W.contents self.old.device)
+            self.old.waiting) (append_known (W.contents self.new.device) self.new.waiting) }
     {
         let n = self.device.write(self.block.waiting())?;
         self.block.pass(n);
@@ -63,9 +64,11 @@ impl<W: Write> Write for BlockWriter<W> {
         ensures bound { WritesAtMost result buf.now }
         ensures bytes { WriteAppends (append_known (W.contents self.old.device) self.old.waiting)
             (append_known (W.contents self.new.device) self.new.waiting) result buf.now }
-        ensures space { length self.old.waiting < BLOCK_SIZE → result ≡ Ok (min (length buf.now) (BLOCK_SIZE - length self.old.waiting)) }
+        ensures space { length self.old.waiting < BLOCK_SIZE
+            → result ≡ Ok (min (length buf.now) (BLOCK_SIZE - length self.old.waiting)) }
         ensures unsent { length self.old.waiting < BLOCK_SIZE → self.new.device ≡ self.old.device }
-        ensures taken { length self.old.waiting < BLOCK_SIZE → self.new.waiting ≡ self.old.waiting ++ take (BLOCK_SIZE - length self.old.waiting) buf.now }
+        ensures taken { length self.old.waiting < BLOCK_SIZE → self.new.waiting
+            ≡ self.old.waiting ++ take (BLOCK_SIZE - length self.old.waiting) buf.now }
         ensures kept { IfErr result (λ _. self.new.waiting ≡ self.old.waiting) }
     {
         if self.block.waiting().len() == BLOCK_SIZE {
@@ -75,7 +78,8 @@ impl<W: Write> Write for BlockWriter<W> {
     }
 
     fn flush(&mut self) -> io::Result<()>
-        ensures bytes { Keeps (append_known (W.contents self.old.device) self.old.waiting) (append_known (W.contents self.new.device) self.new.waiting) }
+        ensures bytes { Keeps (append_known (W.contents self.old.device)
+            self.old.waiting) (append_known (W.contents self.new.device) self.new.waiting) }
         ensures empty { OnOk result (self.new.waiting ≡ []) }
     {
         while !self.block.is_empty() {

@@ -45,7 +45,8 @@ fn read_line<R: Read>(reader: &mut BlockReader<R>, line: &mut Vec<u8>) -> Ending
     ensures space { LINE_LIMIT ≤ vec_capacity line.new }
     ensures failed { (result ≡ Ending.Failed) ↔ IsTrue reader.new.wire.has_failed }
     ensures latched { IsTrue reader.old.wire.has_failed → (reader.new ≡ reader.old) }
-    ensures ends { EndsLine result (unread R.remaining reader.old.held reader.old.wire) (unread R.remaining reader.new.held reader.new.wire) line.new.items }
+    ensures ends { EndsLine result (unread R.remaining reader.old.held reader.old.wire) (unread
+        R.remaining reader.new.held reader.new.wire) line.new.items }
     ensures untouched { HasLine reader.old.held → reader.new.wire ≡ reader.old.wire }
     ensures long { result ≡ Ending.Long → vec_len line.new ≡ LINE_LIMIT }
     ensures short { vec_len line.new ≤ LINE_LIMIT }
@@ -74,7 +75,8 @@ fn read_line<R: Read>(reader: &mut BlockReader<R>, line: &mut Vec<u8>) -> Ending
 fn stop_at_limit<R: Read>(reader: &mut BlockReader<R>) -> Stop
     ensures failed { (result ≡ Stop.ReadFailed) ↔ IsTrue reader.new.wire.has_failed }
     ensures latched { IsTrue reader.old.wire.has_failed → (reader.new ≡ reader.old) }
-    ensures value { WhereKnown (unread R.remaining reader.old.held reader.old.wire) (unread R.remaining reader.new.held reader.new.wire)
+    ensures value { WhereKnown (unread R.remaining reader.old.held reader.old.wire) (unread
+        R.remaining reader.new.held reader.new.wire)
         (λ bytes left. IsStopOf 1000000 bytes left result) }
     ensures untouched { (reader.old.held ≡ [] → ⊥) → reader.new.wire ≡ reader.old.wire }
 {
@@ -95,10 +97,12 @@ fn take_line<R: Read>(
     requires few { line_count ≤ LINES_LIMIT }
     ensures space { LINE_LIMIT ≤ vec_capacity line.new }
     ensures few { IfOk result (λ _. line_count + 1 ≤ LINES_LIMIT) }
-    ensures failed { IfErr result (λ stop. (stop ≡ Stop.ReadFailed) ↔ IsTrue reader.new.wire.has_failed) }
+    ensures failed { IfErr result (λ stop.
+        (stop ≡ Stop.ReadFailed) ↔ IsTrue reader.new.wire.has_failed) }
     ensures works { IfOk result (λ _. IsTrue reader.new.wire.has_failed → ⊥) }
     ensures latched { IsTrue reader.old.wire.has_failed → (reader.new ≡ reader.old) }
-    ensures value { WhereKnown (unread R.remaining reader.old.held reader.old.wire) (unread R.remaining reader.new.held reader.new.wire)
+    ensures value { WhereKnown (unread R.remaining reader.old.held reader.old.wire) (unread
+        R.remaining reader.new.held reader.new.wire)
         (λ bytes left. IsTakenOf line_count bytes left line.new.items result) }
     ensures untouched { NeedsNoMore line_count reader.old.held → reader.new.wire ≡ reader.old.wire }
 {

@@ -27,8 +27,8 @@ pub enum Line {
 
 /// The path after a word that a line begins with, if there is one.
 fn path_after<'a>(word: &str, line: &'a str) -> Option<&'a str>
-    ensures { MatchOption result (has_path word.now line.now ≡ false)
-        (λ path. (has_path word.now line.now ≡ true) × (path.now ≡ drop (length word.now) line.now)) }
+    ensures { MatchOption result (has_path word.now line.now ≡ false) (λ path.
+        (has_path word.now line.now ≡ true) × (path.now ≡ drop (length word.now) line.now)) }
 {
     let path = line.strip_prefix(word)?;
     if path.is_empty() { None } else { Some(path) }

@@ -66,7 +66,8 @@ pub(crate) fn with_flags<'a>(
     mut command: Command<'a>,
     flags: &[(&'a str, char)],
 ) -> Result<Command<'a>, AllocError>
-    ensures { IfOk result (λ r. app_of r ≡ with_rules (app_of command.entry) (map flag_rule flags.now)) }
+    ensures { IfOk result (λ r.
+        app_of r ≡ with_rules (app_of command.entry) (map flag_rule flags.now)) }
 {
     for (id, short) in flags {
         command = command.arg(flag(alloc, id, *short))?;

@@ -151,7 +151,8 @@ fn with_tools<'a>(
     mut command: Command<'a>,
     names: &[&'a str],
 ) -> Result<Command<'a>, AllocError>
-    ensures { IfOk result (λ r. app_of r ≡ tools_added (app_of command.entry) (map (λ name. name.now) names.now)) }
+    ensures { IfOk result (λ r.
+        app_of r ≡ tools_added (app_of command.entry) (map (λ name. name.now) names.now)) }
 {
     for name in names {
         command = command.subcommand(tool_named(alloc, name)?)?;
@@ -167,7 +168,8 @@ fn tools<'a>(alloc: Global) -> Result<Command<'a>, AllocError>
 
 /// The files of a command, owned.
 fn owned_files(alloc: Global, matches: &ArgMatches<'_>) -> Result<Vec<String>, WordsFault>
-    ensures value { IfOk result (λ owned. map string_bytes owned.items ≡ values_of (rows_of (found_of matches.now)) FILE.now) }
+    ensures value { IfOk result (λ owned.
+        map string_bytes owned.items ≡ values_of (rows_of (found_of matches.now)) FILE.now) }
     ensures faults { IfErr result (λ fault. fault ≡ Memory) }
 {
     let mut owned = Vec::new(alloc);
@@ -183,7 +185,8 @@ fn owned_files(alloc: Global, matches: &ArgMatches<'_>) -> Result<Vec<String>, W
 /// The files, or the program if none is named.
 fn files_or_program(alloc: Global, mut files: Vec<String>) -> Result<Vec<String>, WordsFault>
     ensures whole { IfOk result (λ files. 0 < vec_len files) }
-    ensures value { IfOk result (λ given. map string_bytes given.items ≡ or_program (map string_bytes files.items)) }
+    ensures value { IfOk result (λ given.
+        map string_bytes given.items ≡ or_program (map string_bytes files.items)) }
     ensures faults { IfErr result (λ fault. fault ≡ Memory) }
 {
     if !files.is_empty() {
@@ -195,7 +198,8 @@ fn files_or_program(alloc: Global, mut files: Vec<String>) -> Result<Vec<String>
 
 /// The path of the output.
 fn output(alloc: Global, given: &ArgMatches<'_>) -> Result<String, WordsFault>
-    ensures value { IfOk result (λ out. string_bytes out ≡ unwrap_or (first_of OUT.now (rows_of (found_of given.now))) program) }
+    ensures value { IfOk result (λ out.
+        string_bytes out ≡ unwrap_or (first_of OUT.now (rows_of (found_of given.now))) program) }
     ensures faults { IfErr result (λ fault. fault ≡ Memory) }
 {
     let path = given.get_str(OUT).unwrap_or(PROGRAM);
@@ -205,8 +209,10 @@ fn output(alloc: Global, given: &ArgMatches<'_>) -> Result<String, WordsFault>
 fn ld_call(alloc: Global, given: &ArgMatches<'_>, files: Vec<String>) -> Result<Call, WordsFault>
     ensures whole { IfOk result IsWhole }
     ensures named { IfOk result (λ call. name_of call ≡ codes "ld") }
-    ensures asked { IfOk result (Asks (rows_of (found_of given.now)) (map string_bytes files.items)) }
-    ensures none { IfErr result (HasNoCall (codes "ld") (rows_of (found_of given.now)) (map string_bytes files.items)) }
+    ensures asked { IfOk result
+        (Asks (rows_of (found_of given.now)) (map string_bytes files.items)) }
+    ensures none { IfErr result
+        (HasNoCall (codes "ld") (rows_of (found_of given.now)) (map string_bytes files.items)) }
 {
     if files.is_empty() {
         return Err(WordsFault::Usage);
@@ -222,8 +228,10 @@ fn ld_call(alloc: Global, given: &ArgMatches<'_>, files: Vec<String>) -> Result<
 fn nm_call(alloc: Global, given: &ArgMatches<'_>, files: Vec<String>) -> Result<Call, WordsFault>
     ensures whole { IfOk result IsWhole }
     ensures named { IfOk result (λ call. name_of call ≡ codes "nm") }
-    ensures asked { IfOk result (Asks (rows_of (found_of given.now)) (map string_bytes files.items)) }
-    ensures none { IfErr result (HasNoCall (codes "nm") (rows_of (found_of given.now)) (map string_bytes files.items)) }
+    ensures asked { IfOk result
+        (Asks (rows_of (found_of given.now)) (map string_bytes files.items)) }
+    ensures none { IfErr result
+        (HasNoCall (codes "nm") (rows_of (found_of given.now)) (map string_bytes files.items)) }
 {
     Ok(Call::Nm {
         options: NmOptions {
@@ -259,8 +267,10 @@ fn call_of(
 ) -> Result<Call, WordsFault>
     ensures whole { IfOk result IsWhole }
     ensures named { IfOk result (λ call. name_of call ≡ name.now) }
-    ensures asked { IfOk result (Asks (rows_of (found_of given.now)) (map string_bytes files.items)) }
-    ensures none { IfErr result (HasNoCall name.now (rows_of (found_of given.now)) (map string_bytes files.items)) }
+    ensures asked { IfOk result
+        (Asks (rows_of (found_of given.now)) (map string_bytes files.items)) }
+    ensures none { IfErr result
+        (HasNoCall name.now (rows_of (found_of given.now)) (map string_bytes files.items)) }
 {
     match name {
         "ld" => ld_call(alloc, given, files),
@@ -276,7 +286,8 @@ fn call_of(
 
 /// How many of the words are a dash alone. Each has to be a file, since none may be the value of an option.
 fn dashes(words: &[String]) -> usize
-    ensures { result ≡ length (filter (λ word. bytes_eq (string_bytes word) (codes "-")) words.now) }
+    ensures { result
+        ≡ length (filter (λ word. bytes_eq (string_bytes word) (codes "-")) words.now) }
 {
     words.iter().filter(|word| word.as_str() == "-").count()
 }
@@ -299,7 +310,8 @@ fn dashes(words: &[String]) -> usize
 pub fn parse(alloc: Global, words: Vec<String>) -> Result<Call, WordsFault>
     ensures whole { IfOk result IsWhole }
     ensures asked { IfOk result (IsAsked (map string_bytes words.items)) }
-    ensures dashes { IfOk result (λ call. dashes_in (map string_bytes words.items) ≡ dashes_in (files_of call)) }
+    ensures dashes { IfOk result (λ call.
+        dashes_in (map string_bytes words.items) ≡ dashes_in (files_of call)) }
     ensures none { IfErr result (AsksForNone (map string_bytes words.items)) }
 {
     let matches = tools(alloc)?.try_get_matches_from(words.as_slice())?;

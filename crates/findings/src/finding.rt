@@ -121,7 +121,8 @@ impl Findings {
 
     /// Adds a finding.
     pub fn find(&mut self, place: usize, kind: FindingKind, text: Text)
-        ensures { self.new.is_cut ≡ false → (self.old.is_cut ≡ false) × (text.is_cut ≡ false) × (self.new.found ≡ self.old.found ++ found_if true place kind text.bytes) }
+        ensures { self.new.is_cut ≡ false → (self.old.is_cut ≡ false) × (text.is_cut ≡ false)
+            × (self.new.found ≡ self.old.found ++ found_if true place kind text.bytes) }
     {
         let Ok(text) = text.finish() else {
             self.is_cut = true;
@@ -141,7 +142,8 @@ impl Findings {
 
     /// The findings. An error, out of memory, if they are cut.
     pub fn finish(self) -> Result<Vec<Finding>, AllocError>
-        ensures { IfOk result (λ list. (self.is_cut ≡ false) × (all_found list.items ≡ self.found)) }
+        ensures { IfOk result (λ list.
+            (self.is_cut ≡ false) × (all_found list.items ≡ self.found)) }
     {
         let Findings { list, is_cut } = self;
         if is_cut { Err(AllocError) } else { Ok(list) }

@@ -50,7 +50,8 @@ impl Notes {
 
     /// Adds a note, which `begin` began.
     pub fn add(&mut self, note: Text)
-        ensures { self.new.is_cut ≡ false → (self.old.is_cut ≡ false) × (note.is_cut ≡ false) × (self.new.lines ≡ self.old.lines ++ note.bytes ∷ []) }
+        ensures { self.new.is_cut ≡ false → (self.old.is_cut ≡ false) × (note.is_cut ≡ false)
+            × (self.new.lines ≡ self.old.lines ++ note.bytes ∷ []) }
     {
         let Ok(line) = note.finish() else {
             self.is_cut = true;

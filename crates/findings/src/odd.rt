@@ -109,7 +109,8 @@ fn titled(findings: &Findings, at: &Numbered<'_>) -> Text
 /// Adds an empty name.
 #[tactic(auto, unfolding(crate::specs::OddTexts::empty_name_text))]
 fn find_empty_name(findings: &mut Findings, at: &Numbered<'_>)
-    ensures { Finds findings.old findings.new (odd_empty at.now.number at.now.place at.now.symbol.now) }
+    ensures { Finds findings.old findings.new
+        (odd_empty at.now.number at.now.place at.now.symbol.now) }
 {
     if at.symbol.name.as_bytes().is_empty() {
         let mut text = titled(findings, at);
@@ -129,7 +130,8 @@ fn has_hidden(name: &[u8]) -> bool
 /// Adds a name with bytes that do not print.
 #[tactic(auto, unfolding(crate::specs::OddTexts::hidden_text))]
 fn find_hidden(findings: &mut Findings, at: &Numbered<'_>)
-    ensures { Finds findings.old findings.new (odd_hidden at.now.number at.now.place at.now.symbol.now) }
+    ensures { Finds findings.old findings.new
+        (odd_hidden at.now.number at.now.place at.now.symbol.now) }
 {
     if has_hidden(at.symbol.name.as_bytes()) {
         let mut text = titled(findings, at);
@@ -187,7 +189,8 @@ fn repeated_text(findings: &Findings, at: &Numbered<'_>, first: usize) -> Text
 
 /// Adds a name that an earlier symbol has, if there is one, by its number.
 fn find_repeated(findings: &mut Findings, at: &Numbered<'_>, first: Option<usize>)
-    ensures { Finds findings.old findings.new (odd_repeated at.now.number at.now.place at.now.symbol.now first) }
+    ensures { Finds findings.old findings.new
+        (odd_repeated at.now.number at.now.place at.now.symbol.now first) }
 {
     if let Some(first) = first {
         let text = repeated_text(findings, at, first);
@@ -223,7 +226,8 @@ fn type_bits_text(findings: &Findings, at: &Numbered<'_>, bits: u16) -> Text
 /// Adds bits of the type word that are ignored.
 fn find_type_bits(findings: &mut Findings, at: &Numbered<'_>)
     requires { at.now.place < 2 ^ 32 }
-    ensures { Finds findings.old findings.new (odd_type_bits at.now.number at.now.place at.now.symbol.now) }
+    ensures { Finds findings.old findings.new
+        (odd_type_bits at.now.number at.now.place at.now.symbol.now) }
 {
     let bits = at.symbol.type_bits;
     if bits >= 0o100 {
@@ -243,8 +247,8 @@ fn has_type(symbol: &Symbol) -> bool
 /// A text that the format does not have a type.
 #[tactic(auto, unfolding(crate::specs::OddTexts::unknown_type_text))]
 fn unknown_type_text(findings: &Findings, at: &Numbered<'_>) -> Text
-    ensures { Holds result
-        (unknown_type_text (symbol_title at.now.number at.now.symbol.now.name) at.now.symbol.now.type_bits) }
+    ensures { Holds result (unknown_type_text
+        (symbol_title at.now.number at.now.symbol.now.name) at.now.symbol.now.type_bits) }
 {
     let mut text = titled(findings, at);
     text.put(" has type ");
@@ -256,7 +260,8 @@ fn unknown_type_text(findings: &Findings, at: &Numbered<'_>) -> Text
 /// Adds a type that the format does not have.
 fn find_type(findings: &mut Findings, at: &Numbered<'_>)
     requires { at.now.place < 2 ^ 32 }
-    ensures { Finds findings.old findings.new (odd_type at.now.number at.now.place at.now.symbol.now) }
+    ensures { Finds findings.old findings.new
+        (odd_type at.now.number at.now.place at.now.symbol.now) }
 {
     if !has_type(at.symbol) {
         let text = unknown_type_text(findings, at);
@@ -279,7 +284,8 @@ fn common_text(findings: &Findings, at: &Numbered<'_>, size: u16) -> Text
 /// Adds a common of an odd size.
 fn find_common(findings: &mut Findings, at: &Numbered<'_>)
     requires { at.now.place < 2 ^ 32 }
-    ensures { Finds findings.old findings.new (odd_common at.now.number at.now.place at.now.symbol.now) }
+    ensures { Finds findings.old findings.new
+        (odd_common at.now.number at.now.place at.now.symbol.now) }
 {
     let size = at.symbol.value;
     if at.symbol.is_undefined() && size % 2 == 1 {
@@ -297,8 +303,8 @@ fn outside_value_text(
     segment: Segment,
     value: u16,
 ) -> Text
-    ensures { Holds result
-        (outside_value_text header.now segment (symbol_title at.now.number at.now.symbol.now.name) value) }
+    ensures { Holds result (outside_value_text header.now segment
+        (symbol_title at.now.number at.now.symbol.now.name) value) }
 {
     let mut text = titled(findings, at);
     text.put(" ");
@@ -311,7 +317,8 @@ fn outside_value_text(
 /// Adds a value that lies outside of its segment.
 fn find_value(findings: &mut Findings, at: &Numbered<'_>, header: &Header)
     requires { at.now.place < 2 ^ 32 }
-    ensures { Finds findings.old findings.new (odd_value header.now at.now.number at.now.place at.now.symbol.now) }
+    ensures { Finds findings.old findings.new
+        (odd_value header.now at.now.number at.now.place at.now.symbol.now) }
 {
     let segment = at.symbol.segment();
     let value = at.symbol.value;
@@ -324,7 +331,8 @@ fn find_value(findings: &mut Findings, at: &Numbered<'_>, header: &Header)
 /// Adds what is odd of a type word and of a value.
 fn find_fields(findings: &mut Findings, at: &Numbered<'_>, header: &Header)
     requires { at.now.place < 2 ^ 32 }
-    ensures { Finds findings.old findings.new (odd_fields header.now at.now.number at.now.place at.now.symbol.now) }
+    ensures { Finds findings.old findings.new
+        (odd_fields header.now at.now.number at.now.place at.now.symbol.now) }
 {
     find_type_bits(findings, at);
     find_type(findings, at);
@@ -349,8 +357,8 @@ fn find_symbol(
 )
     requires few { number < 65536 }
     requires first { first ≡ first_named symbol.now.name (take number source.now.file.now.symbols) }
-    ensures { Finds findings.old findings.new
-        (odd_symbol source.now.file.now.header source.now.bytes.now (take number source.now.file.now.symbols)
+    ensures { Finds findings.old findings.new (odd_symbol source.now.file.now.header
+        source.now.bytes.now (take number source.now.file.now.symbols)
         number (symbol_at source.now.file.now.header number) symbol.now) }
 {
     let header = source.file.header();
@@ -465,7 +473,8 @@ fn find_target(
     segment: Segment,
     target: u16,
 )
-    ensures { Finds findings.old findings.new (odd_target header.now at.place at.address segment target) }
+    ensures { Finds findings.old findings.new
+        (odd_target header.now at.place at.address segment target) }
 {
     if !has_address(header, segment, target) {
         let text = outside_reference_text(findings, header, at, segment, target);
@@ -475,7 +484,8 @@ fn find_target(
 
 /// Adds what is odd of a word.
 fn find_word(findings: &mut Findings, header: &Header, at: Relocated)
-    ensures { Finds findings.old findings.new (odd_word header.now at.place at.address at.word at.reloc) }
+    ensures { Finds findings.old findings.new
+        (odd_word header.now at.place at.address at.word at.reloc) }
 {
     let segment = segment_meant(at.reloc.kind());
     find_relocation(findings, at);
@@ -502,8 +512,8 @@ fn find_words(findings: &mut Findings, header: &Header, contents: &Contents<'_>)
     requires each { length contents.now.relocs.now ≤ length contents.now.words.now }
     requires short { length contents.now.words.now < 32768 }
     requires near { contents.now.place < 2 ^ 20 }
-    ensures { Finds findings.old findings.new
-        (odd_words header.now contents.now.place contents.now.start contents.now.words.now 0 contents.now.relocs.now) }
+    ensures { Finds findings.old findings.new (odd_words header.now contents.now.place
+        contents.now.start contents.now.words.now 0 contents.now.relocs.now) }
 {
     for (number, reloc) in contents.relocs.iter().enumerate() {
         let at = Relocated {

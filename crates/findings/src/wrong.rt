@@ -274,7 +274,8 @@ fn put_bad(
     requires near { place < 2 ^ 20 }
     requires few { first < 2 ^ 20 }
     requires short { length relocs.now < 2 ^ 20 }
-    ensures { OnOk result (all_bad file.now list.new.items ≡ all_bad file.now list.old.items ++ bad_words file.now place first relocs.now) }
+    ensures { OnOk result (all_bad file.now list.new.items
+        ≡ all_bad file.now list.old.items ++ bad_words file.now place first relocs.now) }
 {
     let symbols = file.symbols();
     let mut index = first;
@@ -385,7 +386,8 @@ fn put_owner(text: &mut Text, lined: &Lined<'_>, index: usize)
 /// Adds a bad relocation word.
 fn find_bad(findings: &mut Findings, lined: &Lined<'_>, bad: BadWord)
     requires { lined.now.starts.now ≡ starts Unix lined.now.named.now }
-    ensures { Finds findings.old findings.new (found_if true bad.place bad.kind (bad_text lined.now.named.now bad)) }
+    ensures { Finds findings.old findings.new
+        (found_if true bad.place bad.kind (bad_text lined.now.named.now bad)) }
 {
     let mut text = findings.text();
     put_bad_word(&mut text, lined.named.file().symbols(), bad);

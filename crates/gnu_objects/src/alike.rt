@@ -127,7 +127,8 @@ impl<'a> NamedSymbols<'a> {
     /// The number of the first symbol that counts and whose name is alike with this one.
     pub(crate) fn alike_with(&self, name: &[u8]) -> Option<u16>
         requires { before_nul name.now ≡ name.now }
-        ensures { result ≡ alike_with self.now.strings.now self.now.externals name.now 0 self.now.symbols.now }
+        ensures { result
+            ≡ alike_with self.now.strings.now self.now.externals name.now 0 self.now.symbols.now }
     {
         found(&self.names, name)
     }

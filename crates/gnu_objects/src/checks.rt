@@ -149,7 +149,8 @@ fn alike_at(n: u16, other: Option<u16>) -> Option<Refusal>
 
 /// What is wrong with an external, of the names of those after it.
 fn alike_refusal(names: &AlikeNames, strings: &[u8], n: u16, symbol: &GnuSymbol) -> Option<Refusal>
-    ensures { result ≡ alike_among strings.now n symbol.now (found names.now (name_at strings.now symbol.now.place)) }
+    ensures { result ≡ alike_among strings.now n symbol.now
+        (found names.now (name_at strings.now symbol.now.place)) }
 {
     if !counts(strings, true, symbol) {
         return None;
@@ -193,7 +194,8 @@ fn dropped_refusal(
     n: u16,
     m: u16,
 ) -> Option<Refusal>
-    ensures { result ≡ dropped_refusal strings.now n m (slice_get symbols.now m) (slice_get flags.now m) }
+    ensures { result
+        ≡ dropped_refusal strings.now n m (slice_get symbols.now m) (slice_get flags.now m) }
 {
     let Some(symbol) = symbols.get(usize::from(m)) else {
         return None;
@@ -248,8 +250,10 @@ pub(crate) fn table_refusal(drops: bool, header: &Header, tables: &Tables<'_>) -
     requires symbols { length tables.now.symbols.now < 2 ^ 16 }
     requires flags { length tables.now.flags.now ≡ length tables.now.symbols.now }
     requires words { length tables.now.words.now ≤ 2 ^ 16 }
-    requires alike { tables.now.alike ≡ first_alike tables.now.strings.now 0 tables.now.symbols.now }
-    ensures { result ≡ table_refusal drops header.now tables.now.strings.now tables.now.symbols.now tables.now.words.now tables.now.flags.now }
+    requires alike { tables.now.alike
+        ≡ first_alike tables.now.strings.now 0 tables.now.symbols.now }
+    ensures { result ≡ table_refusal drops header.now tables.now.strings.now tables.now.symbols.now
+        tables.now.words.now tables.now.flags.now }
 {
     let Tables {
         strings,

@@ -35,7 +35,8 @@ fn clash_at(n: u16, other: Option<u16>) -> Option<Clash>
 /// What symbol `n` of one file clashes with in the other.
 fn clash_of(strings: &[u8], n: u16, symbol: &GnuSymbol, other: &NamedSymbols<'_>) -> Option<Clash>
     requires { other.now.externals ≡ true }
-    ensures { result ≡ clash_of strings.now n symbol.now other.now.strings.now other.now.symbols.now }
+    ensures { result
+        ≡ clash_of strings.now n symbol.now other.now.strings.now other.now.symbols.now }
 {
     if !counts(strings, true, symbol) {
         return None;

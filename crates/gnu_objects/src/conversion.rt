@@ -67,8 +67,10 @@ fn parts_with(
 ) -> Result<Parts, AllocError>
     requires whole { file_length header.now ≤ length bytes.now }
     requires few { count tables.now.flags.now ≤ 5461 }
-    requires words { length tables.now.words.now ≡ header.now.text_size / 2 + header.now.data_size / 2 }
-    ensures { IfOk result (λ parts. contents_of parts ≡ contents_with bytes.now header.now tables.now.strings.now tables.now.symbols.now tables.now.words.now tables.now.flags.now) }
+    requires words { length tables.now.words.now
+        ≡ header.now.text_size / 2 + header.now.data_size / 2 }
+    ensures { IfOk result (λ parts. contents_of parts ≡ contents_with bytes.now header.now
+        tables.now.strings.now tables.now.symbols.now tables.now.words.now tables.now.flags.now) }
 {
     let Tables {
         strings,
@@ -110,13 +112,17 @@ fn object_with(
 ) -> Result<Object, Refusal>
     requires header { IsObjectHeader (length bytes.now) header.now }
     requires symbols { length tables.now.symbols.now < 2 ^ 16 }
-    requires words { length tables.now.words.now ≡ header.now.text_size / 2 + header.now.data_size / 2 }
+    requires words { length tables.now.words.now
+        ≡ header.now.text_size / 2 + header.now.data_size / 2 }
     requires few { length tables.now.words.now ≤ 2 ^ 16 }
     requires flags { length tables.now.flags.now ≡ length tables.now.symbols.now }
-    requires alike { tables.now.alike ≡ first_alike tables.now.strings.now 0 tables.now.symbols.now }
-    ensures value { result ≢ Err Refusal.Memory → result ≡ converted_by drops bytes.now header.now tables.now.strings.now
-        tables.now.symbols.now tables.now.words.now tables.now.flags.now }
-    ensures refused { IfSome (table_refusal drops header.now tables.now.strings.now tables.now.symbols.now tables.now.words.now tables.now.flags.now) (λ refusal. result ≡ Err refusal) }
+    requires alike { tables.now.alike
+        ≡ first_alike tables.now.strings.now 0 tables.now.symbols.now }
+    ensures value { result ≢ Err Refusal.Memory → result ≡ converted_by drops bytes.now header.now
+        tables.now.strings.now tables.now.symbols.now tables.now.words.now tables.now.flags.now }
+    ensures refused { IfSome (table_refusal drops header.now tables.now.strings.now
+        tables.now.symbols.now tables.now.words.now tables.now.flags.now) (λ refusal.
+        result ≡ Err refusal) }
 {
     if let Some(refusal) = table_refusal(drops, header, tables) {
         return Err(refusal);
@@ -139,7 +145,8 @@ fn convert_rows(
     requires symbols { length symbols.now < 2 ^ 16 }
     requires words { length words.now ≡ header.now.text_size / 2 + header.now.data_size / 2 }
     requires few { length words.now ≤ 2 ^ 16 }
-    ensures { result ≢ Err Refusal.Memory → result ≡ converted_with options bytes.now header.now strings.now symbols.now words.now }
+    ensures { result ≢ Err Refusal.Memory
+        → result ≡ converted_with options bytes.now header.now strings.now symbols.now words.now }
 {
     let flags = staying(alloc, options.locals, strings, symbols, words)?;
     let tables = Tables {
@@ -161,8 +168,8 @@ fn convert_with(
     strings: &[u8],
 ) -> Result<Object, Refusal>
     requires { IsObjectHeader (length bytes.now) header.now }
-    ensures { result ≢ Err Refusal.Memory → result ≡ converted_with options bytes.now header.now strings.now
-        (symbols_of bytes.now header.now) (relocation_of bytes.now header.now) }
+    ensures { result ≢ Err Refusal.Memory → result ≡ converted_with options bytes.now header.now
+        strings.now (symbols_of bytes.now header.now) (relocation_of bytes.now header.now) }
 {
     let symbols = symbols_of(alloc, bytes, header)?;
     let words = relocation_of(alloc, bytes, header)?;

@@ -35,7 +35,8 @@ impl<'a> FileTable<'a> {
     pub(crate) fn read(alloc: Global, bytes: &'a [u8]) -> Result<FileTable<'a>, Refusal>
         ensures value { IfOk result (λ file. file ≡ bytes.now) }
         ensures refused { IfSome (sizes_refusal bytes.now) (λ refusal. result ≡ Err refusal) }
-        ensures memory { sizes_refusal bytes.now ≡ None → IfErr result (λ refusal. refusal ≡ Memory) }
+        ensures memory { sizes_refusal bytes.now ≡ None
+            → IfErr result (λ refusal. refusal ≡ Memory) }
     {
         let header = whole_header(bytes)?;
         Ok(FileTable {

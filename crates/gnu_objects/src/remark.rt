@@ -50,7 +50,8 @@ fn remark_of(
     symbol: &GnuSymbol,
 ) -> Option<Remark>
     requires { named.now.externals ≡ false }
-    ensures { result ≡ remark_of locals named.now.strings.now named.now.symbols.now words.now n symbol.now }
+    ensures { result
+        ≡ remark_of locals named.now.strings.now named.now.symbols.now words.now n symbol.now }
 {
     let name = name_at(named.strings, symbol.place);
     if is_stab(named.strings, symbol) {

@@ -64,7 +64,8 @@ fn stays(
     symbol: &GnuSymbol,
 ) -> bool
     requires { named.now.externals ≡ false }
-    ensures { result ≡ stays locals named.now.strings.now named.now.symbols.now words.now n symbol.now }
+    ensures { result
+        ≡ stays locals named.now.strings.now named.now.symbols.now words.now n symbol.now }
 {
     !is_stab(named.strings, symbol)
         && (is_external(symbol) || (is_chosen(locals, words, n) && !collides(named, symbol)))

@@ -85,10 +85,12 @@ impl<'a> Together<'a> {
     /// `Memory`, 16, if memory runs out, but never in place of these. The file is not added then.
     pub fn add(&mut self, alloc: Global, bytes: &'a [u8]) -> Result<Option<(usize, Clash)>, Refusal>
         ensures value { IfOk result (λ found. found ≡ clash_among self.old bytes.now) }
-        ensures added { IfOk result (λ found. IfNone found (self.new ≡ self.old ++ bytes.now ∷ [])) }
+        ensures added { IfOk result (λ found.
+            IfNone found (self.new ≡ self.old ++ bytes.now ∷ [])) }
         ensures clashed { IfOk result (λ found. IfSome found (λ _. self.new ≡ self.old)) }
         ensures refused { IfSome (sizes_refusal bytes.now) (λ refusal. result ≡ Err refusal) }
-        ensures memory { sizes_refusal bytes.now ≡ None → IfErr result (λ refusal. refusal ≡ Memory) }
+        ensures memory { sizes_refusal bytes.now ≡ None
+            → IfErr result (λ refusal. refusal ≡ Memory) }
         ensures kept { OnErr result (self.new ≡ self.old) }
     {
         let file = FileTable::read(alloc, bytes)?;

@@ -78,7 +78,8 @@ pub(crate) fn relocation_of(
 ) -> Result<Vec<u16>, AllocError>
     requires { file_length header.now ≤ length bytes.now }
     ensures value { IfOk result (λ v. v.items ≡ relocation_of bytes.now header.now) }
-    ensures count { IfOk result (λ v. length v.items ≡ header.now.text_size / 2 + header.now.data_size / 2) }
+    ensures count { IfOk result (λ v.
+        length v.items ≡ header.now.text_size / 2 + header.now.data_size / 2) }
     ensures short { IfOk result (λ v. length v.items ≤ 2 ^ 16) }
 {
     let text = usize::from(header.text_size / 2);

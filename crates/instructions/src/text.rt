@@ -222,7 +222,10 @@ fn put_operands(
     address: u16,
     references: &References,
 )
-    ensures { Puts text.old text.new (operand_after (codes " ") instruction.now.first words.0 (first_next address) address references.now.first ++ operand_after (codes ",") instruction.now.second words.1 (second_next address instruction.now.first) address references.now.second) }
+    ensures { Puts text.old text.new
+        (operand_after (codes " ") instruction.now.first words.0 (first_next address) address
+        references.now.first ++ operand_after (codes ",") instruction.now.second words.1
+        (second_next address instruction.now.first) address references.now.second) }
 {
     let next = u32::from(address) + 4;
     let later = next + 2 * instruction.words_before_second() as u32;

@@ -115,7 +115,8 @@ fn changed_step(
     before: &StateRows,
     session: &Session,
 ) -> Result<Vec<u8>, AllocError>
-    ensures { IfOk result (λ text. text.items ≡ changed_step edit.now label.now before.now session.now) }
+    ensures { IfOk result (λ text.
+        text.items ≡ changed_step edit.now label.now before.now session.now) }
 {
     let mut text = Text::new(alloc);
     put_title(&mut text, edit, label);

@@ -53,7 +53,8 @@ fn put_word_row(
     cell: Cell,
 )
     requires { 2 * index < 65536 }
-    ensures { Puts text.old text.new (word_row (image_of session.now) segment.now instructions.now index cell) }
+    ensures { Puts text.old text.new
+        (word_row (image_of session.now) segment.now instructions.now index cell) }
 {
     put_cell_row(text, session, segment, index, cell);
     put_place(text, session, index, cell);
@@ -70,7 +71,8 @@ fn word_rows(
     cells: &[Cell],
 ) -> Result<RowList, AllocError>
     requires { 2 * length cells.now ≤ 65534 }
-    ensures { IfOk result (λ l. l ≡ word_rows (image_of session.now) segment.now instructions.now cells.now) }
+    ensures { IfOk result (λ l.
+        l ≡ word_rows (image_of session.now) segment.now instructions.now cells.now) }
 {
     let mut rows = RowList::new(alloc);
     for (index, cell) in cells.iter().enumerate() {

@@ -11,7 +11,8 @@ use std::alloc::Global;
 pub(crate) fn bare_program(alloc: Global, objects: &[u8]) -> Result<Program, Refusal>
     ensures ok { IfOk result (λ program. output_in 2 [] [] objects.now ≡ Ok (outputs_of program)) }
     ensures err { IfErr result (λ r. r.cause ≢ Memory → output_in 2 [] [] objects.now ≡ Err r) }
-    ensures memory { IfErr result (λ r. r.cause ≡ Memory → LinkMayRunOut 2 [] [] objects.now r.place) }
+    ensures memory { IfErr result (λ r.
+        r.cause ≡ Memory → LinkMayRunOut 2 [] [] objects.now r.place) }
 {
     let request = LinkRequest {
         options: 2,

@@ -17,7 +17,8 @@ pub(crate) fn linked<R: Read + Drop>(
     alloc: Global,
     inputs: Vec<(String, Wire<R>)>,
 ) -> Result<Linked, CliFault>
-    ensures { IsLinkOf [] (options_of Plain false All None) (inputs_of R.remaining inputs.items) result }
+    ensures { IsLinkOf [] (options_of Plain false All None)
+        (inputs_of R.remaining inputs.items) result }
 {
     let options = Options::new(Layout::Plain, false, Keep::All, None).unwrap();
     ld(alloc, inputs, &Forced::none(), &options)

@@ -15,7 +15,8 @@ use texts::Text;
 
 /// The text of the file that the bytes begin with, as instructions with names.
 pub(crate) fn disassembled(alloc: Global, bytes: &[u8]) -> Result<Vec<u8>, ReadFault>
-    ensures ok { IfOk result (λ text. option_map (disassembly Unix) (result_ok (decode bytes.now)) ≡ Some text.items) }
+    ensures ok { IfOk result (λ text.
+        option_map (disassembly Unix) (result_ok (decode bytes.now)) ≡ Some text.items) }
     ensures err { IfErr result (λ fault. fault ≢ Memory → IsReadOf (Err fault) bytes.now) }
 {
     let file = read_file(alloc, &mut Wire::new(bytes))?;

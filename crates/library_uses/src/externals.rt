@@ -13,7 +13,9 @@ pub(crate) fn externals_and_sizes(
     path: String,
     file: File,
 ) -> Result<Vec<u8>, ToolFault>
-    ensures { IfOk result (λ text. text.items ≡ nm_text (record { external = true; by_value = false; each_line = false; table_order = false; reverse = false; undefined = false }) ((string_bytes path, file) ∷ []) ++ size_text ((string_bytes path, file) ∷ [])) }
+    ensures { IfOk result (λ text. text.items ≡ nm_text
+        (record { external = true; by_value = false; each_line = false; table_order = false; reverse = false; undefined = false })
+        ((string_bytes path, file) ∷ []) ++ size_text ((string_bytes path, file) ∷ [])) }
 {
     let options = NmOptions {
         external: true,

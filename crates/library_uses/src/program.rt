@@ -13,7 +13,8 @@ use std::alloc::Global;
 
 /// What `ld` without options makes of the objects of a session.
 pub(crate) fn program_of(alloc: Global, session: &Session) -> Result<Linked, LinkFault>
-    ensures { IsLinkOf result (link session.now.forced (objects session.now.entries) (options_of Plain false All None)) }
+    ensures { IsLinkOf result
+        (link session.now.forced (objects session.now.entries) (options_of Plain false All None)) }
 {
     let options = Options::new(Layout::Plain, false, Keep::All, None).unwrap();
     finish(alloc, session, &options)

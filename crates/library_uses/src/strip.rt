@@ -11,7 +11,8 @@ use std::alloc::Global;
 
 /// The file that the bytes begin with, as bytes, without its symbols and its relocation.
 pub(crate) fn stripped_bytes(alloc: Global, bytes: &[u8]) -> Result<Vec<u8>, ReadFault>
-    ensures ok { IfOk result (λ copy. option_map (λ file. encoding (stripped file)) (result_ok (decode bytes.now)) ≡ Some copy.items) }
+    ensures ok { IfOk result (λ copy. option_map (λ file. encoding (stripped file))
+        (result_ok (decode bytes.now)) ≡ Some copy.items) }
     ensures err { IfErr result (λ fault. IsReadOf (Err fault) bytes.now) }
 {
     let file = read_file(alloc, &mut Wire::new(bytes))?;

@@ -15,9 +15,13 @@ pub(crate) fn new_names(
     label: String,
     object: Object,
 ) -> Result<u16, AddRefused>
-    ensures fits { OnOk result (refusal session.old.forced (objects session.old.entries) object ≡ None) }
-    ensures cause { IfErr result (λ refused. IsCause (refusal session.old.forced (objects session.old.entries) object) refused.cause) }
-    ensures count { IfOk result (λ n. n ≡ length (image session.old.forced (objects (session.old.entries ++ labelled label object ∷ []))).externals - length (image session.old.forced (objects session.old.entries)).externals) }
+    ensures fits { OnOk result
+        (refusal session.old.forced (objects session.old.entries) object ≡ None) }
+    ensures cause { IfErr result (λ refused.
+        IsCause (refusal session.old.forced (objects session.old.entries) object) refused.cause) }
+    ensures count { IfOk result (λ n. n ≡ length (image session.old.forced
+        (objects (session.old.entries ++ labelled label object ∷ []))).externals
+        - length (image session.old.forced (objects session.old.entries)).externals) }
     ensures same { session.new ≡ session.old }
 {
     let before = session.external_count();

@@ -25,8 +25,10 @@ fn put_file(
     label: &str,
     file: &File,
 ) -> Result<(), AllocError>
-    ensures members { OnOk result (members.new.items ≡ members.old.items ++ member_of (record { label = label.now; object = file.now }) ∷ []) }
-    ensures uses { OnOk result (uses.new.items ≡ uses.old.items ++ uses_in (length members.old.items) file.now) }
+    ensures members { OnOk result (members.new.items
+        ≡ members.old.items ++ member_of (record { label = label.now; object = file.now }) ∷ []) }
+    ensures uses { OnOk result
+        (uses.new.items ≡ uses.old.items ++ uses_in (length members.old.items) file.now) }
 {
     put_uses(alloc, uses, members.len(), file)?;
     put_member(alloc, members, label, file)
@@ -39,8 +41,10 @@ fn put_entry(
     uses: &mut Vec<Use>,
     entry: &Entry,
 ) -> Result<(), AllocError>
-    ensures members { OnOk result (members.new.items ≡ members.old.items ++ member_of entry.now ∷ []) }
-    ensures uses { OnOk result (uses.new.items ≡ uses.old.items ++ uses_in (length members.old.items) entry.now.object) }
+    ensures members { OnOk result
+        (members.new.items ≡ members.old.items ++ member_of entry.now ∷ []) }
+    ensures uses { OnOk result
+        (uses.new.items ≡ uses.old.items ++ uses_in (length members.old.items) entry.now.object) }
 {
     put_file(alloc, members, uses, entry.label(), entry.object().file())
 }
@@ -52,8 +56,10 @@ fn put_one_left(
     uses: &mut Vec<Use>,
     one: &Left,
 ) -> Result<(), AllocError>
-    ensures members { OnOk result (members.new.items ≡ members.old.items ++ member_of one.now ∷ []) }
-    ensures uses { OnOk result (uses.new.items ≡ uses.old.items ++ uses_in (length members.old.items) one.now.object) }
+    ensures members { OnOk result
+        (members.new.items ≡ members.old.items ++ member_of one.now ∷ []) }
+    ensures uses { OnOk result
+        (uses.new.items ≡ uses.old.items ++ uses_in (length members.old.items) one.now.object) }
 {
     put_file(alloc, members, uses, one.label.as_str(), one.object.file())
 }
@@ -65,8 +71,10 @@ fn put_entries(
     uses: &mut Vec<Use>,
     entries: &[Entry],
 ) -> Result<(), AllocError>
-    ensures members { OnOk result (members.new.items ≡ members.old.items ++ map member_of entries.now) }
-    ensures uses { OnOk result (uses.new.items ≡ uses.old.items ++ uses_from (length members.old.items) (objects entries.now)) }
+    ensures members { OnOk result
+        (members.new.items ≡ members.old.items ++ map member_of entries.now) }
+    ensures uses { OnOk result (uses.new.items
+        ≡ uses.old.items ++ uses_from (length members.old.items) (objects entries.now)) }
 {
     for entry in entries {
         put_entry(alloc, members, uses, entry)?;
@@ -81,8 +89,10 @@ fn put_left(
     uses: &mut Vec<Use>,
     left: &[Left],
 ) -> Result<(), AllocError>
-    ensures members { OnOk result (members.new.items ≡ members.old.items ++ map member_of left.now) }
-    ensures uses { OnOk result (uses.new.items ≡ uses.old.items ++ uses_from (length members.old.items) (objects left.now)) }
+    ensures members { OnOk result
+        (members.new.items ≡ members.old.items ++ map member_of left.now) }
+    ensures uses { OnOk result (uses.new.items
+        ≡ uses.old.items ++ uses_from (length members.old.items) (objects left.now)) }
 {
     for one in left {
         put_one_left(alloc, members, uses, one)?;
@@ -93,7 +103,8 @@ fn put_left(
 /// The objects of a map, and the uses of forced names and of the names in the objects. An error: out of memory.
 pub(crate) fn gather(alloc: Global, all: &Objects, forced: &Forced) -> Result<Gathered, AllocError>
     ensures members { IfOk result (λ g. g.members.items ≡ map member_of (all_of all.now)) }
-    ensures uses { IfOk result (λ g. g.uses.items ≡ uses_in_order forced.now (objects (all_of all.now))) }
+    ensures uses { IfOk result (λ g.
+        g.uses.items ≡ uses_in_order forced.now (objects (all_of all.now))) }
 {
     let mut members = Vec::new(alloc);
     let mut uses = Vec::new(alloc);

@@ -70,7 +70,8 @@ fn put_file(
     is_relocatable: bool,
     linked: &Result<Linked, LinkFault>,
 ) -> Result<(), AllocError>
-    ensures { OnOk result (limits.new.items ≡ limits.old.items ++ file_limits is_relocatable linked.now) }
+    ensures { OnOk result
+        (limits.new.items ≡ limits.old.items ++ file_limits is_relocatable linked.now) }
 {
     let Ok(linked) = linked else {
         return Ok(());
@@ -90,7 +91,8 @@ fn put_link(
     session: &Session,
     outcome: &Option<Outcome>,
 ) -> Result<(), AllocError>
-    ensures { OnOk result (limits.new.items ≡ limits.old.items ++ link_limits is_relocatable session.now outcome.now) }
+    ensures { OnOk result (limits.new.items
+        ≡ limits.old.items ++ link_limits is_relocatable session.now outcome.now) }
 {
     let Some(outcome) = outcome else {
         return Ok(());
@@ -111,7 +113,8 @@ pub fn limits_of(
     objects: &Objects,
     options: &Options,
 ) -> Result<Vec<LimitRecord>, AllocError>
-    ensures { IfOk result (λ limits. limits.items ≡ map_limits options.now.relocatable objects.now.session map.now.members.items map.now.outcome) }
+    ensures { IfOk result (λ limits. limits.items ≡ map_limits options.now.relocatable
+        objects.now.session map.now.members.items map.now.outcome) }
 {
     let mut limits = size_limits(alloc, &map.members)?;
     put_link(

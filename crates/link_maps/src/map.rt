@@ -34,7 +34,8 @@ fn outcome_unless_refused(
     options: &Options,
 ) -> Result<Option<Outcome>, AllocError>
     ensures made { IfOk result (λ outcome. is_some outcome ≡ not (is_some objects.now.refused)) }
-    ensures outcome { IfOk result (λ outcome. IfSome outcome (λ o. IsOutcome o objects.now.session options.now)) }
+    ensures outcome { IfOk result (λ outcome.
+        IfSome outcome (λ o. IsOutcome o objects.now.session options.now)) }
 {
     if objects.refused.is_some() {
         return Ok(None);
@@ -63,10 +64,13 @@ pub fn map_of(
     options: &Options,
 ) -> Result<LinkMap, AllocError>
     ensures members { IfOk result (λ m. m.members.items ≡ map member_of (all_of all.now)) }
-    ensures places { IfOk result (λ m. m.places.items ≡ places_from (first_places (bases_of m.outcome)) (map member_of (all_of all.now))) }
-    ensures uses { IfOk result (λ m. m.uses.items ≡ uses_in_order forced.now (objects (all_of all.now))) }
+    ensures places { IfOk result (λ m. m.places.items
+        ≡ places_from (first_places (bases_of m.outcome)) (map member_of (all_of all.now))) }
+    ensures uses { IfOk result (λ m.
+        m.uses.items ≡ uses_in_order forced.now (objects (all_of all.now))) }
     ensures made { IfOk result (λ m. is_some m.outcome ≡ not (is_some all.now.refused)) }
-    ensures outcome { IfOk result (λ m. IfSome m.outcome (λ o. IsOutcome o all.now.session options.now)) }
+    ensures outcome { IfOk result (λ m.
+        IfSome m.outcome (λ o. IsOutcome o all.now.session options.now)) }
 {
     let outcome = outcome_unless_refused(alloc, all, options)?;
     let Gathered { members, uses } = gather(alloc, all, forced)?;

@@ -69,10 +69,15 @@ pub fn records_of(
     objects: &Objects,
     options: &Options,
 ) -> Result<MapRecords, AllocError>
-    ensures objects { IfOk result (λ r. r.objects.items ≡ object_records whole.now.members.items whole.now.places.items) }
-    ensures names { IfOk result (λ r. r.names.items ≡ map (record_of (knowledge_of whole.now.outcome objects.now.session)) (by_name whole.now.uses.items)) }
-    ensures uses { IfOk result (λ r. r.uses.items ≡ records_from whole.now.places.items 0 (by_name whole.now.uses.items)) }
-    ensures limits { IfOk result (λ r. r.limits.items ≡ map_limits options.now.relocatable objects.now.session whole.now.members.items whole.now.outcome) }
+    ensures objects { IfOk result (λ r.
+        r.objects.items ≡ object_records whole.now.members.items whole.now.places.items) }
+    ensures names { IfOk result (λ r.
+        r.names.items ≡ map (record_of (knowledge_of whole.now.outcome objects.now.session))
+        (by_name whole.now.uses.items)) }
+    ensures uses { IfOk result (λ r.
+        r.uses.items ≡ records_from whole.now.places.items 0 (by_name whole.now.uses.items)) }
+    ensures limits { IfOk result (λ r. r.limits.items ≡ map_limits options.now.relocatable
+        objects.now.session whole.now.members.items whole.now.outcome) }
 {
     Ok(MapRecords {
         objects: object_records(alloc, &whole.members, &whole.places)?,

@@ -64,9 +64,12 @@ fn add(
     label: String,
     object: Object,
 ) -> Result<Option<Refused>, AllocError>
-    ensures cause { IfOk result (λ refused. cause_of refused ≡ refusal session.old.forced (objects session.old.entries) object) }
-    ensures left { IfOk result (λ refused. left_of refused ≡ (if is_some (cause_of refused) then labelled label object ∷ [] else [])) }
-    ensures entries { IfOk result (λ refused. session.new.entries ≡ (if is_some (cause_of refused) then session.old.entries else session.old.entries ++ labelled label object ∷ [])) }
+    ensures cause { IfOk result (λ refused.
+        cause_of refused ≡ refusal session.old.forced (objects session.old.entries) object) }
+    ensures left { IfOk result (λ refused.
+        left_of refused ≡ (if is_some (cause_of refused) then labelled label object ∷ [] else [])) }
+    ensures entries { IfOk result (λ refused. session.new.entries ≡ (if is_some (cause_of refused)
+        then session.old.entries else session.old.entries ++ labelled label object ∷ [])) }
     ensures forced { session.new.forced ≡ session.old.forced }
 {
     let Err(refused) = session.add(label, object) else {
@@ -108,9 +111,15 @@ impl Objects {
     ///
     /// An error: out of memory.
     pub fn take(&mut self, alloc: Global, label: String, object: Object) -> Result<(), AllocError>
-        ensures cause { OnOk result (cause_of self.new.refused ≡ first_of (cause_of self.old.refused) (refusal self.old.session.forced (objects self.old.session.entries) object)) }
-        ensures left { OnOk result (left_of self.new.refused ≡ (if is_some (cause_of self.new.refused) then left_of self.old.refused ++ labelled label object ∷ [] else [])) }
-        ensures entries { OnOk result (self.new.session.entries ≡ (if is_some (cause_of self.new.refused) then self.old.session.entries else self.old.session.entries ++ labelled label object ∷ [])) }
+        ensures cause { OnOk result (cause_of self.new.refused
+            ≡ first_of (cause_of self.old.refused)
+            (refusal self.old.session.forced (objects self.old.session.entries) object)) }
+        ensures left { OnOk result (left_of self.new.refused
+            ≡ (if is_some (cause_of self.new.refused)
+            then left_of self.old.refused ++ labelled label object ∷ [] else [])) }
+        ensures entries { OnOk result (self.new.session.entries
+            ≡ (if is_some (cause_of self.new.refused) then self.old.session.entries
+            else self.old.session.entries ++ labelled label object ∷ [])) }
         ensures forced { self.new.session.forced ≡ self.old.session.forced }
     {
         match &mut self.refused {
@@ -173,7 +182,8 @@ pub(crate) fn put_member(
     label: &str,
     file: &File,
 ) -> Result<(), AllocError>
-    ensures { OnOk result (members.new.items ≡ members.old.items ++ member_of (record { label = label.now; object = file.now }) ∷ []) }
+    ensures { OnOk result (members.new.items
+        ≡ members.old.items ++ member_of (record { label = label.now; object = file.now }) ∷ []) }
 {
     members.push(Member {
         label: String::from_str(alloc, label)?,

@@ -184,7 +184,8 @@ pub(crate) fn name_records(
     known: &Known<'_>,
     uses: &[Use],
 ) -> Result<Vec<NameRecord>, AllocError>
-    ensures { IfOk result (λ records. records.items ≡ map (record_of (knowledge known.now)) (by_name uses.now)) }
+    ensures { IfOk result (λ records.
+        records.items ≡ map (record_of (knowledge known.now)) (by_name uses.now)) }
 {
     let mut records = Vec::new(alloc);
     let mut rest = uses;

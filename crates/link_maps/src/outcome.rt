@@ -30,7 +30,8 @@ fn link_of(
     session: &Session,
     options: &Options,
 ) -> Result<Result<Linked, LinkFault>, AllocError>
-    ensures link { IfOk result (λ linked. IsLinkOf linked (link session.now.forced (objects session.now.entries) options.now)) }
+    ensures link { IfOk result (λ linked.
+        IsLinkOf linked (link session.now.forced (objects session.now.entries) options.now)) }
     ensures no_memory { IfOk result (λ linked. linked ≢ Err Memory) }
 {
     match finish(alloc, session, options) {
@@ -69,8 +70,10 @@ fn row_at(rows: &[Symbol], index: Option<u16>) -> Option<Symbol>
 
 /// The row of a name, among the rows of a session's externals by first mention; none for a name that nothing mentions. (ld(1))
 pub fn row_of(session: &Session, rows: &[Symbol], name: &Name) -> Option<Symbol>
-    ensures place { result ≡ row_at rows.now (position (bytes_eq name.now) (externals session.now.forced (objects session.now.entries))) }
-    ensures planned { (o : Choices) → rows.now ≡ external_rows (plan_of session.now o) → (result ≡ row_of session.now o name.now) }
+    ensures place { result ≡ row_at rows.now (position (bytes_eq name.now)
+        (externals session.now.forced (objects session.now.entries))) }
+    ensures planned { (o : Choices) → rows.now ≡ external_rows (plan_of session.now o)
+        → (result ≡ row_of session.now o name.now) }
 {
     let index = session.find(name);
     row_at(rows, index)

@@ -193,7 +193,8 @@ fn put_words(
     number: usize,
     used: &Use,
 ) -> Result<(), AllocError>
-    ensures { OnOk result (records.new.items ≡ records.old.items ++ map (word_record at.now (number_or_none used.now.object) number) used.now.references) }
+    ensures { OnOk result (records.new.items ≡ records.old.items
+        ++ map (word_record at.now (number_or_none used.now.object) number) used.now.references) }
 {
     let object = number_or_none(used.object);
     for word in &used.references {
@@ -209,7 +210,8 @@ fn put_use(
     number: usize,
     used: &Use,
 ) -> Result<(), AllocError>
-    ensures { OnOk result (records.new.items ≡ records.old.items ++ use_records places.now number used.now) }
+    ensures { OnOk result
+        (records.new.items ≡ records.old.items ++ use_records places.now number used.now) }
 {
     records.push(use_record(number, used))?;
     let at = places_in(places, used.object);
@@ -223,7 +225,8 @@ fn put_uses(
     number: usize,
     uses: &[Use],
 ) -> Result<(), AllocError>
-    ensures { OnOk result (records.new.items ≡ records.old.items ++ flat_map (use_records places.now number) uses.now) }
+    ensures { OnOk result (records.new.items
+        ≡ records.old.items ++ flat_map (use_records places.now number) uses.now) }
 {
     for used in uses {
         put_use(records, places, number, used)?;
@@ -257,7 +260,8 @@ pub(crate) fn use_records(
     places: &[Places],
     uses: &[Use],
 ) -> Result<Vec<UseRecord>, AllocError>
-    ensures { IfOk result (λ records. records.items ≡ records_from places.now 0 (by_name uses.now)) }
+    ensures { IfOk result (λ records.
+        records.items ≡ records_from places.now 0 (by_name uses.now)) }
 {
     let mut records = Vec::new(alloc);
     let mut number = 0;

@@ -90,7 +90,8 @@ fn line_of(starts: &[bool], part: Part, offset: u16) -> u16
 
 /// The label before a line.
 fn before_line(lined: &Lined<'_>, part: Part, line: u16) -> Option<Before>
-    requires { AreSorted lined.now.file.now.symbols lined.now.text_labels.now lined.now.data_labels.now }
+    requires { AreSorted lined.now.file.now.symbols lined.now.text_labels.now
+        lined.now.data_labels.now }
     ensures { result ≡ before_line lined.now.file.now part line }
 {
     let address = line.wrapping_add(start_of(lined.file, part));
@@ -103,7 +104,8 @@ fn before_line(lined: &Lined<'_>, part: Part, line: u16) -> Option<Before>
 /// Appends the text of the line that has a word of text: an instruction or a plain word, with the names of the object. For a
 /// word of data it appends nothing.
 pub fn put_line_of(text: &mut Text, named: &NamedFile<'_>, reference: &ReferringWord)
-    ensures { Puts text.old text.new (text_of_line named.now reference.now.part reference.now.line) }
+    ensures { Puts text.old text.new
+        (text_of_line named.now reference.now.part reference.now.line) }
 {
     let place = usize::from(reference.line / 2);
     match reference.part {
@@ -143,8 +145,11 @@ fn put_word(
     offset: u16,
     reloc: Reloc,
 ) -> Result<(), AllocError>
-    requires { AreSorted lined.now.file.now.symbols lined.now.text_labels.now lined.now.data_labels.now }
-    ensures { OnOk result (lists_of lists.new.items ≡ each_more (λ n. reference_by lined.now.starts.now lined.now.file.now part n offset reloc) 0 (lists_of lists.old.items)) }
+    requires { AreSorted lined.now.file.now.symbols lined.now.text_labels.now
+        lined.now.data_labels.now }
+    ensures { OnOk result (lists_of lists.new.items
+        ≡ each_more (λ n. reference_by lined.now.starts.now lined.now.file.now part n offset reloc)
+        0 (lists_of lists.old.items)) }
 {
     if !has_symbol(reloc) {
         return Ok(());
@@ -168,8 +173,11 @@ fn put_words(
     lined: &Lined<'_>,
     part: Part,
 ) -> Result<(), AllocError>
-    requires { AreSorted lined.now.file.now.symbols lined.now.text_labels.now lined.now.data_labels.now }
-    ensures { OnOk result (lists_of lists.new.items ≡ each_more (λ n. references_of lined.now.starts.now lined.now.file.now part n) 0 (lists_of lists.old.items)) }
+    requires { AreSorted lined.now.file.now.symbols lined.now.text_labels.now
+        lined.now.data_labels.now }
+    ensures { OnOk result (lists_of lists.new.items
+        ≡ each_more (λ n. references_of lined.now.starts.now lined.now.file.now part n) 0
+        (lists_of lists.old.items)) }
 {
     let relocs = relocs_of(lined.file, part);
     let mut offset = 0u16;
@@ -187,8 +195,10 @@ pub(crate) fn references_by_symbol(
     alloc: Global,
     lined: &Lined<'_>,
 ) -> Result<Vec<Vec<ReferringWord>>, AllocError>
-    requires { AreSorted lined.now.file.now.symbols lined.now.text_labels.now lined.now.data_labels.now }
-    ensures { IfOk result (λ lists. lists_of lists.items ≡ by_symbol lined.now.starts.now lined.now.file.now 0 (length lined.now.file.now.symbols)) }
+    requires { AreSorted lined.now.file.now.symbols lined.now.text_labels.now
+        lined.now.data_labels.now }
+    ensures { IfOk result (λ lists. lists_of lists.items
+        ≡ by_symbol lined.now.starts.now lined.now.file.now 0 (length lined.now.file.now.symbols)) }
 {
     let mut lists = empty_lists(alloc, lined.file.symbols().len())?;
     put_words(&mut lists, lined, Part::Text)?;

@@ -69,7 +69,8 @@ fn put_use(
     symbol: &Symbol,
     references: Vec<ReferringWord>,
 ) -> Result<(), AllocError>
-    ensures { OnOk result (uses.new.items ≡ uses.old.items ++ use_with object symbol.now references.items) }
+    ensures { OnOk result
+        (uses.new.items ≡ uses.old.items ++ use_with object symbol.now references.items) }
 {
     if !symbol.is_external() {
         return Ok(());
@@ -90,7 +91,8 @@ fn put_symbols(
     lists: Vec<Vec<ReferringWord>>,
 ) -> Result<(), AllocError>
     requires { length lists.items ≡ length symbols.now }
-    ensures { OnOk result (uses.new.items ≡ uses.old.items ++ uses_with object symbols.now (lists_of lists.items)) }
+    ensures { OnOk result
+        (uses.new.items ≡ uses.old.items ++ uses_with object symbols.now (lists_of lists.items)) }
 {
     for (number, references) in lists.into_iter().enumerate() {
         put_use(uses, object, &symbols[number], references)?;

@@ -41,8 +41,10 @@ fn take_byte(
     place: usize,
     byte: u8,
 ) -> Result<(u8, u8), RowFault>
-    ensures ok { IfOk result (λ s. (rest : List ℕ) → bytes_from bytes.new.items s.0 s.1 rest ≡ bytes_from bytes.old.items left sum (byte ∷ rest)) }
-    ensures err { IfErr result (λ e. (rest : List ℕ) → Fails e (in_column place (bytes_from bytes.old.items left sum (byte ∷ rest)))) }
+    ensures ok { IfOk result (λ s. (rest : List ℕ) → bytes_from bytes.new.items s.0 s.1 rest
+        ≡ bytes_from bytes.old.items left sum (byte ∷ rest)) }
+    ensures err { IfErr result (λ e. (rest : List ℕ)
+        → Fails e (in_column place (bytes_from bytes.old.items left sum (byte ∷ rest)))) }
 {
     if left == 0 {
         if byte == b'\\' {

@@ -28,8 +28,10 @@ fn read_line(
     line: &[u8],
 ) -> Result<(), ListingFault>
     requires { IsDraft (draft_of draft.old) }
-    ensures goes { Goes (draft_of draft.new) result (in_line number line.now (row_read (draft_of draft.old) (row_of line.now))) }
-    ensures memory { IfErr result (λ fault. fault ≡ Memory → IsEntry (draft_of draft.old) (row_of line.now)) }
+    ensures goes { Goes (draft_of draft.new) result
+        (in_line number line.now (row_read (draft_of draft.old) (row_of line.now))) }
+    ensures memory { IfErr result (λ fault.
+        fault ≡ Memory → IsEntry (draft_of draft.old) (row_of line.now)) }
 {
     match read_row(alloc, draft, line) {
         Ok(()) => Ok(()),
@@ -45,9 +47,11 @@ fn read_line(
 /// Reads all lines.
 fn read_lines(alloc: Global, draft: &mut FileDraft, text: &[u8]) -> Result<(), ListingFault>
     requires { IsDraft (draft_of draft.old) }
-    ensures goes { Goes (draft_of draft.new) result (lines_read 1 (draft_of draft.old) (lines_in text.now)) }
+    ensures goes { Goes (draft_of draft.new) result
+        (lines_read 1 (draft_of draft.old) (lines_in text.now)) }
     ensures whole { IfOk result (λ u. IsDraft (draft_of draft.new)) }
-    ensures memory { IfErr result (λ fault. fault ≡ Memory → MayRunOutInLines (draft_of draft.old) (lines_in text.now)) }
+    ensures memory { IfErr result (λ fault.
+        fault ≡ Memory → MayRunOutInLines (draft_of draft.old) (lines_in text.now)) }
 {
     let mut rest = text;
     let mut number = 1usize;
@@ -111,7 +115,8 @@ fn read_all(alloc: Global, text: &[u8]) -> Result<File, ListingFault>
 pub fn read_listing(alloc: Global, text: &[u8]) -> Result<File, ListingFault>
     ensures says { Says result (read text.now) }
     ensures memory { IfErr result (λ fault. fault ≡ Memory → ListingMayRunOut text.now) }
-    ensures again { (x : Remarks) (c : Contents) → AreRemarks x → IsSound c → text.now ≡ listing x c → Gives result c }
+    ensures again { (x : Remarks) (c : Contents) → AreRemarks x → IsSound c → text.now ≡ listing x c
+        → Gives result c }
 {
     read_all(alloc, text)
 }

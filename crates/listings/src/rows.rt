@@ -35,7 +35,8 @@ fn reloc_of(flag: u16, third: &[u8]) -> Result<Option<Reloc>, RowFault>
 
 /// Adds a word and its relocation word.
 fn add_word(segment: &mut SegmentDraft, word: u16, reloc: Option<Reloc>) -> Result<(), RowFault>
-    ensures { Leaves (segment_of segment.new) result (Ok (with_word (segment_of segment.old) word (option_to_list reloc))) }
+    ensures { Leaves (segment_of segment.new) result
+        (Ok (with_word (segment_of segment.old) word (option_to_list reloc))) }
 {
     segment.words.push(word)?;
     match reloc {
@@ -52,7 +53,8 @@ fn word_entry(
     columns: Columns,
 ) -> Result<(), RowFault>
     requires { start < 2 ^ 32 }
-    ensures { Leaves (segment_of segment.new) result (word_entry start flag (segment_of segment.old) (row_in columns.entry)) }
+    ensures { Leaves (segment_of segment.new) result
+        (word_entry start flag (segment_of segment.old) (row_in columns.entry)) }
 {
     let at = number_at(0, columns.first)?;
     let word = number_at(1, columns.second)?;
@@ -69,7 +71,8 @@ fn word_entry(
 
 /// Reads an entry of the symbol table.
 fn symbol_entry(alloc: Global, symbols: &mut Vec<Symbol>, columns: Columns) -> Result<(), RowFault>
-    ensures { Leaves symbols.new.items result (symbol_entry symbols.old.items (row_in columns.entry)) }
+    ensures { Leaves symbols.new.items result
+        (symbol_entry symbols.old.items (row_in columns.entry)) }
 {
     let number = number_at(0, columns.first)?;
     let name = name_at(alloc, 1, columns.second)?;
@@ -93,7 +96,8 @@ fn symbol_entry(alloc: Global, symbols: &mut Vec<Symbol>, columns: Columns) -> R
 /// Reads a row that begins with a digit.
 fn entry_in(alloc: Global, draft: &mut FileDraft, columns: Columns) -> Result<(), RowFault>
     requires { IsDraft (draft_of draft.old) }
-    ensures left { Leaves (draft_of draft.new) result (entry_in draft.old.section (draft_of draft.old) (row_in columns.entry)) }
+    ensures left { Leaves (draft_of draft.new) result
+        (entry_in draft.old.section (draft_of draft.old) (row_in columns.entry)) }
     ensures memory { IfErr result (λ fault. fault ≡ Memory → draft.old.section ≢ InHeader) }
 {
     match draft.section {
@@ -170,7 +174,8 @@ fn open(draft: &mut FileDraft, section: Section) -> Result<(), RowFault>
 
 /// Takes the size of bss.
 fn take_bss(draft: &mut FileDraft, second: &[u8]) -> Result<(), RowFault>
-    ensures left { Leaves (draft_of draft.new) result (named_by Bss (draft_of draft.old) (in_column 1 (number second.now))) }
+    ensures left { Leaves (draft_of draft.new) result
+        (named_by Bss (draft_of draft.old) (in_column 1 (number second.now))) }
     ensures no_memory { IfErr result (λ fault. fault ≢ Memory) }
 {
     let size = number_at(1, second)?;
@@ -183,7 +188,8 @@ fn take_bss(draft: &mut FileDraft, second: &[u8]) -> Result<(), RowFault>
 
 /// Takes the magic number.
 fn take_magic(draft: &mut FileDraft, second: &[u8]) -> Result<(), RowFault>
-    ensures left { Leaves (draft_of draft.new) result (named_by Magic (draft_of draft.old) (in_column 1 (number second.now))) }
+    ensures left { Leaves (draft_of draft.new) result
+        (named_by Magic (draft_of draft.old) (in_column 1 (number second.now))) }
     ensures no_memory { IfErr result (λ fault. fault ≢ Memory) }
 {
     if draft.section != Section::InHeader {
@@ -199,7 +205,8 @@ fn take_magic(draft: &mut FileDraft, second: &[u8]) -> Result<(), RowFault>
 
 /// Takes the flag.
 fn take_flag(draft: &mut FileDraft, second: &[u8]) -> Result<(), RowFault>
-    ensures left { Leaves (draft_of draft.new) result (named_by Flag (draft_of draft.old) (in_column 1 (number second.now))) }
+    ensures left { Leaves (draft_of draft.new) result
+        (named_by Flag (draft_of draft.old) (in_column 1 (number second.now))) }
     ensures no_memory { IfErr result (λ fault. fault ≢ Memory) }
 {
     if draft.section != Section::InHeader {
@@ -211,7 +218,8 @@ fn take_flag(draft: &mut FileDraft, second: &[u8]) -> Result<(), RowFault>
 
 /// Takes what a word says.
 fn take_word(draft: &mut FileDraft, word: Word, second: &[u8]) -> Result<(), RowFault>
-    ensures left { Leaves (draft_of draft.new) result (named_by word (draft_of draft.old) (in_column 1 (number second.now))) }
+    ensures left { Leaves (draft_of draft.new) result
+        (named_by word (draft_of draft.old) (in_column 1 (number second.now))) }
     ensures no_memory { IfErr result (λ fault. fault ≢ Memory) }
 {
     match word {
@@ -235,7 +243,8 @@ fn take_word(draft: &mut FileDraft, word: Word, second: &[u8]) -> Result<(), Row
 
 /// Reads a row that begins with a word.
 fn named(draft: &mut FileDraft, columns: Columns) -> Result<(), RowFault>
-    ensures left { Leaves (draft_of draft.new) result (named (draft_of draft.old) (row_in columns.entry)) }
+    ensures left { Leaves (draft_of draft.new) result
+        (named (draft_of draft.old) (row_in columns.entry)) }
     ensures no_memory { IfErr result (λ fault. fault ≢ Memory) }
 {
     if draft.section == Section::InSymbols {
@@ -255,8 +264,10 @@ fn is_label(columns: Columns) -> bool
 /// Reads a row.
 pub(crate) fn read_row(alloc: Global, draft: &mut FileDraft, line: &[u8]) -> Result<(), RowFault>
     requires { IsDraft (draft_of draft.old) }
-    ensures left { Leaves (draft_of draft.new) result (row_read (draft_of draft.old) (row_of line.now)) }
-    ensures memory { IfErr result (λ fault. fault ≡ Memory → IsEntry (draft_of draft.old) (row_of line.now)) }
+    ensures left { Leaves (draft_of draft.new) result
+        (row_read (draft_of draft.old) (row_of line.now)) }
+    ensures memory { IfErr result (λ fault.
+        fault ≡ Memory → IsEntry (draft_of draft.old) (row_of line.now)) }
 {
     let columns = columns_of(line);
     let Some(&byte) = columns.first.first() else {

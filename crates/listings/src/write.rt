@@ -69,7 +69,9 @@ struct Place {
 
 /// Appends the line of a word, and the labels before it.
 fn put_word<R: Remark>(remarks: &R, text: &mut Text, place: Place, word: u16, reloc: Option<Reloc>)
-    ensures { Puts text.old text.new (text_of ((R.said remarks.now).labels place.part place.index) ++ (word_line ((R.said remarks.now).word place.part place.index) place.at word reloc ++ 10 ∷ [])) }
+    ensures { Puts text.old text.new (text_of ((R.said remarks.now).labels place.part place.index)
+        ++ (word_line ((R.said remarks.now).word place.part place.index) place.at word reloc
+        ++ 10 ∷ [])) }
 {
     remarks.put_labels(text, place.part, place.index);
     put_columns(text, place.at, word, reloc);
@@ -93,7 +95,8 @@ fn put_words<R: Remark>(
     relocs: &[Reloc],
 )
     requires { start < 131072 }
-    ensures { Puts text.old text.new (text_of (word_lines (R.said remarks.now) part 0 start words.now relocs.now)) }
+    ensures { Puts text.old text.new
+        (text_of (word_lines (R.said remarks.now) part 0 start words.now relocs.now)) }
 {
     let mut at = (start % 65536) as u16;
     for (index, word) in words.iter().enumerate() {
@@ -122,7 +125,8 @@ fn put_numbers<R: Remark>(
     digits: &[u8],
 )
     requires { digits.now ≡ octal symbol.now.type_bits }
-    ensures { Puts text.old text.new (32 ∷ (replicate blanks 32 ++ symbol_numbers (R.said remarks.now) symbol.now) ++ 10 ∷ []) }
+    ensures { Puts text.old text.new
+        (32 ∷ (replicate blanks 32 ++ symbol_numbers (R.said remarks.now) symbol.now) ++ 10 ∷ []) }
 {
     put_column(text, blanks, digits);
     put_word_column(text, 1, symbol.value);
@@ -142,7 +146,8 @@ fn put_label(text: &mut Text, number: u16, name: &[u8])
 
 /// Appends an entry of the symbol table.
 fn put_symbol<R: Remark>(remarks: &R, text: &mut Text, number: u16, symbol: &Symbol)
-    ensures { Puts text.old text.new (symbol_line (R.said remarks.now) number symbol.now ++ 10 ∷ []) }
+    ensures { Puts text.old text.new
+        (symbol_line (R.said remarks.now) number symbol.now ++ 10 ∷ []) }
 {
     let Ok(name) = printable(text.allocator(), &symbol.name) else {
         return text.cut();

@@ -245,7 +245,8 @@ fn put_mark_place(text: &mut Text, place: Place)
 }
 
 fn put_cell_mark(text: &mut Text, session: &Session, place: Place, cell: Cell)
-    ensures { Puts text.old text.new (mark_json (image_of session.now).externals (Mark.CellWas place cell)) }
+    ensures { Puts text.old text.new
+        (mark_json (image_of session.now).externals (Mark.CellWas place cell)) }
 {
     put_mark_place(text, place);
     text.put(",\"was\":{");
@@ -254,7 +255,8 @@ fn put_cell_mark(text: &mut Text, session: &Session, place: Place, cell: Cell)
 }
 
 fn put_state_mark(text: &mut Text, session: &Session, index: u16, state: State)
-    ensures { Puts text.old text.new (mark_json (image_of session.now).externals (Mark.StateWas index state)) }
+    ensures { Puts text.old text.new
+        (mark_json (image_of session.now).externals (Mark.StateWas index state)) }
 {
     put_named(text, "{\"name\":", &name_at(session, index));
     text.put(",\"was\":{");
@@ -275,8 +277,10 @@ fn put_mark(text: &mut Text, session: &Session, index: usize, mark: Mark)
 
 /// Appends what the addition of the last object overwrote.
 fn put_marks(text: &mut Text, session: &Session)
-    ensures lists { Puts text.old text.new (each (listed_mark (image_of session.now).externals) (newest session.now.journal)) }
-    ensures journal { IsJournal session.now.forced (objects session.now.entries) session.now.journal }
+    ensures lists { Puts text.old text.new
+        (each (listed_mark (image_of session.now).externals) (newest session.now.journal)) }
+    ensures journal { IsJournal session.now.forced
+        (objects session.now.entries) session.now.journal }
 {
     for (index, mark) in session.last_marks().iter().enumerate() {
         put_mark(text, session, index, *mark);
@@ -286,7 +290,8 @@ fn put_marks(text: &mut Text, session: &Session)
 /// Appends the list of these, and ends the object.
 fn put_mark_list(text: &mut Text, session: &Session)
     ensures lists { Puts text.old text.new (marks_json session.now) }
-    ensures journal { IsJournal session.now.forced (objects session.now.entries) session.now.journal }
+    ensures journal { IsJournal session.now.forced
+        (objects session.now.entries) session.now.journal }
 {
     text.put(",\"marks\":[");
     put_marks(text, session);
@@ -341,7 +346,8 @@ fn put_names(text: &mut Text, session: &Session)
 /// An error: memory ran out for the text.
 pub fn state_json(alloc: Global, session: &Session) -> Result<Vec<u8>, AllocError>
     ensures json { IfOk result (λ text. text.items ≡ state_json session.now) }
-    ensures journal { IfOk result (λ _. IsJournal session.now.forced (objects session.now.entries) session.now.journal) }
+    ensures journal { IfOk result (λ _.
+        IsJournal session.now.forced (objects session.now.entries) session.now.journal) }
 {
     let mut text = Text::new(alloc);
     text.put("{\"objects\":");

@@ -87,7 +87,8 @@ impl JsonWriter {
 
     /// Adds bytes after a front as a string, each as the character of its number.
     pub fn put_bytes(&mut self, front: &[u8], bytes: &[u8])
-        ensures { Becomes self.old self.new (λ json. with_value json (bytes_string front.now bytes.now)) }
+        ensures { Becomes self.old self.new (λ json.
+            with_value json (bytes_string front.now bytes.now)) }
     {
         self.start("\"");
         put_json_bytes(&mut self.text, front);
@@ -97,7 +98,8 @@ impl JsonWriter {
 
     /// Adds the key of a member of an object; its value comes next.
     pub fn put_key(&mut self, key: &str)
-        ensures { Becomes self.old self.new (λ json. with_start json (text_string key.now ++ codes ":")) }
+        ensures { Becomes self.old self.new (λ json.
+            with_start json (text_string key.now ++ codes ":")) }
     {
         self.start("\"");
         put_json_text(&mut self.text, key);
@@ -106,7 +108,8 @@ impl JsonWriter {
 
     /// Adds a number as the key of a member of an object; its value comes next.
     pub fn put_number_key(&mut self, number: u64)
-        ensures { Becomes self.old self.new (λ json. with_start json (text_string (decimal number) ++ codes ":")) }
+        ensures { Becomes self.old self.new (λ json.
+            with_start json (text_string (decimal number) ++ codes ":")) }
     {
         self.put_key(Buffer::new().format(number));
     }

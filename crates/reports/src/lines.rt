@@ -92,7 +92,8 @@ fn put_place(text: &mut Text, segment: &str, index: usize)
 /// Appends the line of the word of this index in a segment, whose name a blank follows, without the newline. (own choice)
 pub fn put_cell_row(text: &mut Text, session: &Session, segment: &str, index: usize, cell: Cell)
     requires { index < 65536 }
-    ensures { Puts text.old text.new (cell_row (image_of session.now).externals segment.now index cell) }
+    ensures { Puts text.old text.new
+        (cell_row (image_of session.now).externals segment.now index cell) }
 {
     text.put("  ");
     put_place(text, segment, index);
@@ -103,7 +104,8 @@ pub fn put_cell_row(text: &mut Text, session: &Session, segment: &str, index: us
 /// Appends the line of the word of this index in a segment.
 fn put_cell_line(text: &mut Text, session: &Session, segment: &str, index: usize, cell: Cell)
     requires { index < 65536 }
-    ensures { Puts text.old text.new (cell_line (image_of session.now).externals segment.now index cell) }
+    ensures { Puts text.old text.new
+        (cell_line (image_of session.now).externals segment.now index cell) }
 {
     put_cell_row(text, session, segment, index, cell);
     text.put("\n");
@@ -112,7 +114,8 @@ fn put_cell_line(text: &mut Text, session: &Session, segment: &str, index: usize
 /// Appends the lines of a segment.
 fn put_cells(text: &mut Text, session: &Session, segment: &str, cells: &[Cell])
     requires { 2 * length cells.now ≤ 65534 }
-    ensures { Puts text.old text.new (each (cell_line (image_of session.now).externals segment.now) cells.now) }
+    ensures { Puts text.old text.new
+        (each (cell_line (image_of session.now).externals segment.now) cells.now) }
 {
     for (index, cell) in cells.iter().enumerate() {
         put_cell_line(text, session, segment, index, *cell);
@@ -144,7 +147,8 @@ pub fn put_external(text: &mut Text, name: &Name, state: State)
 
 /// Appends the lines of the externals.
 fn put_externals(text: &mut Text, session: &Session)
-    ensures { Puts text.old text.new (each (λ _ e. external_line e) (image_of session.now).externals) }
+    ensures { Puts text.old text.new
+        (each (λ _ e. external_line e) (image_of session.now).externals) }
 {
     for index in 0..session.external_count() {
         let (name, state) = session.external(index).unwrap();
@@ -208,8 +212,10 @@ fn put_mark_line(text: &mut Text, session: &Session, mark: Mark)
 
 /// Appends the lines of what the addition of the last object overwrote. (own choice)
 pub fn put_marks(text: &mut Text, session: &Session)
-    ensures lists { Puts text.old text.new (each (λ _ k. mark_line (image_of session.now).externals k) (newest session.now.journal)) }
-    ensures journal { IsJournal session.now.forced (objects session.now.entries) session.now.journal }
+    ensures lists { Puts text.old text.new
+        (each (λ _ k. mark_line (image_of session.now).externals k) (newest session.now.journal)) }
+    ensures journal { IsJournal session.now.forced
+        (objects session.now.entries) session.now.journal }
 {
     for mark in session.last_marks() {
         put_mark_line(text, session, *mark);
@@ -253,7 +259,8 @@ pub fn nothing_line(entries: &[Entry]) -> &'static str
 /// An error: memory ran out for the text.
 pub fn state_lines(alloc: Global, session: &Session) -> Result<Vec<u8>, AllocError>
     ensures lines { IfOk result (λ text. text.items ≡ state_lines session.now) }
-    ensures journal { IfOk result (λ _. IsJournal session.now.forced (objects session.now.entries) session.now.journal) }
+    ensures journal { IfOk result (λ _.
+        IsJournal session.now.forced (objects session.now.entries) session.now.journal) }
 {
     let mut text = Text::new(alloc);
     text.put(nothing_line(session.entries()));

@@ -155,7 +155,8 @@ fn put_line<E: Write>(program: &str, text: &str, error: &mut Wire<E>) -> Result<
 
 /// Writes what a fault has for standard error.
 fn put_fault<E: Write>(program: &str, fault: &Fault, error: &mut Wire<E>) -> Result<(), DeviceFault>
-    ensures { Writes E.contents result error.old error.new (fault_answer program.now fault.now).errors }
+    ensures { Writes E.contents result error.old error.new
+        (fault_answer program.now fault.now).errors }
 {
     match fault {
         Fault::Answered(answer) => error.put(&answer.errors),
@@ -170,7 +171,8 @@ fn put_errors<E: Write>(
     answer: &Result<Answer, Fault>,
     error: &mut Wire<E>,
 ) -> Result<(), DeviceFault>
-    ensures { Writes E.contents result error.old error.new (errors_unless program.now is_failed (answer_in program.now answer.now)) }
+    ensures { Writes E.contents result error.old error.new
+        (errors_unless program.now is_failed (answer_in program.now answer.now)) }
 {
     if is_failed {
         return put_line(program, ": write error\n", error);

@@ -27,15 +27,18 @@ pub trait Office {
 
     /// Opens the file at a path; `None` if it can't be opened. (own choice)
     fn open(&mut self, path: &str) -> Option<Self::Source>
-        ensures { Extends (history self.old) (history self.new) (opened path.now (option_map Self.Source.remaining result) ∷ []) };
+        ensures { Extends (history self.old) (history self.new)
+            (opened path.now (option_map Self.Source.remaining result) ∷ []) };
 
     /// Makes a file at a path, or empties the one that is there, and writes it; returns what became of it. (own choice)
     fn store(&mut self, path: &str, file: &File) -> Stored
-        ensures { Extends (history self.old) (history self.new) (stored path.now file.now result ∷ []) };
+        ensures { Extends (history self.old) (history self.new)
+            (stored path.now file.now result ∷ []) };
 
     /// Makes a file at a path, or empties the one that is there, and writes a text to it; returns what became of it. (own choice)
     fn store_text(&mut self, path: &str, text: &[u8]) -> Stored
-        ensures { Extends (history self.old) (history self.new) (written path.now text.now result ∷ []) };
+        ensures { Extends (history self.old) (history self.new)
+            (written path.now text.now result ∷ []) };
 }
 
 /// What is said of the path of a file that was not stored. (own choice)

@@ -10,8 +10,10 @@ use std::alloc::Global;
 
 /// All bytes of the file at a path.
 fn bytes_at<O: Office>(alloc: Global, office: &mut O, path: &str) -> Result<Vec<u8>, FileFault>
-    ensures ok { IfOk result (λ bytes. ReadsAt (O.history office.old) (O.history office.new) path.now bytes.items) }
-    ensures err { IfErr result (λ fault. ReadsNot (O.history office.old) (O.history office.new) path.now fault) }
+    ensures ok { IfOk result (λ bytes.
+        ReadsAt (O.history office.old) (O.history office.new) path.now bytes.items) }
+    ensures err { IfErr result (λ fault.
+        ReadsNot (O.history office.old) (O.history office.new) path.now fault) }
 {
     let Some(mut source) = office.open(path) else {
         return Err(FileFault::NotOpened);
@@ -26,8 +28,10 @@ pub fn read_whole<O: Office>(
     program: &str,
     path: &str,
 ) -> Result<Vec<u8>, Fault>
-    ensures ok { IfOk result (λ bytes. ReadsAt (O.history office.old) (O.history office.new) path.now bytes.items) }
-    ensures err { IfErr result (λ fault. EndsReading program.now (O.history office.old) (O.history office.new) path.now fault) }
+    ensures ok { IfOk result (λ bytes.
+        ReadsAt (O.history office.old) (O.history office.new) path.now bytes.items) }
+    ensures err { IfErr result (λ fault.
+        EndsReading program.now (O.history office.old) (O.history office.new) path.now fault) }
 {
     match bytes_at(alloc, office, path) {
         Ok(bytes) => Ok(bytes),

@@ -13,7 +13,8 @@ pub(crate) fn put_heading<W: Write>(
     out: &mut Wire<W>,
 ) -> Result<(), DeviceFault>
     requires { out.old.has_failed ≡ false }
-    ensures { Writes W.contents result out.old out.new (if is_wanted then path.now ++ mark.now else []) }
+    ensures { Writes W.contents result out.old out.new
+        (if is_wanted then path.now ++ mark.now else []) }
 {
     if !is_wanted {
         return Ok(());

@@ -29,8 +29,10 @@ pub fn nm<W: Write>(
 ) -> Result<(), ToolFault>
     ensures device { (result ≡ Err Device) ↔ IsTrue out.new.has_failed }
     ensures latched { IsTrue out.old.has_failed → (out.new ≡ out.old) }
-    ensures bytes { Puts result (W.contents out.old.device) (W.contents out.new.device) (nm_text options (by_bytes files.now)) }
-    ensures memory { result ≡ Err Memory → ListsUpTo options (by_bytes files.now) (W.contents out.old.device) (W.contents out.new.device) }
+    ensures bytes { Puts result (W.contents out.old.device) (W.contents out.new.device)
+        (nm_text options (by_bytes files.now)) }
+    ensures memory { result ≡ Err Memory → ListsUpTo options (by_bytes files.now)
+        (W.contents out.old.device) (W.contents out.new.device) }
 {
     if out.failed() {
         return Err(ToolFault::Device);
@@ -56,7 +58,8 @@ fn list_file<W: Write>(
     ensures shows { result ≡ Err Memory → filter (is_shown options) file.now.1.symbols ≢ [] }
     ensures bytes { Puts result (W.contents out.old.device) (W.contents out.new.device)
         ((if is_headed then string_bytes file.now.0 ++ (58 ∷ 10 ∷ []) else [])
-        ++ flat_map (λ s. line_heading options (string_bytes file.now.0) ++ symbol_line s) (shown options file.now.1)) }
+        ++ flat_map (λ s. line_heading options (string_bytes file.now.0) ++ symbol_line s)
+        (shown options file.now.1)) }
 {
     let (path, file) = file;
     let symbols = shown(alloc, file.symbols(), options)?;
@@ -72,8 +75,8 @@ fn put_lines<W: Write>(
     out: &mut Wire<W>,
 ) -> Result<(), DeviceFault>
     requires { out.old.has_failed ≡ false }
-    ensures { Writes W.contents result out.old out.new
-        (flat_map (λ s. (if each_line then path.now ++ 58 ∷ [] else []) ++ symbol_line s) symbols.now) }
+    ensures { Writes W.contents result out.old out.new (flat_map
+        (λ s. (if each_line then path.now ++ 58 ∷ [] else []) ++ symbol_line s) symbols.now) }
 {
     for symbol in symbols {
         put_heading(each_line, path, b":", out)?;
@@ -84,7 +87,8 @@ fn put_lines<W: Write>(
 
 /// The symbols that the options keep, in their order.
 fn shown(alloc: Global, table: &[Symbol], options: NmOptions) -> Result<Vec<Symbol>, ToolFault>
-    ensures ok { IfOk result (λ list. list.items ≡ arranged options (filter (is_shown options) table.now)) }
+    ensures ok { IfOk result (λ list.
+        list.items ≡ arranged options (filter (is_shown options) table.now)) }
     ensures err { IfErr result (λ e. e ≡ Memory) }
     ensures shows { OnErr result (filter (is_shown options) table.now ≢ []) }
 {

@@ -95,7 +95,8 @@ impl Options {
         keep: Keep,
         entry: Option<Name>,
     ) -> Result<Options, OptionFault>
-        ensures ok { option_fault layout relocatable keep ≡ None → IfOk result (λ o. o ≡ options_of layout relocatable keep entry) }
+        ensures ok { option_fault layout relocatable keep ≡ None
+            → IfOk result (λ o. o ≡ options_of layout relocatable keep entry) }
         ensures allowed { IsOk result ↔ (option_fault layout relocatable keep ≡ None) }
         ensures fault { IfErr result (λ f. option_fault layout relocatable keep ≡ Some f) }
     {

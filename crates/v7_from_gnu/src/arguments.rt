@@ -158,7 +158,8 @@ fn into_folder(alloc: Global, folder: &str, path: &str) -> Result<Job, AllocErro
 
 /// The conversions of files to files of the same names in a folder.
 fn all_into_folder(alloc: Global, folder: &str, paths: &[String]) -> Result<Vec<Job>, AllocError>
-    ensures { IfOk result (λ jobs. jobs.items ≡ map (into_folder folder.now) (map string_bytes paths.now)) }
+    ensures { IfOk result (λ jobs.
+        jobs.items ≡ map (into_folder folder.now) (map string_bytes paths.now)) }
 {
     let mut jobs = Vec::new(alloc);
     for path in paths {
@@ -185,7 +186,8 @@ fn jobs_of(
     folder: Option<&str>,
     paths: &[String],
 ) -> Result<Option<Vec<Job>>, AllocError>
-    ensures { IfOk result (λ jobs. option_map (λ jobs. jobs.items) jobs ≡ jobs_of (option_map (λ f. f.now) folder.entry) (map string_bytes paths.now)) }
+    ensures { IfOk result (λ jobs. option_map (λ jobs. jobs.items) jobs
+        ≡ jobs_of (option_map (λ f. f.now) folder.entry) (map string_bytes paths.now)) }
 {
     match (folder, paths) {
         (Some(folder), _) => Ok(Some(all_into_folder(alloc, folder, paths)?)),
@@ -201,7 +203,8 @@ fn conversion_of(
     folder: Option<&str>,
     paths: &[String],
 ) -> Result<Option<Call>, AllocError>
-    ensures { IfOk result (λ call. call ≡ conversion_of letters (option_map (λ f. f.now) folder.entry) (map string_bytes paths.now)) }
+    ensures { IfOk result (λ call. call ≡ conversion_of letters
+        (option_map (λ f. f.now) folder.entry) (map string_bytes paths.now)) }
 {
     match jobs_of(alloc, folder, paths)? {
         Some(jobs) => Ok(Some(Call::Convert(Conversion {

@@ -70,7 +70,8 @@ fn clashing(
     second: &Target,
     clash: Clash,
 ) -> Result<Fault, AllocError>
-    ensures { IfOk result (λ fault. fault ≡ Answered (only_errors (clash_line first.now.source second.now.source clash) 1)) }
+    ensures { IfOk result (λ fault.
+        fault ≡ Answered (only_errors (clash_line first.now.source second.now.source clash) 1)) }
 {
     let mut line = Text::new(alloc);
     put_clash(&mut line, &first.source, &second.source, clash);
@@ -85,7 +86,8 @@ fn put_beside<'a>(
     target: &'a Target,
 ) -> Result<(), Fault>
     requires { together.old ≡ bytes_of before.now }
-    ensures checks { Checks (clash_found before.now target.now (clash_among (bytes_of before.now) target.now.source.bytes)) result }
+    ensures checks { Checks (clash_found before.now target.now
+        (clash_among (bytes_of before.now) target.now.source.bytes)) result }
     ensures added { IfOk result (λ _. together.new ≡ together.old ++ target.now.source.bytes ∷ []) }
 {
     let Ok(found) = together.add(alloc, &target.source.bytes) else {

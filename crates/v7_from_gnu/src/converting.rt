@@ -89,7 +89,8 @@ fn convert_one(alloc: Global, options: Options, source: Source) -> Result<Target
 
 /// Converts each file, up to the first that is refused.
 fn convert_each(alloc: Global, options: Options, sources: Vec<Source>) -> Result<Vec<Target>, Fault>
-    ensures ok { IfOk result (λ targets. converted_from options [] sources.items ≡ Ok targets.items) }
+    ensures ok { IfOk result (λ targets.
+        converted_from options [] sources.items ≡ Ok targets.items) }
     ensures err { IfErr result (λ fault. Faults (converted_from options [] sources.items) fault) }
 {
     let mut targets = Vec::new(alloc);
@@ -189,7 +190,8 @@ fn convert_jobs<O: Office>(
     is_quiet: bool,
     jobs: Vec<Job>,
 ) -> Result<Answer, Fault>
-    ensures { IsConversion (record { options = options; is_quiet = is_quiet; jobs = jobs.items }) (O.history office.old) (O.history office.new) result }
+    ensures { IsConversion (record { options = options; is_quiet = is_quiet; jobs = jobs.items })
+        (O.history office.old) (O.history office.new) result }
 {
     check_paths(alloc, &jobs)?;
     let sources = read_all(alloc, office, jobs)?;

@@ -28,7 +28,8 @@ fn answer_call<O: Office>(alloc: Global, office: &mut O, call: Call) -> Result<A
 /// Does what the arguments ask for, and returns what is written at the end.
 #[tactic(auto, using(crate::proofs::CallLemmas::by_call))]
 fn answer<O: Office>(alloc: Global, office: &mut O, words: &[String]) -> Result<Answer, Fault>
-    ensures { IsAnswer (map string_bytes words.now) (O.history office.old) (O.history office.new) result }
+    ensures { IsAnswer (map string_bytes words.now)
+        (O.history office.old) (O.history office.new) result }
 {
     match call_of(alloc, words)? {
         None => Ok(usage_answer(alloc, USAGE)?),

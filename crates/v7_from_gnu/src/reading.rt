@@ -32,7 +32,8 @@ pub(crate) fn read_all<O: Office>(
     office: &mut O,
     jobs: Vec<Job>,
 ) -> Result<Vec<Source>, Fault>
-    ensures { IsReading (O.history office.old) (O.history office.new) [] jobs.items (listed result) }
+    ensures { IsReading (O.history office.old) (O.history office.new) [] jobs.items
+        (listed result) }
 {
     let mut sources = Vec::new(alloc);
     for job in jobs {

@@ -51,7 +51,8 @@ fn store_each<O: Office>(
     done: Answer,
 ) -> Result<Answer, Fault>
     requires { done ≡ only_errors remarks.now 0 }
-    ensures { IsStoring remarks.now (O.history office.old) (O.history office.new) targets.now result }
+    ensures { IsStoring remarks.now
+        (O.history office.old) (O.history office.new) targets.now result }
 {
     for target in targets {
         let path = target.source.to.as_str();

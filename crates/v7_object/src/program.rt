@@ -21,7 +21,8 @@ fn answer_two<O: Office>(
     listing: &str,
     to: &str,
 ) -> Result<Answer, Fault>
-    ensures { IsCall (two_paths listing.now to.now) (O.history office.old) (O.history office.new) result }
+    ensures { IsCall (two_paths listing.now to.now)
+        (O.history office.old) (O.history office.new) result }
 {
     if listing.as_bytes().starts_with(b"-") {
         return Ok(usage_answer(alloc, USAGE)?);
@@ -31,7 +32,8 @@ fn answer_two<O: Office>(
 
 /// Makes the file of a listing, if the arguments are two paths.
 fn answer_paths<O: Office>(alloc: Global, office: &mut O, words: &[String]) -> Result<Answer, Fault>
-    ensures { IsCall (paths_in (map string_bytes words.now)) (O.history office.old) (O.history office.new) result }
+    ensures { IsCall (paths_in (map string_bytes words.now))
+        (O.history office.old) (O.history office.new) result }
 {
     match words {
         [listing, to] => answer_two(alloc, office, listing.as_str(), to.as_str()),
@@ -42,7 +44,8 @@ fn answer_paths<O: Office>(alloc: Global, office: &mut O, words: &[String]) -> R
 /// Does what the arguments ask for, and returns what is written at the end.
 #[tactic(auto, using(surroundings::proofs::ShownLemmas::by_shown))]
 fn answer<O: Office>(alloc: Global, office: &mut O, words: &[String]) -> Result<Answer, Fault>
-    ensures { IsAnswer (map string_bytes words.now) (O.history office.old) (O.history office.new) result }
+    ensures { IsAnswer (map string_bytes words.now)
+        (O.history office.old) (O.history office.new) result }
 {
     match shown_in(words) {
         Some(shown) => Ok(shown_answer(alloc, NAME, USAGE, shown)?),

@@ -25,7 +25,8 @@ use std::alloc::Global;
 pub fn parse(alloc: Global, words: Vec<String>) -> Result<Call, CliFault>
     ensures whole { IfOk result IsWhole }
     ensures asked { IfOk result (IsAsked (map string_bytes words.items)) }
-    ensures dashes { IfOk result (λ call. dashes_in (map string_bytes words.items) ≡ dashes_in (files_of call)) }
+    ensures dashes { IfOk result (λ call.
+        dashes_in (map string_bytes words.items) ≡ dashes_in (files_of call)) }
     ensures none { IfErr result (IsOfWords (map string_bytes words.items)) }
 {
     Ok(command_words::parse(alloc, words)?)

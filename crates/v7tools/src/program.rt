@@ -89,7 +89,8 @@ pub fn perform<O: Office, R: Read + Drop, W: BufferedWrite, E: Write>(
     ensures run { Performs W.contents E.contents (map string_bytes words.items) (R.remaining script)
         (record { asked = O.history office.old; output = outputs.old.output; error = outputs.old.error })
         (record { asked = O.history office.new; output = outputs.new.output; error = outputs.new.error }) result }
-    ensures passed { IsPassedOn W.waiting outputs.old.output → IsPassedOn W.waiting outputs.new.output }
+    ensures passed { IsPassedOn W.waiting outputs.old.output
+        → IsPassedOn W.waiting outputs.new.output }
 {
     match run_words(alloc, office, script, &mut outputs.output, words) {
         Ok(status) => status.code(),

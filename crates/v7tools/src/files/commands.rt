@@ -51,7 +51,8 @@ fn put_names<W: BufferedWrite>(
     files: &[(String, File)],
     output: &mut Wire<W>,
 ) -> Result<Status, CliFault>
-    ensures run { Lists W.contents (OrMemory options (by_bytes files.now)) (nm_text options (by_bytes files.now)) result output.old output.new }
+    ensures run { Lists W.contents (OrMemory options (by_bytes files.now))
+        (nm_text options (by_bytes files.now)) result output.old output.new }
     ensures passed { IsPassedOn W.waiting output.new }
 {
     let listed = nm(alloc, files, options, output);
@@ -65,7 +66,8 @@ fn put_sizes<W: BufferedWrite>(
     files: &[(String, File)],
     output: &mut Wire<W>,
 ) -> Result<Status, CliFault>
-    ensures run { Lists W.contents (OnlyWriteFailed (by_bytes files.now)) (size_text (by_bytes files.now)) result output.old output.new }
+    ensures run { Lists W.contents (OnlyWriteFailed (by_bytes files.now))
+        (size_text (by_bytes files.now)) result output.old output.new }
     ensures passed { IsPassedOn W.waiting output.new }
 {
     size(files, output)?;

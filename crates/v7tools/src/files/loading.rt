@@ -20,8 +20,8 @@ pub fn load<R: Read>(
     ensures path { IsAtPath path result }
     ensures device { (read_of result ≡ Err Device) ↔ IsTrue wire.new.has_failed }
     ensures latched { IsTrue wire.old.has_failed → (wire.new ≡ wire.old) }
-    ensures decodes { IfSome (R.remaining wire.old.device) (λ bytes.
-        IsReadOf (read_of result) bytes × LeavesAfter (read_of result) bytes (R.remaining wire.new.device)) }
+    ensures decodes { IfSome (R.remaining wire.old.device) (λ bytes. IsReadOf (read_of result) bytes
+        × LeavesAfter (read_of result) bytes (R.remaining wire.new.device)) }
 {
     match read_file(alloc, wire) {
         Ok(file) => Ok((path, file)),

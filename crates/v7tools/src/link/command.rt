@@ -20,7 +20,8 @@ fn open_all<O: Office>(
     office: &mut O,
     files: Vec<String>,
 ) -> Result<Vec<(String, Wire<O::Source>)>, CliFault>
-    ensures { IsOpening O.Source.remaining (O.history office.old) (O.history office.new) files.items result }
+    ensures { IsOpening O.Source.remaining
+        (O.history office.old) (O.history office.new) files.items result }
 {
     let mut inputs = Vec::with_capacity(alloc, files.len())?;
     for path in files {
@@ -49,7 +50,8 @@ fn report_stored<W: BufferedWrite>(
     stored: Stored,
     output: &mut Wire<W>,
 ) -> Result<Status, CliFault>
-    ensures run { ReportsIf W.contents stored out (report_names report.now) result output.old output.new }
+    ensures run { ReportsIf W.contents stored out
+        (report_names report.now) result output.old output.new }
     ensures passed { IsPassedOn W.waiting output.old → IsPassedOn W.waiting output.new }
 {
     match stored {
@@ -77,7 +79,8 @@ pub(crate) fn link_files<O: Office, W: BufferedWrite>(
     call: LinkCall,
     output: &mut Wire<W>,
 ) -> Result<Status, CliFault>
-    ensures run { IsLinkRun W.contents call.forced call.options call.out (map string_bytes call.files.items)
+    ensures run { IsLinkRun W.contents call.forced call.options call.out
+        (map string_bytes call.files.items)
         (O.history office.old) (O.history office.new) result output.old output.new }
     ensures passed { IsPassedOn W.waiting output.old → IsPassedOn W.waiting output.new }
 {

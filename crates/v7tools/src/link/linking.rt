@@ -21,9 +21,11 @@ fn take_inputs<R: Read + Drop>(
     session: &mut Session,
     inputs: Vec<(String, Wire<R>)>,
 ) -> Result<(), (CliFault, Wire<R>)>
-    ensures device { IfErr result (λ refused. IsDeviceFault refused.0 ↔ IsTrue refused.1.has_failed) }
+    ensures device { IfErr result (λ refused.
+        IsDeviceFault refused.0 ↔ IsTrue refused.1.has_failed) }
     ensures forced { session.new.forced ≡ session.old.forced }
-    ensures value { AreTaken session.old session.new (inputs_of R.remaining inputs.items) (without_wire result) }
+    ensures value { AreTaken session.old session.new (inputs_of R.remaining inputs.items)
+        (without_wire result) }
 {
     for (path, mut wire) in inputs {
         if let Err(fault) = add_file(alloc, session, path, &mut wire) {
@@ -36,8 +38,10 @@ fn take_inputs<R: Read + Drop>(
 /// Links what is kept after the last input. `Memory` is returned only if there is a link.
 #[tactic(auto, using(crate::proofs::AnswerLemmas::by_final))]
 fn link_inputs(alloc: Global, session: &Session, options: &Options) -> Result<Linked, CliFault>
-    ensures value { IsFinalLink (link session.now.forced (objects session.now.entries) options.now) result }
-    ensures object { options.now.relocatable ≡ true → IfOk result (λ linked. IsWellFormed linked.file) }
+    ensures value { IsFinalLink
+        (link session.now.forced (objects session.now.entries) options.now) result }
+    ensures object { options.now.relocatable ≡ true
+        → IfOk result (λ linked. IsWellFormed linked.file) }
 {
     Ok(finish(alloc, session, options)?)
 }
@@ -59,7 +63,8 @@ pub fn ld<R: Read + Drop>(
     options: &Options,
 ) -> Result<Linked, CliFault>
     ensures value { IsLinkOf forced.now options.now (inputs_of R.remaining inputs.items) result }
-    ensures object { options.now.relocatable ≡ true → IfOk result (λ linked. IsWellFormed linked.file) }
+    ensures object { options.now.relocatable ≡ true
+        → IfOk result (λ linked. IsWellFormed linked.file) }
 {
     let mut session = Session::with_forced(alloc, forced)?;
     if let Err((fault, _)) = take_inputs(alloc, &mut session, inputs) {

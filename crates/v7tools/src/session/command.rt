@@ -33,7 +33,8 @@ pub(crate) struct Setting<'a> {
 
 /// Opens the file at a path, on a wire.
 fn open_wire<O: Office>(office: &mut O, path: &str) -> Option<Wire<O::Source>>
-    ensures { IsOpenedAt O.Source.remaining (O.history office.old) (O.history office.new) path.now result }
+    ensures { IsOpenedAt O.Source.remaining
+        (O.history office.old) (O.history office.new) path.now result }
 {
     let source = office.open(path)?;
     Some(Wire::new(source))
@@ -42,7 +43,8 @@ fn open_wire<O: Office>(office: &mut O, path: &str) -> Option<Wire<O::Source>>
 /// What a line asks a step to do, with the file at its path opened. A link is answered by `answer_link`.
 fn command_of<O: Office>(office: &mut O, line: Line) -> Command<O::Source>
     requires { IsNoLinkLine line }
-    ensures { IsCommandOf O.Source.remaining (O.history office.old) (O.history office.new) line result }
+    ensures { IsCommandOf O.Source.remaining
+        (O.history office.old) (O.history office.new) line result }
 {
     match line {
         Line::Add(path) => {
@@ -76,7 +78,8 @@ fn answer_link<O: Office, W: Write>(
     answers: &mut Wire<W>,
 ) -> Result<Status, CliFault>
     ensures latched { IsTrue answers.old.has_failed → (answers.new ≡ answers.old) }
-    ensures run { AnswersLine W.contents setting.now.options.now (to_link path.now) session.now session.now
+    ensures run { AnswersLine W.contents setting.now.options.now
+        (to_link path.now) session.now session.now
         (O.history office.old) (O.history office.new) result answers.old answers.new }
 {
     match make_link(setting.alloc, session, setting.options, answers)? {
@@ -109,7 +112,8 @@ fn answer_line<O: Office, W: BufferedWrite>(
     answers: &mut Wire<W>,
 ) -> Result<Status, CliFault>
     ensures latched { IsTrue answers.old.has_failed → (answers.new ≡ answers.old) }
-    ensures run { AnswersLine W.contents setting.now.options.now (asked_by line) session.old session.new
+    ensures run { AnswersLine W.contents setting.now.options.now
+        (asked_by line) session.old session.new
         (O.history office.old) (O.history office.new) result answers.old answers.new }
     ensures passed { IsPassedOn W.waiting answers.new }
 {
@@ -137,7 +141,8 @@ fn answer_lines<O: Office, R: Read + Drop, W: BufferedWrite>(
     requires empty { session.old ≡ nothing_kept session.old.forced }
     requires fresh { script.old ≡ begun script.old.wire }
     ensures failed { (result ≡ Err ScriptFailed) ↔ IsTrue script.new.wire.has_failed }
-    ensures run { IsSessionRun W.contents session.old.forced setting.now.options.now (R.remaining script.old.wire.device)
+    ensures run { IsSessionRun W.contents session.old.forced setting.now.options.now
+        (R.remaining script.old.wire.device)
         (O.history office.old) (O.history office.new) result answers.old answers.new }
     ensures passed { IsPassedOn W.waiting answers.old → IsPassedOn W.waiting answers.new }
 {

@@ -34,7 +34,8 @@ pub(crate) fn put_externals<W: Write>(
     session: &Session,
     answers: &mut Wire<W>,
 ) -> Result<(), DeviceFault>
-    ensures { Writes W.contents result answers.old answers.new (externals_text session.now.forced session.now.entries) }
+    ensures { Writes W.contents result answers.old answers.new
+        (externals_text session.now.forced session.now.entries) }
 {
     if answers.failed() {
         return Err(DeviceFault);
@@ -66,7 +67,8 @@ pub(crate) fn put_undefined<W: Write>(
     session: &Session,
     answers: &mut Wire<W>,
 ) -> Result<(), DeviceFault>
-    ensures { Writes W.contents result answers.old answers.new (undefined_text session.now.forced session.now.entries) }
+    ensures { Writes W.contents result answers.old answers.new
+        (undefined_text session.now.forced session.now.entries) }
 {
     if answers.failed() {
         return Err(DeviceFault);

@@ -25,7 +25,8 @@ fn put_path_line<W: Write>(path: &str, text: &str, answers: &mut Wire<W>) -> Res
 
 /// Writes `linked`, the path and the status, without a newline.
 fn put_linked<W: Write>(path: &str, status: u8, answers: &mut Wire<W>) -> Result<(), DeviceFault>
-    ensures { Writes W.contents result answers.old answers.new (codes "linked " ++ path.now ++ codes " " ++ decimal status) }
+    ensures { Writes W.contents result answers.old answers.new
+        (codes "linked " ++ path.now ++ codes " " ++ decimal status) }
 {
     answers.put_both(b"linked ", path.as_bytes())?;
     answers.put_both(b" ", Buffer::new().format(status).as_bytes())
@@ -37,7 +38,8 @@ fn put_linked_line<W: Write>(
     status: u8,
     answers: &mut Wire<W>,
 ) -> Result<(), DeviceFault>
-    ensures { Writes W.contents result answers.old answers.new (line (codes "linked " ++ path.now ++ codes " " ++ decimal status)) }
+    ensures { Writes W.contents result answers.old answers.new
+        (line (codes "linked " ++ path.now ++ codes " " ++ decimal status)) }
 {
     put_linked(path, status, answers)?;
     answers.put(b"\n")
@@ -50,7 +52,8 @@ fn put_link_answer<W: Write>(
     stored: Stored,
     answers: &mut Wire<W>,
 ) -> Result<(), DeviceFault>
-    ensures { Writes W.contents result answers.old answers.new (link_answer_text (report_names linked.now.report) path.now stored) }
+    ensures { Writes W.contents result answers.old answers.new
+        (link_answer_text (report_names linked.now.report) path.now stored) }
 {
     match stored {
         Stored::Kept => {
@@ -73,9 +76,11 @@ pub fn link_answer<W: Write>(
     stored: Stored,
     answers: &mut Wire<W>,
 ) -> Result<u8, CliFault>
-    ensures written { Writes W.contents result answers.old answers.new (link_answer_text (report_names linked.now.report) path.now stored) }
+    ensures written { Writes W.contents result answers.old answers.new
+        (link_answer_text (report_names linked.now.report) path.now stored) }
     ensures write_failed { IfErr result (λ fault. fault ≡ WriteFailed) }
-    ensures status { IfOk result (λ status. status ≡ link_status (report_names linked.now.report) stored) }
+    ensures status { IfOk result (λ status.
+        status ≡ link_status (report_names linked.now.report) stored) }
 {
     put_link_answer(linked, path, stored, answers)?;
     Ok(match stored {

@@ -68,7 +68,8 @@ fn add<R: Read, W: Write>(
 ) -> Result<Step, CliFault>
     ensures write_failed { IfErr result (λ fault. fault ≡ WriteFailed) }
     ensures latched { IsTrue answers.old.has_failed → (answers.new ≡ answers.old) }
-    ensures step { TakesAddStep R.remaining W.contents path wire.old wire.new session.old session.new result answers.old answers.new }
+    ensures step { TakesAddStep R.remaining W.contents path wire.old wire.new
+        session.old session.new result answers.old answers.new }
     ensures object { IfOk result StoresObject }
 {
     match add_file(alloc, session, path, wire) {
@@ -84,7 +85,8 @@ fn add<R: Read, W: Write>(
 fn withdraw<W: Write>(session: &mut Session, answers: &mut Wire<W>) -> Result<Step, CliFault>
     ensures write_failed { IfErr result (λ fault. fault ≡ WriteFailed) }
     ensures latched { IsTrue answers.old.has_failed → (answers.new ≡ answers.old) }
-    ensures step { TakesWithdrawal W.contents session.old session.new result answers.old answers.new }
+    ensures step { TakesWithdrawal W.contents session.old session.new result
+        answers.old answers.new }
     ensures object { IfOk result StoresObject }
 {
     match session.withdraw() {
@@ -108,8 +110,11 @@ pub(crate) fn make_link<W: Write>(
 ) -> Result<Option<Linked>, CliFault>
     ensures write_failed { IfErr result (λ fault. fault ≡ WriteFailed) }
     ensures latched { IsTrue answers.old.has_failed → (answers.new ≡ answers.old) }
-    ensures link { MakesLink W.contents (link session.now.forced (objects session.now.entries) options.now) result answers.old answers.new }
-    ensures object { options.now.relocatable ≡ true → IfOk result (λ made. IfSome made (λ linked. IsWellFormed linked.file)) }
+    ensures link { MakesLink W.contents
+        (link session.now.forced (objects session.now.entries) options.now) result
+        answers.old answers.new }
+    ensures object { options.now.relocatable ≡ true
+        → IfOk result (λ made. IfSome made (λ linked. IsWellFormed linked.file)) }
 {
     match finish(alloc, session, options) {
         Ok(linked) => Ok(Some(linked)),
@@ -139,7 +144,8 @@ pub fn step<R: Read + Drop, W: Write>(
     ensures write_failed { IfErr result (λ fault. fault ≡ WriteFailed) }
     ensures latched { IsTrue answers.old.has_failed → (answers.new ≡ answers.old) }
     ensures forced { session.new.forced ≡ session.old.forced }
-    ensures step { TakesStep R.remaining W.contents options.now command session.old session.new result answers.old answers.new }
+    ensures step { TakesStep R.remaining W.contents options.now command session.old session.new
+        result answers.old answers.new }
     ensures object { options.now.relocatable ≡ true → IfOk result StoresObject }
 {
     match command {
