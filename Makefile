@@ -84,7 +84,7 @@ build/libv7.so: build/$(SOFILE)
 	ln -sf $(SONAME) build/libv7.so
 
 LIBRARY_CRATES := $(addprefix crates/,aout_core texts link_session tool_options link_out symtools reports listings instructions disassemblies \
-	gnu_objects findings suspicions explanations link_maps library_calls v7_c)
+	gnu_objects findings suspicions explanations link_maps report_objects library_calls v7_c)
 crates/v7_c/out/libv7_c.a: crates.txt $(shell find $(LIBRARY_CRATES) -name out -prune -o -type f -print)
 	python3 tests/prove.py v7_c $@
 	touch $@

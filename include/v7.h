@@ -402,14 +402,22 @@ uint32_t v7_session(uint32_t options, const unsigned char *entry, size_t entry_s
 /* One call for a link and for a session, with the bytes of each object apart, so that an object that is cut short is refused itself.
  * A struct of each begins with its size: set it to `sizeof`. A later library may know longer structs, and this one knows shorter
  * ones: a link whose report is wanted as lines alone does without the fields after `objects` and after `report`, and does not touch
- * them. So set all fields that the size has; what is 0 asks for nothing. The sizes of buffers are counted in what they hold. */
+ * them; and without V7_PLACES no call touches the fields after `replies`. So set all fields that the size has; what is 0 asks for
+ * nothing. The sizes of buffers are counted in what they hold. */
 enum v7_mode {
     V7_LINK = 0,   /* link all objects, as v7_link_list does: `edits` are not read, and there are no replies */
     V7_SESSION = 1 /* add and withdraw by the edits, and link what is left, as v7_session does: V7_ADD adds the next of the objects */
 };
 enum v7_want {
-    V7_REPORT = 1,  /* the report as lines */
-    V7_FINDINGS = 2 /* the report as a list */
+    V7_REPORT = 1,   /* the report as lines */
+    V7_FINDINGS = 2, /* the report as a list */
+    V7_PLACES = 4    /* the objects of each finding, in the same order */
+};
+/* The objects of a finding, by their numbers; SIZE_MAX if there is none. In a link these are the numbers in `objects`. In a session they
+ * count the objects that are kept, in their order. */
+struct v7_finding_place {
+    size_t first;   /* the first object that defines the name; if none does, the first that has a symbol of it */
+    size_t further; /* for V7_MULTIPLY_DEFINED, the object of this further definition */
 };
 struct v7_request {
     size_t size;
@@ -439,6 +447,9 @@ struct v7_result {
     size_t finding_room;
     unsigned char *replies;
     size_t reply_room;
+    size_t place_count;
+    struct v7_finding_place *places;
+    size_t place_room;
 };
 
 /* Does what REQUEST asks for. File, replies and what is wanted of the report are all written, or none is. The status and the faults

@@ -1,7 +1,7 @@
 """Compares libv7 with the second linker, tests/model.py, on random links and sessions, always the same; in half of them objects are
-damaged. Of a link the status, every byte of the file and the report are compared, in both forms, or the fault, its object and its
-word. Of a session the same, and the replies to its edits and the names that it shows. Maps of links, some of them over a limit, are
-compared with tests/map_model.py, record by record.
+damaged. Of a link the status, every byte of the file and the report are compared, as lines, as a list, and as a list with objects, or the
+fault, its object and its word. Of a session the same, and the replies to its edits and the names that it shows. Maps of links, some of
+them over a limit, are compared with tests/map_model.py, record by record.
 
 usage: python3 tests/agree_library.py LINKS SESSIONS MAPS      with the module v7 on the path
 """
@@ -39,23 +39,51 @@ def text(data):
     return data.decode("latin-1")
 
 
+class Placed:
+    """The findings of a link with their objects, by the model."""
+
+    def __init__(self, merged, link):
+        self.symbols = [(place, symbol) for place, file in enumerate(merged.objects) for symbol in file.symbols if symbol.type & model.EXTERNAL]
+        externals = merged.externals
+        reserved = [name for name in model.RESERVED if name in externals and not externals[name].is_undefined]
+        entry = [] if link.entry is None or link.has_entry else [link.entry]
+        undefined = [] if "r" in link.letters else merged.undefined()
+        self.rows = [self.row(name, v7.MULTIPLY_DEFINED, place) for name, place in zip(merged.multiples, merged.further)]
+        for kind, names in ((v7.RESERVED_NAME, reserved), (v7.ENTRY_NOT_IN_TEXT, entry), (v7.UNDEFINED_NAME, undefined)):
+            self.rows += [self.row(name, kind, None) for name in names]
+
+    def row(self, name, kind, further):
+        uses = [(place, symbol) for place, symbol in self.symbols if symbol.name == name]
+        definitions = [place for place, symbol in uses if symbol.kind != model.UNDEFINED]
+        first = [*definitions, *(place for place, _ in uses), None][0]
+        return v7.Finding(text(name), kind, first, further)
+
+
 def linked(merged, arguments):
-    """What the model gives for objects that are read: the status, the file and the report."""
+    """What the model gives for objects that are read: the status, the file and the report; and the findings with their objects."""
     link = model.Link(merged, arguments)
-    return 1 if link.report else 0, model.write_file(link.file), text(b"".join(line + b"\n" for line in link.report))
+    report = text(b"".join(line + b"\n" for line in link.report))
+    return (1 if link.report else 0, model.write_file(link.file), report), Placed(merged, link).rows
+
+
+def by_all_calls(given):
+    """What the three calls of a link have to give: lines, names, and names with objects; or why there is no link."""
+    lines, placed = given
+    return [lines, lines, placed]
 
 
 def by_model(objects, arguments):
+    """What each call has to give for a link."""
     merged = model.Merged([], arguments.forced)
     for place, data in enumerate(objects):
         try:
             merged = model.Merged([*merged.objects, model.read_object(data)], merged.forced)
         except model.Refused as refused:
-            return str(refused), place
+            return [(str(refused), place)] * 3
     try:
-        return linked(merged, arguments)
+        return by_all_calls(linked(merged, arguments))
     except model.Refused as refused:
-        return str(refused), 0
+        return [(str(refused), 0)] * 3
 
 
 def fault_of(fault):
@@ -79,24 +107,39 @@ def report_of(findings):
     return "".join(line + "\n" for line in lines + ["Undefined:"] * bool(findings.undefined) + findings.undefined)
 
 
-def by_library(objects, arguments, is_found):
-    """What the library gives for a link, by the call that gives the report's lines or by the one that gives its names."""
-    try:
-        if not is_found:
-            return tuple(v7.link(objects, options_of(arguments), **asked_of(arguments)))
-        found = v7.link_findings(objects, options_of(arguments), **asked_of(arguments))
-        return found.status, found.file, report_of(found.findings)
-    except v7.Fault as fault:
-        return fault_of(fault)
+def found_lines(found):
+    return found.status, found.file, report_of(found.findings)
+
+
+def each_call(*calls):
+    """What each call gives, or its fault."""
+    given = []
+    for call in calls:
+        try:
+            given.append(call())
+        except v7.Fault as fault:
+            given.append(fault_of(fault))
+    return given
+
+
+def by_library(objects, arguments):
+    """What the library gives for a link, by the call that gives the report's lines, by the one that gives its names, and by the one that
+    gives the names with their objects."""
+    asked, options = asked_of(arguments), options_of(arguments)
+    return each_call(
+        lambda: tuple(v7.link(objects, options, **asked)),
+        lambda: found_lines(v7.link_findings(objects, options, **asked)),
+        lambda: v7.link_places(objects, options, **asked),
+    )
 
 
 def link_case(number):
-    """What model and library give for a link, the library by two calls."""
+    """What model and library give for a link, the library by three calls."""
     rng = random.Random(f"link {number}")
     names = rng.sample(agree.NAMES, rng.choice([2, 3, 5, 8]))
     arguments = arguments_of(rng, names)
     objects = objects_of(rng, names, number % 2 == 1)
-    return [by_model(objects, arguments)] * 2, [by_library(objects, arguments, is_found) for is_found in (False, True)]
+    return by_model(objects, arguments), by_library(objects, arguments)
 
 
 def map_case(number):
@@ -137,15 +180,13 @@ def library_edit(session, edit):
     return session.replies[-1]
 
 
-def by_session(session, options, is_found):
-    """What the library gives for a session, with the report's lines or with its names."""
-    try:
-        if not is_found:
-            return tuple(session.link(options))
-        found = session.link_findings(options)
-        return found.status, found.file, report_of(found.findings)
-    except v7.Fault as fault:
-        return fault_of(fault)
+def by_session(session, options):
+    """What the library gives for a session, by the same calls."""
+    return each_call(
+        lambda: tuple(session.link(options)),
+        lambda: found_lines(session.link_findings(options)),
+        lambda: session.link_places(options),
+    )
 
 
 def session_case(number):
@@ -162,19 +203,17 @@ def session_case(number):
     known = [text(name) for name in states[-1].externals]
     status = int(v7.Session.NOTHING in theirs)
     try:
-        given = linked(states[-1], arguments)
-        expected = max(given[0], status), *given[1:]
+        given, placed = linked(states[-1], arguments)
+        expected = by_all_calls(((max(given[0], status), *given[1:]), placed))
     except model.Refused as refused:
-        expected = str(refused), 0
-    came = [by_session(session, options_of(arguments), is_found) for is_found in (False, True)]
-    return (theirs, known, [expected] * 2), (ours, shown, came)
+        expected = [(str(refused), 0)] * 3
+    return (theirs, known, expected), (ours, shown, by_session(session, options_of(arguments)))
 
 
 def kind_of(outcome):
     """What to count: the status of a link, or that it was refused."""
-    last = outcome[-1]
-    last = last[0] if isinstance(last, list) else last
-    return "refused" if isinstance(last[0], str) else f"status {last[0]}"
+    links = outcome[-1] if isinstance(outcome, tuple) else outcome
+    return "refused" if isinstance(links[0][0], str) else f"status {links[0][0]}"
 
 
 def main(links, sessions, maps):

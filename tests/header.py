@@ -1,7 +1,7 @@
 #!/usr/bin/env python3
-"""Compares include/v7.h with the declarations of the code and with the module of Python: each struct's fields by name, place and size,
-each constant, and each call's parameters. The places in C are those of the compiler `cc`. The documents that the header cites have to be
-installed with it. Each kind of difference is made once in a copy of a text to see that it is found."""
+"""Compares include/v7.h with the declarations of the code, with the module of Python and with the crate of Rust: each struct's fields by
+name, place and size, each constant, and each call's parameters. The places in C are those of the compiler `cc`. The documents that the
+header cites have to be installed with it. Each kind of difference is made once in a copy of a text to see that it is found."""
 import ctypes
 import glob
 import importlib.util
@@ -14,6 +14,7 @@ import tempfile
 TOP = os.path.normpath(os.path.join(os.path.dirname(os.path.abspath(__file__)), ".."))
 HEADER = os.path.join(TOP, "include", "v7.h")
 MODULE = os.path.join(TOP, "examples", "python", "v7.py")
+RUST = os.path.join(TOP, "packaging", "rust", "src", "raw.rs")
 
 # for the constants of each enum the crate's file and the text of the code that has the number. {Name} is the constant without its
 # prefix in the code's case, {name} in small letters; a factor is what the number of the code is multiplied by
@@ -57,6 +58,7 @@ OTHERS = {
     "V7_SESSION": ("v7_c/src/run.rt", r"request\.mode == (\d+) \|\| is_wanted\(", 1),
     "V7_REPORT": ("v7_c/src/run.rt", r"report: if is_wanted\(wants, (\d+)\)", 1),
     "V7_FINDINGS": ("v7_c/src/run.rt", r"findings: if is_wanted\(wants, (\d+)\)", 1),
+    "V7_PLACES": ("v7_c/src/run.rt", r"is_placed = is_wanted\(request\.wants, (\d+)\)", 1),
     "V7_NAME_IS_PLACED": ("link_maps/src/name_records.rt", r"bit\(is_placed, (\d+)\)", 1),
     "V7_NAME_IS_UNDEFINED": ("link_maps/src/name_records.rt", r"bit\(stays_undefined\(uses\), (\d+)\)", 1),
     "V7_NAME_IS_MULTIPLE": ("link_maps/src/name_records.rt", r"bit\(is_multiple, (\d+)\)", 1),
@@ -83,7 +85,7 @@ RENAMED = {"type_bits": "type", "data_words": "data"}
 # how the module names constants: those of these enums as attributes, and of others not
 PYTHON = {"v7_part": "{}", "v7_nm_option": "{}", "v7_link_option": "{}", "v7_relocation": "{}", "v7_segment": "{}",
           "v7_reply": "Session.{}", "v7_form": "Session._{}", "v7_mode": "_{}", "v7_want": "_{}", "v7_map_name_state": "{}",
-          "v7_map_use_kind": "{}", "v7_map_limit_kind": "{}", "v7_gnu_option": "{}", "v7_remark_kind": "{}"}
+          "v7_map_use_kind": "{}", "v7_map_limit_kind": "{}", "v7_gnu_option": "{}", "v7_remark_kind": "{}", "v7_finding_kind": "{}"}
 SIZES = {"u8": 1, "u16": 2, "u32": 4, "u64": 8, "usize": 8}
 IN_C = {"u8": "unsigned char", "u16": "uint16_t", "u32": "uint32_t"}
 
@@ -142,7 +144,7 @@ def places_in_c(header, structs):
 
 def sources():
     """The files of the crates that declare what C sees, by their paths below crates."""
-    paths = [path for crate in ("v7_c", "library_calls", "link_maps") for path in glob.glob(f"{TOP}/crates/{crate}/src/*.rt")]
+    paths = [path for crate in ("v7_c", "library_calls", "link_maps", "report_objects") for path in glob.glob(f"{TOP}/crates/{crate}/src/*.rt")]
     return {os.path.relpath(path, f"{TOP}/crates"): read(path) for path in paths}
 
 
@@ -300,6 +302,72 @@ def compare_python(header, enums, python):
         yield "the kinds of findings differ in Python"
 
 
+# --- Rust
+
+def rust_structs(rust):
+    """Each struct of the crate, by its name in C, with its fields, each with its type."""
+    found = re.findall(r"/// `struct (v7_\w+)`[^\n]*\n#\[repr\(C\)\]\n(?:#\[[^\n]*\n)*pub struct (\w+) \{(.*?)\n\}", rust, re.S)
+    return {name: (of_rust, re.findall(r"pub (?:r#)?(\w+): ([^\n]+),", body)) for name, of_rust, body in found}
+
+
+def places_in_rust(structs, name):
+    """Each field's place and size, at the next multiple of its alignment."""
+    by_rust = {of_rust: fields for of_rust, fields in structs.values()}
+
+    def layout(kind):
+        if kind.startswith("*"):
+            return 8, 8
+        if kind in SIZES:
+            return SIZES[kind], SIZES[kind]
+        array = re.fullmatch(r"\[(\w+); (\d+)\]", kind)
+        if array:
+            size, align = layout(array[1])
+            return size * int(array[2]), align
+        rows, align = laid(by_rust[kind])
+        return rows[-1][3], align
+
+    def laid(fields):
+        at, rows, widest = 0, [], 1
+        for field, kind in fields:
+            size, align = layout(kind)
+            at, widest = -(-at // align) * align, max(widest, align)
+            rows.append((field, at, size))
+            at += size
+        return [(*row, -(-at // widest) * widest) for row in rows], widest
+
+    return laid(structs[name][1])[0]
+
+
+def rust_calls(rust, structs):
+    """Each call of the crate, with its parameters as in C: pairs of a type and a name."""
+    names = {of_rust: f"struct {name}" for name, (of_rust, _) in structs.items()}
+    kinds = {"u8": "unsigned char", "usize": "size_t", "u16": "uint16_t", "u32": "uint32_t", **names}
+    found = {}
+    for call, words in re.findall(r"pub fn (v7_\w+)\((.*?)\) -> u32;", rust, re.S):
+        parameters = re.findall(r"(\w+): ((?:\*(?:const|mut) )?)(\w+)", words)
+        found[call] = [("const " * pointer.startswith("*const") + kinds[kind] + (" *" if pointer else " "), word) for word, pointer, kind in parameters]
+    return found
+
+
+def compare_rust(header, in_c, enums, rust):
+    """What differs of what the crate declares."""
+    structs, calls = rust_structs(rust), calls_of(header)
+    for name in structs:
+        if places_in_rust(structs, name) != in_c.get(name):
+            yield f"struct {name}: {in_c.get(name)} in C, and {places_in_rust(structs, name)} in Rust"
+    declared = rust_calls(rust, structs)
+    for call, parameters in declared.items():
+        if parameters != calls.get(call):
+            yield f"{call}: {calls.get(call)} in C, and {parameters} in Rust"
+    numbers = {constant: value for constants in enums.values() for constant, value in constants.items()}
+    values = re.findall(r"pub const (V7_\w+): u\d+ = (\d+|b'\w');", rust)
+    for constant, value in values:
+        if number_of(value) != numbers.get(constant):
+            yield f"{constant}: {numbers.get(constant)} in C, and {value} in Rust"
+    if not structs or not declared or not values or len(structs) != rust.count("pub struct ") or len(values) != rust.count("pub const "):
+        yield "a declaration of the crate of Rust is not read"
+
+
 # --- the documents
 
 def compare_documents(header):
@@ -312,7 +380,7 @@ def compare_documents(header):
 
 # --- all of it
 
-def compare(header, texts, python):
+def compare(header, texts, python, rust):
     """All that differs."""
     structs, enums = structs_of(header), enums_of(header)
     faults, names = compare_calls(header, texts)
@@ -321,7 +389,8 @@ def compare(header, texts, python):
         of_code, of_python = places_in_code(texts, names.get(struct, struct), in_c[struct]), places_in_python(python, struct)
         faults += [f"struct {struct}: {in_c[struct]} in C, and {of} in {where}" for where, of in (("the code", of_code), ("Python", of_python))
                    if of != in_c[struct]]
-    return faults + [*compare_constants(header, enums), *compare_python(header, enums, python), *compare_documents(header)]
+    faults += [*compare_constants(header, enums), *compare_python(header, enums, python)]
+    return faults + [*compare_rust(header, in_c, enums, rust), *compare_documents(header)]
 
 
 # what is changed, of the header or of the code, to see that it is found: a field, its place, its type; a constant; a call
@@ -342,26 +411,34 @@ PLANTED = [
     ("v7.h", "V7_REMARK_ODD_COMMON = 19", "V7_REMARK_ODD_COMMON = 18"),
     ("library_calls/src/remarks_call.rt", "    pub text: usize,\n    pub text_size: usize,", "    pub text_size: usize,\n    pub text: usize,"),
     ("v7_c/src/lib.rt", "    bss: u32,\n    symbols: &[SymbolRow],", "    symbols: &[SymbolRow],\n    bss: u32,"),
+    ("report_objects/src/places.rt", "    pub further: usize,", "    pub further: u32,"),
+    ("raw.rs", "    pub definer: usize,\n    pub next_definer: usize,", "    pub next_definer: usize,\n    pub definer: usize,"),
+    ("raw.rs", "    pub state: u32,\n    pub magic: u16,", "    pub state: u16,\n    pub magic: u16,"),
+    ("raw.rs", "    pub r#type: u16,", "    pub kind: u16,"),
+    ("raw.rs", "v7_map(request: *const Request", "v7_map(request: *mut Request"),
+    ("raw.rs", "remark_room: usize,", "remark_room: u32,"),
+    ("raw.rs", "V7_PLACES: u32 = 4", "V7_PLACES: u32 = 8"),
 ]
 
 
 def main():
-    header, texts, python = read(HEADER), sources(), module()
-    faults = compare(header, texts, python)
+    header, texts, python, rust = read(HEADER), sources(), module(), read(RUST)
+    faults = compare(header, texts, python, rust)
     for where, old, new in PLANTED:
-        text = header if where == "v7.h" else texts[where]
+        text = {"v7.h": header, "raw.rs": rust}.get(where) or texts[where]
         if text.count(old) != 1:
             faults.append(f"planted: {where} has {text.count(old)} times: {old}")
         other = text.replace(old, new)
-        if not compare(other if where == "v7.h" else header, texts if where == "v7.h" else {**texts, where: other}, python):
+        changed = [other if where == "v7.h" else header, {**texts, where: other} if where in texts else texts, python, other if where == "raw.rs" else rust]
+        if not compare(*changed):
             faults.append(f"{new} in {where} is not noticed")
     for name in ("_Answer", "BSS_PART"):
         kept = getattr(python, name)
         setattr(python, name, type("_Answer", (ctypes.Structure,), {"_fields_": kept._fields_[1:]}) if name == "_Answer" else kept + 1)
-        if not compare(header, texts, python):
+        if not compare(header, texts, python, rust):
             faults.append(f"another {name} in Python is not noticed")
         setattr(python, name, kept)
-    print("\n".join(faults) or f"v7.h, the code and Python agree: {len(structs_of(header))} structs, {len(calls_of(header))} calls, "
+    print("\n".join(faults) or f"v7.h, the code, Python and Rust agree: {len(structs_of(header))} structs, {len(calls_of(header))} calls, "
           f"{sum(map(len, enums_of(header).values()))} constants; {len(PLANTED) + 2} planted differences are found")
     return 1 if faults else 0
 

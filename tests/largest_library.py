@@ -96,10 +96,25 @@ def linked(kind):
         }
         for name, call in calls.items():
             check(f"{name} {letters}", given(call), wanted(merged, letters))
+        found = v7.link_map(objects, words[0].value)
+        expected = wanted(merged, letters)
+        check(f"link_map {letters}", (v7.FAULTS[found.fault] if found.fault else found.status, len(found.objects)),
+              (expected if found.fault else expected[0], len(objects)))
+        check(f"link_places {letters}", placed(objects, words[0].value), expected if isinstance(expected, str) else expected[2:])
     if len(merged.externals) < largest.NAMES:
         names = [f"_f{number}" for number in range(model.FORCED_LIMIT)]
         with_names = model.Merged(merged.objects, [name.encode() for name in names])
         check("forced names", given(lambda: v7.link(objects, forced=names)), wanted(with_names, ""))
+
+
+def placed(objects, options):
+    """How many names a report has that are multiply defined and undefined, each with its objects, or the text of the fault."""
+    try:
+        found = v7.link_places(objects, options)
+    except v7.Fault as fault:
+        return v7.FAULTS[fault.fault]
+    return (sum(row.kind == v7.MULTIPLY_DEFINED and row.first is not None and row.first <= row.further for row in found),
+            sum(row.kind == v7.UNDEFINED_NAME and row.first is not None and row.further is None for row in found))
 
 
 def given(call):

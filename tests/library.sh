@@ -248,20 +248,20 @@ if command -v python3 >/dev/null; then
         fail "a program and the library differ"
     PYTHONPATH=$top/examples/python:$top/tests python3 "$top/tests/agree_library.py" ${CASES:-500 100 500} || fail "the model differs"
     PYTHONPATH=$top/examples/python:$top/tests python3 "$top/tests/largest_library.py" || fail "the largest inputs"
-    # a library with a fault in one field of all records of a map
-    ${OBJCOPY:-objcopy} --redefine-sym v7_map=real_v7_map "$archive" planted.a
-    $CC -std=c99 -O2 -Wall -Wextra -Werror -shared -fPIC -o planted.so $compiles "$top/tests/planted_map.c" -Wl,--whole-archive planted.a -Wl,--no-whole-archive ||
-        exit 1
-    plants=$(grep -o 'FIELD([a-z]*, [a-z_]*)' "$top/tests/planted_map.c" | sed -n '/record, name/d; s/FIELD(\(.*\), \(.*\))/\1.\2/p')
+    # a library with a fault in one field of all records of a map, of findings, or of their objects
+    ${OBJCOPY:-objcopy} --redefine-sym v7_map=real_v7_map --redefine-sym v7_run=real_v7_run "$archive" planted.a
+    $CC -std=c99 -O2 -Wall -Wextra -Werror -shared -fPIC -o planted.so $compiles "$top/tests/planted_records.c" -Wl,--whole-archive planted.a \
+        -Wl,--no-whole-archive || exit 1
+    plants=$(grep -o 'FIELD([a-z_]*, [a-z_]*)' "$top/tests/planted_records.c" | sed -n '/(record, name)/d; s/FIELD(\(.*\), \(.*\))/\1.\2/p')
     # whether the model differs from it
     differs() {
-        ! LIBV7=./planted.so PLANT=$1 PYTHONPATH=$top/examples/python:$top/tests python3 "$top/tests/agree_library.py" 0 0 60 >planted.txt 2>&1
+        ! LIBV7=./planted.so PLANT=$1 PYTHONPATH=$top/examples/python:$top/tests python3 "$top/tests/agree_library.py" 60 0 60 >planted.txt 2>&1
     }
-    ! differs nothing || { cat planted.txt; fail "the model differs from the library without a fault in its maps"; }
+    ! differs nothing || { cat planted.txt; fail "the model differs from the library without a fault in its records"; }
     for plant in $plants; do
-        differs "$plant" || fail "a fault in $plant of a map is not found"
+        differs "$plant" || fail "a fault in $plant is not found"
     done
-    echo "a fault in each of $(echo "$plants" | wc -l) fields of the records of a map is found"
+    echo "a fault in each of $(echo "$plants" | wc -l) fields of the records of maps and findings is found"
     if command -v mypy >/dev/null; then
         mypy --strict --cache-dir="$room/mypy" "$top/examples/python/v7.py" || fail "Python: mypy does not take the type hints"
     else

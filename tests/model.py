@@ -136,6 +136,8 @@ class Merged:
 
     def __init__(self, objects, forced):
         self.objects, self.forced, self.before, self.multiples = objects, forced, [], []
+        # for each of these the number of the object
+        self.further = []
         self.sizes = dict.fromkeys(SEGMENTS, 0)
         self.externals = {name: Symbol(name, EXTERNAL, 0) for name in forced}
         for file in objects:
@@ -165,6 +167,7 @@ class Merged:
             self.externals[name] = definition
         elif known != definition:
             self.multiples.append(name)
+            self.further.append(len(self.before) - 1)
 
     def undefined(self):
         """The names that nothing defines; the linker itself defines the reserved ones."""

@@ -1,7 +1,8 @@
-/* v7_run beside the other calls: for random lists of objects, some of them cut or with bytes after them, it must give what v7_link_list
- * and v7_link_findings give, and for random edits what v7_session gives, with the same fault, place and word. A caller whose structs
- * are shorter, with nothing readable after them, gets the same link. Buffers for what is not wanted, and all buffers after a fault,
- * stay as they were.
+/* v7_run and v7_map beside the other calls: for random lists of objects, some of them cut or with bytes after them, v7_run must give
+ * what v7_link_list and v7_link_findings give, and for random edits what v7_session gives, with the same fault, place and word. The
+ * objects of findings are those that v7_map has for their names. A caller whose structs are shorter, with nothing readable after them,
+ * gets the same link and the same list. Buffers for what is not wanted, and all buffers after a fault, stay as they were. A map has the
+ * fault of the link in it, or as its own.
  *
  * usage: runs COUNT OBJECT...       the objects that the lists are made of */
 #define _DEFAULT_SOURCE
@@ -16,14 +17,19 @@
 
 enum { ROOM = 1 << 16, FEW = 64, OBJECTS = 6, EDITS = 9, FILL = 0xa5 };
 
-/* a request and a result of the first form, as a caller has them that knows no more */
-enum { SHORT_REQUEST = offsetof(struct v7_request, edits), SHORT_RESULT = offsetof(struct v7_result, finding_count) };
+/* a request and a result for the report as lines, and a result for it as a list, as a caller has them that knows no more */
+enum {
+    SHORT_REQUEST = offsetof(struct v7_request, edits),
+    SHORT_RESULT = offsetof(struct v7_result, finding_count),
+    LIST_RESULT = offsetof(struct v7_result, place_count)
+};
 
 struct given {
     uint32_t status;
     struct v7_result result;
     unsigned char file[ROOM], report[ROOM], replies[FEW];
     struct v7_finding findings[FEW];
+    struct v7_finding_place places[FEW];
 };
 
 static struct v7_slice known[16];
@@ -86,6 +92,8 @@ static void ask(struct given *to, struct v7_request *request, size_t room)
     to->result.finding_room = FEW;
     to->result.replies = to->replies;
     to->result.reply_room = FEW;
+    to->result.places = to->places;
+    to->result.place_room = FEW;
     to->status = v7_run(request, &to->result);
 }
 
@@ -96,7 +104,8 @@ static int is_clean(const struct given *g)
 
     return is_filled(g->file, there * g->result.file_size, ROOM) && is_filled(g->report, there * g->result.report_size, ROOM) &&
            is_filled(g->replies, there * g->result.reply_count, FEW) &&
-           is_filled(g->findings, there * g->result.finding_count * sizeof *g->findings, sizeof g->findings);
+           is_filled(g->findings, there * g->result.finding_count * sizeof *g->findings, sizeof g->findings) &&
+           is_filled(g->places, there * g->result.place_count * sizeof *g->places, sizeof g->places);
 }
 
 static int same_answer(const struct v7_result *r, const struct v7_answer *a)
@@ -147,6 +156,123 @@ static void try_short(const struct v7_request *request, const struct given *want
     munmap((unsigned char *)result - (page - SHORT_RESULT), 2 * page);
 }
 
+/* the list by a result that ends before the objects of findings */
+static void try_list(const struct v7_request *request, const struct given *wanted, unsigned number)
+{
+    static struct given got;
+    size_t page = (size_t)sysconf(_SC_PAGESIZE);
+    struct v7_request asked = *request;
+    struct v7_result *result;
+
+    memset(&got, FILL, sizeof got);
+    got.result = wanted->result;
+    got.result.file = got.file;
+    got.result.report = got.report;
+    got.result.findings = got.findings;
+    got.result.replies = got.replies;
+    result = at_the_end(&got.result, LIST_RESULT, page);
+    asked.wants = V7_FINDINGS;
+    result->size = LIST_RESULT;
+    got.status = v7_run(&asked, result);
+    check(got.status == wanted->status && result->finding_count == wanted->result.finding_count && result->file_size == wanted->result.file_size &&
+              memcmp(got.file, wanted->file, ROOM) == 0 && memcmp(got.findings, wanted->findings, sizeof got.findings) == 0,
+          "another list by a shorter result", number);
+    asked.wants = V7_FINDINGS | V7_PLACES;
+    check(v7_run(&asked, result) == 2 && result->fault == V7_NO_OPTION && result->finding_count == 0, "objects by a shorter result", number);
+    munmap((unsigned char *)result - (page - LIST_RESULT), 2 * page);
+}
+
+/* the number of the name in a map */
+static const struct v7_map_name *name_in(const struct v7_map *map, const unsigned char *name)
+{
+    size_t i;
+
+    for (i = 0; i < map->name_count; i++)
+        if (memcmp(map->names[i].name, name, 8) == 0)
+            return &map->names[i];
+    return 0;
+}
+
+/* the objects of findings are those of the map, and a name that is multiply defined more often has them in order */
+static void try_places(const struct given *got, const struct v7_map *map, unsigned number)
+{
+    size_t i, first, least;
+
+    check(got->result.place_count == got->result.finding_count, "as many objects as findings", number);
+    for (i = 0; i < got->result.place_count; i++) {
+        const struct v7_finding_place *place = &got->places[i];
+        const struct v7_map_name *name = name_in(map, got->findings[i].name);
+
+        first = !name ? SIZE_MAX : name->definer != SIZE_MAX ? name->definer : name->user;
+        check(place->first == first, "another first object", number);
+        if (got->findings[i].kind != V7_MULTIPLY_DEFINED) {
+            check(place->further == SIZE_MAX, "a further definition that there is not", number);
+            continue;
+        }
+        least = i > 0 && memcmp(got->findings[i].name, got->findings[i - 1].name, 8) == 0 ? got->places[i - 1].further : 0;
+        check(name && name->next_definer != SIZE_MAX && place->further >= name->next_definer && place->further >= least &&
+                  place->further < map->object_count,
+              "another object of a further definition", number);
+    }
+}
+
+/* the map of the link: its faults are those of v7_link_list, of which some are in the map. All records are written, or none */
+static void try_map(struct v7_request *request, unsigned number)
+{
+    static struct given got;
+    static struct v7_map_object objects[OBJECTS];
+    static struct v7_map_name names[FEW];
+    static struct v7_map_use uses[ROOM / 64];
+    static struct v7_map_limit limits[FEW];
+    struct v7_map map;
+    uint32_t status;
+    int is_mapped;
+
+    request->mode = V7_LINK;
+    request->wants = V7_FINDINGS | V7_PLACES;
+    ask(&got, request, ROOM);
+    is_mapped = got.result.fault == 0 || (got.result.fault >= V7_TEXT_FULL && got.result.fault <= V7_SYMBOL_NUMBER);
+    memset(&map, 0, sizeof map);
+    map.size = sizeof map;
+    map.objects = objects;
+    map.object_room = OBJECTS;
+    map.names = names;
+    map.name_room = FEW;
+    map.uses = uses;
+    map.use_room = sizeof uses / sizeof *uses;
+    map.limits = limits;
+    map.limit_room = FEW;
+    memset(objects, FILL, sizeof objects);
+    memset(names, FILL, sizeof names);
+    memset(uses, FILL, sizeof uses);
+    memset(limits, FILL, sizeof limits);
+    status = v7_map(request, &map);
+    if (is_mapped) {
+        check(map.fault == 0 && map.head.fault == got.result.fault && map.head.place == got.result.place &&
+                  status == (got.result.fault ? 1 : got.status) && map.object_count == request->object_count,
+              "another map than the link", number);
+        if (got.result.fault == 0)
+            try_places(&got, &map, number);
+    } else {
+        check(status == 2 && map.fault == got.result.fault && map.place == got.result.place && map.word == got.result.word &&
+                  map.object_count + map.name_count + map.use_count + map.limit_count == 0,
+              "another fault of a map", number);
+    }
+    check(is_filled(objects, map.object_count * sizeof *objects, sizeof objects) && is_filled(names, map.name_count * sizeof *names, sizeof names) &&
+              is_filled(uses, map.use_count * sizeof *uses, sizeof uses) && is_filled(limits, map.limit_count * sizeof *limits, sizeof limits),
+          "records beyond their number", number);
+    if (map.limit_count > 0 && is_mapped) {
+        memset(uses, FILL, sizeof uses);
+        map.limit_room = map.limit_count - 1;
+        check(v7_map(request, &map) == 2 && map.fault == V7_NO_ROOM && is_filled(uses, 0, sizeof uses), "records without room for all", number);
+    }
+    map.size--;
+    check(v7_map(request, &map) == 2 && map.fault == V7_NO_OPTION, "a map that is too short", number);
+    map.size++;
+    request->mode = V7_SESSION;
+    check(v7_map(request, &map) == 2 && map.fault == V7_NO_OPTION, "a map of a session", number);
+}
+
 static void try_link(struct v7_request *request, unsigned number)
 {
     static struct given got, plain;
@@ -156,7 +282,7 @@ static void try_link(struct v7_request *request, unsigned number)
     uint32_t status;
 
     request->mode = V7_LINK;
-    request->wants = V7_REPORT | V7_FINDINGS;
+    request->wants = V7_REPORT | V7_FINDINGS | V7_PLACES;
     ask(&got, request, ROOM);
     status = v7_link_list(request->options, request->entry.bytes, request->entry.size, request->forced.bytes, request->forced.size,
                           request->objects, request->object_count, file, ROOM, report, ROOM, &answer);
@@ -168,6 +294,11 @@ static void try_link(struct v7_request *request, unsigned number)
     check(same_answer(&got.result, &answer) && got.result.finding_count == answer.report_size && got.result.reply_count == 0 &&
               (answer.fault || memcmp(findings, got.findings, answer.report_size * sizeof *findings) == 0),
           "other findings than v7_link_findings", number);
+    request->wants = V7_FINDINGS;
+    ask(&plain, request, ROOM);
+    check(plain.result.place_count == 0 && is_filled(plain.places, 0, sizeof plain.places) && memcmp(plain.findings, got.findings, sizeof got.findings) == 0,
+          "objects that are not wanted", number);
+    try_list(request, &plain, number);
     request->wants = V7_REPORT;
     ask(&plain, request, ROOM);
     check(plain.result.finding_count == 0 && is_filled(plain.findings, 0, sizeof plain.findings) && memcmp(plain.file, got.file, ROOM) == 0,
@@ -178,7 +309,7 @@ static void try_link(struct v7_request *request, unsigned number)
         check(plain.status == 2 && plain.result.fault == V7_NO_ROOM && plain.result.file_size == got.result.file_size && is_clean(&plain),
               "a buffer that is too small", number);
     }
-    request->wants = 4;
+    request->wants = 8;
     ask(&plain, request, ROOM);
     check(plain.status == 2 && plain.result.fault == V7_NO_OPTION && plain.result.file_size == 0 && is_clean(&plain), "an unknown want", number);
 }
@@ -194,7 +325,7 @@ static void try_session(struct v7_request *request, size_t cut, unsigned number)
     for (i = 0; i < count; i++)
         added += (edits[i] = below(3) ? V7_ADD : V7_WITHDRAW) == V7_ADD;
     request->mode = V7_SESSION;
-    request->wants = V7_REPORT | V7_FINDINGS;
+    request->wants = V7_REPORT | V7_FINDINGS | V7_PLACES;
     request->edits.bytes = edits;
     request->edits.size = count;
     ask(&got, request, ROOM);
@@ -219,6 +350,7 @@ static void try_session(struct v7_request *request, size_t cut, unsigned number)
               (answer.fault || (got.result.reply_count == count && memcmp(file, got.file, answer.size) == 0 &&
                                 memcmp(report, got.report, answer.report_size) == 0 && memcmp(replies, got.replies, count) == 0)),
           "another session than v7_session", number);
+    check(got.result.place_count == got.result.finding_count, "as many objects as findings in a session", number);
 }
 
 int main(int argc, char **argv)
@@ -252,6 +384,7 @@ int main(int argc, char **argv)
         else
             cut = OBJECTS;
         try_link(&request, number);
+        try_map(&request, number);
         if (request.options < 128 && request.options != (V7_RELOCATABLE | V7_STRIP))
             try_session(&request, cut, number);
     }

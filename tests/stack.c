@@ -13,6 +13,7 @@ static struct v7_word text[WORDS], data[WORDS];
 static struct v7_symbol symbols[SYMBOLS];
 static struct v7_slice slices[COUNT];
 static struct v7_finding findings[SYMBOLS];
+static struct v7_finding_place places[SYMBOLS];
 static unsigned char *objects, *room, *more, *replies, edits[COUNT];
 static size_t objects_size, count;
 static unsigned calls, results;
@@ -29,12 +30,36 @@ static void called(uint32_t status, const struct v7_answer *answer)
 /* the call by request and result */
 static void run(uint32_t mode, uint32_t options)
 {
-    struct v7_request request = {sizeof request, mode, options, V7_REPORT | V7_FINDINGS, {0, 0}, {0, 0}, slices, count, {edits, count}};
-    struct v7_result result = {sizeof result, 0, 0, 0, 0, 0, room, ROOM, more, ROOM, 0, 0, findings, SYMBOLS, replies, COUNT};
+    struct v7_request request = {sizeof request, mode, options, V7_REPORT | V7_FINDINGS | V7_PLACES, {0, 0}, {0, 0}, slices, count, {edits, count}};
+    struct v7_result result = {sizeof result, 0, 0, 0, 0, 0, room, ROOM, more, ROOM, 0, 0, findings, SYMBOLS, replies, COUNT, 0, places, SYMBOLS};
     uint32_t status = v7_run(&request, &result);
     struct v7_answer answer = {result.fault, result.word, result.place, 0, 0};
 
     called(status, &answer);
+}
+
+/* the map, by two calls: for how many records there are, and for them */
+static void show_map(uint32_t options)
+{
+    struct v7_request request = {sizeof request, V7_LINK, options, 0, {0, 0}, {0, 0}, slices, count, {0, 0}};
+    struct v7_map map;
+    struct v7_answer answer = {0, 0, 0, 0, 0};
+    uint32_t status;
+
+    memset(&map, 0, sizeof map);
+    map.size = sizeof map;
+    v7_map(&request, &map);
+    map.objects = malloc((map.object_room = map.object_count) * sizeof *map.objects);
+    map.names = malloc((map.name_room = map.name_count) * sizeof *map.names);
+    map.uses = malloc((map.use_room = map.use_count) * sizeof *map.uses);
+    map.limits = malloc((map.limit_room = map.limit_count) * sizeof *map.limits);
+    status = v7_map(&request, &map);
+    answer.fault = map.fault;
+    called(status, &answer);
+    free(map.objects);
+    free(map.names);
+    free(map.uses);
+    free(map.limits);
 }
 
 static void *call_all(void *unused)
@@ -65,6 +90,7 @@ static void *call_all(void *unused)
         called(v7_session(option, none, 0, none, 0, edits, count, objects, objects_size, replies, COUNT, room, ROOM, more, ROOM, &answer), &answer);
         run(V7_LINK, option);
         run(V7_SESSION, option);
+        show_map(option);
     }
     called(v7_state(V7_LINES, none, 0, edits, count, objects, objects_size, replies, COUNT, room, ROOM, &answer), &answer);
     called(v7_state(V7_JSON, none, 0, edits, count, objects, objects_size, replies, COUNT, room, ROOM, &answer), &answer);
@@ -123,5 +149,5 @@ int main(void)
     edits[COUNT - 1] = V7_WITHDRAW;
     call_in_thread();
     printf("%u calls, %u with a result\n", calls, results);
-    return calls != 126 || results < 110;
+    return calls != 142 || results < 126;
 }

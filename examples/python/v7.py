@@ -37,7 +37,7 @@ __version__ = "0.4.0"
 _LIBRARY = ctypes.CDLL(os.environ.get("LIBV7") or (_BESIDE if os.path.exists(_BESIDE) else "libv7.so.0"))
 _NO_ROOM = 60
 _LINK, _SESSION = 0, 1
-_REPORT, _FINDINGS = 1, 2
+_REPORT, _FINDINGS, _PLACES = 1, 2, 4
 
 # options of a link
 RELOCATABLE, STRIP, EXTERNALS, NOT_L, PURE, SPLIT, FORCE_COMMONS = (1 << bit for bit in range(7))
@@ -89,6 +89,9 @@ DROP_DEBUGGER, DROP_UNUSED, DROP_LOCALS = 1, 2, 4
     REMARK_BRANCH_WITHIN,
 ) = range(1, 27)
 
+# why a name is reported
+MULTIPLY_DEFINED, RESERVED_NAME, ENTRY_NOT_IN_TEXT, UNDEFINED_NAME = 1, 2, 3, 4
+
 # of a name in a map, and of its uses
 NAME_IS_PLACED, NAME_IS_UNDEFINED, NAME_IS_MULTIPLE = 1, 2, 4
 DEFINES, MAKES_COMMON, WANTS, FORCES, TEXT_WORD, DATA_WORD = range(1, 7)
@@ -123,6 +126,16 @@ class Found(NamedTuple):
     status: int
     file: bytes
     findings: Findings
+
+
+class Finding(NamedTuple):
+    """A name that is reported, why, and the numbers of its objects: the first that defines it, or else the first with a symbol of it, or
+    None; and, if it is MULTIPLY_DEFINED, the object of this further definition."""
+
+    name: str
+    kind: int
+    first: Optional[int]
+    further: Optional[int]
 
 
 class MapObject(NamedTuple):
@@ -292,6 +305,10 @@ class _Finding(ctypes.Structure):
     _fields_ = [("name", ctypes.c_ubyte * 8), ("kind", ctypes.c_uint32)]
 
 
+class _FindingPlace(ctypes.Structure):
+    _fields_ = [("first", ctypes.c_size_t), ("further", ctypes.c_size_t)]
+
+
 class _Remark(ctypes.Structure):
     _fields_ = [*((name, ctypes.c_size_t) for name in ("place", "text", "text_size")), ("kind", ctypes.c_uint32)]
 
@@ -346,6 +363,9 @@ class _Result(ctypes.Structure):
         ("finding_room", ctypes.c_size_t),
         ("replies", ctypes.c_void_p),
         ("reply_room", ctypes.c_size_t),
+        ("place_count", ctypes.c_size_t),
+        ("places", ctypes.POINTER(_FindingPlace)),
+        ("place_room", ctypes.c_size_t),
     ]
 
 
@@ -643,6 +663,7 @@ class _Run:
         self._result = _Result(size=ctypes.sizeof(_Result))
         self.status, self.file, self.report = 2, b"", ""
         self.findings: List[Any] = []
+        self.places: List[Any] = []
 
     def call(self) -> int:
         """Calls with the rooms that there are, and returns the number of the fault."""
@@ -657,14 +678,15 @@ class _Run:
         result = self._result
         if self.call() == _NO_ROOM:
             file, report, replies = (_room(size) for size in (result.file_size, result.report_size, result.reply_count))
-            findings = (_Finding * max(result.finding_count, 1))()
+            findings, places = (_Finding * max(result.finding_count, 1))(), (_FindingPlace * max(result.place_count, 1))()
             result.file, result.file_room = ctypes.addressof(file), result.file_size
             result.report, result.report_room = ctypes.addressof(report), result.report_size
             result.findings, result.finding_room = findings, result.finding_count
             result.replies, result.reply_room = ctypes.addressof(replies), result.reply_count
+            result.places, result.place_room = places, result.place_count
             self.call()
             self.file, self.report = bytes(file.raw[: result.file_size]), report.raw[: result.report_size].decode("latin-1")
-            self.findings = findings[: result.finding_count]
+            self.findings, self.places = findings[: result.finding_count], places[: result.place_count]
         if result.fault:
             raise self.fault()
         return self
@@ -690,6 +712,12 @@ class _Run:
         kinds = [[_name(row.name) for row in self.findings if row.kind == kind] for kind in range(1, 5)]
         multiples, reserved, entries, undefined = kinds
         return Found(self.status, self.file, Findings(multiples, reserved, entries[0] if entries else None, undefined))
+
+    def placed(self) -> List[Finding]:
+        return [
+            Finding(_name(row.name), row.kind, _number_or_none(place.first), _number_or_none(place.further))
+            for row, place in zip(self.findings, self.places)
+        ]
 
 
 def _name(padded: Any) -> str:
@@ -740,6 +768,20 @@ def link_findings(objects: Iterable[bytes], options: int = 0, entry: str = "", f
     Findings(multiples=[], reserved=['_end'], entry='_go', undefined=['_f'])
     """
     return _Run(objects, options, entry, forced, _FINDINGS, None).finish().found()
+
+
+def link_places(objects: Iterable[bytes], options: int = 0, entry: str = "", forced: Iterable[str] = ()) -> List[Finding]:
+    """What is reported of a link, in the order of the lines, with the numbers of the objects.
+
+    >>> one = make(symbols=[("_f", ABSOLUTE | EXTERNAL, 1), ("_g", UNDEFINED | EXTERNAL, 0)])
+    >>> other = make(symbols=[("_f", ABSOLUTE | EXTERNAL, 2)])
+    >>> for finding in link_places([other, one, other, make(), one]):
+    ...     print(finding.name, finding.kind == MULTIPLY_DEFINED, finding.first, finding.further)
+    _f True 0 1
+    _f True 0 4
+    _g False 1 None
+    """
+    return _Run(objects, options, entry, forced, _FINDINGS | _PLACES, None).finish().placed()
 
 
 def link_map(objects: Iterable[bytes], options: int = 0, entry: str = "", forced: Iterable[str] = ()) -> Map:
@@ -870,6 +912,10 @@ class Session:
         """The same with its report as `Findings`."""
         found = self._run(options, _FINDINGS).finish().found()
         return found._replace(status=self._status(found.status))
+
+    def link_places(self, options: int = 0) -> List[Finding]:
+        """What is reported of the link, with the numbers of the objects that are there."""
+        return self._run(options, _FINDINGS | _PLACES).finish().placed()
 
     def map(self, options: int = 0) -> Map:
         """The map of the link of what is there."""

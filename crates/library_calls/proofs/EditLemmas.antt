@@ -4,6 +4,7 @@ use Rattle.std.proofs.Common.{get_or, add-one, map, eqb, if◌then◌else◌, If
 use Rattle.std.proofs.Common.{ap, ◌∙◌, subst, inl, inr, arith, drop-cons}
 use Rattle.std.specs.Prelude.{IfErr, IsOk}
 use Rattle.std.proofs.lemmas.Bool.{ne_eqb}
+use Rattle.aout_core.specs.Contents.{Contents}
 use Rattle.link_session.specs.Edits.{Change, answers, answers_from, survivors, survivors_from}
 use Rattle.link_session.specs.Labelled.{Labelled, objects}
 use Rattle.link_session.specs.Sessions.{nothing_kept}
@@ -103,7 +104,7 @@ all_made (n ∷ ns) (suc i) status h = all_made ns i status (omega (arith, h))
 
 pub ruleset by_reply = (next_status, last_status, all_made)
 
-module _ {A R : Type 0} (give : List ℕ → Outcome → A) (view : R → A) (forced : List (List ℕ)) (o : Choices)
+module _ {A R : Type 0} (give : List Contents → List ℕ → Outcome → A) (view : R → A) (forced : List (List ℕ)) (o : Choices)
     (cs : List Change) (begun k : Kept) (numbers : List ℕ) where
   -- the link of what edits left, with the replies to them, is what a run of them gives
   run_is : begun ≡ nothing_kept forced → AreEdited begun k cs numbers → given_by give forced o cs ≡ edited give k o numbers
@@ -112,9 +113,9 @@ module _ {A R : Type 0} (give : List ℕ → Outcome → A) (view : R → A) (fo
       let kept : k.entries ≡ survivors forced cs = edits.kept ∙ ap (λ (x : Kept). survivors_from x.forced x.entries cs) is in
       let replies : numbers ≡ map reply_number (answers forced cs) =
       edits.replies ∙ ap (λ (x : Kept). map reply_number (answers_from x.forced x.entries cs)) is in
-      sym (ap (λ f. and_then (refused_as NotLinked (link f (objects k.entries) o)) (λ x. Ok (give numbers x))) same
-      ∙ ap (λ es. and_then (refused_as NotLinked (link forced (objects es) o)) (λ x. Ok (give numbers x))) kept
-      ∙ ap (λ ns. and_then (refused_as NotLinked (link_after forced cs o)) (λ x. Ok (give ns x))) replies)
+      sym (ap (λ f. and_then (refused_as NotLinked (link f (objects k.entries) o)) (λ x. Ok (give (objects k.entries) numbers x))) same
+      ∙ ap (λ es. and_then (refused_as NotLinked (link forced (objects es) o)) (λ x. Ok (give (objects es) numbers x))) kept
+      ∙ ap (λ ns. and_then (refused_as NotLinked (link_after forced cs o)) (λ x. Ok (give (objects (survivors forced cs)) ns x))) replies)
 
   pub run_ok : (r : Result R Cause) → begun ≡ nothing_kept forced → AreEdited begun k cs numbers →
       IfOk r (λ ran. edited give k o numbers ≡ Ok (view ran)) → IfOk r (λ ran. given_by give forced o cs ≡ Ok (view ran))

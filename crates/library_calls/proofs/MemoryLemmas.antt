@@ -1,6 +1,6 @@
 -- Where memory may run out, stage by stage.
 use Rattle.std.proofs.Common.{◌≡◌, ℕ, List, [], Result, Ok, Err, refl, sym, ap, ◌∙◌, subst, inl, inr}
-use Rattle.std.specs.Prelude.{IsOk, IsOkAnd}
+use Rattle.std.specs.Prelude.{IfErr, IsOk, IsOkAnd}
 use Rattle.link_session.specs.Edits.{Change}
 use Rattle.link_session.specs.Labelled.{objects}
 use Rattle.link_session.specs.Sessions.{nothing_kept}
@@ -11,7 +11,7 @@ use Rattle.link_out.specs.function.Link.{link}
 use Rattle.link_out.specs.Results.{Outcome}
 use Rattle.link_out.specs.Steps.{and_then, refused_as}
 use Rattle.library_calls.specs.declared.cause.Cause.{Cause}
-use Rattle.library_calls.specs.declared.cause.Cause.TheVariants.{NotLinked}
+use Rattle.library_calls.specs.declared.cause.Cause.TheVariants.{Memory, NotLinked}
 use Rattle.library_calls.specs.declared.cause.Refusal.{Refusal}
 use Rattle.library_calls.specs.Causes.{at}
 use Rattle.library_calls.specs.LinkAnswers.{with_each, with_objects}
@@ -22,6 +22,16 @@ use Rattle.library_calls.specs.SessionAnswers.{changes_in}
 is_linked : (r : Result Outcome LinkFault) → IsOk r → IsOk (at 0 (refused_as NotLinked r))
 is_linked (Ok x) h = refl
 is_linked (Err fault) h = absurd (cc)
+
+there_is_one : (r : Result Outcome LinkFault) (x : Outcome) → refused_as NotLinked r ≡ Ok x → IsOk r
+there_is_one (Ok y) x h = refl
+there_is_one (Err fault) x h = absurd (cc)
+
+-- memory may run out for what is made of a link
+pub memory_after_link : {A : Type 0} (given : Result A Cause) (r : Result Outcome LinkFault) (x : Outcome) →
+    refused_as NotLinked r ≡ Ok x → IfErr given (λ cause. cause ≡ Memory → IsOk r)
+memory_after_link (Ok a) r x h = tt
+memory_after_link (Err cause) r x h = λ memory. there_is_one r x h
 
 -- memory may run out for the link of all objects
 pub link_without_memory : (forced : List (List ℕ)) (o : Choices) (bytes : List ℕ) (begun k : Kept) →

@@ -1,19 +1,24 @@
--- What one call says of a link or of a session, with the bytes of each object apart, its report as lines and as a list. (ld(1); edits: own
--- choice)
+-- What one call says of a link or of a session, with the bytes of each object apart, its report as lines and as a list, and the objects of
+-- what is reported. (ld(1); edits: own choice)
 --
 -- An edit `a` adds the object that the next part begins with. The bytes after it in its part are not looked at, so an object that is
 -- cut short is refused itself. If no part is left, there are no bytes of an object.
-use Rattle.std.specs.Prelude.{◌≡◌, ◌⊎◌, ℕ, eqb, if◌then◌else◌, List, [], ◌∷◌, Result, Ok, IsOkAnd}
+use Rattle.std.specs.Prelude.{◌≡◌, ◌⊎◌, ℕ, Bool, eqb, if◌then◌else◌, List, [], ◌∷◌, Result, Ok, IsOkAnd}
+use Rattle.aout_core.specs.Contents.{Contents}
 use Rattle.link_session.specs.Edits.{Change}
 use Rattle.tool_options.specs.Choices.{Choices}
-use Rattle.link_out.specs.function.Link.{Outcome}
-use Rattle.link_out.specs.Steps.{and_then}
+use Rattle.link_out.specs.function.Link.{Outcome, link}
+use Rattle.link_out.specs.Results.{ReportNames}
+use Rattle.link_out.specs.Steps.{and_then, refused_as}
+use Rattle.report_objects.specs.declared.places.FindingPlace.{FindingPlace}
+use Rattle.report_objects.specs.Places.{finding_places}
 use Rattle.library_calls.specs.declared.cause.Cause.{Cause}
+use Rattle.library_calls.specs.declared.cause.Cause.TheVariants.{NotLinked}
 use Rattle.library_calls.specs.declared.cause.Refusal.{Refusal}
 use Rattle.library_calls.specs.declared.findings_call.ReportedName.{ReportedName}
 use Rattle.library_calls.specs.declared.run_call.RunResult.{RunResult}
 use Rattle.library_calls.specs.Causes.{at}
-use Rattle.library_calls.specs.LinkAnswers.{found_of, outcome_each, output_of}
+use Rattle.library_calls.specs.LinkAnswers.{found_of, output_of, with_each}
 use Rattle.library_calls.specs.LinkRequests.{choices_in, forced_in}
 use Rattle.library_calls.specs.MemoryWanted.{MayRunOutInEditsOf, MayRunOutInRun}
 use Rattle.library_calls.specs.SessionAnswers.{given_by, session_status, with_edits_of}
@@ -34,40 +39,62 @@ changes_each letters parts = with_edits_of first_part parts_after 0 [] letters p
 
 -- ---- what is given
 
--- the status, the replies to the edits, the bytes of the linked file, and its report as the bytes of its lines and as a list
+-- the status, the replies to the edits, the bytes of the linked file, its report as the bytes of its lines and as a list, and the objects of
+-- what the list has
 pub record RunOutput : Type 0 where
   pub status : ℕ
   pub replies : List ℕ
   pub file : List ℕ
   pub report : List ℕ
   pub findings : List ReportedName
+  pub places : List FindingPlace
 
-abbrev pub run_output : List ℕ → Outcome → RunOutput
-run_output replies x = record {
+-- the objects of a report on the link of these, if they are asked for
+abbrev pub places_if : Bool → List (List ℕ) → List Contents → ReportNames → List FindingPlace
+places_if is_placed forced os f = if is_placed then finding_places forced os f else []
+
+abbrev pub run_output : Bool → List (List ℕ) → List Contents → List ℕ → Outcome → RunOutput
+run_output is_placed forced os replies x = record {
   status = session_status replies (output_of x).status;
   replies = replies;
   file = (output_of x).file;
   report = (output_of x).report;
   findings = (found_of x).report;
+  places = places_if is_placed forced os x.report;
 }
 
 abbrev pub results_of : RunResult → RunOutput
-results_of r =
-    record { status = r.status; replies = r.replies.items; file = r.file.items; report = r.report.items; findings = r.findings.items }
+results_of r = record {
+  status = r.status;
+  replies = r.replies.items;
+  file = r.file.items;
+  report = r.report.items;
+  findings = r.findings.items;
+  places = r.places.items;
+}
+
+-- the link of these objects, with the replies to the edits before it
+abbrev pub objects_run : Bool → List (List ℕ) → Choices → List ℕ → List Contents → Result RunOutput Cause
+objects_run is_placed forced o replies os =
+    and_then (refused_as NotLinked (link forced os o)) (λ x. Ok (run_output is_placed forced os replies x))
 
 -- a link of all objects, which has no replies
-abbrev pub link_run : ℕ → List ℕ → List ℕ → List (List ℕ) → Result RunOutput Refusal
-link_run bits entry forced parts = and_then (outcome_each bits entry forced parts) (λ x. Ok (run_output [] x))
+abbrev pub parts_run : Bool → List (List ℕ) → Choices → List (List ℕ) → Result RunOutput Refusal
+parts_run is_placed forced o parts = and_then (with_each forced [] parts) (λ os. at 0 (objects_run is_placed forced o [] os))
+
+abbrev pub link_run : Bool → ℕ → List ℕ → List ℕ → List (List ℕ) → Result RunOutput Refusal
+link_run is_placed bits entry forced parts =
+    and_then (at 0 (choices_in bits entry)) (λ o. and_then (forced_in forced) (λ names. parts_run is_placed names o parts))
 
 -- the replies to the edits, and the link of what they leave
-abbrev pub changes_run : List (List ℕ) → Choices → List Change → Result RunOutput Cause
-changes_run forced o cs = given_by run_output forced o cs
+abbrev pub changes_run : Bool → List (List ℕ) → Choices → List Change → Result RunOutput Cause
+changes_run is_placed forced o cs = given_by (run_output is_placed forced) forced o cs
 
 -- the options, then the forced names, then the edits, then the link: the first refusal, or what is given
-abbrev pub session_run : ℕ → List ℕ → List ℕ → List ℕ → List (List ℕ) → Result RunOutput Refusal
-session_run bits entry forced letters parts =
+abbrev pub session_run : Bool → ℕ → List ℕ → List ℕ → List ℕ → List (List ℕ) → Result RunOutput Refusal
+session_run is_placed bits entry forced letters parts =
     and_then (at 0 (choices_in bits entry))
-    (λ o. and_then (forced_in forced) (λ names. and_then (changes_each letters parts) (λ cs. at 0 (changes_run names o cs))))
+    (λ o. and_then (forced_in forced) (λ names. and_then (changes_each letters parts) (λ cs. at 0 (changes_run is_placed names o cs))))
 
 -- ---- memory
 

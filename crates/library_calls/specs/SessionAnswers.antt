@@ -4,7 +4,9 @@
 -- after the one before it, and the first that is not taken is the refusal. Then they are run: each has a reply, and what is left is
 -- linked.
 use Rattle.std.specs.Prelude.{ℕ, ◌+◌, eqb, if◌then◌else◌, List, [], ◌∷◌, ◌++◌, map, Result, Ok, Err}
-use Rattle.link_session.specs.Edits.{Change, addition, withdrawal, Answer, added, refused, withdrew, nothing, answers}
+use Rattle.aout_core.specs.Contents.{Contents}
+use Rattle.link_session.specs.Edits.{Change, addition, withdrawal, Answer, added, refused, withdrew, nothing, answers, survivors}
+use Rattle.link_session.specs.Labelled.{objects}
 use Rattle.tool_options.specs.Choices.{Choices}
 use Rattle.link_out.specs.function.Link.{Outcome}
 use Rattle.link_out.specs.Runs.{link_after}
@@ -75,13 +77,14 @@ output_with replies x = record {
   output = record { status = session_status replies x.status; file = x.file; report = x.report };
 }
 
--- the link of what changes leave, with the replies to them, given in some form
-abbrev pub given_by : {A : Type 0} → (List ℕ → Outcome → A) → List (List ℕ) → Choices → List Change → Result A Cause
+-- the link of what changes leave, with these objects and the replies to the changes, given in some form
+abbrev pub given_by : {A : Type 0} → (List Contents → List ℕ → Outcome → A) → List (List ℕ) → Choices → List Change → Result A Cause
 given_by give forced o cs =
-    and_then (refused_as NotLinked (link_after forced cs o)) (λ x. Ok (give (map reply_number (answers forced cs)) x))
+    and_then (refused_as NotLinked (link_after forced cs o))
+    (λ x. Ok (give (objects (survivors forced cs)) (map reply_number (answers forced cs)) x))
 
-abbrev pub session_output : List ℕ → Outcome → SessionOutput
-session_output replies x = output_with replies (output_of x)
+abbrev pub session_output : List Contents → List ℕ → Outcome → SessionOutput
+session_output os replies x = output_with replies (output_of x)
 
 abbrev pub run_of : List (List ℕ) → Choices → List Change → Result SessionOutput Cause
 run_of forced o cs = given_by session_output forced o cs

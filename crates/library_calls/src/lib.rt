@@ -16,6 +16,7 @@
 //! - `Found`, `ReportedName`: a linked file with its report as a list, and a name that is reported
 //! - `ObjectBytes`: the bytes of an object that is given apart
 //! - `RunResult`: what a link or a session of objects apart gives, its report as lines and as a list
+//! - `FindingPlace`: the objects of a name that is reported
 //! - `Mapped`, `MapHead`: the map of a link, and what becomes of it
 //! - `MapRecords`, `ObjectRecord`, `NameRecord`, `UseRecord`, `LimitRecord`: the records of a map
 //! - `Ran`, `Shown`, `Form`: what a session gives, the state that it shows, and in which form
@@ -81,6 +82,7 @@ pub use make_call::make;
 pub use map_call::{MapHead, Mapped, map_link};
 pub use parts::{FileLists, ObjectBytes, ObjectParts, ObjectWord, PartLists, SymbolRow};
 pub use remarks_call::{RemarkRecord, Remarks, remarks_of};
+pub use report_objects::FindingPlace;
 pub use run_call::{RunResult, run_link, run_session_of_parts};
 pub use session_call::{Ran, run_session};
 pub use state_call::{Form, Shown, show_session};

@@ -1,12 +1,12 @@
 //! A link or a session in one call, of objects whose bytes are apart, with its report as lines and as a list.
 ghost use Rattle.std.specs.Prelude.{◌≡◌, ◌≢◌, map, Ok, Err, IsOk, IfOk, IfErr};
 ghost use Rattle.link_session.specs.Labelled.{objects};
-ghost use Rattle.link_out.specs.Outcomes.{outcome_of};
+ghost use Rattle.link_out.specs.Outcomes.{outcome_of, report_names};
 ghost use Rattle.link_out.specs.Runs.{change_of};
 ghost use Rattle.link_out.specs.function.Link.{link};
 ghost use Rattle.library_calls.specs.LinkAnswers.{each_of};
-ghost use Rattle.library_calls.specs.MemoryWanted.{LinkOfEachMayRunOut, MayRunOutInRun};
-ghost use Rattle.library_calls.specs.RunAnswers.{SessionOfPartsMayRunOut, changes_run, link_run, results_of, run_output, session_run};
+ghost use Rattle.library_calls.specs.MemoryWanted.{LinkOfEachMayRunOut, MayRunOutInLinkOfEach, MayRunOutInRun};
+ghost use Rattle.library_calls.specs.RunAnswers.{SessionOfPartsMayRunOut, changes_run, link_run, parts_run, places_if, results_of, run_output, session_run};
 ghost use Rattle.library_calls.specs.internal.Edited.{edited_run};
 ghost use Rattle.library_calls.specs.declared.cause.Cause.TheVariants.{Memory};
 
@@ -14,12 +14,14 @@ use crate::cause::{Cause, Refusal};
 use crate::edits::{make_edits, session_status};
 use crate::edits_apart::read_edits_apart;
 use crate::findings_call::{ReportedName, all_findings};
-use crate::link_call::{LinkRequest, Program, link_kept, link_requested, program_of};
+use crate::link_call::{LinkRequest, Program, link_kept, program_of};
 use crate::parts::ObjectBytes;
 use crate::requests::{forced_names, tool_options};
-use link_out::{Edit, Linked, Options};
+use crate::taking::take_each;
+use link_out::{Edit, Linked, Options, Report};
 use link_session::{Forced, Session};
-use std::alloc::Global;
+use report_objects::{FindingPlace, places_of};
+use std::alloc::{AllocError, Global};
 
 /// What a link or a session gives. (ld(1); edits: own choice)
 #[derive(Debug, Drop)]
@@ -34,11 +36,36 @@ pub struct RunResult {
     pub report: Vec<u8>,
     /// What is reported, in the order of the lines.
     pub findings: Vec<ReportedName>,
+    /// The objects of what is reported, by their numbers among those that are linked; empty if they are not asked for.
+    pub places: Vec<FindingPlace>,
+}
+
+/// The objects of what is reported, if they are asked for.
+fn places_if(
+    alloc: Global,
+    is_placed: bool,
+    session: Session,
+    report: &Report,
+) -> Result<Vec<FindingPlace>, AllocError>
+    ensures { IfOk result (λ places. places.items ≡ places_if is_placed session.forced (objects session.entries) (report_names report.now)) }
+{
+    if is_placed {
+        places_of(alloc, session, report)
+    } else {
+        Ok(Vec::new(alloc))
+    }
 }
 
 /// The bytes of a link, its report in both forms, and the replies to the edits before it.
-fn result_of(alloc: Global, linked: &Linked, replies: Vec<u8>) -> Result<RunResult, Cause>
-    ensures ok { IfOk result (λ given. results_of given ≡ run_output replies.items (outcome_of linked.now)) }
+fn result_of(
+    alloc: Global,
+    is_placed: bool,
+    session: Session,
+    linked: &Linked,
+    replies: Vec<u8>,
+) -> Result<RunResult, Cause>
+    ensures ok { IfOk result (λ given. results_of given
+        ≡ run_output is_placed session.forced (objects session.entries) replies.items (outcome_of linked.now)) }
     ensures err { IfErr result (λ cause. cause ≡ Memory) }
 {
     let Program {
@@ -47,64 +74,91 @@ fn result_of(alloc: Global, linked: &Linked, replies: Vec<u8>) -> Result<RunResu
         report,
     } = program_of(alloc, linked)?;
     let findings = all_findings(alloc, &linked.report)?;
+    let places = places_if(alloc, is_placed, session, &linked.report)?;
     Ok(RunResult {
         status: session_status(&replies, status),
         replies,
         file,
         report,
         findings,
+        places,
     })
 }
 
-/// Links as `link_each` does, and returns the report in both forms. There are no replies. (ld(1))
+/// Links what a session keeps; these are the replies to the edits before.
+fn run_kept(
+    alloc: Global,
+    is_placed: bool,
+    session: Session,
+    replies: Vec<u8>,
+    options: &Options,
+) -> Result<RunResult, Cause>
+    ensures ok { IfOk result (λ given. edited_run is_placed session options.now replies.items ≡ Ok (results_of given)) }
+    ensures err { IfErr result (λ cause. cause ≢ Memory → edited_run is_placed session options.now replies.items ≡ Err cause) }
+    ensures memory { IfErr result (λ cause. cause ≡ Memory → IsOk (link session.forced (objects session.entries) options.now)) }
+{
+    let linked = link_kept(alloc, &session, options)?;
+    result_of(alloc, is_placed, session, &linked, replies)
+}
+
+/// Links the object that each of the parts begins with.
+#[tactic(auto, using(crate::proofs::MemoryLemmas::each_without_memory))]
+fn run_parts(
+    alloc: Global,
+    is_placed: bool,
+    parts: &[ObjectBytes<'_>],
+    forced: &Forced,
+    options: &Options,
+) -> Result<RunResult, Refusal>
+    ensures ok { IfOk result (λ given. parts_run is_placed forced.now options.now (each_of parts.now) ≡ Ok (results_of given)) }
+    ensures err { IfErr result (λ r. r.cause ≢ Memory → parts_run is_placed forced.now options.now (each_of parts.now) ≡ Err r) }
+    ensures memory { IfErr result (λ r. r.cause ≡ Memory → MayRunOutInLinkOfEach forced.now options.now (each_of parts.now) r.place) }
+{
+    let mut session = Session::with_forced(alloc, forced)?;
+    take_each(alloc, &mut session, parts)?;
+    Ok(run_kept(alloc, is_placed, session, Vec::new(alloc), options)?)
+}
+
+/// Links as `link_each` does, and returns the report in both forms, with the objects of what is reported if they are asked for. There are
+/// no replies. (ld(1))
 ///
 /// Errors: those of `link_each`.
 pub fn run_link(
     alloc: Global,
     request: &LinkRequest<'_>,
+    is_placed: bool,
     parts: &[ObjectBytes<'_>],
 ) -> Result<RunResult, Refusal>
-    ensures ok { IfOk result (λ given. link_run request.now.options request.now.entry.now request.now.forced.now (each_of parts.now) ≡ Ok (results_of given)) }
-    ensures err { IfErr result (λ r. r.cause ≢ Memory → link_run request.now.options request.now.entry.now request.now.forced.now (each_of parts.now) ≡ Err r) }
+    ensures ok { IfOk result (λ given. link_run is_placed request.now.options request.now.entry.now request.now.forced.now (each_of parts.now)
+        ≡ Ok (results_of given)) }
+    ensures err { IfErr result (λ r. r.cause ≢ Memory
+        → link_run is_placed request.now.options request.now.entry.now request.now.forced.now (each_of parts.now) ≡ Err r) }
     ensures memory { IfErr result (λ r. r.cause ≡ Memory
         → LinkOfEachMayRunOut request.now.options request.now.entry.now request.now.forced.now (each_of parts.now) r.place) }
 {
-    let linked = link_requested(alloc, request, parts)?;
-    Ok(result_of(alloc, &linked, Vec::new(alloc))?)
-}
-
-/// Links what the edits left, to which these are the replies.
-fn run_kept(
-    alloc: Global,
-    session: &Session,
-    replies: Vec<u8>,
-    options: &Options,
-) -> Result<RunResult, Cause>
-    ensures ok { IfOk result (λ given. edited_run session.now options.now replies.items ≡ Ok (results_of given)) }
-    ensures err { IfErr result (λ cause. cause ≢ Memory → edited_run session.now options.now replies.items ≡ Err cause) }
-    ensures memory { IfErr result (λ cause. cause ≡ Memory → IsOk (link session.now.forced (objects session.now.entries) options.now)) }
-{
-    let linked = link_kept(alloc, session, options)?;
-    result_of(alloc, &linked, replies)
+    let options = tool_options(request.options, request.entry)?;
+    let forced = forced_names(request.forced)?;
+    run_parts(alloc, is_placed, parts, &forced, &options)
 }
 
 /// Makes the edits, and links what is left.
 fn run_changes(
     alloc: Global,
+    is_placed: bool,
     edits: Vec<Edit>,
     forced: &Forced,
     options: &Options,
 ) -> Result<RunResult, Cause>
-    ensures ok { IfOk result (λ given. changes_run forced.now options.now (map change_of edits.items) ≡ Ok (results_of given)) }
-    ensures err { IfErr result (λ cause. cause ≢ Memory → changes_run forced.now options.now (map change_of edits.items) ≡ Err cause) }
+    ensures ok { IfOk result (λ given. changes_run is_placed forced.now options.now (map change_of edits.items) ≡ Ok (results_of given)) }
+    ensures err { IfErr result (λ cause. cause ≢ Memory → changes_run is_placed forced.now options.now (map change_of edits.items) ≡ Err cause) }
     ensures memory { IfErr result (λ cause. cause ≡ Memory → MayRunOutInRun forced.now options.now (map change_of edits.items)) }
 {
     let mut session = Session::with_forced(alloc, forced)?;
     let replies = make_edits(alloc, &mut session, edits)?;
-    run_kept(alloc, &session, replies, options)
+    run_kept(alloc, is_placed, session, replies, options)
 }
 
-/// Adds and withdraws objects, and links what is left, as `run_session` does. `a` adds the object that the next of the parts begins
+/// Adds and withdraws objects, and links what is left, as `run_session` does, with the report as `run_link` returns it. `a` adds the object that the next of the parts begins
 /// with. The bytes after it in its part are not looked at, so an object that is cut short is refused itself. (ld(1); edits: own
 /// choice)
 ///
@@ -112,18 +166,19 @@ fn run_changes(
 pub fn run_session_of_parts(
     alloc: Global,
     request: &LinkRequest<'_>,
+    is_placed: bool,
     letters: &[u8],
     parts: &[ObjectBytes<'_>],
 ) -> Result<RunResult, Refusal>
-    ensures ok { IfOk result (λ given. session_run request.now.options request.now.entry.now request.now.forced.now letters.now (each_of parts.now)
+    ensures ok { IfOk result (λ given. session_run is_placed request.now.options request.now.entry.now request.now.forced.now letters.now (each_of parts.now)
         ≡ Ok (results_of given)) }
     ensures err { IfErr result (λ r. r.cause ≢ Memory
-        → session_run request.now.options request.now.entry.now request.now.forced.now letters.now (each_of parts.now) ≡ Err r) }
+        → session_run is_placed request.now.options request.now.entry.now request.now.forced.now letters.now (each_of parts.now) ≡ Err r) }
     ensures memory { IfErr result (λ r. r.cause ≡ Memory
         → SessionOfPartsMayRunOut request.now.options request.now.entry.now request.now.forced.now letters.now (each_of parts.now) r.place) }
 {
     let options = tool_options(request.options, request.entry)?;
     let forced = forced_names(request.forced)?;
     let edits = read_edits_apart(alloc, letters, parts)?;
-    Ok(run_changes(alloc, edits, &forced, &options)?)
+    Ok(run_changes(alloc, is_placed, edits, &forced, &options)?)
 }

@@ -4,6 +4,7 @@ use Rattle.std.proofs.lemmas.Bool.{ne_eqb}
 use Rattle.library_calls.specs.declared.cause.Cause.TheVariants.{Memory, NoOption}
 use Rattle.library_calls.specs.declared.cause.Refusal.{Refusal}
 use Rattle.library_calls.specs.declared.run_call.RunResult.{RunResult}
+use Rattle.library_calls.specs.FileAnswers.{has_bit}
 use Rattle.library_calls.specs.LinkAnswers.{each_of}
 use Rattle.library_calls.specs.MemoryWanted.{LinkOfEachMayRunOut}
 use Rattle.library_calls.specs.RunAnswers.{RunOutput, SessionOfPartsMayRunOut, link_run, results_of, session_run}
@@ -11,10 +12,10 @@ use Rattle.v7_c.specs.declared.run.Request.{Request}
 use Rattle.v7_c.specs.RunLeft.{IsAnswer, is_known, results_or, run_in}
 
 abbrev link_of : Request → Result RunOutput Refusal
-link_of q = link_run q.options q.entry.now q.forced.now (each_of q.objects.now)
+link_of q = link_run (has_bit q.wants 4) q.options q.entry.now q.forced.now (each_of q.objects.now)
 
 abbrev session_of : Request → Result RunOutput Refusal
-session_of q = session_run q.options q.entry.now q.forced.now q.edits.now (each_of q.objects.now)
+session_of q = session_run (has_bit q.wants 4) q.options q.entry.now q.forced.now q.edits.now (each_of q.objects.now)
 
 abbrev no_option : Result RunOutput Refusal
 no_option = Err (record { cause = NoOption; place = 0 })

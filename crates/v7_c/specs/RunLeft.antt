@@ -1,13 +1,14 @@
 -- What v7_run is asked for, what it leaves in the result of its caller, and its status. (own choice)
 --
 -- A request and a result begin with their sizes in bytes. A caller may have smaller ones, without the last fields: a link whose
--- report is wanted as lines alone does without these, and they are left alone.
+-- report is wanted as lines alone does without these, and they are left alone. So it is with the objects of what is reported.
 use Rattle.std.specs.Prelude.{◌≡◌, ◌≢◌, ◌⊎◌, ℕ, Bool, true, ◌||◌, ◌&&◌, not, eqb, nat_lt, nat_le}
 use Rattle.std.specs.Prelude.{if◌then◌else◌, List, [], length, Result, Ok, Err}
 use Rattle.library_calls.specs.declared.cause.Cause.TheVariants.{Memory, NoOption}
 use Rattle.library_calls.specs.declared.cause.Refusal.{Refusal}
 use Rattle.library_calls.specs.declared.findings_call.ReportedName.{ReportedName}
 use Rattle.library_calls.specs.declared.run_call.RunResult.{RunResult}
+use Rattle.report_objects.specs.declared.places.FindingPlace.{FindingPlace}
 use Rattle.library_calls.specs.Causes.{number_of, word_of}
 use Rattle.library_calls.specs.FileAnswers.{has_bit}
 use Rattle.library_calls.specs.LinkAnswers.{each_of}
@@ -20,22 +21,26 @@ use Rattle.v7_c.specs.declared.run.RunAnswer.{RunAnswer}
 
 -- ---- what is asked for
 
--- whether the last fields are needed: of mode 1, a session, the edits, and of bit 2 of what is wanted, the report as a list
+-- whether further fields are needed: of mode 1, a session, the edits, and of bit 2 of what is wanted, the report as a list
 abbrev pub needs_more : Request → Bool
 needs_more q = eqb q.mode 1 || has_bit q.wants 2
+
+-- a result of this size has the fields that are needed: of bit 4 of what is wanted, the objects of what is reported, all
+abbrev pub is_enough : Request → ℕ → Bool
+is_enough q size =
+    (not (needs_more q) || (nat_le 88 q.size && nat_le 120 size)) && (not (has_bit q.wants 4) || nat_le 144 size)
 
 -- the sizes of request and result, the mode and what is wanted are known
 abbrev pub is_known : Request → ℕ → Bool
 is_known q size =
-    nat_le 72 q.size && (nat_le 72 size
-    && (nat_le q.mode 1 && (nat_le q.wants 3 && (not (needs_more q) || (nat_le 88 q.size && nat_le 120 size)))))
+    nat_le 72 q.size && (nat_le 72 size && (nat_le q.mode 1 && (nat_le q.wants 7 && is_enough q size)))
 
 -- what the library gives, to a caller with a result of this size
 abbrev pub run_in : Request → ℕ → Result RunOutput Refusal
 run_in q size =
     if is_known q size
-    then (if eqb q.mode 0 then link_run q.options q.entry.now q.forced.now (each_of q.objects.now)
-    else session_run q.options q.entry.now q.forced.now q.edits.now (each_of q.objects.now))
+    then (if eqb q.mode 0 then link_run (has_bit q.wants 4) q.options q.entry.now q.forced.now (each_of q.objects.now)
+    else session_run (has_bit q.wants 4) q.options q.entry.now q.forced.now q.edits.now (each_of q.objects.now))
     else Err (record { cause = NoOption; place = 0 })
 
 -- memory may run out, at this place
@@ -54,7 +59,7 @@ abbrev pub results_or : Result RunResult Refusal → Result RunOutput Refusal
 results_or (Ok given) = Ok (results_of given)
 results_or (Err r) = Err r
 
--- what is wanted of what there is: 1, the report as lines; 2, as a list
+-- what is wanted of what there is: 1, the report as lines; 2, as a list. The objects are there only if they are wanted
 abbrev pub wanted : ℕ → RunOutput → RunOutput
 wanted wants x = record {
   status = x.status;
@@ -62,6 +67,7 @@ wanted wants x = record {
   file = x.file;
   report = if has_bit wants 1 then x.report else [];
   findings = if has_bit wants 2 then x.findings else [];
+  places = x.places;
 }
 
 -- ---- what is left
@@ -81,6 +87,8 @@ pub record RunLeft : Type 0 where
   pub reply_count : ℕ
   pub findings : List ReportedName
   pub replies : List ℕ
+  pub place_count : ℕ
+  pub places : List FindingPlace
 
 abbrev pub left_in : ℕ → RunAnswer → RunLeft
 left_in status x = record {
@@ -97,14 +105,26 @@ left_in status x = record {
   reply_count = x.reply_count;
   findings = x.findings.now;
   replies = x.replies.now;
+  place_count = x.place_count;
+  places = x.places.now;
 }
 
 abbrev pub output_in : Output → RunOutput
-output_in o = record { status = o.status; replies = o.replies.now; file = o.file.now; report = o.report.now; findings = o.findings.now }
+output_in o = record {
+  status = o.status;
+  replies = o.replies.now;
+  file = o.file.now;
+  report = o.report.now;
+  findings = o.findings.now;
+  places = o.places.now;
+}
 
--- a result of this size has all fields
+-- a result of this size has the fields of a list and of a session; and all fields
 abbrev pub has_more : ℕ → Bool
 has_more size = nat_le 120 size
+
+abbrev pub has_places : ℕ → Bool
+has_places size = nat_le 144 size
 
 -- a status and a fault, with the sizes of what there is
 abbrev pub answered : ℕ → ℕ → ℕ → ℕ → RunOutput → RunLeft → RunLeft
@@ -122,6 +142,8 @@ answered status fault word place x l = record {
   reply_count = if has_more l.size then length x.replies else l.reply_count;
   findings = l.findings;
   replies = l.replies;
+  place_count = if has_places l.size then length x.places else l.place_count;
+  places = l.places;
 }
 
 -- what there is at the beginning of each buffer
@@ -140,20 +162,23 @@ filled x l = record {
   reply_count = l.reply_count;
   findings = if has_more l.size then put_in l.findings x.findings else l.findings;
   replies = if has_more l.size then put_in l.replies x.replies else l.replies;
+  place_count = l.place_count;
+  places = if has_places l.size then put_in l.places x.places else l.places;
 }
 
 -- a buffer is too short
 abbrev pub is_short : RunOutput → RunLeft → Bool
 is_short x l =
     nat_lt (length l.file) (length x.file) || (nat_lt (length l.report) (length x.report)
-    || (has_more l.size && (nat_lt (length l.findings) (length x.findings) || nat_lt (length l.replies) (length x.replies))))
+    || ((has_more l.size && (nat_lt (length l.findings) (length x.findings) || nat_lt (length l.replies) (length x.replies)))
+    || (has_places l.size && nat_lt (length l.places) (length x.places))))
 
 -- all of it, or nothing
 abbrev pub output_left : RunOutput → RunLeft → RunLeft
 output_left x l = if is_short x l then answered 2 60 0 0 x l else answered x.status 0 0 0 x (filled x l)
 
 abbrev pub nothing : RunOutput
-nothing = record { status = 2; replies = []; file = []; report = []; findings = [] }
+nothing = record { status = 2; replies = []; file = []; report = []; findings = []; places = [] }
 
 -- what is left of an answer, in a result that was so
 abbrev pub answer_left : ℕ → Result RunOutput Refusal → RunLeft → RunLeft

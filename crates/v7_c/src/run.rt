@@ -3,11 +3,11 @@ ghost use Rattle.std.specs.Prelude.{◌≡◌, ◌<◌, false};
 ghost use Rattle.library_calls.specs.Causes.{number_of, word_of};
 ghost use Rattle.library_calls.specs.FileAnswers.{has_bit};
 ghost use Rattle.library_calls.specs.RunAnswers.{results_of};
-ghost use Rattle.v7_c.specs.RunLeft.{IsAnswer, LeavesRun, answer_left, answered, filled, has_more, is_known, is_short, left_in, needs_more, nothing, output_in, output_left, results_or, wanted};
+ghost use Rattle.v7_c.specs.RunLeft.{IsAnswer, LeavesRun, answer_left, answered, filled, has_more, has_places, is_enough, is_known, is_short, left_in, needs_more, nothing, output_in, output_left, results_or, wanted};
 
 use crate::buffers::{NO_ROOM, put};
 use library_calls::{
-    Cause, LinkRequest, ObjectBytes, Refusal, ReportedName, RunResult, run_link,
+    Cause, FindingPlace, LinkRequest, ObjectBytes, Refusal, ReportedName, RunResult, run_link,
     run_session_of_parts,
 };
 use std::alloc::Global;
@@ -16,10 +16,12 @@ use std::alloc::Global;
 pub(crate) const LINK_REQUEST: usize = 72;
 
 const LINK_RESULT: usize = 72;
-/// The size of a request and of a result that has all fields.
+/// The size of a request that has all fields.
 const REQUEST: usize = 88;
-
-const RESULT: usize = 120;
+/// The size of a result for a session, or for a link whose report is wanted as a list.
+const LIST_RESULT: usize = 120;
+/// The size of a result that has all fields.
+const RESULT: usize = 144;
 
 /// What is asked for. A caller may have a smaller struct, so `edits` is not read unless the size has it.
 #[repr(C)]
@@ -31,7 +33,7 @@ pub struct Request<'a> {
     pub mode: u32,
     /// The options of the link, a bit each.
     pub options: u32,
-    /// In which forms the report is wanted: 1 as lines, 2 as a list; or both.
+    /// In which forms the report is wanted: 1 as lines, 2 as a list, 4 as the objects of what the list has; or several.
     pub wants: u32,
     /// The name of the entry point.
     pub entry: &'a [u8],
@@ -42,7 +44,8 @@ pub struct Request<'a> {
     pub edits: &'a [u8],
 }
 
-/// What is given. A caller may have a smaller struct, so what begins with `finding_count` is not touched unless the size has it.
+/// What is given. A caller may have a smaller struct, so what begins with `finding_count`, and what begins with `place_count`, is not
+/// touched unless the size has it.
 #[repr(C)]
 #[derive(Drop)]
 pub struct RunAnswer<'a> {
@@ -66,6 +69,9 @@ pub struct RunAnswer<'a> {
     pub reply_count: usize,
     pub findings: &'a mut [ReportedName],
     pub replies: &'a mut [u8],
+    /// For how many findings there are objects.
+    pub place_count: usize,
+    pub places: &'a mut [FindingPlace],
 }
 
 /// What is written into the buffers of a caller.
@@ -76,6 +82,7 @@ struct Output<'a> {
     report: &'a [u8],
     findings: &'a [ReportedName],
     replies: &'a [u8],
+    places: &'a [FindingPlace],
 }
 
 /// Whether the report is wanted in a form.
@@ -86,11 +93,19 @@ fn is_wanted(wants: u32, form: u32) -> bool
     wants / form % 2 == 1
 }
 
-/// Whether the last fields are needed: the edits of a session, or the report as a list.
+/// Whether the fields of a session, or of the report as a list, are needed.
 fn needs_more(request: &Request<'_>) -> bool
     ensures { result ≡ needs_more request.now }
 {
     request.mode == 1 || is_wanted(request.wants, 2)
+}
+
+/// Whether a result of this size has the fields that are needed.
+fn is_enough(request: &Request<'_>, size: usize) -> bool
+    ensures { result ≡ is_enough request.now size }
+{
+    (!needs_more(request) || (REQUEST <= request.size && LIST_RESULT <= size))
+        && (!is_wanted(request.wants, 4) || RESULT <= size)
 }
 
 /// Whether the sizes of both structs, the mode and the forms of the report are known.
@@ -100,8 +115,8 @@ fn is_known(request: &Request<'_>, size: usize) -> bool
     LINK_REQUEST <= request.size
         && LINK_RESULT <= size
         && request.mode <= 1
-        && request.wants <= 3
-        && (!needs_more(request) || (REQUEST <= request.size && RESULT <= size))
+        && request.wants <= 7
+        && is_enough(request, size)
 }
 
 /// Does what is asked for, by a caller with a result of this size.
@@ -120,10 +135,11 @@ fn answer_to(alloc: Global, request: &Request<'_>, size: usize) -> Result<RunRes
         entry: request.entry,
         forced: request.forced,
     };
+    let is_placed = is_wanted(request.wants, 4);
     if request.mode == 0 {
-        run_link(alloc, &link, request.objects)
+        run_link(alloc, &link, is_placed, request.objects)
     } else {
-        run_session_of_parts(alloc, &link, request.edits, request.objects)
+        run_session_of_parts(alloc, &link, is_placed, request.edits, request.objects)
     }
 }
 
@@ -145,6 +161,7 @@ fn wanted<'a>(given: &'a RunResult, wants: u32) -> Output<'a>
             &[]
         },
         replies: &given.replies,
+        places: &given.places,
     }
 }
 
@@ -157,9 +174,16 @@ pub(crate) struct Said {
     pub(crate) place: usize,
 }
 
-/// Whether a result of this size has all fields.
+/// Whether a result of this size has the fields of a list and of a session.
 fn has_more(size: usize) -> bool
     ensures { result ≡ has_more size }
+{
+    LIST_RESULT <= size
+}
+
+/// Whether a result of this size has all fields.
+fn has_places(size: usize) -> bool
+    ensures { result ≡ has_places size }
 {
     RESULT <= size
 }
@@ -177,6 +201,9 @@ fn answer_by(answer: &mut RunAnswer<'_>, said: &Said, output: &Output<'_>) -> u3
         answer.finding_count = output.findings.len();
         answer.reply_count = output.replies.len();
     }
+    if has_places(answer.size) {
+        answer.place_count = output.places.len();
+    }
     said.status
 }
 
@@ -189,6 +216,7 @@ fn is_short(output: &Output<'_>, answer: &RunAnswer<'_>) -> bool
         || (has_more(answer.size)
             && (answer.findings.len() < output.findings.len()
                 || answer.replies.len() < output.replies.len()))
+        || (has_places(answer.size) && answer.places.len() < output.places.len())
 }
 
 /// Fills the buffers.
@@ -201,6 +229,9 @@ fn fill(answer: &mut RunAnswer<'_>, output: &Output<'_>)
     if has_more(answer.size) {
         put(output.findings, &mut *answer.findings);
         put(output.replies, &mut *answer.replies);
+    }
+    if has_places(answer.size) {
+        put(output.places, &mut *answer.places);
     }
 }
 
@@ -243,6 +274,7 @@ fn leave_refusal(answer: &mut RunAnswer<'_>, refusal: Refusal) -> u32
         report: &[],
         findings: &[],
         replies: &[],
+        places: &[],
     };
     answer_by(answer, &said, &none)
 }

@@ -1,5 +1,6 @@
 -- Edits that were made, the numbers that reply to them, and the state of a session.
-use Rattle.std.specs.Prelude.{◌≡◌, ℕ, List, map, Result, Ok}
+use Rattle.std.specs.Prelude.{◌≡◌, ℕ, Bool, List, map, Result, Ok}
+use Rattle.aout_core.specs.Contents.{Contents}
 use Rattle.link_session.specs.Edits.{Change, kept_after, answer_to, survivors_from, answers_from}
 use Rattle.link_session.specs.Labelled.{objects}
 use Rattle.link_session.specs.Undo.{Kept, IsJournal}
@@ -9,7 +10,7 @@ use Rattle.link_out.specs.Steps.{and_then, refused_as}
 use Rattle.library_calls.specs.declared.cause.Cause.{Cause}
 use Rattle.library_calls.specs.declared.cause.Cause.TheVariants.{NotLinked}
 use Rattle.library_calls.specs.declared.state_call.Form.{Form}
-use Rattle.library_calls.specs.RunAnswers.{RunOutput, run_output}
+use Rattle.library_calls.specs.RunAnswers.{RunOutput, objects_run}
 use Rattle.library_calls.specs.SessionAnswers.{SessionOutput, reply_number, session_output}
 use Rattle.library_calls.specs.StateAnswers.{encoded_in}
 
@@ -31,11 +32,12 @@ pub record ShowsFrom (form : Form) (s : Kept) (state : List ℕ) : Type 0 where
   pub encoded : state ≡ encoded_in form s
 
 -- the link of what edits left, with the replies to them, given in some form
-abbrev pub edited : {A : Type 0} → (List ℕ → Outcome → A) → Kept → Choices → List ℕ → Result A Cause
-edited give s o numbers = and_then (refused_as NotLinked (link s.forced (objects s.entries) o)) (λ x. Ok (give numbers x))
+abbrev pub edited : {A : Type 0} → (List Contents → List ℕ → Outcome → A) → Kept → Choices → List ℕ → Result A Cause
+edited give s o numbers =
+    and_then (refused_as NotLinked (link s.forced (objects s.entries) o)) (λ x. Ok (give (objects s.entries) numbers x))
 
 abbrev pub edited_link : Kept → Choices → List ℕ → Result SessionOutput Cause
 edited_link s o numbers = edited session_output s o numbers
 
-abbrev pub edited_run : Kept → Choices → List ℕ → Result RunOutput Cause
-edited_run s o numbers = edited run_output s o numbers
+abbrev pub edited_run : Bool → Kept → Choices → List ℕ → Result RunOutput Cause
+edited_run is_placed s o numbers = objects_run is_placed s.forced o numbers (objects s.entries)

@@ -1,0 +1,3 @@
+pub mod FurtherLemmas
+pub mod NumberLemmas
+pub mod PlaceLemmas

@@ -1,0 +1,203 @@
+//! What v7.h declares, of the calls that this crate makes.
+
+/// `struct v7_slice`
+#[repr(C)]
+#[derive(Clone, Copy)]
+pub struct Slice {
+    pub bytes: *const u8,
+    pub size: usize,
+}
+
+/// `struct v7_finding`
+#[repr(C)]
+#[derive(Clone, Copy, Default)]
+pub struct Finding {
+    pub name: [u8; 8],
+    pub kind: u32,
+}
+
+/// `struct v7_finding_place`
+#[repr(C)]
+#[derive(Clone, Copy, Default)]
+pub struct FindingPlace {
+    pub first: usize,
+    pub further: usize,
+}
+
+/// `struct v7_request`
+#[repr(C)]
+#[derive(Clone, Copy)]
+pub struct Request {
+    pub size: usize,
+    pub mode: u32,
+    pub options: u32,
+    pub wants: u32,
+    pub entry: Slice,
+    pub forced: Slice,
+    pub objects: *const Slice,
+    pub object_count: usize,
+    pub edits: Slice,
+}
+
+/// `struct v7_result`
+#[repr(C)]
+#[derive(Clone, Copy)]
+pub struct Result {
+    pub size: usize,
+    pub fault: u32,
+    pub word: u32,
+    pub place: usize,
+    pub file_size: usize,
+    pub report_size: usize,
+    pub file: *mut u8,
+    pub file_room: usize,
+    pub report: *mut u8,
+    pub report_room: usize,
+    pub finding_count: usize,
+    pub reply_count: usize,
+    pub findings: *mut Finding,
+    pub finding_room: usize,
+    pub replies: *mut u8,
+    pub reply_room: usize,
+    pub place_count: usize,
+    pub places: *mut FindingPlace,
+    pub place_room: usize,
+}
+
+/// `struct v7_map_head`
+#[repr(C)]
+#[derive(Clone, Copy, Debug, Default, PartialEq, Eq)]
+pub struct MapHead {
+    pub text_end: u64,
+    pub data_start: u64,
+    pub data_end: u64,
+    pub bss_start: u64,
+    pub bss_end: u64,
+    pub place: usize,
+    pub fault: u32,
+    pub state: u32,
+    pub magic: u16,
+    pub entry_point: u16,
+    pub entry_name: [u8; 8],
+}
+
+/// `struct v7_map_object`
+#[repr(C)]
+#[derive(Clone, Copy, Debug, Default, PartialEq, Eq)]
+pub struct MapObject {
+    pub text: u64,
+    pub data: u64,
+    pub bss: u64,
+    pub symbols: usize,
+    pub text_size: u16,
+    pub data_size: u16,
+    pub bss_size: u16,
+}
+
+/// `struct v7_map_name`; an object that there is not is `usize::MAX`
+#[repr(C)]
+#[derive(Clone, Copy, Debug, Default, PartialEq, Eq)]
+pub struct MapName {
+    pub name: [u8; 8],
+    pub definer: usize,
+    pub next_definer: usize,
+    pub user: usize,
+    pub state: u32,
+    pub r#type: u16,
+    pub value: u16,
+}
+
+/// `struct v7_map_use`; an object that there is not is `usize::MAX`
+#[repr(C)]
+#[derive(Clone, Copy, Debug, Default, PartialEq, Eq)]
+pub struct MapUse {
+    pub address: u64,
+    pub object: usize,
+    pub name: usize,
+    pub label: [u8; 8],
+    pub kind: u32,
+    pub offset: u16,
+    pub line: u16,
+    pub beyond: u16,
+    pub is_labelled: u16,
+}
+
+/// `struct v7_map_limit`
+#[repr(C)]
+#[derive(Clone, Copy, Debug, Default, PartialEq, Eq)]
+pub struct MapLimit {
+    pub used: u64,
+    pub most: u64,
+    pub kind: u32,
+}
+
+/// `struct v7_map`
+#[repr(C)]
+#[derive(Clone, Copy)]
+pub struct Map {
+    pub size: usize,
+    pub fault: u32,
+    pub word: u32,
+    pub place: usize,
+    pub head: MapHead,
+    pub object_count: usize,
+    pub name_count: usize,
+    pub use_count: usize,
+    pub limit_count: usize,
+    pub objects: *mut MapObject,
+    pub object_room: usize,
+    pub names: *mut MapName,
+    pub name_room: usize,
+    pub uses: *mut MapUse,
+    pub use_room: usize,
+    pub limits: *mut MapLimit,
+    pub limit_room: usize,
+}
+
+/// `struct v7_answer`
+#[repr(C)]
+#[derive(Clone, Copy, Default)]
+pub struct Answer {
+    pub fault: u32,
+    pub word: u32,
+    pub place: usize,
+    pub size: usize,
+    pub report_size: usize,
+}
+
+/// `struct v7_remark`
+#[repr(C)]
+#[derive(Clone, Copy, Default)]
+pub struct Remark {
+    pub place: usize,
+    pub text: usize,
+    pub text_size: usize,
+    pub kind: u32,
+}
+
+extern "C" {
+    pub fn v7_run(request: *const Request, result: *mut Result) -> u32;
+    pub fn v7_map(request: *const Request, map: *mut Map) -> u32;
+    pub fn v7_list(bytes: *const u8, size: usize, room: *mut u8, room_size: usize, answer: *mut Answer) -> u32;
+    pub fn v7_from_listing(text: *const u8, size: usize, room: *mut u8, room_size: usize, answer: *mut Answer) -> u32;
+    pub fn v7_from_gnu(options: u32, bytes: *const u8, size: usize, room: *mut u8, room_size: usize, answer: *mut Answer) -> u32;
+    pub fn v7_remarks(
+        bytes: *const u8,
+        size: usize,
+        texts: *mut u8,
+        text_room: usize,
+        remarks: *mut Remark,
+        remark_room: usize,
+        answer: *mut Answer,
+    ) -> u32;
+    pub fn v7_version() -> u32;
+}
+
+pub const V7_LINK: u32 = 0;
+pub const V7_SESSION: u32 = 1;
+pub const V7_REPORT: u32 = 1;
+pub const V7_FINDINGS: u32 = 2;
+pub const V7_PLACES: u32 = 4;
+pub const V7_ADD: u8 = b'a';
+pub const V7_WITHDRAW: u8 = b'w';
+pub const V7_NO_ROOM: u32 = 60;
