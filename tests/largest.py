@@ -8,9 +8,11 @@ tests/notes.py, and the rest below.
 usage: largest.py FOLDER [ROW ..]      with the programs v7, v7-explain, v7-object, v7-from-gnu and v7-lesson in the folder. All rows
                                        of the table are tried, or these: 'v7-explain -m, objects'
 """
+import itertools
 import multiprocessing
 import os
 import re
+import struct
 import subprocess
 import sys
 import tempfile
@@ -250,6 +252,54 @@ def shown(kind):
     check("status", status, int(kind.startswith("bad")))
 
 
+def rows(words, start, letter):
+    """Words in rows of eight, as `-s` and `-x` show them."""
+    def at(place):
+        return f"{place % 65536:06o}" if letter == "s" else f"{place % 65536:04x}"
+
+    def line(row):
+        numbers = [f" {word:06o}" if letter == "s" else f" {word % 256:02x} {word // 256:02x}" for word in row]
+        text = b"".join(struct.pack("<H", word) for word in row)
+        shown_text = "".join(chr(byte) if 32 <= byte < 127 else "." for byte in text)
+        return f"{''.join(numbers):{56 if letter == 's' else 48}}  {shown_text}"
+
+    for row, alike in itertools.groupby(tuple(words[place:place + 8]) for place in range(0, len(words), 8)):
+        more = len(list(alike)) - 1
+        yield f"{at(start)} {line(row)}"
+        if more == 1:
+            yield f"/ {at(start + 16)}: the row before, once"
+        elif more:
+            yield f"/ {at(start + 16)} to {at(start + 16 * more)}: the row before, {more} times"
+        start += 16 * (more + 1)
+
+
+def dumped(data, letter):
+    """The lines of a file in a dump, without its notes."""
+    file = notes.File(data)
+    start = {0o410: (file.text + 8191) // 8192 * 8192, 0o411: 0}.get(file.magic, file.text)
+    for name, size, begin, place in (("text", file.text, 0, 16), ("data", file.data_size, start, file.data_at)):
+        yield f"/ {name}: {size} bytes from {begin % 65536:0{6 if letter == 's' else 4}{'o' if letter == 's' else 'x'}}"
+        yield from rows(struct.unpack_from(f"<{size // 2}H", data, place), begin, letter)
+
+
+def shown_in_rows(kind):
+    """Text and data of each file in rows."""
+    files = encoded(kind)
+    for letter in "sx":
+        status, text, errors = answer("v7-explain", f"-{letter}", *written(files))
+        check("errors", errors, "")
+        lines = [line for line in text.split("\n")[:-1] if not re.match(r"/ (\d+\.o: 0|an? |wrong: )", line)]
+        check_lines(f"rows of -{letter}", lines, [line for data in files.values() for line in dumped(data, letter)])
+        check("status", status, int(kind.startswith("bad")))
+
+
+def inventoried(kind):
+    """A line for each file."""
+    files = encoded(kind)
+    lines = [notes.inventory_of(path, data) + "\n" for path, data in files.items()]
+    check("answer", answer("v7-explain", "-l", *written(files)), (0, "".join(lines), ""))
+
+
 def linked(files, letters):
     """The link of files, or why it is refused."""
     try:
@@ -372,6 +422,8 @@ TABLE = [
     ("v7-explain of other files", recognized, [*OTHER_FILES]),
     ("v7-explain -c", checked, [*KINDS]),
     ("v7-explain -d", shown, [*KINDS]),
+    ("v7-explain -l", inventoried, [*KINDS]),
+    ("v7-explain -s", shown_in_rows, [*KINDS]),
     ("v7-explain -m", mapped, GOOD),
     ("v7-object", object_made, ALONE),
     ("v7-lesson", taught, GOOD),

@@ -1,5 +1,6 @@
 #!/usr/bin/env python3
-"""Compares the notes of v7-explain, with all their numbers, with those computed here by docs/FORMAT.md and v7-explain(1).
+"""Compares the notes of v7-explain, with all their numbers, and its inventory with those computed here by docs/FORMAT.md and
+v7-explain(1).
 
 usage: notes.py V7_EXPLAIN
 
@@ -18,6 +19,7 @@ from disassembly import File as Text
 from suspicions import suspicions
 
 PROGRAMS = {0o405: "an overlay", 0o407: "a program", 0o410: "a program, pure text", 0o411: "a program, separate text and data"}
+KINDS = {0o405: "overlay", 0o407: "program 0407", 0o410: "program 0410", 0o411: "program 0411"}
 SEGMENTS = {2: "text", 3: "data", 4: "bss"}
 # types of symbols, without the external bit
 TYPES = (0, 1, 2, 3, 4, 0o24, 0o37)
@@ -211,6 +213,28 @@ def notes_of(data):
     return sorted(notes), refused
 
 
+def condition(data):
+    """What an inventory says is wrong or odd."""
+    notes = notes_of(data)[0]
+    damaged = [int(note.split()[2], 8) for note in notes if note.startswith("wrong")]
+    odd = sum(note.startswith("odd") for note in notes)
+    return f"damaged at {min(damaged):06o}" if damaged else f"{odd} odd" if odd else "ok"
+
+
+def inventory_of(path, data):
+    """The line of a file in an inventory, unless it has the form of GNU's assembler."""
+    kind_said, numbers, said = "other", ["-"] * 5, "-"
+    if len(data) >= 16 and File(data).magic in PROGRAMS:
+        file = File(data)
+        is_object = file.magic == 0o407 and file.flag == 0
+        kind_said, said = "object" if is_object else KINDS[file.magic], condition(data)
+        numbers[:3] = [file.text, file.data_size, file.bss]
+        if wrong(data)[1]:
+            symbols = list(file.symbols())
+            numbers[3:] = [len(symbols), sum(kind & 0o77 == 0o40 and not value for _, _, kind, value in symbols)]
+    return f"{kind_said:12}" + "".join(f"{number:>7}" for number in numbers) + f"  {said:17}  {path}"
+
+
 def near(edges):
     return max(0, dice.choice(edges) + dice.choice([-2, -1, 0, 1, 2])) % 65536
 
@@ -297,6 +321,13 @@ def checked(paths):
     return lines
 
 
+def inventoried(paths):
+    """The line of each file in an inventory."""
+    done = subprocess.run([EXPLAIN, "-l", *paths], stdout=subprocess.PIPE, stderr=subprocess.PIPE, check=False)
+    assert (done.returncode, done.stderr) == (0, b""), done
+    return done.stdout.decode("ascii").splitlines()
+
+
 def compare(path, data, found, expected):
     if found != expected:
         print(f"{path}, {data.hex()}:", *set(found) - set(expected), "and not", *set(expected) - set(found), sep="\n  ")
@@ -309,10 +340,10 @@ def main():
     for path, data in zip(paths, datas):
         with open(path, "wb") as file:
             file.write(data)
-    found, refused = explained(paths), checked(paths)
-    assert len(found) == len(datas), (len(found), len(datas))
-    count = 0
-    for path, data, notes in zip(paths, datas, found):
+    found, refused, inventory = explained(paths), checked(paths), inventoried(paths)
+    assert len(found) == len(inventory) == len(datas), (len(found), len(inventory), len(datas))
+    count = gnu = 0
+    for path, data, notes, line in zip(paths, datas, found, inventory):
         expected, why = notes_of(data)
         count += len(expected)
         compare(path, data, notes, expected)
@@ -320,7 +351,11 @@ def main():
         compare(f"-c {path}", data, said, why)
         alone = subprocess.run([EXPLAIN, "-c", path], stderr=subprocess.DEVNULL, check=False).returncode
         compare(f"-c {path}", data, [alone], [1 if why else 0])
-    print(f"{count} notes of {len(datas)} files compared")
+        if line.startswith("GNU object"):
+            gnu += 1
+        else:
+            compare(f"-l {path}", data, [line], [inventory_of(path, data)])
+    print(f"{count} notes of {len(datas)} files compared, and {len(datas) - gnu} lines of an inventory")
 
 
 if __name__ == "__main__":

@@ -145,6 +145,14 @@ class Work:
         """Lists so many words of instructions."""
         return [self.explain, self.object("text.o", text(size))], ""
 
+    def inventory(self, size):
+        """Says in a line what a file of so many words of instructions is."""
+        return [self.explain, "-l", self.object("text.o", text(size))], ""
+
+    def rows(self, size):
+        """Shows so many words in rows."""
+        return [self.explain, "-s", self.object("text.o", text(size))], ""
+
     def labels(self, size):
         """Lists so many labels with six words of instructions each."""
         symbols = [(name, kind, 12 * number) for number, (name, kind, _) in enumerate(names(0, size))]
@@ -198,6 +206,8 @@ KINDS = {
     "nm": [341, 1365, 2730, 5456],
     "listings": [512, 2048, 4096, 8192],
     "texts": [2047, 8191, 16383, MOST_WORDS],
+    "inventory": [2047, 8191, 16383, MOST_WORDS],
+    "rows": [2047, 8191, 16383, MOST_WORDS],
     "labels": [341, 1365, 2730, MOST_SYMBOLS],
     "maps": [20, 80, 160, 320],
     "mapped": [341, 1365, 2730, MOST_SYMBOLS],

@@ -1,2 +1,4 @@
 pub mod Said
+pub mod Dumps
+pub mod Inventories
 pub mod internal

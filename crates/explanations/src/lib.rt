@@ -1,4 +1,5 @@
-//! Lists a file with explanations: its instructions, its labels, and what its relocation words say.
+//! Lists a file with explanations: its instructions, its labels, and what its relocation words say. Dumps a file, or says what it is
+//! in a line of an inventory.
 //!
 //! An example:
 //!
@@ -10,17 +11,35 @@
 //! }
 //! ```
 //!
+//! Types:
+//!
+//! - `Base`: whether a dump has its numbers in octal or in hexadecimal
+//! - `InventoryRow`, with `FileKind`, `SegmentSizes`, `SymbolCounts` and `Condition`: what an inventory says of a file
+//!
 //! Functions:
 //!
 //! - `write_explained`: the listing of a file, with notes before it and findings after it
 //! - `put_lines`: appends notes, a line each, as a listing has them
+//! - `put_dump`: appends text and data in rows of words
+//! - `file_row`, `refused_row`: what an inventory says of a file, and of bytes that do not make one
+//! - `put_row`: appends the line for it
 //!
 //! docs/OBJECTS.md has the form of a listing, and v7-explain(1) what is said in it.
 #![tactic(auto)]
 
+mod dump;
+mod file_kind;
+mod inventory;
+mod inventory_line;
 mod listing;
 mod remarks;
+mod rows;
 mod words_in;
 
+pub use dump::put_dump;
+pub use file_kind::FileKind;
+pub use inventory::{Condition, InventoryRow, SegmentSizes, SymbolCounts, file_row, refused_row};
+pub use inventory_line::put_row;
 pub use listing::write_explained;
 pub use remarks::put_lines;
+pub use rows::Base;

@@ -56,7 +56,7 @@ fn is_plain(bytes: &[u8]) -> bool
 
 /// Appends bytes; those below the blank as `\ooo`. If there are none, all are appended at once.
 #[tactic(auto, using(crate::proofs::PlainLemmas::plain_printed))]
-fn put_printed(text: &mut Text, bytes: &[u8])
+pub(crate) fn put_printed(text: &mut Text, bytes: &[u8])
     ensures { Puts text.old text.new (printed bytes.now) }
 {
     if is_plain(bytes) {

@@ -1,9 +1,12 @@
 -- What a file is that is not an a.out file of the Seventh Edition: by its first bytes, or as what GNU's assembler makes. (own choice)
 use Rattle.std.specs.Prelude.{ℕ, ◌+◌, ◌*◌, ◌==◌, ◌&&◌, ◌||◌, Bool, true, false, nat_eq, nat_le, nat_lt, if◌then◌else◌}
-use Rattle.std.specs.Prelude.{List, [], ◌∷◌, length, codes, Option, Some, None, Result, Ok, Err}
+use Rattle.std.specs.Prelude.{List, [], ◌∷◌, length, codes, option_map, Option, Some, None, Result, Ok, Err}
 use Rattle.std.specs.List.{list_all, starts_with}
 use Rattle.aout_core.specs.Contents.{Contents, is_magic}
 use Rattle.aout_core.specs.Decoding.{header_in}
+use Rattle.findings.specs.declared.other_files.OtherForm.{OtherForm}
+use Rattle.findings.specs.declared.other_files.OtherForm.TheVariants.{Empty, Elf, Archive, OldArchive, PortableArchive}
+use Rattle.findings.specs.declared.other_files.OtherForm.TheVariants.{PlainText, Swapped}
 use Rattle.gnu_objects.specs.Converted.{converted}
 use Rattle.gnu_objects.specs.declared.options.Locals.TheVariants.{KeepAll}
 use Rattle.gnu_objects.specs.declared.options.Options.{Options}
@@ -19,15 +22,13 @@ abbrev pub is_text : List ℕ → Bool
 is_text bytes = list_all is_of_text bytes
 
 -- what begins with the bytes of another form
-abbrev pub known_start : List ℕ → Option (List ℕ)
-known_start bytes =
-    if nat_eq (length bytes) 0 then Some (codes "the file is empty")
-    else (if starts_with nat_eq bytes (0x7f ∷ codes "ELF") then Some (codes "this is an ELF file, of another system")
-    else (if starts_with nat_eq bytes (0o145 ∷ 0o377 ∷ [])
-    then Some (codes "this is an archive (0177545); take its members out with the ar of its system")
-    else (if starts_with nat_eq bytes (0o155 ∷ 0o377 ∷ [])
-    then Some (codes "this is an old archive (0177555); take its members out with the ar of its system")
-    else (if starts_with nat_eq bytes (codes "!<arch>") then Some (codes "this is an archive; take its members out with ar")
+abbrev pub known_form : List ℕ → Option OtherForm
+known_form bytes =
+    if nat_eq (length bytes) 0 then Some Empty
+    else (if starts_with nat_eq bytes (0x7f ∷ codes "ELF") then Some Elf
+    else (if starts_with nat_eq bytes (0o145 ∷ 0o377 ∷ []) then Some Archive
+    else (if starts_with nat_eq bytes (0o155 ∷ 0o377 ∷ []) then Some OldArchive
+    else (if starts_with nat_eq bytes (codes "!<arch>") then Some PortableArchive
     else None))))
 
 -- a magic number of ours, the high byte first
@@ -35,19 +36,29 @@ abbrev pub is_swapped : List ℕ → Bool
 is_swapped (low ∷ high ∷ bytes) = is_magic (high + 256 * low)
 is_swapped _ = false
 
-abbrev pub likeness_otherwise : List ℕ → Option (List ℕ)
-likeness_otherwise bytes =
-    if is_text bytes then Some (codes "this is text")
-    else (if is_swapped bytes then Some (codes "a magic number with its bytes swapped: each word has its low byte first")
-    else None)
+abbrev pub form_otherwise : List ℕ → Option OtherForm
+form_otherwise bytes = if is_text bytes then Some PlainText else (if is_swapped bytes then Some Swapped else None)
 
-abbrev pub or_else : Option (List ℕ) → Option (List ℕ) → Option (List ℕ)
-or_else (Some text) later = Some text
+abbrev pub or_else : Option OtherForm → Option OtherForm → Option OtherForm
+or_else (Some form) later = Some form
 or_else None later = later
 
 -- what a file with no magic number of ours is, if it is known
+abbrev pub other_form : List ℕ → Option OtherForm
+other_form bytes = or_else (known_form bytes) (form_otherwise bytes)
+
+-- and in words
+abbrev pub form_text : OtherForm → List ℕ
+form_text Empty = codes "the file is empty"
+form_text Elf = codes "this is an ELF file, of another system"
+form_text Archive = codes "this is an archive (0177545); take its members out with the ar of its system"
+form_text OldArchive = codes "this is an old archive (0177555); take its members out with the ar of its system"
+form_text PortableArchive = codes "this is an archive; take its members out with ar"
+form_text PlainText = codes "this is text"
+form_text Swapped = codes "a magic number with its bytes swapped: each word has its low byte first"
+
 abbrev pub likeness : List ℕ → Option (List ℕ)
-likeness bytes = or_else (known_start bytes) (likeness_otherwise bytes)
+likeness bytes = option_map form_text (other_form bytes)
 
 -- ---- what GNU's assembler makes
 

@@ -31,6 +31,6 @@ pub use heading::put_header;
 pub use kind::put_kind;
 pub use notes::Notes;
 pub use odd::odd_of;
-pub use other_files::{header_of, is_of_gnu, likeness};
+pub use other_files::{OtherForm, header_of, is_of_gnu, likeness, other_form};
 pub use places::FilePlaces;
 pub use wrong::{put_instruction, wrong_bytes, wrong_words};

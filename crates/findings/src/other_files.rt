@@ -1,7 +1,7 @@
 //! What a file is that is not an a.out file of the Seventh Edition.
 ghost use Rattle.std.specs.Prelude.{◌≡◌, if◌then◌else◌, nat_lt, length, None, Some, IfOk, option_map};
 ghost use Rattle.aout_core.specs.Decoding.{header_in};
-ghost use Rattle.findings.specs.OtherFiles.{has_symbols, is_of_gnu, is_of_gnu_refused, is_of_text, is_swapped, is_text, known_start, likeness};
+ghost use Rattle.findings.specs.OtherFiles.{form_text, has_symbols, is_of_gnu, is_of_gnu_refused, is_of_text, is_swapped, is_text, known_form, likeness, other_form};
 
 use aout_core::{Header, is_magic};
 use gnu_objects::{Locals, Options, Refusal, convert};
@@ -33,22 +33,35 @@ fn is_text(bytes: &[u8]) -> bool
     bytes.iter().all(|byte| is_of_text(*byte))
 }
 
-/// What a file that begins with the bytes of another form is.
-fn known_start(bytes: &[u8]) -> Option<&'static str>
-    ensures { option_map (λ text. text.now) result ≡ known_start bytes.now }
+/// The form of a file that has no magic number of ours.
+#[derive(Clone, Copy, Debug, PartialEq, Eq)]
+pub enum OtherForm {
+    /// No bytes.
+    Empty,
+    /// An ELF file.
+    Elf,
+    /// An archive of the Seventh Edition.
+    Archive,
+    /// An archive of an earlier edition.
+    OldArchive,
+    /// An archive of later systems.
+    PortableArchive,
+    /// Text.
+    PlainText,
+    /// A magic number of ours, the high byte first.
+    Swapped,
+}
+
+/// The form of a file that begins with the bytes of another one.
+fn known_form(bytes: &[u8]) -> Option<OtherForm>
+    ensures { result ≡ known_form bytes.now }
 {
     match bytes {
-        [] => Some("the file is empty"),
-        [0x7f, b'E', b'L', b'F', ..] => Some("this is an ELF file, of another system"),
-        [0o145, 0o377, ..] => {
-            Some("this is an archive (0177545); take its members out with the ar of its system")
-        }
-        [0o155, 0o377, ..] => Some(
-            "this is an old archive (0177555); take its members out with the ar of its system",
-        ),
-        [b'!', b'<', b'a', b'r', b'c', b'h', b'>', ..] => {
-            Some("this is an archive; take its members out with ar")
-        }
+        [] => Some(OtherForm::Empty),
+        [0x7f, b'E', b'L', b'F', ..] => Some(OtherForm::Elf),
+        [0o145, 0o377, ..] => Some(OtherForm::Archive),
+        [0o155, 0o377, ..] => Some(OtherForm::OldArchive),
+        [b'!', b'<', b'a', b'r', b'c', b'h', b'>', ..] => Some(OtherForm::PortableArchive),
         _ => None,
     }
 }
@@ -63,20 +76,51 @@ fn is_swapped(bytes: &[u8]) -> bool
     }
 }
 
+/// The form of a file with no magic number of ours, if it is known.
+pub fn other_form(bytes: &[u8]) -> Option<OtherForm>
+    ensures { result ≡ other_form bytes.now }
+{
+    if let Some(form) = known_form(bytes) {
+        return Some(form);
+    }
+    if is_text(bytes) {
+        return Some(OtherForm::PlainText);
+    }
+    if is_swapped(bytes) {
+        return Some(OtherForm::Swapped);
+    }
+    None
+}
+
+/// A form in words.
+fn form_text(form: OtherForm) -> &'static str
+    ensures { result.now ≡ form_text form }
+{
+    match form {
+        OtherForm::Empty => "the file is empty",
+        OtherForm::Elf => "this is an ELF file, of another system",
+        OtherForm::Archive => {
+            "this is an archive (0177545); take its members out with the ar of its system"
+        }
+        OtherForm::OldArchive => {
+            "this is an old archive (0177555); take its members out with the ar of its system"
+        }
+        OtherForm::PortableArchive => "this is an archive; take its members out with ar",
+        OtherForm::PlainText => "this is text",
+        OtherForm::Swapped => {
+            "a magic number with its bytes swapped: each word has its low byte first"
+        }
+    }
+}
+
 /// What a file with no magic number of ours is, if it is known.
 pub fn likeness(bytes: &[u8]) -> Option<&'static str>
     ensures { option_map (λ text. text.now) result ≡ likeness bytes.now }
 {
-    if let Some(text) = known_start(bytes) {
-        return Some(text);
+    match other_form(bytes) {
+        Some(form) => Some(form_text(form)),
+        None => None,
     }
-    if is_text(bytes) {
-        return Some("this is text");
-    }
-    if is_swapped(bytes) {
-        return Some("a magic number with its bytes swapped: each word has its low byte first");
-    }
-    None
 }
 
 /// Whether a refusal by `convert` is one of an object in the form of GNU's assembler. Of some refusals it is one only if `is_odd`.

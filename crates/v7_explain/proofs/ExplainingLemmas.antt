@@ -1,5 +1,5 @@
 -- Files that are explained one after another, from what comes of those that are left.
-use Rattle.std.proofs.Common.{◌≡◌, ℕ, ◌<◌, ◌+◌, List, [], ◌∷◌, length, map, drop, get_or, drop-cons, suc, string_bytes, refl, sym, ap}
+use Rattle.std.proofs.Common.{◌≡◌, ℕ, ◌<◌, ◌+◌, List, ◌∷◌, length, map, drop, get_or, drop-cons, suc, string_bytes, refl, sym, ap}
 use Rattle.std.proofs.Common.{◌∙◌, subst, inl, inr, arith}
 use Rattle.std.specs.Prelude.{Result, Ok, Err, String}
 use Rattle.std.specs.declared.alloc.Global.{Global}
@@ -11,7 +11,7 @@ use Rattle.surroundings.specs.Answers.{AnswersOr, failed_at}
 use Rattle.surroundings.specs.Sources.{EndsReading, ReadsAt, unread_text}
 use Rattle.v7_explain.specs.Files.{program}
 use Rattle.v7_explain.specs.Joined.{joined, nothing_said}
-use Rattle.v7_explain.specs.Runs.{Explains, IsExplaining, SaysAt, said_of}
+use Rattle.v7_explain.specs.Runs.{Explains, IsExplaining, said_of}
 use Rattle.v7_explain.specs.declared.explaining.Mode.{Mode}
 
 -- ---- one file

@@ -16,7 +16,7 @@ use Rattle.link_maps.specs.Rows.{IsOutcome}
 use Rattle.link_maps.specs.declared.members.Objects.{Objects}
 use Rattle.link_maps.specs.declared.members.Refused.{Refused}
 use Rattle.link_maps.specs.declared.outcome.Outcome.{Outcome as Made}
-use Rattle.link_out.specs.Outcomes.{IsLinkOf, outcome_of}
+use Rattle.link_out.specs.Outcomes.{IsLinkOf}
 use Rattle.link_out.specs.declared.linked.LinkFault.{LinkFault}
 use Rattle.link_out.specs.declared.linked.LinkFault.TheVariants.{DoesNotFit, Memory, SymbolNumber, TooManySymbols}
 use Rattle.link_out.specs.declared.linked.Linked.{Linked}
@@ -196,8 +196,14 @@ maps_all forced choices n a taken (m, map, same) =
     ∙ ap (λ (f : List (List ℕ)). status_by (cause_of n.refused) (link f (objects n.session.entries) choices)) taken.forced_names
     ∙ ap (λ (es : List Labelled). status_by (cause_of n.refused) (link forced (objects es) choices)) taken.kept
     ∙ ap (λ (cause : Option AddFault). status_by cause (link forced (objects s.kept) choices)) taken.cause in
-    inr (n, m, taken, map, ap (λ (one : Answer). let ok : Result Answer Fault = Ok one in ok) same
-    ∙ ap (answer_with (map_text choices n m)) defined)
+    inr (
+      n,
+      m,
+      taken,
+      map,
+      ap (λ (one : Answer). let ok : Result Answer Fault = Ok one in ok) same
+          ∙ ap (answer_with (map_text choices n m)) defined,
+    )
 
 -- all are, and there is a map
 pub map_made : (forced : List (List ℕ)) (choices : Choices) (paths : List (List ℕ)) (old new : History) (o n : Objects) (said a : Answer) →

@@ -18,7 +18,7 @@ use Rattle.surroundings.specs.declared.answer.Fault.TheVariants as faults
 use Rattle.v7_explain.specs.Files.{program}
 use Rattle.v7_explain.specs.Joined.{joined}
 use Rattle.v7_explain.specs.Maps.{IsTaking, Taken, TakesAt, object_in, with_found}
-use Rattle.v7_explain.specs.internal.Takes.{Adds, TakesNext, TakesOne}
+use Rattle.v7_explain.specs.internal.Takes.{TakesNext, TakesOne}
 
 -- ---- an object is the last one, whether a session took it or not
 

@@ -1,4 +1,5 @@
--- What v7-explain says of a file, by its path and its bytes: a listing, its instructions, or why it is not an object. (own choice)
+-- What v7-explain says of a file, by its path and its bytes: a listing, its instructions, its words in rows, why it is not an object,
+-- or a line of an inventory. (own choice)
 --
 -- What goes to standard output comes with lines for standard error and a status: 1 if there is something to report.
 use Rattle.std.specs.Prelude.{ℕ, Bool, true, false, nat_lt, if◌then◌else◌, codes, decimal}
@@ -27,7 +28,12 @@ use Rattle.surroundings.specs.Answers.{only_errors}
 use Rattle.suspicions.specs.Suspicions.{suspicions}
 use Rattle.texts.specs.Lines.{text_of}
 use Rattle.texts.specs.Numbers.{octal}
+use Rattle.explanations.specs.Dumps.{dump}
+use Rattle.explanations.specs.Inventories.{file_row, refused_row, row_line}
 use Rattle.explanations.specs.Said.{explained, printed}
+use Rattle.explanations.specs.declared.inventory.InventoryRow.{InventoryRow}
+use Rattle.v7_explain.specs.declared.views.View.{View}
+use Rattle.v7_explain.specs.declared.views.View.TheVariants.{Instructions, Rows}
 
 abbrev pub program : List ℕ
 program = codes "v7-explain"
@@ -123,10 +129,15 @@ listed_as tells path bytes c refused = record {
   status = status_in refused;
 }
 
-abbrev pub disassembled_as : List ℕ → List ℕ → Contents → Option ObjectFault → Answer
-disassembled_as path bytes c refused = record {
+-- the text as instructions, or text and data in rows
+abbrev pub body_of : View → Contents → List ℕ
+body_of Instructions c = disassembly Unix c
+body_of (Rows base) c = dump base c
+
+abbrev pub viewed_as : View → List ℕ → List ℕ → Contents → Option ObjectFault → Answer
+viewed_as view path bytes c refused = record {
   output =
-      lines_of (front_notes path bytes c.header refused) ++ disassembly Unix c
+      lines_of (front_notes path bytes c.header refused) ++ body_of view c
       ++ lines_of (found_notes (codes "wrong") (wrong_in refused c));
   errors = [];
   status = status_in refused;
@@ -184,8 +195,18 @@ by_reading file refused (Err fault) = refused fault
 abbrev pub listed : Bool → List ℕ → List ℕ → Answer
 listed tells path bytes = by_reading (listed_as tells path bytes) (refused_as tells path bytes) (decode bytes)
 
-abbrev pub disassembled : List ℕ → List ℕ → Answer
-disassembled path bytes = by_reading (disassembled_as path bytes) (refused_as false path bytes) (decode bytes)
+abbrev pub viewed : View → List ℕ → List ℕ → Answer
+viewed view path bytes = by_reading (viewed_as view path bytes) (refused_as false path bytes) (decode bytes)
 
 abbrev pub checked : List ℕ → List ℕ → Answer
 checked path bytes = by_reading (checked_as path) (λ fault. only_errors (refused_lines path bytes fault) 1) (decode bytes)
+
+-- ---- a line of an inventory
+
+abbrev pub row_said : List ℕ → InventoryRow → Answer
+row_said path row = record { output = row_line row path; errors = []; status = 0 }
+
+abbrev pub inventoried : List ℕ → List ℕ → Answer
+inventoried path bytes =
+    by_reading (λ c refused. row_said path (file_row bytes c (wrong_in refused c)))
+    (λ fault. row_said path (refused_row fault bytes (wrong_bytes fault bytes))) (decode bytes)

@@ -6,7 +6,8 @@ use Rattle.surroundings.specs.Answers.{only_errors}
 abbrev pub usage : List ℕ
 usage =
     codes "usage: v7-explain FILE...\n       v7-explain -o LISTING FILE\n       v7-explain -c FILE...\n"
-    ++ codes "       v7-explain -d FILE...\n       v7-explain -m [OPTIONS OF LD] FILE...\n       v7-explain --help | --version\n"
+    ++ codes "       v7-explain -d FILE...\n       v7-explain -l FILE...\n       v7-explain -s FILE...\n       v7-explain -x FILE...\n"
+    ++ codes "       v7-explain -m [OPTIONS OF LD] FILE...\n       v7-explain --help | --version\n"
 
 abbrev pub nothing_said : Answer
 nothing_said = only_errors [] 0

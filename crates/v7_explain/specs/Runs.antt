@@ -14,19 +14,22 @@ use Rattle.surroundings.specs.Sources.{EndsReading, ReadsAt, stored_text, unread
 use Rattle.surroundings.specs.declared.answer.Fault.{Fault}
 use Rattle.surroundings.specs.declared.answer.Fault.TheVariants as faults
 use Rattle.surroundings.specs.declared.office.Stored.{Stored}
-use Rattle.v7_explain.specs.Files.{checked, disassembled, listed, program}
+use Rattle.v7_explain.specs.Files.{checked, inventoried, listed, program, viewed}
 use Rattle.v7_explain.specs.Joined.{either, joined, nothing_said, usage}
 use Rattle.v7_explain.specs.Maps.{IsMapCall}
 use Rattle.v7_explain.specs.declared.explaining.Mode.{Mode}
-use Rattle.v7_explain.specs.declared.explaining.Mode.TheVariants.{Listing, Disassembly, Check}
+use Rattle.v7_explain.specs.declared.explaining.Mode.TheVariants.{Listing, Show, Check, Inventory}
+use Rattle.v7_explain.specs.declared.views.View.TheVariants.{Instructions, Rows}
+use Rattle.explanations.specs.declared.rows.Base.TheVariants.{Octal, Hexadecimal}
 
 -- ---- files one after another
 
 -- what is said of a file with this path and these bytes
 abbrev pub said_of : Mode → List ℕ → List ℕ → Answer
 said_of Listing path bytes = listed false path bytes
-said_of Disassembly path bytes = disassembled path bytes
+said_of (Show view) path bytes = viewed view path bytes
 said_of Check path bytes = checked path bytes
+said_of Inventory path bytes = inventoried path bytes
 
 -- the file at a path is read and explained, or it is not opened or not read, and a line says so
 abbrev pub SaysAt : Mode → History → History → List ℕ → Answer → Type 0
@@ -102,14 +105,26 @@ abbrev pub storing : List (List ℕ) → Option Call
 storing (to ∷ path ∷ []) = storing_at to path
 storing _ = None
 
+-- how files are explained by the option in front of them, if there is one
+abbrev pub mode_of : List ℕ → Option Mode
+mode_of word =
+    if bytes_eq word (codes "-c") then Some Check
+    else (if bytes_eq word (codes "-d") then Some (Show Instructions)
+    else (if bytes_eq word (codes "-l") then Some Inventory
+    else (if bytes_eq word (codes "-s") then Some (Show (Rows Octal))
+    else (if bytes_eq word (codes "-x") then Some (Show (Rows Hexadecimal)) else None))))
+
+-- after the option the paths, or with no option these paths
+abbrev pub explaining_by : Option Mode → List ℕ → List (List ℕ) → Option Call
+explaining_by (Some mode) first rest = explaining mode rest
+explaining_by None first rest = explaining Listing (first ∷ rest)
+
 abbrev pub asked_in : List (List ℕ) → Option Call
 asked_in [] = None
 asked_in (first ∷ rest) =
     if bytes_eq first (codes "-o") then storing rest
-    else (if bytes_eq first (codes "-c") then explaining Check rest
-    else (if bytes_eq first (codes "-d") then explaining Disassembly rest
     else (if bytes_eq first (codes "-m") then Some (map_link rest)
-    else explaining Listing (first ∷ rest))))
+    else explaining_by (mode_of first) first rest)
 
 -- ---- the program
 

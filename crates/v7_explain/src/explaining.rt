@@ -4,10 +4,11 @@ ghost use Rattle.v7_explain.specs.Joined.{joined, nothing_said};
 ghost use Rattle.v7_explain.specs.Runs.{IsExplaining, Explains, said_of};
 
 use crate::checking::check;
-use crate::disassembly::disassemble;
+use crate::inventory::take_inventory;
 use crate::listing::list;
 use crate::program::NAME;
 use crate::source::Source;
+use crate::views::{View, show};
 use std::alloc::{AllocError, Global};
 use surroundings::{Answer, Fault, Office, read_whole};
 
@@ -16,10 +17,12 @@ use surroundings::{Answer, Fault, Office, read_whole};
 pub(crate) enum Mode {
     /// A listing.
     Listing,
-    /// Its text as instructions.
-    Disassembly,
+    /// Its instructions, or its words in rows.
+    Show(View),
     /// Why it is not an object.
     Check,
+    /// A line of an inventory.
+    Inventory,
 }
 
 /// No answer yet.
@@ -49,8 +52,9 @@ fn explain(alloc: Global, mode: Mode, source: Source<'_>) -> Result<Answer, Allo
 {
     match mode {
         Mode::Listing => list(alloc, source, false),
-        Mode::Disassembly => disassemble(alloc, source),
+        Mode::Show(view) => show(alloc, source, view),
         Mode::Check => check(alloc, source),
+        Mode::Inventory => take_inventory(alloc, source),
     }
 }
 

@@ -3,8 +3,8 @@
 #![tactic(auto)]
 
 mod checking;
-mod disassembly;
 mod explaining;
+mod inventory;
 mod listing;
 mod map;
 mod map_limits;
@@ -14,6 +14,7 @@ mod map_text;
 mod program;
 mod source;
 mod storing;
+mod views;
 
 use aout_core::Wire;
 use program::{NAME, USAGE, perform};

@@ -1,10 +1,12 @@
 //! The program, over any files and any streams.
 ghost use Rattle.std.specs.Prelude.{◌≡◌, map, string_bytes};
-ghost use Rattle.v7_explain.specs.Runs.{IsAnswer, IsCall, PerformsExplain, are_files, asked_in, explaining, storing, storing_at};
+ghost use Rattle.v7_explain.specs.Runs.{IsAnswer, IsCall, PerformsExplain, are_files, asked_in, explaining, mode_of, storing, storing_at};
 
 use crate::explaining::{Mode, explain_each};
 use crate::map::map_files;
 use crate::storing::store_listing;
+use crate::views::View;
+use explanations::Base;
 use std::alloc::Global;
 use std::io::Write;
 use surroundings::{Answer, Fault, Office, Outputs, give, shown_answer, shown_in, usage_answer};
@@ -17,6 +19,9 @@ pub(crate) const USAGE: &str = "usage: v7-explain FILE...
        v7-explain -o LISTING FILE
        v7-explain -c FILE...
        v7-explain -d FILE...
+       v7-explain -l FILE...
+       v7-explain -s FILE...
+       v7-explain -x FILE...
        v7-explain -m [OPTIONS OF LD] FILE...
        v7-explain --help | --version
 ";
@@ -75,6 +80,20 @@ fn answer_stored<O: Office>(
     }
 }
 
+/// How files are explained by an option, if this is one.
+fn mode_of(word: &str) -> Option<Mode>
+    ensures { result ≡ mode_of word.now }
+{
+    match word {
+        "-c" => Some(Mode::Check),
+        "-d" => Some(Mode::Show(View::Instructions)),
+        "-l" => Some(Mode::Inventory),
+        "-s" => Some(Mode::Show(View::Rows(Base::Octal))),
+        "-x" => Some(Mode::Show(View::Rows(Base::Hexadecimal))),
+        _ => None,
+    }
+}
+
 /// Does what the first argument asks for with those after it.
 fn answer_words<O: Office>(alloc: Global, office: &mut O, words: &[String]) -> Result<Answer, Fault>
     ensures { IsCall (asked_in (map string_bytes words.now)) (O.history office.old) (O.history office.new) result }
@@ -84,10 +103,11 @@ fn answer_words<O: Office>(alloc: Global, office: &mut O, words: &[String]) -> R
     };
     match first.as_str() {
         "-o" => answer_stored(alloc, office, rest),
-        "-c" => answer_files(alloc, office, Mode::Check, rest),
-        "-d" => answer_files(alloc, office, Mode::Disassembly, rest),
         "-m" => map_files(alloc, office, rest),
-        _ => answer_files(alloc, office, Mode::Listing, words),
+        word => match mode_of(word) {
+            Some(mode) => answer_files(alloc, office, mode, rest),
+            None => answer_files(alloc, office, Mode::Listing, words),
+        },
     }
 }
 

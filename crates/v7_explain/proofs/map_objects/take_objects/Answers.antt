@@ -1,5 +1,4 @@
 use Rattle.std.proofs.Common.{rules, ◌≡◌, ◌+◌, drop, map, string_bytes, subst}
-use Rattle.std.specs.Prelude.{Ok, Err}
 use Rattle.v7_explain.specs.Joined.{nothing_said}
 use Rattle.v7_explain.specs.internal.Takes.{TakesNext, taken_of}
 use Rattle.v7_explain.proofs.ExplainingLemmas.{paths_left}

@@ -1,0 +1,76 @@
+//! What a file is, in a word or two.
+ghost use Rattle.std.specs.Prelude.{◌≡◌};
+ghost use Rattle.explanations.specs.Inventories.{file_kind, kind_of_form, kind_text};
+
+use aout_core::Header;
+use findings::OtherForm;
+
+/// What a file is.
+#[derive(Clone, Copy, Debug, PartialEq, Eq)]
+pub enum FileKind {
+    /// An object, of magic number 0407 with relocation.
+    Object,
+    /// A program of magic number 0407.
+    Program,
+    /// A program of magic number 0410.
+    PureProgram,
+    /// A program of magic number 0411.
+    SeparateProgram,
+    /// An overlay, of magic number 0405.
+    Overlay,
+    /// An archive, of any of three forms.
+    Archive,
+    /// An object in the form of GNU's assembler.
+    GnuObject,
+    /// An ELF file.
+    Elf,
+    /// Text.
+    PlainText,
+    /// Anything else.
+    Other,
+}
+
+/// What a file with this header is.
+pub(crate) fn file_kind(header: &Header) -> FileKind
+    ensures { result ≡ file_kind header.now }
+{
+    match header.magic {
+        0o405 => FileKind::Overlay,
+        0o410 => FileKind::PureProgram,
+        0o411 => FileKind::SeparateProgram,
+        _ if header.flag == 0 => FileKind::Object,
+        _ => FileKind::Program,
+    }
+}
+
+/// What a file with no magic number of ours is, by its form.
+pub(crate) fn kind_of_form(form: Option<OtherForm>) -> FileKind
+    ensures { result ≡ kind_of_form form }
+{
+    match form {
+        Some(OtherForm::Elf) => FileKind::Elf,
+        Some(OtherForm::Archive | OtherForm::OldArchive | OtherForm::PortableArchive) => {
+            FileKind::Archive
+        }
+        Some(OtherForm::PlainText) => FileKind::PlainText,
+        Some(OtherForm::Empty | OtherForm::Swapped) | None => FileKind::Other,
+    }
+}
+
+/// The word for a kind.
+pub(crate) fn kind_text(kind: FileKind) -> &'static str
+    ensures { result.now ≡ kind_text kind }
+{
+    match kind {
+        FileKind::Object => "object",
+        FileKind::Program => "program 0407",
+        FileKind::PureProgram => "program 0410",
+        FileKind::SeparateProgram => "program 0411",
+        FileKind::Overlay => "overlay",
+        FileKind::Archive => "archive",
+        FileKind::GnuObject => "GNU object",
+        FileKind::Elf => "ELF",
+        FileKind::PlainText => "text",
+        FileKind::Other => "other",
+    }
+}

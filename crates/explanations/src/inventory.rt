@@ -1,0 +1,188 @@
+//! What an inventory says of a file: what it is, its sizes, its symbols, and what is wrong or odd in it.
+ghost use Rattle.std.specs.Prelude.{◌≡◌, filter, length, IfOk};
+ghost use Rattle.findings.specs.Found.{all_found};
+ghost use Rattle.explanations.specs.Inventories.{condition_of, counts_of, damaged_row, file_row, gnu_row, kind_at, odd_count, other_row, own_row, refused_row, sizes_in, unread_row, wants_definition};
+
+use crate::file_kind::{FileKind, file_kind, kind_of_form};
+use aout_core::{File, Header, ReadFault, Symbol};
+use disassemblies::Sweep;
+use findings::{Finding, header_of, is_of_gnu, odd_of, other_form};
+use std::alloc::{AllocError, Global};
+use suspicions::suspicions_of;
+
+/// The sizes of segments in bytes.
+#[derive(Clone, Copy, Debug, PartialEq, Eq)]
+pub struct SegmentSizes {
+    pub text: u16,
+    pub data: u16,
+    pub bss: u16,
+}
+
+/// How many symbols there are, and how many of them are names that another object has to define.
+#[derive(Clone, Copy, Debug, PartialEq, Eq)]
+pub struct SymbolCounts {
+    pub all: usize,
+    pub undefined: usize,
+}
+
+/// What is wrong or odd in a file.
+#[derive(Clone, Copy, Debug, PartialEq, Eq)]
+pub enum Condition {
+    /// It is not looked for.
+    NotExamined,
+    /// The file is damaged, first at this byte.
+    DamagedAt(usize),
+    /// Nothing is wrong, and so many things are odd.
+    Odd(usize),
+}
+
+/// What an inventory says of a file. `None` is for numbers that a kind of file does not have, or that are not counted.
+#[derive(Clone, Copy, Debug, PartialEq, Eq)]
+pub struct InventoryRow {
+    pub kind: FileKind,
+    pub sizes: Option<SegmentSizes>,
+    pub symbols: Option<SymbolCounts>,
+    pub condition: Condition,
+}
+
+/// The sizes in a header.
+fn sizes_in(header: &Header) -> SegmentSizes
+    ensures { result ≡ sizes_in header.now }
+{
+    SegmentSizes {
+        text: header.text_size,
+        data: header.data_size,
+        bss: header.bss_size,
+    }
+}
+
+/// Whether another object has to define a name: it is undefined, and no common.
+fn wants_definition(symbol: &Symbol) -> bool
+    ensures { result ≡ wants_definition symbol.now }
+{
+    symbol.is_undefined() && symbol.value == 0
+}
+
+/// How many names another object has to define.
+fn undefined_count(symbols: &[Symbol]) -> usize
+    ensures { result ≡ length (filter wants_definition symbols.now) }
+{
+    symbols
+        .iter()
+        .filter(|symbol| wants_definition(symbol))
+        .count()
+}
+
+/// How many symbols there are.
+fn counts_of(symbols: &[Symbol]) -> SymbolCounts
+    ensures { result ≡ counts_of symbols.now }
+{
+    SymbolCounts {
+        all: symbols.len(),
+        undefined: undefined_count(symbols),
+    }
+}
+
+/// How many notes of a listing say that something is odd.
+fn odd_count(alloc: Global, bytes: &[u8], file: &File) -> Result<usize, AllocError>
+    ensures { IfOk result (λ count. count ≡ odd_count bytes.now file.now) }
+{
+    let odd = odd_of(alloc, bytes, file)?;
+    let suspicions = suspicions_of(alloc, &Sweep::new(alloc, file)?)?;
+    Ok(odd.len() + suspicions.len())
+}
+
+/// That a file is damaged, if anything is wrong, or how many things are odd.
+fn condition_of(wrong: &[Finding], count: usize) -> Condition
+    ensures { result ≡ condition_of (all_found wrong.now) count }
+{
+    match wrong {
+        [] => Condition::Odd(count),
+        [first, ..] => Condition::DamagedAt(first.place),
+    }
+}
+
+/// The row of an object in the form of GNU's assembler.
+fn gnu_row(header: Option<Header>) -> InventoryRow
+    ensures { result ≡ gnu_row header }
+{
+    let sizes = match header {
+        Some(header) => Some(sizes_in(&header)),
+        None => None,
+    };
+    InventoryRow {
+        kind: FileKind::GnuObject,
+        sizes,
+        symbols: None,
+        condition: Condition::NotExamined,
+    }
+}
+
+/// The row of a file, of which this is wrong. An error: out of memory.
+pub fn file_row(
+    alloc: Global,
+    bytes: &[u8],
+    file: &File,
+    wrong: &[Finding],
+) -> Result<InventoryRow, AllocError>
+    ensures { IfOk result (λ row. row ≡ file_row bytes.now file.now (all_found wrong.now)) }
+{
+    let header = file.header();
+    if is_of_gnu(alloc, bytes, false)? {
+        return Ok(gnu_row(Some(*header)));
+    }
+    Ok(InventoryRow {
+        kind: file_kind(header),
+        sizes: Some(sizes_in(header)),
+        symbols: Some(counts_of(file.symbols())),
+        condition: condition_of(wrong, odd_count(alloc, bytes, file)?),
+    })
+}
+
+/// The row of bytes that begin as a file, of which this is wrong.
+fn damaged_row(header: Option<Header>, wrong: &[Finding]) -> InventoryRow
+    ensures { result ≡ damaged_row header (all_found wrong.now) }
+{
+    let condition = condition_of(wrong, 0);
+    let (kind, sizes) = match header {
+        Some(header) => (file_kind(&header), Some(sizes_in(&header))),
+        None => (FileKind::Other, None),
+    };
+    InventoryRow {
+        kind,
+        sizes,
+        symbols: None,
+        condition,
+    }
+}
+
+/// The row of bytes that are not of the Seventh Edition.
+fn other_row(bytes: &[u8]) -> InventoryRow
+    ensures { result ≡ other_row bytes.now }
+{
+    InventoryRow {
+        kind: kind_of_form(other_form(bytes)),
+        sizes: None,
+        symbols: None,
+        condition: Condition::NotExamined,
+    }
+}
+
+/// The row of bytes that do not make a file for this reason, of which this is wrong. An error: out of memory.
+pub fn refused_row(
+    alloc: Global,
+    bytes: &[u8],
+    fault: ReadFault,
+    wrong: &[Finding],
+) -> Result<InventoryRow, AllocError>
+    ensures { IfOk result (λ row. row ≡ refused_row fault bytes.now (all_found wrong.now)) }
+{
+    let header = header_of(bytes);
+    if is_of_gnu(alloc, bytes, true)? {
+        return Ok(gnu_row(header));
+    }
+    match fault {
+        ReadFault::BadMagic | ReadFault::ShortHeader => Ok(other_row(bytes)),
+        _ => Ok(damaged_row(header, wrong)),
+    }
+}

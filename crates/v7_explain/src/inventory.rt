@@ -1,0 +1,55 @@
+//! Files in an inventory, a line each.
+ghost use Rattle.std.specs.Prelude.{◌≡◌, IfOk};
+ghost use Rattle.aout_core.specs.WellFormed.{first_object_fault};
+ghost use Rattle.explanations.specs.Inventories.{file_row, refused_row};
+ghost use Rattle.findings.specs.Wrong.{wrong_bytes};
+ghost use Rattle.v7_explain.specs.Files.{inventoried, row_said, wrong_in};
+
+use crate::source::{Source, as_object, decoded, wrong_in};
+use aout_core::{File, ReadFault};
+use explanations::{InventoryRow, file_row, put_row, refused_row};
+use findings::wrong_bytes;
+use std::alloc::{AllocError, Global};
+use surroundings::Answer;
+use texts::Text;
+
+/// What the inventory says of a file.
+fn row_of_file(alloc: Global, bytes: &[u8], file: File) -> Result<InventoryRow, AllocError>
+    ensures { IfOk result (λ row. row ≡ file_row bytes.now file (wrong_in (first_object_fault file) file)) }
+{
+    let (file, refused) = as_object(file);
+    let wrong = wrong_in(alloc, &file, refused)?;
+    file_row(alloc, bytes, &file, &wrong)
+}
+
+/// What the inventory says of bytes that do not make a file for this reason.
+fn row_of_bytes(alloc: Global, bytes: &[u8], fault: ReadFault) -> Result<InventoryRow, AllocError>
+    ensures { IfOk result (λ row. row ≡ refused_row fault bytes.now (wrong_bytes fault bytes.now)) }
+{
+    let wrong = wrong_bytes(alloc, bytes, fault)?;
+    refused_row(alloc, bytes, fault, &wrong)
+}
+
+/// The line for a path. Its status is 0, whatever the file is.
+fn line_of(alloc: Global, path: &str, row: &InventoryRow) -> Result<Answer, AllocError>
+    ensures { IfOk result (λ answer. answer ≡ row_said path.now row.now) }
+{
+    let mut text = Text::new(alloc);
+    put_row(&mut text, row, path);
+    Ok(Answer {
+        output: text.finish()?,
+        errors: Vec::new(alloc),
+        status: 0,
+    })
+}
+
+/// The line of the bytes of a file.
+pub(crate) fn take_inventory(alloc: Global, source: Source<'_>) -> Result<Answer, AllocError>
+    ensures { IfOk result (λ answer. answer ≡ inventoried source.entry.path.now source.entry.bytes.now) }
+{
+    let row = match decoded(alloc, source.bytes)? {
+        Ok(file) => row_of_file(alloc, source.bytes, file)?,
+        Err(fault) => row_of_bytes(alloc, source.bytes, fault)?,
+    };
+    line_of(alloc, source.path, &row)
+}
