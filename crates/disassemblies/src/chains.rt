@@ -105,15 +105,18 @@ impl<'a> Chains<'a> {
     /// The number of the first symbol of a bucket, or how many there are.
     fn first_of(&self, bucket: usize) -> usize
         requires { bucket < self.now.count }
-        ensures { result ≡ place_of (bucket_of self.now.shift self.now.count) bucket self.now.symbols.now }
+        ensures { result
+            ≡ place_of (bucket_of self.now.shift self.now.count) bucket self.now.symbols.now }
     {
         self.first[bucket]
     }
 
     /// The number of the first symbol of the bucket of a value, or how many symbols there are.
     pub(crate) fn first(&self, value: u16) -> usize
-        ensures value { result ≡ place_of (bucket_of self.now.shift self.now.count) (block self.now.shift value % self.now.count) self.now.symbols.now }
-        ensures is_in { IsIn (bucket_of self.now.shift self.now.count) (block self.now.shift value % self.now.count) self.now.symbols.now result }
+        ensures value { result ≡ place_of (bucket_of self.now.shift self.now.count)
+            (block self.now.shift value % self.now.count) self.now.symbols.now }
+        ensures is_in { IsIn (bucket_of self.now.shift self.now.count)
+            (block self.now.shift value % self.now.count) self.now.symbols.now result }
     {
         let bucket = self.bucket(value);
         self.first_of(bucket)
@@ -122,14 +125,16 @@ impl<'a> Chains<'a> {
     /// The number of the next symbol of the bucket of a symbol, or how many there are.
     pub(crate) fn after(&self, place: usize) -> usize
         requires { place < length self.now.symbols.now }
-        ensures { IsNext (bucket_of self.now.shift self.now.count) self.now.symbols.now place result }
+        ensures { IsNext
+            (bucket_of self.now.shift self.now.count) self.now.symbols.now place result }
     {
         self.next[place]
     }
 
     /// Whether a line of so many words is in one block, and with it the address after it.
     pub(crate) fn is_in_block(&self, address: u16, length: u8) -> bool
-        ensures { IsTrue result → block self.now.shift address ≡ block self.now.shift (address + 2 * length) }
+        ensures { IsTrue result
+            → block self.now.shift address ≡ block self.now.shift (address + 2 * length) }
     {
         let start = usize::from(address);
         let end = start + 2 * usize::from(length);

@@ -107,7 +107,8 @@ fn put_row_of(text: &mut Text, at: &PlacedLine<'_>, words: &[u16])
     requires within { at.now.place < length at.now.file.now.text_words }
     requires line { at.now.line ≡ unix_line_in at.now.decoder at.now.file.now at.now.place }
     requires some { 1 ≤ length words.now }
-    ensures { Puts text.old text.new (row_of at.now.decoder at.now.file.now at.now.place words.now) }
+    ensures { Puts text.old text.new
+        (row_of at.now.decoder at.now.file.now at.now.place words.now) }
 {
     let _text_words = at.file.file().text_words();
     let (shown, rest) = first_three(words);
@@ -134,7 +135,8 @@ fn put_labelled_row(text: &mut Text, at: &PlacedLine<'_>, count: usize)
     requires line { at.now.line ≡ unix_line_in at.now.decoder at.now.file.now at.now.place }
     requires some { 1 ≤ count }
     requires short { count ≤ 5 }
-    ensures { Puts text.old text.new (labelled_row at.now.decoder at.now.file.now at.now.place count) }
+    ensures { Puts text.old text.new
+        (labelled_row at.now.decoder at.now.file.now at.now.place count) }
 {
     let _words = at.file.file().text_words();
     put_labels(text, at.file, (2 * at.place) as u16, count as u8);

@@ -48,7 +48,8 @@ fn put_label_within(text: &mut Text, address: u16, length: u8, symbol: &Symbol)
 
 /// Appends the labels of an address.
 fn put_labels_at(text: &mut Text, chains: &Chains<'_>, address: u16)
-    ensures { Puts text.old text.new (flat_map (λ s. text_of (label_at address s)) chains.now.symbols.now) }
+    ensures { Puts text.old text.new
+        (flat_map (λ s. text_of (label_at address s)) chains.now.symbols.now) }
 {
     let mut place = chains.first(address);
     while let Some(symbol) = chains.symbols.get(place) {
@@ -60,7 +61,8 @@ fn put_labels_at(text: &mut Text, chains: &Chains<'_>, address: u16)
 /// Appends the labels within a line that is in one block.
 fn put_block_labels(text: &mut Text, chains: &Chains<'_>, address: u16, length: u8)
     requires { block chains.now.shift address ≡ block chains.now.shift (address + 2 * length) }
-    ensures { Puts text.old text.new (flat_map (λ s. text_of (label_within address length s)) chains.now.symbols.now) }
+    ensures { Puts text.old text.new
+        (flat_map (λ s. text_of (label_within address length s)) chains.now.symbols.now) }
 {
     let mut place = chains.first(address);
     while let Some(symbol) = chains.symbols.get(place) {
@@ -71,7 +73,8 @@ fn put_block_labels(text: &mut Text, chains: &Chains<'_>, address: u16, length: 
 
 /// Appends the labels within a line, by all symbols.
 fn put_all_labels(text: &mut Text, symbols: &[Symbol], address: u16, length: u8)
-    ensures { Puts text.old text.new (flat_map (λ s. text_of (label_within address length s)) symbols.now) }
+    ensures { Puts text.old text.new
+        (flat_map (λ s. text_of (label_within address length s)) symbols.now) }
 {
     for symbol in symbols {
         put_label_within(text, address, length, symbol);
@@ -80,7 +83,8 @@ fn put_all_labels(text: &mut Text, symbols: &[Symbol], address: u16, length: u8)
 
 /// Appends the labels within a line.
 fn put_labels_within(text: &mut Text, blocks: &Blocks<'_>, address: u16, length: u8)
-    ensures { Puts text.old text.new (flat_map (λ s. text_of (label_within address length s)) blocks.now.whole.symbols.now) }
+    ensures { Puts text.old text.new
+        (flat_map (λ s. text_of (label_within address length s)) blocks.now.whole.symbols.now) }
 {
     if blocks.whole.is_in_block(address, length) {
         return put_block_labels(text, &blocks.whole, address, length);

@@ -59,7 +59,8 @@ fn word_reference(
     addressing: Addressing,
 ) -> Option<Reference>
     requires { spot.next < 0o400000 }
-    ensures { result ≡ word_reference file.now spot.operation spot.next (slice_get file.now.text_reloc spot.place) word addressing }
+    ensures { result ≡ word_reference file.now spot.operation spot.next
+        (slice_get file.now.text_reloc spot.place) word addressing }
 {
     match reloc_at(file.file(), spot.place) {
         Some(reloc) => object_reference(file.names(), reloc, word, spot.next, addressing),
@@ -96,7 +97,8 @@ fn operand_reference(
     word: Option<u16>,
 ) -> Option<Reference>
     requires { spot.next < 0o400000 }
-    ensures { result ≡ operand_reference file.now spot.operation spot.address spot.next (slice_get file.now.text_reloc spot.place) operand word }
+    ensures { result ≡ operand_reference file.now spot.operation spot.address spot.next
+        (slice_get file.now.text_reloc spot.place) operand word }
 {
     match operand? {
         Operand::General(mode, register) => {

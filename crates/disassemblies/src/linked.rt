@@ -53,7 +53,8 @@ pub(crate) fn linked_reference(
     addressing: Addressing,
 ) -> Option<Reference>
     requires { next < 0o400000 }
-    ensures { result ≡ linked_reference header.now names.now.symbols.now operation word next addressing }
+    ensures { result
+        ≡ linked_reference header.now names.now.symbols.now operation word next addressing }
 {
     match addressing {
         Addressing::Absolute => located(header, names, operation.jumps(), word),

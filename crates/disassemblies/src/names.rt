@@ -13,7 +13,9 @@ type FirstNamed = BTreeMap<(u16, u16), Symbol>;
 
 /// Puts a symbol in front of those that follow it; if externals alone count, only an external.
 fn put_before(first: &mut FirstNamed, symbol: &Symbol, externals: bool) -> Result<(), AllocError>
-    ensures { OnOk result ((key : ℕ × ℕ) → get key_cmp first.new key ≡ (if has_key externals key symbol.now then Some symbol.now else get key_cmp first.old key)) }
+    ensures { OnOk result ((key : ℕ × ℕ)
+        → get key_cmp first.new key ≡ (if has_key externals key symbol.now then Some symbol.now
+        else get key_cmp first.old key)) }
 {
     if !externals || symbol.is_external() {
         first.insert((symbol.type_bits % 0o40, symbol.value), *symbol)?;

@@ -22,7 +22,9 @@ pub fn write_explained(
     notes: &Notes,
     findings: &Notes,
 ) -> Result<Vec<u8>, AllocError>
-    ensures lists { IfOk result (λ v. v.items ≡ listing (explained (starts Unix sweep.now) sweep.now notes.now.lines findings.now.lines) sweep.now) }
+    ensures lists { IfOk result (λ v. v.items
+        ≡ listing (explained (starts Unix sweep.now) sweep.now notes.now.lines findings.now.lines)
+        sweep.now) }
     ensures again { IfOk result (λ v. read v.items ≡ Ok sweep.now) }
 {
     let remarks = Explained {

@@ -77,7 +77,8 @@ fn put_line(text: &mut Text, note: &[u8])
 }
 
 fn put_list(text: &mut Text, notes: &[Vec<u8>])
-    ensures { Puts text.old text.new (text_of (note_lines (map printed (map (λ v. v.items) notes.now)))) }
+    ensures { Puts text.old text.new
+        (text_of (note_lines (map printed (map (λ v. v.items) notes.now)))) }
 {
     for note in notes {
         put_line(text, note);
@@ -104,7 +105,8 @@ fn put_remark(text: &mut Text, remark: &[u8])
 
 /// Appends two blanks and a remark that was made, or nothing if it is empty.
 fn put_made(text: &mut Text, remark: Text)
-    ensures { text.new.is_cut ≡ false → (remark.is_cut ≡ false) × (text.old.is_cut ≡ false) × (text.new.bytes ≡ text.old.bytes ++ remarked (printed remark.bytes)) }
+    ensures { text.new.is_cut ≡ false → (remark.is_cut ≡ false) × (text.old.is_cut ≡ false)
+        × (text.new.bytes ≡ text.old.bytes ++ remarked (printed remark.bytes)) }
 {
     match remark.finish() {
         Ok(remark) => put_remark(text, &remark),
@@ -133,7 +135,8 @@ fn reloc_text(alloc: Global, symbols: &[Symbol], spot: PlacedWord) -> Text
 
 /// Appends what the relocation word of a word says.
 fn put_reloc(text: &mut Text, symbols: &[Symbol], spot: PlacedWord)
-    ensures { Puts text.old text.new (remarked (printed (reloc_said symbols.now spot.at spot.word spot.reloc))) }
+    ensures { Puts text.old text.new
+        (remarked (printed (reloc_said symbols.now spot.at spot.word spot.reloc))) }
 {
     let remark = reloc_text(text.allocator(), symbols, spot);
     put_made(text, remark);
@@ -192,7 +195,8 @@ fn put_instruction(text: &mut Text, sweep: &Sweep<'_>, place: usize, line: &Unix
 
 /// Appends what is remarked of a word of text: its instruction, or what its relocation word says.
 fn put_text_remark(x: &Explained<'_>, text: &mut Text, place: usize)
-    ensures { Puts text.old text.new (remarked (printed (text_said (starts Unix x.now.sweep.now) x.now.sweep.now place))) }
+    ensures { Puts text.old text.new
+        (remarked (printed (text_said (starts Unix x.now.sweep.now) x.now.sweep.now place))) }
 {
     let file = x.sweep.file();
     if place >= file.text_words().len() {
@@ -224,7 +228,8 @@ fn put_line_labels(text: &mut Text, file: &NamedFile<'_>, place: usize, length: 
 
 /// Appends the labels before the line that begins at a place of the text, or at the end of the text.
 fn put_text_labels(x: &Explained<'_>, text: &mut Text, place: usize)
-    ensures { Puts text.old text.new (text_of (labels_said (starts Unix x.now.sweep.now) x.now.sweep.now place)) }
+    ensures { Puts text.old text.new
+        (text_of (labels_said (starts Unix x.now.sweep.now) x.now.sweep.now place)) }
 {
     let end = x.sweep.file().text_words().len();
     if place == end {

@@ -11,7 +11,8 @@ use texts::Text;
 
 /// Appends that no word may refer to a symbol, which has this number.
 fn put_unwanted(text: &mut Text, number: u16, name: &Name)
-    ensures { Puts text.old text.new (codes "not wanted: symbol " ++ (decimal number ++ 32 ∷ printable_name name.now)) }
+    ensures { Puts text.old text.new
+        (codes "not wanted: symbol " ++ (decimal number ++ 32 ∷ printable_name name.now)) }
 {
     text.put("not wanted: symbol ");
     text.put_decimal(u64::from(number));

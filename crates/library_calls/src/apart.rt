@@ -99,7 +99,8 @@ fn parts_of(alloc: Global, file: &File) -> Result<PartLists, AllocError>
 pub fn take_apart(alloc: Global, bytes: &[u8]) -> Result<PartLists, Cause>
     ensures ok { IfOk result (λ parts. parts_in bytes.now ≡ Ok (pieces_in parts)) }
     ensures err { IfErr result (λ cause. cause ≢ Memory → parts_in bytes.now ≡ Err cause) }
-    ensures memory { IfErr result (λ cause. cause ≡ Memory → HasBody bytes.now ⊎ IsOk (parts_in bytes.now)) }
+    ensures memory { IfErr result (λ cause.
+        cause ≡ Memory → HasBody bytes.now ⊎ IsOk (parts_in bytes.now)) }
 {
     let (object, _) = first_object(alloc, bytes)?;
     Ok(parts_of(alloc, object.file())?)

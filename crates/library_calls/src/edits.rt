@@ -36,9 +36,11 @@ pub(crate) fn take_edit<'a>(
     letter: u8,
     bytes: &'a [u8],
 ) -> Result<&'a [u8], Cause>
-    ensures ok { IfOk result (λ _. with_edit letter bytes.now (map change_of edits.old.items) ≡ Ok (map change_of edits.new.items)) }
+    ensures ok { IfOk result (λ _. with_edit letter bytes.now (map change_of edits.old.items)
+        ≡ Ok (map change_of edits.new.items)) }
     ensures after { IfOk result (λ after. after.now ≡ after_edit letter bytes.now) }
-    ensures err { IfErr result (λ cause. cause ≢ Memory → with_edit letter bytes.now (map change_of edits.old.items) ≡ Err cause) }
+    ensures err { IfErr result (λ cause. cause ≢ Memory
+        → with_edit letter bytes.now (map change_of edits.old.items) ≡ Err cause) }
     ensures memory { IfErr result (λ cause. cause ≡ Memory → MayRunOutForEdit letter bytes.now) }
 {
     let (edit, after) = first_edit(alloc, letter, bytes)?;
@@ -50,9 +52,11 @@ pub(crate) fn take_edit<'a>(
 
 /// The edits of the letters, with the objects of the bytes, one after another.
 pub(crate) fn read_edits(alloc: Global, letters: &[u8], bytes: &[u8]) -> Result<Vec<Edit>, Refusal>
-    ensures ok { IfOk result (λ edits. changes_in letters.now bytes.now ≡ Ok (map change_of edits.items)) }
+    ensures ok { IfOk result (λ edits.
+        changes_in letters.now bytes.now ≡ Ok (map change_of edits.items)) }
     ensures err { IfErr result (λ r. r.cause ≢ Memory → changes_in letters.now bytes.now ≡ Err r) }
-    ensures memory { IfErr result (λ r. r.cause ≡ Memory → MayRunOutInEdits 0 letters.now bytes.now r.place) }
+    ensures memory { IfErr result (λ r.
+        r.cause ≡ Memory → MayRunOutInEdits 0 letters.now bytes.now r.place) }
 {
     let mut edits = Vec::new(alloc);
     let mut rest = bytes;
@@ -93,7 +97,8 @@ pub(crate) fn make_edits(
     session: &mut Session,
     edits: Vec<Edit>,
 ) -> Result<Vec<u8>, AllocError>
-    ensures ok { IfOk result (λ numbers. AreEdited session.old session.new (map change_of edits.items) numbers.items) }
+    ensures ok { IfOk result (λ numbers.
+        AreEdited session.old session.new (map change_of edits.items) numbers.items) }
     ensures some { OnErr result (map change_of edits.items ≢ []) }
 {
     let mut numbers = Vec::new(alloc);

@@ -43,9 +43,12 @@ pub(crate) fn read_edits_apart(
     letters: &[u8],
     parts: &[ObjectBytes<'_>],
 ) -> Result<Vec<Edit>, Refusal>
-    ensures ok { IfOk result (λ edits. changes_each letters.now (each_of parts.now) ≡ Ok (map change_of edits.items)) }
-    ensures err { IfErr result (λ r. r.cause ≢ Memory → changes_each letters.now (each_of parts.now) ≡ Err r) }
-    ensures memory { IfErr result (λ r. r.cause ≡ Memory → MayRunOutInEachEdit letters.now (each_of parts.now) r.place) }
+    ensures ok { IfOk result (λ edits.
+        changes_each letters.now (each_of parts.now) ≡ Ok (map change_of edits.items)) }
+    ensures err { IfErr result (λ r.
+        r.cause ≢ Memory → changes_each letters.now (each_of parts.now) ≡ Err r) }
+    ensures memory { IfErr result (λ r.
+        r.cause ≡ Memory → MayRunOutInEachEdit letters.now (each_of parts.now) r.place) }
 {
     let mut edits = Vec::new(alloc);
     let mut rest = parts;

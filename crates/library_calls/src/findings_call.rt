@@ -97,10 +97,12 @@ pub fn link_findings(
     request: &LinkRequest<'_>,
     parts: &[ObjectBytes<'_>],
 ) -> Result<Found, Refusal>
-    ensures ok { IfOk result (λ found. found_each request.now.options request.now.entry.now request.now.forced.now (each_of parts.now) ≡ Ok (founds_of found)) }
-    ensures err { IfErr result (λ r. r.cause ≢ Memory → found_each request.now.options request.now.entry.now request.now.forced.now (each_of parts.now) ≡ Err r) }
-    ensures memory { IfErr result (λ r. r.cause ≡ Memory
-        → LinkOfEachMayRunOut request.now.options request.now.entry.now request.now.forced.now (each_of parts.now) r.place) }
+    ensures ok { IfOk result (λ found. found_each request.now.options request.now.entry.now
+        request.now.forced.now (each_of parts.now) ≡ Ok (founds_of found)) }
+    ensures err { IfErr result (λ r. r.cause ≢ Memory → found_each request.now.options
+        request.now.entry.now request.now.forced.now (each_of parts.now) ≡ Err r) }
+    ensures memory { IfErr result (λ r. r.cause ≡ Memory → LinkOfEachMayRunOut request.now.options
+        request.now.entry.now request.now.forced.now (each_of parts.now) r.place) }
 {
     let linked = link_requested(alloc, request, parts)?;
     Ok(found_of(alloc, &linked)?)

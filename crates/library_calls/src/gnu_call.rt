@@ -42,8 +42,10 @@ fn conversion_in(bits: u32) -> Result<Options, Cause>
 /// The object that one in GNU's form becomes.
 fn convert_at(alloc: Global, options: Options, bytes: &[u8]) -> Result<Object, Refusal>
     ensures ok { IfOk result (λ object. converted options bytes.now ≡ Ok object) }
-    ensures err { IfErr result (λ r. r.cause ≢ Memory → refused_as (refused_in bytes.now) (converted options bytes.now) ≡ Err r) }
-    ensures memory { IfErr result (λ r. r.cause ≡ Memory → (r.place ≡ 0) × (sizes_refusal bytes.now ≡ None)) }
+    ensures err { IfErr result (λ r. r.cause ≢ Memory
+        → refused_as (refused_in bytes.now) (converted options bytes.now) ≡ Err r) }
+    ensures memory { IfErr result (λ r.
+        r.cause ≡ Memory → (r.place ≡ 0) × (sizes_refusal bytes.now ≡ None)) }
 {
     match convert(alloc, bytes, options) {
         Ok(object) => Ok(object),
@@ -64,7 +66,8 @@ fn convert_at(alloc: Global, options: Options, bytes: &[u8]) -> Result<Object, R
 pub fn from_gnu(alloc: Global, options: u32, bytes: &[u8]) -> Result<Vec<u8>, Refusal>
     ensures ok { IfOk result (λ written. converted_in options bytes.now ≡ Ok written.items) }
     ensures err { IfErr result (λ r. r.cause ≢ Memory → converted_in options bytes.now ≡ Err r) }
-    ensures memory { IfErr result (λ r. r.cause ≡ Memory → ConversionMayRunOut options bytes.now r.place) }
+    ensures memory { IfErr result (λ r.
+        r.cause ≡ Memory → ConversionMayRunOut options bytes.now r.place) }
 {
     let choices = conversion_in(options)?;
     let object = convert_at(alloc, choices, bytes)?;

@@ -46,10 +46,15 @@ pub(crate) fn link_kept(
     session: &Session,
     options: &Options,
 ) -> Result<Linked, Cause>
-    ensures ok { IfOk result (λ linked. refused_as NotLinked (link session.now.forced (objects session.now.entries) options.now) ≡ Ok (outcome_of linked)) }
-    ensures err { IfErr result (λ cause. cause ≢ Memory → refused_as NotLinked (link session.now.forced (objects session.now.entries) options.now) ≡ Err cause) }
-    ensures memory { IfErr result (λ cause. cause ≡ Memory → IsOk (link session.now.forced (objects session.now.entries) options.now)) }
-    ensures object { options.now.relocatable ≡ true → IfOk result (λ linked. IsWellFormed linked.file) }
+    ensures ok { IfOk result (λ linked.
+        refused_as NotLinked (link session.now.forced (objects session.now.entries) options.now)
+        ≡ Ok (outcome_of linked)) }
+    ensures err { IfErr result (λ cause. cause ≢ Memory → refused_as NotLinked
+        (link session.now.forced (objects session.now.entries) options.now) ≡ Err cause) }
+    ensures memory { IfErr result (λ cause. cause ≡ Memory
+        → IsOk (link session.now.forced (objects session.now.entries) options.now)) }
+    ensures object { options.now.relocatable ≡ true
+        → IfOk result (λ linked. IsWellFormed linked.file) }
 {
     Ok(finish(alloc, session, options)?)
 }
@@ -62,10 +67,14 @@ fn link_objects(
     forced: &Forced,
     options: &Options,
 ) -> Result<Linked, Refusal>
-    ensures ok { IfOk result (λ linked. linked_in forced.now options.now objects.now ≡ Ok (outcome_of linked)) }
-    ensures err { IfErr result (λ r. r.cause ≢ Memory → linked_in forced.now options.now objects.now ≡ Err r) }
-    ensures memory { IfErr result (λ r. r.cause ≡ Memory → MayRunOutInLink forced.now options.now objects.now r.place) }
-    ensures object { options.now.relocatable ≡ true → IfOk result (λ linked. IsWellFormed linked.file) }
+    ensures ok { IfOk result (λ linked.
+        linked_in forced.now options.now objects.now ≡ Ok (outcome_of linked)) }
+    ensures err { IfErr result (λ r.
+        r.cause ≢ Memory → linked_in forced.now options.now objects.now ≡ Err r) }
+    ensures memory { IfErr result (λ r.
+        r.cause ≡ Memory → MayRunOutInLink forced.now options.now objects.now r.place) }
+    ensures object { options.now.relocatable ≡ true
+        → IfOk result (λ linked. IsWellFormed linked.file) }
 {
     let mut session = Session::with_forced(alloc, forced)?;
     take_objects(alloc, &mut session, objects)?;
@@ -80,9 +89,12 @@ fn link_parts(
     forced: &Forced,
     options: &Options,
 ) -> Result<Linked, Refusal>
-    ensures ok { IfOk result (λ linked. linked_each forced.now options.now (each_of parts.now) ≡ Ok (outcome_of linked)) }
-    ensures err { IfErr result (λ r. r.cause ≢ Memory → linked_each forced.now options.now (each_of parts.now) ≡ Err r) }
-    ensures memory { IfErr result (λ r. r.cause ≡ Memory → MayRunOutInLinkOfEach forced.now options.now (each_of parts.now) r.place) }
+    ensures ok { IfOk result (λ linked.
+        linked_each forced.now options.now (each_of parts.now) ≡ Ok (outcome_of linked)) }
+    ensures err { IfErr result (λ r.
+        r.cause ≢ Memory → linked_each forced.now options.now (each_of parts.now) ≡ Err r) }
+    ensures memory { IfErr result (λ r. r.cause ≡ Memory
+        → MayRunOutInLinkOfEach forced.now options.now (each_of parts.now) r.place) }
 {
     let mut session = Session::with_forced(alloc, forced)?;
     take_each(alloc, &mut session, parts)?;
@@ -118,10 +130,12 @@ pub(crate) fn program_of(alloc: Global, linked: &Linked) -> Result<Program, Caus
 ///
 /// `Memory`, 50, if memory runs out for forced names, for a whole file, for an object that is accepted, or for a link.
 pub fn link(alloc: Global, request: &LinkRequest<'_>, objects: &[u8]) -> Result<Program, Refusal>
-    ensures ok { IfOk result (λ program. output_in request.now.options request.now.entry.now request.now.forced.now objects.now ≡ Ok (outputs_of program)) }
-    ensures err { IfErr result (λ r. r.cause ≢ Memory → output_in request.now.options request.now.entry.now request.now.forced.now objects.now ≡ Err r) }
-    ensures memory { IfErr result (λ r. r.cause ≡ Memory
-        → LinkMayRunOut request.now.options request.now.entry.now request.now.forced.now objects.now r.place) }
+    ensures ok { IfOk result (λ program. output_in request.now.options request.now.entry.now
+        request.now.forced.now objects.now ≡ Ok (outputs_of program)) }
+    ensures err { IfErr result (λ r. r.cause ≢ Memory → output_in request.now.options
+        request.now.entry.now request.now.forced.now objects.now ≡ Err r) }
+    ensures memory { IfErr result (λ r. r.cause ≡ Memory → LinkMayRunOut request.now.options
+        request.now.entry.now request.now.forced.now objects.now r.place) }
 {
     let options = tool_options(request.options, request.entry)?;
     let forced = forced_names(request.forced)?;
@@ -135,11 +149,14 @@ pub(crate) fn link_requested(
     request: &LinkRequest<'_>,
     parts: &[ObjectBytes<'_>],
 ) -> Result<Linked, Refusal>
-    ensures ok { IfOk result (λ linked. outcome_each request.now.options request.now.entry.now request.now.forced.now (each_of parts.now) ≡ Ok (outcome_of linked)) }
-    ensures err { IfErr result (λ r. r.cause ≢ Memory → outcome_each request.now.options request.now.entry.now request.now.forced.now (each_of parts.now) ≡ Err r) }
-    ensures memory { IfErr result (λ r. r.cause ≡ Memory
-        → LinkOfEachMayRunOut request.now.options request.now.entry.now request.now.forced.now (each_of parts.now) r.place) }
-    ensures more { IsOk result → LinkOfEachMayRunOut request.now.options request.now.entry.now request.now.forced.now (each_of parts.now) 0 }
+    ensures ok { IfOk result (λ linked. outcome_each request.now.options request.now.entry.now
+        request.now.forced.now (each_of parts.now) ≡ Ok (outcome_of linked)) }
+    ensures err { IfErr result (λ r. r.cause ≢ Memory → outcome_each request.now.options
+        request.now.entry.now request.now.forced.now (each_of parts.now) ≡ Err r) }
+    ensures memory { IfErr result (λ r. r.cause ≡ Memory → LinkOfEachMayRunOut request.now.options
+        request.now.entry.now request.now.forced.now (each_of parts.now) r.place) }
+    ensures more { IsOk result → LinkOfEachMayRunOut request.now.options request.now.entry.now
+        request.now.forced.now (each_of parts.now) 0 }
 {
     let choices = tool_options(request.options, request.entry)?;
     let forced = forced_names(request.forced)?;
@@ -155,10 +172,12 @@ pub fn link_each(
     request: &LinkRequest<'_>,
     parts: &[ObjectBytes<'_>],
 ) -> Result<Program, Refusal>
-    ensures ok { IfOk result (λ program. output_each request.now.options request.now.entry.now request.now.forced.now (each_of parts.now) ≡ Ok (outputs_of program)) }
-    ensures err { IfErr result (λ r. r.cause ≢ Memory → output_each request.now.options request.now.entry.now request.now.forced.now (each_of parts.now) ≡ Err r) }
-    ensures memory { IfErr result (λ r. r.cause ≡ Memory
-        → LinkOfEachMayRunOut request.now.options request.now.entry.now request.now.forced.now (each_of parts.now) r.place) }
+    ensures ok { IfOk result (λ program. output_each request.now.options request.now.entry.now
+        request.now.forced.now (each_of parts.now) ≡ Ok (outputs_of program)) }
+    ensures err { IfErr result (λ r. r.cause ≢ Memory → output_each request.now.options
+        request.now.entry.now request.now.forced.now (each_of parts.now) ≡ Err r) }
+    ensures memory { IfErr result (λ r. r.cause ≡ Memory → LinkOfEachMayRunOut request.now.options
+        request.now.entry.now request.now.forced.now (each_of parts.now) r.place) }
 {
     let linked = link_requested(alloc, request, parts)?;
     Ok(program_of(alloc, &linked)?)

@@ -41,8 +41,10 @@ pub fn list_file(alloc: Global, bytes: &[u8]) -> Result<Vec<u8>, Cause>
 /// The file that a listing describes.
 fn file_described(alloc: Global, text: &[u8]) -> Result<File, Refusal>
     ensures ok { IfOk result (λ file. refused_as mistake_of (read text.now) ≡ Ok file) }
-    ensures err { IfErr result (λ r. r.cause ≢ Memory → refused_as mistake_of (read text.now) ≡ Err r) }
-    ensures memory { IfErr result (λ r. r.cause ≡ Memory → (r.place ≡ 0) × ListingMayRunOut text.now) }
+    ensures err { IfErr result (λ r.
+        r.cause ≢ Memory → refused_as mistake_of (read text.now) ≡ Err r) }
+    ensures memory { IfErr result (λ r.
+        r.cause ≡ Memory → (r.place ≡ 0) × ListingMayRunOut text.now) }
 {
     match read_listing(alloc, text) {
         Ok(file) => Ok(file),

@@ -14,8 +14,10 @@ use std::alloc::{AllocError, Global};
 
 /// The header of an object of these parts.
 fn header_for(parts: &ObjectParts<'_>) -> Result<Header, Cause>
-    ensures value { result ≡ header_for (pieces parts.now.text.now parts.now.data.now parts.now.bss parts.now.symbols.now) }
-    ensures header { IfOk result (λ header. header ≡ header_of (pieces parts.now.text.now parts.now.data.now parts.now.bss parts.now.symbols.now)) }
+    ensures value { result ≡ header_for
+        (pieces parts.now.text.now parts.now.data.now parts.now.bss parts.now.symbols.now) }
+    ensures header { IfOk result (λ header. header ≡ header_of
+        (pieces parts.now.text.now parts.now.data.now parts.now.bss parts.now.symbols.now)) }
     ensures even { IfOk result (λ _. parts.now.bss % 2 ≡ 0) }
 {
     if parts.text.len() > 32_767 {
@@ -75,8 +77,8 @@ fn symbols_of(alloc: Global, rows: &[SymbolRow]) -> Result<Vec<Symbol>, AllocErr
 
 /// The parts as those of a file with this header.
 fn parts_with(alloc: Global, header: Header, parts: &ObjectParts<'_>) -> Result<Parts, AllocError>
-    ensures { IfOk result (λ lists. contents_of lists
-        ≡ contents_for (pieces parts.now.text.now parts.now.data.now parts.now.bss parts.now.symbols.now) header) }
+    ensures { IfOk result (λ lists. contents_of lists ≡ contents_for
+        (pieces parts.now.text.now parts.now.data.now parts.now.bss parts.now.symbols.now) header) }
 {
     let text_words = values_of(alloc, parts.text)?;
     let data_words = values_of(alloc, parts.data)?;
@@ -95,11 +97,14 @@ fn parts_with(alloc: Global, header: Header, parts: &ObjectParts<'_>) -> Result<
 
 /// The file of the parts.
 fn file_for(alloc: Global, parts: &ObjectParts<'_>) -> Result<File, Cause>
-    ensures ok { IfOk result (λ file. file_for (pieces parts.now.text.now parts.now.data.now parts.now.bss parts.now.symbols.now) ≡ Ok file) }
-    ensures err { IfErr result (λ cause. cause ≢ Memory
-        → file_for (pieces parts.now.text.now parts.now.data.now parts.now.bss parts.now.symbols.now) ≡ Err cause) }
-    ensures memory { IfErr result (λ cause. cause ≡ Memory
-        → IsOk (file_for (pieces parts.now.text.now parts.now.data.now parts.now.bss parts.now.symbols.now))) }
+    ensures ok { IfOk result (λ file.
+        file_for (pieces parts.now.text.now parts.now.data.now parts.now.bss parts.now.symbols.now)
+        ≡ Ok file) }
+    ensures err { IfErr result (λ cause. cause ≢ Memory → file_for
+        (pieces parts.now.text.now parts.now.data.now parts.now.bss parts.now.symbols.now)
+        ≡ Err cause) }
+    ensures memory { IfErr result (λ cause. cause ≡ Memory → IsOk (file_for
+        (pieces parts.now.text.now parts.now.data.now parts.now.bss parts.now.symbols.now))) }
 {
     let header = header_for(parts)?;
     let lists = parts_with(alloc, header, parts)?;
@@ -117,11 +122,14 @@ fn file_for(alloc: Global, parts: &ObjectParts<'_>) -> Result<File, Cause>
 ///
 /// `Memory`, 50, if memory runs out for parts that are not too long and whose bss is not odd.
 pub fn make(alloc: Global, parts: &ObjectParts<'_>) -> Result<Vec<u8>, Cause>
-    ensures ok { IfOk result (λ written. made_of (pieces parts.now.text.now parts.now.data.now parts.now.bss parts.now.symbols.now) ≡ Ok written.items) }
+    ensures ok { IfOk result (λ written.
+        made_of (pieces parts.now.text.now parts.now.data.now parts.now.bss parts.now.symbols.now)
+        ≡ Ok written.items) }
     ensures err { IfErr result (λ cause. cause ≢ Memory
-        → made_of (pieces parts.now.text.now parts.now.data.now parts.now.bss parts.now.symbols.now) ≡ Err cause) }
-    ensures memory { IfErr result (λ cause. cause ≡ Memory
-        → IsOk (file_for (pieces parts.now.text.now parts.now.data.now parts.now.bss parts.now.symbols.now))) }
+        → made_of (pieces parts.now.text.now parts.now.data.now parts.now.bss parts.now.symbols.now)
+        ≡ Err cause) }
+    ensures memory { IfErr result (λ cause. cause ≡ Memory → IsOk (file_for
+        (pieces parts.now.text.now parts.now.data.now parts.now.bss parts.now.symbols.now))) }
 {
     let file = file_for(alloc, parts)?;
     let object = object_of(file)?;

@@ -50,10 +50,14 @@ pub struct Mapped {
 
 /// Takes the object that the bytes begin with, without a label.
 fn take_read(alloc: Global, all: &mut Objects, bytes: &[u8]) -> Result<(), Cause>
-    ensures read { IfOk result (λ _. with_read (objects (all_of all.old)) bytes.now ≡ Ok (objects (all_of all.new))) }
-    ensures taken { IfOk result (λ _. (forced : List (List ℕ)) → AreTaken forced (objects (all_of all.old)) all.old → AreTaken forced (objects (all_of all.new)) all.new) }
-    ensures err { IfErr result (λ cause. cause ≢ Memory → with_read (objects (all_of all.old)) bytes.now ≡ Err cause) }
-    ensures memory { IfErr result (λ cause. cause ≡ Memory → HasBody bytes.now ⊎ IsOk (with_read (objects (all_of all.old)) bytes.now)) }
+    ensures read { IfOk result (λ _.
+        with_read (objects (all_of all.old)) bytes.now ≡ Ok (objects (all_of all.new))) }
+    ensures taken { IfOk result (λ _. (forced : List (List ℕ)) → AreTaken forced
+        (objects (all_of all.old)) all.old → AreTaken forced (objects (all_of all.new)) all.new) }
+    ensures err { IfErr result (λ cause.
+        cause ≢ Memory → with_read (objects (all_of all.old)) bytes.now ≡ Err cause) }
+    ensures memory { IfErr result (λ cause. cause ≡ Memory
+        → HasBody bytes.now ⊎ IsOk (with_read (objects (all_of all.old)) bytes.now)) }
 {
     let (object, _) = first_object(alloc, bytes)?;
     all.take(alloc, String::new(alloc), object)?;
@@ -62,10 +66,12 @@ fn take_read(alloc: Global, all: &mut Objects, bytes: &[u8]) -> Result<(), Cause
 
 /// The objects that the parts begin with.
 fn objects_of(alloc: Global, parts: &[ObjectBytes<'_>], forced: &Forced) -> Result<Objects, Refusal>
-    ensures read { IfOk result (λ all. objects_each (each_of parts.now) ≡ Ok (objects (all_of all))) }
+    ensures read { IfOk result (λ all.
+        objects_each (each_of parts.now) ≡ Ok (objects (all_of all))) }
     ensures taken { IfOk result (λ all. AreTaken forced.now (objects (all_of all)) all) }
     ensures err { IfErr result (λ r. r.cause ≢ Memory → objects_each (each_of parts.now) ≡ Err r) }
-    ensures memory { IfErr result (λ r. r.cause ≡ Memory → MayRunOutInMap forced.now (each_of parts.now) r.place) }
+    ensures memory { IfErr result (λ r.
+        r.cause ≡ Memory → MayRunOutInMap forced.now (each_of parts.now) r.place) }
 {
     let mut all = Objects::new(alloc, forced)?;
     for (place, part) in parts.iter().enumerate() {
@@ -136,7 +142,8 @@ fn outcome_head(outcome: &Outcome) -> MapHead
 
 /// What becomes of the link of a map.
 fn head_of(map: &LinkMap, all: &Objects) -> MapHead
-    ensures { result ≡ head_by (cause_of all.now.refused) (length all.now.session.entries) map.now.outcome }
+    ensures { result
+        ≡ head_by (cause_of all.now.refused) (length all.now.session.entries) map.now.outcome }
 {
     match &all.refused {
         Some(refused) => MapHead {
@@ -158,7 +165,8 @@ fn map_objects(
     forced: &Forced,
     options: &Options,
 ) -> Result<Mapped, AllocError>
-    ensures { IfOk result (λ m. AreTaken forced.now (objects (all_of all.now)) all.now → IsMapped forced.now options.now (objects (all_of all.now)) m) }
+    ensures { IfOk result (λ m. AreTaken forced.now (objects (all_of all.now)) all.now
+        → IsMapped forced.now options.now (objects (all_of all.now)) m) }
 {
     let map = map_of(alloc, all, forced, options)?;
     let records = records_of(alloc, &map, all, options)?;
@@ -177,9 +185,12 @@ pub fn map_link(
     request: &LinkRequest<'_>,
     parts: &[ObjectBytes<'_>],
 ) -> Result<Mapped, Refusal>
-    ensures ok { IfOk result (λ m. IsMapAnswer (map_asked request.now.options request.now.entry.now request.now.forced.now (each_of parts.now)) m) }
-    ensures err { IfErr result (λ r. r.cause ≢ Memory → map_asked request.now.options request.now.entry.now request.now.forced.now (each_of parts.now) ≡ Err r) }
-    ensures memory { IfErr result (λ r. r.cause ≡ Memory → MapMayRunOut request.now.options request.now.entry.now request.now.forced.now (each_of parts.now) r.place) }
+    ensures ok { IfOk result (λ m. IsMapAnswer (map_asked request.now.options request.now.entry.now
+        request.now.forced.now (each_of parts.now)) m) }
+    ensures err { IfErr result (λ r. r.cause ≢ Memory → map_asked request.now.options
+        request.now.entry.now request.now.forced.now (each_of parts.now) ≡ Err r) }
+    ensures memory { IfErr result (λ r. r.cause ≡ Memory → MapMayRunOut request.now.options
+        request.now.entry.now request.now.forced.now (each_of parts.now) r.place) }
 {
     let options = tool_options(request.options, request.entry)?;
     let forced = forced_names(request.forced)?;

@@ -93,7 +93,8 @@ fn put_records(
     requires texts { texts.old.items ≡ [] }
     requires records { records.old.items ≡ [] }
     ensures texts { IfOk result (λ _. texts.new.items ≡ texts_of (all_found findings.now)) }
-    ensures records { IfOk result (λ _. records.new.items ≡ records_from 0 (all_found findings.now)) }
+    ensures records { IfOk result (λ _.
+        records.new.items ≡ records_from 0 (all_found findings.now)) }
 {
     for finding in findings {
         records.push(record_of(finding, texts.len()))?;
@@ -114,7 +115,8 @@ fn status_by(wrong: &[Finding]) -> u8
 
 /// The remarks of what is wrong, and of what is odd.
 fn remarks_by(alloc: Global, wrong: Vec<Finding>, odd: Vec<Finding>) -> Result<Remarks, AllocError>
-    ensures { IfOk result (λ x. remarks_in x ≡ remarked_by (all_found wrong.items) (all_found odd.items)) }
+    ensures { IfOk result (λ x.
+        remarks_in x ≡ remarked_by (all_found wrong.items) (all_found odd.items)) }
 {
     let status = status_by(&wrong);
     let mut found = wrong;
@@ -148,7 +150,8 @@ fn wrong_for(
 
 /// What is odd and what is suspicious in a file.
 fn odd_in(alloc: Global, bytes: &[u8], file: &File) -> Result<Vec<Finding>, AllocError>
-    ensures { IfOk result (λ found. all_found found.items ≡ odd bytes.now file.now ++ suspicions file.now) }
+    ensures { IfOk result (λ found.
+        all_found found.items ≡ odd bytes.now file.now ++ suspicions file.now) }
 {
     let mut found = odd_of(alloc, bytes, file)?;
     let mut more = suspicions_of(alloc, &Sweep::new(alloc, file)?)?;
@@ -169,7 +172,8 @@ fn as_object(file: File) -> (File, Option<ObjectFault>)
 
 /// The remarks on a file that is in these bytes.
 fn file_remarks(alloc: Global, bytes: &[u8], file: File) -> Result<Remarks, AllocError>
-    ensures { IfOk result (λ x. remarks_in x ≡ remarked_by (wrong_for (first_object_fault file) file) (odd bytes.now file ++ suspicions file)) }
+    ensures { IfOk result (λ x. remarks_in x ≡ remarked_by
+        (wrong_for (first_object_fault file) file) (odd bytes.now file ++ suspicions file)) }
 {
     let (file, refused) = as_object(file);
     let wrong = wrong_for(alloc, &file, refused)?;

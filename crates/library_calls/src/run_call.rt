@@ -47,7 +47,8 @@ fn places_if(
     session: Session,
     report: &Report,
 ) -> Result<Vec<FindingPlace>, AllocError>
-    ensures { IfOk result (λ places. places.items ≡ places_if is_placed session.forced (objects session.entries) (report_names report.now)) }
+    ensures { IfOk result (λ places. places.items
+        ≡ places_if is_placed session.forced (objects session.entries) (report_names report.now)) }
 {
     if is_placed {
         places_of(alloc, session, report)
@@ -64,8 +65,8 @@ fn result_of(
     linked: &Linked,
     replies: Vec<u8>,
 ) -> Result<RunResult, Cause>
-    ensures ok { IfOk result (λ given. results_of given
-        ≡ run_output is_placed session.forced (objects session.entries) replies.items (outcome_of linked.now)) }
+    ensures ok { IfOk result (λ given. results_of given ≡ run_output is_placed session.forced
+        (objects session.entries) replies.items (outcome_of linked.now)) }
     ensures err { IfErr result (λ cause. cause ≡ Memory) }
 {
     let Program {
@@ -93,9 +94,12 @@ fn run_kept(
     replies: Vec<u8>,
     options: &Options,
 ) -> Result<RunResult, Cause>
-    ensures ok { IfOk result (λ given. edited_run is_placed session options.now replies.items ≡ Ok (results_of given)) }
-    ensures err { IfErr result (λ cause. cause ≢ Memory → edited_run is_placed session options.now replies.items ≡ Err cause) }
-    ensures memory { IfErr result (λ cause. cause ≡ Memory → IsOk (link session.forced (objects session.entries) options.now)) }
+    ensures ok { IfOk result (λ given.
+        edited_run is_placed session options.now replies.items ≡ Ok (results_of given)) }
+    ensures err { IfErr result (λ cause. cause ≢ Memory
+        → edited_run is_placed session options.now replies.items ≡ Err cause) }
+    ensures memory { IfErr result (λ cause. cause ≡ Memory
+        → IsOk (link session.forced (objects session.entries) options.now)) }
 {
     let linked = link_kept(alloc, &session, options)?;
     result_of(alloc, is_placed, session, &linked, replies)
@@ -110,9 +114,12 @@ fn run_parts(
     forced: &Forced,
     options: &Options,
 ) -> Result<RunResult, Refusal>
-    ensures ok { IfOk result (λ given. parts_run is_placed forced.now options.now (each_of parts.now) ≡ Ok (results_of given)) }
-    ensures err { IfErr result (λ r. r.cause ≢ Memory → parts_run is_placed forced.now options.now (each_of parts.now) ≡ Err r) }
-    ensures memory { IfErr result (λ r. r.cause ≡ Memory → MayRunOutInLinkOfEach forced.now options.now (each_of parts.now) r.place) }
+    ensures ok { IfOk result (λ given.
+        parts_run is_placed forced.now options.now (each_of parts.now) ≡ Ok (results_of given)) }
+    ensures err { IfErr result (λ r. r.cause ≢ Memory
+        → parts_run is_placed forced.now options.now (each_of parts.now) ≡ Err r) }
+    ensures memory { IfErr result (λ r. r.cause ≡ Memory
+        → MayRunOutInLinkOfEach forced.now options.now (each_of parts.now) r.place) }
 {
     let mut session = Session::with_forced(alloc, forced)?;
     take_each(alloc, &mut session, parts)?;
@@ -129,12 +136,12 @@ pub fn run_link(
     is_placed: bool,
     parts: &[ObjectBytes<'_>],
 ) -> Result<RunResult, Refusal>
-    ensures ok { IfOk result (λ given. link_run is_placed request.now.options request.now.entry.now request.now.forced.now (each_of parts.now)
-        ≡ Ok (results_of given)) }
-    ensures err { IfErr result (λ r. r.cause ≢ Memory
-        → link_run is_placed request.now.options request.now.entry.now request.now.forced.now (each_of parts.now) ≡ Err r) }
-    ensures memory { IfErr result (λ r. r.cause ≡ Memory
-        → LinkOfEachMayRunOut request.now.options request.now.entry.now request.now.forced.now (each_of parts.now) r.place) }
+    ensures ok { IfOk result (λ given. link_run is_placed request.now.options request.now.entry.now
+        request.now.forced.now (each_of parts.now) ≡ Ok (results_of given)) }
+    ensures err { IfErr result (λ r. r.cause ≢ Memory → link_run is_placed request.now.options
+        request.now.entry.now request.now.forced.now (each_of parts.now) ≡ Err r) }
+    ensures memory { IfErr result (λ r. r.cause ≡ Memory → LinkOfEachMayRunOut request.now.options
+        request.now.entry.now request.now.forced.now (each_of parts.now) r.place) }
 {
     let options = tool_options(request.options, request.entry)?;
     let forced = forced_names(request.forced)?;
@@ -149,9 +156,12 @@ fn run_changes(
     forced: &Forced,
     options: &Options,
 ) -> Result<RunResult, Cause>
-    ensures ok { IfOk result (λ given. changes_run is_placed forced.now options.now (map change_of edits.items) ≡ Ok (results_of given)) }
-    ensures err { IfErr result (λ cause. cause ≢ Memory → changes_run is_placed forced.now options.now (map change_of edits.items) ≡ Err cause) }
-    ensures memory { IfErr result (λ cause. cause ≡ Memory → MayRunOutInRun forced.now options.now (map change_of edits.items)) }
+    ensures ok { IfOk result (λ given. changes_run is_placed forced.now options.now
+        (map change_of edits.items) ≡ Ok (results_of given)) }
+    ensures err { IfErr result (λ cause. cause ≢ Memory
+        → changes_run is_placed forced.now options.now (map change_of edits.items) ≡ Err cause) }
+    ensures memory { IfErr result (λ cause. cause ≡ Memory
+        → MayRunOutInRun forced.now options.now (map change_of edits.items)) }
 {
     let mut session = Session::with_forced(alloc, forced)?;
     let replies = make_edits(alloc, &mut session, edits)?;
@@ -170,12 +180,14 @@ pub fn run_session_of_parts(
     letters: &[u8],
     parts: &[ObjectBytes<'_>],
 ) -> Result<RunResult, Refusal>
-    ensures ok { IfOk result (λ given. session_run is_placed request.now.options request.now.entry.now request.now.forced.now letters.now (each_of parts.now)
+    ensures ok { IfOk result (λ given. session_run is_placed request.now.options
+        request.now.entry.now request.now.forced.now letters.now (each_of parts.now)
         ≡ Ok (results_of given)) }
-    ensures err { IfErr result (λ r. r.cause ≢ Memory
-        → session_run is_placed request.now.options request.now.entry.now request.now.forced.now letters.now (each_of parts.now) ≡ Err r) }
+    ensures err { IfErr result (λ r. r.cause ≢ Memory → session_run is_placed request.now.options
+        request.now.entry.now request.now.forced.now letters.now (each_of parts.now) ≡ Err r) }
     ensures memory { IfErr result (λ r. r.cause ≡ Memory
-        → SessionOfPartsMayRunOut request.now.options request.now.entry.now request.now.forced.now letters.now (each_of parts.now) r.place) }
+        → SessionOfPartsMayRunOut request.now.options request.now.entry.now request.now.forced.now
+        letters.now (each_of parts.now) r.place) }
 {
     let options = tool_options(request.options, request.entry)?;
     let forced = forced_names(request.forced)?;

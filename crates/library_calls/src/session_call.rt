@@ -33,9 +33,12 @@ fn link_edited(
     replies: Vec<u8>,
     options: &Options,
 ) -> Result<Ran, Cause>
-    ensures ok { IfOk result (λ ran. edited_link session.now options.now replies.items ≡ Ok (sessions_of ran)) }
-    ensures err { IfErr result (λ cause. cause ≢ Memory → edited_link session.now options.now replies.items ≡ Err cause) }
-    ensures memory { IfErr result (λ cause. cause ≡ Memory → IsOk (link session.now.forced (objects session.now.entries) options.now)) }
+    ensures ok { IfOk result (λ ran.
+        edited_link session.now options.now replies.items ≡ Ok (sessions_of ran)) }
+    ensures err { IfErr result (λ cause.
+        cause ≢ Memory → edited_link session.now options.now replies.items ≡ Err cause) }
+    ensures memory { IfErr result (λ cause. cause ≡ Memory
+        → IsOk (link session.now.forced (objects session.now.entries) options.now)) }
 {
     let linked = link_kept(alloc, session, options)?;
     let mut program = program_of(alloc, &linked)?;
@@ -50,9 +53,12 @@ fn run_edits(
     forced: &Forced,
     options: &Options,
 ) -> Result<Ran, Cause>
-    ensures ok { IfOk result (λ ran. run_of forced.now options.now (map change_of edits.items) ≡ Ok (sessions_of ran)) }
-    ensures err { IfErr result (λ cause. cause ≢ Memory → run_of forced.now options.now (map change_of edits.items) ≡ Err cause) }
-    ensures memory { IfErr result (λ cause. cause ≡ Memory → MayRunOutInRun forced.now options.now (map change_of edits.items)) }
+    ensures ok { IfOk result (λ ran.
+        run_of forced.now options.now (map change_of edits.items) ≡ Ok (sessions_of ran)) }
+    ensures err { IfErr result (λ cause. cause ≢ Memory
+        → run_of forced.now options.now (map change_of edits.items) ≡ Err cause) }
+    ensures memory { IfErr result (λ cause. cause ≡ Memory
+        → MayRunOutInRun forced.now options.now (map change_of edits.items)) }
 {
     let mut session = Session::with_forced(alloc, forced)?;
     let replies = make_edits(alloc, &mut session, edits)?;
@@ -77,11 +83,12 @@ pub fn run_session(
     letters: &[u8],
     objects: &[u8],
 ) -> Result<Ran, Refusal>
-    ensures ok { IfOk result (λ ran. session_in request.now.options request.now.entry.now request.now.forced.now letters.now objects.now ≡ Ok (sessions_of ran)) }
-    ensures err { IfErr result (λ r. r.cause ≢ Memory
-        → session_in request.now.options request.now.entry.now request.now.forced.now letters.now objects.now ≡ Err r) }
-    ensures memory { IfErr result (λ r. r.cause ≡ Memory
-        → SessionMayRunOut request.now.options request.now.entry.now request.now.forced.now letters.now objects.now r.place) }
+    ensures ok { IfOk result (λ ran. session_in request.now.options request.now.entry.now
+        request.now.forced.now letters.now objects.now ≡ Ok (sessions_of ran)) }
+    ensures err { IfErr result (λ r. r.cause ≢ Memory → session_in request.now.options
+        request.now.entry.now request.now.forced.now letters.now objects.now ≡ Err r) }
+    ensures memory { IfErr result (λ r. r.cause ≡ Memory → SessionMayRunOut request.now.options
+        request.now.entry.now request.now.forced.now letters.now objects.now r.place) }
 {
     let options = tool_options(request.options, request.entry)?;
     let forced = forced_names(request.forced)?;

@@ -62,8 +62,9 @@ fn edit_and_show(
     edits: Vec<Edit>,
     form: Form,
 ) -> Result<Shown, Cause>
-    ensures ok { IfOk result (λ shown. session.old.entries ≡ []
-        → Shows (record { form = form; forced = session.old.forced; changes = map change_of edits.items }) (states_of shown)) }
+    ensures ok { IfOk result (λ shown. session.old.entries ≡ [] → Shows
+        (record { form = form; forced = session.old.forced; changes = map change_of edits.items })
+        (states_of shown)) }
     ensures err { IfErr result (λ cause. cause ≡ Memory) }
 {
     let replies = make_edits(alloc, session, edits)?;
@@ -94,9 +95,12 @@ pub fn show_session(
     letters: &[u8],
     objects: &[u8],
 ) -> Result<Shown, Refusal>
-    ensures ok { IfOk result (λ shown. IsShown (asked_in form forced.now letters.now objects.now) (Ok (states_of shown))) }
-    ensures err { IfErr result (λ r. r.cause ≢ Memory → asked_in form forced.now letters.now objects.now ≡ Err r) }
-    ensures memory { IfErr result (λ r. r.cause ≡ Memory → StateMayRunOut form forced.now letters.now objects.now r.place) }
+    ensures ok { IfOk result (λ shown.
+        IsShown (asked_in form forced.now letters.now objects.now) (Ok (states_of shown))) }
+    ensures err { IfErr result (λ r.
+        r.cause ≢ Memory → asked_in form forced.now letters.now objects.now ≡ Err r) }
+    ensures memory { IfErr result (λ r.
+        r.cause ≡ Memory → StateMayRunOut form forced.now letters.now objects.now r.place) }
 {
     let form = form_in(form)?;
     let forced = forced_names(forced)?;

@@ -17,9 +17,12 @@ use std::alloc::Global;
 /// Adds an object, without a label.
 fn add(alloc: Global, session: &mut Session, object: Object) -> Result<(), Cause>
     ensures forced { session.new.forced ≡ session.old.forced }
-    ensures ok { IfOk result (λ _. with_object session.old.forced (objects session.old.entries) object ≡ Ok (objects session.new.entries)) }
-    ensures err { IfErr result (λ cause. cause ≢ Memory → with_object session.old.forced (objects session.old.entries) object ≡ Err cause) }
-    ensures memory { IfErr result (λ cause. cause ≡ Memory → refusal session.old.forced (objects session.old.entries) object ≡ None) }
+    ensures ok { IfOk result (λ _. with_object session.old.forced
+        (objects session.old.entries) object ≡ Ok (objects session.new.entries)) }
+    ensures err { IfErr result (λ cause. cause ≢ Memory
+        → with_object session.old.forced (objects session.old.entries) object ≡ Err cause) }
+    ensures memory { IfErr result (λ cause. cause ≡ Memory
+        → refusal session.old.forced (objects session.old.entries) object ≡ None) }
     ensures unchanged { OnErr result (session.new ≡ session.old) }
 {
     match session.add(String::new(alloc), object) {
@@ -31,10 +34,13 @@ fn add(alloc: Global, session: &mut Session, object: Object) -> Result<(), Cause
 /// Adds the object that the bytes begin with, and returns the bytes after it.
 fn take_first<'a>(alloc: Global, session: &mut Session, bytes: &'a [u8]) -> Result<&'a [u8], Cause>
     ensures forced { session.new.forced ≡ session.old.forced }
-    ensures ok { IfOk result (λ _. with_first session.old.forced (objects session.old.entries) bytes.now ≡ Ok (objects session.new.entries)) }
+    ensures ok { IfOk result (λ _. with_first session.old.forced
+        (objects session.old.entries) bytes.now ≡ Ok (objects session.new.entries)) }
     ensures after { IfOk result (λ after. after.now ≡ after_file bytes.now) }
-    ensures err { IfErr result (λ cause. cause ≢ Memory → with_first session.old.forced (objects session.old.entries) bytes.now ≡ Err cause) }
-    ensures memory { IfErr result (λ cause. cause ≡ Memory → MayRunOutForObject session.old.forced (objects session.old.entries) bytes.now) }
+    ensures err { IfErr result (λ cause. cause ≢ Memory
+        → with_first session.old.forced (objects session.old.entries) bytes.now ≡ Err cause) }
+    ensures memory { IfErr result (λ cause. cause ≡ Memory
+        → MayRunOutForObject session.old.forced (objects session.old.entries) bytes.now) }
     ensures unchanged { OnErr result (session.new ≡ session.old) }
 {
     let (object, after) = first_object(alloc, bytes)?;
@@ -49,9 +55,12 @@ pub(crate) fn take_objects(
     bytes: &[u8],
 ) -> Result<(), Refusal>
     ensures forced { session.new.forced ≡ session.old.forced }
-    ensures ok { IfOk result (λ _. with_objects session.old.forced (objects session.old.entries) bytes.now ≡ Ok (objects session.new.entries)) }
-    ensures err { IfErr result (λ r. r.cause ≢ Memory → with_objects session.old.forced (objects session.old.entries) bytes.now ≡ Err r) }
-    ensures memory { IfErr result (λ r. r.cause ≡ Memory → MayRunOutInObjects session.old.forced (objects session.old.entries) bytes.now r.place) }
+    ensures ok { IfOk result (λ _. with_objects session.old.forced
+        (objects session.old.entries) bytes.now ≡ Ok (objects session.new.entries)) }
+    ensures err { IfErr result (λ r. r.cause ≢ Memory
+        → with_objects session.old.forced (objects session.old.entries) bytes.now ≡ Err r) }
+    ensures memory { IfErr result (λ r. r.cause ≡ Memory
+        → MayRunOutInObjects session.old.forced (objects session.old.entries) bytes.now r.place) }
 {
     let mut rest = bytes;
     for _ in 0..bytes.len() {
@@ -76,9 +85,12 @@ pub(crate) fn take_each(
     parts: &[ObjectBytes<'_>],
 ) -> Result<(), Refusal>
     ensures forced { session.new.forced ≡ session.old.forced }
-    ensures ok { IfOk result (λ _. with_each session.old.forced (objects session.old.entries) (each_of parts.now) ≡ Ok (objects session.new.entries)) }
-    ensures err { IfErr result (λ r. r.cause ≢ Memory → with_each session.old.forced (objects session.old.entries) (each_of parts.now) ≡ Err r) }
-    ensures memory { IfErr result (λ r. r.cause ≡ Memory → MayRunOutInEach session.old.forced (objects session.old.entries) (each_of parts.now) r.place) }
+    ensures ok { IfOk result (λ _. with_each session.old.forced (objects session.old.entries)
+        (each_of parts.now) ≡ Ok (objects session.new.entries)) }
+    ensures err { IfErr result (λ r. r.cause ≢ Memory
+        → with_each session.old.forced (objects session.old.entries) (each_of parts.now) ≡ Err r) }
+    ensures memory { IfErr result (λ r. r.cause ≡ Memory → MayRunOutInEach session.old.forced
+        (objects session.old.entries) (each_of parts.now) r.place) }
 {
     for part in parts {
         match take_first(alloc, session, part.bytes) {

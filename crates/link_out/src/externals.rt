@@ -23,8 +23,10 @@ pub fn link_externals(
     session: &Session,
     options: &Options,
 ) -> Result<Option<Vec<Symbol>>, AllocError>
-    ensures rows { IfOk result (λ list. IfSome list (λ rows. rows.items ≡ external_rows (plan_of session.now options.now))) }
-    ensures none { IfOk result (λ list. IsNone list ↔ (65535 < (plan_of session.now options.now).at.bss_end)) }
+    ensures rows { IfOk result (λ list.
+        IfSome list (λ rows. rows.items ≡ external_rows (plan_of session.now options.now))) }
+    ensures none { IfOk result (λ list.
+        IsNone list ↔ (65535 < (plan_of session.now options.now).at.bss_end)) }
 {
     let plan = Plan::of(session, options);
     if LAST_ADDRESS < plan.bases.bss_end {

@@ -98,7 +98,8 @@ fn finals_in(
     bases: &Bases,
 ) -> Result<Vec<Final>, AllocError>
     requires { AreShort bases.now }
-    ensures { IfOk result (λ names. names.items ≡ finals_from options.now bases.now 0 (image_of session.now).externals) }
+    ensures { IfOk result (λ names.
+        names.items ≡ finals_from options.now bases.now 0 (image_of session.now).externals) }
 {
     let mut finals = Vec::with_capacity(alloc, session.external_count() as usize)?;
     let mut offset = 0;

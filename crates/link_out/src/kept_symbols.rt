@@ -52,7 +52,8 @@ fn count_kept(keep: Keep, symbols: &[Symbol]) -> usize
 
 /// How many locals of the objects are kept; `None` if these and the externals are too many for a table.
 fn count_locals(entries: &[Entry], keep: Keep, externals: u16) -> Option<u16>
-    ensures many { IsNone result ↔ IsTrue (nat_lt 5461 (kept_count keep (objects entries.now) + externals)) }
+    ensures many { IsNone result
+        ↔ IsTrue (nat_lt 5461 (kept_count keep (objects entries.now) + externals)) }
     ensures count { IfSome result (λ n. n ≡ kept_count keep (objects entries.now)) }
 {
     let mut count = 0;

@@ -102,7 +102,8 @@ impl Report {
 
     /// Writes a line for each name that is multiply defined or reserved.
     fn write_multiples<W: Write>(&self, out: &mut Wire<W>) -> Result<(), DeviceFault>
-        ensures { Writes W.contents result out.old out.new (multiple_lines (self.now.multiples.items ++ self.now.reserved.items)) }
+        ensures { Writes W.contents result out.old out.new
+            (multiple_lines (self.now.multiples.items ++ self.now.reserved.items)) }
     {
         put_names(&self.multiples, b": Multiply defined\n", out)?;
         put_names(&self.reserved, b": Multiply defined\n", out)
@@ -110,7 +111,8 @@ impl Report {
 
     /// Writes the line of the entry point and the undefined names.
     fn write_entry_and_undefined<W: Write>(&self, out: &mut Wire<W>) -> Result<(), DeviceFault>
-        ensures { Writes W.contents result out.old out.new (entry_lines self.now.entry_bad ++ undefined_lines self.now.undefined.items) }
+        ensures { Writes W.contents result out.old out.new
+            (entry_lines self.now.entry_bad ++ undefined_lines self.now.undefined.items) }
     {
         self.write_entry(out)?;
         self.write_undefined(out)
@@ -128,7 +130,8 @@ impl Report {
 
     /// Writes the undefined names, if there are any.
     fn write_undefined<W: Write>(&self, out: &mut Wire<W>) -> Result<(), DeviceFault>
-        ensures { Writes W.contents result out.old out.new (undefined_lines self.now.undefined.items) }
+        ensures { Writes W.contents result out.old out.new
+            (undefined_lines self.now.undefined.items) }
     {
         let names = self.undefined.as_slice();
         if names.is_empty() {

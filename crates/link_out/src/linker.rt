@@ -37,7 +37,8 @@ pub const LAST_ADDRESS: u64 = 65_535;
 /// over 4,095; `Memory`, 4, if memory runs out for file and report.
 pub fn finish(alloc: Global, session: &Session, options: &Options) -> Result<Linked, LinkFault>
     ensures value { IsLinkOf result (link_of session.now options.now) }
-    ensures object { options.now.relocatable ≡ true → IfOk result (λ linked. IsWellFormed linked.file) }
+    ensures object { options.now.relocatable ≡ true
+        → IfOk result (λ linked. IsWellFormed linked.file) }
 {
     // the layout: where each segment begins, with the commons before bss
     let plan = Plan::of(session, options);

@@ -96,7 +96,8 @@ fn relocs_of_cells(
     locals: u16,
 ) -> Result<Vec<Reloc>, AllocError>
     requires { any_too_large finals.now locals cells.now ≡ false }
-    ensures { IfOk result (λ relocs. relocs.items ≡ map (reloc_of_cell finals.now locals) cells.now) }
+    ensures { IfOk result (λ relocs.
+        relocs.items ≡ map (reloc_of_cell finals.now locals) cells.now) }
 {
     let mut relocs = Vec::with_capacity(alloc, cells.len())?;
     for cell in cells {
@@ -114,7 +115,8 @@ fn kept_relocs(
     locals: u16,
 ) -> Result<Vec<Reloc>, AllocError>
     requires { options.now.relocatable ≡ true → any_too_large finals.now locals cells.now ≡ false }
-    ensures { IfOk result (λ relocs. relocs.items ≡ kept_relocs options.now finals.now locals cells.now) }
+    ensures { IfOk result (λ relocs.
+        relocs.items ≡ kept_relocs options.now finals.now locals cells.now) }
 {
     if options.is_relocatable() {
         relocs_of_cells(alloc, cells, finals, locals)

@@ -60,7 +60,8 @@ fn text_address(last: &Final) -> Option<u16>
 
 /// The address of a name that is an external and bound to text.
 fn address_in_text(session: &Session, finals: &[Final], name: &Name) -> Option<u16>
-    ensures { result ≡ text_address_at finals.now (position (bytes_eq name.now) (externals session.now.forced (objects session.now.entries))) }
+    ensures { result ≡ text_address_at finals.now (position (bytes_eq name.now)
+        (externals session.now.forced (objects session.now.entries))) }
 {
     let index = session.find(name)?;
     text_address(finals.get(index as usize)?)

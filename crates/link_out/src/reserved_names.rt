@@ -72,7 +72,8 @@ fn state_of(session: &Session, name: &Name) -> State
 
 /// Appends a name if it is defined, or a common.
 fn put_if_taken(names: &mut Vec<Name>, session: &Session, name: Name) -> Result<(), AllocError>
-    ensures { OnOk result (names.new.items ≡ names.old.items ++ taken_among (mentions_of session.now) (name ∷ [])) }
+    ensures { OnOk result
+        (names.new.items ≡ names.old.items ++ taken_among (mentions_of session.now) (name ∷ [])) }
 {
     if !is_undefined(state_of(session, &name)) {
         names.push(name)?;

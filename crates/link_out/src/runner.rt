@@ -22,7 +22,8 @@ use tool_options::Options;
 #[tactic(auto, using(crate::proofs::RunLemmas::by_edit))]
 fn add_or_refuse(session: &mut Session, label: String, object: Object) -> Result<Reply, AllocError>
     ensures done { IfOk result (IsDone session.old session.new (addition (labelled label object))) }
-    ensures within { IfErr result (λ _. refusal session.old.forced (objects session.old.entries) object ≡ None) }
+    ensures within { IfErr result (λ _.
+        refusal session.old.forced (objects session.old.entries) object ≡ None) }
     ensures same { IfErr result (λ _. session.new ≡ session.old) }
 {
     let Err(refused) = session.add(label, object) else {
@@ -51,7 +52,8 @@ fn withdraw_last(session: &mut Session) -> Reply
 /// Errors: `AllocError` if memory runs out for an addition that is accepted. The session is then as it was.
 pub fn reply_to(session: &mut Session, edit: Edit) -> Result<Reply, AllocError>
     ensures done { IfOk result (λ reply. IsDone session.old session.new (change_of edit) reply) }
-    ensures accepted { IfErr result (λ _. answer_to session.old.forced session.old.entries (change_of edit) ≡ added) }
+    ensures accepted { IfErr result (λ _.
+        answer_to session.old.forced session.old.entries (change_of edit) ≡ added) }
     ensures same { IfErr result (λ _. session.new ≡ session.old) }
 {
     match edit {
@@ -68,9 +70,11 @@ fn put_reply(
     replies: &mut Option<Vec<Reply>>,
 ) -> Result<(), AllocError>
     requires { HasCapacity 1 replies.old }
-    ensures replied { IfOk result (λ done. IsReplied session.old session.new (change_of edit) replies.old replies.new) }
+    ensures replied { IfOk result (λ done.
+        IsReplied session.old session.new (change_of edit) replies.old replies.new) }
     ensures capacity { (n : ℕ) → HasCapacity (1 + n) replies.old → HasCapacity n replies.new }
-    ensures accepted { IfErr result (λ _. answer_to session.old.forced session.old.entries (change_of edit) ≡ added) }
+    ensures accepted { IfErr result (λ _.
+        answer_to session.old.forced session.old.entries (change_of edit) ≡ added) }
     ensures same { IfErr result (λ _. session.new ≡ session.old) }
 {
     let reply = reply_to(session, edit)?;
@@ -88,7 +92,8 @@ fn replies_to(
     edits: Vec<Edit>,
 ) -> Result<Option<Vec<Reply>>, AllocError>
     ensures done { IfOk result (AreDone session.old session.new (map change_of edits.items)) }
-    ensures stopped { IfErr result (λ _. StopsAmong session.old session.new (map change_of edits.items)) }
+    ensures stopped { IfErr result (λ _.
+        StopsAmong session.old session.new (map change_of edits.items)) }
 {
     let mut replies = Vec::with_capacity(alloc, edits.len()).ok();
     for edit in edits {
@@ -123,7 +128,8 @@ fn run_on(
     options: &Options,
 ) -> Result<(Vec<Reply>, Linked), RunFault>
     ensures value { IsRunFrom session.old (map change_of edits.items) options.now result }
-    ensures memory { result ≡ Err run_faults.Memory → RunsOut session.old session.new (map change_of edits.items) options.now }
+    ensures memory { result ≡ Err run_faults.Memory
+        → RunsOut session.old session.new (map change_of edits.items) options.now }
     ensures object { options.now.relocatable ≡ true → IfOk result (λ run. IsWellFormed run.1.file) }
 {
     let replies = replies_to(alloc, session, edits)?;
@@ -143,7 +149,8 @@ pub fn run(
     edits: Vec<Edit>,
     options: &Options,
 ) -> Result<(Vec<Reply>, Linked), RunFault>
-    ensures value { let made = map change_of edits.items in IsRunOf result (answers forced.now made) (link_after forced.now made options.now) }
+    ensures value { let made = map change_of edits.items
+        in IsRunOf result (answers forced.now made) (link_after forced.now made options.now) }
     ensures object { options.now.relocatable ≡ true → IfOk result (λ run. IsWellFormed run.1.file) }
 {
     let mut session = Session::with_forced(alloc, forced)?;

@@ -48,7 +48,8 @@ fn is_too_large(session: &Session, commons: bool, locals: u16, target: Target) -
 
 /// Whether one of the cells would need a number over 4,095.
 fn is_any_too_large(session: &Session, commons: bool, locals: u16, cells: &[Cell]) -> bool
-    ensures { result ≡ list_any (λ (c : Cell). is_too_large (image_of session.now).externals commons locals c.target) cells.now }
+    ensures { result ≡ list_any (λ (c : Cell).
+        is_too_large (image_of session.now).externals commons locals c.target) cells.now }
 {
     cells
         .iter()

@@ -86,7 +86,8 @@ fn kept_locals(
     keep: Keep,
     bases: &Bases,
 ) -> Result<Vec<Symbol>, AllocError>
-    ensures { IfOk result (λ rows. rows.items ≡ rows_from bases.now keep no_starts (objects entries.now)) }
+    ensures { IfOk result (λ rows.
+        rows.items ≡ rows_from bases.now keep no_starts (objects entries.now)) }
 {
     let mut rows = Vec::new(alloc);
     let mut starts = Starts::first();
@@ -126,7 +127,8 @@ pub(crate) fn put_externals(
     session: &Session,
     finals: &[Final],
 ) -> Result<(), AllocError>
-    ensures { OnOk result (rows.new.items ≡ rows.old.items ++ rows_with (image_of session.now).externals finals.now) }
+    ensures { OnOk result
+        (rows.new.items ≡ rows.old.items ++ rows_with (image_of session.now).externals finals.now) }
 {
     for ((name, _), last) in session.externals().zip(finals) {
         rows.push(row_for(name, last))?;

@@ -78,7 +78,8 @@ fn words_of_cells(
     bases: &Bases,
     finals: &[Final],
 ) -> Result<Vec<u16>, AllocError>
-    ensures { IfOk result (λ words. words.items ≡ map (word_of_cell bases.now finals.now segment) cells.now) }
+    ensures { IfOk result (λ words.
+        words.items ≡ map (word_of_cell bases.now finals.now segment) cells.now) }
 {
     let mut words = vec![in alloc; 0u16; cells.len()]?;
     fill_words(&mut words, cells, segment, bases, finals);

@@ -28,7 +28,8 @@ fn bind_cell(
     definition: Definition,
 ) -> Result<(), AllocError>
     requires { IsPlaceIn image.old place }
-    ensures ok { OnOk result (BindsAt definition place image.old image.new marks.old.items marks.new.items) }
+    ensures ok { OnOk result
+        (BindsAt definition place image.old image.new marks.old.items marks.new.items) }
     ensures err { OnErr result ((image.new ≡ image.old) × (marks.new.items ≡ marks.old.items)) }
 {
     let cell = image.cell_at(place);

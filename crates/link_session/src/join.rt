@@ -80,7 +80,8 @@ fn reserve_names(
     ensures marks { marks.new.items ≡ marks.old.items }
     ensures names_space { OnOk result (count ≤ spare externals.new) }
     ensures heads_space { OnOk result (vec_len heads.new + count ≤ vec_capacity heads.new) }
-    ensures multiples_space { OnOk result (vec_len multiples.new + count ≤ vec_capacity multiples.new) }
+    ensures multiples_space { OnOk result
+        (vec_len multiples.new + count ≤ vec_capacity multiples.new) }
     ensures marks_space { OnOk result (vec_len marks.new + count ≤ vec_capacity marks.new) }
 {
     heads.reserve(count)?;
@@ -99,16 +100,25 @@ fn reserve_all(
     ensures image { image_in image.new ≡ image_in image.old }
     ensures threads { threads_in image.new ≡ threads_in image.old }
     ensures marks { marks.new.items ≡ marks.old.items }
-    ensures text { OnOk result (vec_len image.new.text_cells + length file.now.text_words ≤ vec_capacity image.new.text_cells) }
-    ensures datas { OnOk result (vec_len image.new.data_cells + length file.now.data_words ≤ vec_capacity image.new.data_cells) }
-    ensures text_links { OnOk result (vec_len image.new.text_links + length file.now.text_words ≤ vec_capacity image.new.text_links) }
-    ensures data_links { OnOk result (vec_len image.new.data_links + length file.now.data_words ≤ vec_capacity image.new.data_links) }
-    ensures heads { OnOk result (vec_len image.new.heads + length (filter is_external file.now.symbols) ≤ vec_capacity image.new.heads) }
-    ensures names { OnOk result (length (filter is_external file.now.symbols) ≤ spare image.new.externals) }
-    ensures multiples { OnOk result (vec_len image.new.multiples + length (filter is_external file.now.symbols) ≤ vec_capacity image.new.multiples) }
-    ensures states { OnOk result (vec_len marks.new + length (filter is_external file.now.symbols) ≤ vec_capacity marks.new) }
+    ensures text { OnOk result (vec_len image.new.text_cells + length file.now.text_words
+        ≤ vec_capacity image.new.text_cells) }
+    ensures datas { OnOk result (vec_len image.new.data_cells + length file.now.data_words
+        ≤ vec_capacity image.new.data_cells) }
+    ensures text_links { OnOk result (vec_len image.new.text_links + length file.now.text_words
+        ≤ vec_capacity image.new.text_links) }
+    ensures data_links { OnOk result (vec_len image.new.data_links + length file.now.data_words
+        ≤ vec_capacity image.new.data_links) }
+    ensures heads { OnOk result (vec_len image.new.heads
+        + length (filter is_external file.now.symbols) ≤ vec_capacity image.new.heads) }
+    ensures names { OnOk result
+        (length (filter is_external file.now.symbols) ≤ spare image.new.externals) }
+    ensures multiples { OnOk result (vec_len image.new.multiples
+        + length (filter is_external file.now.symbols) ≤ vec_capacity image.new.multiples) }
+    ensures states { OnOk result (vec_len marks.new + length (filter is_external file.now.symbols)
+        ≤ vec_capacity marks.new) }
     ensures places { places.new.items ≡ places.old.items }
-    ensures places_space { OnOk result (vec_len places.new + length file.now.symbols ≤ vec_capacity places.new) }
+    ensures places_space { OnOk result
+        (vec_len places.new + length file.now.symbols ≤ vec_capacity places.new) }
 {
     let entries = count_external(file.symbols());
     let text = file.text_words().len();
@@ -132,13 +142,18 @@ fn append_object(image: &mut Merged, file: &File, shifts: &Shifts, places: &[u16
     requires places { places.now ≡ all_places image.old.externals.entries file.now.symbols }
     requires text_small { length image.old.text_links.items ≤ 32767 }
     requires data_small { length image.old.data_links.items ≤ 32767 }
-    requires text_space { vec_len image.old.text_cells + length file.now.text_words ≤ vec_capacity image.old.text_cells }
-    requires data_space { vec_len image.old.data_cells + length file.now.data_words ≤ vec_capacity image.old.data_cells }
-    requires text_links_space { vec_len image.old.text_links + length file.now.text_words ≤ vec_capacity image.old.text_links }
-    requires data_links_space { vec_len image.old.data_links + length file.now.data_words ≤ vec_capacity image.old.data_links }
+    requires text_space { vec_len image.old.text_cells + length file.now.text_words
+        ≤ vec_capacity image.old.text_cells }
+    requires data_space { vec_len image.old.data_cells + length file.now.data_words
+        ≤ vec_capacity image.old.data_cells }
+    requires text_links_space { vec_len image.old.text_links + length file.now.text_words
+        ≤ vec_capacity image.old.text_links }
+    requires data_links_space { vec_len image.old.data_links + length file.now.data_words
+        ≤ vec_capacity image.old.data_links }
     requires heads_space { length image.old.externals.entries ≤ vec_capacity image.old.heads }
     ensures image { image_in image.new ≡ with_own_cells (image_in image.old) file.now shifts.now }
-    ensures threads { threads_in image.new ≡ with_own_threads (image_in image.old) file.now shifts.now (threads_in image.old) }
+    ensures threads { threads_in image.new
+        ≡ with_own_threads (image_in image.old) file.now shifts.now (threads_in image.old) }
 {
     let bss_size = file.header().bss_size;
     let names = image.externals.len();
@@ -181,11 +196,16 @@ pub(crate) fn take_in(
     ensures entries { entries.new.items ≡ entries.old.items }
     ensures undo_records { undo_records.new.items ≡ undo_records.old.items }
     ensures entries_space { OnOk result (vec_len entries.new < vec_capacity entries.new) }
-    ensures undo_records_space { OnOk result (vec_len undo_records.new < vec_capacity undo_records.new) }
-    ensures image { OnOk result (image_in image.new ≡ joined_image (image_in image.old) object.now) }
-    ensures threads { OnOk result (threads_in image.new ≡ next_threads (image_in image.old) object.now (threads_in image.old)) }
-    ensures marks { IfOk result (λ marks. TakesBack (image_in image.old) object.now (threads_in image.old).heads marks.items) }
-    ensures err { OnErr result ((image_in image.new ≡ image_in image.old) × (threads_in image.new ≡ threads_in image.old)) }
+    ensures undo_records_space { OnOk result
+        (vec_len undo_records.new < vec_capacity undo_records.new) }
+    ensures image { OnOk result
+        (image_in image.new ≡ joined_image (image_in image.old) object.now) }
+    ensures threads { OnOk result (threads_in image.new
+        ≡ next_threads (image_in image.old) object.now (threads_in image.old)) }
+    ensures marks { IfOk result (λ marks.
+        TakesBack (image_in image.old) object.now (threads_in image.old).heads marks.items) }
+    ensures err { OnErr result ((image_in image.new ≡ image_in image.old)
+        × (threads_in image.new ≡ threads_in image.old)) }
 {
     entries.reserve(1)?;
     undo_records.reserve(1)?;

@@ -46,7 +46,8 @@ fn contains(externals: &Externals, name: &Name) -> bool
 
 /// Whether a symbol is the first to mention its name, after these externals and these symbols.
 fn is_new(externals: &Externals, before: &[Symbol], symbol: &Symbol) -> bool
-    ensures { result ≡ (is_external symbol.now && not (is_among (keys_of externals.now.entries ++ external_names before.now) symbol.now.name)) }
+    ensures { result ≡ (is_external symbol.now && not
+        (is_among (keys_of externals.now.entries ++ external_names before.now) symbol.now.name)) }
 {
     symbol.is_external() && !(contains(externals, &symbol.name) || mentions(before, &symbol.name))
 }
@@ -77,7 +78,8 @@ fn enter_name(names: &mut Externals, name: Name)
 /// Enters the name that a symbol adds to these externals, if it adds one. There is space for it.
 fn enter_new(fresh: &mut Externals, externals: &Externals, symbol: &Symbol)
     requires { 0 < spare fresh.old }
-    ensures names { keys_of fresh.new.entries ≡ with_new (keys_of externals.now.entries) (keys_of fresh.old.entries) symbol.now }
+    ensures names { keys_of fresh.new.entries
+        ≡ with_new (keys_of externals.now.entries) (keys_of fresh.old.entries) symbol.now }
     ensures left { spare fresh.old ≤ spare fresh.new + 1 }
 {
     if symbol.is_external() && !contains(externals, &symbol.name) {
@@ -115,7 +117,8 @@ fn count_new(externals: &Externals, symbols: &[Symbol], alloc: Global) -> usize
 /// Whether the names would be too many. They are counted only if there are so many symbols that they could be.
 fn names_full(externals: &Externals, symbols: &[Symbol], alloc: Global) -> bool
     requires { 12 * length symbols.now < 2 ^ 16 }
-    ensures { result ≡ nat_lt 65535 (length externals.now.entries + new_count (keys_of externals.now.entries) symbols.now) }
+    ensures { result ≡ nat_lt 65535
+        (length externals.now.entries + new_count (keys_of externals.now.entries) symbols.now) }
 {
     let known = externals.len();
     MOST_NAMES < known + symbols.len() && MOST_NAMES < known + count_new(externals, symbols, alloc)

@@ -63,7 +63,8 @@ fn definition(segment: Segment, value: u16, shifts: &Shifts) -> State
 fn note_state(marks: &mut Vec<Mark>, kept: usize, place: usize, was: State, says: State)
     requires small { kept ≤ 65535 }
     requires space { vec_len marks.old < vec_capacity marks.old }
-    ensures marks { marks.new.items ≡ marks.old.items ++ cond (nat_lt place kept && changes was says) (Mark.StateWas place was ∷ []) [] }
+    ensures marks { marks.new.items ≡ marks.old.items
+        ++ cond (nat_lt place kept && changes was says) (Mark.StateWas place was ∷ []) [] }
     ensures len { vec_len marks.new ≤ vec_len marks.old + 1 }
     ensures capacity { vec_capacity marks.old ≤ vec_capacity marks.new }
 {
@@ -75,7 +76,8 @@ fn note_state(marks: &mut Vec<Mark>, kept: usize, place: usize, was: State, says
 /// Notes a name that is defined again, and differently. There is space for it.
 fn note_clash(multiples: &mut Vec<Name>, name: Name, was: State, says: State)
     requires { vec_len multiples.old < vec_capacity multiples.old }
-    ensures names { multiples.new.items ≡ multiples.old.items ++ cond (clashes was says) (name ∷ []) [] }
+    ensures names { multiples.new.items
+        ≡ multiples.old.items ++ cond (clashes was says) (name ∷ []) [] }
     ensures len { vec_len multiples.new ≤ vec_len multiples.old + 1 }
     ensures capacity { vec_capacity multiples.old ≤ vec_capacity multiples.new }
 {
@@ -90,7 +92,8 @@ fn update(externals: &mut Externals, name: Name, says: State) -> (usize, State)
     ensures place { result.0 ≡ place_in externals.old.entries name }
     ensures within { result.0 ≤ length externals.old.entries }
     ensures state { result.1 ≡ state_for externals.old.entries name }
-    ensures names { externals.new.entries ≡ with_mention externals.old.entries (mention_of name says) }
+    ensures names { externals.new.entries
+        ≡ with_mention externals.old.entries (mention_of name says) }
     ensures left { spare externals.old ≤ spare externals.new + 1 }
 {
     let (place, known) = externals.insert_full(name, says).unwrap();
@@ -106,7 +109,8 @@ fn update(externals: &mut Externals, name: Name, says: State) -> (usize, State)
 /// Mentions a name. There is space for it.
 pub(crate) fn mention(externals: &mut Externals, name: Name, says: State)
     requires { 0 < spare externals.old }
-    ensures names { externals.new.entries ≡ with_mention externals.old.entries (mention_of name says) }
+    ensures names { externals.new.entries
+        ≡ with_mention externals.old.entries (mention_of name says) }
     ensures left { spare externals.old ≤ spare externals.new + 1 }
 {
     let _place = update(externals, name, says);
@@ -116,9 +120,12 @@ pub(crate) fn mention(externals: &mut Externals, name: Name, says: State)
 fn plain_mention(externals: &Externals, claim: &Claim) -> Option<usize>
     ensures place { IfSome result (λ place. place ≡ place_in externals.now.entries claim.now.name) }
     ensures within { IfSome result (λ place. place < length externals.now.entries) }
-    ensures names { IfSome result (λ _. with_mention externals.now.entries (mention_of claim.now.name claim.now.says) ≡ externals.now.entries) }
-    ensures multiples { IfSome result (λ _. clash externals.now.entries (mention_of claim.now.name claim.now.says) ≡ []) }
-    ensures marks { IfSome result (λ _. (kept : ℕ) → state_mark kept externals.now.entries (mention_of claim.now.name claim.now.says) ≡ []) }
+    ensures names { IfSome result (λ _. with_mention externals.now.entries
+        (mention_of claim.now.name claim.now.says) ≡ externals.now.entries) }
+    ensures multiples { IfSome result (λ _.
+        clash externals.now.entries (mention_of claim.now.name claim.now.says) ≡ []) }
+    ensures marks { IfSome result (λ _. (kept : ℕ)
+        → state_mark kept externals.now.entries (mention_of claim.now.name claim.now.says) ≡ []) }
 {
     match claim.says {
         State::Wanted(0) => externals.get_index_of(&claim.name),
@@ -141,9 +148,12 @@ fn enter(
     requires multiples_space { vec_len multiples.old < vec_capacity multiples.old }
     requires marks_space { vec_len marks.old < vec_capacity marks.old }
     ensures place { result ≡ place_in externals.old.entries claim.name }
-    ensures names { externals.new.entries ≡ with_mention externals.old.entries (mention_of claim.name claim.says) }
-    ensures multiples { multiples.new.items ≡ multiples.old.items ++ clash externals.old.entries (mention_of claim.name claim.says) }
-    ensures marks { marks.new.items ≡ marks.old.items ++ state_mark kept externals.old.entries (mention_of claim.name claim.says) }
+    ensures names { externals.new.entries
+        ≡ with_mention externals.old.entries (mention_of claim.name claim.says) }
+    ensures multiples { multiples.new.items
+        ≡ multiples.old.items ++ clash externals.old.entries (mention_of claim.name claim.says) }
+    ensures marks { marks.new.items ≡ marks.old.items
+        ++ state_mark kept externals.old.entries (mention_of claim.name claim.says) }
     ensures names_left { spare externals.old ≤ spare externals.new + 1 }
     ensures multiples_len { vec_len multiples.new ≤ vec_len multiples.old + 1 }
     ensures multiples_capacity { vec_capacity multiples.old ≤ vec_capacity multiples.new }
@@ -176,16 +186,24 @@ pub(crate) fn enter_all(
     places: &mut Vec<u16>,
     table: &Table<'_>,
 )
-    requires names { length (with_mentions externals.old.entries (mentions_by table.now.shifts table.now.symbols.now)) ≤ 65535 }
+    requires names { length
+        (with_mentions externals.old.entries (mentions_by table.now.shifts table.now.symbols.now))
+        ≤ 65535 }
     requires names_space { length (filter is_external table.now.symbols.now) ≤ spare externals.old }
-    requires multiples_space { vec_len multiples.old + length (filter is_external table.now.symbols.now) ≤ vec_capacity multiples.old }
-    requires marks_space { vec_len marks.old + length (filter is_external table.now.symbols.now) ≤ vec_capacity marks.old }
-    requires places_space { vec_len places.old + length table.now.symbols.now ≤ vec_capacity places.old }
-    ensures names { externals.new.entries ≡ with_mentions externals.old.entries (mentions_by table.now.shifts table.now.symbols.now) }
-    ensures multiples { multiples.new.items ≡ multiples.old.items ++ all_clashes externals.old.entries (mentions_by table.now.shifts table.now.symbols.now) }
-    ensures marks { marks.new.items ≡ marks.old.items
-        ++ state_marks (length externals.old.entries) externals.old.entries (mentions_by table.now.shifts table.now.symbols.now) }
-    ensures places { places.new.items ≡ places.old.items ++ all_places externals.new.entries table.now.symbols.now }
+    requires multiples_space { vec_len multiples.old
+        + length (filter is_external table.now.symbols.now) ≤ vec_capacity multiples.old }
+    requires marks_space { vec_len marks.old + length (filter is_external table.now.symbols.now)
+        ≤ vec_capacity marks.old }
+    requires places_space { vec_len places.old + length table.now.symbols.now
+        ≤ vec_capacity places.old }
+    ensures names { externals.new.entries
+        ≡ with_mentions externals.old.entries (mentions_by table.now.shifts table.now.symbols.now) }
+    ensures multiples { multiples.new.items ≡ multiples.old.items
+        ++ all_clashes externals.old.entries (mentions_by table.now.shifts table.now.symbols.now) }
+    ensures marks { marks.new.items ≡ marks.old.items ++ state_marks (length externals.old.entries)
+        externals.old.entries (mentions_by table.now.shifts table.now.symbols.now) }
+    ensures places { places.new.items
+        ≡ places.old.items ++ all_places externals.new.entries table.now.symbols.now }
 {
     let kept = externals.len();
     for symbol in table.symbols {

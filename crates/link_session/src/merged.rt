@@ -76,7 +76,8 @@ impl Merged {
 
     /// The cell at a place.
     pub(crate) fn cell_at(&self, place: Place) -> Cell
-        requires { IsWithin (length self.now.text_cells.items) (length self.now.data_cells.items) place }
+        requires { IsWithin (length self.now.text_cells.items)
+            (length self.now.data_cells.items) place }
         ensures { result ≡ cell_at self.now.text_cells.items self.now.data_cells.items place }
     {
         match place {

@@ -149,7 +149,8 @@ fn name_reference(externals: &Externals, place: u16) -> (u16, Target)
 
 /// What a relocation word adds to its word, and the target.
 fn reference(scope: &Scope<'_>, reloc: Reloc) -> (u16, Target)
-    ensures { result ≡ placed_reference scope.now.externals.now.entries scope.now.places.now scope.now.shifts (symbol_number reloc) (kind_of reloc) }
+    ensures { result ≡ placed_reference scope.now.externals.now.entries scope.now.places.now
+        scope.now.shifts (symbol_number reloc) (kind_of reloc) }
 {
     let shifts = scope.shifts;
     match reloc.kind() {
@@ -165,7 +166,8 @@ fn reference(scope: &Scope<'_>, reloc: Reloc) -> (u16, Target)
 
 /// The cell of a word in a segment that has this shift.
 fn own_cell(scope: &Scope<'_>, own_shift: u16, word: u16, reloc: Reloc) -> Cell
-    ensures { result ≡ placed_cell scope.now.externals.now.entries scope.now.places.now scope.now.shifts own_shift word reloc }
+    ensures { result ≡ placed_cell scope.now.externals.now.entries scope.now.places.now
+        scope.now.shifts own_shift word reloc }
 {
     let (offset, target) = reference(scope, reloc);
     let pc = reloc.is_pc();
@@ -215,8 +217,10 @@ fn fill_cells(
     requires unlinked { (k : ℕ) → slice_index_or links.old k None ≡ None }
     requires small { before + length own.now.words.now ≤ 65535 }
     ensures cells { cells.new ≡ own_placed scope.now own.now }
-    ensures links { links.new ≡ (threaded (place_at own.now.segment) before (own_placed scope.now own.now) heads.old).0 }
-    ensures heads { heads.new ≡ (threaded (place_at own.now.segment) before (own_placed scope.now own.now) heads.old).1 }
+    ensures links { links.new
+        ≡ (threaded (place_at own.now.segment) before (own_placed scope.now own.now) heads.old).0 }
+    ensures heads { heads.new
+        ≡ (threaded (place_at own.now.segment) before (own_placed scope.now own.now) heads.old).1 }
 {
     let own_shift = scope.shifts.of(own.segment);
     for (i, word) in own.words.iter().enumerate() {
@@ -241,8 +245,10 @@ pub(crate) fn append_cells(
     requires space { vec_len cells.old + length own.now.words.now ≤ vec_capacity cells.old }
     requires links_space { vec_len links.old + length own.now.words.now ≤ vec_capacity links.old }
     ensures cells { cells.new.items ≡ cells.old.items ++ own_placed scope.now own.now }
-    ensures links { links.new.items ≡ links.old.items ++ (own_threaded own.now (own_placed scope.now own.now) links.old.items heads.old).0 }
-    ensures heads { heads.new ≡ (own_threaded own.now (own_placed scope.now own.now) links.old.items heads.old).1 }
+    ensures links { links.new.items ≡ links.old.items
+        ++ (own_threaded own.now (own_placed scope.now own.now) links.old.items heads.old).0 }
+    ensures heads { heads.new
+        ≡ (own_threaded own.now (own_placed scope.now own.now) links.old.items heads.old).1 }
 {
     let empty = Cell {
         value: 0,

@@ -76,7 +76,8 @@ impl Model for Session {
 /// Mentions the forced names. There is space for them.
 fn force_names(externals: &mut Externals, names: &[Name])
     requires { length names.now ≤ spare externals.old }
-    ensures { externals.new.entries ≡ with_mentions externals.old.entries (map forced_mention names.now) }
+    ensures { externals.new.entries
+        ≡ with_mentions externals.old.entries (map forced_mention names.now) }
 {
     for name in names {
         mention(externals, *name, State::Wanted(0));
@@ -91,7 +92,8 @@ fn enter_forced(
 ) -> Result<(), AllocError>
     requires no_names { externals.old.entries ≡ [] }
     requires no_heads { heads.old.items ≡ [] }
-    ensures names { OnOk result (externals.new.entries ≡ with_mentions [] (map forced_mention names.now)) }
+    ensures names { OnOk result
+        (externals.new.entries ≡ with_mentions [] (map forced_mention names.now)) }
     ensures heads { OnOk result (heads.new.items ≡ replicate (length externals.new.entries) None) }
     ensures none { names.now ≡ [] → IsOk result }
 {
@@ -151,11 +153,14 @@ impl Session {
     /// 65,534 bytes in all; `NamesFull`, 4, if there would be more than 65,535 externals; `Memory`, 5, if memory
     /// runs out for the object's cells, names and marks. Then nothing changes, and label and object are handed back.
     pub fn add(&mut self, label: String, object: Object) -> Result<(), AddRefused>
-        ensures fits { OnOk result (refusal self.old.forced (objects self.old.entries) object ≡ None) }
+        ensures fits { OnOk result
+            (refusal self.old.forced (objects self.old.entries) object ≡ None) }
         ensures added { OnOk result (Adds self.old self.new (labelled label object)) }
-        ensures cause { IfErr result (λ refused. IsCause (refusal self.old.forced (objects self.old.entries) object) refused.cause) }
+        ensures cause { IfErr result (λ refused.
+            IsCause (refusal self.old.forced (objects self.old.entries) object) refused.cause) }
         ensures unchanged { OnErr result (self.new ≡ self.old) }
-        ensures handed_back { IfErr result (λ refused. (refused.label ≡ label) × (refused.object ≡ object)) }
+        ensures handed_back { IfErr result (λ refused.
+            (refused.label ≡ label) × (refused.object ≡ object)) }
     {
         if let Some(cause) = limit_passed(&self.image, &object, self.alloc) {
             return Err(AddRefused {
@@ -193,7 +198,8 @@ impl Session {
     /// others. `None` if no object is there. (own choice)
     pub fn withdraw(&mut self) -> Option<(String, Object)>
         ensures none { IsNone result → (self.old.entries ≡ []) × (self.new ≡ self.old) }
-        ensures last { IfSome result (λ last. Withdraws self.old self.new (labelled last.0 last.1)) }
+        ensures last { IfSome result (λ last.
+            Withdraws self.old self.new (labelled last.0 last.1)) }
     {
         let entry = self.entries.pop()?;
         let undo_record = self.undo_records.pop().unwrap();
@@ -263,7 +269,8 @@ impl Session {
 
     /// The index of an external name; `None` if nothing mentions it. (ld(1))
     pub fn find(&self, name: &Name) -> Option<u16>
-        ensures { result ≡ position (bytes_eq name.now) (externals self.now.forced (objects self.now.entries)) }
+        ensures { result
+            ≡ position (bytes_eq name.now) (externals self.now.forced (objects self.now.entries)) }
     {
         match self.image.externals.get_index_of(name) {
             Some(index) => Some(index as u16),

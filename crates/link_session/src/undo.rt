@@ -14,7 +14,8 @@ use crate::state::State;
 fn unthread_after(image: &mut Merged, sizes: &Sizes)
     requires within { HasAtLeast sizes.now (image_in image.old) (threads_in image.old) }
     ensures image { image_in image.new ≡ image_in image.old }
-    ensures threads { threads_in image.new ≡ unthreaded_after sizes.now (image_in image.old) (threads_in image.old) }
+    ensures threads { threads_in image.new
+        ≡ unthreaded_after sizes.now (image_in image.old) (threads_in image.old) }
 {
     unthread(
         &image.data_cells[sizes.data_cells..],
@@ -31,8 +32,10 @@ fn unthread_after(image: &mut Merged, sizes: &Sizes)
 /// Cuts the image to its earlier sizes. What is cut leaves its chains.
 fn cut(image: &mut Merged, sizes: &Sizes)
     requires within { HasAtLeast sizes.now (image_in image.old) (threads_in image.old) }
-    ensures image { (before : Image) → sizes.now ≡ sizes_of before → image_in image.new ≡ cut_to before (image_in image.old) }
-    ensures threads { threads_in image.new ≡ threads_by sizes.now (image_in image.old) (threads_in image.old) }
+    ensures image { (before : Image) → sizes.now ≡ sizes_of before
+        → image_in image.new ≡ cut_to before (image_in image.old) }
+    ensures threads { threads_in image.new
+        ≡ threads_by sizes.now (image_in image.old) (threads_in image.old) }
 {
     unthread_after(image, sizes);
     image.text_cells.truncate(sizes.text_cells);
@@ -84,8 +87,10 @@ fn put_state(externals: &mut Externals, index: u16, state: State)
 /// mark first. It is handed no object, and takes no memory.
 pub(crate) fn undo(image: &mut Merged, marks: &[Mark], sizes: &Sizes)
     requires within { HasAtLeast sizes.now (image_in image.old) (threads_in image.old) }
-    ensures image { (before : Image) → sizes.now ≡ sizes_of before → image_in image.new ≡ undo marks.now (image_in image.old) before }
-    ensures threads { threads_in image.new ≡ with_heads_back marks.now (threads_by sizes.now (image_in image.old) (threads_in image.old)) }
+    ensures image { (before : Image) → sizes.now ≡ sizes_of before
+        → image_in image.new ≡ undo marks.now (image_in image.old) before }
+    ensures threads { threads_in image.new ≡ with_heads_back marks.now
+        (threads_by sizes.now (image_in image.old) (threads_in image.old)) }
 {
     cut(image, sizes);
     for i in 0..marks.len() {

@@ -9,8 +9,10 @@ use std::alloc::{AllocError, Global};
 /// Withdraws the last object, and returns how many definitions in it differ from the first of their name.
 fn withdraw_last(session: &mut Session) -> usize
     ensures forced { session.new.forced ≡ session.old.forced }
-    ensures entries { session.new.entries ≡ take (length session.old.entries - 1) session.old.entries }
-    ensures count { result ≡ differing session.old.forced (objects session.old.entries) - differing session.new.forced (objects session.new.entries) }
+    ensures entries { session.new.entries
+        ≡ take (length session.old.entries - 1) session.old.entries }
+    ensures count { result ≡ differing session.old.forced (objects session.old.entries)
+        - differing session.new.forced (objects session.new.entries) }
 {
     let count = session.multiples().len();
     session.withdraw();
@@ -30,7 +32,8 @@ fn put_times(numbers: &mut Vec<usize>, number: usize, times: usize) -> Result<()
 /// The number of the object of each definition that differs from the first of its name, in the order of the definitions. An error: out of
 /// memory.
 pub(crate) fn further_objects(alloc: Global, all: Session) -> Result<Vec<usize>, AllocError>
-    ensures { IfOk result (λ numbers. numbers.items ≡ further_objects all.forced (objects all.entries)) }
+    ensures { IfOk result (λ numbers.
+        numbers.items ≡ further_objects all.forced (objects all.entries)) }
 {
     let mut session = all;
     let mut numbers = Vec::new(alloc);

@@ -80,7 +80,8 @@ fn placed_with(
     names: &[Name],
     numbers: &[usize],
 ) -> Result<Vec<FindingPlace>, AllocError>
-    ensures { IfOk result (λ places. places.items ≡ map (λ p. indexed_place index.now p.0 p.1) (zip names.now numbers.now)) }
+    ensures { IfOk result (λ places.
+        places.items ≡ map (λ p. indexed_place index.now p.0 p.1) (zip names.now numbers.now)) }
 {
     names
         .iter()
@@ -109,7 +110,8 @@ fn all_placed(
     report: &Report,
     numbers: &[usize],
 ) -> Result<Vec<FindingPlace>, AllocError>
-    ensures { IfOk result (λ places. places.items ≡ indexed_places index.now numbers.now (report_names report.now)) }
+    ensures { IfOk result (λ places.
+        places.items ≡ indexed_places index.now numbers.now (report_names report.now)) }
 {
     let mut places = placed_with(alloc, index, &report.multiples, numbers)?;
     places.extend_from_slice(&placed(alloc, index, &report.reserved)?)?;
@@ -126,7 +128,8 @@ pub fn places_of(
     session: Session,
     report: &Report,
 ) -> Result<Vec<FindingPlace>, AllocError>
-    ensures { IfOk result (λ places. places.items ≡ finding_places session.forced (objects session.entries) (report_names report.now)) }
+    ensures { IfOk result (λ places. places.items
+        ≡ finding_places session.forced (objects session.entries) (report_names report.now)) }
 {
     let index = index_of(alloc, session.entries())?;
     let numbers = further_objects(alloc, session)?;

@@ -74,7 +74,8 @@ fn outside_in(findings: &Findings, at: &Suspect<'_>, target: u16) -> Text
 fn within_in(findings: &Findings, at: &Suspect<'_>, target: u16, start: usize) -> Text
     requires inside { at.now.start < length at.now.sweep.now.text_words }
     requires before { start < 32768 }
-    ensures { Holds result (within_in at.now.sweep.now at.now.start target start at.now.trust.is_sure) }
+    ensures { Holds result
+        (within_in at.now.sweep.now at.now.start target start at.now.trust.is_sure) }
 {
     let _words = at.sweep.file().text_words();
     let address = (2 * at.start) as u32;
@@ -125,7 +126,8 @@ fn entered(at: &Suspect<'_>, place: usize) -> Option<usize>
 fn find_entry(findings: &mut Findings, at: &Suspect<'_>, target: u16)
     requires inside { at.now.start < length at.now.sweep.now.text_words }
     requires sure { (i : ℕ) → get_or at.now.sure.now i false ≡ is_sure at.now.sweep.now i }
-    ensures { Finds findings.old findings.new (suspicious_entry at.now.sweep.now at.now.trust at.now.start target (entered at.now.sweep.now (target / 2))) }
+    ensures { Finds findings.old findings.new (suspicious_entry at.now.sweep.now at.now.trust
+        at.now.start target (entered at.now.sweep.now (target / 2))) }
 {
     if let Some(start) = entered(at, usize::from(target / 2)) {
         let text = within_in(findings, at, target, start);
@@ -137,7 +139,8 @@ fn find_entry(findings: &mut Findings, at: &Suspect<'_>, target: u16)
 fn find_target(findings: &mut Findings, at: &Suspect<'_>, target: u16)
     requires inside { at.now.start < length at.now.sweep.now.text_words }
     requires sure { (i : ℕ) → get_or at.now.sure.now i false ≡ is_sure at.now.sweep.now i }
-    ensures { Finds findings.old findings.new (suspicious_target at.now.sweep.now at.now.trust at.now.start target) }
+    ensures { Finds findings.old findings.new
+        (suspicious_target at.now.sweep.now at.now.trust at.now.start target) }
 {
     if usize::from(target) > 2 * at.sweep.file().text_words().len() {
         let text = outside_in(findings, at, target);
@@ -151,7 +154,8 @@ fn find_target(findings: &mut Findings, at: &Suspect<'_>, target: u16)
 pub(crate) fn find_branch(findings: &mut Findings, at: &Suspect<'_>, target: Option<u16>)
     requires inside { at.now.start < length at.now.sweep.now.text_words }
     requires sure { (i : ℕ) → get_or at.now.sure.now i false ≡ is_sure at.now.sweep.now i }
-    ensures { Finds findings.old findings.new (suspicious_branch at.now.sweep.now at.now.trust at.now.start target) }
+    ensures { Finds findings.old findings.new
+        (suspicious_branch at.now.sweep.now at.now.trust at.now.start target) }
 {
     if let Some(target) = target {
         if at.trust.is_likely() {

@@ -46,7 +46,8 @@ fn note(marks: &mut [bool], found: &mut Vec<usize>, place: usize) -> Result<(), 
 /// Notes the place of an address, if it is new.
 fn visit(marks: &mut [bool], found: &mut Vec<usize>, address: Option<u16>) -> Result<(), AllocError>
     requires { AreMarks marks.old found.old.items }
-    ensures found { OnOk result (found.new.items ≡ visited (length marks.old) found.old.items address) }
+    ensures found { OnOk result
+        (found.new.items ≡ visited (length marks.old) found.old.items address) }
     ensures marks { OnOk result (AreMarks marks.new found.new.items) }
     ensures same { length marks.new ≡ length marks.old }
 {
@@ -65,7 +66,8 @@ fn visit_all(
     addresses: &[Option<u16>],
 ) -> Result<(), AllocError>
     requires { AreMarks marks.old found.old.items }
-    ensures found { OnOk result (found.new.items ≡ visited_all (length marks.old) found.old.items addresses.now) }
+    ensures found { OnOk result
+        (found.new.items ≡ visited_all (length marks.old) found.old.items addresses.now) }
     ensures marks { OnOk result (AreMarks marks.new found.new.items) }
     ensures same { length marks.new ≡ length marks.old }
 {
@@ -98,7 +100,8 @@ fn visit_symbols(
     symbols: &[Symbol],
 ) -> Result<(), AllocError>
     requires { AreMarks marks.old found.old.items }
-    ensures found { OnOk result (found.new.items ≡ visited_all (length marks.old) found.old.items (map (named file.now) symbols.now)) }
+    ensures found { OnOk result (found.new.items
+        ≡ visited_all (length marks.old) found.old.items (map (named file.now) symbols.now)) }
     ensures marks { OnOk result (AreMarks marks.new found.new.items) }
     ensures same { length marks.new ≡ length marks.old }
 {
@@ -178,7 +181,8 @@ fn visit_distances(
     sweep: &Sweep<'_>,
 ) -> Result<(), AllocError>
     requires { AreMarks marks.old found.old.items }
-    ensures found { OnOk result (found.new.items ≡ visited_all (length marks.old) found.old.items (evident Distances sweep.now)) }
+    ensures found { OnOk result (found.new.items
+        ≡ visited_all (length marks.old) found.old.items (evident Distances sweep.now)) }
     ensures marks { OnOk result (AreMarks marks.new found.new.items) }
     ensures same { length marks.new ≡ length marks.old }
 {
@@ -224,7 +228,8 @@ fn visit_leads(
 ) -> Result<(), AllocError>
     requires inside { place < length sweep.now.text_words }
     requires marks { AreMarks marks.old found.old.items }
-    ensures found { OnOk result (found.new.items ≡ visited_all (length marks.old) found.old.items (leads_to evidence sweep.now place)) }
+    ensures found { OnOk result (found.new.items
+        ≡ visited_all (length marks.old) found.old.items (leads_to evidence sweep.now place)) }
     ensures marks { OnOk result (AreMarks marks.new found.new.items) }
     ensures same { length marks.new ≡ length marks.old }
 {
@@ -255,7 +260,8 @@ fn spread(
 ) -> Result<(), AllocError>
     requires all { length marks.old ≡ length sweep.now.text_words }
     requires marks { AreMarks marks.old found.old.items }
-    ensures found { OnOk result (found.new.items ≡ spread evidence sweep.now (length sweep.now.text_words) 0 found.old.items) }
+    ensures found { OnOk result (found.new.items
+        ≡ spread evidence sweep.now (length sweep.now.text_words) 0 found.old.items) }
     ensures marks { OnOk result (AreMarks marks.new found.new.items) }
 {
     for next in 0..sweep.file().text_words().len() {
@@ -270,7 +276,8 @@ fn spread(
 
 /// For each word of a file's text, whether its symbols show that it is reached. An error: out of memory. (own choice)
 pub fn reached_places(alloc: Global, sweep: &Sweep<'_>) -> Result<Vec<bool>, AllocError>
-    ensures { IfOk result (λ marks. (place : ℕ) → get_or marks.items place false ≡ is_reached Symbols sweep.now place) }
+    ensures { IfOk result (λ marks. (place : ℕ)
+        → get_or marks.items place false ≡ is_reached Symbols sweep.now place) }
 {
     let file = sweep.file();
     let mut marks = vec![in alloc; false; file.text_words().len()]?;
@@ -282,7 +289,8 @@ pub fn reached_places(alloc: Global, sweep: &Sweep<'_>) -> Result<Vec<bool>, All
 
 /// For each word of a file's text, whether its distances show that it is reached. An error: out of memory. (own choice)
 pub fn sure_places(alloc: Global, sweep: &Sweep<'_>) -> Result<Vec<bool>, AllocError>
-    ensures { IfOk result (λ marks. (place : ℕ) → get_or marks.items place false ≡ is_reached Distances sweep.now place) }
+    ensures { IfOk result (λ marks. (place : ℕ)
+        → get_or marks.items place false ≡ is_reached Distances sweep.now place) }
 {
     let mut marks = vec![in alloc; false; sweep.file().text_words().len()]?;
     let mut found = Vec::new(alloc);

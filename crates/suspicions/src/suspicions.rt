@@ -65,7 +65,8 @@ fn pc_bit_text(findings: &Findings, address: u32, is_set: bool, is_sure: bool) -
 /// The same of a word at a place of a line, with the instruction.
 fn pc_bit_in(findings: &Findings, at: &Suspect<'_>, place: usize, is_set: bool) -> Text
     requires { place < 2 ^ 20 }
-    ensures { Holds result (pc_bit_in at.now.sweep.now at.now.start place is_set at.now.trust.is_reached) }
+    ensures { Holds result
+        (pc_bit_in at.now.sweep.now at.now.start place is_set at.now.trust.is_reached) }
 {
     let mut text = pc_bit_text(findings, (2 * place) as u32, is_set, at.trust.is_reached);
     put_instruction(&mut text, at.sweep.named(), at.start);
@@ -100,7 +101,8 @@ fn may_begin(file: &File, place: usize) -> bool
 /// Adds a plain word, if it is relocated.
 fn find_first(findings: &mut Findings, at: &Suspect<'_>)
     requires { at.now.start < length at.now.sweep.now.text_words }
-    ensures { Finds findings.old findings.new (suspicious_first at.now.sweep.now at.now.trust.is_reached at.now.start) }
+    ensures { Finds findings.old findings.new
+        (suspicious_first at.now.sweep.now at.now.trust.is_reached at.now.start) }
 {
     let file = at.sweep.file();
     let _words = file.text_words();
@@ -118,7 +120,8 @@ fn find_first(findings: &mut Findings, at: &Suspect<'_>)
 
 /// Whether a relocation word has a pc bit that does not suit its operand.
 fn is_unsuitable(reloc: Reloc, addressing: Addressing) -> bool
-    ensures { result ≡ (is_relocated (Some reloc) && differ (is_pc_relative reloc) (counts_from_pc addressing)) }
+    ensures { result
+        ≡ (is_relocated (Some reloc) && differ (is_pc_relative reloc) (counts_from_pc addressing)) }
 {
     is_relocated(Some(reloc)) && reloc.is_pc() != counts_from_pc(addressing)
 }
@@ -126,7 +129,9 @@ fn is_unsuitable(reloc: Reloc, addressing: Addressing) -> bool
 /// Adds an operand word at a place whose pc bit does not suit its operand.
 fn find_bit(findings: &mut Findings, at: &Suspect<'_>, place: usize, addressing: Addressing)
     requires { place < 2 ^ 20 }
-    ensures { Finds findings.old findings.new (suspicious_bit at.now.sweep.now at.now.trust.is_reached at.now.start place addressing (slice_get at.now.sweep.now.text_reloc place)) }
+    ensures { Finds findings.old findings.new
+        (suspicious_bit at.now.sweep.now at.now.trust.is_reached at.now.start place addressing
+        (slice_get at.now.sweep.now.text_reloc place)) }
 {
     let file = at.sweep.file();
     let Some(reloc) = reloc_at(file, place) else {
@@ -141,7 +146,8 @@ fn find_bit(findings: &mut Findings, at: &Suspect<'_>, place: usize, addressing:
 /// Adds what is suspicious of an operand; its word, if it has one, is at a place.
 fn find_operand(findings: &mut Findings, at: &Suspect<'_>, place: usize, operand: Option<Operand>)
     requires { place < 2 ^ 20 }
-    ensures { Finds findings.old findings.new (suspicious_operand at.now.sweep.now at.now.trust.is_reached at.now.start place operand) }
+    ensures { Finds findings.old findings.new
+        (suspicious_operand at.now.sweep.now at.now.trust.is_reached at.now.start place operand) }
 {
     let Some(Operand::General(mode, register)) = operand else {
         return;
@@ -195,7 +201,8 @@ fn find_lack(findings: &mut Findings, at: &Suspect<'_>, word: u16)
 /// Adds what is suspicious of a plain word.
 fn find_plain(findings: &mut Findings, at: &Suspect<'_>, word: u16)
     requires { at.now.start < length at.now.sweep.now.text_words }
-    ensures { Finds findings.old findings.new (suspicious_plain at.now.sweep.now at.now.trust at.now.start word) }
+    ensures { Finds findings.old findings.new
+        (suspicious_plain at.now.sweep.now at.now.trust at.now.start word) }
 {
     if is_relocated(reloc_at(at.sweep.file(), at.start)) {
         find_first(findings, at);
@@ -207,9 +214,10 @@ fn find_plain(findings: &mut Findings, at: &Suspect<'_>, word: u16)
 /// Adds what is suspicious of the operand words of an instruction.
 fn find_operands(findings: &mut Findings, at: &Suspect<'_>, instruction: &Instruction)
     requires { at.now.start < 2 ^ 19 }
-    ensures { Finds findings.old findings.new
-        (suspicious_operand at.now.sweep.now at.now.trust.is_reached at.now.start (at.now.start + 1) instruction.now.first
-        ++ suspicious_operand at.now.sweep.now at.now.trust.is_reached at.now.start (at.now.start + 1 + word_count_of instruction.now.first) instruction.now.second) }
+    ensures { Finds findings.old findings.new (suspicious_operand at.now.sweep.now
+        at.now.trust.is_reached at.now.start (at.now.start + 1) instruction.now.first
+        ++ suspicious_operand at.now.sweep.now at.now.trust.is_reached at.now.start
+        (at.now.start + 1 + word_count_of instruction.now.first) instruction.now.second) }
 {
     let place = at.start + 1;
     find_operand(findings, at, place, instruction.first);
@@ -225,9 +233,10 @@ fn find_operands(findings: &mut Findings, at: &Suspect<'_>, instruction: &Instru
 fn find_branches(findings: &mut Findings, at: &Suspect<'_>, instruction: &Instruction)
     requires inside { at.now.start < length at.now.sweep.now.text_words }
     requires sure { (i : ℕ) → get_or at.now.sure.now i false ≡ is_sure at.now.sweep.now i }
-    ensures { Finds findings.old findings.new
-        (suspicious_branch at.now.sweep.now at.now.trust at.now.start (branch_of (2 * at.now.start) instruction.now.first)
-        ++ suspicious_branch at.now.sweep.now at.now.trust at.now.start (branch_of (2 * at.now.start) instruction.now.second)) }
+    ensures { Finds findings.old findings.new (suspicious_branch at.now.sweep.now at.now.trust
+        at.now.start (branch_of (2 * at.now.start) instruction.now.first)
+        ++ suspicious_branch at.now.sweep.now at.now.trust at.now.start
+        (branch_of (2 * at.now.start) instruction.now.second)) }
 {
     let _words = at.sweep.file().text_words();
     let address = (2 * at.start) as u16;
@@ -239,7 +248,8 @@ fn find_branches(findings: &mut Findings, at: &Suspect<'_>, instruction: &Instru
 fn find_line(findings: &mut Findings, at: &Suspect<'_>)
     requires inside { at.now.start < length at.now.sweep.now.text_words }
     requires sure { (i : ℕ) → get_or at.now.sure.now i false ≡ is_sure at.now.sweep.now i }
-    ensures { Finds findings.old findings.new (suspicious_at at.now.sweep.now at.now.trust at.now.start) }
+    ensures { Finds findings.old findings.new
+        (suspicious_at at.now.sweep.now at.now.trust at.now.start) }
 {
     let _words = at.sweep.file().text_words();
     match at.sweep.line_at(at.start) {
@@ -264,9 +274,11 @@ struct Marked<'a> {
 
 /// How far it is sure that the line at a place is an instruction, if going back from it a sure line comes before a plain word, or not.
 fn trust_at(marked: &Marked<'_>, before: bool, place: usize) -> Trust
-    requires reached { (i : ℕ) → get_or marked.now.reached.now i false ≡ is_reached Symbols marked.now.sweep.now i }
+    requires reached { (i : ℕ)
+        → get_or marked.now.reached.now i false ≡ is_reached Symbols marked.now.sweep.now i }
     requires sure { (i : ℕ) → get_or marked.now.sure.now i false ≡ is_sure marked.now.sweep.now i }
-    requires ahead { (i : ℕ) → get_or marked.now.ahead.now i false ≡ sure_ahead marked.now.sweep.now i (drop i marked.now.sweep.now.text_words) }
+    requires ahead { (i : ℕ) → get_or marked.now.ahead.now i false
+        ≡ sure_ahead marked.now.sweep.now i (drop i marked.now.sweep.now.text_words) }
     ensures { result ≡ trust marked.now.sweep.now before place }
 {
     let is_sure = is_marked(marked.sure, place);
@@ -280,11 +292,14 @@ fn trust_at(marked: &Marked<'_>, before: bool, place: usize) -> Trust
 /// Adds what is suspicious at a place.
 fn find_place(findings: &mut Findings, marked: &Marked<'_>, before: bool, place: usize)
     requires inside { place < length marked.now.sweep.now.text_words }
-    requires reached { (i : ℕ) → get_or marked.now.reached.now i false ≡ is_reached Symbols marked.now.sweep.now i }
+    requires reached { (i : ℕ)
+        → get_or marked.now.reached.now i false ≡ is_reached Symbols marked.now.sweep.now i }
     requires sure { (i : ℕ) → get_or marked.now.sure.now i false ≡ is_sure marked.now.sweep.now i }
-    requires ahead { (i : ℕ) → get_or marked.now.ahead.now i false ≡ sure_ahead marked.now.sweep.now i (drop i marked.now.sweep.now.text_words) }
+    requires ahead { (i : ℕ) → get_or marked.now.ahead.now i false
+        ≡ sure_ahead marked.now.sweep.now i (drop i marked.now.sweep.now.text_words) }
     ensures { Finds findings.old findings.new
-        (suspicious_place marked.now.sweep.now (trust marked.now.sweep.now before place) (is_start (starts Unix marked.now.sweep.now) place) place) }
+        (suspicious_place marked.now.sweep.now (trust marked.now.sweep.now before place)
+        (is_start (starts Unix marked.now.sweep.now) place) place) }
 {
     let trust = trust_at(marked, before, place);
     if trust.is_reached || marked.sweep.is_start(place) {
@@ -308,9 +323,11 @@ fn before_next(marked: &Marked<'_>, before: bool, place: usize) -> bool
 
 /// Adds what is suspicious at each place.
 fn find_places(findings: &mut Findings, marked: &Marked<'_>)
-    requires reached { (i : ℕ) → get_or marked.now.reached.now i false ≡ is_reached Symbols marked.now.sweep.now i }
+    requires reached { (i : ℕ)
+        → get_or marked.now.reached.now i false ≡ is_reached Symbols marked.now.sweep.now i }
     requires sure { (i : ℕ) → get_or marked.now.sure.now i false ≡ is_sure marked.now.sweep.now i }
-    requires ahead { (i : ℕ) → get_or marked.now.ahead.now i false ≡ sure_ahead marked.now.sweep.now i (drop i marked.now.sweep.now.text_words) }
+    requires ahead { (i : ℕ) → get_or marked.now.ahead.now i false
+        ≡ sure_ahead marked.now.sweep.now i (drop i marked.now.sweep.now.text_words) }
     ensures { Finds findings.old findings.new (suspicions marked.now.sweep.now) }
 {
     let words = marked.sweep.file().text_words();

@@ -61,7 +61,8 @@ pub(crate) fn sure_ahead(
     sure: &[bool],
 ) -> Result<Vec<bool>, AllocError>
     requires { (i : ℕ) → get_or sure.now i false ≡ spec.is_sure sweep.now i }
-    ensures { IfOk result (λ ahead. (i : ℕ) → get_or ahead.items i false ≡ spec.sure_ahead sweep.now i (drop i sweep.now.text_words)) }
+    ensures { IfOk result (λ ahead. (i : ℕ)
+        → get_or ahead.items i false ≡ spec.sure_ahead sweep.now i (drop i sweep.now.text_words)) }
 {
     let mut ahead = vec![in alloc; false; sweep.file().text_words().len()]?;
     let mut place = ahead.len();

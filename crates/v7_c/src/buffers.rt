@@ -102,8 +102,9 @@ fn leave_both<T: Copy>(
     report: &mut [T],
     answer: &mut Answer,
 ) -> u32
-    ensures { link_left result answer.new buffer.new report.new
-        ≡ output_left (Ok (record { status = both.now.status; file = both.now.bytes.now; report = both.now.more.now })) buffer.old report.old }
+    ensures { link_left result answer.new buffer.new report.new ≡ output_left (Ok
+        (record { status = both.now.status; file = both.now.bytes.now; report = both.now.more.now }))
+        buffer.old report.old }
 {
     let size = both.bytes.len();
     let report_size = both.more.len();
@@ -124,7 +125,8 @@ fn leave_program(
     report: &mut [u8],
     answer: &mut Answer,
 ) -> u32
-    ensures { link_left result answer.new buffer.new report.new ≡ output_left (Ok (outputs_of program.now)) buffer.old report.old }
+    ensures { link_left result answer.new buffer.new report.new
+        ≡ output_left (Ok (outputs_of program.now)) buffer.old report.old }
 {
     let both = Both {
         status: program.status,
@@ -141,7 +143,8 @@ pub(crate) fn leave_output(
     report: &mut [u8],
     answer: &mut Answer,
 ) -> u32
-    ensures { link_left result answer.new buffer.new report.new ≡ output_left (outputs_or program) buffer.old report.old }
+    ensures { link_left result answer.new buffer.new report.new
+        ≡ output_left (outputs_or program) buffer.old report.old }
 {
     match program {
         Ok(program) => leave_program(&program, buffer, report, answer),
@@ -159,7 +162,8 @@ fn leave_found(
     findings: &mut [ReportedName],
     answer: &mut Answer,
 ) -> u32
-    ensures { link_left result answer.new buffer.new findings.new ≡ output_left (Ok (founds_of found.now)) buffer.old findings.old }
+    ensures { link_left result answer.new buffer.new findings.new
+        ≡ output_left (Ok (founds_of found.now)) buffer.old findings.old }
 {
     let both = Both {
         status: found.status,
@@ -176,7 +180,8 @@ pub(crate) fn leave_findings(
     findings: &mut [ReportedName],
     answer: &mut Answer,
 ) -> u32
-    ensures { link_left result answer.new buffer.new findings.new ≡ output_left (founds_or found) buffer.old findings.old }
+    ensures { link_left result answer.new buffer.new findings.new
+        ≡ output_left (founds_or found) buffer.old findings.old }
 {
     match found {
         Ok(found) => leave_found(&found, buffer, findings, answer),
@@ -194,7 +199,8 @@ fn leave_all_remarks(
     records: &mut [RemarkRecord],
     answer: &mut Answer,
 ) -> u32
-    ensures { link_left result answer.new texts.new records.new ≡ output_left (Ok (remarks_in remarks.now)) texts.old records.old }
+    ensures { link_left result answer.new texts.new records.new
+        ≡ output_left (Ok (remarks_in remarks.now)) texts.old records.old }
 {
     let both = Both {
         status: remarks.status,
@@ -211,7 +217,8 @@ pub(crate) fn leave_remarks(
     records: &mut [RemarkRecord],
     answer: &mut Answer,
 ) -> u32
-    ensures { link_left result answer.new texts.new records.new ≡ output_left (remarks_or remarks) texts.old records.old }
+    ensures { link_left result answer.new texts.new records.new
+        ≡ output_left (remarks_or remarks) texts.old records.old }
 {
     match remarks {
         Ok(remarks) => leave_all_remarks(&remarks, texts, records, answer),
@@ -230,7 +237,8 @@ fn leave_ran(
     report: &mut [u8],
     answer: &mut Answer,
 ) -> u32
-    ensures { session_left (link_left result answer.new buffer.new report.new) replies.new ≡ ran_left (Ok (sessions_of ran.now)) replies.old buffer.old report.old }
+    ensures { session_left (link_left result answer.new buffer.new report.new) replies.new
+        ≡ ran_left (Ok (sessions_of ran.now)) replies.old buffer.old report.old }
 {
     let size = ran.program.file.len();
     let report_size = ran.program.report.len();
@@ -253,7 +261,8 @@ pub(crate) fn leave_session(
     report: &mut [u8],
     answer: &mut Answer,
 ) -> u32
-    ensures { session_left (link_left result answer.new buffer.new report.new) replies.new ≡ ran_left (sessions_or ran) replies.old buffer.old report.old }
+    ensures { session_left (link_left result answer.new buffer.new report.new) replies.new
+        ≡ ran_left (sessions_or ran) replies.old buffer.old report.old }
 {
     match ran {
         Ok(ran) => leave_ran(&ran, replies, buffer, report, answer),
@@ -266,7 +275,8 @@ pub(crate) fn leave_session(
 
 /// Writes the state of a session and the replies into the buffers, if both fit.
 fn leave_shown(shown: &Shown, buffer: &mut [u8], replies: &mut [u8], answer: &mut Answer) -> u32
-    ensures { link_left result answer.new buffer.new replies.new ≡ state_left (Ok (states_of shown.now)) buffer.old replies.old }
+    ensures { link_left result answer.new buffer.new replies.new
+        ≡ state_left (Ok (states_of shown.now)) buffer.old replies.old }
 {
     let both = Both {
         status: shown.status,
@@ -283,7 +293,8 @@ pub(crate) fn leave_state(
     replies: &mut [u8],
     answer: &mut Answer,
 ) -> u32
-    ensures { link_left result answer.new buffer.new replies.new ≡ state_left (states_or shown) buffer.old replies.old }
+    ensures { link_left result answer.new buffer.new replies.new
+        ≡ state_left (states_or shown) buffer.old replies.old }
 {
     match shown {
         Ok(shown) => leave_shown(&shown, buffer, replies, answer),
@@ -314,8 +325,8 @@ fn leave_lists(
     symbols: &mut [SymbolRow],
     answer: &mut Answer,
 ) -> u32
-    ensures { parts_left result answer.new (counts_of (pieces_in parts.now)) text.new data_words.new symbols.new
-        ≡ apart_left (Ok (pieces_in parts.now)) text.old data_words.old symbols.old }
+    ensures { parts_left result answer.new (counts_of (pieces_in parts.now)) text.new data_words.new
+        symbols.new ≡ apart_left (Ok (pieces_in parts.now)) text.old data_words.old symbols.old }
 {
     if text.len() < parts.text.len()
         || data_words.len() < parts.data.len()
@@ -339,7 +350,8 @@ pub(crate) fn leave_parts(
     symbols: &mut [SymbolRow],
     answer: &mut Answer,
 ) -> (u32, Counts)
-    ensures { parts_left result.0 answer.new result.1 text.new data_words.new symbols.new ≡ apart_left (pieces_or parts) text.old data_words.old symbols.old }
+    ensures { parts_left result.0 answer.new result.1 text.new data_words.new symbols.new
+        ≡ apart_left (pieces_or parts) text.old data_words.old symbols.old }
 {
     match parts {
         Ok(parts) => {
@@ -368,7 +380,8 @@ pub(crate) fn leave_file(
     symbols: &mut [SymbolRow],
     answer: &mut Answer,
 ) -> (u32, Counts)
-    ensures { file_left header.new (parts_left result.0 answer.new result.1 text.new data_words.new symbols.new)
+    ensures { file_left header.new
+        (parts_left result.0 answer.new result.1 text.new data_words.new symbols.new)
         ≡ read_left (wholes_or file) text.old data_words.old symbols.old }
 {
     match file {

@@ -47,7 +47,8 @@ pub extern "C" fn v7_version() -> u32
 /// Checks an object, and gives how many bytes it takes.
 #[unsafe(no_mangle)]
 pub extern "C" fn v7_check(alloc: Global, bytes: &[u8], answer: &mut Answer) -> u32
-    ensures value { answer.new.fault ≢ 50 → left result answer.new [] ≡ counted_by (checked_in bytes.now) }
+    ensures value { answer.new.fault ≢ 50
+        → left result answer.new [] ≡ counted_by (checked_in bytes.now) }
     ensures memory { answer.new.fault ≡ 50 → left result answer.new [] ≡ no_bytes [] }
     ensures ran_out { answer.new.fault ≡ 50 → HasBody bytes.now }
 {
@@ -57,7 +58,8 @@ pub extern "C" fn v7_check(alloc: Global, bytes: &[u8], answer: &mut Answer) -> 
 /// Strips a file.
 #[unsafe(no_mangle)]
 pub extern "C" fn v7_strip(alloc: Global, bytes: &[u8], room: &mut [u8], answer: &mut Answer) -> u32
-    ensures value { answer.new.fault ≢ 50 → left result answer.new room.new ≡ left_by (stripped_in bytes.now) room.old }
+    ensures value { answer.new.fault ≢ 50
+        → left result answer.new room.new ≡ left_by (stripped_in bytes.now) room.old }
     ensures memory { answer.new.fault ≡ 50 → left result answer.new room.new ≡ no_bytes room.old }
     ensures ran_out { answer.new.fault ≡ 50 → IsOk (stripped_in bytes.now) }
 {
@@ -73,7 +75,8 @@ pub extern "C" fn v7_nm(
     room: &mut [u8],
     answer: &mut Answer,
 ) -> u32
-    ensures value { answer.new.fault ≢ 50 → left result answer.new room.new ≡ left_by (names_in options bytes.now) room.old }
+    ensures value { answer.new.fault ≢ 50
+        → left result answer.new room.new ≡ left_by (names_in options bytes.now) room.old }
     ensures memory { answer.new.fault ≡ 50 → left result answer.new room.new ≡ no_bytes room.old }
     ensures ran_out { answer.new.fault ≡ 50 → IsOk (names_in options bytes.now) }
 {
@@ -87,7 +90,8 @@ pub extern "C" fn v7_nm(
 /// Writes the line of size for a file.
 #[unsafe(no_mangle)]
 pub extern "C" fn v7_size(alloc: Global, bytes: &[u8], room: &mut [u8], answer: &mut Answer) -> u32
-    ensures value { answer.new.fault ≢ 50 → left result answer.new room.new ≡ left_by (sizes_in bytes.now) room.old }
+    ensures value { answer.new.fault ≢ 50
+        → left result answer.new room.new ≡ left_by (sizes_in bytes.now) room.old }
     ensures memory { answer.new.fault ≡ 50 → left result answer.new room.new ≡ no_bytes room.old }
     ensures ran_out { answer.new.fault ≡ 50 → IsOk (sizes_in bytes.now) }
 {
@@ -102,7 +106,8 @@ pub extern "C" fn v7_disassemble(
     room: &mut [u8],
     answer: &mut Answer,
 ) -> u32
-    ensures value { answer.new.fault ≢ 50 → left result answer.new room.new ≡ left_by (disassembled_in bytes.now) room.old }
+    ensures value { answer.new.fault ≢ 50
+        → left result answer.new room.new ≡ left_by (disassembled_in bytes.now) room.old }
     ensures memory { answer.new.fault ≡ 50 → left result answer.new room.new ≡ no_bytes room.old }
     ensures ran_out { answer.new.fault ≡ 50 → IsOk (disassembled_in bytes.now) }
 {
@@ -118,7 +123,8 @@ pub extern "C" fn v7_disassemble_words(
     room: &mut [u8],
     answer: &mut Answer,
 ) -> u32
-    ensures value { answer.new.fault ≢ 50 → left result answer.new room.new ≡ left_by (Ok (plain_disassembly address words.now)) room.old }
+    ensures value { answer.new.fault ≢ 50 → left result answer.new room.new
+        ≡ left_by (Ok (plain_disassembly address words.now)) room.old }
     ensures memory { answer.new.fault ≡ 50 → left result answer.new room.new ≡ no_bytes room.old }
     ensures ran_out { answer.new.fault ≡ 50 → words.now ≢ [] }
 {
@@ -132,7 +138,8 @@ pub extern "C" fn v7_disassemble_words(
 /// Lists a file.
 #[unsafe(no_mangle)]
 pub extern "C" fn v7_list(alloc: Global, bytes: &[u8], room: &mut [u8], answer: &mut Answer) -> u32
-    ensures value { answer.new.fault ≢ 50 → left result answer.new room.new ≡ left_by (listed_in bytes.now) room.old }
+    ensures value { answer.new.fault ≢ 50
+        → left result answer.new room.new ≡ left_by (listed_in bytes.now) room.old }
     ensures memory { answer.new.fault ≡ 50 → left result answer.new room.new ≡ no_bytes room.old }
     ensures ran_out { answer.new.fault ≡ 50 → IsOk (listed_in bytes.now) }
 {
@@ -147,8 +154,10 @@ pub extern "C" fn v7_from_listing(
     room: &mut [u8],
     answer: &mut Answer,
 ) -> u32
-    ensures value { answer.new.fault ≢ 50 → left result answer.new room.new ≡ left_at (described_in text.now) room.old }
-    ensures memory { answer.new.fault ≡ 50 → left result answer.new room.new ≡ no_bytes_at answer.new.place room.old }
+    ensures value { answer.new.fault ≢ 50
+        → left result answer.new room.new ≡ left_at (described_in text.now) room.old }
+    ensures memory { answer.new.fault ≡ 50
+        → left result answer.new room.new ≡ no_bytes_at answer.new.place room.old }
     ensures ran_out { answer.new.fault ≡ 50 → DescribedMayRunOut text.now answer.new.place }
 {
     leave_bytes_at(library_calls::from_listing(alloc, text), room, answer)
@@ -163,9 +172,12 @@ pub extern "C" fn v7_from_gnu(
     room: &mut [u8],
     answer: &mut Answer,
 ) -> u32
-    ensures value { answer.new.fault ≢ 50 → left result answer.new room.new ≡ left_at (converted_in options bytes.now) room.old }
-    ensures memory { answer.new.fault ≡ 50 → left result answer.new room.new ≡ no_bytes_at answer.new.place room.old }
-    ensures ran_out { answer.new.fault ≡ 50 → ConversionMayRunOut options bytes.now answer.new.place }
+    ensures value { answer.new.fault ≢ 50
+        → left result answer.new room.new ≡ left_at (converted_in options bytes.now) room.old }
+    ensures memory { answer.new.fault ≡ 50
+        → left result answer.new room.new ≡ no_bytes_at answer.new.place room.old }
+    ensures ran_out { answer.new.fault ≡ 50
+        → ConversionMayRunOut options bytes.now answer.new.place }
 {
     leave_bytes_at(library_calls::from_gnu(alloc, options, bytes), room, answer)
 }
@@ -208,7 +220,8 @@ pub extern "C" fn v7_link(
         ≡ output_left (output_in options entry.now forced.now objects.now) room.old report.old }
     ensures memory { answer.new.fault ≡ 50 → link_left result answer.new room.new report.new
         ≡ no_output answer.new.place room.old report.old }
-    ensures ran_out { answer.new.fault ≡ 50 → LinkMayRunOut options entry.now forced.now objects.now answer.new.place }
+    ensures ran_out { answer.new.fault ≡ 50
+        → LinkMayRunOut options entry.now forced.now objects.now answer.new.place }
 {
     let request = LinkRequest {
         options,
@@ -235,11 +248,13 @@ pub extern "C" fn v7_link_list(
     report: &mut [u8],
     answer: &mut Answer,
 ) -> u32
-    ensures value { answer.new.fault ≢ 50 → link_left result answer.new room.new report.new
-        ≡ output_left (output_each options entry.now forced.now (each_of objects.now)) room.old report.old }
+    ensures value { answer.new.fault ≢ 50
+        → link_left result answer.new room.new report.new ≡ output_left
+        (output_each options entry.now forced.now (each_of objects.now)) room.old report.old }
     ensures memory { answer.new.fault ≡ 50 → link_left result answer.new room.new report.new
         ≡ no_output answer.new.place room.old report.old }
-    ensures ran_out { answer.new.fault ≡ 50 → LinkOfEachMayRunOut options entry.now forced.now (each_of objects.now) answer.new.place }
+    ensures ran_out { answer.new.fault ≡ 50
+        → LinkOfEachMayRunOut options entry.now forced.now (each_of objects.now) answer.new.place }
 {
     let request = LinkRequest {
         options,
@@ -266,11 +281,13 @@ pub extern "C" fn v7_link_findings(
     findings: &mut [ReportedName],
     answer: &mut Answer,
 ) -> u32
-    ensures value { answer.new.fault ≢ 50 → link_left result answer.new room.new findings.new
-        ≡ output_left (found_each options entry.now forced.now (each_of objects.now)) room.old findings.old }
+    ensures value { answer.new.fault ≢ 50
+        → link_left result answer.new room.new findings.new ≡ output_left
+        (found_each options entry.now forced.now (each_of objects.now)) room.old findings.old }
     ensures memory { answer.new.fault ≡ 50 → link_left result answer.new room.new findings.new
         ≡ no_output answer.new.place room.old findings.old }
-    ensures ran_out { answer.new.fault ≡ 50 → LinkOfEachMayRunOut options entry.now forced.now (each_of objects.now) answer.new.place }
+    ensures ran_out { answer.new.fault ≡ 50
+        → LinkOfEachMayRunOut options entry.now forced.now (each_of objects.now) answer.new.place }
 {
     let request = LinkRequest {
         options,
@@ -312,7 +329,8 @@ pub extern "C" fn v7_make(
     ensures value { answer.new.fault ≢ 50 → left result answer.new room.new
         ≡ left_by (made_of (pieces text.now data_words.now bss symbols.now)) room.old }
     ensures memory { answer.new.fault ≡ 50 → left result answer.new room.new ≡ no_bytes room.old }
-    ensures ran_out { answer.new.fault ≡ 50 → IsOk (file_for (pieces text.now data_words.now bss symbols.now)) }
+    ensures ran_out { answer.new.fault ≡ 50
+        → IsOk (file_for (pieces text.now data_words.now bss symbols.now)) }
 {
     let parts = ObjectParts {
         text,
@@ -334,10 +352,11 @@ pub extern "C" fn v7_take_apart(
     counts: &mut Counts,
     answer: &mut Answer,
 ) -> u32
-    ensures value { answer.new.fault ≢ 50 → parts_left result answer.new counts.new text.new data_words.new symbols.new
+    ensures value { answer.new.fault ≢ 50
+        → parts_left result answer.new counts.new text.new data_words.new symbols.new
         ≡ apart_left (parts_in bytes.now) text.old data_words.old symbols.old }
-    ensures memory { answer.new.fault ≡ 50 → parts_left result answer.new counts.new text.new data_words.new symbols.new
-        ≡ apart_left (Err Memory) text.old data_words.old symbols.old }
+    ensures memory { answer.new.fault ≡ 50 → parts_left result answer.new counts.new text.new
+        data_words.new symbols.new ≡ apart_left (Err Memory) text.old data_words.old symbols.old }
     ensures ran_out { answer.new.fault ≡ 50 → HasBody bytes.now ⊎ IsOk (parts_in bytes.now) }
 {
     let parts = library_calls::take_apart(alloc, bytes);
@@ -358,9 +377,11 @@ pub extern "C" fn v7_read(
     counts: &mut Counts,
     answer: &mut Answer,
 ) -> u32
-    ensures value { answer.new.fault ≢ 50 → file_left header.new (parts_left result answer.new counts.new text.new data_words.new symbols.new)
+    ensures value { answer.new.fault ≢ 50 → file_left header.new
+        (parts_left result answer.new counts.new text.new data_words.new symbols.new)
         ≡ read_left (whole_in bytes.now) text.old data_words.old symbols.old }
-    ensures memory { answer.new.fault ≡ 50 → file_left header.new (parts_left result answer.new counts.new text.new data_words.new symbols.new)
+    ensures memory { answer.new.fault ≡ 50 → file_left header.new
+        (parts_left result answer.new counts.new text.new data_words.new symbols.new)
         ≡ read_left (Err Memory) text.old data_words.old symbols.old }
     ensures ran_out { answer.new.fault ≡ 50 → IsOk (whole_in bytes.now) }
 {
@@ -384,11 +405,15 @@ pub extern "C" fn v7_session(
     report: &mut [u8],
     answer: &mut Answer,
 ) -> u32
-    ensures value { answer.new.fault ≢ 50 → session_left (link_left result answer.new room.new report.new) replies.new
-        ≡ ran_left (session_in options entry.now forced.now edits.now objects.now) replies.old room.old report.old }
-    ensures memory { answer.new.fault ≡ 50 → session_left (link_left result answer.new room.new report.new) replies.new
+    ensures value { answer.new.fault ≢ 50
+        → session_left (link_left result answer.new room.new report.new) replies.new
+        ≡ ran_left (session_in options entry.now forced.now edits.now objects.now) replies.old
+        room.old report.old }
+    ensures memory { answer.new.fault ≡ 50
+        → session_left (link_left result answer.new room.new report.new) replies.new
         ≡ no_session answer.new.place replies.old room.old report.old }
-    ensures ran_out { answer.new.fault ≡ 50 → SessionMayRunOut options entry.now forced.now edits.now objects.now answer.new.place }
+    ensures ran_out { answer.new.fault ≡ 50
+        → SessionMayRunOut options entry.now forced.now edits.now objects.now answer.new.place }
 {
     let request = LinkRequest {
         options,
@@ -411,11 +436,13 @@ pub extern "C" fn v7_state(
     room: &mut [u8],
     answer: &mut Answer,
 ) -> u32
-    ensures value { answer.new.fault ≢ 50 → LeavesState (asked_in form forced.now edits.now objects.now) room.old replies.old
+    ensures value { answer.new.fault ≢ 50
+        → LeavesState (asked_in form forced.now edits.now objects.now) room.old replies.old
         (link_left result answer.new room.new replies.new) }
     ensures memory { answer.new.fault ≡ 50 → link_left result answer.new room.new replies.new
         ≡ no_output answer.new.place room.old replies.old }
-    ensures ran_out { answer.new.fault ≡ 50 → StateMayRunOut form forced.now edits.now objects.now answer.new.place }
+    ensures ran_out { answer.new.fault ≡ 50
+        → StateMayRunOut form forced.now edits.now objects.now answer.new.place }
 {
     let shown = library_calls::show_session(alloc, form, forced, edits, objects);
     leave_state(shown, room, replies, answer)

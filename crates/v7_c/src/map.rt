@@ -84,7 +84,8 @@ fn counts_of(records: &MapRecords) -> RecordCounts
 
 /// Answers by a status and a fault, and by how many records there are.
 fn answer_by(answer: &mut MapAnswer<'_>, said: &Said, counts: &RecordCounts) -> u32
-    ensures { left_in result answer.new ≡ answered said.now.status said.now.fault said.now.word said.now.place counts.now (left_in 0 answer.old) }
+    ensures { left_in result answer.new ≡ answered said.now.status said.now.fault said.now.word
+        said.now.place counts.now (left_in 0 answer.old) }
 {
     answer.fault = said.fault;
     answer.word = said.word;

@@ -190,7 +190,8 @@ fn has_places(size: usize) -> bool
 
 /// Answers by a status and a fault, and by sizes.
 fn answer_by(answer: &mut RunAnswer<'_>, said: &Said, output: &Output<'_>) -> u32
-    ensures { left_in result answer.new ≡ answered said.now.status said.now.fault said.now.word said.now.place (output_in output.now) (left_in 0 answer.old) }
+    ensures { left_in result answer.new ≡ answered said.now.status said.now.fault said.now.word
+        said.now.place (output_in output.now) (left_in 0 answer.old) }
 {
     answer.fault = said.fault;
     answer.word = said.word;
@@ -237,7 +238,8 @@ fn fill(answer: &mut RunAnswer<'_>, output: &Output<'_>)
 
 /// Writes all of it, or nothing.
 fn leave_output(answer: &mut RunAnswer<'_>, output: &Output<'_>) -> u32
-    ensures { left_in result answer.new ≡ output_left (output_in output.now) (left_in 0 answer.old) }
+    ensures { left_in result answer.new
+        ≡ output_left (output_in output.now) (left_in 0 answer.old) }
 {
     if is_short(output, answer) {
         let said = Said {
@@ -260,7 +262,8 @@ fn leave_output(answer: &mut RunAnswer<'_>, output: &Output<'_>) -> u32
 
 /// Answers by a refusal: there is nothing to write.
 fn leave_refusal(answer: &mut RunAnswer<'_>, refusal: Refusal) -> u32
-    ensures { left_in result answer.new ≡ answered 2 (number_of refusal.cause) (word_of refusal.cause) refusal.place nothing (left_in 0 answer.old) }
+    ensures { left_in result answer.new ≡ answered 2 (number_of refusal.cause)
+        (word_of refusal.cause) refusal.place nothing (left_in 0 answer.old) }
 {
     let said = Said {
         status: 2,
@@ -281,7 +284,8 @@ fn leave_refusal(answer: &mut RunAnswer<'_>, refusal: Refusal) -> u32
 
 /// Writes what is wanted of what there is, or why there is nothing.
 fn leave(answer: &mut RunAnswer<'_>, wants: u32, given: Result<RunResult, Refusal>) -> u32
-    ensures { left_in result answer.new ≡ answer_left wants (results_or given) (left_in 0 answer.old) }
+    ensures { left_in result answer.new
+        ≡ answer_left wants (results_or given) (left_in 0 answer.old) }
 {
     match given {
         Ok(given) => leave_output(answer, &wanted(&given, wants)),

@@ -18,7 +18,8 @@ use texts::Text;
 
 /// Puts a line with a text, if there is one.
 fn put_line_if(lines: &mut Text, path: &str, text: Option<&str>)
-    ensures { Puts lines.old lines.new (line_if path.now (option_map (λ text. text.now) text.entry)) }
+    ensures { Puts lines.old lines.new
+        (line_if path.now (option_map (λ text. text.now) text.entry)) }
 {
     if let Some(text) = text {
         put_text_line(lines, path, text);
@@ -37,7 +38,8 @@ fn put_gnu_line(alloc: Global, lines: &mut Text, path: &str, bytes: &[u8]) -> Re
 
 /// Why bytes that are not a file are not an object.
 fn check_refused(alloc: Global, source: Source<'_>, fault: ReadFault) -> Result<Answer, AllocError>
-    ensures { IfOk result (λ answer. answer ≡ only_errors (refused_lines source.entry.path.now source.entry.bytes.now fault) 1) }
+    ensures { IfOk result (λ answer.
+        answer ≡ only_errors (refused_lines source.entry.path.now source.entry.bytes.now fault) 1) }
 {
     let wrong = wrong_bytes(alloc, source.bytes, fault)?;
     let mut lines = Text::new(alloc);
@@ -50,7 +52,8 @@ fn check_refused(alloc: Global, source: Source<'_>, fault: ReadFault) -> Result<
 /// The line with what a file is that is neither an object nor damaged.
 #[tactic(auto, unfolding(crate::specs::Files::line_of))]
 fn put_kind_line(lines: &mut Text, path: &str, header: &Header, refused: Option<ObjectFault>)
-    ensures { Puts lines.old lines.new (line_of path.now (or_nothing (kind_text header.now refused))) }
+    ensures { Puts lines.old lines.new
+        (line_of path.now (or_nothing (kind_text header.now refused))) }
 {
     put_front(lines, path);
     put_kind(lines, header, refused);
@@ -77,7 +80,8 @@ fn check_file(alloc: Global, path: &str, file: File) -> Result<Answer, AllocErro
 
 /// Why the bytes of a file are not an object, if they are not.
 pub(crate) fn check(alloc: Global, source: Source<'_>) -> Result<Answer, AllocError>
-    ensures { IfOk result (λ answer. answer ≡ checked source.entry.path.now source.entry.bytes.now) }
+    ensures { IfOk result (λ answer.
+        answer ≡ checked source.entry.path.now source.entry.bytes.now) }
 {
     match decoded(alloc, source.bytes)? {
         Ok(file) => check_file(alloc, source.path, file),

@@ -87,7 +87,8 @@ pub(crate) fn explain_each<O: Office>(
     mode: Mode,
     paths: &[String],
 ) -> Result<Answer, Fault>
-    ensures { IsExplaining mode (O.history office.old) (O.history office.new) nothing_said (map string_bytes paths.now) result }
+    ensures { IsExplaining mode (O.history office.old) (O.history office.new) nothing_said
+        (map string_bytes paths.now) result }
 {
     let mut said = nothing_said(alloc);
     for path in paths {

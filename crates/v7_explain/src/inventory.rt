@@ -15,7 +15,8 @@ use texts::Text;
 
 /// What the inventory says of a file.
 fn row_of_file(alloc: Global, bytes: &[u8], file: File) -> Result<InventoryRow, AllocError>
-    ensures { IfOk result (λ row. row ≡ file_row bytes.now file (wrong_in (first_object_fault file) file)) }
+    ensures { IfOk result (λ row.
+        row ≡ file_row bytes.now file (wrong_in (first_object_fault file) file)) }
 {
     let (file, refused) = as_object(file);
     let wrong = wrong_in(alloc, &file, refused)?;
@@ -45,7 +46,8 @@ fn line_of(alloc: Global, path: &str, row: &InventoryRow) -> Result<Answer, Allo
 
 /// The line of the bytes of a file.
 pub(crate) fn take_inventory(alloc: Global, source: Source<'_>) -> Result<Answer, AllocError>
-    ensures { IfOk result (λ answer. answer ≡ inventoried source.entry.path.now source.entry.bytes.now) }
+    ensures { IfOk result (λ answer.
+        answer ≡ inventoried source.entry.path.now source.entry.bytes.now) }
 {
     let row = match decoded(alloc, source.bytes)? {
         Ok(file) => row_of_file(alloc, source.bytes, file)?,

@@ -19,7 +19,8 @@ use suspicions::suspicions_of;
 
 /// The notes before a file.
 fn list_notes(alloc: Global, source: Source<'_>, file: &File, refused: Option<ObjectFault>) -> Notes
-    ensures { HasNotes result (list_notes source.entry.path.now source.entry.bytes.now file.now refused) }
+    ensures { HasNotes result
+        (list_notes source.entry.path.now source.entry.bytes.now file.now refused) }
 {
     let mut notes = front_notes(alloc, source, file.header(), refused);
     put_header(&mut notes, file.header());
@@ -54,8 +55,10 @@ fn listing_with(
     notes: &Notes,
     findings: &Notes,
 ) -> Result<Vec<u8>, AllocError>
-    ensures whole { IfOk result (λ text. (notes.now.is_cut ≡ false) × (findings.now.is_cut ≡ false)) }
-    ensures text { IfOk result (λ text. text.items ≡ listing_with sweep.now notes.now.lines findings.now.lines) }
+    ensures whole { IfOk result (λ text.
+        (notes.now.is_cut ≡ false) × (findings.now.is_cut ≡ false)) }
+    ensures text { IfOk result (λ text.
+        text.items ≡ listing_with sweep.now notes.now.lines findings.now.lines) }
 {
     if notes.is_cut() || findings.is_cut() {
         return Err(AllocError);
@@ -70,8 +73,8 @@ fn list_file(
     is_reported: bool,
     file: File,
 ) -> Result<Answer, AllocError>
-    ensures { IfOk result (λ answer. answer
-        ≡ listed_as is_reported source.entry.path.now source.entry.bytes.now file (first_object_fault file)) }
+    ensures { IfOk result (λ answer. answer ≡ listed_as is_reported source.entry.path.now
+        source.entry.bytes.now file (first_object_fault file)) }
 {
     let (file, refused) = as_object(file);
     let wrong = wrong_in(alloc, &file, refused)?;
@@ -91,7 +94,8 @@ pub(crate) fn list(
     source: Source<'_>,
     is_reported: bool,
 ) -> Result<Answer, AllocError>
-    ensures { IfOk result (λ answer. answer ≡ listed is_reported source.entry.path.now source.entry.bytes.now) }
+    ensures { IfOk result (λ answer.
+        answer ≡ listed is_reported source.entry.path.now source.entry.bytes.now) }
 {
     match decoded(alloc, source.bytes)? {
         Ok(file) => list_file(alloc, source, is_reported, file),

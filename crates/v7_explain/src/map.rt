@@ -266,7 +266,8 @@ fn put_what_becomes(text: &mut Text, refused: &Option<Refused>, outcome: &Option
 /// Adds how many objects there are, and what becomes of the link.
 #[tactic(auto, unfolding(crate::specs::MapTexts::head_text))]
 fn put_head(text: &mut Text, map: &LinkMap, objects: &Objects)
-    ensures { Puts text.old text.new (head_text (length map.now.members.items) objects.now.refused map.now.outcome) }
+    ensures { Puts text.old text.new
+        (head_text (length map.now.members.items) objects.now.refused map.now.outcome) }
 {
     text.put("Link of ");
     text.put_decimal(map.members.len() as u64);
@@ -434,7 +435,8 @@ fn map_link<O: Office>(
     files: &[String],
 ) -> Result<Answer, Fault>
     ensures { ((O.history office.new ≡ O.history office.old) × (result ≡ Err Memory))
-        ⊎ IsMapping forced.now options.now (map string_bytes files.now) (O.history office.old) (O.history office.new) result }
+        ⊎ IsMapping forced.now options.now (map string_bytes files.now)
+        (O.history office.old) (O.history office.new) result }
 {
     let mut objects = Objects::new(alloc, forced)?;
     let said = take_objects(alloc, office, &mut objects, files)?;
@@ -446,7 +448,8 @@ fn map_link<O: Office>(
 
 /// The arguments of `ld`, which begin with its name.
 fn link_words(alloc: Global, words: &[String]) -> Result<Vec<String>, AllocError>
-    ensures { IfOk result (λ all. map string_bytes all.items ≡ link_words (map string_bytes words.now)) }
+    ensures { IfOk result (λ all.
+        map string_bytes all.items ≡ link_words (map string_bytes words.now)) }
 {
     let mut all = Vec::new(alloc);
     all.push(String::from_str(alloc, "ld")?)?;
@@ -479,7 +482,8 @@ pub(crate) fn map_files<O: Office>(
     office: &mut O,
     words: &[String],
 ) -> Result<Answer, Fault>
-    ensures { IsMapCall (map string_bytes words.now) (O.history office.old) (O.history office.new) result }
+    ensures { IsMapCall (map string_bytes words.now)
+        (O.history office.old) (O.history office.new) result }
 {
     match parse(alloc, link_words(alloc, words)?) {
         Ok(call) => map_call(alloc, office, &call),

@@ -111,7 +111,8 @@ fn sort_by_size(sizes: &mut Vec<Sized>) -> Result<(), AllocError>
 
 /// The largest objects, the largest first.
 fn largest_objects(alloc: Global, members: &[Member]) -> Result<Vec<Sized>, AllocError>
-    ensures { IfOk result (λ sizes. sizes.items ≡ take 10 (in_order is_larger (sized_from 0 members.now))) }
+    ensures { IfOk result (λ sizes.
+        sizes.items ≡ take 10 (in_order is_larger (sized_from 0 members.now))) }
 {
     let mut sizes = sized_objects(alloc, members)?;
     sort_by_size(&mut sizes)?;

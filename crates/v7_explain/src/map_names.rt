@@ -193,7 +193,8 @@ fn put_instruction_if(
     places: &Places,
     reference: &ReferringWord,
 )
-    ensures { Puts text.old text.new (instruction_if reference.now.part file.now places.now reference.now) }
+    ensures { Puts text.old text.new
+        (instruction_if reference.now.part file.now places.now reference.now) }
 {
     match reference.part {
         Part::Text => put_instruction(text, file, places, reference),
@@ -441,7 +442,8 @@ fn put_name(
     is_titled: bool,
     uses: &[Use],
 ) -> bool
-    ensures put { Puts text.old text.new (group_text names.now section title.now is_titled uses.now) }
+    ensures put { Puts text.old text.new
+        (group_text names.now section title.now is_titled uses.now) }
     ensures titled { result ≡ (is_titled || has_name names.now section uses.now) }
 {
     if !has_name(names, section, uses) {

@@ -103,8 +103,8 @@ fn take_at<O: Office>(
     objects: &mut Objects,
     path: &str,
 ) -> Result<(), Fault>
-    ensures taken { TakesOne (O.history office.old) (O.history office.new) path.now (all_of objects.old)
-        (all_of objects.new) result }
+    ensures taken { TakesOne (O.history office.old) (O.history office.new) path.now
+        (all_of objects.old) (all_of objects.new) result }
     ensures forced { objects.new.session.forced ≡ objects.old.session.forced }
     ensures split { result ≢ Err Memory → KeepsSplit objects.old → KeepsSplit objects.new }
 {
@@ -123,8 +123,8 @@ fn take_next<O: Office>(
     said: &mut Answer,
     path: &str,
 ) -> Result<(), AllocError>
-    ensures taken { TakesNext (O.history office.old) (O.history office.new) (taken_of objects.old said.old) path.now
-        (taken_of objects.new said.new) result }
+    ensures taken { TakesNext (O.history office.old) (O.history office.new)
+        (taken_of objects.old said.old) path.now (taken_of objects.new said.new) result }
     ensures forced { objects.new.session.forced ≡ objects.old.session.forced }
     ensures split { IfOk result (λ _. KeepsSplit objects.old → KeepsSplit objects.new) }
 {
@@ -142,7 +142,8 @@ pub(crate) fn take_objects<O: Office>(
     objects: &mut Objects,
     paths: &[String],
 ) -> Result<Answer, Fault>
-    ensures taken { IsTaking (O.history office.old) (O.history office.new) (taken_of objects.old nothing_said)
+    ensures taken { IsTaking (O.history office.old) (O.history office.new)
+        (taken_of objects.old nothing_said)
         (map string_bytes paths.now) (taken_by objects.new result) }
     ensures forced { objects.new.session.forced ≡ objects.old.session.forced }
     ensures split { IfOk result (λ _. KeepsSplit objects.old → KeepsSplit objects.new) }

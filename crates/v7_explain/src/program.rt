@@ -43,7 +43,8 @@ fn answer_files<O: Office>(
     mode: Mode,
     words: &[String],
 ) -> Result<Answer, Fault>
-    ensures { IsCall (explaining mode (map string_bytes words.now)) (O.history office.old) (O.history office.new) result }
+    ensures { IsCall (explaining mode (map string_bytes words.now))
+        (O.history office.old) (O.history office.new) result }
 {
     if !are_files(words) {
         return Ok(usage_answer(alloc, USAGE)?);
@@ -58,7 +59,8 @@ fn answer_two<O: Office>(
     to: &str,
     path: &str,
 ) -> Result<Answer, Fault>
-    ensures { IsCall (storing_at to.now path.now) (O.history office.old) (O.history office.new) result }
+    ensures { IsCall (storing_at to.now path.now)
+        (O.history office.old) (O.history office.new) result }
 {
     if path.as_bytes().starts_with(b"-") {
         return Ok(usage_answer(alloc, USAGE)?);
@@ -72,7 +74,8 @@ fn answer_stored<O: Office>(
     office: &mut O,
     words: &[String],
 ) -> Result<Answer, Fault>
-    ensures { IsCall (storing (map string_bytes words.now)) (O.history office.old) (O.history office.new) result }
+    ensures { IsCall (storing (map string_bytes words.now))
+        (O.history office.old) (O.history office.new) result }
 {
     match words {
         [to, path] => answer_two(alloc, office, to.as_str(), path.as_str()),
@@ -96,7 +99,8 @@ fn mode_of(word: &str) -> Option<Mode>
 
 /// Does what the first argument asks for with those after it.
 fn answer_words<O: Office>(alloc: Global, office: &mut O, words: &[String]) -> Result<Answer, Fault>
-    ensures { IsCall (asked_in (map string_bytes words.now)) (O.history office.old) (O.history office.new) result }
+    ensures { IsCall (asked_in (map string_bytes words.now))
+        (O.history office.old) (O.history office.new) result }
 {
     let [first, rest @ ..] = words else {
         return Ok(usage_answer(alloc, USAGE)?);
@@ -114,7 +118,8 @@ fn answer_words<O: Office>(alloc: Global, office: &mut O, words: &[String]) -> R
 /// Does what the arguments ask for, and returns what is written at the end.
 #[tactic(auto, using(surroundings::proofs::ShownLemmas::by_shown))]
 fn answer<O: Office>(alloc: Global, office: &mut O, words: &[String]) -> Result<Answer, Fault>
-    ensures { IsAnswer (map string_bytes words.now) (O.history office.old) (O.history office.new) result }
+    ensures { IsAnswer (map string_bytes words.now)
+        (O.history office.old) (O.history office.new) result }
 {
     match shown_in(words) {
         Some(shown) => Ok(shown_answer(alloc, NAME, USAGE, shown)?),

@@ -152,7 +152,8 @@ pub(crate) fn reported(
     path: &str,
     wrong: &[Finding],
 ) -> Result<Vec<u8>, AllocError>
-    ensures { IfOk result (λ lines. lines.items ≡ reported is_reported path.now (all_found wrong.now)) }
+    ensures { IfOk result (λ lines.
+        lines.items ≡ reported is_reported path.now (all_found wrong.now)) }
 {
     let mut lines = Text::new(alloc);
     if is_reported {
@@ -172,7 +173,8 @@ pub(crate) fn put_found(notes: &mut Notes, word: &str, found: &[Finding])
 /// Adds a note with the path and the size.
 #[tactic(auto, unfolding(crate::specs::Files::title))]
 fn put_title(notes: &mut Notes, source: Source<'_>)
-    ensures { AddsNotes notes.old notes.new (title source.entry.path.now (length source.entry.bytes.now) ∷ []) }
+    ensures { AddsNotes notes.old notes.new
+        (title source.entry.path.now (length source.entry.bytes.now) ∷ []) }
 {
     let size = source.bytes.len() as u64;
     let mut note = notes.begin();
@@ -217,7 +219,8 @@ pub(crate) fn front_notes(
     header: &Header,
     refused: Option<ObjectFault>,
 ) -> Notes
-    ensures { HasNotes result (front_notes source.entry.path.now source.entry.bytes.now header.now refused) }
+    ensures { HasNotes result
+        (front_notes source.entry.path.now source.entry.bytes.now header.now refused) }
 {
     let mut notes = Notes::new(alloc);
     put_title(&mut notes, source);
@@ -227,7 +230,8 @@ pub(crate) fn front_notes(
 
 /// Adds the header that bytes begin with, unless it is known what else they are.
 fn put_header_notes(notes: &mut Notes, bytes: &[u8], known: Option<&str>)
-    ensures { AddsNotes notes.old notes.new (header_notes (option_map (λ text. text.now) known.entry) bytes.now) }
+    ensures { AddsNotes notes.old notes.new
+        (header_notes (option_map (λ text. text.now) known.entry) bytes.now) }
 {
     if let (None, Some(header)) = (known, header_of(bytes)) {
         put_header(notes, &header);
@@ -251,7 +255,8 @@ fn refused_notes(
     wrong: &[Finding],
 ) -> Result<Notes, AllocError>
     requires { all_found wrong.now ≡ wrong_bytes fault source.bytes.now }
-    ensures { IfOk result (λ notes. HasNotes notes (refused_notes source.entry.path.now source.entry.bytes.now fault)) }
+    ensures { IfOk result (λ notes.
+        HasNotes notes (refused_notes source.entry.path.now source.entry.bytes.now fault)) }
 {
     let known = likeness_of(source.bytes, fault);
     let mut notes = Notes::new(alloc);
@@ -265,7 +270,8 @@ fn refused_notes(
 
 /// Notes as lines.
 fn lines_of(alloc: Global, notes: &Notes) -> Result<Vec<u8>, AllocError>
-    ensures { IfOk result (λ lines. (notes.now.is_cut ≡ false) × (lines.items ≡ lines_of notes.now.lines)) }
+    ensures { IfOk result (λ lines.
+        (notes.now.is_cut ≡ false) × (lines.items ≡ lines_of notes.now.lines)) }
 {
     if notes.is_cut() {
         return Err(AllocError);
@@ -282,7 +288,8 @@ pub(crate) fn explain_refused(
     is_reported: bool,
     fault: ReadFault,
 ) -> Result<Answer, AllocError>
-    ensures { IfOk result (λ answer. answer ≡ refused_as is_reported source.entry.path.now source.entry.bytes.now fault) }
+    ensures { IfOk result (λ answer.
+        answer ≡ refused_as is_reported source.entry.path.now source.entry.bytes.now fault) }
 {
     let wrong = wrong_bytes(alloc, source.bytes, fault)?;
     let notes = refused_notes(alloc, source, fault, &wrong)?;

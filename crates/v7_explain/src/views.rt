@@ -39,7 +39,8 @@ fn put_body(text: &mut Text, view: View, file: &File)
 
 /// The contents of a file, with notes before it and findings after it.
 fn body(alloc: Global, view: View, file: &File, notes: &Notes, findings: &Notes) -> Text
-    ensures { Puts nothing_written result (lines_of notes.now.lines ++ body_of view file.now ++ lines_of findings.now.lines) }
+    ensures { Puts nothing_written result
+        (lines_of notes.now.lines ++ body_of view file.now ++ lines_of findings.now.lines) }
 {
     let mut text = Text::new(alloc);
     put_lines(&mut text, notes);
@@ -64,8 +65,8 @@ fn show_file(
     view: View,
     file: File,
 ) -> Result<Answer, AllocError>
-    ensures { IfOk result (λ answer. answer
-        ≡ viewed_as view source.entry.path.now source.entry.bytes.now file (first_object_fault file)) }
+    ensures { IfOk result (λ answer. answer ≡ viewed_as view source.entry.path.now
+        source.entry.bytes.now file (first_object_fault file)) }
 {
     let (file, refused) = as_object(file);
     let wrong = wrong_in(alloc, &file, refused)?;
@@ -83,7 +84,8 @@ fn show_file(
 
 /// The contents of the bytes of a file.
 pub(crate) fn show(alloc: Global, source: Source<'_>, view: View) -> Result<Answer, AllocError>
-    ensures { IfOk result (λ answer. answer ≡ viewed view source.entry.path.now source.entry.bytes.now) }
+    ensures { IfOk result (λ answer.
+        answer ≡ viewed view source.entry.path.now source.entry.bytes.now) }
 {
     match decoded(alloc, source.bytes)? {
         Ok(file) => show_file(alloc, source, view, file),
