@@ -16,7 +16,7 @@ import sys
 import tempfile
 
 from disassembly import File as Text
-from suspicions import suspicions
+from suspicions import DOUBT, suspicions
 
 PROGRAMS = {0o405: "an overlay", 0o407: "a program", 0o410: "a program, pure text", 0o411: "a program, separate text and data"}
 KINDS = {0o405: "overlay", 0o407: "program 0407", 0o410: "program 0410", 0o411: "program 0411"}
@@ -194,7 +194,7 @@ def odd_symbol(file, number, symbol, first):
 
 
 def notes_of(data):
-    """What a file is, and all that is wrong or odd, in any order; and what `-c` says of it."""
+    """What a file is, and all that is wrong or odd, in any order; and what `-c` says of it: what is wrong, or odd in instructions for sure."""
     found, file = wrong(data)
     what = kind(file, found) if file else None
     refused = [f"byte 0{at:o} ({at}): {text}" for at, text in found] or ([what] if what != "an object" else [])
@@ -208,7 +208,10 @@ def notes_of(data):
             found = odd_symbol(file, number, symbol, firsts.setdefault(symbol[0], number))
             odd += [(at + place, f"{title} {text}") for place, text in found]
         parts = {"word": 16, "relocation": file.relocation_at}
-        odd += [(parts[part] + 2 * place, text) for part, place, text in suspicions(text_of(file))]
+        suspicious = [(parts[part] + 2 * place, text) for part, place, text in suspicions(text_of(file))]
+        odd += suspicious
+        if what == "an object":
+            refused = [f"byte 0{at:o} ({at}): {text}" for at, text in suspicious if DOUBT not in text]
         notes += [f"odd: byte 0{at:o} ({at}): {text}" for at, text in odd]
     return sorted(notes), refused
 

@@ -7,6 +7,8 @@ ENDS = ("br", "jmp", "rts", "rti", "rtt", "halt", "mark")
 CALLS = ("jsr", "bpt", "iot", "emt", "sys")
 # a line has at most so many words
 MOST_WORDS = 5
+# what is said of a line that may be data
+DOUBT = ", if this is an instruction"
 
 
 def operands(text, place):
@@ -128,7 +130,7 @@ class Suspects:
         return found
 
     def doubt(self, is_sure):
-        return "" if is_sure else ", if this is an instruction"
+        return "" if is_sure else DOUBT
 
     def said(self, place):
         return f"; the instruction at {2 * place:06o} is {self.text.line(place)[1]}"

@@ -1,6 +1,6 @@
 -- The places that lead to more, one after the other.
 use Rattle.std.proofs.Common.{◌≡◌, ℕ, zero, suc, ◌+◌, ◌-◌, ◌<◌, ◌≤◌, refl, sym, ap, ◌∙◌, arith, append_assoc}
-use Rattle.std.specs.Prelude.{Bool, if◌then◌else◌, List, ◌++◌, length, drop, slice_index}
+use Rattle.std.specs.Prelude.{Bool, false, if◌then◌else◌, List, ◌++◌, length, drop, slice_index}
 use Rattle.std.proofs.lemmas.Bool.{lt-ltb, le-ltb}
 use Rattle.std.proofs.lemmas.List.{drop_more}
 use Rattle.aout_core.specs.Contents.{Contents}
@@ -10,6 +10,7 @@ use Rattle.findings.specs.Found.{Found}
 use Rattle.suspicions.specs.declared.evidence.Evidence.{Evidence}
 use Rattle.suspicions.specs.Reached.{leads_to, visited, visited_all, shown, shown_from, spread}
 use Rattle.suspicions.specs.Trust.{past_place, trust}
+use Rattle.suspicions.specs.SureSuspicions.{sure_suspicions_from, sure_trust}
 use Rattle.suspicions.specs.Suspicions.{suspicious_place, suspicious_words}
 
 -- the next place, and those after it
@@ -48,6 +49,17 @@ places_more c words before after i old new whole inside put is so_far =
     ∙ ap (λ (l : List Found). l ++ rest) put
     ∙ append_assoc old (suspicious_place c (trust c before i) (is_start (starts Unix c) i) i) rest
     ∙ ap (λ (l : List ℕ). old ++ suspicious_words c before i l) (sym (drop_more words i 0 inside))
+    ∙ so_far
+
+-- what is suspicious for sure at one place more
+pub sure_places_more : (c : Contents) (words : List ℕ) (i : ℕ) (old new whole : List Found) → i < length words →
+    new ≡ old ++ suspicious_place c (sure_trust c i) false i → old ++ sure_suspicions_from c i (drop i words) ≡ whole →
+    new ++ sure_suspicions_from c (i + 1) (drop (i + 1) words) ≡ whole
+sure_places_more c words i old new whole inside put so_far =
+    let rest : List Found = sure_suspicions_from c (i + 1) (drop (i + 1) words) in
+    ap (λ (l : List Found). l ++ rest) put
+    ∙ append_assoc old (suspicious_place c (sure_trust c i) false i) rest
+    ∙ ap (λ (l : List ℕ). old ++ sure_suspicions_from c i l) (sym (drop_more words i 0 inside))
     ∙ so_far
 
 -- the addresses that the words from a place on show

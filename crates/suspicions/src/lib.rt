@@ -11,9 +11,11 @@ pub mod laws;
 mod leads;
 mod reached;
 mod suspect;
+mod sure_suspicions;
 mod suspicions;
 mod trust;
 
 pub use evidence::Evidence;
 pub use reached::{reached_places, sure_places};
+pub use sure_suspicions::sure_suspicions_of;
 pub use suspicions::suspicions_of;

@@ -245,7 +245,7 @@ fn find_branches(findings: &mut Findings, at: &Suspect<'_>, instruction: &Instru
 }
 
 /// Adds what is suspicious of a line.
-fn find_line(findings: &mut Findings, at: &Suspect<'_>)
+pub(crate) fn find_line(findings: &mut Findings, at: &Suspect<'_>)
     requires inside { at.now.start < length at.now.sweep.now.text_words }
     requires sure { (i : ℕ) → get_or at.now.sure.now i false ≡ is_sure at.now.sweep.now i }
     ensures { Finds findings.old findings.new

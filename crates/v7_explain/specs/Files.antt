@@ -25,6 +25,7 @@ use Rattle.instructions.specs.declared.unix.Decoder.TheVariants.{Unix}
 use Rattle.listings.specs.Listing.{listing, note_lines}
 use Rattle.surroundings.specs.Answer.{Answer}
 use Rattle.surroundings.specs.Answers.{only_errors}
+use Rattle.suspicions.specs.SureSuspicions.{sure_suspicions}
 use Rattle.suspicions.specs.Suspicions.{suspicions}
 use Rattle.texts.specs.Lines.{text_of}
 use Rattle.texts.specs.Numbers.{octal}
@@ -143,9 +144,14 @@ viewed_as view path bytes c refused = record {
   status = status_in refused;
 }
 
--- why it is not an object, if it is not: its name, or each bad word
+-- 1 if anything is found
+abbrev pub status_of : List Found → ℕ
+status_of [] = 0
+status_of (f ∷ fs) = 1
+
+-- why it is not an object: its name, or each bad word; or what is suspicious for sure in an object
 abbrev pub checked_as : List ℕ → Contents → Option ObjectFault → Answer
-checked_as path c None = only_errors [] 0
+checked_as path c None = only_errors (reports path (sure_suspicions c)) (status_of (sure_suspicions c))
 checked_as path c (Some refused) =
     if is_damaged (Some refused) then only_errors (reports path (wrong_words c)) 1
     else only_errors (line_of path (or_nothing (kind_text c.header (Some refused)))) 1

@@ -1,19 +1,22 @@
-//! Why files are not objects.
-ghost use Rattle.std.specs.Prelude.{◌≡◌, IfOk, OnOk, option_map};
+//! Why files are not objects, and what is suspicious in objects for sure.
+ghost use Rattle.std.specs.Prelude.{◌≡◌, None, IfOk, OnOk, option_map};
 ghost use Rattle.aout_core.specs.WellFormed.{first_object_fault};
+ghost use Rattle.findings.specs.Found.{all_found};
 ghost use Rattle.findings.specs.Kinds.{kind_text, or_nothing};
 ghost use Rattle.texts.specs.Texts.{Puts};
 ghost use Rattle.surroundings.specs.Answers.{only_errors};
-ghost use Rattle.v7_explain.specs.Files.{checked, checked_as, gnu_line, line_if, line_of, refused_lines};
+ghost use Rattle.v7_explain.specs.Files.{checked, checked_as, gnu_line, line_if, line_of, refused_lines, status_of};
 
 use crate::source::{
     GNU_NOTE, Source, as_object, decoded, is_damaged, likeness_of, put_front, put_reports,
     put_text_line,
 };
 use aout_core::{File, Header, ObjectFault, ReadFault};
-use findings::{is_of_gnu, put_kind, wrong_bytes, wrong_words};
+use disassemblies::Sweep;
+use findings::{Finding, is_of_gnu, put_kind, wrong_bytes, wrong_words};
 use std::alloc::{AllocError, Global};
 use surroundings::{Answer, error_answer};
+use suspicions::sure_suspicions_of;
 use texts::Text;
 
 /// Puts a line with a text, if there is one.
@@ -60,15 +63,35 @@ fn put_kind_line(lines: &mut Text, path: &str, header: &Header, refused: Option<
     lines.put("\n");
 }
 
-/// Why a file is not an object, if it is not.
+/// The status after findings: 1 if there are any.
+fn status_of(found: &[Finding]) -> u8
+    ensures { result ≡ status_of (all_found found.now) }
+{
+    match found {
+        [] => 0,
+        _ => 1,
+    }
+}
+
+/// What is suspicious for sure in an object.
+fn check_object(alloc: Global, path: &str, file: &File) -> Result<Answer, AllocError>
+    ensures { IfOk result (λ answer. answer ≡ checked_as path.now file.now None) }
+{
+    let suspicions = sure_suspicions_of(alloc, &Sweep::new(alloc, file)?)?;
+    let mut lines = Text::new(alloc);
+    put_reports(&mut lines, path, &suspicions);
+    error_answer(alloc, lines, status_of(&suspicions))
+}
+
+/// Why a file is not an object, if it is not; or what is suspicious for sure in it.
 fn check_file(alloc: Global, path: &str, file: File) -> Result<Answer, AllocError>
     ensures { IfOk result (λ answer. answer ≡ checked_as path.now file (first_object_fault file)) }
 {
     let (file, refused) = as_object(file);
-    let mut lines = Text::new(alloc);
     if refused.is_none() {
-        return error_answer(alloc, lines, 0);
+        return check_object(alloc, path, &file);
     }
+    let mut lines = Text::new(alloc);
     if is_damaged(refused) {
         let wrong = wrong_words(alloc, &file)?;
         put_reports(&mut lines, path, &wrong);
@@ -78,7 +101,7 @@ fn check_file(alloc: Global, path: &str, file: File) -> Result<Answer, AllocErro
     error_answer(alloc, lines, 1)
 }
 
-/// Why the bytes of a file are not an object, if they are not.
+/// Why the bytes of a file are not an object, if they are not; or what is suspicious for sure in the object.
 pub(crate) fn check(alloc: Global, source: Source<'_>) -> Result<Answer, AllocError>
     ensures { IfOk result (λ answer.
         answer ≡ checked source.entry.path.now source.entry.bytes.now) }
