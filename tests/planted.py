@@ -27,8 +27,9 @@ TOP = os.path.normpath(os.path.join(os.path.dirname(os.path.abspath(__file__)), 
 CASES = os.path.join(TOP, "tests", "cases")
 PAGE = "docs/internals/PLANTED.md"
 ROW = re.compile(r"^\| `([\w/]+)` \| .* \| (.*) \|$")
-# the rows of tests/largest.py, each with the program that it runs as a case has it
-LARGEST = {f"largest.py: {name}, {kind}": f"$ {name}\n" for name, _, kinds in largest.TABLE for kind in kinds}
+# the rows of tests/largest.py, each with the program that it runs as a case has it. A listing is read back by v7-object
+READS_BACK = {"v7-explain": "$ v7-object\n"}
+LARGEST = {f"largest.py: {name}, {kind}": f"$ {name}\n{READS_BACK.get(name, '')}" for name, _, kinds in largest.TABLE for kind in kinds}
 # for a command of a case, on a machine with other work too
 SECONDS = "300"
 # a compilation takes a processor and a gigabyte

@@ -118,9 +118,10 @@ forgotten_pc_bit : FindsItsName (λ k. Unit {0}) → ⊥
 unfolding row_of begins call_of
 forgotten_pc_bit law =
     different 10 8 refl
-    (law [] (b_o ∷ []) forgotten_o (count_o ∷ []) plain (outcome_of (link [] (b_o ∷ forgotten_o ∷ count_o ∷ []) plain))
-    (as_object b_o refl refl refl refl refl refl refl refl,
-    (as_object forgotten_o refl refl refl refl refl refl refl refl, (count_good, tt))) tt all_kept refl refl
+    (law [] (b_o ∷ []) forgotten_o (count_o ∷ []) plain (outcome_of (link [] (b_o ∷ forgotten_o ∷ count_o ∷ []) plain)) (
+      as_object b_o refl refl refl refl refl refl refl refl,
+      (as_object forgotten_o refl refl refl refl refl refl refl refl, (count_good, tt)),
+    ) tt all_kept refl refl
     Symbols 0 (Evident 0 (omega arith) refl) 0o16700 (0o177774 ∷ 0o207 ∷ []) refl fetch refl refl
     (Some (General Index registers.Pc)) 1 (inl (refl, refl)) Relative refl
     0o177774 4 (record { 0 = 0o30 }) (entry _count 0o40 0) (entry _count 0o43 8) refl refl refl refl refl refl)

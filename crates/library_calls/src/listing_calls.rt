@@ -17,12 +17,20 @@ use findings::Notes;
 use listings::{ListingFault, read_listing};
 use std::alloc::{AllocError, Global};
 
+/// The listing of a file with explanations, and without notes, by its lines.
+fn listing_by(alloc: Global, sweep: &Sweep<'_>) -> Result<Vec<u8>, AllocError>
+    ensures { IfOk result (λ text. text.items ≡ listed sweep.now) }
+{
+    let none = Notes::new(alloc);
+    write_explained(alloc, sweep, &none, &none)
+}
+
 /// The listing of a file with explanations, and without notes.
 fn listing_of(alloc: Global, file: &File) -> Result<Vec<u8>, AllocError>
     ensures { IfOk result (λ text. text.items ≡ listed file.now) }
 {
-    let none = Notes::new(alloc);
-    write_explained(alloc, &Sweep::new(alloc, file)?, &none, &none)
+    let sweep = Sweep::new(alloc, file)?;
+    listing_by(alloc, &sweep)
 }
 
 /// The listing of the file that the bytes begin with, as v7-explain(1) prints it but for the lines that begin with a slash.

@@ -10,8 +10,8 @@ mod evidence;
 pub mod laws;
 mod leads;
 mod reached;
-mod suspect;
 mod sure_suspicions;
+mod suspect;
 mod suspicions;
 mod trust;
 

@@ -18,6 +18,8 @@ use Rattle.v7_explain.specs.Files.{checked, inventoried, listed, program, viewed
 use Rattle.v7_explain.specs.Joined.{either, joined, nothing_said, usage}
 use Rattle.v7_explain.specs.Maps.{IsMapCall}
 use Rattle.v7_explain.specs.declared.explaining.Mode.{Mode}
+use Rattle.v7_explain.specs.declared.program.Task.{Task}
+use Rattle.v7_explain.specs.declared.program.Task.TheVariants.{Store, MapLink, Explain}
 use Rattle.v7_explain.specs.declared.explaining.Mode.TheVariants.{Listing, Show, Check, Inventory}
 use Rattle.v7_explain.specs.declared.views.View.TheVariants.{Instructions, Rows}
 use Rattle.explanations.specs.declared.rows.Base.TheVariants.{Octal, Hexadecimal}
@@ -119,12 +121,17 @@ abbrev pub explaining_by : Option Mode → List ℕ → List (List ℕ) → Opti
 explaining_by (Some mode) first rest = explaining mode rest
 explaining_by None first rest = explaining Listing (first ∷ rest)
 
+abbrev pub task_of : List ℕ → Task
+task_of first = if bytes_eq first (codes "-o") then Store else (if bytes_eq first (codes "-m") then MapLink else Explain)
+
+abbrev pub asked_by : Task → List ℕ → List (List ℕ) → Option Call
+asked_by Store first rest = storing rest
+asked_by MapLink first rest = Some (map_link rest)
+asked_by Explain first rest = explaining_by (mode_of first) first rest
+
 abbrev pub asked_in : List (List ℕ) → Option Call
 asked_in [] = None
-asked_in (first ∷ rest) =
-    if bytes_eq first (codes "-o") then storing rest
-    else (if bytes_eq first (codes "-m") then Some (map_link rest)
-    else explaining_by (mode_of first) first rest)
+asked_in (first ∷ rest) = asked_by (task_of first) first rest
 
 -- ---- the program
 

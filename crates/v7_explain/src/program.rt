@@ -1,6 +1,6 @@
 //! The program, over any files and any streams.
-ghost use Rattle.std.specs.Prelude.{◌≡◌, map, string_bytes};
-ghost use Rattle.v7_explain.specs.Runs.{IsAnswer, IsCall, PerformsExplain, are_files, asked_in, explaining, mode_of, storing, storing_at};
+ghost use Rattle.std.specs.Prelude.{◌≡◌, ◌∷◌, map, string_bytes};
+ghost use Rattle.v7_explain.specs.Runs.{IsAnswer, IsCall, PerformsExplain, are_files, asked_in, explaining, explaining_by, mode_of, storing, storing_at, task_of};
 
 use crate::explaining::{Mode, explain_each};
 use crate::map::map_files;
@@ -15,13 +15,8 @@ use surroundings::{Answer, Fault, Office, Outputs, give, shown_answer, shown_in,
 pub(crate) const NAME: &str = "v7-explain";
 
 /// How it is called.
-pub(crate) const USAGE: &str = "usage: v7-explain FILE...
+pub(crate) const USAGE: &str = "usage: v7-explain [-c|-d|-l|-s|-x] FILE...
        v7-explain -o LISTING FILE
-       v7-explain -c FILE...
-       v7-explain -d FILE...
-       v7-explain -l FILE...
-       v7-explain -s FILE...
-       v7-explain -x FILE...
        v7-explain -m [OPTIONS OF LD] FILE...
        v7-explain --help | --version
 ";
@@ -97,6 +92,45 @@ fn mode_of(word: &str) -> Option<Mode>
     }
 }
 
+/// Explains the files after an option, or all these files if the first argument is not an option.
+fn answer_by_mode<O: Office>(
+    alloc: Global,
+    office: &mut O,
+    first: &str,
+    rest: &[String],
+    words: &[String],
+) -> Result<Answer, Fault>
+    requires { map string_bytes words.now ≡ first.now ∷ map string_bytes rest.now }
+    ensures { IsCall (explaining_by (mode_of first.now) first.now (map string_bytes rest.now))
+        (O.history office.old) (O.history office.new) result }
+{
+    match mode_of(first) {
+        Some(mode) => answer_files(alloc, office, mode, rest),
+        None => answer_files(alloc, office, Mode::Listing, words),
+    }
+}
+
+/// What the first argument asks for.
+#[derive(Clone, Copy, PartialEq, Eq)]
+pub(crate) enum Task {
+    /// To store the listing of a file.
+    Store,
+    /// The map of a link.
+    MapLink,
+    /// To explain files.
+    Explain,
+}
+
+fn task_of(word: &str) -> Task
+    ensures { result ≡ task_of word.now }
+{
+    match word {
+        "-o" => Task::Store,
+        "-m" => Task::MapLink,
+        _ => Task::Explain,
+    }
+}
+
 /// Does what the first argument asks for with those after it.
 fn answer_words<O: Office>(alloc: Global, office: &mut O, words: &[String]) -> Result<Answer, Fault>
     ensures { IsCall (asked_in (map string_bytes words.now))
@@ -105,13 +139,10 @@ fn answer_words<O: Office>(alloc: Global, office: &mut O, words: &[String]) -> R
     let [first, rest @ ..] = words else {
         return Ok(usage_answer(alloc, USAGE)?);
     };
-    match first.as_str() {
-        "-o" => answer_stored(alloc, office, rest),
-        "-m" => map_files(alloc, office, rest),
-        word => match mode_of(word) {
-            Some(mode) => answer_files(alloc, office, mode, rest),
-            None => answer_files(alloc, office, Mode::Listing, words),
-        },
+    match task_of(first.as_str()) {
+        Task::Store => answer_stored(alloc, office, rest),
+        Task::MapLink => map_files(alloc, office, rest),
+        Task::Explain => answer_by_mode(alloc, office, first.as_str(), rest, words),
     }
 }
 
