@@ -3,8 +3,8 @@
  * /usr/share/doc/libv7-dev. The header needs C99, or C++98 with <stdint.h>.
  *
  * Each call takes bytes and gives bytes, and keeps nothing for the next call. An object or a file is the bytes of an a.out
- * file; a list of objects is their bytes one after another, since the header of each says how long it is. v7_run, v7_link_list and
- * v7_link_findings take the bytes of each object apart.
+ * file; a list of objects is their bytes one after another, since the header of each says how long it is. v7_run, v7_map, v7_link_list
+ * and v7_link_findings take the bytes of each object separately.
  *
  * Sizes are in bytes. A call takes memory from malloc and gives it back before it returns. Calls share nothing, so threads may
  * make them at once.
@@ -222,14 +222,14 @@ static inline const char *v7_strerror(uint32_t fault)
 struct v7_answer {
     uint32_t fault;     /* of enum v7_fault */
     uint32_t word;      /* V7_BAD_RELOCATION, V7_BAD_SYMBOL_NUMBER: the index of the word, text before data, from 0. V7_TOO_LONG:
-                         * the first part that is too long, of enum v7_part. 61 to 75: the column, and 0xffffffff for all that are
-                         * further. Of v7_from_gnu for V7_BAD_MAGIC the word that is there, for V7_ODD_SIZE the part, for
-                         * V7_TOO_MANY_SYMBOLS how many stay, and for 82 to 89 as said there. Otherwise 0 */
+                         * the first part that is too long, of enum v7_part. 61 to 75: the column, or 0xffffffff if it is larger.
+                         * v7_from_gnu: with V7_BAD_MAGIC the word that is there, with V7_ODD_SIZE the part, with
+                         * V7_TOO_MANY_SYMBOLS how many symbols stay, and with 82 to 89 as described there. Otherwise 0 */
     size_t place;       /* a number, counted from 0. For the faults 11 to 34 of a link it is that of the object, for 7 to 24 of
                          * v7_session and v7_state that of the edit, and for V7_MANY_NAMES that of the name. For 61 to 75 it is the
-                         * line, counted from 1, and of v7_from_gnu the byte of the file. For V7_NO_MEMORY it is that of an object
+                         * line, counted from 1. For v7_from_gnu it is the byte of the file. For V7_NO_MEMORY it is that of an object
                          * or edit which the call reached, or 0. Otherwise 0 */
-    size_t size;        /* the size of the result; of v7_take_apart and v7_read 0 */
+    size_t size;        /* the size of the result; 0 for v7_take_apart and v7_read */
     size_t report_size; /* for v7_link, v7_link_list and v7_session the size of the report, for v7_link_findings the number of
                          * findings, for v7_state the number of replies, for v7_remarks the number of remarks; otherwise 0 */
 };
@@ -295,7 +295,7 @@ enum v7_gnu_option {
 uint32_t v7_from_gnu(uint32_t options, const unsigned char *bytes, size_t size, unsigned char *room, size_t room_size,
                      struct v7_answer *answer);
 
-/* Tells what is wrong in BYTES, and then what is odd and what is suspicious in the file that they begin with, as `v7-explain` does:
+/* Reports what is wrong in BYTES, and then what is odd and what is suspicious in the file that they begin with, as `v7-explain` does:
  * REMARKS gets a record for each, and TEXTS their texts, one after another without newlines. TEXT_ROOM is in bytes, and REMARK_ROOM
  * in remarks; both are written or neither. The status is 1 if something is wrong, 2 if there is a fault, and otherwise 0. Faults:
  * V7_NO_MEMORY, V7_NO_ROOM. */
@@ -358,7 +358,7 @@ uint32_t v7_link(uint32_t options, const unsigned char *entry, size_t entry_size
                  const unsigned char *objects, size_t objects_size, unsigned char *room, size_t room_size, unsigned char *report,
                  size_t report_size, struct v7_answer *answer);
 
-/* Links objects as v7_link does, with the bytes of each object apart. What follows an object in its bytes is not looked at, as in
+/* Links objects as v7_link does, with the bytes of each object separately. What follows an object in its bytes is not looked at, as in
  * `v7 ld`. So an object that is cut short is refused itself; in a list of bytes the next object would be taken for its end. `place`
  * is the number of the object in OBJECTS. The faults are those of v7_link. */
 struct v7_slice {
@@ -399,11 +399,11 @@ uint32_t v7_session(uint32_t options, const unsigned char *entry, size_t entry_s
                     unsigned char *replies, size_t replies_size, unsigned char *room, size_t room_size, unsigned char *report,
                     size_t report_size, struct v7_answer *answer);
 
-/* One call for a link and for a session, with the bytes of each object apart, so that an object that is cut short is refused itself.
- * A struct of each begins with its size: set it to `sizeof`. A later library may know longer structs, and this one knows shorter
- * ones: a link whose report is wanted as lines alone does without the fields after `objects` and after `report`, and does not touch
- * them; and without V7_PLACES no call touches the fields after `replies`. So set all fields that the size has; what is 0 asks for
- * nothing. The sizes of buffers are counted in what they hold. */
+/* v7_run is one call for a link and for a session. It takes the bytes of each object separately, so an object that is cut short is
+ * refused itself. Request and result begin with their sizes: set these to `sizeof`, and set all fields; what is 0 asks for nothing.
+ * A later library may know longer structs. This one takes shorter ones too, and does not touch what they lack: for a link whose
+ * report is wanted as lines alone, the request may end after `object_count`, and the result after `report_room`. Without V7_PLACES the
+ * result may end after `reply_room`. The size of a buffer is counted in what it holds: bytes, findings, replies or places. */
 enum v7_mode {
     V7_LINK = 0,   /* link all objects, as v7_link_list does: `edits` are not read, and there are no replies */
     V7_SESSION = 1 /* add and withdraw by the edits, and link what is left, as v7_session does: V7_ADD adds the next of the objects */
@@ -432,10 +432,10 @@ struct v7_request {
 };
 struct v7_result {
     size_t size;
-    uint32_t fault; /* these three as in struct v7_answer; of a session, `place` is the number of the edit for 7 to 24 */
+    uint32_t fault; /* these three as in struct v7_answer; in a session, `place` is the number of the edit for 7 to 24 */
     uint32_t word;
     size_t place;
-    size_t file_size; /* what there is for each buffer, also with V7_NO_ROOM; with another fault 0 */
+    size_t file_size; /* what each buffer needs, also with V7_NO_ROOM; with another fault 0 */
     size_t report_size;
     unsigned char *file;
     size_t file_room;
@@ -457,9 +457,9 @@ struct v7_result {
  * a struct that is too short for them. */
 uint32_t v7_run(const struct v7_request *request, struct v7_result *result);
 
-/* The map of a link, as v7-explain -m shows it; docs/OBJECTS.md explains one. Objects, names and uses are numbered from 0. */
+/* The map of a link, as `v7-explain -m` shows it; v7-explain(1) describes it. Objects, names and uses are numbered from 0. */
 struct v7_map_head {
-    uint64_t text_end; /* where the segments lie; commons are before bss. All are 0 if an object is refused */
+    uint64_t text_end; /* where the segments are; commons are before bss. All are 0 if an object is refused */
     uint64_t data_start;
     uint64_t data_end;
     uint64_t bss_start;
@@ -573,7 +573,7 @@ uint32_t v7_state(uint32_t form, const unsigned char *forced, size_t forced_size
  * A word that refers to text, data or bss holds an address of the object: these count on through text, data and bss, from 0. A
  * word that refers to a symbol holds what is to be added to the value of the symbol; usually 0. If the word is relative to the pc,
  * its own address and 2 more are subtracted, since the pc is then the address after the word. So `jsr pc,_f` at address 0 has its
- * operand at 2, and the operand holds 0177774, which is minus 4. */
+ * operand at 2, and the operand holds 0177774, which is minus 4. docs/OBJECTS.md has a word of each kind. */
 enum v7_relocation {
     V7_NUMBER = 0,  /* the word does not refer to anything */
     V7_IN_TEXT = 2,
