@@ -95,7 +95,7 @@ pub fn reached_instruction_law()
 /// A disassembly of the program shows, at the place of a word of an object, what a disassembly of the object shows at that word: a line
 /// with the same operation, modes, registers and numbers. The word is not relocated, and the object's text does not end within the
 /// instruction. An operand is that of `instruction_law`, shown by the names that the program has for it. The law is for links without
-/// `-r`. (own choice)
+/// `-r`, and for the plain decoder, which shows the arguments of `sys` like other words. (own choice)
 pub fn disassembly_law()
     ensures { ProgramsShowInstructions }
 {}

@@ -2,8 +2,8 @@
 ghost use Rattle.link_out.specs.laws.Stripping.{StripLaw, StripsOnce};
 ghost use Rattle.link_out.specs.laws.PartialLinks.{PartialIsObject, PartialReplacesAlone, PartialReplacesAmong};
 
-/// Stripping and linking go together: wherever a link without relocation gives a file, that file stripped is what the
-/// link gives that keeps no symbols, and the reports are the same; and stripping twice is stripping once. (strip(1))
+/// Stripping a linked program gives what a link without symbols gives: if a link without relocation gives a file, the link with
+/// `-s` gives that file stripped, with the same report. Stripping twice is stripping once. (strip(1))
 pub fn strip_law()
     ensures link { StripLaw }
     ensures once { StripsOnce }

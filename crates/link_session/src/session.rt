@@ -1,4 +1,4 @@
-//! The session: the objects that are kept, their merged image, and the journal.
+//! The session: an incremental link of a list of objects, from which the object added last can be taken out again.
 ghost use Rattle.std.specs.Prelude.{◌≡◌, ◌*◌, ◌≤◌, ◌<◌, ◌++◌, ◌∷◌, [], None, Some, length, map, replicate, position, slice_get, bytes_eq, IsOk, IfOk, IfErr, OnOk, OnErr, IfSome, IsNone};
 ghost use Rattle.std.specs.List.{AllByRecursion};
 ghost use Rattle.std.specs.Map.{keys_of};
@@ -47,9 +47,10 @@ pub(crate) struct UndoRecord {
     pub(crate) sizes: Sizes,
 }
 
-/// A list of objects, forced names before them, and the merged image of all, with a journal by which the object added
-/// last is taken out again. Contracts see it as the forced names, the objects and the journal: the image is a function
-/// of these. (ld(1); the journal is an own choice)
+/// An incremental link: the forced names of `-u`, a list of objects, and the merged image of all. In the image names are
+/// resolved, and no address is chosen yet. A journal holds what each addition overwrote, so that the object added last
+/// can be taken out again. Contracts see the forced names, the objects and the journal: the image is a function of
+/// these. (ld(1); the journal is an own choice)
 #[derive(Drop)]
 pub struct Session {
     forced: Forced,
@@ -146,8 +147,8 @@ impl Session {
         self.forced.names().len() as u16
     }
 
-    /// Appends an object, and joins it to the merged image: words that refer to names which are defined, before or
-    /// now, are bound. (ld(1); the limits are an own choice)
+    /// Appends an object, and merges it into the image: its segments are appended and its names are resolved. Each word
+    /// that refers to a name which is now defined is bound, in earlier objects too. (ld(1); the limits are an own choice)
     ///
     /// Errors, the first that applies: `TextFull`, 1, `DataFull`, 2, and `BssFull`, 3, if that segment would pass
     /// 65,534 bytes in all; `NamesFull`, 4, if there would be more than 65,535 externals; `Memory`, 5, if memory
@@ -194,8 +195,8 @@ impl Session {
         }
     }
 
-    /// Takes the object added last out again, and returns its label and the object: the image is then that of the
-    /// others. `None` if no object is there. (own choice)
+    /// Takes the object added last out again, and returns its label and the object. The image is then that of the
+    /// others. `None` if there is no object. This does not fail for lack of memory. (own choice)
     pub fn withdraw(&mut self) -> Option<(String, Object)>
         ensures none { IsNone result → (self.old.entries ≡ []) × (self.new ≡ self.old) }
         ensures last { IfSome result (λ last.
