@@ -111,7 +111,7 @@ impl File {
     ghost use Rattle.aout_core.specs.Parts.{contents_of};
     ghost use Rattle.aout_core.specs.Contents.{Fits};
 
-    /// The file of these parts. `Parts::fits` tells whether they make one. (a.out(5))
+    /// The file of these parts, which have to fit: `Parts::fits` checks that. (a.out(5))
     pub fn from_parts(parts: Parts) -> File
         requires { Fits (contents_of parts) }
         ensures { result ≡ contents_of parts }

@@ -1,4 +1,4 @@
-//! Files that are read whole. No contract can say what a file gives, so `read_all` is to be read.
+//! Files that are read whole. No contract can say what a file gives, so `read_all` has none: read its body.
 ghost use Rattle.std.specs.Prelude.{◌≡◌, ◌⊎◌, IfErr, IfOk, IfSome};
 ghost use Rattle.aout_core.specs.declared.whole.FileFault.TheVariants.{Failed, Memory};
 

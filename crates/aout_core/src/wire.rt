@@ -27,10 +27,10 @@ pub trait BufferedWrite: Write {
         ensures empty { OnOk result (waiting self.new ≡ []) };
 }
 
-/// A reader or a writer, and a latch: whether the device has failed.
+/// A reader or a writer with a sticky error: a latch, which says whether the device has failed.
 ///
 /// The latch goes on if a call of the device returns an error of any kind, or if a write of some bytes takes
-/// none of them. A wire whose latch is on touches its device no more: each use of it returns `DeviceFault`. (own
+/// none of them. A wire whose latch is on does not touch its device again: each use of it returns `DeviceFault`. (own
 /// choice)
 #[derive(Drop)]
 pub struct Wire<D> {
@@ -65,7 +65,7 @@ impl<D> Wire<D> {
         self.has_failed
     }
 
-    /// The device back, whatever the latch says. (own choice)
+    /// The device back, whether the latch is on or not. (own choice)
     pub fn into_inner(self) -> D
         ensures { result ≡ self.device }
     {
