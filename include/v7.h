@@ -21,10 +21,10 @@
  * something to report, or if an edit was not made, and otherwise 0. *ANSWER is always filled. docs/LINK.md has all limits.
  *
  * V7_NO_MEMORY comes only at a stage at which nothing is refused. A call takes memory after it has accepted the options, the
- * form, the names and the sizes of parts, and for a file only if it is whole. So V7_NO_MEMORY never hides 1 to 6, 11 to 14 of a
- * file, or 7 and 11 to 14 of the first edit. v7_link enters forced names before it reads an object: without them, V7_NO_MEMORY
- * never hides 11 to 14 of the first object either. Once an object or an edit is accepted, memory may run out there, and
- * V7_NO_MEMORY may come in place of any later fault: the answer does not say which request failed.
+ * form, the names and the sizes of parts, and for a file only if it is whole. So V7_NO_MEMORY never comes in place of 1 to 6, of 11
+ * to 14 for a file, or of 7 and 11 to 14 for the first edit. Before v7_link reads an object it enters the forced names: if there are
+ * none, V7_NO_MEMORY does not come in place of 11 to 14 for the first object either. Once an object or an edit is accepted, memory may
+ * run out there, and V7_NO_MEMORY may come in place of any later fault: the answer does not say which request failed.
  */
 #ifndef V7_H
 #define V7_H
@@ -245,7 +245,7 @@ uint32_t v7_version(void);
  * list begins there. Faults: 11 to 14, 21 to 24, V7_NO_MEMORY. */
 uint32_t v7_check(const unsigned char *bytes, size_t size, struct v7_answer *answer);
 
-/* Writes the file that BYTES begin with without its symbols and relocation. Faults: 11 to 14, V7_NO_MEMORY, V7_NO_ROOM. */
+/* Writes the file that BYTES begin with, without its symbols and relocation. Faults: 11 to 14, V7_NO_MEMORY, V7_NO_ROOM. */
 uint32_t v7_strip(const unsigned char *bytes, size_t size, unsigned char *room, size_t room_size, struct v7_answer *answer);
 
 /* Writes the list of the symbols of the file that BYTES begin with, as `v7 nm` prints it: one line for each symbol, with its
@@ -342,8 +342,8 @@ uint32_t v7_remarks(const unsigned char *bytes, size_t size, unsigned char *text
 /* Links OBJECTS in their order, as `v7 ld` does: the linked file goes to ROOM, and the lines of the report to REPORT. Both are
  * written or neither. ENTRY is the name of the entry point, at most 8 bytes, or of size 0 if there is none. FORCED are
  * names that are mentioned before all objects, 8 bytes each, filled up with NULs. Without objects the program is empty. Bytes
- * after an object are the next object: of a file with other bytes after its end, pass as many bytes as v7_check says. Faults,
- * the first that applies: 1 to 5, then for each object in turn 11 to 34, then 41 to 43. V7_NO_MEMORY comes as said above, and
+ * after an object are the next object: if a file has other bytes after its end, pass only as many as v7_check gives. Faults, the
+ * first that applies: 1 to 5, then for each object in turn 11 to 34, then 41 to 43. V7_NO_MEMORY comes as described above, and
  * V7_NO_ROOM last. */
 enum v7_link_option {
     V7_RELOCATABLE = 1,   /* -r: keeps relocation, so that the result is an object */
@@ -391,7 +391,7 @@ uint32_t v7_link_findings(uint32_t options, const unsigned char *entry, size_t e
  * V7_DONE, V7_NOTHING if there was nothing to withdraw, or 31 to 34 if the object was not added. An edit that was not
  * made leaves the session as it was, and the status is 1. REPLIES, file and report are all written, or none is; REPLIES needs
  * as many bytes as there are edits. Faults, the first that applies: 1 to 5 as for v7_link, then for each edit in turn
- * V7_NO_EDIT, 11 to 14 (also if there is no further object), and 21 to 24, then 41 to 43. V7_NO_MEMORY comes as said above, and
+ * V7_NO_EDIT, 11 to 14 (also if there is no further object), and 21 to 24, then 41 to 43. V7_NO_MEMORY comes as described above, and
  * V7_NO_ROOM last. */
 enum v7_edit { V7_ADD = 'a', V7_WITHDRAW = 'w' };
 uint32_t v7_session(uint32_t options, const unsigned char *entry, size_t entry_size, const unsigned char *forced, size_t forced_size,
@@ -562,7 +562,7 @@ uint32_t v7_map(const struct v7_request *request, struct v7_map *map);
  * JSON has all numbers in decimal; a byte of a name that does not print, a quote and a backslash are \u00xx there. v7(3) lists
  * the members of the JSON object. REPLIES are those of v7_session; `report_size` is how many there are. The status is 1 if an
  * edit was not made. State and replies are both written, or neither is. Faults, the first that applies: V7_NO_OPTION for FORM,
- * 4 and 5, then for each edit in turn those of v7_session. V7_NO_MEMORY comes as said above, and V7_NO_ROOM last. */
+ * 4 and 5, then for each edit in turn those of v7_session. V7_NO_MEMORY comes as described above, and V7_NO_ROOM last. */
 enum v7_form { V7_LINES = 0, V7_JSON = 1 };
 uint32_t v7_state(uint32_t form, const unsigned char *forced, size_t forced_size, const unsigned char *edits, size_t edit_count,
                   const unsigned char *objects, size_t objects_size, unsigned char *replies, size_t replies_size,
