@@ -1,7 +1,8 @@
 #!/usr/bin/env python3
-"""Compares include/v7.h with the declarations of the code, with the module of Python and with the crate of Rust: each struct's fields by
-name, place and size, each constant, and each call's parameters. The places in C are those of the compiler `cc`. The documents that the
-header cites have to be installed with it. Each kind of difference is made once in a copy of a text to see that it is found."""
+"""Compares include/v7.h with the declarations of the code, with the module of Python and with the crate v7-sys of Rust: each struct's fields
+by name, place and size, each constant, each call's parameters, and the texts of faults. The places in C are those of the compiler `cc`.
+The documents that the header cites have to be installed with it. Each kind of difference is made once in a copy of a text to see that
+it is found."""
 import ctypes
 import glob
 import importlib.util
@@ -14,7 +15,7 @@ import tempfile
 TOP = os.path.normpath(os.path.join(os.path.dirname(os.path.abspath(__file__)), ".."))
 HEADER = os.path.join(TOP, "include", "v7.h")
 MODULE = os.path.join(TOP, "examples", "python", "v7.py")
-RUST = os.path.join(TOP, "packaging", "rust", "src", "raw.rs")
+RUST = os.path.join(TOP, "packaging", "rust", "v7-sys", "src")
 
 # for the constants of each enum the crate's file and the text of the code that has the number. {Name} is the constant without its
 # prefix in the code's case, {name} in small letters; a factor is what the number of the code is multiplied by
@@ -87,6 +88,10 @@ PYTHON = {"v7_part": "{}", "v7_nm_option": "{}", "v7_link_option": "{}", "v7_rel
           "v7_reply": "Session.{}", "v7_form": "Session._{}", "v7_mode": "_{}", "v7_want": "_{}", "v7_map_name_state": "{}",
           "v7_map_use_kind": "{}", "v7_map_limit_kind": "{}", "v7_gnu_option": "{}", "v7_remark_kind": "{}", "v7_finding_kind": "{}"}
 SIZES = {"u8": 1, "u16": 2, "u32": 4, "u64": 8, "usize": 8}
+# types of v7-sys with the bytes of these
+SAME = {"Name": "[u8; 8]", "Number": "usize"}
+# its structs that C has not
+OWN = [*SAME, "Fault"]
 IN_C = {"u8": "unsigned char", "u16": "uint16_t", "u32": "uint32_t"}
 
 
@@ -292,7 +297,7 @@ def compare_python(header, enums, python):
             if known != value:
                 yield f"{constant}: {value} in C, and {known} in Python"
     numbers = {**enums["v7_fault"], **enums["v7_reply"]}
-    texts = {numbers[name]: text for name, text in re.findall(r'case (V7_\w+):\s*return "(.*?)";', header) if name != "V7_NO_FAULT"}
+    texts = texts_of(header, numbers)
     if texts != python.FAULTS:
         yield f"the texts of faults: {sorted(set(texts.items()) ^ set(python.FAULTS.items()))} in C or in Python alone"
     if {value for value in numbers.values() if value} != set(texts):
@@ -315,6 +320,7 @@ def places_in_rust(structs, name):
     by_rust = {of_rust: fields for of_rust, fields in structs.values()}
 
     def layout(kind):
+        kind = SAME.get(kind, kind)
         if kind.startswith("*"):
             return 8, 8
         if kind in SIZES:
@@ -349,6 +355,11 @@ def rust_calls(rust, structs):
     return found
 
 
+def texts_of(header, numbers):
+    """The texts of faults by their numbers."""
+    return {numbers[name]: text for name, text in re.findall(r'case (V7_\w+):\s*return "(.*?)";', header) if name != "V7_NO_FAULT"}
+
+
 def compare_rust(header, in_c, enums, rust):
     """What differs of what the crate declares."""
     structs, calls = rust_structs(rust), calls_of(header)
@@ -360,11 +371,14 @@ def compare_rust(header, in_c, enums, rust):
         if parameters != calls.get(call):
             yield f"{call}: {calls.get(call)} in C, and {parameters} in Rust"
     numbers = {constant: value for constants in enums.values() for constant, value in constants.items()}
+    texts = {int(number): text for number, text in re.findall(r'^        (\d+) => "(.*)",$', rust, re.M)}
+    if texts != texts_of(header, numbers):
+        yield f"the texts of faults: {sorted(set(texts.items()) ^ set(texts_of(header, numbers).items()))} in C or in Rust alone"
     values = re.findall(r"pub const (V7_\w+): u\d+ = (\d+|b'\w');", rust)
     for constant, value in values:
         if number_of(value) != numbers.get(constant):
             yield f"{constant}: {numbers.get(constant)} in C, and {value} in Rust"
-    if not structs or not declared or not values or len(structs) != rust.count("pub struct ") or len(values) != rust.count("pub const "):
+    if not structs or not declared or not values or len(structs) + len(OWN) != rust.count("pub struct ") or len(values) != rust.count("pub const "):
         yield "a declaration of the crate of Rust is not read"
 
 
@@ -412,24 +426,25 @@ PLANTED = [
     ("library_calls/src/remarks_call.rt", "    pub text: usize,\n    pub text_size: usize,", "    pub text_size: usize,\n    pub text: usize,"),
     ("v7_c/src/lib.rt", "    bss: u32,\n    symbols: &[SymbolRow],", "    symbols: &[SymbolRow],\n    bss: u32,"),
     ("report_objects/src/places.rt", "    pub further: usize,", "    pub further: u32,"),
-    ("raw.rs", "    pub definer: usize,\n    pub next_definer: usize,", "    pub next_definer: usize,\n    pub definer: usize,"),
-    ("raw.rs", "    pub state: u32,\n    pub magic: u16,", "    pub state: u16,\n    pub magic: u16,"),
-    ("raw.rs", "    pub r#type: u16,", "    pub kind: u16,"),
-    ("raw.rs", "v7_map(request: *const Request", "v7_map(request: *mut Request"),
-    ("raw.rs", "remark_room: usize,", "remark_room: u32,"),
-    ("raw.rs", "V7_PLACES: u32 = 4", "V7_PLACES: u32 = 8"),
+    ("v7-sys", "    pub definer: Number,\n    pub next_definer: Number,", "    pub next_definer: Number,\n    pub definer: Number,"),
+    ("v7-sys", "    pub state: u32,\n    pub magic: u16,", "    pub state: u16,\n    pub magic: u16,"),
+    ("v7-sys", "    pub r#type: u16,", "    pub kind: u16,"),
+    ("v7-sys", "v7_map(request: *const Request", "v7_map(request: *mut Request"),
+    ("v7-sys", "remark_room: usize,", "remark_room: u32,"),
+    ("v7-sys", "V7_PLACES: u32 = 4", "V7_PLACES: u32 = 8"),
+    ("v7-sys", '13 => "odd size"', '13 => "odd"'),
 ]
 
 
 def main():
-    header, texts, python, rust = read(HEADER), sources(), module(), read(RUST)
+    header, texts, python, rust = read(HEADER), sources(), module(), "\n".join(map(read, sorted(glob.glob(f"{RUST}/*.rs"))))
     faults = compare(header, texts, python, rust)
     for where, old, new in PLANTED:
-        text = {"v7.h": header, "raw.rs": rust}.get(where) or texts[where]
+        text = {"v7.h": header, "v7-sys": rust}.get(where) or texts[where]
         if text.count(old) != 1:
             faults.append(f"planted: {where} has {text.count(old)} times: {old}")
         other = text.replace(old, new)
-        changed = [other if where == "v7.h" else header, {**texts, where: other} if where in texts else texts, python, other if where == "raw.rs" else rust]
+        changed = [other if where == "v7.h" else header, {**texts, where: other} if where in texts else texts, python, other if where == "v7-sys" else rust]
         if not compare(*changed):
             faults.append(f"{new} in {where} is not noticed")
     for name in ("_Answer", "BSS_PART"):

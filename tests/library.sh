@@ -297,12 +297,15 @@ if command -v rustc >/dev/null; then
 else
     echo "skipped: rustc is not there"
 fi
-# the crate of Rust, in a copy, without any other crate
+# the crates of Rust, in a copy, without any other crate
 if command -v cargo >/dev/null; then
-    grep -q "^version = \"$version\"" "$top/packaging/rust/Cargo.toml" || fail "the crate v7-sys has another version"
-    cp -r "$top/packaging/rust" v7-sys
-    LIBV7_DIR=$room/installed/lib cargo build -q --offline --release --example link --manifest-path v7-sys/Cargo.toml || exit 1
-    links "Rust by v7-sys" v7-sys/target/release/examples/link
+    cp -r "$top/packaging/rust" crates
+    for manifest in crates/Cargo.toml crates/v7-sys/Cargo.toml; do
+        grep -q "^version = \"$version\"" $manifest || fail "$manifest has another version"
+    done
+    grep -q "^v7-sys = .*version = \"=$version\"" crates/Cargo.toml || fail "the crate v7 wants another v7-sys"
+    LIBV7_DIR=$room/installed/lib cargo build -q --offline --release --example link --manifest-path crates/Cargo.toml || exit 1
+    links "Rust by the crate v7" crates/target/release/examples/link
 else
     echo "skipped: cargo is not there"
 fi

@@ -1,13 +1,14 @@
 //! Links objects: `link OUT OBJECT...` does what `v7 ld -o OUT OBJECT...` does, and writes where each name that is reported comes from to
 //! standard error. It compares the link with that of a session and with its map, and each object with that of its listing.
-use std::{env, fs, process};
-use v7_sys::{from_gnu, from_listing, listing, name, remarks, Edit, Link, Program};
+use std::io::{self, Write};
+use std::{env, error, fs, process};
+use v7::{from_gnu, from_listing, listing, remarks, Edit, Link, Program};
 
 /// Each name that is reported, with the path of the object that has it first.
 fn show_findings(program: &Program, paths: &[String]) {
-    for finding in &program.findings {
-        let first = finding.first.map_or("no object", |number| &paths[number]);
-        match finding.further {
+    for (finding, place) in program.findings.iter().zip(&program.places) {
+        let first = place.first.get().map_or("no object", |number| &paths[number]);
+        match place.further.get() {
             Some(further) => eprintln!("{} of {} is defined again in {}", finding.name, first, paths[further]),
             None => eprintln!("{} is first in {}", finding.name, first),
         }
@@ -18,37 +19,38 @@ fn show_findings(program: &Program, paths: &[String]) {
 fn compare_map(program: &Program, objects: &[Vec<u8>]) {
     let map = Link::default().map(objects).expect("a map");
     assert_eq!((map.status, map.head.fault, map.objects.len()), (program.status, 0, objects.len()));
-    for finding in &program.findings {
-        let row = map.names.iter().find(|row| name(&row.name) == finding.name).expect("the name");
-        let first = if row.definer != usize::MAX { row.definer } else { row.user };
-        assert_eq!(finding.first, Some(first));
+    for (finding, place) in program.findings.iter().zip(&program.places) {
+        let row = map.names.iter().find(|row| row.name == finding.name).expect("the name");
+        assert_eq!(place.first.get(), row.definer.get().or(row.user.get()));
     }
+}
+
+/// The listing of an object is that object, and it has remarks or none.
+fn compare_listing(object: &[u8]) {
+    let text = listing(object).expect("a listing");
+    assert_eq!(from_listing(&text).expect("the file"), object);
+    assert!(remarks(object).expect("remarks").iter().all(|remark| !remark.text.is_empty()));
+}
+
+fn link(out: &str, paths: &[String]) -> Result<u32, Box<dyn error::Error>> {
+    let objects = paths.iter().map(fs::read).collect::<Result<Vec<_>, _>>()?;
+    let program = Link::default().of(&objects)?;
+    let again = Link::default().session(&vec![Edit::Add; objects.len()], &objects)?;
+    assert_eq!((&program.file, &program.findings), (&again.file, &again.findings));
+    compare_map(&program, &objects);
+    objects.iter().for_each(|object| compare_listing(object));
+    assert_eq!(from_gnu(b"short", 0).unwrap_err().fault, 11);
+    fs::write(out, &program.file)?;
+    io::stdout().write_all(&program.report)?;
+    show_findings(&program, paths);
+    Ok(program.status)
 }
 
 fn main() {
     let words: Vec<String> = env::args().skip(1).collect();
-    let objects: Vec<Vec<u8>> = words[1..].iter().map(|path| fs::read(path).expect("an object")).collect();
-    let status = match Link::default().of(&objects) {
-        Ok(program) => {
-            let edits: Vec<Edit> = objects.iter().map(|_| Edit::Add).collect();
-            let again = Link::default().session(&edits, &objects).expect("the same session");
-            assert_eq!((&program.file, &program.findings), (&again.file, &again.findings));
-            compare_map(&program, &objects);
-            for object in &objects {
-                let text = listing(object).expect("a listing");
-                assert_eq!(&from_listing(&text).expect("the file"), object);
-                assert!(remarks(object).expect("remarks").iter().all(|remark| !remark.text.is_empty()));
-            }
-            assert_eq!(from_gnu(b"short", 0).unwrap_err().fault, 11);
-            fs::write(&words[0], &program.file).expect("a file");
-            print!("{}", program.report());
-            show_findings(&program, &words[1..]);
-            program.status
-        }
-        Err(fault) => {
-            eprintln!("{fault}");
-            2
-        }
-    };
+    let status = link(&words[0], &words[1..]).unwrap_or_else(|error| {
+        eprintln!("{error}");
+        2
+    });
     process::exit(status as i32);
 }

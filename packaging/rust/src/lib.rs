@@ -1,259 +1,135 @@
-//! The linker of Seventh Edition Unix for the PDP-11, by libv7. `raw` has calls of v7.h, and the rest is a safe wrapper of them.
+//! Safe calls of libv7, the linker of Seventh Edition Unix for the PDP-11. The crate `v7_sys` declares the calls and their numbers.
 //!
 //! ```no_run
 //! let objects = [std::fs::read("main.o")?, std::fs::read("twice.o")?];
-//! let program = v7_sys::Link::default().of(&objects).expect("objects that fit");
-//! print!("{}", program.report());
-//! # Ok::<(), std::io::Error>(())
+//! let program = v7::Link::default().of(&objects)?;
+//! std::fs::write("program", &program.file)?;
+//! # Ok::<(), Box<dyn std::error::Error>>(())
 //! ```
-use std::{error, fmt, mem, ptr};
+//!
+//! Calls share nothing and keep no pointer, so threads may make them at the same time, and all types are `Send` and `Sync`.
+mod records;
 
-pub mod raw;
+pub use records::{Link, Map, Program, Remark};
+pub use v7_sys::{Edit, Fault, Finding, FindingPlace, MapHead, MapLimit, MapName, MapObject, MapUse, Name, Number};
 
-/// An edit of a session.
-#[derive(Clone, Copy, Debug, PartialEq, Eq)]
-#[repr(u8)]
-pub enum Edit {
-    /// Adds the next object.
-    Add = raw::V7_ADD,
-    /// Withdraws the object that was added last.
-    Withdraw = raw::V7_WITHDRAW,
-}
-
-/// What a link is asked for: the options, a bit each as in v7.h, the name of the entry point, and names that are forced.
-#[derive(Clone, Debug, Default)]
-pub struct Link {
-    pub options: u32,
-    pub entry: Vec<u8>,
-    pub forced: Vec<[u8; 8]>,
-}
-
-/// A name of a report, and why it is reported: 1 multiply defined, 2 reserved, 3 an entry point not in text, 4 undefined. `first` is the
-/// number of the object that defines it first, or else of the first with a symbol of it, and `further` that of a further definition.
-#[derive(Clone, Debug, PartialEq, Eq)]
-pub struct Finding {
-    pub name: String,
-    pub kind: u32,
-    pub first: Option<usize>,
-    pub further: Option<usize>,
-}
-
-/// What a link gives. The status is 1 if there is something to report, or if an edit was not made.
-#[derive(Clone, Debug, PartialEq, Eq)]
-pub struct Program {
-    pub status: u32,
-    pub file: Vec<u8>,
-    pub report: Vec<u8>,
-    pub findings: Vec<Finding>,
-    /// For each edit of a session 0, or why it was not made.
-    pub replies: Vec<u8>,
-}
-
-impl Program {
-    /// The lines of the report.
-    pub fn report(&self) -> String {
-        String::from_utf8_lossy(&self.report).into_owned()
-    }
-}
-
-/// The map of a link, made or refused. The records are those of v7.h.
-#[derive(Clone, Debug, Default, PartialEq, Eq)]
-pub struct Map {
-    pub status: u32,
-    pub head: raw::MapHead,
-    pub objects: Vec<raw::MapObject>,
-    pub names: Vec<raw::MapName>,
-    pub uses: Vec<raw::MapUse>,
-    pub limits: Vec<raw::MapLimit>,
-}
-
-/// What is wrong or odd in a file: its kind as in v7.h, the byte of the file, and the text.
-#[derive(Clone, Debug, PartialEq, Eq)]
-pub struct Remark {
-    pub kind: u32,
-    pub byte: usize,
-    pub text: String,
-}
-
-/// Why there is nothing: the number of the fault, of the object, edit, line or byte, and of the word or column.
-#[derive(Clone, Copy, Debug, PartialEq, Eq)]
-pub struct Fault {
-    pub fault: u32,
-    pub place: usize,
-    pub word: u32,
-}
-
-impl fmt::Display for Fault {
-    fn fmt(&self, f: &mut fmt::Formatter<'_>) -> fmt::Result {
-        write!(f, "fault {} at {}, word {}", self.fault, self.place, self.word)
-    }
-}
-
-impl error::Error for Fault {}
-
-fn slice(bytes: &[u8]) -> raw::Slice {
-    raw::Slice { bytes: bytes.as_ptr(), size: bytes.len() }
-}
-
-/// A name without the NULs at its end.
-pub fn name(bytes: &[u8; 8]) -> String {
-    let end = bytes.iter().position(|byte| *byte == 0).unwrap_or(8);
-    String::from_utf8_lossy(&bytes[..end]).into_owned()
-}
-
-fn object(number: usize) -> Option<usize> {
-    Some(number).filter(|number| *number != usize::MAX)
-}
-
-/// Calls with a buffer of the size that the call before asked for.
-fn given(call: impl Fn(*mut u8, usize, &mut raw::Answer) -> u32) -> Result<Vec<u8>, Fault> {
-    let (mut room, mut answer) = (vec![], raw::Answer::default());
-    loop {
-        call(room.as_mut_ptr(), room.len(), &mut answer);
-        match answer.fault {
-            0 => {
-                room.truncate(answer.size);
-                return Ok(room);
-            }
-            raw::V7_NO_ROOM if room.len() < answer.size => room = vec![0u8; answer.size],
-            fault => return Err(Fault { fault, place: answer.place, word: answer.word }),
-        }
-    }
-}
-
-/// The listing of a file, as `v7-explain` prints it without its notes.
-pub fn listing(file: &[u8]) -> Result<Vec<u8>, Fault> {
-    // here and below: the pointers are to bytes that live until the call returns, and have the sizes that are passed
-    given(|room, size, answer| unsafe { raw::v7_list(file.as_ptr(), file.len(), room, size, answer) })
-}
-
-/// The file that a listing describes, or its first mistake: `place` is the line and `word` the column.
-pub fn from_listing(text: &[u8]) -> Result<Vec<u8>, Fault> {
-    given(|room, size, answer| unsafe { raw::v7_from_listing(text.as_ptr(), text.len(), room, size, answer) })
-}
-
-/// The object that one of GNU's assembler becomes; the options are bits as in v7.h.
-pub fn from_gnu(file: &[u8], options: u32) -> Result<Vec<u8>, Fault> {
-    given(|room, size, answer| unsafe { raw::v7_from_gnu(options, file.as_ptr(), file.len(), room, size, answer) })
-}
-
-/// What is wrong and odd in a file, as `v7-explain` prints it.
-pub fn remarks(file: &[u8]) -> Result<Vec<Remark>, Fault> {
-    let (mut texts, mut rows, mut answer) = (vec![], vec![], raw::Answer::default());
-    loop {
-        unsafe {
-            raw::v7_remarks(file.as_ptr(), file.len(), texts.as_mut_ptr(), texts.len(), rows.as_mut_ptr(), rows.len(), &mut answer);
-        }
-        match answer.fault {
-            0 => break,
-            raw::V7_NO_ROOM if rows.len() < answer.report_size => {
-                texts = vec![0u8; answer.size];
-                rows = vec![raw::Remark::default(); answer.report_size];
-            }
-            fault => return Err(Fault { fault, place: answer.place, word: answer.word }),
-        }
-    }
-    let remark = |row: &raw::Remark| Remark {
-        kind: row.kind,
-        byte: row.place,
-        text: String::from_utf8_lossy(&texts[row.text..row.text + row.text_size]).into_owned(),
-    };
-    Ok(rows.iter().map(remark).collect())
-}
+use std::mem::size_of;
+use v7_sys as raw;
 
 impl Link {
     /// Links these objects in their order.
     pub fn of<B: AsRef<[u8]>>(&self, objects: &[B]) -> Result<Program, Fault> {
-        self.ask(raw::V7_LINK, objects, &[], run)
+        self.ask(raw::V7_LINK, &[], objects, run)
     }
 
     /// Makes the edits, each addition with the next of the objects, and links what is left.
     pub fn session<B: AsRef<[u8]>>(&self, edits: &[Edit], objects: &[B]) -> Result<Program, Fault> {
-        let letters: Vec<u8> = edits.iter().map(|edit| *edit as u8).collect();
-        self.ask(raw::V7_SESSION, objects, &letters, run)
+        self.ask(raw::V7_SESSION, edits, objects, run)
     }
 
     /// The map of the link of these objects. A link that is refused for its sizes or its names has one too.
     pub fn map<B: AsRef<[u8]>>(&self, objects: &[B]) -> Result<Map, Fault> {
-        self.ask(raw::V7_LINK, objects, &[], map)
+        self.ask(raw::V7_LINK, &[], objects, map)
     }
 
-    fn ask<B: AsRef<[u8]>, T>(&self, mode: u32, objects: &[B], letters: &[u8], call: impl Fn(&raw::Request) -> T) -> T {
-        let slices: Vec<raw::Slice> = objects.iter().map(|object| slice(object.as_ref())).collect();
-        let forced = self.forced.concat();
+    fn ask<B: AsRef<[u8]>, T>(&self, mode: u32, edits: &[Edit], objects: &[B], call: fn(&raw::Request) -> T) -> T {
+        let objects: Vec<_> = objects.iter().map(|object| raw::Slice::of(object.as_ref())).collect();
         call(&raw::Request {
-            size: mem::size_of::<raw::Request>(),
+            size: size_of::<raw::Request>(),
             mode,
             options: self.options,
-            wants: raw::V7_REPORT + raw::V7_FINDINGS + raw::V7_PLACES,
-            entry: slice(&self.entry),
-            forced: slice(&forced),
-            objects: slices.as_ptr(),
-            object_count: slices.len(),
-            edits: slice(letters),
+            wants: raw::V7_REPORT | raw::V7_FINDINGS | raw::V7_PLACES,
+            entry: raw::Slice::of(&self.entry),
+            forced: raw::Slice::of(&self.forced),
+            objects: objects.as_ptr(),
+            object_count: objects.len(),
+            edits: raw::Slice::of(edits),
         })
     }
 }
 
-fn run(request: &raw::Request) -> Result<Program, Fault> {
-    let (mut file, mut report, mut replies, mut findings, mut places) = (vec![], vec![], vec![], vec![], vec![]);
+/// Makes a call again and again until its buffers have the sizes that it answered: its status, the answer and the buffers.
+fn made<A: Default, B: Default>(call: impl Fn(&mut A, &mut B) -> u32) -> Result<(u32, A, B), Fault>
+where
+    for<'a> Fault: From<&'a A>,
+{
+    let (mut answer, mut buffers) = (A::default(), B::default());
     loop {
-        // what is 0 is a null pointer or a size
-        let mut result: raw::Result = unsafe { mem::zeroed() };
-        result.size = mem::size_of::<raw::Result>();
-        (result.file, result.file_room) = room(&mut file);
-        (result.report, result.report_room) = room(&mut report);
-        (result.replies, result.reply_room) = room(&mut replies);
-        (result.findings, result.finding_room) = room(&mut findings);
-        (result.places, result.place_room) = room(&mut places);
-        let status = unsafe { raw::v7_run(request, &mut result) };
-        if result.fault == raw::V7_NO_ROOM && file.is_empty() {
-            file = vec![0u8; result.file_size];
-            report = vec![0u8; result.report_size];
-            replies = vec![0u8; result.reply_count];
-            findings = vec![raw::Finding::default(); result.finding_count];
-            places = vec![raw::FindingPlace::default(); result.place_count];
-            continue;
+        let status = call(&mut answer, &mut buffers);
+        match Fault::from(&answer) {
+            Fault { fault: 0, .. } => return Ok((status, answer, buffers)),
+            Fault { fault: raw::V7_NO_ROOM, .. } => {}
+            fault => return Err(fault),
         }
-        if result.fault != 0 {
-            return Err(Fault { fault: result.fault, place: result.place, word: result.word });
-        }
-        let finding = |(row, place): (&raw::Finding, &raw::FindingPlace)| Finding {
-            name: name(&row.name),
-            kind: row.kind,
-            first: object(place.first),
-            further: object(place.further),
-        };
-        let findings = findings.iter().zip(&places).map(finding).collect();
-        return Ok(Program { status, file, report, findings, replies });
     }
+}
+
+/// Makes a buffer of so many records, and lends it to a call.
+fn lend<T: Clone + Default>(buffer: &mut Vec<T>, count: usize, records: &mut *mut T, room: &mut usize) {
+    buffer.resize(count, T::default());
+    (*records, *room) = (buffer.as_mut_ptr(), count);
+}
+
+fn run(request: &raw::Request) -> Result<Program, Fault> {
+    let (status, _, program) = made(|result: &mut raw::Result, program: &mut Program| {
+        lend(&mut program.file, result.file_size, &mut result.file, &mut result.file_room);
+        lend(&mut program.report, result.report_size, &mut result.report, &mut result.report_room);
+        lend(&mut program.findings, result.finding_count, &mut result.findings, &mut result.finding_room);
+        lend(&mut program.places, result.place_count, &mut result.places, &mut result.place_room);
+        lend(&mut program.replies, result.reply_count, &mut result.replies, &mut result.reply_room);
+        // SAFETY: the request is of `ask`; what its slices and the buffers point to outlives the call, and has the sizes that are passed
+        unsafe { raw::v7_run(request, result) }
+    })?;
+    Ok(Program { status, ..program })
 }
 
 fn map(request: &raw::Request) -> Result<Map, Fault> {
-    let mut found = Map::default();
-    loop {
-        let mut given: raw::Map = unsafe { mem::zeroed() };
-        given.size = mem::size_of::<raw::Map>();
-        (given.objects, given.object_room) = room(&mut found.objects);
-        (given.names, given.name_room) = room(&mut found.names);
-        (given.uses, given.use_room) = room(&mut found.uses);
-        (given.limits, given.limit_room) = room(&mut found.limits);
-        let status = unsafe { raw::v7_map(request, &mut given) };
-        if given.fault == raw::V7_NO_ROOM && found.limits.is_empty() {
-            found.objects = vec![raw::MapObject::default(); given.object_count];
-            found.names = vec![raw::MapName::default(); given.name_count];
-            found.uses = vec![raw::MapUse::default(); given.use_count];
-            found.limits = vec![raw::MapLimit::default(); given.limit_count];
-            continue;
-        }
-        if given.fault != 0 {
-            return Err(Fault { fault: given.fault, place: given.place, word: given.word });
-        }
-        return Ok(Map { status, head: given.head, ..found });
-    }
+    let (status, answer, map) = made(|answer: &mut raw::Map, map: &mut Map| {
+        lend(&mut map.objects, answer.object_count, &mut answer.objects, &mut answer.object_room);
+        lend(&mut map.names, answer.name_count, &mut answer.names, &mut answer.name_room);
+        lend(&mut map.uses, answer.use_count, &mut answer.uses, &mut answer.use_room);
+        lend(&mut map.limits, answer.limit_count, &mut answer.limits, &mut answer.limit_room);
+        // SAFETY: as in `run`
+        unsafe { raw::v7_map(request, answer) }
+    })?;
+    Ok(Map { status, head: answer.head, ..map })
 }
 
-/// The pointer and the size of a buffer.
-fn room<T>(rows: &mut Vec<T>) -> (*mut T, usize) {
-    (if rows.is_empty() { ptr::null_mut() } else { rows.as_mut_ptr() }, rows.len())
+/// Makes a call that fills a buffer with bytes.
+fn filled(call: impl Fn(*mut u8, usize, &mut raw::Answer) -> u32) -> Result<Vec<u8>, Fault> {
+    let (_, _, bytes) = made(|answer: &mut raw::Answer, bytes: &mut Vec<u8>| {
+        bytes.resize(answer.size, 0);
+        call(bytes.as_mut_ptr(), bytes.len(), answer)
+    })?;
+    Ok(bytes)
+}
+
+/// The listing of a file, as `v7-explain` prints it without its notes.
+pub fn listing(file: &[u8]) -> Result<Vec<u8>, Fault> {
+    // SAFETY: here and below, file and buffer outlive the call, and have the sizes that are passed
+    filled(|room, size, answer| unsafe { raw::v7_list(file.as_ptr(), file.len(), room, size, answer) })
+}
+
+/// The file that a listing describes, or its first mistake: `place` is the line and `word` the column.
+pub fn from_listing(text: &[u8]) -> Result<Vec<u8>, Fault> {
+    // SAFETY: as in `listing`
+    filled(|room, size, answer| unsafe { raw::v7_from_listing(text.as_ptr(), text.len(), room, size, answer) })
+}
+
+/// The object that one of GNU's assembler becomes; the options are bits.
+pub fn from_gnu(file: &[u8], options: u32) -> Result<Vec<u8>, Fault> {
+    // SAFETY: as in `listing`
+    filled(|room, size, answer| unsafe { raw::v7_from_gnu(options, file.as_ptr(), file.len(), room, size, answer) })
+}
+
+/// What is wrong and odd in a file, as `v7-explain` prints it.
+pub fn remarks(file: &[u8]) -> Result<Vec<Remark>, Fault> {
+    let (_, _, (texts, rows)) = made(|answer: &mut raw::Answer, (texts, rows): &mut (Vec<u8>, Vec<raw::Remark>)| {
+        texts.resize(answer.size, 0);
+        rows.resize(answer.report_size, raw::Remark::default());
+        // SAFETY: as in `listing`
+        unsafe { raw::v7_remarks(file.as_ptr(), file.len(), texts.as_mut_ptr(), texts.len(), rows.as_mut_ptr(), rows.len(), answer) }
+    })?;
+    let text = |row: &raw::Remark| String::from_utf8_lossy(&texts[row.text..row.text + row.text_size]).into_owned();
+    Ok(rows.iter().map(|row| Remark { kind: row.kind, byte: row.place, text: text(row) }).collect())
 }

@@ -1,32 +1,46 @@
-//! What v7.h declares, of the calls that this crate makes.
+//! Declarations of v7.h: the calls of libv7 that the crate `v7` makes, their records and their numbers.
+use std::mem;
+
+mod fault;
+mod values;
+
+pub use fault::Fault;
+pub use values::{Edit, Name, Number};
 
 /// `struct v7_slice`
 #[repr(C)]
-#[derive(Clone, Copy)]
+#[derive(Clone, Copy, Debug)]
 pub struct Slice {
     pub bytes: *const u8,
     pub size: usize,
 }
 
+impl Slice {
+    /// The bytes of items without padding. Its pointer is good as long as they are lent.
+    pub fn of<T: Copy>(items: &[T]) -> Self {
+        Slice { bytes: items.as_ptr().cast(), size: mem::size_of_val(items) }
+    }
+}
+
 /// `struct v7_finding`
 #[repr(C)]
-#[derive(Clone, Copy, Default)]
+#[derive(Clone, Copy, Debug, Default, PartialEq, Eq)]
 pub struct Finding {
-    pub name: [u8; 8],
+    pub name: Name,
     pub kind: u32,
 }
 
 /// `struct v7_finding_place`
 #[repr(C)]
-#[derive(Clone, Copy, Default)]
+#[derive(Clone, Copy, Debug, Default, PartialEq, Eq)]
 pub struct FindingPlace {
-    pub first: usize,
-    pub further: usize,
+    pub first: Number,
+    pub further: Number,
 }
 
 /// `struct v7_request`
 #[repr(C)]
-#[derive(Clone, Copy)]
+#[derive(Clone, Copy, Debug)]
 pub struct Request {
     pub size: usize,
     pub mode: u32,
@@ -41,7 +55,7 @@ pub struct Request {
 
 /// `struct v7_result`
 #[repr(C)]
-#[derive(Clone, Copy)]
+#[derive(Clone, Copy, Debug)]
 pub struct Result {
     pub size: usize,
     pub fault: u32,
@@ -64,6 +78,14 @@ pub struct Result {
     pub place_room: usize,
 }
 
+impl Default for Result {
+    /// Without buffers.
+    fn default() -> Self {
+        // SAFETY: 0 is a number or a null pointer in each field
+        Result { size: mem::size_of::<Result>(), ..unsafe { mem::zeroed() } }
+    }
+}
+
 /// `struct v7_map_head`
 #[repr(C)]
 #[derive(Clone, Copy, Debug, Default, PartialEq, Eq)]
@@ -78,7 +100,7 @@ pub struct MapHead {
     pub state: u32,
     pub magic: u16,
     pub entry_point: u16,
-    pub entry_name: [u8; 8],
+    pub entry_name: Name,
 }
 
 /// `struct v7_map_object`
@@ -94,27 +116,27 @@ pub struct MapObject {
     pub bss_size: u16,
 }
 
-/// `struct v7_map_name`; an object that there is not is `usize::MAX`
+/// `struct v7_map_name`
 #[repr(C)]
 #[derive(Clone, Copy, Debug, Default, PartialEq, Eq)]
 pub struct MapName {
-    pub name: [u8; 8],
-    pub definer: usize,
-    pub next_definer: usize,
-    pub user: usize,
+    pub name: Name,
+    pub definer: Number,
+    pub next_definer: Number,
+    pub user: Number,
     pub state: u32,
     pub r#type: u16,
     pub value: u16,
 }
 
-/// `struct v7_map_use`; an object that there is not is `usize::MAX`
+/// `struct v7_map_use`
 #[repr(C)]
 #[derive(Clone, Copy, Debug, Default, PartialEq, Eq)]
 pub struct MapUse {
     pub address: u64,
-    pub object: usize,
+    pub object: Number,
     pub name: usize,
-    pub label: [u8; 8],
+    pub label: Name,
     pub kind: u32,
     pub offset: u16,
     pub line: u16,
@@ -133,7 +155,7 @@ pub struct MapLimit {
 
 /// `struct v7_map`
 #[repr(C)]
-#[derive(Clone, Copy)]
+#[derive(Clone, Copy, Debug)]
 pub struct Map {
     pub size: usize,
     pub fault: u32,
@@ -154,9 +176,17 @@ pub struct Map {
     pub limit_room: usize,
 }
 
+impl Default for Map {
+    /// Without buffers.
+    fn default() -> Self {
+        // SAFETY: 0 is a number or a null pointer in each field
+        Map { size: mem::size_of::<Map>(), ..unsafe { mem::zeroed() } }
+    }
+}
+
 /// `struct v7_answer`
 #[repr(C)]
-#[derive(Clone, Copy, Default)]
+#[derive(Clone, Copy, Debug, Default, PartialEq, Eq)]
 pub struct Answer {
     pub fault: u32,
     pub word: u32,
@@ -167,7 +197,7 @@ pub struct Answer {
 
 /// `struct v7_remark`
 #[repr(C)]
-#[derive(Clone, Copy, Default)]
+#[derive(Clone, Copy, Debug, Default, PartialEq, Eq)]
 pub struct Remark {
     pub place: usize,
     pub text: usize,
@@ -193,11 +223,31 @@ extern "C" {
     pub fn v7_version() -> u32;
 }
 
+pub const V7_RELOCATABLE: u32 = 1;
+pub const V7_STRIP: u32 = 2;
+pub const V7_EXTERNALS: u32 = 4;
+pub const V7_NOT_L: u32 = 8;
+pub const V7_PURE: u32 = 16;
+pub const V7_SPLIT: u32 = 32;
+pub const V7_FORCE_COMMONS: u32 = 64;
+
+pub const V7_DROP_DEBUGGER: u32 = 1;
+pub const V7_DROP_UNUSED: u32 = 2;
+pub const V7_DROP_LOCALS: u32 = 4;
+
+pub const V7_MULTIPLY_DEFINED: u32 = 1;
+pub const V7_RESERVED_NAME: u32 = 2;
+pub const V7_ENTRY_NOT_IN_TEXT: u32 = 3;
+pub const V7_UNDEFINED_NAME: u32 = 4;
+
 pub const V7_LINK: u32 = 0;
 pub const V7_SESSION: u32 = 1;
+
 pub const V7_REPORT: u32 = 1;
 pub const V7_FINDINGS: u32 = 2;
 pub const V7_PLACES: u32 = 4;
+
 pub const V7_ADD: u8 = b'a';
 pub const V7_WITHDRAW: u8 = b'w';
+
 pub const V7_NO_ROOM: u32 = 60;
