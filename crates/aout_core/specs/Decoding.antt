@@ -1,7 +1,7 @@
 -- The file that a list of bytes begins with, or why it begins with none. (a.out(5); the refusals: own choice)
 --
--- To read is to look at the 16 bytes of the header, to see whether its magic and its sizes may be in a file, and then to cut as
--- many bytes from their places as the header says. What follows the last symbol is not part of the file.
+-- The first 16 bytes are the header. If its magic and its sizes may be in a file, the lists are taken from the bytes after it, each
+-- from its place and as long as the header announces. What follows the last symbol is not part of the file.
 use Rattle.std.specs.Prelude.{ℕ, zero, suc, ◌+◌, ◌/◌, not, if◌then◌else◌, nat_lt, List, [], ◌∷◌, map}
 use Rattle.std.specs.Prelude.{take, drop, length, slice_index, Result, Ok, Err}
 use Rattle.aout_core.specs.declared.header.Header.{Header}
@@ -36,7 +36,7 @@ header_in bytes = header_of (words_in (take 16 bytes))
 abbrev pub relocs_in : List ℕ → List Reloc
 relocs_in bytes = map (λ w. record { 0 = w }) (words_in bytes)
 
--- a name of eight bytes, what stands after a NUL ignored, and two words
+-- a name of eight bytes, of which those after a NUL are ignored, and two words
 abbrev pub symbol_in : List ℕ → Symbol
 symbol_in bytes =
     let words : List ℕ = words_in (part 8 4 bytes) in

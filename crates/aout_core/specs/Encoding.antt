@@ -1,6 +1,6 @@
 -- The encoding of a file: its bytes. (a.out(5))
 --
--- The parts stand one after another: 16 bytes of header, text, data, the relocation of text, that of data, and 12 bytes for each
+-- The parts come one after another: 16 bytes of header, text, data, the relocation of text, that of data, and 12 bytes for each
 -- symbol. Each word is written low byte first, and each name with NULs up to its eighth byte, so a file has one encoding.
 use Rattle.std.specs.Prelude.{ℕ, ◌+◌, List, [], ◌∷◌, ◌++◌}
 use Rattle.std.specs.List.{flat_map}

@@ -1,7 +1,7 @@
--- What contracts see of a wire, its device and its latch, and what they say of a write to it.
+-- What contracts see of a wire, its device and its latch, and what a write to it does.
 --
 -- A wire is a reader or a writer with a latch that goes on when the device fails, and stays on. What a writer holds is a list of
--- bytes where it is known (`Some`), and writing appends to it: all of the bytes, or on a fault a prefix of them.
+-- bytes if it is known (`Some`), and writing appends to it: all of the bytes, or on a fault a prefix of them.
 use Rattle.std.specs.Prelude.{◌≡◌, ℕ, List, [], ◌++◌, ◌↔◌, Bool, false, Option, Result, IsErr, IsTrue, MatchResult}
 use Rattle.std.specs.Io.KnownBytes.{Appends}
 
@@ -18,7 +18,7 @@ AppendsPrefix old new bytes = (sent : List ℕ) × (rest : List ℕ) × (bytes �
 abbrev pub Puts : {T E : Type 0} → Result T E → Option (List ℕ) → Option (List ℕ) → List ℕ → Type 0
 Puts result old new bytes = MatchResult result (λ _. Appends old new bytes) (λ _. AppendsPrefix old new bytes)
 
--- a write of the bytes `text` to a wire, where a device holds its `contents`: all of them go out, or on a fault a prefix of
+-- a write of the bytes `text` to a wire whose device holds its `contents`: all of them go out, or on a fault a prefix of
 -- them. It is a fault if and only if the latch is on afterwards. A wire whose latch was on is left as it was
 pub record Writes {W T E : Type 0} (contents : W → Option (List ℕ)) (result : Result T E) (old new : Latched W)
     (text : List ℕ) : Type 0 where

@@ -1,8 +1,8 @@
 -- What a link puts at which address of the core. (exec(2), ld(1))
 --
--- The words of each object are, relocated, where a symbol of their place says. Its bss and the commons are zeros. The core has
--- nothing else, and no two segments of it share an address. A link that keeps no symbols has no table to look names up in; its
--- words follow the rows of the relation of linking, and are those of a link that keeps symbols.
+-- Each word of each object is loaded, relocated, at the address that a symbol of its place has. The bss of objects and the commons are
+-- zeros. The core has nothing else, and no two segments of it share an address. A link that keeps no symbols has no table to look
+-- names up in; its words follow the rows of the relation of linking, and are those of a link that keeps symbols.
 use Rattle.std.specs.Prelude.{◌≡◌, ◌≢◌, ℕ, ◌+◌, ◌*◌, ◌%◌, ◌<◌, ◌≤◌, ◌⊎◌, true, cond, List, ◌∷◌, ◌++◌, Some, Ok, slice_get}
 use Rattle.std.specs.List.{AllByRecursion}
 use Rattle.aout_core.specs.declared.header.Header.{Header}
@@ -39,7 +39,7 @@ abbrev pub SpacesAreOne : Type 0
 SpacesAreOne = (forced : List (List ℕ)) (os : List Contents) (o : Choices) (x : Outcome) → o.layout ≢ Split → link forced os o ≡ Ok x →
     (address : ℕ) → core x.file of_instructions address ≡ core x.file of_data address
 
--- where the text fits into a space, each address fits
+-- if the text fits into a space, each address fits
 abbrev pub AddressesFit : Type 0
 AddressesFit =
     (forced : List (List ℕ)) (os : List Contents) (o : Choices) (x : Outcome) → link forced os o ≡ Ok x →
@@ -103,7 +103,7 @@ BssIsZero = (forced : List (List ℕ)) (before : List Contents) (k : Contents) (
     AllByRecursion IsObject (before ++ k ∷ after) → link forced (before ++ k ∷ after) o ≡ Ok x → (n : ℕ) →
     n < k.header.bss_size → IsZero x.file (before ++ k ∷ after) before k n
 
--- where commons are laid out, so is each byte of one, from the value of its symbol on
+-- if commons are laid out, so is each byte of one, from the value of its symbol on
 abbrev pub CommonsAreZero : Type 0
 CommonsAreZero =
     (forced : List (List ℕ)) (os : List Contents) (o : Choices) (x : Outcome) → o.keep ≢ Nothing →

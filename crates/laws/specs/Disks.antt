@@ -1,7 +1,7 @@
 -- Runs of the program on a disk that gives at each path the file that was stored there last. (own choice)
 --
 -- What a run asks of the system, its events, determines what is stored at each path. A disk is what is known of the files before: the
--- bytes at a path. Where an opening gives these bytes, or those that were stored there last, several runs may be taken as one.
+-- bytes at a path. If each opening gives these bytes, or those that were stored there last, several runs may be taken as one.
 use Rattle.std.specs.Prelude.{◌≡◌, ℕ, ◌≤◌, cond, List, [], ◌∷◌, ◌++◌, Option, Some, None, IfSome, bytes_eq}
 use Rattle.std.specs.Io.KnownBytes.{Appends}
 use Rattle.aout_core.specs.Contents.{Contents}
@@ -12,14 +12,14 @@ use Rattle.surroundings.specs.Events.{Event, opened, stored, written}
 use Rattle.surroundings.specs.declared.office.Stored.{Stored}
 use Rattle.surroundings.specs.declared.office.Stored.TheVariants.{Kept}
 
--- the bytes of the file at each path, where they are known
+-- the bytes of the file at each path, if they are known
 abbrev pub Disk : Type 0
 Disk = List ℕ → Option (List ℕ)
 
 abbrev pub with_file : Disk → List ℕ → Option (List ℕ) → Disk
 with_file disk path bytes at = cond (bytes_eq at path) bytes (disk at)
 
--- what is known where a file was to be stored: its bytes, if it was stored whole
+-- what is known of a path at which a file was to be stored: the bytes, if the file was stored whole
 abbrev pub bytes_left : Contents → Stored → Option (List ℕ)
 bytes_left file Kept = Some (encoding file)
 bytes_left file _ = None
@@ -43,7 +43,7 @@ IsOn disk (opened path (Some known) ∷ events) = IfSome (disk path) (λ bytes. 
 IsOn disk (stored path file what ∷ events) = IsOn (with_file disk path (bytes_left file what)) events
 IsOn disk (written path text what ∷ events) = IsOn (with_file disk path (text_left text what)) events
 
--- a run of the program: its words and its script, the disk before it, what was asked of the system before and by it, standard
+-- a run of the program: its arguments and script, the disk before it, what was asked of the system before and by it, standard
 -- output and standard error before and after it, and its status
 pub record Run (W E : Type 0) : Type 0 where
   pub words : List (List ℕ)
@@ -57,7 +57,7 @@ pub record Run (W E : Type 0) : Type 0 where
   pub error_after : Latched E
   pub status : ℕ
 
--- it did what the contract of `perform` says, on its disk, and no fault ended it
+-- it did what the contract of `perform` specifies, on its disk, and no fault ended it
 pub record EndsWell {W E : Type 0} (out_contents : W → Option (List ℕ)) (error_contents : E → Option (List ℕ)) (r : Run W E) : Type 0 where
   pub performs : Performs out_contents error_contents r.words r.script
       (record { asked = Some r.earlier; output = r.output_before; error = r.error_before })

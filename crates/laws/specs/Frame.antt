@@ -1,4 +1,4 @@
--- The frame of a link: what stays as it was where one object is replaced by another. (ld(1))
+-- The frame of a link: what stays as it was if one object is replaced by another. (ld(1))
 --
 -- A changed object may take the place of another if it has the same sizes, the same external symbols in the same order, and as many
 -- kept locals; what its words are, what they refer to, and what its locals are is free. Then the header and the report stay as they
@@ -87,11 +87,11 @@ abbrev pub FrameHolds : Type 0
 FrameHolds = (forced : List (List ℕ)) (before : List Contents) (k l : Contents) (after : List Contents) (o : Choices) (x y : Outcome) →
     AreReplaced forced before k l after o x y → DifferInObject o before k x y
 
--- a place that is none of so many from one on
+-- a place that is not one of so many places from one on
 abbrev pub IsBeside : ℕ → ℕ → ℕ → Type 0
 IsBeside start count place = (place < start) ⊎ (start + count ≤ place)
 
--- the place in a linked file of a byte that k has no part in: not of its text, its data, the relocation of these, or its locals
+-- the place in a linked file of a byte that is not of k: not of its text, its data, the relocation of these, or its locals
 pub record IsOutside (o : Choices) (h : Header) (before : List Contents) (k : Contents) (place : ℕ) : Type 0 where
   pub text : IsBeside (16 + total TextSeg before) k.header.text_size place
   pub «data» : IsBeside (16 + h.text_size + total DataSeg before) k.header.data_size place
@@ -108,7 +108,7 @@ FrameOfBytes =
     (length (encoding x.file) ≡ length (encoding y.file)) × ((place : ℕ) → IsOutside o x.file.header before k place →
     slice_get (encoding x.file) place ≡ slice_get (encoding y.file) place)
 
--- an external symbol in the place of another: of the same name and type, and of the same value where it defines nothing
+-- an external symbol in the place of another: of the same name and type, and of the same value if it defines nothing
 pub record IsRevalued (s t : Symbol) : Type 0 where
   pub name : s.name ≡ t.name
   pub type_bits : s.type_bits ≡ t.type_bits
@@ -181,7 +181,7 @@ pub record WordStays (x y : Outcome) (k l m : Contents) (segment : Segment) (pla
   pub is_there_too : slice_get (segment_words segment y.file) place ≡ Some other
   pub same : (one ≡ other) ⊎ Follows x y k l m r one other
 
--- so does each word of m, which stands after these objects
+-- so does each word of m, which comes after these objects
 abbrev pub WordsStay : Outcome → Outcome → Contents → Contents → Contents → List Contents → Type 0
 WordsStay x y k l m earlier =
     (segment : Segment) (i w : ℕ) (r : Reloc) → slice_get (segment_words segment m) i ≡ Some w →

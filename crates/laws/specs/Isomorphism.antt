@@ -171,8 +171,8 @@ IsTargetOf forced os o file name (to_place (of_common other n)) =
 IsTargetOf forced os o file name (to_end segment) = Means forced os o file name missing × (missing_target name ≡ to_end segment)
 IsTargetOf forced os o file name to_nothing = Means forced os o file name missing × (missing_target name ≡ to_nothing)
 
--- a word of k, the object of this number, counts from a segment of k, from what a name means, or from nothing, as the kind and the
--- symbol's number in its relocation word say
+-- a word of k, the object of this number, counts from a segment of k, from what a name means, or from nothing, by the kind and the
+-- symbol's number in its relocation word
 abbrev pub RefersTo : List (List ℕ) → List Contents → Choices → Contents → ℕ → Contents → Option Kind → ℕ → Target → Type 0
 RefersTo forced os o file number k None entry target = ⊥
 RefersTo forced os o file number k (Some kinds.Absolute) entry target = target ≡ to_nothing
@@ -223,7 +223,7 @@ pub record AreIsomorphic (forced : List (List ℕ)) (os ps : List Contents) (o :
       slice_get (segment_words segment k) i ≡ Some w → slice_get (segment_relocs segment k) i ≡ Some r →
       MovesAsTarget forced os ps o x y to number k segment i r
 
--- where no name is multiply defined in the one, without relocation and with symbols
+-- if no name is multiply defined in the one, without relocation and with symbols
 abbrev pub LinksAreIsomorphic : Type 0
 LinksAreIsomorphic =
     (forced : List (List ℕ)) (os ps : List Contents) (o : Choices) (layout : Layout) (x y : Outcome) →

@@ -1,6 +1,6 @@
 -- What nm and size show of a linked file: the names that its link reported undefined, its externals, and its sizes. (nm(1), size(1), ld(1))
 --
--- The report is of the objects, and a list is of the file alone; these laws say that they agree.
+-- The report is made from the objects, and a list from the linked file alone. By these laws the two agree.
 use Rattle.std.specs.Prelude.{◌≡◌, ◌≢◌, ◌⊎◌, ℕ, ◌+◌, true, false, ◌&&◌, cond, eqb, if◌then◌else◌, List, [], ◌∷◌}
 use Rattle.std.specs.Prelude.{◌++◌, map, filter, codes, Some, Ok, bytes_eq, IsPermutation}
 use Rattle.std.specs.List.{flat_map}
@@ -48,7 +48,7 @@ undefined_symbol name = record { name = name; type_bits = 0o40; value = 0 }
 abbrev pub lines : NmOptions → List ℕ → List Symbol → List ℕ
 lines n path ss = flat_map (λ s. line_heading n path ++ symbol_line s) ss
 
--- by `nm -u`, with `-g` or where no such local is kept, the names that are reported undefined are listed, each once, and no others
+-- by `nm -u`, with `-g` or if no such local is kept, the names that are reported undefined are listed, each once, and no others
 abbrev pub UndefinedAreListed : Type 0
 UndefinedAreListed =
     (forced : List (List ℕ)) (os : List Contents) (o : Choices) (x : Outcome) → o.keep ≢ Nothing →
@@ -64,7 +64,7 @@ UndefinedLines =
     nm_text n ((path, x.file) ∷ [])
     ≡ lines n path (arranged n (listed_locals n (undefined_locals o os) ++ map undefined_symbol x.report.undefined))
 
--- without `-u`: the kept locals, and the rows of the externals that the relation of linking tells
+-- without `-u`: the kept locals, and the rows of the externals that the relation of linking has
 abbrev pub RowLines : Type 0
 RowLines = (forced : List (List ℕ)) (os : List Contents) (o : Choices) (x : Outcome) → o.keep ≢ Nothing → (l : IsLinkedFrom forced os o x) →
     (n : NmOptions) (path : List ℕ) → n.undefined ≡ false →
@@ -96,7 +96,7 @@ pub record IsAfterCommons (forced : List (List ℕ)) (os : List Contents) (o : C
   pub take : CommonsTake o (mentions forced os) earlier taken
   pub after : at ≡ data_start_in h + h.data_size + taken
 
--- the external symbol of a name stands once among the symbols that are listed; it is the row of the name's state, and has that
+-- the external symbol of a name is there once among the symbols that are listed; it is the row of the name's state, and has that
 -- state's letter; a common that is laid out has an address of its own
 pub record IsListedOnce (forced : List (List ℕ)) (os : List Contents) (o : Choices) (file : Contents)
     (listed : List Symbol) (name : List ℕ) : Type 0 where

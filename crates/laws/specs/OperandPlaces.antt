@@ -48,7 +48,7 @@ abbrev pub within_text : Option Kind → Option Kind
 within_text (Some kinds.Absolute) = Some kinds.TextSeg
 within_text _ = None
 
--- what an operand word refers to: what its relocation word says, if that has the pc bit in modes 67 and 77, and in no other mode
+-- what an operand word refers to: the kind of its relocation word, if that has the pc bit in modes 67 and 77, and in no other mode
 abbrev pub kind_meant : Addressing → Reloc → Option Kind
 kind_meant a r =
     if is_relative a then (if is_pc_relative r then kind_of r else within_text (kind_of r))
@@ -125,7 +125,7 @@ OperandsAreThere = (forced : List (List ℕ)) (before : List Contents) (k : Cont
     IsOperand instruction i operand p → (a : Addressing) → addressing_of operand ≡ Some a →
     HasOperand (before ++ k ∷ after) o x before k instruction.row.operation a p
 
--- modes 67 and 37, by which a jump or a call names where it goes
+-- modes 67 and 37, by which a jump or a call has the address that it goes to
 abbrev pub IsDirect : Addressing → Type 0
 IsDirect a = (a ≡ Relative) ⊎ (a ≡ Absolute)
 
@@ -138,7 +138,7 @@ pub record JumpArrives (x : Outcome) (os before : List Contents) (k : Contents) 
   pub is_there : IsWordAt x.file of_instructions address word
   pub arrives : IsAddress x.file os front c to n of_instructions (machine_value a (address + 2) word)
 
--- a jump or a call by one of these modes to a name arrives at its definition, in the space of instructions
+-- a jump or a call by one of these modes to a name reaches its definition, in the space of instructions
 abbrev pub JumpsArrive : Type 0
 JumpsArrive = (forced : List (List ℕ)) (before : List Contents) (k : Contents) (after : List Contents) (o : Choices) (x : Outcome) →
     AllByRecursion IsObject (before ++ k ∷ after) → o.keep ≢ Nothing → link forced (before ++ k ∷ after) o ≡ Ok x →

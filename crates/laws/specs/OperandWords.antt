@@ -42,7 +42,7 @@ machine_value Absolute next word = word % 65536
 machine_value Immediate next word = word % 65536
 machine_value Indexed next word = word % 65536
 
--- the space in which the machine uses that as an address: where the next instruction is, or an operand or its address
+-- the space in which the machine uses that as an address: of the next instruction, or of an operand or its address
 abbrev pub space_used : Operation → Addressing → Space
 space_used operation Relative = if jumps operation then of_instructions else of_data
 space_used operation Absolute = if jumps operation then of_instructions else of_data

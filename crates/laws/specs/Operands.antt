@@ -1,9 +1,9 @@
 -- What an instruction finds by a word of a linked program. (ld(1), the PDP-11's relative and absolute modes)
 --
 -- A word that is relative to the pc is fetched with the pc after it, so the machine adds the address after the word to it. In
--- the object it finds so many bytes beyond a name or a place there; in the program it finds as many beyond the name's value, or
--- beyond where that place is now. A call uses the address that it finds in the space of instructions, and an instruction that
--- fetches or stores uses it in that of data.
+-- the object it finds so many bytes beyond a name or a place there. In the program it finds as many beyond the name's value, or
+-- beyond the address that the place has there. A call uses the address that it finds in the space of instructions, and an
+-- instruction that fetches or stores uses it in that of data.
 use Rattle.std.specs.Prelude.{◌≡◌, ◌≢◌, ℕ, ◌+◌, ◌*◌, ◌%◌, ◌<◌, Bool, true, false, cond, eqb, List}
 use Rattle.std.specs.Prelude.{[], ◌∷◌, ◌++◌, Option, Some, None, Ok, slice_get}
 use Rattle.std.specs.List.{AllByRecursion}
@@ -116,7 +116,7 @@ pub record Arrives (file : Contents) (space : Space) (os before : List Contents)
   pub loaded : n < size_of to c → is_in file.header space to target ≡ true
   pub arrives : operand true address word ≡ target % 65536
 
--- where no name is multiply defined, a call arrives at the definition of its name, in each space in which that may be used,
+-- if no name is multiply defined, a call reaches the definition of its name, in each space in which that may be used,
 -- whatever was linked before, between and after
 abbrev pub CallsArrive : Type 0
 CallsArrive =

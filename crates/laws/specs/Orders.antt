@@ -1,8 +1,8 @@
 -- Laws of the order of objects: another order gives the same program, laid out otherwise. (ld(1))
 --
 -- Without `-r`, objects that are added and linked in one order are added and linked in any other. Sizes, and which names are
--- reported, do not depend on the order of the objects; the places of objects and commons do. Where no name is multiply defined,
--- each name means the same in any order, so each word refers to the same thing. Orders are those that exchanges reach, as of two
+-- reported, do not depend on the order of the objects; the places of objects and commons do. If no name is multiply defined, each
+-- name means the same in any order, so each word refers to the same thing. An order is what exchanges lead to, such as of two
 -- neighbours.
 use Rattle.std.specs.Prelude.{◌≡◌, ◌≢◌, ◌↔◌, ℕ, ◌≤◌, Bool, true, false, not, ◌&&◌, eqb, List, [], ◌∷◌, ◌++◌, map}
 use Rattle.std.specs.Prelude.{filter, length, sum_by, Some, Result, Ok, Err, slice_get, bytes_eq}
@@ -90,7 +90,7 @@ abbrev pub OrderReportsAlike : Type 0
 OrderReportsAlike = (forced : List (List ℕ)) (os ps : List Contents) (o : Choices) (x y : Outcome) → AreOrders forced os ps o x y →
     (x.report.reserved ≡ y.report.reserved) × IsPermutation x.report.undefined y.report.undefined
 
--- the entry point is found in both or in neither, where no name is multiply defined in one of the orders
+-- the entry point is found in both or in neither, if no name is multiply defined in one of the orders
 abbrev pub OrderFindsEntry : Type 0
 OrderFindsEntry = (forced : List (List ℕ)) (os ps : List Contents) (o : Choices) (x y : Outcome) → AreOrders forced os ps o x y →
     x.report.multiples ≡ [] → x.report.entry_bad ≡ y.report.entry_bad
@@ -113,7 +113,8 @@ pub record IsDefinedBy (file : Contents) (os : List Contents) (name : List ℕ) 
   pub names : name ≡ s.name
   pub is : IsDefined file os before k s
 
--- a common has room, and a name that nothing defines has the row of an undefined one, where the linker may define its three names
+-- a common has bytes of its own, and a name that nothing defines has the row of an undefined name, which for one of the linker's three
+-- names may be an address
 abbrev pub Means : List (List ℕ) → List Contents → Choices → Contents → List ℕ → Meaning → Type 0
 Means forced os o file name (definition k s) = IsDefinedBy file os name k s
 Means forced os o file name (common size) = IsCommon forced os name size × HasSpace file os name size
@@ -126,7 +127,7 @@ pub record MeansTheSame (forced : List (List ℕ)) (os ps : List Contents) (o : 
   pub one : Means forced os o x.file name meaning
   pub other : Means forced ps o y.file name meaning
 
--- where no name is multiply defined in one of the orders, each name means the same
+-- if no name is multiply defined in one of the orders, each name means the same
 abbrev pub OrderKeepsMeanings : Type 0
 OrderKeepsMeanings =
     (forced : List (List ℕ)) (os ps : List Contents) (o : Choices) (x y : Outcome) → AreOrders forced os ps o x y →

@@ -1,5 +1,5 @@
--- What it means for a program that nothing is suspicious for sure in an object. (ld(1), the handbook of the PDP-11/70; what is suspicious
--- for sure, and which places are reached: `suspicions`)
+-- What a linked program has of an object in which nothing is suspicious for sure. (ld(1), the handbook of the PDP-11/70; what is
+-- suspicious for sure, and which places are reached: `suspicions`)
 --
 -- The instructions that are reached are in the program: none begins with a relocated word, and at the sure places none is cut. Each
 -- operand that has a word is the address of the byte to which the object refers by its relocation word, or it is a number, since each
@@ -31,13 +31,13 @@ use Rattle.laws.specs.Instructions.{KeepsLineAt}
 use Rattle.laws.specs.OperandWords.{is_relative, machine_value}
 use Rattle.laws.specs.OperandPlaces.{addressing_of, kind_meant, HasOperand, IsOperand}
 
--- what an operand word refers to: what its relocation word says. One that is not relocated is a distance within the text in modes 67 and
+-- what an operand word refers to: the kind of its relocation word. One that is not relocated is a distance within the text in modes 67 and
 -- 77, and else a number
 abbrev pub kind_said : Addressing → Reloc → Option Kind
 kind_said a r = if is_relocated (Some r) then kind_of r else (if is_relative a then Some kinds.TextSeg else Some kinds.Absolute)
 
 -- word p of the text of k is the operand word of such an operand. In the program the operand is the address of the byte to which the
--- word refers in k (`HasOperand`), and that is a byte of what its relocation word says
+-- word refers in k (`HasOperand`), and that is a byte of what its relocation word refers to
 pub record HasOperandSaid (os : List Contents) (o : Choices) (x : Outcome) (before : List Contents) (k : Contents)
     (operation : Operation) (a : Addressing) (p : ℕ) : Type 0 where
   pub operand : HasOperand os o x before k operation a p

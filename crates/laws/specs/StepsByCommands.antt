@@ -2,7 +2,7 @@
 --
 -- The first of two links is a partial link: with `-r`, without `-d`, it drops no local that the second keeps and forces no name
 -- that the second does not force, and its objects define no name that is multiply defined among all.
--- Two commands, the second of which opens what the first one stored, and one command that gives the same. Nothing is said of what
+-- Two commands, the second of which opens what the first one stored, and one command that gives the same. Nothing is assumed of what
 -- else happens between the two, but that the file between them is left as it was. The objects are the same for the two and the one.
 use Rattle.std.specs.declared.alloc.Global.{Global}
 use Rattle.std.specs.Prelude.{◌≡◌, ℕ, true, false, List, [], ◌∷◌, ◌++◌, map, Option, Some, Ok, String, string_bytes, Vec}
@@ -29,7 +29,7 @@ AreAt disk [] [] = Unit {0}
 AreAt disk (path ∷ paths) (object ∷ objects) = IsAt disk path object × AreAt disk paths objects
 AreAt disk _ _ = ⊥
 
--- the words ask ld for a link of the files at these paths into the file at `out`
+-- the arguments ask ld for a link of the files at these paths into the file at `out`
 pub record AsksToLink (words forced : List (List ℕ)) (o : Choices) (out : List ℕ) (paths : List (List ℕ)) : Type 0 where
   pub output : String Global
   pub files : Vec (String Global) Global
@@ -37,7 +37,7 @@ pub record AsksToLink (words forced : List (List ℕ)) (o : Choices) (out : List
   pub out_path : string_bytes output ≡ out
   pub file_paths : map string_bytes files.items ≡ paths
 
--- the words ask strip for the file at this path
+-- the arguments ask strip for the file at this path
 pub record AsksToStrip (words : List (List ℕ)) (path : List ℕ) : Type 0 where
   pub files : Vec (String Global) Global
   pub asks : AsksFor words (Strip files)

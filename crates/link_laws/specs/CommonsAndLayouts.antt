@@ -1,6 +1,6 @@
 -- What a linked file means, for its commons, entry word and undefined names, as an object, and in another layout. (ld(1))
 --
--- Like the laws of WordsAndNames, each is about one question, and follows from the relation of LinkedFrom; nothing rests on it.
+-- Like the laws of WordsAndNames, each answers one question and follows from the relation of LinkedFrom. No other proof rests on it.
 use Rattle.std.specs.Prelude.{◌≡◌, ◌≢◌, ℕ, ◌+◌, ◌≤◌, ◌⊎◌, true, false, eqb, List, [], ◌∷◌, Some, None, Ok, bytes_eq}
 use Rattle.std.specs.List.{AllByRecursion}
 use Rattle.aout_core.specs.declared.symbol.Symbol.{Symbol}
@@ -34,13 +34,13 @@ pub record HasSpace (file : Contents) (os : List Contents) (name : List ℕ) (si
   pub after : data_start_in file.header + file.header.data_size ≤ row.value
   pub before : row.value + size ≤ base_in file.header (total BssSeg os) BssSeg
 
--- where commons are laid out, each has room
+-- if commons are laid out, each has bytes of its own
 abbrev pub CommonsHaveSpace : Type 0
 CommonsHaveSpace =
     (forced : List (List ℕ)) (os : List Contents) (o : Choices) (x : Outcome) → o.keep ≢ Nothing → lays_commons o ≡ true →
     link forced os o ≡ Ok x → (name : List ℕ) (size : ℕ) → IsCommon forced os name size → HasSpace x.file os name size
 
--- and no two share any of it
+-- and no two commons share a byte
 abbrev pub CommonsAreApart : Type 0
 CommonsAreApart =
     (forced : List (List ℕ)) (os : List Contents) (o : Choices) (x : Outcome) → o.keep ≢ Nothing →
@@ -67,7 +67,7 @@ abbrev pub PartialMayBeAdded : Type 0
 PartialMayBeAdded = (forced : List (List ℕ)) (os : List Contents) (o : Choices) (x : Outcome) → AllByRecursion IsObject os →
     option_fault o.layout o.relocatable o.keep ≡ None → o.relocatable ≡ true → link forced os o ≡ Ok x → IsObject x.file
 
--- two symbols that differ at most by where the segment that they name begins
+-- two symbols whose values differ at most as the beginnings of the segment that they name do
 pub record IsShifted (g h : Header) (bss : ℕ) (s t : Symbol) : Type 0 where
   pub name : s.name ≡ t.name
   pub type_bits : s.type_bits ≡ t.type_bits
@@ -79,7 +79,7 @@ AreShifted g h bss [] (t ∷ ts) = ⊥
 AreShifted g h bss (s ∷ ss) [] = ⊥
 AreShifted g h bss (s ∷ ss) (t ∷ ts) = IsShifted g h bss s t × AreShifted g h bss ss ts
 
--- two links differ by where data and bss begin, alone
+-- two links differ at most as the beginnings of data and bss do
 pub record DifferInPlace (os : List Contents) (x y : Outcome) : Type 0 where
   pub header : record x.file.header { magic = y.file.header.magic } ≡ y.file.header
   pub text_reloc : x.file.text_reloc ≡ y.file.text_reloc
@@ -87,7 +87,7 @@ pub record DifferInPlace (os : List Contents) (x y : Outcome) : Type 0 where
   pub symbols : AreShifted x.file.header y.file.header (total BssSeg os) x.file.symbols y.file.symbols
   pub report : x.report ≡ y.report
 
--- a layout changes the magic, and where data and bss begin, and nothing else; the words follow these
+-- a layout changes the magic and the beginnings of data and bss, and nothing else; the words follow these
 abbrev pub LayoutsDiffer : Type 0
 LayoutsDiffer = (forced : List (List ℕ)) (os : List Contents) (o : Choices) (layout : Layout) (x y : Outcome) →
     link forced os o ≡ Ok x → link forced os (record o { layout = layout }) ≡ Ok y → DifferInPlace os x y

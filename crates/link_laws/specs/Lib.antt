@@ -1,4 +1,4 @@
--- What the laws of this crate say.
+-- What the laws of this crate state.
 pub mod relation
 pub mod WordsAndNames
 pub mod CommonsAndLayouts

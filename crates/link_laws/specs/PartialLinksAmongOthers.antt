@@ -1,6 +1,6 @@
--- Laws of partial links under weaker premises than in PartialLinks, again and again, and grouped in any way. (ld(1), the option `-r`)
+-- Laws of partial links under weaker premises than in PartialLinks, also of partial links of partial links. (ld(1), the option `-r`)
 --
--- Large programs are linked in parts. These laws say when the parts may be cut as one likes.
+-- Large programs are linked in parts. These laws state when the result does not depend on how the objects are divided into parts.
 use Rattle.std.specs.Prelude.{◌≡◌, ℕ, List, [], ◌∷◌, ◌++◌, Ok}
 use Rattle.std.specs.List.{AllByRecursion}
 use Rattle.aout_core.specs.Contents.{Contents}
@@ -13,15 +13,15 @@ use Rattle.tool_options.specs.Choices.{Choices}
 use Rattle.link_out.specs.function.Link.{Outcome, link}
 use Rattle.link_out.specs.laws.PartialLinks.{KeepsNoMore, IsPartialLink, without_multiples, IsPart, DefinitionsAreKept, DefinesNoMultiple}
 
--- a partial link whose forced names are forced later too stands for its objects wherever their definitions stand: the same
--- file or refusal, and reports that differ at most in the multiples
+-- a partial link whose forced names are forced later too can take the place of its objects, if their definitions are kept: the file or
+-- the refusal is the same, and the reports differ at most in the multiples
 abbrev pub PartialReplaces : Type 0
 PartialReplaces = (own forced : List (List ℕ)) (before os after : List Contents) (by o : Choices) (x : Outcome) →
     AllByRecursion IsWellFormed before → AllByRecursion IsWellFormed os → AllByRecursion IsWellFormed after →
     IsPartialLink own os by x → KeepsNoMore o.keep by.keep → IsPart own forced → DefinitionsAreKept forced before os after →
     without_multiples (link forced (before ++ x.file ∷ after) o) ≡ without_multiples (link forced (before ++ (os ++ after)) o)
 
--- alone the definitions always stand, so it needs no such premise
+-- if it is linked alone, its definitions are always kept, so there is no such premise
 abbrev pub PartialAlwaysReplaces : Type 0
 PartialAlwaysReplaces = (own forced : List (List ℕ)) (os : List Contents) (by o : Choices) (x : Outcome) → AllByRecursion IsWellFormed os →
     IsPartialLink own os by x → KeepsNoMore o.keep by.keep → IsPart own forced →
@@ -47,7 +47,7 @@ pub data IsGrouped (forced : List (List ℕ)) (less : Keep) (os : List Contents)
       IsGrouped forced less os (before ++ (run ++ after)) →
       IsPart own forced → IsPartialLink own run by x → KeepsNoMore less by.keep → IsGrouped forced less os (before ++ x.file ∷ after)
 
--- where no name is multiply defined, grouping changes nothing
+-- if no name is multiply defined, grouping changes nothing
 abbrev pub GroupingChangesNothing : Type 0
 GroupingChangesNothing =
     (forced : List (List ℕ)) (os ps : List Contents) (o : Choices) → AllByRecursion IsWellFormed os →

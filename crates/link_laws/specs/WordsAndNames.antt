@@ -1,7 +1,7 @@
 -- What a linked file means, by the files that were linked and by the linked file alone. (ld(1))
 --
--- Each law is about one question: where is this word, this definition now? Is this name reported, and rightly? They follow from
--- the relation of LinkedFrom, and are here for readers with one such question. Nothing rests on them. CommonsAndLayouts has more of them.
+-- Each law answers one question: where is this word or this definition in the linked file? Is this name reported, and rightly? They
+-- follow from the relation of LinkedFrom, and no other proof rests on them. CommonsAndLayouts has more of them.
 use Rattle.std.specs.Prelude.{◌≡◌, ◌≢◌, ◌↔◌, ℕ, true, false, eqb, List, [], ◌∷◌, ◌++◌, map, filter, Some, Ok, slice_get}
 use Rattle.std.specs.List.{AllByRecursion}
 use Rattle.aout_core.specs.declared.symbol.Symbol.{Symbol}
@@ -21,7 +21,7 @@ use Rattle.tool_options.specs.Choices.{Choices}
 use Rattle.link_out.specs.function.Link.{Outcome, link}
 use Rattle.link_laws.specs.relation.Relocated.{move_in, entry_of, external_type, IsRelocated, HoldsObjects}
 
--- each word of each object is found in the linked file, relocated by what that file's own symbol table says
+-- each word of each object is in the linked file, relocated by the values of that file's own symbol table
 abbrev pub WordsAreRelocated : Type 0
 WordsAreRelocated = (forced : List (List ℕ)) (before : List Contents) (k : Contents) (after : List Contents) (o : Choices) (x : Outcome) →
     AllByRecursion IsObject (before ++ k ∷ after) → o.keep ≢ Nothing → link forced (before ++ k ∷ after) o ≡ Ok x →
@@ -42,14 +42,14 @@ pub record IsDefined (file : Contents) (os before : List Contents) (k : Contents
   pub type_bits : row.type_bits ≡ external_type (segment_of s)
   pub value : row.value ≡ plus s.value (move_in file.header os before k (segment_of s))
 
--- where no name is multiply defined, the linked file has each definition of each object
+-- if no name is multiply defined, the linked file has each definition of each object
 abbrev pub DefinitionsHold : Type 0
 DefinitionsHold = (forced : List (List ℕ)) (before : List Contents) (k : Contents) (after : List Contents) (o : Choices) (x : Outcome) →
     o.keep ≢ Nothing → link forced (before ++ k ∷ after) o ≡ Ok x → x.report.multiples ≡ [] →
     (j : ℕ) (s : Symbol) → slice_get k.symbols j ≡ Some s → is_external s ≡ true → eqb (masked_type s) 0 ≡ false →
     IsDefined x.file (before ++ k ∷ after) before k s
 
--- an external symbol of one of the objects says so of this name; offsets are those of the merged segments
+-- an external symbol of one of the objects has this name and this state; offsets are those of the merged segments
 pub record IsSaid (os : List Contents) (name : List ℕ) (says : State) : Type 0 where
   pub before : List Contents
   pub k : Contents
@@ -77,7 +77,7 @@ abbrev pub MultiplesDiffer : Type 0
 MultiplesDiffer = (forced : List (List ℕ)) (os : List Contents) (o : Choices) (x : Outcome) → link forced os o ≡ Ok x →
     (name : List ℕ) → (is_among x.report.multiples name ≡ true) ↔ HasTwoDefinitions os name
 
--- where no name is reported undefined, each external symbol of a link without relocation gives an address
+-- if no name is reported undefined, each external symbol of a link without relocation gives an address
 abbrev pub NamesHaveAddresses : Type 0
 NamesHaveAddresses = (forced : List (List ℕ)) (os : List Contents) (o : Choices) (x : Outcome) →
     o.keep ≢ Nothing → o.relocatable ≡ false → link forced os o ≡ Ok x → x.report.undefined ≡ [] →

@@ -1,6 +1,6 @@
--- A report as its lists, a file with its report, and when the result of the code is the link.
+-- A report as its lists, a file with its report, and when a result of the code is the link that the definition gives.
 --
--- The code may fail for one more reason than the definition: memory runs out.
+-- The code may fail for one reason that the definition does not have: memory runs out.
 use Rattle.std.specs.Prelude.{◌≡◌, Result, Ok, Err, IsOk}
 use Rattle.link_out.specs.declared.linked.Report.{Report}
 use Rattle.link_out.specs.declared.linked.Linked.{Linked}

@@ -1,4 +1,4 @@
--- What a link gives: a file, and what is reported of it. (ld(1))
+-- What a link gives: a file, and a report of names. (ld(1))
 use Rattle.std.specs.Prelude.{ℕ, List, Option}
 use Rattle.aout_core.specs.Contents.{Contents}
 

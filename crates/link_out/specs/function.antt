@@ -1,4 +1,5 @@
--- The link as a function of the objects, and its parts: what the code computes. None of it has to be believed.
+-- The link as a function of the objects, and its parts: what the code computes. A reader does not have to trust it, as
+-- `linking_law` of link_laws ties it to the relation `IsLinkedFrom`.
 pub mod Plans
 pub mod Finals
 pub mod Words

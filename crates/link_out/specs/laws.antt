@@ -1,3 +1,3 @@
--- What the laws of linking say.
+-- What the laws of linking state.
 pub mod Stripping
 pub mod PartialLinks

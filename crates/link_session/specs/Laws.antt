@@ -21,7 +21,7 @@ abbrev pub WithdrawLaw : Type 0
 WithdrawLaw = (old between new : Kept) (added taken : Labelled) → Adds old between added → Withdraws between new taken →
     (new ≡ old) × (taken ≡ added)
 
--- what the marks hold of a state: nothing, if it is as it was, and else first of all the state before
+-- what the marks hold of a state: nothing, if it is as it was, and else the state before comes first
 pub record HoldState (was is : State) (marked : List State) : Type 0 where
   pub same : is ≡ was → marked ≡ []
   pub changed : is ≢ was → (later : List State) × (marked ≡ was ∷ later)

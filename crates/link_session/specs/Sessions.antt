@@ -1,7 +1,7 @@
 -- What the calls of a session do to what it keeps. (own choice)
 --
 -- A session keeps forced names, objects with labels, and a journal. `add` appends an object and its marks, `withdraw` takes the
--- last ones away. These records say so, and what the marks are.
+-- last ones away. These records define that, and what the marks are.
 use Rattle.std.specs.Prelude.{◌≡◌, ℕ, List, [], ◌∷◌, ◌++◌, Option, Some, None, unwrap_or, String, string_bytes}
 use Rattle.std.specs.declared.alloc.Global.{Global}
 use Rattle.aout_core.specs.Contents.{Contents, Fits}
@@ -40,7 +40,7 @@ pub record Withdraws (old new : Kept) (e : Labelled) : Type 0 where
   pub marks : List Mark
   pub journal : old.journal ≡ new.journal ++ marks ∷ []
 
--- a limit is the cause where one is passed, and else that memory ran out
+-- a limit is the cause if one is passed, and else that memory ran out
 abbrev pub IsCause : Option AddFault → AddFault → Type 0
 IsCause None cause = cause ≡ Memory
 IsCause (Some limit) cause = cause ≡ limit

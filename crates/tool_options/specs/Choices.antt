@@ -1,7 +1,7 @@
 -- What a link is asked for. (ld(1); which options exclude each other: own choice)
 --
--- The options of ld as they bear on the link: where the segments lie, whether relocation is kept, which local symbols are kept,
--- the name of the entry point, and whether commons get addresses even where relocation is kept.
+-- The options of ld, by what they mean for a link: the layout of the segments, whether relocation is kept, which local symbols are
+-- kept, the name of the entry point, and whether commons get addresses even if relocation is kept.
 use Rattle.std.specs.Prelude.{ℕ, Bool, true, false, not, ◌||◌, List, Option, Some, None}
 use Rattle.tool_options.specs.declared.options.Layout.{Layout}
 use Rattle.tool_options.specs.declared.options.Layout.TheVariants.{Plain}

@@ -9,14 +9,14 @@ use Rattle.tool_options.specs.declared.forced.Forced.TheInside.{Inside}
 abbrev pub forced_of : Inside → List (List ℕ)
 forced_of a = take a.count a.slots
 
--- no name stands twice
+-- no name is there twice
 abbrev pub AreDifferent : List (List ℕ) → Type 0
 AreDifferent names = new_names [] names ≡ names
 
--- the name is there, or there is room for it
+-- the name is there, or there are fewer than 64 names
 abbrev pub takes : List (List ℕ) → List ℕ → Bool
 takes names name = is_among names name || nat_lt (length names) 64
 
--- the name appended, if it is not there and there is room
+-- the name appended, if it is not there and there are fewer than 64
 abbrev pub with_name : List (List ℕ) → List ℕ → List (List ℕ)
 with_name names name = cond (is_among names name) names (cond (nat_lt (length names) 64) (names ++ name ∷ []) names)

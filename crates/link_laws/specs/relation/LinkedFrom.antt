@@ -1,6 +1,6 @@
 -- What linking is: when a file and a report come of objects, forced names and options, by all these alone. (ld(1))
 --
--- This relation is what a reader has to believe of the link. It says of a linked file, part by part, that it holds the objects'
+-- This relation is what a reader has to trust of the link. It states of a linked file, part by part, that it holds the objects'
 -- words, relocated, what its symbol table has, row by row, that with relocation each word still has its relocation word, its
 -- entry point, and what is reported. `LinkedExactly` and `LinkedOnce` tie it to the function `link`: both are proved.
 use Rattle.std.specs.Prelude.{◌≡◌, ◌↔◌, ℕ, ◌+◌, ◌*◌, ◌≤◌, true, cond, List, ◌++◌, map, length, Ok}

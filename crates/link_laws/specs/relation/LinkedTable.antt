@@ -35,7 +35,7 @@ undefined_row h o name =
     else (if bytes_eq name end_name then shown name 0o44 (data_start_in h + h.data_size + h.bss_size)
     else shown name 0o40 0)))
 
--- the row of a name in this state, beside so many bytes of the objects' bss, where a common has this address
+-- the row of a name in this state, if the objects' bss has so many bytes and a common gets this address
 abbrev pub row_for : Header → ℕ → Choices → ℕ → List ℕ → State → Symbol
 row_for h bss o at name (Defined segment offset) = shown name (external_type segment) (plus (base_in h bss segment) offset)
 row_for h bss o at name (Wanted size) =
@@ -48,7 +48,7 @@ abbrev pub space_for : Choices → State → ℕ
 space_for o (Defined segment offset) = 0
 space_for o (Wanted size) = cond (lays_commons o) (size + size % 2) 0
 
--- rows in order, whose commons lie one after another, from one address up to the other
+-- rows in order, whose commons follow one another, from one address up to the other
 abbrev pub AreRows : Header → ℕ → Choices → List Mention → ℕ → List Symbol → ℕ → Type 0
 AreRows h bss o ms at [] end = at ≡ end
 AreRows h bss o ms at (r ∷ rows) end =

@@ -1,6 +1,6 @@
--- The words and the relocation words of a linked file, told by the objects, its header and its rows. (a.out(5), ld(1))
+-- The words and the relocation words of a linked file, by the objects, its header and its rows. (a.out(5), ld(1))
 --
--- Each word of each object stands relocated after those of the objects before it. With relocation, so does its relocation word,
+-- Each word of each object is there, relocated, after those of the objects before it. With relocation, so is its relocation word,
 -- which keeps its pc bit, and names the segment that the word is bound in now, or the row of the name that it still waits for.
 use Rattle.std.specs.Prelude.{◌≡◌, ℕ, ◌+◌, ◌-◌, ◌*◌, ◌/◌, ◌%◌, ◌≤◌, true, eqb, if◌then◌else◌, List}
 use Rattle.std.specs.Prelude.{◌∷◌, ◌++◌, map, Option, Some, None, slice_get}
@@ -16,7 +16,7 @@ use Rattle.link_session.specs.Mentions.{place_of}
 use Rattle.link_session.specs.Cells.{segment_words, segment_relocs}
 use Rattle.link_laws.specs.relation.Relocated.{entry_of, IsRelocated}
 
--- each word of each object stands relocated at its place
+-- each word of each object is at its place, relocated
 abbrev pub AreRelocated : Contents → List Symbol → List Contents → Segment → Type 0
 AreRelocated file rows os segment = (before : List Contents) (k : Contents) (after : List Contents) → os ≡ before ++ k ∷ after →
     (i w : ℕ) (r : Reloc) → slice_get (segment_words segment k) i ≡ Some w →

@@ -1,7 +1,7 @@
--- What the mentions make of a name, told by the mentions alone. (ld(1))
+-- What the mentions make of a name, by the mentions alone. (ld(1))
 --
--- Either one mention is the first that defines the name, and the name is defined as it says; or none defines it, and it is wanted
--- at the largest size that a mention asks for.
+-- Either one mention is the first that defines the name, and the name has that definition; or no mention defines it, and it is
+-- wanted at the largest size that a mention asks for.
 use Rattle.std.specs.Prelude.{◌≡◌, ◌≢◌, ℕ, ◌≤◌, ◌⊎◌, List, [], ◌∷◌}
 use Rattle.std.specs.List.{AllByRecursion}
 use Rattle.aout_core.specs.declared.symbol.Segment.{Segment}
@@ -13,7 +13,7 @@ use Rattle.link_session.specs.Mentions.{Mention}
 abbrev pub LeavesOpen : List ℕ → Mention → Type 0
 LeavesOpen name m = name ≡ m.name → (segment : Segment) (offset : ℕ) → m.says ≢ Defined segment offset
 
--- the first mention that defines it says so
+-- the first mention that defines the name has this segment and offset
 abbrev pub IsFirst : List Mention → List ℕ → Segment → ℕ → Type 0
 IsFirst [] name segment offset = ⊥
 IsFirst (m ∷ ms) name segment offset =

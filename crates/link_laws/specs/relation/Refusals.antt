@@ -1,6 +1,6 @@
 -- When a link is refused, and for what, by the objects, the forced names and the options alone. (own choice)
 --
--- An address has 16 bits, also the one where bss ends, so that is at most 65,535. A header has 16 bits for the bytes of the
+-- An address has 16 bits, and so has the end of bss, which is at most 65,535. A header has 16 bits for the bytes of the
 -- table, which are 12 for a symbol, so a table has at most 5,461 symbols. A relocation word has 12 bits for the number of a
 -- symbol.
 use Rattle.std.specs.Prelude.{◌≡◌, ◌↔◌, ℕ, ◌+◌, ◌<◌, ◌≤◌, ◌⊎◌, true, false, List, [], ◌∷◌, ◌++◌, filter, length, Some, Err, slice_get}

@@ -2,7 +2,7 @@
 --
 -- The header of a linked file determines where its segments begin, and its symbols where each name is. A word that refers to a segment
 -- of its object is moved as far as that segment was. A word that refers to a name has the address of the name added. A word
--- relative to the pc is less by its own segment's move. Nothing else is needed to say what linking does to words.
+-- relative to the pc is less by its own segment's move. That is all that linking does to words.
 use Rattle.std.specs.Prelude.{◌≡◌, ℕ, ◌+◌, ◌-◌, ◌*◌, ◌/◌, ◌≤◌, ◌⊎◌, false, cond, ◌&&◌, eqb, List, []}
 use Rattle.std.specs.Prelude.{◌∷◌, length, Option, Some, None, slice_get, bytes_eq}
 use Rattle.aout_core.specs.declared.header.Header.{Header}
@@ -19,7 +19,7 @@ use Rattle.aout_core.specs.WellFormed.{is_external, masked_type, kind_of, is_pc_
 use Rattle.link_session.specs.Starts.{total, own}
 use Rattle.link_session.specs.Cells.{segment_words}
 
--- where a segment begins in core, by the header and the objects' bytes of bss
+-- the address at which a segment begins in core, by the header and the objects' bytes of bss
 abbrev pub base_in : Header → ℕ → Segment → ℕ
 base_in h bss DataSeg = data_start_in h
 base_in h bss BssSeg = data_start_in h + h.data_size + (h.bss_size - bss)
@@ -83,7 +83,7 @@ external_type DataSeg = 0o43
 external_type BssSeg = 0o44
 external_type _ = 0o41
 
--- the entry word is the address of its name where that has an external symbol in text, and else it is 0 and the name is bad
+-- the entry word is the address of its name if that has an external symbol in text, and else it is 0 and the name is bad
 abbrev pub IsEntry : List Symbol → Option (List ℕ) → ℕ → Option (List ℕ) → Type 0
 IsEntry rows None word bad = (word ≡ 0) × (bad ≡ None)
 IsEntry rows (Some name) word bad =

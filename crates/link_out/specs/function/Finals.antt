@@ -1,7 +1,7 @@
 -- What becomes of a name: its segment, its address, and the value that is written. (ld(1))
 --
 -- A definition is moved with its segment. An undefined name may be one of the three that the linker defines. A common gets an
--- address in bss where commons are laid out. Any other name stays unbound, and its size is written.
+-- address in bss if commons are laid out. Any other name stays unbound, and its size is written.
 use Rattle.std.specs.Prelude.{ℕ, ◌+◌, eqb, if◌then◌else◌, List, Option, Some, None, bytes_eq}
 use Rattle.aout_core.specs.declared.symbol.Segment.{Segment}
 use Rattle.aout_core.specs.declared.symbol.Segment.TheVariants.{TextSeg, DataSeg, BssSeg}
@@ -50,7 +50,7 @@ final_by p name s = final_at p.choices p.at (common_offset p.mentions name) name
 abbrev pub final : Plan → List ℕ → Final
 final p name = final_by p name (state p.mentions name)
 
--- 040 where the name is not bound, else 041 to 044
+-- 040 if the name is not bound, else 041 to 044
 abbrev pub type_of : Option Segment → ℕ
 type_of None = 0o40
 type_of (Some segment) = 0o40 + segment_number segment

@@ -1,4 +1,4 @@
--- The final words, computed word by word. (ld(1))
+-- The words of text and data in the linked file, computed word by word. (ld(1))
 use Rattle.std.specs.Prelude.{ℕ, List, [], map}
 use Rattle.std.specs.List.{flat_map}
 use Rattle.aout_core.specs.declared.symbol.Segment.{Segment}

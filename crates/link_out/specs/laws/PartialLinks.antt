@@ -1,4 +1,4 @@
--- Laws of partial links: when the file of one may stand for its objects. (ld(1), the option `-r`)
+-- Laws of partial links: when the file of one may take the place of its objects. (ld(1), the option `-r`)
 --
 -- A partial link keeps relocation, so its file is an object and can be linked again. What a later link may keep of locals, it must
 -- have kept.
@@ -24,7 +24,7 @@ use Rattle.link_out.specs.function.Link.{Outcome, link}
 abbrev pub KeepsNoMore : Keep → Keep → Type 0
 KeepsNoMore less more = (name : List ℕ) → keeps less name ≡ true → keeps more name ≡ true
 
--- the link of these objects with relocation, without laid commons, by options that are allowed
+-- the link of these objects with relocation, in which commons are not laid out, by options that are allowed
 pub record IsPartialLink (forced : List (List ℕ)) (os : List Contents) (o : Choices) (x : Outcome) : Type 0 where
   pub allowed : option_fault o.layout o.relocatable o.keep ≡ None
   pub relocatable : o.relocatable ≡ true
@@ -70,7 +70,7 @@ PartialReplacesAlone = (forced : List (List ℕ)) (os : List Contents) (by o : C
     IsPartialLink forced os by x → KeepsNoMore o.keep by.keep →
     without_multiples (link forced (x.file ∷ []) o) ≡ without_multiples (link forced os o)
 
--- a partial link among others gives what its objects give among them, where no name of all is multiply defined
+-- a partial link among others gives what its objects give among them, if no name of all of them is multiply defined
 abbrev pub PartialReplacesAmong : Type 0
 PartialReplacesAmong = (forced : List (List ℕ)) (before os after : List Contents) (by o : Choices) (x : Outcome) →
     AllByRecursion IsWellFormed before → AllByRecursion IsWellFormed os → AllByRecursion IsWellFormed after →
