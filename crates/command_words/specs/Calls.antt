@@ -1,7 +1,7 @@
--- Which call words ask for, and what holds of every call. (ld(1), nm(1), size(1), strip(1))
+-- Which call the arguments ask for, and what holds of every call. (ld(1), nm(1), size(1), strip(1))
 --
--- A call is a tool with its options and files. It is asked for by words if `clap` takes them, they name its tool, and its options
--- and files are those that are read of them; nm and size without files take the program, `a.out`.
+-- A call is a tool with its options and files. Arguments ask for a call if `clap` takes them, they name its tool, and its options
+-- and files are those that `clap` reads from them. Without files nm and size take the program, `a.out`.
 use Rattle.std.specs.Prelude.{◌≡◌, ◌<◌, ℕ, List, [], ◌∷◌, map, filter, length, Ok, Some, bytes_eq, codes, string_bytes, unwrap_or, vec_len}
 use Rattle.clap.specs.Faults.{fault_of}
 use Rattle.clap.specs.Simple.{subcommand_of}
@@ -25,7 +25,7 @@ IsWhole (Size files) = 0 < vec_len files
 IsWhole (Strip files) = 0 < vec_len files
 IsWhole (Session options forced) = AreAllowed options × AreForced forced
 
--- the program, where no file is named
+-- the program, if no file is named
 abbrev pub program : List ℕ
 program = codes "a.out"
 
@@ -61,11 +61,11 @@ files_of (Size files) = map string_bytes files.items
 files_of (Strip files) = map string_bytes files.items
 files_of (Session options forced) = []
 
--- how many of the words are a dash alone; each has to be a file, since none may be the value of an option
+-- how many of the arguments are a dash alone; each has to be a file, since it may not be the value of an option
 abbrev pub dashes_in : List (List ℕ) → ℕ
 dashes_in words = length (filter (λ word. bytes_eq word (codes "-")) words)
 
--- the word that asks for a call
+-- the argument that names the tool of a call
 abbrev pub name_of : Call → List ℕ
 name_of (Ld options forced out files) = codes "ld"
 name_of (Nm options files) = codes "nm"
@@ -73,7 +73,7 @@ name_of (Size files) = codes "size"
 name_of (Strip files) = codes "strip"
 name_of (Session options forced) = codes "session"
 
--- `clap` takes the words, which name the tool of a call, and its options and files are those that are read of them
+-- `clap` takes the arguments, which name the tool of a call, and its options and files are those that it reads from them
 abbrev pub IsAsked : List (List ℕ) → Call → Type 0
 IsAsked words call =
     (fault_of v7_app words ≡ []) × (rows : List Row) × (subcommand_of v7_app words ≡ Some (name_of call, rows))
@@ -84,8 +84,8 @@ abbrev pub fault_of_words : ErrorKind → WordsFault
 fault_of_words OutOfMemory = faults.Memory
 fault_of_words kind = faults.Usage
 
--- words that ask for a call fail only if memory runs out. Other words may fail so too: memory is requested for the tools and their
--- options before a word is read, so `Memory` is ruled out for no words
+-- arguments that ask for a call fail only if memory runs out. Others may fail for that reason too: memory is requested for the tools
+-- and their options before an argument is read, so nothing rules out `Memory`
 abbrev pub AsksForNone : List (List ℕ) → WordsFault → Type 0
 AsksForNone words fault =
     (call : Call) → IsWhole call → IsAsked words call → dashes_in words ≡ dashes_in (files_of call) → fault ≡ faults.Memory

@@ -1,6 +1,6 @@
--- What the options that ld and session share ask for, by the rows that were read of the words. (ld(1))
+-- What the options that ld and session share ask for, by the rows that `clap` read from the arguments. (ld(1))
 --
--- A row is an option with its values. Where options exclude each other, the words ask for nothing.
+-- A row is an option with its values. If options exclude each other, the arguments ask for nothing.
 use Rattle.std.specs.Prelude.{◌≡◌, ◌≤◌, ℕ, Bool, cond, nat_lt, List, [], ◌∷◌, take, length, None}
 use Rattle.std.specs.Prelude.{ok_or, option_map, unwrap_or, Result, Ok, Err}
 use Rattle.clap.specs.Walk.{Row, all_of, count_of, first_of}
@@ -40,7 +40,7 @@ flags_asked rows = record {
 abbrev pub options_asked : List Row → Result Choices WordsFault
 options_asked rows = ok_or (choices_of (flags_asked rows) (option_map name_in (first_of ENTRY.now rows))) Usage
 
--- each name appended to the names before it, where it is not there already and there is room
+-- each name appended to the names before it, if it is not there already and there are fewer than 64
 abbrev pub with_names : List (List ℕ) → List (List ℕ) → Result (List (List ℕ)) WordsFault
 with_names names [] = Ok names
 with_names names (text ∷ texts) = cond (takes names (name_in text)) (with_names (with_name names (name_in text)) texts) (Err Usage)
@@ -48,7 +48,7 @@ with_names names (text ∷ texts) = cond (takes names (name_in text)) (with_name
 abbrev pub forced_asked : List Row → Result (List (List ℕ)) WordsFault
 forced_asked rows = with_names [] (values_of rows FORCED.now)
 
--- none excludes another
+-- no option excludes another
 abbrev pub AreAllowed : Choices → Type 0
 AreAllowed options = option_fault options.layout options.relocatable options.keep ≡ None
 

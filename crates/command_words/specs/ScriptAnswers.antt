@@ -81,7 +81,7 @@ abbrev pub TakesLine : ℕ → List ℕ → List ℕ → Asked → Type 0
 TakesLine n bytes left asks =
     (left ≡ after_line bytes) × (given_after n (lines_in bytes) ≡ and_given asks (given_after (n + 1) (lines_in left)))
 
--- a line that names a path, for which room is needed
+-- a line that names a path, for which memory is needed
 abbrev pub NamesPath : Asked → Type 0
 NamesPath (to_add path) = Unit {0}
 NamesPath (to_link path) = Unit {0}

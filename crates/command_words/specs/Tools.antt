@@ -1,6 +1,6 @@
--- The tools as the words see them: which options each takes, and which take files. (ld(1), nm(1), size(1), strip(1))
+-- The tools: which options each takes, and which take files. (ld(1), nm(1), size(1), strip(1))
 --
--- The definitions of the kit's `clap` say how words are read, given a rule for each option: its letter, and whether it is a flag
+-- The definitions of the kit's `clap` define how arguments are read, by a rule for each option: its letter, and whether it is a flag
 -- (`Count`), has a value (`Set`), or may have several (`Append`). Here are the rules of each tool.
 use Rattle.std.specs.Prelude.{ℕ, true, List, [], ◌∷◌, Some, codes, fold}
 use Rattle.clap.specs.Lexer.{usize_max}
@@ -60,7 +60,7 @@ strip_app = with_rule (bare (codes "strip")) files_rule
 abbrev pub session_app : App
 session_app = with_rules (bare (codes "session")) link_rules
 
--- the words begin with the tool's name
+-- the arguments begin with the tool's name
 abbrev pub v7_alone : App
 v7_alone = on_top (λ s. record s { no_binary_name = true; subcommand_required = true }) (bare (codes "v7"))
 

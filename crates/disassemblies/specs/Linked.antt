@@ -1,8 +1,8 @@
 -- Which names a linked file has for the addresses in its instructions. (a.out(5), exec(2); what is named: own choice)
 --
--- Without relocation an address is named by a symbol of the segment in which it lies. With split spaces a jump, a call or a branch
--- reaches text, and any other operand data or bss. Of an overlay only the text is known. An immediate number and an index may be
--- addresses or not, so they have no names.
+-- Without relocation an address is named by a symbol of the segment that has the address. With split spaces a jump, a call or a branch
+-- reaches text, and any other operand data or bss. For an overlay only the addresses of text are known. An immediate number and an
+-- index may be addresses or not, so they have no names.
 use Rattle.std.specs.Prelude.{ℕ, ◌+◌, Bool, false, not, ◌&&◌, ◌||◌, eqb, nat_lt, nat_le, if◌then◌else◌, List, Option, Some, None}
 use Rattle.aout_core.specs.declared.header.Header.{Header}
 use Rattle.aout_core.specs.declared.symbol.Symbol.{Symbol}
@@ -23,7 +23,7 @@ is_in_data h address = nat_le (data_start_in h) address && nat_lt address (data_
 abbrev pub is_in_bss : Header → ℕ → Bool
 is_in_bss h address = nat_le (data_start_in h + h.data_size) address && nat_lt address (data_start_in h + h.data_size + h.bss_size)
 
--- the segment in which an address lies: in the space of instructions, if it is to be fetched from, or in that of data
+-- the segment that has an address: in the space of instructions if an instruction is fetched there, and else in that of data
 abbrev pub segment_at : Header → Bool → ℕ → Option Segment
 segment_at h fetches address =
     if nat_lt address h.text_size && (fetches || not (eqb h.magic 0o411)) then Some TextSeg

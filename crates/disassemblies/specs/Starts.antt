@@ -1,4 +1,4 @@
--- The lines of a file's text, one after the other, the words at which they begin, and the line that has a word.
+-- The lines of a file's text, one after the other, the words at which they begin, and the line that has a word. (as(1))
 use Rattle.std.specs.Prelude.{ℕ, zero, suc, ◌+◌, ◌-◌, Bool, true, false, nat_lt, if◌then◌else◌, List, [], ◌∷◌}
 use Rattle.std.specs.Prelude.{◌++◌, Option, Some, None, length, replicate, slice_get}
 use Rattle.aout_core.specs.Contents.{Contents}

@@ -63,7 +63,7 @@ kind_text kinds.Other = codes "other"
 abbrev pub sizes_in : Header → SegmentSizes
 sizes_in h = record { text = h.text_size; «data» = h.data_size; bss = h.bss_size }
 
--- a name that another object has to define: undefined, and no common
+-- a name that another object has to define: undefined, and not a common
 abbrev pub wants_definition : Symbol → Bool
 wants_definition s = is_undefined s && eqb s.value 0
 
@@ -72,7 +72,7 @@ counts_of symbols = record { all = length symbols; undefined = length (filter wa
 
 -- ---- what is wrong or odd
 
--- the notes of a listing that begin with this word
+-- how many things are odd or suspicious: as many as the listing has notes that begin with `odd`
 abbrev pub odd_count : List ℕ → Contents → ℕ
 odd_count bytes c = length (odd bytes c) + length (suspicions c)
 

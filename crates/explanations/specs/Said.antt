@@ -1,5 +1,5 @@
--- What a listing remarks of a file: its notes, the labels of its text, for each word the instruction that begins there or what the
--- relocation word says, and the letter that nm has for each symbol.
+-- What a listing remarks of a file: its notes, the labels of its text, for each word the instruction that begins there or what its
+-- relocation word refers to, and the letter that nm has for each symbol. (a.out(5), as(1), nm(1); the words: own choice)
 --
 -- A byte below the blank is shown as a backslash and three octal digits, so a note or a remark never leaves its line.
 use Rattle.std.specs.Prelude.{ℕ, ◌+◌, ◌*◌, ◌%◌, Bool, true, ◌&&◌, nat_lt, nat_le, eqb, if◌then◌else◌, List, [], ◌∷◌}
@@ -62,12 +62,12 @@ pc_said r = if is_pc_relative r then codes ", from the pc" else []
 abbrev pub word_said : List Symbol → ℕ → ℕ → Reloc → List ℕ
 word_said symbols at w r = target_said symbols at w r (kind_of r) ++ pc_said r
 
--- what the relocation word of a word says, if it has one
+-- what the relocation word of a word refers to, if it has one
 abbrev pub reloc_said : List Symbol → ℕ → ℕ → Option Reloc → List ℕ
 reloc_said symbols at w None = []
 reloc_said symbols at w (Some r) = word_said symbols at w r
 
--- of a word of text: the instruction that begins there, or what the relocation word says
+-- the remark on a word of text: the instruction that begins there, or what the relocation word refers to
 abbrev pub text_said : List Bool → Contents → ℕ → List ℕ
 text_said starts c i =
     if nat_lt i (length c.text_words)

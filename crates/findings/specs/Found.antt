@@ -19,7 +19,7 @@ all_found findings = map found_in findings
 abbrev pub found_if : Bool → ℕ → FindingKind → List ℕ → List Found
 found_if test place kind text = if test then record { place = place; kind = kind; text = text } ∷ [] else []
 
--- what is found so far; once memory ran out it is cut, and says nothing
+-- what is found so far; once memory ran out it is cut, and nothing is known of it
 pub record Collected : Type 0 where
   pub found : List Found
   pub is_cut : Bool

@@ -21,7 +21,7 @@ why_refused h =
 abbrev pub program : Header → List ℕ
 program h = program_text h.magic ++ table_text h ++ codes "; " ++ why_refused h
 
--- the name of a file with this header, of which this makes it no object; a damaged file has no name
+-- the name of a file with this header, and with this reason why it is not an object, if there is one; a damaged file has no name
 abbrev pub kind_text : Header → Option ObjectFault → Option (List ℕ)
 kind_text h None = Some (codes "an object")
 kind_text h (Some NotAnObject) = Some (program h)

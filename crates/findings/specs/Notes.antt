@@ -4,7 +4,7 @@ use Rattle.texts.specs.Numbers.{octal, six_digits, three_digits}
 use Rattle.aout_core.specs.declared.header.Header.{Header}
 use Rattle.findings.specs.declared.finding.Finding.{Finding}
 
--- notes so far; once memory ran out they are cut, and say nothing
+-- notes so far; once memory ran out they are cut, and nothing is known of them
 pub record Noted : Type 0 where
   pub lines : List (List ℕ)
   pub is_cut : Bool
@@ -13,7 +13,7 @@ pub record Noted : Type 0 where
 abbrev pub AddsNotes : Noted → Noted → List (List ℕ) → Type 0
 AddsNotes old new lines = new.is_cut ≡ false → (old.is_cut ≡ false) × (new.lines ≡ old.lines ++ lines)
 
--- what a magic number says
+-- what a magic number means
 abbrev pub magic_text : ℕ → List ℕ
 magic_text magic =
     if eqb magic 0o407 then codes "magic: normal, data after text"

@@ -1,7 +1,7 @@
 -- What is odd in a file, and not refused. (a.out(5), ld(1); what counts as odd: own choice)
 --
 -- The header comes first, then the relocation words of text and of data, and then the symbols. Each finding has the byte of the file
--- where the odd field begins.
+-- at which the odd field begins.
 use Rattle.std.specs.Prelude.{ℕ, ◌+◌, ◌-◌, ◌*◌, ◌%◌, Bool, true, false, not, ◌&&◌, ◌||◌, eqb, nat_lt}
 use Rattle.std.specs.Prelude.{nat_le, if◌then◌else◌, List, [], ◌∷◌, ◌++◌, take, drop, length, slice_index}
 use Rattle.std.specs.Prelude.{bytes_eq, Option, Some, None}
@@ -126,7 +126,7 @@ abbrev pub odd_fields : Header → ℕ → ℕ → Symbol → List Found
 odd_fields h n place s =
     odd_type_bits n place s ++ odd_type n place s ++ odd_common n place s ++ odd_value h n place s
 
--- the number of the first symbol that has a name, where the first of them has number n; names are equal in eight bytes
+-- the number of the first symbol that has a name, if the first of these has number n; names are equal in eight bytes
 abbrev pub first_named_from : ℕ → List ℕ → List Symbol → Option ℕ
 first_named_from n name [] = None
 first_named_from n name (s ∷ ss) = if bytes_eq s.name name then Some n else first_named_from (n + 1) name ss

@@ -15,14 +15,14 @@ data_to h = data_start_in h + h.data_size
 abbrev pub bss_to : Header → ℕ
 bss_to h = data_to h + h.bss_size
 
--- the address is in the segment or at its end; other segments are nowhere, and have every address
+-- the address is in the segment or at its end; other segments have no addresses of their own, so any address will do
 abbrev pub has_address : Header → Segment → ℕ → Bool
 has_address h TextSeg address = nat_le address h.text_size
 has_address h DataSeg address = nat_le (data_start_in h) address && nat_le address (data_to h)
 has_address h BssSeg address = nat_le (data_to h) address && nat_le address (bss_to h)
 has_address h _ address = true
 
--- where a segment begins and ends; other segments count as text
+-- the addresses at which a segment begins and ends; other segments count as text
 abbrev pub segment_from : Header → Segment → ℕ
 segment_from h DataSeg = data_start_in h
 segment_from h BssSeg = data_to h

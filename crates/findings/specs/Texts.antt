@@ -29,7 +29,7 @@ odd_size_text part size =
 unfoldable pub odd_table_text : ℕ → List ℕ
 odd_table_text size = codes "odd size: the symbol table has " ++ in_both size ++ codes " bytes, and a symbol 12"
 
--- the part of a file in which a byte lies
+-- the part of a file that has a byte
 abbrev pub part_at : Header → ℕ → List ℕ
 part_at h place =
     if nat_lt place (16 + h.text_size) then codes "text"

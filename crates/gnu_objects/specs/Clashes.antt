@@ -1,4 +1,4 @@
--- Externals of two files that differ, and are equal in eight bytes. (own choice)
+-- Externals of two files whose names differ, and are equal in eight bytes. (own choice)
 use Rattle.std.specs.Prelude.{ℕ, ◌+◌, true, if◌then◌else◌, List, [], ◌∷◌, take, Option, Some, None}
 use Rattle.aout_core.specs.declared.header.Header.{Header}
 use Rattle.aout_core.specs.Decoding.{header_in}

@@ -52,7 +52,7 @@ contents_with bytes h strings symbols words flags = record {
   symbols = converted_symbols strings flags symbols;
 }
 
--- the refusal, where there is one
+-- the refusal, if there is one
 abbrev pub unless : Option Refusal → Result Contents Refusal → Result Contents Refusal
 unless None result = result
 unless (Some refusal) result = Err refusal

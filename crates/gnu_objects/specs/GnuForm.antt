@@ -1,7 +1,7 @@
 -- Objects in GNU's form, as lists of bytes. (binutils, pdp11-aout)
 --
--- The header has the eight words of the Seventh Edition, and text, data and relocation follow it as there. After them come
--- the symbols, 8 bytes each, and after these the strings, which begin with their own length in four bytes and count them.
+-- The header has the eight words of the Seventh Edition, and text, data and relocation follow it as in a.out(5). After them come the
+-- symbols, 8 bytes each, and after these the strings. They begin with their length in four bytes, which counts these four too.
 use Rattle.std.specs.Prelude.{ℕ, ◌+◌, ◌*◌, ◌/◌, Bool, ◌&&◌, ◌||◌, ◌==◌, nat_lt, if◌then◌else◌, List}
 use Rattle.std.specs.Prelude.{[], map, take, drop, replicate, slice_index}
 use Rattle.std.specs.List.{list_any, range_with_len}
@@ -37,7 +37,7 @@ symbols_from bytes at count = map (λ n. symbol_at bytes (at + 8 * n)) (range_wi
 abbrev pub symbols_of : List ℕ → Header → List GnuSymbol
 symbols_of bytes h = symbols_from bytes (symbols_at h) (h.symbol_size / 8)
 
--- the strings with their length, which are missing where there are no symbols
+-- the strings with their length, which are missing if there are no symbols
 abbrev pub strings_of : List ℕ → Header → List ℕ
 strings_of bytes h =
     if h.symbol_size == 0 then []

@@ -1,7 +1,7 @@
 -- Why an object in GNU's form is refused, the first reason that applies. (own choice)
 --
--- First the header and the sizes are looked at, then the strings, each symbol, the entry point, how many symbols stay, externals
--- whose names are equal in eight bytes, and last the relocation words.
+-- First the header and the sizes are checked, then the strings, each symbol, the entry point, the number of symbols that stay, the
+-- externals, of which no two may be equal in eight bytes only, and last the relocation words.
 use Rattle.std.specs.Prelude.{ℕ, ◌+◌, ◌/◌, ◌%◌, Bool, true, false, ◌&&◌, ◌||◌, ◌==◌, not, nat_lt, nat_le, if◌then◌else◌}
 use Rattle.std.specs.Prelude.{List, [], ◌∷◌, take, length, slice_get, Option, Some, None}
 use Rattle.aout_core.specs.declared.header.Header.{Header}
@@ -17,7 +17,7 @@ use Rattle.gnu_objects.specs.declared.symbols.GnuSymbol.{GnuSymbol}
 use Rattle.gnu_objects.specs.GnuForm.{long_at, name_at, is_stab}
 use Rattle.gnu_objects.specs.Staying.{counts, alike_with, refers, count}
 
--- the first of two refusals, where there is one
+-- the first of two refusals, if there is one
 abbrev pub refused_first : Option Refusal → Option Refusal → Option Refusal
 refused_first None later = later
 refused_first (Some refusal) later = Some refusal

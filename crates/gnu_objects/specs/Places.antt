@@ -1,4 +1,4 @@
--- The byte of a file at which a refusal stands, and the whole name of a symbol. (own choice)
+-- The byte of a file that a refusal is about, and the whole name of a symbol. (own choice)
 use Rattle.std.specs.Prelude.{◌≡◌, ℕ, ◌+◌, ◌*◌, ◌/◌, ◌<◌, ◌≤◌, nat_lt, nat_le, ◌||◌, if◌then◌else◌, List, [], take, length, None, is_some}
 use Rattle.aout_core.specs.declared.header.Header.{Header}
 use Rattle.aout_core.specs.declared.object.ObjectFault.{ObjectFault}
@@ -34,7 +34,7 @@ fault_place h NoRelocation = 14
 fault_place h (BadRelocation n) = word_place h n
 fault_place h (BadSymbolNumber n) = word_place h n
 
--- in a file of so many bytes; a file that is too short ends where it stands
+-- in a file of so many bytes; for a file that is too short the byte is that after its last
 abbrev pub place_with : ℕ → Header → Refusal → ℕ
 place_with size h ShortHeader = size
 place_with size h (BadMagic magic) = 0

@@ -1,4 +1,4 @@
--- What there is to say of names that are cut, and of locals that go because of their names. (own choice)
+-- What is reported of externals whose names are cut, and of locals that are dropped because of their names. (own choice)
 use Rattle.std.specs.Prelude.{ℕ, ◌+◌, false, nat_lt, if◌then◌else◌, List, [], ◌∷◌, ◌++◌, take, length, Option, Some, None}
 use Rattle.std.specs.Option.{option_to_list}
 use Rattle.aout_core.specs.declared.header.Header.{Header}

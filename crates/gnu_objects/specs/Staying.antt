@@ -32,7 +32,7 @@ is_chosen KeepNone words n = false
 abbrev pub are_alike : List ℕ → List ℕ → Bool
 are_alike first second = pointwise nat_eq (take 8 first) (take 8 second) && not (pointwise nat_eq first second)
 
--- a symbol with a name that a linker sees: not for a debugger, and where only externals count, one of these
+-- a symbol with a name that a linker sees: not for a debugger, and an external if only these count
 abbrev pub counts : List ℕ → Bool → GnuSymbol → Bool
 counts strings externals s = not (is_stab strings s) && (not externals || is_external s)
 

@@ -25,7 +25,7 @@ AlikeLines P place [] [] = Unit {0}
 AlikeLines P place (line ∷ lines) (other ∷ others) = AlikeLine P place line other × AlikeLines P (place + line_length line) lines others
 AlikeLines P place _ _ = ⊥
 
--- the words end before an instruction does
+-- the words end before the instruction does: it is cut
 abbrev pub is_cut : Option Instruction → List ℕ → Bool
 is_cut None following = false
 is_cut (Some i) following = nat_lt (length following) (following_words i)

@@ -1,4 +1,4 @@
--- Instructions without their operand words: what the first word alone says, and the first word that says it. (as(1))
+-- Instructions without their operand words: the instruction that a first word encodes, and the first word of an instruction. (as(1))
 use Rattle.std.specs.Prelude.{ℕ, ◌+◌, ◌*◌, ◌/◌, ◌%◌, Bool, true, false, ◌||◌, if◌then◌else◌, Option, Some, None}
 use Rattle.instructions.specs.declared.field.Field.{Field}
 use Rattle.instructions.specs.declared.operation.Operation.{Operation}
@@ -10,7 +10,7 @@ use Rattle.instructions.specs.Fields.{place, size}
 use Rattle.instructions.specs.Rows.{row_of}
 use Rattle.instructions.specs.Operands.{operand_of, value_of, takes_word, is_missing}
 
--- what a field of a word says
+-- the operand in a field of a word
 abbrev pub field_operand : Option Field → ℕ → Option Operand
 field_operand None w = None
 field_operand (Some f) w = Some (operand_of f (w / place f % size f))
@@ -18,7 +18,7 @@ field_operand (Some f) w = Some (operand_of f (w / place f % size f))
 abbrev pub instruction : Row → ℕ → Instruction
 instruction o w = record { row = o; first = field_operand o.first w; second = field_operand o.second w }
 
--- the instruction of a word in a row; none has fr6 or fr7
+-- the instruction of a word in a row; a word with fr6 or fr7 encodes none
 abbrev pub instruction_in : Option Row → ℕ → Option Instruction
 instruction_in None w = None
 instruction_in (Some o) w =

@@ -1,4 +1,4 @@
--- What holds of all lists of words and their lines.
+-- What holds of all lists of words and their lines. (as(1), the handbook of the PDP-11/70)
 --
 -- Nothing is lost or normalized: encoding what was decoded gives the same words. The first word alone decides the instruction and
 -- the length, if enough words follow it. At one address different words have different texts.
@@ -25,7 +25,7 @@ abbrev pub shape : Line → Option Instruction
 shape (Plain w) = None
 shape (Decoded i a b) = Some i
 
--- if two words follow it, what a first word begins does not depend on them
+-- if at least two words follow it, what a first word begins does not depend on them
 pub record FirstWordLaw : Type 0 where
   pub instruction : (w : ℕ) (following : List ℕ) → 2 ≤ length following → shape (line_of (instruction_of w) w following) ≡ instruction_of w
   pub length : (w : ℕ) (following other : List ℕ) → 2 ≤ length following → 2 ≤ length other →

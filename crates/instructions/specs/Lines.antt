@@ -1,4 +1,4 @@
--- Lines of text: what the words at a place say, and the words that say it. (as(1); plain words: own choice)
+-- Lines of text: the line that the words at a place encode, and the words of a line. (as(1); plain words: own choice)
 --
 -- A word begins an instruction if the table has it and enough words follow it; any other word is plain, a line of its own.
 use Rattle.std.specs.Prelude.{ℕ, zero, suc, ◌+◌, nat_lt, if◌then◌else◌, Option, Some, None, List, []}
@@ -16,7 +16,7 @@ use Rattle.instructions.specs.Instructions.{instruction_of, first_word, word_cou
 abbrev pub word_for : Option Operand → ℕ → List ℕ → Option ℕ
 word_for x place following = if takes_word x then slice_get following place else None
 
--- the line of a first word and the words that follow it; an instruction that they end before is cut, and its first word plain
+-- the line of a first word and the words that follow it. If they end before the instruction does, it is cut, and its first word is plain
 abbrev pub line_of : Option Instruction → ℕ → List ℕ → Line
 line_of None w following = Plain w
 line_of (Some i) w following =

@@ -1,4 +1,4 @@
--- The names of the operations. (as(1); where it has none, the handbook of the PDP-11/70)
+-- The names of the operations. (as(1); for those that it does not have, the handbook of the PDP-11/70)
 use Rattle.std.specs.Prelude.{ℕ, List, codes}
 use Rattle.instructions.specs.declared.operation.Operation.{Operation}
 use Rattle.instructions.specs.declared.operation.Operation.TheVariants.{Clc, Clv, Clz, Cln, Sec, Sev, Sez, Sen, Halt}

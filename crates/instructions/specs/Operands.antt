@@ -1,4 +1,4 @@
--- The operand that a field of a first word says, and the value that says it. (the handbook of the PDP-11/70)
+-- The operand that a value in a field of a first word encodes, and the value of an operand. (the handbook of the PDP-11/70)
 use Rattle.std.specs.Prelude.{ℕ, ◌+◌, ◌*◌, ◌/◌, ◌%◌, Bool, false, nat_lt, not, if◌then◌else◌, Option, Some}
 use Rattle.instructions.specs.declared.field.Field.{Field}
 use Rattle.instructions.specs.declared.field.Field.TheVariants as fields
@@ -10,7 +10,7 @@ use Rattle.instructions.specs.Modes.{mode_numbered, mode_number, register_number
 abbrev pub general : ℕ → Operand
 general v = General (mode_numbered (v / 8)) (register_numbered (v % 8))
 
--- what a value says in a field
+-- the operand that a value in a field encodes
 abbrev pub operand_of : Field → ℕ → Operand
 operand_of fields.Source v = general v
 operand_of fields.Destination v = general v
@@ -24,7 +24,7 @@ operand_of fields.Byte v = Number v
 operand_of fields.SixBits v = Number v
 operand_of fields.ThreeBits v = Number v
 
--- the value that says it
+-- the value of an operand
 abbrev pub value_of : Operand → ℕ
 value_of (General m r) = mode_number m * 8 + register_number r
 value_of (Accumulator v) = v
@@ -37,7 +37,7 @@ abbrev pub takes_word : Option Operand → Bool
 takes_word (Some (General m r)) = has_word m r
 takes_word _ = false
 
--- fr6 and fr7: there are no such accumulators
+-- fr6 and fr7: the machine does not have these accumulators
 abbrev pub is_missing : Option Operand → Bool
 is_missing (Some (Accumulator v)) = not (nat_lt v 6)
 is_missing _ = false

@@ -1,7 +1,7 @@
 -- A name as the assembler has it, and how far beyond it. (as(1); which bytes are `\\ooo`: own choice)
 --
--- A letter, a digit, `_`, `.` or `~` stands for itself, and any other byte is a backslash and three octal digits. So are a digit that
--- begins a name, and the first letter of a name that is a register's, so no name looks like a number or a register.
+-- A letter, a digit, `_`, `.` or `~` is shown as it is, and any other byte as a backslash and three octal digits. So are a digit that
+-- begins a name, and the first letter of a name that is a register's. Then no name looks like a number or a register.
 use Rattle.std.specs.Prelude.{ℕ, ◌-◌, Bool, false, ◌&&◌, ◌||◌, eqb, nat_le, nat_lt, if◌then◌else◌, List, [], ◌∷◌, ◌++◌, codes}
 use Rattle.std.specs.List.{flat_map}
 use Rattle.texts.specs.Numbers.{octal}

@@ -31,7 +31,7 @@ register_text R5 = codes "r5"
 register_text Sp = codes "sp"
 register_text Pc = codes "pc"
 
--- the number of an operand word; no operand that lacks one asks for it
+-- the number of an operand word; an operand without a word does not show it
 abbrev pub number : Option ℕ → ℕ
 number None = 0
 number (Some n) = n

@@ -1,4 +1,4 @@
--- What holds of all lists of words and their lines with system calls, for either decoder.
+-- What holds of all lists of words and their lines with system calls, for either decoder. (section 2 of the Unix Programmer's Manual)
 --
 -- Nothing is lost or normalized, the first word alone decides which line it is, if enough words follow it, and at one address different
 -- words have different texts.
@@ -23,8 +23,8 @@ abbrev pub UnixIdentityLaw : Type 0
 UnixIdentityLaw = (d : Decoder) (words : List ℕ) (place : ℕ) → place < length words →
     unix_words (unix_line_at d words place) (drop (place + 1) words) ≡ take (unix_length (unix_line_at d words place)) (drop place words)
 
--- if four words follow it, what a first word begins does not depend on them: a call, or else a line of the machine, of which the law of
--- first words says this
+-- if at least four words follow it, what a first word begins does not depend on them: a call, or else a line of the machine, for which
+-- the law of first words holds
 pub record UnixFirstWordLaw : Type 0 where
   pub call : (d : Decoder) (w : ℕ) (c : CallRow) (following : List ℕ) → call_by d w ≡ Some c → 4 ≤ length following →
       unix_line_at d (w ∷ following) 0 ≡ Call c

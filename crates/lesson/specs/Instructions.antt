@@ -16,7 +16,7 @@ abbrev pub instruction_by : Contents → ℕ → UnixLine → List ℕ
 instruction_by c place (Machine (Decoded i a b)) = line_text_in Pdp11 c place
 instruction_by c place _ = []
 
--- the instruction that begins at a place of the text; nothing where none does
+-- the instruction that begins at a place of the text; nothing if none does
 abbrev pub instruction_at : Contents → ℕ → List ℕ
 instruction_at c place = if is_start (starts Pdp11 c) place then instruction_by c place (unix_line_in Pdp11 c place) else []
 

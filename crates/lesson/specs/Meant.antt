@@ -19,7 +19,7 @@ size_of m Text = 2 * length m.text_cells
 size_of m Data = 2 * length m.data_cells
 size_of m Bss = m.bss_total
 
--- the place of this number, where a segment has this size; in the upper half, beyond the end, it is so many bytes before the segment
+-- the place of this number, if a segment has this size; in the upper half, beyond the end, it is so many bytes before the segment
 abbrev pub place_in : ℕ → ℕ → List ℕ
 place_in size n = if nat_lt 32767 n && nat_lt size n then codes " - " ++ octal (65536 - n) else codes " " ++ six_digits n
 

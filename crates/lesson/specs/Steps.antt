@@ -54,7 +54,7 @@ whole_step edit label after = title edit label ++ whole_state after
 abbrev pub changed_step : List ℕ → List ℕ → Rows → Kept → List ℕ
 changed_step edit label before after = title edit label ++ changes before (rows_of after)
 
--- what is shown of a step, where these rows are given if its changes are wanted
+-- what is shown of a step: what it changed of these rows, if they are given, and else the whole state
 abbrev pub step_text : List ℕ → List ℕ → Option Rows → Kept → List ℕ
 step_text edit label None after = whole_step edit label after
 step_text edit label (Some before) after = changed_step edit label before after

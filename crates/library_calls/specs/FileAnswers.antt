@@ -1,6 +1,6 @@
--- What a call says of one file, from its bytes. (strip(1), nm(1), size(1); instructions and the refusals: own choice)
+-- What a call answers for one file, by its bytes. (strip(1), nm(1), size(1); instructions and the refusals: own choice)
 --
--- The file is the one that the bytes begin with; what is after it is not looked at.
+-- The file is the one that the bytes begin with; what follows it is ignored.
 use Rattle.std.specs.Prelude.{ℕ, ◌%◌, ◌/◌, Bool, false, eqb, nat_lt, if◌then◌else◌, List, [], ◌∷◌, drop, Result, Ok, Err}
 use Rattle.aout_core.specs.Contents.{Contents}
 use Rattle.aout_core.specs.Decoding.{header_in, decode}

@@ -1,4 +1,4 @@
--- What a call says of a link of the objects that bytes hold, one after another. (ld(1); the refusals: own choice)
+-- What a call answers for a link of the objects in some bytes, one after another. (ld(1); the refusals: own choice)
 --
 -- Each object in order is read from the bytes after the one before it, has to be an object, and is added after those before it.
 -- The first that is not taken is the refusal. Then all are linked.
@@ -44,11 +44,11 @@ with_objects forced os bytes = with_most (length bytes) forced os bytes
 abbrev pub objects_in : List (List ℕ) → List ℕ → Result (List Contents) Refusal
 objects_in forced bytes = with_objects forced [] bytes
 
--- the bytes of each object, where they are apart
+-- the bytes of each object, if they are apart
 abbrev pub each_of : List ObjectBytes → List (List ℕ)
 each_of parts = map (λ (part : ObjectBytes). part.bytes.now) parts
 
--- the objects with the one that each of these begins with, by what takes one after others; the bytes after it are not looked at, as in ld
+-- the objects with the one that each of these begins with, by what takes one after others; the bytes after it are ignored, as by ld
 abbrev pub with_each_of : (List Contents → List ℕ → Result (List Contents) Cause) → List Contents → List (List ℕ) →
     Result (List Contents) Refusal
 with_each_of with_one os [] = Ok os

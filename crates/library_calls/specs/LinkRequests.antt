@@ -43,7 +43,7 @@ abbrev pub choices_in : ℕ → List ℕ → Result Choices Cause
 choices_in bits entry =
     if nat_lt 127 bits then Err NoOption else unless_long entry (ok_or (choices_of (flags_in bits) (entry_of entry)) Excluded)
 
--- so many names of eight bytes each appended to those before them, where they are not there already; the next one has this number
+-- so many names of eight bytes each appended to those before them, if they are not there already; the next one has this number
 abbrev pub with_names : ℕ → ℕ → List (List ℕ) → List ℕ → Result (List (List ℕ)) Refusal
 with_names zero number names bytes = Ok names
 with_names (suc n) number names bytes =

@@ -1,4 +1,4 @@
--- What a call says of listings: that of a file, and the file of one. (own choice)
+-- What a call answers for listings: the listing of a file, and the file of a listing. (own choice)
 use Rattle.std.specs.Prelude.{◌≡◌, ◌⊎◌, ℕ, List, [], Result, Ok, IsOk}
 use Rattle.aout_core.specs.Contents.{Contents}
 use Rattle.aout_core.specs.Encoding.{encoding}

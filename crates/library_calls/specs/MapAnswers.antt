@@ -1,4 +1,4 @@
--- What the map of a link says, of objects whose bytes are apart. (own choice)
+-- The map of a link of objects whose bytes are apart, as a call answers it. (own choice)
 use Rattle.std.specs.Prelude.{◌≡◌, ◌≢◌, ◌⊎◌, ℕ, ◌+◌, is_some, if◌then◌else◌, List, [], ◌∷◌, ◌++◌, length}
 use Rattle.std.specs.Prelude.{Option, Some, None, Result, Ok, Err, IsOk, IsOkAnd}
 use Rattle.aout_core.specs.Contents.{Contents}
@@ -118,7 +118,7 @@ made_head b l = record {
   entry_name = name_or_none l.report.entry_bad;
 }
 
--- where segments lie, and a fault
+-- the addresses of the segments, and a fault
 abbrev pub placed_head : Bases → ℕ → MapHead
 placed_head b fault = record {
   text_end = b.text_end;

@@ -73,7 +73,7 @@ LinkOfEachMayRunOut bits entry forced parts place =
 abbrev pub MayRunOutForEdit : ℕ → List ℕ → Type 0
 MayRunOutForEdit letter bytes = ((letter ≡ 97) × HasBody bytes) ⊎ IsOk (change_in letter bytes)
 
--- memory may run out for the edit of number `place`, where the first of these has this number; those before it are read. The objects
+-- memory may run out for the edit of number `place`, if the first of these has this number; those before it are read. The objects
 -- are given in some form S, as in SessionAnswers
 abbrev pub MayRunOutInEditsOf : {S : Type 0} → (S → List ℕ) → (ℕ → S → S) → ℕ → List ℕ → S → ℕ → Type 0
 MayRunOutInEditsOf first after number [] rest place = ⊥

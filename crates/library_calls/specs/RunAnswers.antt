@@ -1,8 +1,8 @@
--- What one call says of a link or of a session, with the bytes of each object apart, its report as lines and as a list, and the objects of
+-- What one call answers for a link or a session of objects whose bytes are apart: the report as lines and as a list, and the objects of
 -- what is reported. (ld(1); edits: own choice)
 --
--- An edit `a` adds the object that the next part begins with. The bytes after it in its part are not looked at, so an object that is
--- cut short is refused itself. If no part is left, there are no bytes of an object.
+-- An edit `a` adds the object that the next part begins with. The bytes after it in its part are ignored, so an object that is cut
+-- short is refused itself. If no part is left, the object has no bytes, and is refused.
 use Rattle.std.specs.Prelude.{◌≡◌, ◌⊎◌, ℕ, Bool, eqb, if◌then◌else◌, List, [], ◌∷◌, Result, Ok, IsOkAnd}
 use Rattle.aout_core.specs.Contents.{Contents}
 use Rattle.link_session.specs.Edits.{Change}

@@ -1,4 +1,4 @@
--- What a call says of a session: edits of a list of objects, a letter each, and the link of what is left. (ld(1); edits: own choice)
+-- What a call answers for a session: edits of a list of objects, a letter each, and the link of what is left. (ld(1); edits: own choice)
 --
 -- `a` adds the next object of the bytes, and `w` withdraws the last one that is kept. All edits are read, each object from the bytes
 -- after the one before it, and the first that is not taken is the refusal. Then they are run: each has a reply, and what is left is
@@ -54,7 +54,7 @@ changes_in letters bytes = with_edits 0 [] letters bytes
 
 -- ---- edits run
 
--- 0 where the edit was made, else why it was not: the number of the limit that an object passes, or 35 where nothing is kept
+-- 0 if the edit was made, else why it was not: the number of the limit that an object passes, or 35 if nothing is kept
 abbrev pub reply_number : Answer → ℕ
 reply_number added = 0
 reply_number (refused fault) = number_of (NotAdded fault)
@@ -66,7 +66,7 @@ pub record SessionOutput : Type 0 where
   pub replies : List ℕ
   pub output : Output ℕ
 
--- 1 where an edit was not made
+-- 1 if an edit was not made
 abbrev pub session_status : List ℕ → ℕ → ℕ
 session_status [] status = status
 session_status (n ∷ ns) status = if eqb n 0 then session_status ns status else 1

@@ -1,4 +1,4 @@
--- The objects of a link, and where their segments lie. (ld(1))
+-- The objects of a link, and the addresses of their segments. (ld(1))
 --
 -- A session takes the objects in order, up to the first that passes a limit. That one and those after it are left, but the
 -- map shows them too.
@@ -25,7 +25,7 @@ cause_of (Some r) = Some r.cause
 abbrev pub all_of : Objects → List Labelled
 all_of o = o.session.entries ++ left_of o.refused
 
--- the label of an object, and what its header and its table tell
+-- the label of an object, its header, and how many symbols it has
 pub record Member : Type 0 where
   pub label : List ℕ
   pub header : Header
@@ -38,7 +38,7 @@ member_of e = record { label = e.label; header = e.object.header; symbols = leng
 abbrev pub capped : ℕ → ℕ → ℕ
 capped a b = min (a + b) (2 ^ 64 - 1)
 
--- where the segments of the first object lie; if there is no link, counted from 0 in each segment
+-- the addresses of the segments of the first object; if there is no link, they are counted from 0 in each segment
 abbrev pub first_places : Option Bases → Places
 first_places None = record { text = 0; «data» = 0; bss = 0 }
 first_places (Some b) = record { text = 0; «data» = b.data_start; bss = b.bss_start }

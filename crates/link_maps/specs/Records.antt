@@ -43,7 +43,7 @@ object_record m at = record {
 abbrev pub object_records : List Member → List Places → List ObjectRecord
 object_records ms ats = map (λ p. object_record p.0 p.1) (zip ms ats)
 
--- the number of an object; the largest number of 64 bits stands for none
+-- the number of an object, or the largest number of 64 bits for none
 abbrev pub number_or_none : Option ℕ → ℕ
 number_or_none None = 2 ^ 64 - 1
 number_or_none (Some n) = n
@@ -105,7 +105,7 @@ is_user u = is_some u.object && not (is_definition u)
 abbrev pub first_user : List Use → ℕ
 first_user us = object_at us (position is_user us)
 
--- the symbol of a name: its row in the table of the link, or else the one that says most
+-- the symbol of a name: its row in the table of the link, or else that of `telling`
 abbrev pub symbol_shown : Option Symbol → List Use → Option Symbol
 symbol_shown (Some row) us = Some row
 symbol_shown None us = telling us

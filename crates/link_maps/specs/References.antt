@@ -55,7 +55,7 @@ before address (Some s) = Some (record { name = s.name; bytes = address - s.valu
 abbrev pub label_before : List Symbol → Segment → ℕ → Option Before
 label_before symbols segment address = before address (nearest segment address None symbols)
 
--- where the line begins that has the word so many bytes after the first of a part, by the words at which the lines of text begin
+-- how many bytes after the first of a part the line begins that has this word, by the words at which the lines of text begin
 abbrev pub line_of : List Bool → Part → ℕ → ℕ
 line_of starts Text offset = 2 * line_start starts (offset / 2)
 line_of starts Data offset = offset

@@ -22,7 +22,7 @@ use Rattle.link_maps.specs.declared.outcome.Outcome.{Outcome}
 abbrev pub plan_of : Kept → Choices → Plan
 plan_of k choices = plan k.forced (objects k.entries) choices
 
--- where the segments lie, the link or why it is refused, and the rows of the externals, if the link fits
+-- the addresses of the segments, the link or why it is refused, and the rows of the externals, if the link fits
 pub record IsOutcome (o : Outcome) (k : Kept) (choices : Choices) : Type 0 where
   pub bases : o.bases ≡ (plan_of k choices).at
   pub made : IsLinkOf o.linked (link k.forced (objects k.entries) choices)
@@ -40,7 +40,7 @@ abbrev pub row_of : Kept → Choices → List ℕ → Option Symbol
 row_of k choices name =
     cond (is_among (externals k.forced (objects k.entries)) name) (Some (external_row (plan_of k choices) name)) None
 
--- where the segments lie, if there is a link
+-- the addresses of the segments, if there is a link
 abbrev pub bases_of : Option Outcome → Option Bases
 bases_of None = None
 bases_of (Some o) = Some o.bases

@@ -68,7 +68,7 @@ is_definition u = not (eqb (masked_type u.symbol) 0)
 abbrev pub is_common : Use → Bool
 is_common u = eqb (masked_type u.symbol) 0 && not (eqb u.symbol.value 0)
 
--- of the uses of a name, the place of the one that says most: the first definition, or else the first common, or else the first use
+-- the place, among the uses of a name, of the first definition, or else of the first common, or else of the first use
 abbrev pub telling_place : List Use → ℕ
 telling_place us = unwrap_or (position is_definition us) (unwrap_or (position is_common us) 0)
 

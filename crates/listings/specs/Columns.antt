@@ -1,4 +1,4 @@
--- Lines of a text, and columns of a line.
+-- The lines of a listing, and the columns of a line. (own choice)
 --
 -- A line ends with a newline, or with the text. Blanks separate its columns, and each byte up to 32 is a blank. The first four
 -- columns make a row; a column that is missing is the empty list.
@@ -65,6 +65,6 @@ abbrev pub from_column : ℕ → List ℕ → List ℕ
 from_column k line =
     if eqb k 0 then from_first line else (if eqb k 1 then from_second line else (if eqb k 2 then from_third line else from_fourth line))
 
--- where a column of a line begins, counted from 1; the end of the line where it is missing
+-- the place at which a column of a line begins, counted from 1, or the end of the line if the column is missing
 abbrev pub column_place : ℕ → List ℕ → ℕ
 column_place k line = 1 + (length line - length (from_column k line))

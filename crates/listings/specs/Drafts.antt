@@ -1,4 +1,4 @@
--- What has been read of a file so far, and the file that it makes.
+-- What has been read of a listing so far, and the file that it makes. (a.out(5))
 use Rattle.std.specs.Prelude.{ℕ, ◌*◌, List, [], length}
 use Rattle.aout_core.specs.declared.reloc.Reloc.{Reloc}
 use Rattle.aout_core.specs.declared.symbol.Symbol.{Symbol}

@@ -1,4 +1,4 @@
--- The law of listings: reading the listing of a file gives that file.
+-- The law of listings: reading the listing of a file gives that file. (own choice)
 use Rattle.std.specs.Prelude.{◌≡◌, ℕ, ◌≤◌, List, Ok}
 use Rattle.std.specs.List.{AllByRecursion}
 use Rattle.aout_core.specs.declared.symbol.Symbol.{Symbol}
@@ -13,7 +13,7 @@ use Rattle.listings.specs.Reading.{row_read, read}
 abbrev pub IsLine : List ℕ → Type 0
 IsLine l = AllByRecursion (λ (b : ℕ). 32 ≤ b) l
 
--- a line that says nothing to a reader
+-- a line that a reader skips
 abbrev pub IsLabel : List ℕ → Type 0
 IsLabel l = IsLine l × ((d : Draft) → row_read d (row_of l) ≡ Ok d)
 
@@ -24,6 +24,6 @@ pub record AreRemarks (x : Remarks) : Type 0 where
   pub word : (p : Part) (i : ℕ) → IsLine (x.word p i)
   pub symbol : (s : Symbol) → IsLine (x.symbol s)
 
--- whatever is remarked in it
+-- whatever is remarked in it, if each remark is one line and a reader skips each label
 abbrev pub ListingLaw : Type 0
 ListingLaw = (x : Remarks) (c : Contents) → AreRemarks x → IsSound c → read (listing x c) ≡ Ok c

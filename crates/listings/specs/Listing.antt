@@ -1,4 +1,4 @@
--- The listing of a file: lines of columns.
+-- The listing of a file, which describes each byte of it: lines of columns. (a.out(5); the form: own choice)
 --
 -- A listing begins and ends with notes, and each note is a line that begins with a slash. A line gives the magic number unless it is
 -- 0407, and another the flag unless it is 0. The words of text and of data follow, the size of bss, the entry point and the unused word
@@ -16,7 +16,7 @@ use Rattle.texts.specs.Names.{printable_name}
 use Rattle.texts.specs.Lines.{text_of}
 use Rattle.aout_core.specs.Addresses.{data_start_in}
 
--- remarks for people beside a file; readers pass over them
+-- remarks on a file for people; `read` skips them
 pub record Remarks : Type 0 where
   pub notes : List (List ℕ)
   pub findings : List (List ℕ)

@@ -1,6 +1,6 @@
--- Names in bytes that print, as they are read.
+-- Names in bytes that print, as they are read. (own choice)
 --
--- A byte that prints stands for itself, except the blank and the backslash. A backslash and three octal digits are any other byte.
+-- A byte that prints is itself, except the blank and the backslash. A backslash and three octal digits are any byte.
 use Rattle.std.specs.Prelude.{ℕ, ◌+◌, ◌-◌, ◌*◌, nat_lt, eqb, if◌then◌else◌, List, [], ◌∷◌, ◌++◌, take, Result, Ok, Err}
 use Rattle.aout_core.specs.Names.{before_nul}
 use Rattle.listings.specs.declared.fault.Reason.{Reason}

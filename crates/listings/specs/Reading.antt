@@ -1,7 +1,7 @@
--- What a listing says: line by line, each line by its columns and by what was read before it.
+-- Which file a listing describes: line by line, each line by its columns and by what was read before it. (own choice)
 --
--- A row that begins with a digit belongs to the section that was opened last. Any other row begins with a word. A row without columns
--- says nothing, and neither does one that begins with a slash, or a label. Columns after those that a row needs are not read.
+-- A row that begins with a digit belongs to the section that was opened last. Any other row begins with a word. A row without columns,
+-- one that begins with a slash and a label are skipped. Columns after those that a row needs are not read.
 use Rattle.std.specs.Prelude.{ℕ, ◌+◌, ◌*◌, ◌%◌, Bool, ◌&&◌, ◌||◌, nat_le, nat_lt, nat_eq, eqb, if◌then◌else◌}
 use Rattle.std.specs.Prelude.{List, [], ◌∷◌, ◌++◌, length, Result, Ok, Err, codes}
 use Rattle.std.specs.Cmp.Lexicographic.{pointwise}
@@ -37,7 +37,7 @@ abbrev pub in_column : {A : Type 0} → ℕ → Result A Reason → Result A Mis
 in_column k (Ok x) = Ok x
 in_column k (Err reason) = Err (k, reason)
 
--- a relocation word, if the flag says that the file has relocation
+-- a relocation word, if the file has relocation by its flag
 abbrev pub relocs_of : ℕ → List ℕ → Result (List Reloc) Mistake
 relocs_of flag third = if eqb flag 0 then in_column 2 (number third) >>= (λ n. Ok ((let r : Reloc = record { 0 = n } in r) ∷ [])) else Ok []
 
@@ -151,6 +151,6 @@ abbrev pub file_of : Result Draft Fault → Result Contents Fault
 file_of (Ok d) = Ok (finished d)
 file_of (Err fault) = Err fault
 
--- the file that a listing says, or its first mistake
+-- the file that a listing describes, or its first mistake
 abbrev pub read : List ℕ → Result Contents Fault
 read text = file_of (lines_read 1 empty_draft (lines_in text))

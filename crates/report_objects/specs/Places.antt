@@ -1,6 +1,6 @@
 -- Which objects the names of a report are of. (own choice)
 --
--- Objects are numbered from 0, and the largest number of 64 bits stands for none. A name is of the first object that defines it, or
+-- Objects are numbered from 0, and the largest number of 64 bits means none. A name is of the first object that defines it, or
 -- else of the first that has a symbol of it. A name is multiply defined once for each definition that differs from the first, and each
 -- has the object of this further definition too.
 use Rattle.std.specs.Prelude.{ℕ, zero, suc, ◌+◌, ◌-◌, ◌^◌, Bool, true, false, not, ◌&&◌, ◌||◌, eqb, if◌then◌else◌, bytes_eq}

@@ -11,7 +11,7 @@ pub record JsonText : Type 0 where
 abbrev pub nothing_written : JsonText
 nothing_written = record { text = []; is_after_value = false }
 
--- a text while it is written; once memory ran out it is cut, and says nothing
+-- a text while it is written; once memory ran out it is cut, and nothing is known of it
 pub record JsonWritten : Type 0 where
   pub json : JsonText
   pub is_cut : Bool

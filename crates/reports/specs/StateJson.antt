@@ -28,7 +28,7 @@ json_byte b =
     if nat_lt 31 b && (nat_lt b 127 && (not (eqb b 34) && not (eqb b 92))) then b ∷ []
     else codes "\\u00" ++ digit_glyph false (b / 16) ∷ digit_glyph false (b % 16) ∷ []
 
--- a byte of a text in UTF-8: those of characters beyond ASCII stand for themselves
+-- a byte of a text in UTF-8: those of characters beyond ASCII stay as they are
 abbrev pub json_text_byte : ℕ → List ℕ
 json_text_byte b = if nat_lt 127 b then b ∷ [] else json_byte b
 
@@ -84,7 +84,7 @@ abbrev pub place_json : Place → List ℕ
 place_json (InText i) = codes "{\"segment\":\"text\",\"offset\":" ++ decimal (2 * i)
 place_json (InData i) = codes "{\"segment\":\"data\",\"offset\":" ++ decimal (2 * i)
 
--- where something was overwritten, and what stood there
+-- the place that was overwritten, and what was there
 abbrev pub mark_json : Named → Mark → List ℕ
 mark_json es (CellWas place c) = place_json place ++ codes ",\"was\":{" ++ cell_json es c ++ codes "}}"
 mark_json es (StateWas i s) = codes "{\"name\":" ++ json_name (name_at es i) ++ codes ",\"was\":{" ++ members_of_state s ++ codes "}}"

@@ -65,7 +65,7 @@ external_line e = codes "  name " ++ printable_name e.0 ++ codes ": " ++ state_t
 abbrev pub multiple_line : List ℕ → List ℕ
 multiple_line name = codes "  name " ++ printable_name name ++ codes ": multiply defined\n"
 
--- where a mark belongs
+-- the place of a mark
 abbrev pub place_text : Place → List ℕ
 place_text (InText i) = codes "text " ++ six_digits (2 * i)
 place_text (InData i) = codes "data " ++ six_digits (2 * i)

@@ -10,7 +10,7 @@ use Rattle.surroundings.specs.declared.answer.Fault.TheVariants.{Answered, Memor
 use Rattle.surroundings.specs.Answer.{Answer}
 use Rattle.surroundings.specs.Events.{History}
 
--- a line in which a program says a text of a path
+-- the line with which a program reports a text for a path
 abbrev pub fault_line : List ℕ → List ℕ → List ℕ → List ℕ
 fault_line program path text = program ++ codes ": " ++ path ++ codes ": " ++ text ++ codes "\n"
 
@@ -18,7 +18,7 @@ fault_line program path text = program ++ codes ": " ++ path ++ codes ": " ++ te
 abbrev pub only_errors : List ℕ → ℕ → Answer
 only_errors errors status = record { output = []; errors = errors; status = status }
 
--- a text is said of a path, and the status is 2
+-- a text is reported for a path, and the status is 2
 abbrev pub failed_at : List ℕ → List ℕ → List ℕ → Answer
 failed_at program path text = only_errors (fault_line program path text) 2
 
@@ -26,7 +26,7 @@ failed_at program path text = only_errors (fault_line program path text) 2
 abbrev pub HasAnswer : Fault → Answer → Type 0
 HasAnswer fault answer = (fault ≡ Answered answer) ⊎ (fault ≡ Memory)
 
--- how a program is called, as the answer to arguments that ask for nothing
+-- the usage of a program, as the answer to arguments that ask for nothing
 abbrev pub says_usage : List ℕ → Answer
 says_usage usage = only_errors usage 2
 
@@ -51,7 +51,7 @@ abbrev pub fault_answer : List ℕ → Fault → Answer
 fault_answer program (Answered answer) = answer
 fault_answer program Memory = only_errors (program ++ codes ": no memory\n") 2
 
--- the answer of a program, which says so if memory ran out for it
+-- the answer of a program, or the answer `no memory` if memory ran out for it
 abbrev pub answer_in : List ℕ → Result Answer Fault → Answer
 answer_in program (Ok answer) = answer
 answer_in program (Err fault) = fault_answer program fault
@@ -60,7 +60,7 @@ answer_in program (Err fault) = fault_answer program fault
 abbrev pub AnswersOr : Result Answer Fault → Answer → Type 0
 AnswersOr result answer = (result ≡ Ok answer) ⊎ (result ≡ Err Memory)
 
--- what the first argument asks for is shown, which asks nothing of the system; or there is no such argument, and the rest is done
+-- help or the version is shown, which the first argument asks for, and nothing is asked of the system; or the rest is done
 abbrev pub IsShownOr : List ℕ → List ℕ → Option Shown → History → History → Result Answer Fault → Type 0 → Type 0
 IsShownOr program usage (Some shown) old new result rest = (new ≡ old) × AnswersOr result (shows program usage shown)
 IsShownOr program usage None old new result rest = rest

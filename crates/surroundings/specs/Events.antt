@@ -1,7 +1,7 @@
 -- What a command asked of the system, which opens and stores its files, in order, and what came of it. (own choice)
 --
--- No contract can say what a disk holds. It can say what was asked of it: a file was opened, and what its bytes were, or a file was
--- to be stored, and whether it was. The list of these events, in order, is what a command did.
+-- No contract can state what a disk holds. It can state what was asked of it: a file was opened, and what its bytes were, or a file
+-- was to be stored, and whether it was. The list of these events, in order, is what a command did.
 use Rattle.std.specs.Prelude.{◌≡◌, ℕ, List, ◌++◌, map, Option, Some, None, ⊤}
 use Rattle.aout_core.specs.Contents.{Contents}
 use Rattle.aout_core.specs.Wires.{Latched}
@@ -13,7 +13,7 @@ pub data Event : Type 0 where
   stored : List ℕ → Contents → Stored → Event
   written : List ℕ → List ℕ → Stored → Event
 
--- all events so far, where they are known
+-- all events so far, if they are known
 abbrev pub History : Type 0
 History = Option (List Event)
 
@@ -23,7 +23,7 @@ Extends None new more = ⊤
 Extends (Some xs) None more = ⊥
 Extends (Some xs) (Some ys) more = ys ≡ xs ++ more
 
--- a path, and the bytes of the file that was opened there, where they are known
+-- a path, and the bytes of the file that was opened there, if they are known
 abbrev pub Opened : Type 0
 Opened = List ℕ × Option (List ℕ)
 

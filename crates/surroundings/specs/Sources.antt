@@ -1,4 +1,4 @@
--- A file that is read whole, and why one is not; and what is said of a file that is not stored. (own choice)
+-- A file that is read whole, and why one is not; and what is reported of a file that is not stored. (own choice)
 use Rattle.std.specs.Prelude.{◌≡◌, ℕ, List, [], ◌∷◌, Option, Some, None, IfSome, codes}
 use Rattle.surroundings.specs.Answers.{HasAnswer, failed_at}
 use Rattle.surroundings.specs.Events.{History, Extends, opened}
@@ -15,13 +15,13 @@ abbrev pub unread_text : Option (Option (List ℕ)) → List ℕ
 unread_text None = codes "cannot open"
 unread_text (Some known) = codes "read error"
 
--- the file at a path was not opened, or not read, and the fault says so; or memory ran out
+-- the file at a path was not opened, or not read, which is the fault; or memory ran out
 abbrev pub EndsReading : List ℕ → History → History → List ℕ → Fault → Type 0
 EndsReading program old new path fault =
     (found : Option (Option (List ℕ))) × Extends old new (opened path found ∷ [])
     × HasAnswer fault (failed_at program path (unread_text found))
 
--- what is said of the path of a file that was to be stored
+-- what is reported of the path of a file that was to be stored
 abbrev pub stored_text : Stored → Option (List ℕ)
 stored_text office.Kept = None
 stored_text office.NotCreated = Some (codes "cannot create")

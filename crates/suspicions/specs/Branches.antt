@@ -1,7 +1,7 @@
 -- What is suspicious of a branch: a target after the text, or within an instruction. (the handbook of the PDP-11/70; what is suspicious:
 -- own choice)
 --
--- The end of the text counts as inside, since another text may follow it. Only sure instructions count as those that a target is within.
+-- The end of the text counts as inside, since another text may follow it. A target within an instruction counts only if that is sure.
 use Rattle.std.specs.Prelude.{ℕ, ◌+◌, ◌-◌, ◌*◌, ◌/◌, Bool, true, not, ◌&&◌, nat_lt, if◌then◌else◌}
 use Rattle.std.specs.Prelude.{List, [], ◌∷◌, length, Option, Some, None}
 use Rattle.aout_core.specs.Contents.{Contents}

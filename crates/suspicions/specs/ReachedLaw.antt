@@ -1,4 +1,4 @@
--- What it means that a place is reached, without a word of how it is found.
+-- What it means that a place is reached, without how it is found. (own choice)
 use Rattle.std.specs.Prelude.{◌≡◌, ℕ, ◌/◌, ◌%◌, ◌<◌, Bool, true, false, ◌&&◌, ◌↔◌, eqb, length, Option, Some, None}
 use Rattle.std.specs.List.{list_any}
 use Rattle.aout_core.specs.Contents.{Contents}

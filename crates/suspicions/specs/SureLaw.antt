@@ -1,4 +1,4 @@
--- What it means for the places of a text that nothing is suspicious for sure, without a word of how it is found. (own choice)
+-- What holds of the places of a text in which nothing is suspicious for sure. (own choice)
 use Rattle.std.specs.Prelude.{◌≡◌, ℕ, ◌+◌, ◌*◌, ◌/◌, ◌<◌, ◌≤◌, true, false, List, [], ◌∷◌, length, slice_get, Option, Some, None}
 use Rattle.std.specs.List.{AllByRecursion, Contains}
 use Rattle.aout_core.specs.declared.reloc.Reloc.{Reloc}
@@ -24,7 +24,7 @@ use Rattle.suspicions.specs.Trust.{is_plain}
 use Rattle.suspicions.specs.Suspicions.{suspicions}
 use Rattle.suspicions.specs.SureSuspicions.{sure_suspicions}
 
--- what is suspicious for sure is suspicious
+-- what is suspicious for sure is part of what is suspicious
 abbrev pub SureAreSuspicious : Type 0
 SureAreSuspicious = (c : Contents) → AllByRecursion (Contains (suspicions c)) (sure_suspicions c)
 
@@ -50,7 +50,7 @@ SureLaw =
     (c : Contents) → sure_suspicions c ≡ [] → (place : ℕ) → IsReached Distances c place →
     (is_plain (unix_line_in Unix c place) ≡ false) × AreInside c (targets place (unix_line_in Unix c place))
 
--- an operand has no word, or the word at a place; if that is relocated, it has the pc bit exactly if it counts from the pc
+-- an operand has no word, or the word at a place. If that is relocated, it has the pc bit if and only if it counts from the pc
 abbrev pub SuitsMode : Contents → ℕ → Option Operand → Type 0
 SuitsMode c place (Some (General m r)) =
     (a : Addressing) (reloc : Reloc) → addressing m r ≡ Some a → slice_get c.text_reloc place ≡ Some reloc →
@@ -63,7 +63,7 @@ SuitsModes c place (Machine (Decoded i a b)) =
     SuitsMode c (place + 1) i.first × SuitsMode c (place + 1 + word_count_of i.first) i.second
 SuitsModes c place line = Unit {0}
 
--- by symbols or by distances: at no place that is reached the word is relocated, and the pc bits suit the modes
+-- at each place that symbols or distances reach the word is not relocated, and the pc bits of relocated operand words suit the modes
 abbrev pub ReachedWordsLaw : Type 0
 ReachedWordsLaw =
     (c : Contents) → sure_suspicions c ≡ [] → (e : Evidence) (place : ℕ) → IsReached e c place →

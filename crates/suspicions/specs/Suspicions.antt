@@ -1,13 +1,13 @@
 -- What is suspicious in the text of an object, if its words are instructions. (a.out(5), the handbook of the PDP-11/70; what is
 -- suspicious: own choice)
 --
--- No instruction begins with a word that is relocated, and an operand word that is relocated has the pc bit exactly if its operand counts
--- from the pc. This is looked at wherever a line begins and at each place that is reached, in the order of the places. It is sure at a
--- place that is reached. Any other line may be of data: there a relocated word counts if it would begin an instruction whose last
--- word is an operand word that is not relocated.
+-- No instruction begins with a word that is relocated, and an operand word that is relocated has the pc bit if and only if its operand
+-- counts from the pc. Each line of the sweep and each place that is reached is checked for that, in the order of the places. What is
+-- found is sure at a place that is reached. Any other line may be of data: there a relocated word counts if it would begin an
+-- instruction whose last word is an operand word that is not relocated.
 --
--- A place to which a sure instruction leads has one, and the text does not end before it does. A branch leads into the text or to its
--- end, and not within an instruction: that is looked at where it is sure or likely that the branch is one.
+-- At a place to which a sure instruction leads an instruction begins, and it ends within the text. A branch leads into the text or to
+-- its end, and not within an instruction. A branch is checked if it is sure or likely that it is one.
 use Rattle.std.specs.Prelude.{ℕ, ◌+◌, ◌-◌, ◌*◌, Bool, true, false, not, ◌&&◌, ◌||◌, nat_lt, if◌then◌else◌}
 use Rattle.std.specs.Prelude.{List, [], ◌∷◌, ◌++◌, slice_get, Option, Some, None}
 use Rattle.aout_core.specs.declared.reloc.Reloc.{Reloc}
@@ -54,7 +54,7 @@ suspicious_first c is_sure place =
     found_if (is_relocated (slice_get c.text_reloc place) && (is_sure || may_begin c place)) (reloc_place c place) RelocatedFirstWord
     (relocated_first_text (2 * place) is_sure)
 
--- the pc bit says something else than the mode
+-- the pc bit does not suit the mode
 abbrev pub differ : Bool → Bool → Bool
 differ true b = not b
 differ false b = b

@@ -25,7 +25,7 @@ is_plain _ = false
 abbrev pub breaks : Contents → ℕ → Bool
 breaks c place = is_start (starts Unix c) place && is_plain (unix_line_in Unix c place)
 
--- whether a sure line comes before a plain word is known at such a place; else it is as it is past it
+-- whether a sure line comes before a plain word: a place with a sure line or a plain word decides it, and else what is past the place
 abbrev pub past : Bool → Bool → Bool → Bool
 past true breaks rest = true
 past false true rest = false
@@ -47,6 +47,6 @@ trust c before place = record {
   is_sure = is_sure c place;
 }
 
--- a branch is looked at
+-- a branch is checked
 abbrev pub is_likely : Trust → Bool
 is_likely t = t.is_sure || (t.is_reached && t.is_between)

@@ -14,7 +14,7 @@ use Rattle.aout_core.specs.WellFormed.{is_external}
 use Rattle.tool_options.specs.declared.nm_options.NmOptions.{NmOptions}
 use Rattle.symtools.specs.SymbolLines.{symbol_line, is_shown_undefined}
 
--- externals alone where `external` is on, undefined symbols alone where `undefined` is, and with both what is both
+-- externals alone if `external` is on, undefined symbols alone if `undefined` is, and with both what is both
 abbrev pub is_shown : NmOptions → Symbol → Bool
 is_shown o s = (not o.external || is_external s) && (not o.undefined || is_shown_undefined s)
 
@@ -34,7 +34,7 @@ abbrev pub in_order : {A : Type 0} → (A → A → Bool) → List A → List A
 in_order before [] = []
 in_order before (x ∷ xs) = inserted before x (in_order before xs)
 
--- the order of the table, whatever else is asked for; or by value or by name, and then reversed where that is asked for
+-- the order of the table, whatever else is asked for; or by value or by name, and then reversed if that is asked for
 abbrev pub arranged : NmOptions → List Symbol → List Symbol
 arranged o ss =
     if o.table_order then ss
@@ -58,7 +58,7 @@ file_lines o files file c = heading o files file ++ flat_map (λ s. line_heading
 abbrev pub nm_text : NmOptions → List (List ℕ × Contents) → List ℕ
 nm_text o files = flat_map (λ f. file_lines o (length files) f.0 f.1) files
 
--- what went out where memory ran out for one file, of which symbols are shown: all lines of the files before it, and nothing else
+-- what went out if memory ran out for one file, of which symbols are shown: all lines of the files before it, and nothing else
 pub record ListsUpTo (o : NmOptions) (files : List (List ℕ × Contents)) (old new : Option (List ℕ)) : Type 0 where
   pub front : List (List ℕ × Contents)
   pub last : List ℕ × Contents

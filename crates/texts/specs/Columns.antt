@@ -1,4 +1,4 @@
--- Columns: blanks before or after a text that is shorter than its column.
+-- Columns: blanks before or after a text that is shorter than its column. A longer text is not cut. (own choice)
 use Rattle.std.specs.Prelude.{ℕ, ◌-◌, List, ◌++◌, length, replicate}
 
 abbrev pub blanks : ℕ → List ℕ

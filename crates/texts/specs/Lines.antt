@@ -1,4 +1,4 @@
--- Texts of lines.
+-- The text of a list of lines. (own choice)
 use Rattle.std.specs.Prelude.{ℕ, List, [], ◌∷◌, ◌++◌}
 use Rattle.std.specs.List.{flat_map}
 

@@ -1,7 +1,7 @@
--- What contracts see of a text: its bytes, which are all that was put as long as it is not cut.
+-- What contracts see of a text: its bytes. As long as it is not cut, they are all that was put. (own choice)
 use Rattle.std.specs.Prelude.{◌≡◌, ℕ, Bool, false, List, [], ◌++◌}
 
--- once memory ran out the text is cut, and its bytes say nothing
+-- once memory ran out the text is cut, and nothing is known of its bytes
 pub record Written : Type 0 where
   pub bytes : List ℕ
   pub is_cut : Bool

@@ -1,7 +1,7 @@
 -- What a call of the library leaves in the buffers of its caller, what it answers, and its status. (own choice)
 --
--- Bytes are given at the beginning of a buffer. Where a buffer is too short nothing is written, and the answer says how many bytes
--- there are. A refusal is a number, with the place of what is refused.
+-- Bytes are given at the beginning of a buffer. If a buffer is too short nothing is written, and the answer has the number of bytes
+-- that are needed. A refusal is a number, with the place of what is refused.
 use Rattle.std.specs.declared.alloc.Global.{Global}
 use Rattle.std.specs.Prelude.{◌≡◌, ℕ, ◌||◌, nat_lt, if◌then◌else◌, List, [], ◌++◌, drop, length, Vec, Result, Ok, Err}
 use Rattle.aout_core.specs.declared.header.Header.{Header}
@@ -41,7 +41,7 @@ refused r = record { fault = number_of r.cause; word = word_of r.cause; place = 
 abbrev pub of_none : Cause → Refusal
 of_none cause = record { cause = cause; place = 0 }
 
--- so many bytes are given, with this fault: 0, or 60 where they do not fit
+-- so many bytes are given, with this fault: 0, or 60 if they do not fit
 abbrev pub given : ℕ → ℕ → ℕ → Answer
 given fault size report_size = record { fault = fault; word = 0; place = 0; size = size; report_size = report_size }
 
@@ -54,19 +54,19 @@ pub record Left : Type 0 where
 abbrev pub left : ℕ → Answer → List ℕ → Left
 left status answer buffer = record { status = status; answer = answer; buffer = buffer }
 
--- what a call leaves that gives bytes
+-- what is left by a call that gives bytes
 abbrev pub left_by : Result (List ℕ) Cause → List ℕ → Left
 left_by (Err cause) buffer = left 2 (refused (of_none cause)) buffer
 left_by (Ok bytes) buffer =
     if nat_lt (length buffer) (length bytes) then left 2 (given 60 (length bytes) 0) buffer
     else left 0 (given 0 (length bytes) 0) (put_in buffer bytes)
 
--- what a call leaves that gives a number of bytes
+-- what is left by a call that gives a number of bytes
 abbrev pub counted_by : Result ℕ Cause → Left
 counted_by (Err cause) = left 2 (refused (of_none cause)) []
 counted_by (Ok count) = left 0 (given 0 count 0) []
 
--- what a call leaves for which memory ran out
+-- what is left by a call for which memory ran out
 abbrev pub no_bytes : List ℕ → Left
 no_bytes buffer = left_by (Err Memory) buffer
 
@@ -124,7 +124,7 @@ ran_left (Ok x) replies buffer report =
 abbrev pub no_session : ℕ → List ℕ → List ℕ → List ℕ → SessionLeft
 no_session place replies buffer report = ran_left (Err (record { cause = Memory; place = place })) replies buffer report
 
--- what a call leaves that shows a session: the state and the replies, or neither
+-- what is left by a call that shows a session: the state and the replies, or neither
 abbrev pub output_of_state : Result StateOutput Refusal → Result (Output ℕ) Refusal
 output_of_state (Ok x) = Ok (record { status = x.status; file = x.state; report = x.replies })
 output_of_state (Err r) = Err r
@@ -132,7 +132,7 @@ output_of_state (Err r) = Err r
 abbrev pub state_left : Result StateOutput Refusal → List ℕ → List ℕ → LinkLeft ℕ
 state_left r buffer replies = output_left (output_of_state r) buffer replies
 
--- it is one that the session may show which is asked for
+-- what is left is an output that the session which is asked for may show
 pub record LeavesState (asked : Result Asked Refusal) (buffer replies : List ℕ) (left : LinkLeft ℕ) : Type 0 where
   pub output : Result StateOutput Refusal
   pub shown : IsShown asked output

@@ -27,13 +27,13 @@ abbrev pub MapOfRequestMayRunOut : Request → ℕ → ℕ → Type 0
 MapOfRequestMayRunOut q size place =
     (is_known q size ≡ true) × MapMayRunOut q.options q.entry.now q.forced.now (each_of q.objects.now) place
 
--- what the map is of that is asked for, by a caller with a struct of this size
+-- the objects, options and names of the map that is asked for, by a caller with a struct of this size
 abbrev pub map_of_request : Request → ℕ → Result MapOf Refusal
 map_of_request q size =
     if is_known q size then map_asked q.options q.entry.now q.forced.now (each_of q.objects.now)
     else Err (record { cause = NoOption; place = 0 })
 
--- a map is one of that, or there is none, or memory ran out where it may
+-- a map is one of that, or there is none, or memory ran out at a place at which it may
 abbrev pub IsMapGiven : Request → ℕ → Result Mapped Refusal → Type 0
 IsMapGiven q size (Ok m) = IsMapAnswer (map_of_request q size) m
 IsMapGiven q size (Err r) = (r.cause ≢ Memory → map_of_request q size ≡ Err r) × (r.cause ≡ Memory → MapOfRequestMayRunOut q size r.place)

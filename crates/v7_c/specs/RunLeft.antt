@@ -1,7 +1,8 @@
 -- What v7_run is asked for, what it leaves in the result of its caller, and its status. (own choice)
 --
--- A request and a result begin with their sizes in bytes. A caller may have smaller ones, without the last fields: a link whose
--- report is wanted as lines alone does without these, and they are left alone. So it is with the objects of what is reported.
+-- A request and a result begin with their sizes in bytes. A caller may have shorter ones, without the last fields: a link whose report
+-- is wanted as lines alone does not need them. So it is with the objects of what is reported. Fields that a result lacks stay as they
+-- are.
 use Rattle.std.specs.Prelude.{◌≡◌, ◌≢◌, ◌⊎◌, ℕ, Bool, true, ◌||◌, ◌&&◌, not, eqb, nat_lt, nat_le}
 use Rattle.std.specs.Prelude.{if◌then◌else◌, List, [], length, Result, Ok, Err}
 use Rattle.library_calls.specs.declared.cause.Cause.TheVariants.{Memory, NoOption}
@@ -21,11 +22,11 @@ use Rattle.v7_c.specs.declared.run.RunAnswer.{RunAnswer}
 
 -- ---- what is asked for
 
--- whether further fields are needed: of mode 1, a session, the edits, and of bit 2 of what is wanted, the report as a list
+-- fields are needed that a shorter struct lacks: the edits for mode 1, a session, or the list for bit 2 of what is wanted
 abbrev pub needs_more : Request → Bool
 needs_more q = eqb q.mode 1 || has_bit q.wants 2
 
--- a result of this size has the fields that are needed: of bit 4 of what is wanted, the objects of what is reported, all
+-- request and result have the fields that are needed: all fields for bit 4 of what is wanted, the objects of what is reported
 abbrev pub is_enough : Request → ℕ → Bool
 is_enough q size =
     (not (needs_more q) || (nat_le 88 q.size && nat_le 120 size)) && (not (has_bit q.wants 4) || nat_le 144 size)
@@ -50,7 +51,7 @@ RunMayRunOut q size place =
     × (((q.mode ≡ 0) × LinkOfEachMayRunOut q.options q.entry.now q.forced.now (each_of q.objects.now) place)
     ⊎ ((q.mode ≢ 0) × SessionOfPartsMayRunOut q.options q.entry.now q.forced.now q.edits.now (each_of q.objects.now) place))
 
--- an answer is what the library gives, or that memory ran out where it may
+-- an answer is what the library gives, or that memory ran out at a place at which it may
 abbrev pub IsAnswer : Request → ℕ → Result RunOutput Refusal → Type 0
 IsAnswer q size (Ok x) = run_in q size ≡ Ok x
 IsAnswer q size (Err r) = (r.cause ≢ Memory → run_in q size ≡ Err r) × (r.cause ≡ Memory → RunMayRunOut q size r.place)

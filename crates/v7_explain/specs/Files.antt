@@ -1,4 +1,4 @@
--- What v7-explain says of a file, by its path and its bytes: a listing, its instructions, its words in rows, why it is not an object,
+-- What v7-explain shows of a file, by its path and its bytes: a listing, its instructions, its words in rows, why it is not an object,
 -- or a line of an inventory. (own choice)
 --
 -- What goes to standard output comes with lines for standard error and a status: 1 if there is something to report.

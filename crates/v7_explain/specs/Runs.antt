@@ -1,6 +1,6 @@
 -- What v7-explain does with its arguments: what it opens, reads and stores, what it writes, and its status. (own choice)
 --
--- Each file is read whole and explained before the next one is opened. The answer has what is said of each, in order, and the largest
+-- Each file is read whole and explained before the next one is opened. The answer has what is shown of each, in order, and the largest
 -- status. If memory runs out, that is the answer, and nothing was stored.
 use Rattle.std.specs.Prelude.{◌≡◌, ◌⊎◌, ℕ, Bool, true, false, not, eqb, nat_eq, if◌then◌else◌, bytes_eq, codes}
 use Rattle.std.specs.Prelude.{List, [], ◌∷◌, Option, Some, None, Result, Ok, Err}
@@ -26,14 +26,14 @@ use Rattle.explanations.specs.declared.rows.Base.TheVariants.{Octal, Hexadecimal
 
 -- ---- files one after another
 
--- what is said of a file with this path and these bytes
+-- what is shown of a file with this path and these bytes
 abbrev pub said_of : Mode → List ℕ → List ℕ → Answer
 said_of Listing path bytes = listed false path bytes
 said_of (Show view) path bytes = viewed view path bytes
 said_of Check path bytes = checked path bytes
 said_of Inventory path bytes = inventoried path bytes
 
--- the file at a path is read and explained, or it is not opened or not read, and a line says so
+-- the file at a path is read and explained, or it is not opened or not read, and a line reports that
 abbrev pub SaysAt : Mode → History → History → List ℕ → Answer → Type 0
 SaysAt mode old new path said =
     ((bytes : List ℕ) × ReadsAt old new path bytes × (said ≡ said_of mode path bytes))
@@ -42,7 +42,7 @@ SaysAt mode old new path said =
 abbrev pub Explains : Mode → History → History → List ℕ → Result Answer Fault → Type 0
 Explains mode old new path result = (said : Answer) × SaysAt mode old new path said × AnswersOr result said
 
--- what is said of each file, after what was said before; or memory runs out after a file
+-- what is shown of each file, after what was shown before; or memory runs out after a file
 abbrev pub IsExplaining : Mode → History → History → Answer → List (List ℕ) → Result Answer Fault → Type 0
 IsExplaining mode old new said [] result = (new ≡ old) × AnswersOr result said
 IsExplaining mode old new said (path ∷ paths) result =
@@ -51,11 +51,11 @@ IsExplaining mode old new said (path ∷ paths) result =
 
 -- ---- a listing that is stored
 
--- what is said without the listing
+-- what is reported without the listing
 abbrev pub rest_of : Answer → Answer
 rest_of said = only_errors said.errors said.status
 
--- what is said once the listing was to be stored, or why it was not stored
+-- what is reported once the listing was to be stored, or why it was not stored
 abbrev pub AnswersStored : List ℕ → Answer → Option (List ℕ) → Result Answer Fault → Type 0
 AnswersStored to said None result = result ≡ Ok (rest_of said)
 AnswersStored to said (Some why) (Ok answer) = ⊥
@@ -135,7 +135,7 @@ asked_in (first ∷ rest) = asked_by (task_of first) first rest
 
 -- ---- the program
 
--- that is done, or how the program is called goes to standard error
+-- that is done, or the usage of the program goes to standard error
 abbrev pub IsCall : Option Call → History → History → Result Answer Fault → Type 0
 IsCall None old new result = (new ≡ old) × AnswersOr result (says_usage usage)
 IsCall (Some (explain mode paths)) old new result = IsExplaining mode old new nothing_said paths result

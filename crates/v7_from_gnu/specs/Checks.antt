@@ -10,7 +10,7 @@ use Rattle.v7_from_gnu.specs.Jobs.{Job}
 use Rattle.v7_from_gnu.specs.Lines.{clash_line, program}
 use Rattle.v7_from_gnu.specs.declared.converting.Target.{Target}
 
--- the first of two answers, where there is one
+-- the first of two answers, if there is one
 abbrev pub first_of : Option Answer → Option Answer → Option Answer
 first_of None later = later
 first_of (Some answer) later = Some answer
@@ -49,7 +49,7 @@ abbrev pub clash_found : List Target → Target → Option (ℕ × Clash) → Op
 clash_found before target None = None
 clash_found before target (Some found) = clash_with (slice_get before found.0) target found.1
 
--- the first file with an external that would become one with an external of an earlier file
+-- the first file with an external whose name would become that of an external of an earlier file
 abbrev pub clash_from : List Target → List Target → Option Answer
 clash_from before [] = None
 clash_from before (target ∷ targets) =

@@ -1,4 +1,4 @@
--- What is done once all files are converted.
+-- What is done once all files are converted: which objects are stored, and what is reported. (own choice)
 use Rattle.std.specs.Prelude.{ℕ, List}
 use Rattle.v7_from_gnu.specs.declared.converting.Target.{Target}
 

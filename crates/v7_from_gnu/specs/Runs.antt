@@ -72,7 +72,7 @@ abbrev pub IsDone : Call → History → History → Result Answer Fault → Typ
 IsDone (Show shown) old new result = (new ≡ old) × AnswersOr result (shows program usage shown)
 IsDone (Convert c) old new result = IsConversion c old new result
 
--- what the arguments ask for is done, or how the program is called goes to standard error
+-- what the arguments ask for is done, or the usage of the program goes to standard error
 abbrev pub IsCall : Option Call → History → History → Result Answer Fault → Type 0
 IsCall None old new result = (new ≡ old) × AnswersOr result (says_usage usage)
 IsCall (Some call) old new result = IsDone call old new result

@@ -71,7 +71,7 @@ IsMaking listing to old new result =
 
 -- ---- the program
 
--- the file is made, or how the program is called goes to standard error
+-- the file is made, or the usage of the program goes to standard error
 abbrev pub IsCall : Option Call → History → History → Result Answer Fault → Type 0
 IsCall None old new result = (new ≡ old) × AnswersOr result (says_usage usage)
 IsCall (Some call) old new result = IsMaking call.listing call.to old new result

@@ -1,4 +1,4 @@
--- Which fault of the program stands for words that ask for no call. (own choice)
+-- Which fault the program has for arguments that ask for no call. (own choice)
 use Rattle.std.specs.Prelude.{◌≡◌, ℕ, List}
 use Rattle.command_words.specs.Calls.{AsksForNone}
 use Rattle.command_words.specs.declared.fault.WordsFault.{WordsFault}
@@ -10,6 +10,6 @@ abbrev pub fault_of_words : WordsFault → CliFault
 fault_of_words words.Usage = faults.Usage
 fault_of_words words.Memory = faults.Memory
 
--- the fault of words that ask for no call, or for which memory ran out
+-- the fault of arguments that ask for no call, or for which memory ran out
 abbrev pub IsOfWords : List (List ℕ) → CliFault → Type 0
 IsOfWords given fault = (cause : WordsFault) × (fault ≡ fault_of_words cause) × AsksForNone given cause

@@ -1,7 +1,7 @@
 -- What the program does with its arguments: which call it runs, what it writes of a fault, and its status. (own choice)
 --
--- Words either ask for a call, and then it is run, or they are refused and nothing is asked of the system (Events). Without a fault
--- the status is that of the call, and standard error is left alone; with one it is 2, and the line of the fault goes there.
+-- The arguments ask for a call, and then it is run, or they are refused, and nothing is asked of the system (Events). Without a fault
+-- the status is that of the call, and standard error is left alone. With one it is 2, and the line of the fault goes there.
 use Rattle.std.specs.Prelude.{◌≡◌, ◌⊎◌, ℕ, List, [], map, Option, Result, Ok, Err, string_bytes}
 use Rattle.aout_core.specs.Wires.{Latched}
 use Rattle.symtools.specs.NmLists.{nm_text}
@@ -18,7 +18,7 @@ use Rattle.v7tools.specs.LinkRuns.{IsLinkRun, Refuses}
 use Rattle.v7tools.specs.SessionRuns.{IsSessionRun}
 use Rattle.v7tools.specs.declared.fault.CliFault.{CliFault}
 
--- a call was run, with a script of these bytes, where they are known
+-- a call was run, with a script of these bytes, if they are known
 abbrev pub IsCallRun : {W : Type 0} → (W → Option (List ℕ)) → Option (List ℕ) → Call → History → History →
     Result ℕ CliFault → Latched W → Latched W → Type 0
 IsCallRun contents script (Ld options forced out files) old new result before after =
@@ -31,20 +31,20 @@ IsCallRun contents script (Strip files) old new result before after = IsStripRun
 IsCallRun contents script (Session options forced) old new result before after =
     IsSessionRun contents forced options script old new result before after
 
--- the words ask for this call, with each dash alone among its files
+-- the arguments ask for this call, with each dash alone among its files
 pub record AsksFor (words : List (List ℕ)) (call : Call) : Type 0 where
   pub whole : IsWhole call
   pub asked : IsAsked words call
   pub dashes : dashes_in words ≡ dashes_in (files_of call)
 
--- the words ask for a call, and it was run
+-- the arguments ask for a call, and it was run
 pub record RunsCall {W : Type 0} (contents : W → Option (List ℕ)) (words : List (List ℕ)) (script : Option (List ℕ))
     (old new : History) (result : Result ℕ CliFault) (before after : Latched W) : Type 0 where
   pub call : Call
   pub asks : AsksFor words call
   pub run : IsCallRun contents script call old new result before after
 
--- the words ask for no call, or memory ran out while they were read: nothing is asked of the system, and nothing is written
+-- the arguments ask for no call, or memory ran out while they were read: nothing is asked of the system, and nothing is written
 pub record RefusesWords {W : Type 0} (words : List (List ℕ)) (old new : History) (result : Result ℕ CliFault)
     (before after : Latched W) : Type 0 where
   pub fault : CliFault
@@ -52,20 +52,20 @@ pub record RefusesWords {W : Type 0} (words : List (List ℕ)) (old new : Histor
   pub asked : Extends old new []
   pub refuses : Refuses fault result before after
 
--- the words were refused, or the call that they ask for was run
+-- the arguments were refused, or the call that they ask for was run
 abbrev pub RunsWords : {W : Type 0} → (W → Option (List ℕ)) → List (List ℕ) → Option (List ℕ) → History → History →
     Result ℕ CliFault → Latched W → Latched W → Type 0
 RunsWords contents words script old new result before after =
     RefusesWords words old new result before after ⊎ RunsCall contents words script old new result before after
 
--- the status of the program, and what is written to standard error: nothing, or with 2 the line of a fault, of which only
--- a prefix goes out where that device fails
+-- the status of the program, and what is written to standard error: nothing, or with 2 the line of a fault. Only a prefix of it
+-- goes out if that device fails
 abbrev pub Ends : {E : Type 0} → (E → Option (List ℕ)) → Result ℕ CliFault → ℕ → Latched E → Latched E → Type 0
 Ends contents (Ok answer) status before after = (status ≡ answer) × (after ≡ before)
 Ends contents (Err fault) status before after =
     (status ≡ 2) × PutsUnless after.has_failed (contents before.device) (contents after.device) (fault_line fault)
 
--- the words were refused or their call was run, and the program ended with this status
+-- the arguments were refused or their call was run, and the program ended with this status
 abbrev pub Performs : {W E : Type 0} → (W → Option (List ℕ)) → (E → Option (List ℕ)) → List (List ℕ) → Option (List ℕ) →
     Surroundings W E → Surroundings W E → ℕ → Type 0
 Performs contents error_contents words script before after status =

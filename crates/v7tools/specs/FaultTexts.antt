@@ -76,24 +76,24 @@ cli_text faults.ScriptFailed = codes "script read error"
 abbrev pub fault_line : CliFault → List ℕ
 fault_line fault = codes "v7: " ++ cli_text fault ++ 10 ∷ []
 
--- the fault of the program where the file at a path is not taken
+-- the fault of the program if the file at a path is not taken
 abbrev pub fault_at : String Global → Cause → CliFault
 fault_at path cannot_open = faults.CannotOpen path
 fault_at path (bad_file fault) = faults.BadFile path fault
 fault_at path (bad_object fault) = faults.BadObject path fault
 fault_at path (not_added fault) = faults.NotAdded path fault
 
--- the fault of the program where an object at a path was not added
+-- the fault of the program if an object at a path was not added
 abbrev pub fault_of_addition : String Global → AddFault → CliFault
 fault_of_addition path adds.Memory = faults.Memory
 fault_of_addition path fault = faults.NotAdded path fault
 
--- the fault of the program where there is no link
+-- the fault of the program if there is no link
 abbrev pub fault_of_link : LinkFault → CliFault
 fault_of_link links.Memory = faults.Memory
 fault_of_link fault = faults.NotLinked fault
 
--- the fault of the program where a list was not written
+-- the fault of the program if a list was not written
 abbrev pub fault_of_tool : ToolFault → CliFault
 fault_of_tool tools.Memory = faults.Memory
 fault_of_tool tools.Device = faults.WriteFailed

@@ -1,7 +1,7 @@
 -- What nm, size and strip do: what they open and read, what they write or store, and their status. (nm(1), size(1), strip(1))
 --
--- Each file is opened and read before the next one is opened, and nothing is written or stored before all are read: that one bad
--- file leaves all as it was is an own choice.
+-- Each file is opened and read before the next one is opened, and nothing is written or stored before all are read, so that one bad
+-- file leaves all as it was (own choice).
 use Rattle.std.specs.declared.alloc.Global.{Global}
 use Rattle.std.specs.Prelude.{◌≡◌, ◌≢◌, ◌↔◌, ◌⊎◌, ℕ, List, [], ◌∷◌, ◌++◌, map, Option, Some, None, Result}
 use Rattle.std.specs.Prelude.{Ok, Err, IfErr, IfOk, IfSome, IsTrue, String, string_bytes}
@@ -25,7 +25,7 @@ use Rattle.surroundings.specs.declared.office.Stored.TheVariants.{Kept, NotCreat
 abbrev pub Loaded : Type 0
 Loaded = String Global × Contents
 
--- the file at a path was opened, and this holds of its bytes, where they are known
+-- the file at a path was opened, and this holds of its bytes, if they are known
 abbrev pub OpensOn : History → History → String Global → (List ℕ → Type 0) → Type 0
 OpensOn old new path holds = (known : Option (List ℕ)) × Extends old new (opened (string_bytes path) (Some known) ∷ []) × IfSome known holds
 
@@ -37,7 +37,7 @@ IsLoadAt old new path (Err (faults.BadFile at fault)) = (at ≡ path) × (fault 
 IsLoadAt old new path (Err faults.Memory) = OpensOn old new path (IsReadOf (Err reads.Memory))
 IsLoadAt old new path (Err _) = ⊥
 
--- what was read at each path is what the bytes of the file that was opened there give, where they are known
+-- what was read at each path is what the bytes of the file that was opened there give, if they are known
 abbrev pub AreRead : List Opened → List Loaded → Type 0
 AreRead [] [] = Unit {0}
 AreRead (f ∷ fs) (l ∷ ls) = ((f.0 ≡ string_bytes l.0) × IfSome f.1 (λ bytes. decode bytes ≡ Ok l.1)) × AreRead fs ls
@@ -71,7 +71,7 @@ ReadsNotAll old new files fault = ((fault ≡ faults.Memory) × Extends old new 
 abbrev pub OnlyWriteFailed : List (List ℕ × Contents) → CliFault → Option (List ℕ) → Option (List ℕ) → Type 0
 OnlyWriteFailed files fault old new = fault ≡ faults.WriteFailed
 
--- or also where memory ran out for one file; then all lines of the files before it went out, and nothing else
+-- or also if memory ran out for one file; then all lines of the files before it went out, and nothing else
 abbrev pub OrMemory : NmOptions → List (List ℕ × Contents) → CliFault → Option (List ℕ) → Option (List ℕ) → Type 0
 OrMemory o files fault old new = (fault ≡ faults.WriteFailed) ⊎ ((fault ≡ faults.Memory) × ListsUpTo o files old new)
 
@@ -92,7 +92,7 @@ IsListRun contents cut_short text files old new result before after =
     ⊎ ((loaded : List Loaded) × ReadsAll old new files loaded
     × Lists contents (cut_short (by_bytes loaded)) (text (by_bytes loaded)) result before after)
 
--- a file is stored, or the fault says why it is not
+-- a file is stored, or the fault is the reason why it is not
 abbrev pub IsStored : String Global → Stored → Result (Unit {0}) CliFault → Type 0
 IsStored path Kept result = result ≡ Ok tt
 IsStored path NotCreated result = result ≡ Err (faults.CannotCreate path)

@@ -1,7 +1,7 @@
 -- What a session does with one line of a script: what it opens, stores and answers, its status, and what it leaves. (own choice)
 --
 -- A line opens at most the file that it names, stores at most the link that it asks for, and has an answer and a status: 0, or 1
--- where it was refused or its link had something to report.
+-- if it was refused or its link had something to report.
 use Rattle.std.specs.Prelude.{◌≡◌, ◌⊎◌, ℕ, List, [], ◌∷◌, Option, Some, None, Ok, IfSome}
 use Rattle.link_session.specs.Labelled.{objects}
 use Rattle.link_session.specs.Undo.{Kept}
@@ -35,8 +35,8 @@ pub record DoesStep (did : Stepped) (r : LineRun) : Type 0 where
   pub status : r.status ≡ status_after did.verdict
   pub entries : r.kept.entries ≡ did.kept
 
--- the file that was opened is added by its bytes, where they are known; its device may fail, and memory may run out,
--- where it is wanted
+-- the file that was opened is added by its bytes, if they are known; its device may fail, and memory may run out,
+-- if it is wanted
 abbrev pub IsAddOf : Option (List ℕ) → Kept → List ℕ → Stepped → Type 0
 IsAddOf known old path did =
     (did ≡ add_step old.entries path (input_from old.forced old.entries path failing))
@@ -77,7 +77,7 @@ pub record LinksNone (o : Choices) (old : Kept) (r : LineRun) : Type 0 where
   pub refuses : did.verdict ≡ refused
   pub only_answer : OnlyAnswers did old r
 
--- the file of the link was to be stored at the path that is named, and the answer says what became of it
+-- the file of the link was to be stored at the path that is named, and the answer depends on whether it was
 pub record LinksInto (o : Choices) (old : Kept) (path : List ℕ) (r : LineRun) : Type 0 where
   pub outcome : Outcome
   pub is_link : link old.forced (objects old.entries) o ≡ Ok outcome

@@ -1,12 +1,12 @@
--- What the result of a link of files says of its inputs. (own choice)
+-- Which results a link of files may have, by its inputs. (own choice)
 --
--- The inputs are taken one after another, each by its bytes where these are known, and then linked. The link stops at the first that is
--- refused, or whose device fails, or for which memory runs out. So where all bytes are known the result is the link of these bytes
+-- The inputs are taken one after another, each by its bytes if these are known, and then linked. The link stops at the first that is
+-- refused, or whose device fails, or for which memory runs out. So if all bytes are known the result is the link of these bytes
 -- or the first refusal, unless a device fails or memory runs out.
 --
 -- At each stage (forced names, the header of an input, the addition of its object, the final link) `Memory` is returned only if nothing
 -- at that stage is refused. The result does not reveal which stage ran out: once an object has been accepted, memory may have run out
--- there. So of the result as a whole, `Memory` is ruled out only by the first input.
+-- there. So for the result as a whole only the first input can rule out `Memory`.
 use Rattle.std.specs.declared.alloc.Global.{Global}
 use Rattle.std.specs.Prelude.{◌≡◌, ◌⊎◌, ℕ, Bool, false, List, [], ◌∷◌, map, Option, Some, option_and_then, option_map}
 use Rattle.std.specs.Prelude.{Result, Ok, Err, IfSome, IsOk, String, string_bytes}
@@ -28,7 +28,7 @@ use Rattle.v7tools.specs.Inputs.{object_in, kept_with, with_input, linked}
 use Rattle.v7tools.specs.declared.fault.CliFault.{CliFault}
 use Rattle.v7tools.specs.declared.fault.CliFault.TheVariants as faults
 
--- an input: its path, its bytes where they are known, and whether its device has failed before
+-- an input: its path, its bytes if they are known, and whether its device has failed before
 pub record Input : Type 0 where
   pub path : List ℕ
   pub known : Option (List ℕ)
@@ -37,7 +37,7 @@ pub record Input : Type 0 where
 abbrev pub inputs_of : {R : Type 0} → (R → Option (List ℕ)) → List (String Global × Latched R) → List Input
 inputs_of remaining inputs = map (λ i. record { path = string_bytes i.0; known = remaining i.1.device; has_failed = i.1.has_failed }) inputs
 
--- ---- what a fault says
+-- ---- what a fault means
 
 -- a refusal, that the device at a path failed, or that memory ran out
 pub data Said : Type 0 where
@@ -117,7 +117,7 @@ pub record LinksNone (forced : List (List ℕ)) (o : Choices) (inputs : List Inp
   pub none : HasNoLink (link forced (objects kept) o) said
 
 -- memory may run out for forced names, or if there are none, at the first input, if that wants memory, or if there is no input either,
--- for the link of nothing. Nothing more can be said: once an object has been accepted, memory may have run out there
+-- for the link of nothing. No more is known: once an object has been accepted, memory may have run out there
 abbrev pub MayLackMemory : List (List ℕ) → List Input → Type 0
 MayLackMemory [] [] = Unit {0}
 MayLackMemory [] (i ∷ is) = StopsAt [] [] i runs_out
@@ -133,14 +133,14 @@ abbrev pub IsLinkOver : List (List ℕ) → Choices → List Input → Result Li
 IsLinkOver forced o inputs (Ok l) = LinksAll forced o inputs l
 IsLinkOver forced o inputs (Err fault) = IsNotLinked forced o inputs (said_by fault)
 
--- ---- where all bytes are known
+-- ---- if all bytes are known
 
--- the paths of the inputs with their bytes, where all are known
+-- the paths of the inputs with their bytes, if all are known
 abbrev pub known_inputs : List Input → Option (List (List ℕ × List ℕ))
 known_inputs [] = Some []
 known_inputs (i ∷ is) = option_and_then (λ bytes. option_map (λ rest. (i.path, bytes) ∷ rest) (known_inputs is)) i.known
 
--- what is said is true where the bytes give this
+-- a refusal is what the bytes give; that a device failed or that memory ran out does not follow from them
 abbrev pub IsTrueOf : {A : Type 0} → Said → Result A Refusal → Type 0
 IsTrueOf (refuses r) answer = answer ≡ Err r
 IsTrueOf (breaks path) answer = Unit {0}

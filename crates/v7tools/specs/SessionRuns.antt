@@ -2,7 +2,7 @@
 --
 -- Each line is run on what the line before it left (LineRuns). What a session asks of the system, and what it answers, is that of
 -- its lines, one after another, and its status is the largest of theirs. It ends after the last line, at a fault of the script, or
--- where an answer can't be written.
+-- at an answer that can't be written.
 use Rattle.std.specs.Prelude.{◌≡◌, ◌⊎◌, ℕ, max, List, [], ◌∷◌, ◌++◌, map, Option, Some, None, Result, Ok, Err, IfSome, IsTrue}
 use Rattle.std.specs.List.{flat_map}
 use Rattle.std.specs.Io.KnownBytes.{Appends}

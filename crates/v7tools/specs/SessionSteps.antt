@@ -1,6 +1,6 @@
 -- What a step of a session does, as far as its reader's bytes are known and memory is found. (own choice)
 --
--- A step does what the definition `step` (Answers) says of the command, by what its path leads to. Two things are not told by the
+-- A step does what the definition `step` (Answers) gives for the command, by what its path leads to. Two things do not follow from the
 -- command and the session: whether a device failed, and whether there was memory. Here is what each may change, and what goes out.
 use Rattle.std.specs.Prelude.{◌≡◌, ◌⊎◌, ℕ, false, List, Option, Some, None, Result, IfOk, IfSome, IsOk, string_bytes}
 use Rattle.aout_core.specs.Contents.{Contents}
@@ -34,16 +34,16 @@ verdict_of (ToStore l) = to_store (outcome_of l)
 
 -- ---- what a step may do
 
--- where there is no memory a step is refused
+-- if there is no memory a step is refused
 abbrev pub without_memory : List Labelled → Stepped
 without_memory kept = record { verdict = refused; answer = line no_memory; kept = kept }
 
--- the file at a path is added by its bytes, where they are known; else as some file, or refused for some cause
+-- the file at a path is added by its bytes, if they are known; else as some file, or refused for some cause
 abbrev pub IsAddOn : Option (List ℕ) → List (List ℕ) → List Labelled → List ℕ → Stepped → Type 0
 IsAddOn (Some bytes) forced kept path did = did ≡ add_step kept path (input_from forced kept path (giving bytes))
 IsAddOn None forced kept path did = (found : Result Contents Cause) × (did ≡ add_step kept path (kept_with forced kept path found))
 
--- a device may fail, and one that has failed does; before it fails memory may run out, where it is wanted
+-- a device may fail, and one that has failed does; before it fails memory may run out, if it is wanted
 abbrev pub IsAddBy : {R : Type 0} → (R → Option (List ℕ)) → Latched R → List (List ℕ) → List Labelled → List ℕ → Stepped → Type 0
 IsAddBy remaining wire forced kept path did =
     (did ≡ add_step kept path (input_from forced kept path failing))
