@@ -51,8 +51,8 @@ abbrev pub space_of : Segment → Space
 space_of TextSeg = of_instructions
 space_of _ = of_data
 
--- byte n of a segment of k comes after that segment of the objects before k; there, modulo 65,536, is what a symbol of k at
--- that byte is: its value in k, moved
+-- byte n of a segment of k comes after that segment of the objects before k. A symbol of k at that byte has this address, modulo
+-- 65,536: its value in k, moved
 pub record IsPlace (h : Header) (os before : List Contents) (k : Contents) (segment : Segment) (n address : ℕ) : Type 0 where
   pub sum : address ≡ base_in h (total BssSeg os) segment + total segment before + n
   pub symbol : plus (own k segment + n) (move_in h os before k segment) ≡ address % 65536

@@ -120,7 +120,7 @@ AreRevalued [] (t ∷ ts) = ⊥
 AreRevalued (s ∷ ss) [] = ⊥
 AreRevalued (s ∷ ss) (t ∷ ts) = IsRevalued s t × AreRevalued ss ts
 
--- l may take the place of k, but that it may define its names with other values
+-- l may take the place of k, except that it may define its names with other values
 pub record TakesPlaceRevalued (o : Choices) (k l : Contents) : Type 0 where
   pub sizes : (segment : Segment) → size_of segment k ≡ size_of segment l
   pub externals : AreRevalued (externals_in k) (externals_in l)

@@ -163,7 +163,8 @@ pub record IsDefinedAt (file : Contents) (os : List Contents) (name : List ℕ) 
   pub segment_is : segment_of symbol ≡ segment
   pub distance : n ≡ minus symbol.value (own object segment)
 
--- what a name means in a link, as a target: a definition, the first byte of a common, or what is missing
+-- what a name means in a link, as a target: a definition, the first byte of a common, or for a name that nothing defines the end of a
+-- segment or no place
 abbrev pub IsTargetOf : List (List ℕ) → List Contents → Choices → Contents → List ℕ → Target → Type 0
 IsTargetOf forced os o file name (to_place (of_object number segment n)) = IsDefinedAt file os name number segment n
 IsTargetOf forced os o file name (to_place (of_common other n)) =
@@ -190,7 +191,7 @@ pub record AreLinks (forced : List (List ℕ)) (os ps : List Contents) (o : Choi
   pub one : link forced os o ≡ Ok x
   pub other : link forced ps (record o { layout = layout }) ≡ Ok y
 
--- no word of the place is relocated
+-- the word that has this place is not relocated
 abbrev pub IsUnrelocated : List Contents → Place → Type 0
 IsUnrelocated os (of_object number segment n) =
     (k : Contents) → slice_get os number ≡ Some k → is_relocated (slice_get (segment_relocs segment k) (n / 2)) ≡ false

@@ -48,20 +48,21 @@ abbrev pub within_text : Option Kind → Option Kind
 within_text (Some kinds.Absolute) = Some kinds.TextSeg
 within_text _ = None
 
--- what an operand word refers to: the kind of its relocation word, if that has the pc bit in modes 67 and 77, and in no other mode
+-- what an operand word refers to: the kind of its relocation word, if that has the pc bit in modes 67 and 77 alone; in these modes a word
+-- that is not relocated is within the text
 abbrev pub kind_meant : Addressing → Reloc → Option Kind
 kind_meant a r =
     if is_relative a then (if is_pc_relative r then kind_of r else within_text (kind_of r))
     else (if is_pc_relative r then None else kind_of r)
 
--- a number that k has or makes, of a word of this kind, is the address in k of byte n of a segment of k; an absolute one is n itself
+-- the number that a word of this kind gives in k is the address in k of byte n of a segment of k; for an absolute word it is n itself
 pub record IsOwnByte (k : Contents) (kind : Option Kind) (number : ℕ) (to : Segment) (n : ℕ) : Type 0 where
   pub meant : Kind
   pub is : kind ≡ Some meant
   pub segment : segment_meant meant ≡ Some to
   pub byte : number ≡ (own k to + n) % 65536
 
--- or so many bytes beyond a name that c defines, it means byte n of a segment of c
+-- the number is so many bytes beyond a name that c defines, and that is byte n of a segment of c
 pub record IsNamedByte (k c : Contents) (kind : Option Kind) (r : Reloc) (number : ℕ) (to : Segment) (n : ℕ) : Type 0 where
   pub is : kind ≡ Some kinds.External
   pub symbol : Symbol
@@ -70,8 +71,8 @@ pub record IsNamedByte (k c : Contents) (kind : Option Kind) (r : Reloc) (number
   pub defined : Defines c symbol.name to start
   pub byte : plus (own c to + start) number ≡ (own c to + n) % 65536
 
--- a number that the program has or makes is the address of that byte in the program; if this space has that segment, the byte is
--- loaded there
+-- the number that a word gives in the program is the address of that byte there; if this space has that segment, the byte is loaded at
+-- this address
 pub record IsAddress (file : Contents) (os front : List Contents) (c : Contents) (to : Segment) (n : ℕ) (space : Space)
     (number : ℕ) : Type 0 where
   pub address : ℕ
@@ -101,10 +102,10 @@ pub record HasOperand (os : List Contents) (o : Choices) (x : Outcome) (before :
   pub is_there : IsWordAt x.file of_instructions address word
   pub segments : (to : Segment) (n : ℕ) → IsOwnByte k (kind_meant a r) (machine_value a (2 * i + 2) w) to n →
       IsAddress x.file os before k to n (space_used operation a) (machine_value a (address + 2) word)
-  -- by its name, in a link that keeps symbols: the value of the name's symbol, without relocation, and so much
+  -- for a name, in a link without relocation that keeps symbols: as far beyond the value of the name's symbol as beyond the name in k
   pub values : o.keep ≢ Nothing → o.relocatable ≡ false → kind_meant a r ≡ Some kinds.External →
       IsBeyondName x.file k r (machine_value a (address + 2) word) (machine_value a (2 * i + 2) w)
-  -- and the definition, wherever it is, if no name is multiply defined
+  -- and if no name is multiply defined: the address of the byte so far beyond the definition, whichever object has it
   pub names : o.keep ≢ Nothing → x.report.multiples ≡ [] →
       (front : List Contents) (c : Contents) (back : List Contents) → os ≡ front ++ c ∷ back →
       (to : Segment) (n : ℕ) → IsNamedByte k c (kind_meant a r) r (machine_value a (2 * i + 2) w) to n →
@@ -115,7 +116,7 @@ abbrev pub IsOperand : Instruction → ℕ → Option Operand → ℕ → Type 0
 IsOperand instruction i operand p =
     ((operand ≡ instruction.first) × (p ≡ i + 1)) ⊎ ((operand ≡ instruction.second) × (p ≡ i + 1 + word_count_of instruction.first))
 
--- wherever an instruction begins in the text of k, and is not cut, each operand that has a word; nothing is asked of any other word
+-- so is each operand that has a word, of each instruction in the text of k that is not cut; nothing is asked of any other word
 abbrev pub OperandsAreThere : Type 0
 OperandsAreThere = (forced : List (List ℕ)) (before : List Contents) (k : Contents) (after : List Contents) (o : Choices) (x : Outcome) →
     AllByRecursion IsObject (before ++ k ∷ after) → link forced (before ++ k ∷ after) o ≡ Ok x →

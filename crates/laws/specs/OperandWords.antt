@@ -56,7 +56,7 @@ pub record GivesMore (file : Contents) (os before : List Contents) (k : Contents
   pub is_there : IsWordAt file of_instructions address word
   pub gives : machine_value a (address + 2) word ≡ plus more (machine_value a (2 * i + 2) w)
 
--- if it refers to a name, it is the value of the name's external symbol more
+-- if it refers to a name, it is more by the value of the name's external symbol
 pub record GivesName (file : Contents) (os before : List Contents) (k : Contents) (a : Addressing) (i w : ℕ) (r : Reloc) : Type 0 where
   pub symbol : Symbol
   pub row : Symbol

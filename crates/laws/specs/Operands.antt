@@ -40,7 +40,7 @@ pub record FindsMore (file : Contents) (os before : List Contents) (k : Contents
   pub is_there : IsWordAt file (space_of segment) address word
   pub finds : operand (is_pc_relative r) address word ≡ plus more (operand (is_pc_relative r) (own k segment + 2 * i) w)
 
--- a word that refers to a name finds the value of the name's external symbol more
+-- a word that refers to a name finds more, by the value of the name's external symbol
 pub record FindsName (file : Contents) (os before : List Contents) (k : Contents) (segment : Segment) (i w : ℕ) (r : Reloc) : Type 0 where
   pub symbol : Symbol
   pub row : Symbol
@@ -55,7 +55,7 @@ NamesAreFound = (forced : List (List ℕ)) (before : List Contents) (k : Content
     slice_get (segment_relocs segment k) i ≡ Some r →
     kind_of r ≡ Some kinds.External → FindsName x.file (before ++ k ∷ after) before k segment i w r
 
--- the segment that a word refers to, if it refers to no name; an absolute word refers to none that is moved
+-- the segment that a word refers to, if it does not refer to a name; that of an absolute word is never moved
 abbrev pub segment_meant : Kind → Option Segment
 segment_meant kinds.Absolute = Some segments.Absolute
 segment_meant kinds.TextSeg = Some segments.TextSeg

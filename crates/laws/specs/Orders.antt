@@ -2,7 +2,7 @@
 --
 -- Without `-r`, objects that are added and linked in one order are added and linked in any other. Sizes, and which names are
 -- reported, do not depend on the order of the objects; the places of objects and commons do. If no name is multiply defined, each
--- name means the same in any order, so each word refers to the same thing. An order is what exchanges lead to, such as of two
+-- name means the same in any order, so each word refers to the same thing. Two orders differ by exchanges, such as of two
 -- neighbours.
 use Rattle.std.specs.Prelude.{◌≡◌, ◌≢◌, ◌↔◌, ℕ, ◌≤◌, Bool, true, false, not, ◌&&◌, eqb, List, [], ◌∷◌, ◌++◌, map}
 use Rattle.std.specs.Prelude.{filter, length, sum_by, Some, Result, Ok, Err, slice_get, bytes_eq}

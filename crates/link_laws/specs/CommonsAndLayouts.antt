@@ -79,7 +79,8 @@ AreShifted g h bss [] (t ∷ ts) = ⊥
 AreShifted g h bss (s ∷ ss) [] = ⊥
 AreShifted g h bss (s ∷ ss) (t ∷ ts) = IsShifted g h bss s t × AreShifted g h bss ss ts
 
--- two links differ at most as the beginnings of data and bss do
+-- two links with the same header but for the magic, the same relocation words, the same report, and symbols that differ at most as the
+-- beginnings of data and bss do
 pub record DifferInPlace (os : List Contents) (x y : Outcome) : Type 0 where
   pub header : record x.file.header { magic = y.file.header.magic } ≡ y.file.header
   pub text_reloc : x.file.text_reloc ≡ y.file.text_reloc
@@ -87,7 +88,7 @@ pub record DifferInPlace (os : List Contents) (x y : Outcome) : Type 0 where
   pub symbols : AreShifted x.file.header y.file.header (total BssSeg os) x.file.symbols y.file.symbols
   pub report : x.report ≡ y.report
 
--- a layout changes the magic and the beginnings of data and bss, and nothing else; the words follow these
+-- another layout changes no more than that, and the words, which follow from WordsAreRelocated
 abbrev pub LayoutsDiffer : Type 0
 LayoutsDiffer = (forced : List (List ℕ)) (os : List Contents) (o : Choices) (layout : Layout) (x y : Outcome) →
     link forced os o ≡ Ok x → link forced os (record o { layout = layout }) ≡ Ok y → DifferInPlace os x y

@@ -31,7 +31,7 @@ IsCallRun contents script (Strip files) old new result before after = IsStripRun
 IsCallRun contents script (Session options forced) old new result before after =
     IsSessionRun contents forced options script old new result before after
 
--- the arguments ask for this call, with each dash alone among its files
+-- the arguments ask for this call, and each that is a dash alone is one of its files
 pub record AsksFor (words : List (List ℕ)) (call : Call) : Type 0 where
   pub whole : IsWhole call
   pub asked : IsAsked words call

@@ -37,7 +37,7 @@ abbrev pub worst : List LineRun → ℕ
 worst [] = 0
 worst (r ∷ rs) = max r.status (worst rs)
 
--- the lines were run on a session, and their answers went out whole; on a wire that had failed before none was
+-- the lines were run on a session, and their answers went out whole; if the wire had failed before, there are no lines
 pub record Ran {W : Type 0} (contents : W → Option (List ℕ)) (o : Choices) (start kept : Kept) (runs : List LineRun)
     (old new : History) (before after : Latched W) : Type 0 where
   pub chain : Chains o start runs kept
@@ -58,7 +58,7 @@ AreLines known lines fault = IfSome known (λ bytes. given bytes ≡ record { li
 abbrev pub AreFirst : Option (List ℕ) → List Asked → Type 0
 AreFirst known lines = IfSome known (λ bytes. (more : List Asked) × ((given bytes).lines ≡ lines ++ more))
 
--- after these lines the script gives no further one; its device may fail, and memory run out for a line that has a path
+-- after these lines the script gives no further one; its device may fail, and memory may run out for a line that names a path
 abbrev pub StopsAfter : Option (List ℕ) → List Asked → CliFault → Type 0
 StopsAfter known lines faults.LongLine = AreLines known lines (Some long_line)
 StopsAfter known lines faults.ManyLines = AreLines known lines (Some many_lines)
@@ -80,8 +80,8 @@ pub record RunsLines {W : Type 0} (contents : W → Option (List ℕ)) (forced :
   pub ran : Ran contents o (nothing_kept forced) kept runs old new before after
   pub ends : EndsAfter script runs result
 
--- after the lines whose answers went out whole one more was run, and of its answer a prefix went out; on a wire that had
--- failed before it is the first, and nothing went out
+-- after the lines whose answers went out whole one more was run, and only a prefix of its answer went out; if the wire had
+-- failed before, it is the first line, and nothing went out
 pub record BreaksOff {W : Type 0} (contents : W → Option (List ℕ)) (forced : List (List ℕ)) (o : Choices)
     (script : Option (List ℕ)) (old new : History) (result : Result ℕ CliFault) (before after : Latched W) : Type 0 where
   pub runs : List LineRun

@@ -1,8 +1,8 @@
 -- What linking is: when a file and a report come of objects, forced names and options, by all these alone. (ld(1))
 --
--- This relation is what a reader has to trust of the link. It states of a linked file, part by part, that it holds the objects'
--- words, relocated, what its symbol table has, row by row, that with relocation each word still has its relocation word, its
--- entry point, and what is reported. `LinkedExactly` and `LinkedOnce` tie it to the function `link`: both are proved.
+-- This relation is what a reader has to trust of a link that is made, as Refusals is for one that is refused. It states part by part
+-- what the file has: the objects' words, relocated, the rows of the symbol table, and the entry point. With relocation, each word still
+-- has its relocation word. It states what is reported, too. `LinkedExactly` and `LinkedOnce`, both proved, tie it to the function `link`.
 use Rattle.std.specs.Prelude.{◌≡◌, ◌↔◌, ℕ, ◌+◌, ◌*◌, ◌≤◌, true, cond, List, ◌++◌, map, length, Ok}
 use Rattle.std.specs.List.{AllByRecursion}
 use Rattle.aout_core.specs.declared.symbol.Symbol.{Symbol}

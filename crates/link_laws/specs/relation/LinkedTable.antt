@@ -26,7 +26,7 @@ use Rattle.link_laws.specs.relation.Relocated.{base_in, move_in, external_type}
 abbrev pub shown : List ℕ → ℕ → ℕ → Symbol
 shown name type_bits value = record { name = name; type_bits = type_bits; value = value }
 
--- the row of an undefined name: without relocation the ends of text, data and bss have their names
+-- the row of a name that nothing defines: without relocation the linker defines etext, edata and end, the ends of the segments
 abbrev pub undefined_row : Header → Choices → List ℕ → Symbol
 undefined_row h o name =
     if o.relocatable then shown name 0o40 0

@@ -1,8 +1,8 @@
 -- What becomes of the objects' words, and the entry word, by the header and the external symbols of a linked file. (a.out(5), ld(1))
 --
--- The header of a linked file determines where its segments begin, and its symbols where each name is. A word that refers to a segment
--- of its object is moved as far as that segment was. A word that refers to a name has the address of the name added. A word
--- relative to the pc is less by its own segment's move. That is all that linking does to words.
+-- The header of a linked file determines the addresses of its segments, and its symbols those of the names. To a word that refers to a
+-- segment of its object the distance is added by which that segment was moved, and to one that refers to a name the address of the
+-- name. If the word is relative to the pc, the distance by which its own segment was moved is subtracted. Linking does no more.
 use Rattle.std.specs.Prelude.{◌≡◌, ℕ, ◌+◌, ◌-◌, ◌*◌, ◌/◌, ◌≤◌, ◌⊎◌, false, cond, ◌&&◌, eqb, List, []}
 use Rattle.std.specs.Prelude.{◌∷◌, length, Option, Some, None, slice_get, bytes_eq}
 use Rattle.aout_core.specs.declared.header.Header.{Header}
@@ -41,7 +41,7 @@ entry_of (s ∷ ss) name = cond (is_external s && bytes_eq name s.name) (Some s)
 abbrev pub address_in : Symbol → ℕ
 address_in row = cond (eqb (masked_type row) 0) 0 row.value
 
--- the symbol that a number of an object names, its name's external symbol among these, and the address there
+-- the symbol of an object with this number, the external symbol of its name among these rows, and the address that this gives
 pub record IsAddressOf (rows : List Symbol) (k : Contents) (number address : ℕ) : Type 0 where
   pub symbol : Symbol
   pub row : Symbol

@@ -28,7 +28,7 @@ bound_at segment address = record { bound = Some segment; address = address; wri
 abbrev pub waiting : ℕ → Final
 waiting size = record { bound = None; address = 0; written = size }
 
--- a name that nothing defines and that is not a common: the ends of text, data and bss have their names
+-- a name that nothing defines and that is not a common: the linker defines etext, edata and end, the ends of the segments
 abbrev pub reserved_or_waiting : Bases → List ℕ → Final
 reserved_or_waiting b name =
     if bytes_eq name etext then bound_at TextSeg b.text_end
