@@ -1,4 +1,4 @@
--- The laws of the format, each proved by a function of the module `laws`.
+-- The laws of the format, each proved by a function of the module `laws`. (a.out(5))
 --
 -- What was written is read back, whatever follows it. What is read is what the bytes encode. Bytes encode one file at most.
 use Rattle.std.specs.Prelude.{◌≡◌, ℕ, List, ◌++◌, take, Ok}

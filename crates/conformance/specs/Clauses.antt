@@ -1,4 +1,4 @@
--- The clauses of the relation of linking one by one, and what it is that one is needed.
+-- The clauses of the relation of linking one by one, and what it means that a clause is needed. (ld(1))
 use Rattle.std.specs.Prelude.{◌≡◌, ◌≢◌, ◌↔◌, ℕ, ◌+◌, ◌*◌, ◌≤◌, true, false, cond, List, [], ◌++◌, map, length, Ok}
 use Rattle.std.specs.List.{AllByRecursion}
 use Rattle.aout_core.specs.declared.symbol.Symbol.{Symbol}
@@ -50,7 +50,7 @@ pub data Clause : Type 0 where
   undefined : Clause
   none : Clause
 
--- what a clause says of a file and a report, by the rows of the externals
+-- what a clause states of a file and a report, by the rows of the externals
 abbrev pub Says : Clause → List (List ℕ) → List Contents → Choices → Outcome → List Symbol → Type 0
 Says text_size forced os o x rows = x.file.header.text_size ≡ total TextSeg os
 Says data_size forced os o x rows = x.file.header.data_size ≡ total DataSeg os

@@ -1,4 +1,4 @@
--- What linking is: the relation of objects, a file and a report, and its parts.
+-- What linking is: the relation of objects, a file and a report, and its parts. (ld(1), a.out(5))
 pub mod NameStates
 pub mod Relocated
 pub mod LinkedTable

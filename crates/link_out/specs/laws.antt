@@ -1,3 +1,3 @@
--- What the laws of linking state.
+-- What the laws of linking state. (ld(1))
 pub mod Stripping
 pub mod PartialLinks

@@ -1,4 +1,4 @@
--- What a program writes at its end, and its status.
+-- What a program writes at its end, and its status. (own choice)
 use Rattle.std.specs.Prelude.{ℕ, List}
 
 -- for standard output, for standard error, and the status

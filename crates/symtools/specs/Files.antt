@@ -1,4 +1,4 @@
--- Named files: for each the bytes of its path, and its contents.
+-- Named files: for each the bytes of its path, and its contents. (nm(1), size(1))
 use Rattle.std.specs.Prelude.{ℕ, List, map, string_bytes}
 use Rattle.std.specs.declared.string.String.{String}
 use Rattle.aout_core.specs.Contents.{Contents}

@@ -1,4 +1,4 @@
--- Numbers in octal: with six or three digits, or with no zeros in front. Decimal numbers are those of std.
+-- Numbers in octal: the last six or three digits, or all with no zeros in front. Decimal numbers are those of std. (own choice)
 use Rattle.std.specs.Prelude.{ℕ, ◌+◌, ◌/◌, ◌%◌, false, List, [], ◌∷◌}
 use Rattle.std.specs.Fmt.{digits}
 

@@ -1,4 +1,4 @@
--- Names in a list, compared by their bytes.
+-- Names in a list, compared by their bytes. (own choice)
 use Rattle.std.specs.Prelude.{ℕ, Bool, cond, List, [], ◌∷◌, ◌++◌, bytes_eq}
 use Rattle.std.specs.List.{list_any}
 

@@ -28,7 +28,7 @@ EndsBefore Truncated old new size = EndsEarly old new 0 size
 EndsBefore Device old new size = Unit {0}
 EndsBefore fault old new size = ⊥
 
--- so many bytes were read as a block has room for, or all that were missing where they are fewer
+-- as many bytes were read as a block has space for, or all that were missing if they are fewer
 pub record Refills (block missing : ℕ) (before after : Option (List ℕ)) (new : Awaited) : Type 0 where
   pub taken : Consumes before after new.waiting
   pub size : length new.waiting ≡ min missing block

@@ -61,7 +61,7 @@ pub record HasNoItems (p : Parts) : Type 0 where
   pub data_relocation : vec_capacity p.data_reloc ≡ 0
   pub symbols : vec_capacity p.symbols ≡ 0
 
--- parts under this header whose lists are empty and have room for exactly what it announces
+-- parts under this header whose lists are empty, and have memory for as much as it announces
 pub record HasCapacity (h : Header) (p : Parts) : Type 0 where
   pub header : p.header ≡ h
   pub no_text : p.text_words.items ≡ []

@@ -1,4 +1,4 @@
--- A label says nothing to a reader of listings.
+-- A reader of listings skips each label.
 use Rattle.std.proofs.Common.{◌≡◌, ℕ, ◌+◌, ◌-◌, ◌<◌, ◌≤◌, Bool, true, false, eqb, nat_lt, List, [], ◌∷◌, ◌++◌}
 use Rattle.std.proofs.Common.{length, refl, sym, ◌∙◌, ap, subst, arith, length-append}
 use Rattle.std.specs.Prelude.{nat_le, ◌*◌, ◌&&◌, ◌||◌, if◌then◌else◌, codes, Ok}

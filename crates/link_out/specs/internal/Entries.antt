@@ -1,4 +1,4 @@
--- The address of a name, where it is in text.
+-- The address of a name, if it is in text.
 use Rattle.std.specs.Prelude.{ℕ, cond, eqb, List, Option, Some, None, slice_get}
 use Rattle.link_out.specs.function.Finals.{Final, type_of}
 

@@ -1,4 +1,4 @@
--- The header as it follows from where the segments lie, from so many rows and from the entry word.
+-- The header as it follows from the addresses of the segments, from so many rows and from the entry word.
 use Rattle.std.specs.Prelude.{ℕ, ◌-◌, ◌*◌, cond}
 use Rattle.aout_core.specs.declared.header.Header.{Header}
 use Rattle.tool_options.specs.Choices.{Choices}

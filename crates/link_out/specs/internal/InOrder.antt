@@ -10,7 +10,7 @@ use Rattle.link_out.specs.function.Plans.{common_size}
 use Rattle.link_out.specs.function.Finals.{Final, final_at}
 use Rattle.link_out.specs.function.Reports.{is_missing}
 
--- what the objects of a session, and its forced names, say of names
+-- the mentions of names by the objects of a session and by its forced names
 abbrev pub mentions_of : Kept → List Mention
 mentions_of s = mentions s.forced (objects s.entries)
 

@@ -16,23 +16,23 @@ use Rattle.link_out.specs.function.Link.{Outcome, link}
 use Rattle.link_out.specs.Outcomes.{outcome_of}
 use Rattle.link_out.specs.Runs.{answer_of, IsDone, IsRunOf}
 
--- replies, where there was room for them, are these
+-- replies, if there was memory for them, are these
 abbrev pub Lists : Option (Vec Reply Global) → List Reply → Type 0
 Lists None noted = Unit {0}
 Lists (Some list) noted = list.items ≡ noted
 
--- there is room for so many replies more, where there was room for any
+-- there is memory for so many replies more, if there was any
 abbrev pub HasCapacity : ℕ → Option (Vec Reply Global) → Type 0
 HasCapacity n None = Unit {0}
 HasCapacity n (Some list) = vec_len list + n ≤ vec_capacity list
 
--- a change was made, and its reply appended where there is room
+-- a change was made, and its reply was appended if there is memory for it
 pub record IsReplied (old new : Kept) (change : Change) (before after : Option (Vec Reply Global)) : Type 0 where
   pub reply : Reply
   pub done : IsDone old new change reply
   pub put : (noted : List Reply) → Lists before noted → Lists after (noted ++ reply ∷ [])
 
--- changes were made in order, and the replies, where there was room for them, are the answers to them
+-- changes were made in order, and the replies, if there was memory for them, are the answers to them
 pub record AreDone (old new : Kept) (changes : List Change) (replies : Option (Vec Reply Global)) : Type 0 where
   pub forced : new.forced ≡ old.forced
   pub kept : new.entries ≡ survivors_from old.forced old.entries changes

@@ -8,7 +8,7 @@ use Rattle.link_session.specs.declared.state.State.{State}
 use Rattle.link_session.specs.declared.state.State.TheVariants.{Defined, Wanted}
 use Rattle.link_out.specs.function.Tables.{number_too_large}
 
--- the segment that a name is bound to, where commons are laid out or not
+-- the segment that a name is bound to, by whether commons are laid out
 abbrev pub kept_bound : Bool → State → Option Segment
 kept_bound commons (Defined segment offset) = Some segment
 kept_bound commons (Wanted size) = cond (not (eqb size 0) && commons) (Some BssSeg) None

@@ -124,7 +124,7 @@ abbrev pub own_cells : Named → List Symbol → Shifts → ℕ → List ℕ →
 own_cells es symbols shifts own_shift words relocs =
     map (λ (wr : ℕ × Reloc). own_cell es symbols shifts own_shift wr.0 wr.1) (zip words relocs)
 
--- what stands for the place of a symbol that is not external
+-- the number that a list of places has for a symbol that is not external
 abbrev pub no_place : ℕ
 no_place = 65535
 

@@ -104,7 +104,7 @@ with_own_threads m o shifts t =
     (with_texts (own_cells m.externals o.symbols shifts shifts.text o.text_words o.text_reloc)
     (with_heads (grown_heads (length m.externals) t.heads) t))
 
--- there is room for as many cells, links and heads as before
+-- there is memory for as many cells, links and heads as before
 pub record KeepsCapacity (old new : Merged) : Type 0 where
   pub text : vec_capacity old.text_cells ≤ vec_capacity new.text_cells
   pub «data» : vec_capacity old.data_cells ≤ vec_capacity new.data_cells

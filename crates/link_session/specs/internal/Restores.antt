@@ -29,7 +29,7 @@ pub record HoldBound (was is : Cell) (marked : List Cell) : Type 0 where
   pub holds : marked ≡ cond (gets_bound was is) (was ∷ []) []
   pub stays : gets_bound was is ≡ false → is ≡ was
 
--- the marks bring the earlier cells and heads back, lie inside the cells, and hold exactly the cells that get bound
+-- the marks bring the earlier cells and heads back, are inside the cells, and hold exactly the cells that get bound
 pub record Restores (texts datas : List Cell) (heads : List Link) (new_texts new_datas : List Cell)
     (new_heads : List Link) (marks : List Mark) : Type 0 where
   pub cells : (m : Image) → m.text_cells ≡ new_texts → m.data_cells ≡ new_datas →
@@ -50,7 +50,7 @@ pub record LeavesMarks (texts datas : List Cell) (heads : List Link) (new_texts 
 abbrev pub settled_by_next : Image → Contents → List Cell → List Cell
 settled_by_next m o cs = map (settled_cell (next_named m o)) cs
 
--- the marks take the object back from the image that it was joined to: they bring image and heads back, lie inside the image, are no
+-- the marks take the object back from the image that it was joined to: they bring image and heads back, are inside the image, are no
 -- more than the cells that the object binds and its external symbols, and hold the cells that get bound and the states that change
 pub record TakesBack (m : Image) (o : Contents) (heads : List Link) (marks : List Mark) : Type 0 where
   pub undoes : undo marks (joined_image m o) m ≡ m

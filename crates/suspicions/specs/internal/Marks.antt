@@ -2,7 +2,7 @@
 use Rattle.std.specs.Prelude.{◌≡◌, ℕ, ◌/◌, ◌%◌, Bool, false, not, ◌&&◌, eqb, nat_lt, List, length, get_or}
 use Rattle.std.specs.List.{list_any}
 
--- the marks say which places have been found
+-- the places that have been found have marks, and no others
 abbrev pub AreMarks : List Bool → List ℕ → Type 0
 AreMarks marks found = (i : ℕ) → get_or marks i false ≡ list_any (eqb i) found
 

@@ -35,7 +35,7 @@ label_of (Some e) = e.label
 abbrev pub missing_line : List ℕ × State → List ℕ
 missing_line e = cond (is_missing e.0 e.1) (line e.0) []
 
--- what is found after a path: that the device fails, or what its bytes are, where they are known
+-- what is found after a path: that the device fails, or what its bytes are, if they are known
 abbrev pub IsFound : Option (List ℕ) → Result Contents Cause → Type 0
 IsFound known found = (found ≡ Err (bad_file reads.Device)) ⊎ IfSome known (λ bytes. found ≡ object_in (decode bytes))
 
@@ -53,14 +53,14 @@ pub record IsAccepted (known : Option (List ℕ)) (old new : Kept) (path : List 
   pub is_found : IsFound known (Ok object)
   pub accepts : kept_with old.forced old.entries path (Ok object) ≡ Ok new.entries
 
--- the file at a path was added, or the fault says why it was not; memory runs out only if it is wanted
+-- the file at a path was added, or the fault is the reason why it was not; memory runs out only if it is wanted
 abbrev pub IsAddition : Option (List ℕ) → Kept → Kept → String Global → Result (Unit {0}) CliFault → Type 0
 IsAddition known old new path (Ok _) = (object : Contents) × IsAccepted known old new (string_bytes path) object
 IsAddition known old new path (Err fault) =
     (new ≡ old) × (((fault ≡ faults.Memory) × IfSome known (WantsMemory old.forced old.entries (string_bytes path)))
     ⊎ IsRefusal known old path fault)
 
--- the file at a path is added by its bytes, where they are known; else as some file, or refused for some cause but a
+-- the file at a path is added by its bytes, if they are known; else as some file, or refused for some cause but a
 -- device that failed
 abbrev pub IsAddWorking : Option (List ℕ) → List (List ℕ) → List Labelled → List ℕ → Stepped → Type 0
 IsAddWorking (Some bytes) forced kept path did = did ≡ add_step kept path (input_from forced kept path (giving bytes))
@@ -76,7 +76,7 @@ IsAddOver remaining from to forced kept path did =
     ⊎ ((to.has_failed ≡ false) × (from.has_failed ≡ false) × (((did ≡ without_memory kept) × IfSome (remaining from.device)
     (WantsMemory forced kept path)) ⊎ IsAddWorking (remaining from.device) forced kept path did))
 
--- the file at a path is added, or the answer says why it is not
+-- the file at a path is added, or the answer is the reason why it is not
 abbrev pub TakesAddStep : {R W : Type 0} → (R → Option (List ℕ)) → (W → Option (List ℕ)) → String Global → Latched R →
     Latched R → Kept → Kept → Result Step CliFault → Latched W → Latched W → Type 0
 TakesAddStep remaining contents path from to old new result before after =
