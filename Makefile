@@ -49,7 +49,7 @@ build/v7-explain: crates/v7_explain/out/v7_explain
 	mkdir -p build
 	cp crates/v7_explain/out/v7_explain build/v7-explain
 
-EXPLAIN_CRATES := $(addprefix crates/,aout_core texts surroundings link_session tool_options link_out symtools command_words gnu_objects listings instructions disassemblies findings suspicions explanations link_maps v7_explain)
+EXPLAIN_CRATES := $(addprefix crates/,aout_core texts surroundings link_session tool_options link_out symtools command_words gnu_objects listings instructions disassemblies findings suspicions explanations link_maps map_texts v7_explain)
 crates/v7_explain/out/v7_explain: crates.txt $(shell find $(EXPLAIN_CRATES) -name out -prune -o -type f -print)
 	python3 tests/prove.py v7_explain $@
 	touch $@

@@ -2,6 +2,3 @@ pub mod FoundLemmas
 pub mod ExplainingLemmas
 pub mod TakingLemmas
 pub mod MapLemmas
-pub mod MapTextLemmas
-pub mod SizeLemmas
-pub mod PutLemmas

@@ -2,10 +2,8 @@
 use Rattle.std.proofs.Common.{◌≡◌, ◌≢◌, ℕ, Bool, true, false, eqb, List, [], ◌∷◌, ◌++◌, Option, Some, None, map, refl, sym, ap, ◌∙◌}
 use Rattle.std.proofs.Common.{◌⊎◌, subst, inl, inr, arith}
 use Rattle.std.proofs.lemmas.Bool.Decides.{nat_tests}
-use Rattle.std.proofs.lemmas.List.{map-append}
 use Rattle.std.specs.Prelude.{Result, Ok, Err, IfSome, String, Vec, is_some, not, if◌then◌else◌}
 use Rattle.std.specs.declared.alloc.Global.{Global}
-use Rattle.aout_core.specs.Contents.{Contents}
 use Rattle.aout_core.specs.WellFormed.{first_of}
 use Rattle.command_words.specs.Calls.{AsksForNone, IsAsked, IsWhole, dashes_in, files_of}
 use Rattle.command_words.specs.declared.fault.WordsFault.TheVariants.{Usage}
@@ -33,7 +31,7 @@ use Rattle.surroundings.specs.declared.answer.Fault.{Fault}
 use Rattle.surroundings.specs.declared.answer.Fault.TheVariants as faults
 use Rattle.tool_options.specs.Choices.{Choices}
 use Rattle.v7_explain.specs.Joined.{either, nothing_said, usage}
-use Rattle.v7_explain.specs.MapTexts.{map_text}
+use Rattle.map_texts.specs.MapTexts.{map_text}
 use Rattle.v7_explain.specs.Maps.{AreTaken, IsMap, IsMapCall, IsMapping, IsTaking, MapsCall, Split, Taken, link_words, map_status}
 use Rattle.v7_explain.specs.Maps.{nothing_taken, status_by, status_linked}
 use Rattle.v7_explain.specs.Maps.{not_split, split, split_by, split_from, with_object}
@@ -74,14 +72,6 @@ keeps_split old new x cause left entries all forced h =
     ∙ sym (split_more f not_split (all_of old) x)
     ∙ ap (split f) (sym all)
     ∙ ap (λ (names : List (List ℕ)). split names (all_of new)) (sym forced)
-
--- the files of the objects, those that a session keeps before those that are left
-pub files_whole : (files some : List Contents) (o : Objects) → some ≡ [] ++ objects o.session.entries →
-    files ≡ some ++ objects (left_of o.refused) →
-    files ≡ objects (all_of o)
-files_whole files some o first more =
-    more ∙ ap (λ (os : List Contents). os ++ objects (left_of o.refused)) first
-    ∙ sym (map-append (λ (e : Labelled). e.object) o.session.entries (left_of o.refused))
 
 -- ---- the status
 

@@ -1,6 +1,5 @@
 pub mod Files
 pub mod Joined
-pub mod MapTexts
 pub mod Maps
 pub mod Runs
 pub mod internal

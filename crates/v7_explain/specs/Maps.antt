@@ -33,7 +33,7 @@ use Rattle.surroundings.specs.declared.answer.Fault.TheVariants as faults
 use Rattle.tool_options.specs.Choices.{Choices}
 use Rattle.v7_explain.specs.Files.{line_of, program}
 use Rattle.v7_explain.specs.Joined.{either, joined, nothing_said, usage}
-use Rattle.v7_explain.specs.MapTexts.{map_text}
+use Rattle.map_texts.specs.MapTexts.{map_text}
 
 -- ---- objects
 

@@ -16,7 +16,7 @@ use Rattle.surroundings.specs.Events.{History}
 use Rattle.surroundings.specs.declared.answer.Fault.{Fault}
 use Rattle.surroundings.specs.declared.answer.Fault.TheVariants.{Answered, Memory}
 use Rattle.tool_options.specs.Choices.{Choices}
-use Rattle.v7_explain.specs.MapTexts.{map_text}
+use Rattle.map_texts.specs.MapTexts.{map_text}
 use Rattle.v7_explain.specs.Maps.{Split, Taken, TakesAt, split, with_found}
 
 abbrev pub taken_of : Objects → Answer → Taken

@@ -1,0 +1,3 @@
+pub mod MapTextLemmas
+pub mod PutLemmas
+pub mod SizeLemmas

@@ -1,0 +1,54 @@
+-- The objects of the map, their files, and the names of a part, one after another.
+use Rattle.std.proofs.Common.{◌≡◌, ℕ, ◌<◌, Bool, ◌||◌, ◌⊎◌, inl, inr, List, [], ◌∷◌, ◌++◌, length, map, take, drop}
+use Rattle.std.proofs.Common.{refl, sym, ap, ◌∙◌, append_assoc}
+use Rattle.std.proofs.lemmas.List.{append-nil, map-append, map-id}
+use Rattle.aout_core.specs.Contents.{Contents}
+use Rattle.link_maps.proofs.RecordLemmas.{names_cut}
+use Rattle.link_maps.specs.Records.{by_name, uses_of_name}
+use Rattle.link_maps.specs.Members.{Member, all_of, left_of}
+use Rattle.link_maps.specs.Uses.{Use}
+use Rattle.link_maps.specs.declared.members.Objects.{Objects}
+use Rattle.link_maps.specs.declared.places.Places.{Places}
+use Rattle.link_session.specs.Labelled.{Labelled, objects}
+use Rattle.map_texts.specs.MapTexts.{Mapped, group_text, has_name, member_lines, part_from}
+use Rattle.map_texts.specs.declared.names.Section.{Section}
+
+-- no objects are left, or no places of objects
+no_lines : (ms : List Member) (ats : List Places) → (ms ≡ []) ⊎ (ats ≡ []) → member_lines ms ats ≡ []
+no_lines [] ats h = refl
+no_lines (m ∷ ms) [] h = refl
+no_lines (m ∷ ms) (at ∷ ats) (inl e) = absurd (cc)
+no_lines (m ∷ ms) (at ∷ ats) (inr e) = absurd (cc)
+
+pub all_lines : (ms : List Member) (ats : List Places) (text whole : List ℕ) → (ms ≡ []) ⊎ (ats ≡ []) →
+    text ++ member_lines ms ats ≡ whole → text ≡ whole
+all_lines ms ats text whole ends h = sym (append-nil text) ∙ ap (λ (l : List ℕ). text ++ l) (sym (no_lines ms ats ends)) ∙ h
+
+-- the files of the objects, those that a session keeps before those that are left
+pub files_whole : (files some : List Contents) (o : Objects) → some ≡ [] ++ objects o.session.entries →
+    files ≡ some ++ objects (left_of o.refused) →
+    files ≡ objects (all_of o)
+files_whole files some o first more =
+    more ∙ ap (λ (os : List Contents). os ++ objects (left_of o.refused)) first
+    ∙ sym (map-append (λ (e : Labelled). e.object) o.session.entries (left_of o.refused))
+
+-- the first name, and those after it
+pub first_name : (rest front back : List Use) (n : ℕ) → 0 < length rest → n ≡ uses_of_name rest → front ≡ take n rest → back ≡ drop n rest →
+    by_name rest ≡ front ∷ by_name back
+first_name rest front back n some is at last =
+    let each : List Use → List Use = λ us. us in
+    sym (map-id (by_name rest))
+    ∙ sym (names_cut rest front back n some is at last each (map each (by_name rest)) [] refl)
+    ∙ ap (λ (gs : List (List Use)). front ∷ gs) (map-id (by_name back))
+
+pub part_step : (k : Mapped) (section : Section) (title : List ℕ) (titled next : Bool) (before after whole : List ℕ)
+    (rest front back : List Use) → by_name rest ≡ front ∷ by_name back → next ≡ (titled || has_name k section front) →
+    after ≡ before ++ group_text k section title titled front → before ++ part_from k section title titled (by_name rest) ≡ whole →
+    after ++ part_from k section title next (by_name back) ≡ whole
+part_step k section title titled next before after whole rest front back cut then put h =
+    let later : List ℕ = part_from k section title (titled || has_name k section front) (by_name back) in
+    ap (λ (t : Bool). after ++ part_from k section title t (by_name back)) then
+    ∙ ap (λ (l : List ℕ). l ++ later) put
+    ∙ append_assoc before (group_text k section title titled front) later
+    ∙ ap (λ (gs : List (List Use)). before ++ part_from k section title titled gs) (sym cut)
+    ∙ h

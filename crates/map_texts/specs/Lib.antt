@@ -1,0 +1,2 @@
+-- The definitions that the contracts of this crate are written in.
+pub mod MapTexts

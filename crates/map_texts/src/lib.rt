@@ -1,0 +1,12 @@
+//! The text of the map of a link, as `v7-explain -m` writes it. docs/OBJECTS.md shows one.
+#![tactic(auto)]
+
+mod limits;
+mod members;
+mod names;
+mod outcomes;
+mod pieces;
+mod segments;
+mod whole;
+
+pub use whole::map_text;

@@ -1,0 +1,467 @@
+//! Names of the map: who defines a name, who makes it a common, and who refers to it.
+ghost use Rattle.std.specs.Prelude.{◌≡◌, ◌||◌, option_map, slice_get};
+ghost use Rattle.link_maps.specs.Records.{reserved_in};
+ghost use Rattle.texts.specs.Texts.{Puts};
+ghost use Rattle.tool_options.specs.NameLists.{is_among};
+ghost use Rattle.map_texts.specs.MapTexts.{bare_address, before_text, beyond_text, common_line, common_text, commons_text, definer_if};
+ghost use Rattle.map_texts.specs.MapTexts.{definer_label, definer_line, definers_text, front_by, group_text, has_name, instruction_if};
+ghost use Rattle.map_texts.specs.MapTexts.{instruction_text, is_multiple_by, known_text, label_of, label_text, mention_by, mention_if};
+ghost use Rattle.map_texts.specs.MapTexts.{mention_line, mention_text, mentions_text, name_line, names_text, part_text, path_of};
+ghost use Rattle.map_texts.specs.MapTexts.{place_if, reference_line, reference_lines, references_text, row_of, symbol_text, title_if};
+ghost use Rattle.map_texts.specs.MapTexts.{titled_text, word_text};
+
+use crate::pieces::{put_address, put_count, put_front, put_item};
+use aout_core::{Name, Part, Symbol};
+use disassemblies::NamedFile;
+use link_maps::{
+    Before, LinkMap, Member, Objects, Places, ReferringWord, Use, put_line_of, row_of,
+    stays_undefined, telling, uses_of_name,
+};
+use std::marker::Model;
+use texts::Text;
+
+/// A map, and its objects.
+#[derive(Drop)]
+pub(crate) struct Names<'a> {
+    pub(crate) map: &'a LinkMap,
+    pub(crate) objects: &'a Objects,
+    /// The objects, each with its symbols found by their values.
+    pub(crate) files: &'a [NamedFile<'a>],
+}
+
+impl<'a> Model for Names<'a> {
+    ghost use Rattle.map_texts.specs.MapTexts.{Mapped};
+
+    ghost Value = { Mapped };
+
+    ghost view = { λ n. record { link_map = n.map.now; objects = n.objects.now; files = n.files.now } };
+}
+
+/// The path of an object; none for a forced name.
+fn label_of(members: &[Member], object: Option<usize>) -> Option<&str>
+    ensures { option_map (λ path. path.now) result ≡ label_of members.now object }
+{
+    match members.get(object?) {
+        Some(member) => Some(member.label.as_str()),
+        None => None,
+    }
+}
+
+/// The path of an object, or nothing for a forced name.
+fn path_of<'a>(members: &'a [Member], used: &Use) -> &'a str
+    ensures { result.now ≡ path_of members.now used.now }
+{
+    match label_of(members, used.object) {
+        Some(path) => path,
+        None => "",
+    }
+}
+
+/// Adds the line of an object that defines a name.
+#[tactic(auto, unfolding(crate::specs::MapTexts::definer_line))]
+fn put_definer(text: &mut Text, label: &str, path: &str)
+    ensures { Puts text.old text.new (definer_line label.now path.now) }
+{
+    put_item(text, label, path);
+    text.put("\n");
+}
+
+/// What comes before an object that defines a name, the first one or another.
+fn definer_label(is_again: bool) -> &'static str
+    ensures { result.now ≡ definer_label is_again }
+{
+    if is_again { "again in" } else { "defined in" }
+}
+
+/// Adds an object, if it defines a name.
+fn put_definer_if(text: &mut Text, members: &[Member], is_again: bool, used: &Use)
+    ensures { Puts text.old text.new (definer_if members.now is_again used.now) }
+{
+    if used.is_definition() {
+        put_definer(text, definer_label(is_again), path_of(members, used));
+    }
+}
+
+/// Adds the objects that define a name.
+fn put_definers(text: &mut Text, members: &[Member], uses: &[Use])
+    ensures { Puts text.old text.new (definers_text members.now uses.now) }
+{
+    let mut is_again = false;
+    for used in uses {
+        put_definer_if(text, members, is_again, used);
+        is_again = is_again || used.is_definition();
+    }
+}
+
+/// Adds the line of an object that makes a name a common, with its size in bytes.
+#[tactic(auto, unfolding(crate::specs::MapTexts::common_line))]
+fn put_common_line(text: &mut Text, path: &str, bytes: u16)
+    ensures { Puts text.old text.new (common_line path.now bytes) }
+{
+    put_item(text, "common in", path);
+    put_count(text, u64::from(bytes));
+}
+
+/// Adds an object, if it makes a name a common.
+fn put_common(text: &mut Text, members: &[Member], used: &Use)
+    ensures { Puts text.old text.new (common_text members.now used.now) }
+{
+    if used.is_common() {
+        put_common_line(text, path_of(members, used), used.symbol.value);
+    }
+}
+
+/// Adds the objects that make a name a common.
+fn put_commons(text: &mut Text, members: &[Member], uses: &[Use])
+    ensures { Puts text.old text.new (commons_text members.now uses.now) }
+{
+    for used in uses {
+        put_common(text, members, used);
+    }
+}
+
+/// Adds how far beyond a label a line begins.
+fn put_beyond(text: &mut Text, bytes: u16)
+    ensures { Puts text.old text.new (beyond_text bytes) }
+{
+    if bytes > 0 {
+        text.put("+");
+        text.put_octal(u64::from(bytes));
+    }
+}
+
+/// Adds a label, and how far beyond it a line begins.
+#[tactic(auto, unfolding(crate::specs::MapTexts::label_text))]
+fn put_label(text: &mut Text, before: &Before)
+    ensures { Puts text.old text.new (label_text before.now) }
+{
+    text.put("  ");
+    text.put_printable_bytes(before.name.as_bytes());
+    put_beyond(text, before.bytes);
+}
+
+/// Adds the label before a line, if there is one.
+fn put_before(text: &mut Text, before: &Option<Before>)
+    ensures { Puts text.old text.new (before_text before.now) }
+{
+    if let Some(before) = before {
+        put_label(text, before);
+    }
+}
+
+/// Adds an address after two blanks.
+#[tactic(auto, unfolding(crate::specs::MapTexts::bare_address))]
+fn put_bare_address(text: &mut Text, address: u64)
+    ensures { Puts text.old text.new (bare_address address) }
+{
+    text.put("  ");
+    put_address(text, address);
+}
+
+/// Adds the address of an instruction, unless there is a label before it.
+fn put_place(text: &mut Text, before: &Option<Before>, address: u64)
+    ensures { Puts text.old text.new (place_if before.now address) }
+{
+    if before.is_none() {
+        put_bare_address(text, address);
+    }
+}
+
+/// Adds where the instruction is that has a word of text, by the label before it or else by its address, and the instruction.
+#[tactic(auto, unfolding(crate::specs::MapTexts::instruction_text))]
+fn put_instruction(
+    text: &mut Text,
+    file: &NamedFile<'_>,
+    places: &Places,
+    reference: &ReferringWord,
+)
+    ensures { Puts text.old text.new (instruction_text file.now places.now reference.now) }
+{
+    put_place(
+        text,
+        &reference.before,
+        places.address(reference.part, reference.line),
+    );
+    text.put(": ");
+    put_line_of(text, file, reference);
+}
+
+/// Adds the instruction that has a word, if it is one of text.
+fn put_instruction_if(
+    text: &mut Text,
+    file: &NamedFile<'_>,
+    places: &Places,
+    reference: &ReferringWord,
+)
+    ensures { Puts text.old text.new
+        (instruction_if reference.now.part file.now places.now reference.now) }
+{
+    match reference.part {
+        Part::Text => put_instruction(text, file, places, reference),
+        Part::Data => {}
+    }
+}
+
+fn part_text(part: Part) -> &'static str
+    ensures { result.now ≡ part_text part }
+{
+    match part {
+        Part::Text => "text",
+        Part::Data => "data",
+    }
+}
+
+/// Adds a word that refers to a name: the part that has it, and its address.
+#[tactic(auto, unfolding(crate::specs::MapTexts::word_text))]
+fn put_word(text: &mut Text, part: Part, address: u64)
+    ensures { Puts text.old text.new (word_text part address) }
+{
+    text.put("                ");
+    text.put(part_text(part));
+    text.put(" ");
+    put_address(text, address);
+}
+
+/// Adds the line of a word that refers to a name: its address, the label before it, and of text the instruction.
+#[tactic(auto, unfolding(crate::specs::MapTexts::reference_line))]
+fn put_reference(text: &mut Text, file: &NamedFile<'_>, places: &Places, reference: &ReferringWord)
+    ensures { Puts text.old text.new (reference_line file.now places.now reference.now) }
+{
+    put_word(
+        text,
+        reference.part,
+        places.address(reference.part, reference.offset),
+    );
+    put_before(text, &reference.before);
+    put_instruction_if(text, file, places, reference);
+    text.put("\n");
+}
+
+/// Adds the lines of words that refer to a name.
+fn put_lines(text: &mut Text, file: &NamedFile<'_>, places: &Places, references: &[ReferringWord])
+    ensures { Puts text.old text.new (reference_lines file.now places.now references.now) }
+{
+    for reference in references {
+        put_reference(text, file, places, reference);
+    }
+}
+
+/// Adds the lines of the words of an object that refer to a name.
+fn put_references(text: &mut Text, names: &Names<'_>, used: &Use)
+    ensures { Puts text.old text.new (references_text names.now used.now) }
+{
+    let number = used.object.unwrap_or(0);
+    let Some(places) = names.map.places.get(number) else {
+        return;
+    };
+    let Some(file) = names.files.get(number) else {
+        return;
+    };
+    put_lines(text, file, places, &used.references);
+}
+
+/// Adds the line of an object that mentions a name, with the number of words that refer to it.
+#[tactic(auto, unfolding(crate::specs::MapTexts::mention_line))]
+fn put_mention_line(text: &mut Text, path: &str, count: u64)
+    ensures { Puts text.old text.new (mention_line path.now count) }
+{
+    put_item(text, "used in", path);
+    put_count(text, count);
+}
+
+/// Adds who mentions a name: an object, or the option that forces it.
+fn put_mentioner(text: &mut Text, path: Option<&str>, count: u64)
+    ensures { Puts text.old text.new (mention_by (option_map (λ path. path.now) path.entry) count) }
+{
+    match path {
+        Some(path) => put_mention_line(text, path, count),
+        None => put_item(text, "used in", "-u\n"),
+    }
+}
+
+/// Adds an object that mentions a name, with the number of words that refer to it, and then these.
+#[tactic(auto, unfolding(crate::specs::MapTexts::mention_text))]
+fn put_mention(text: &mut Text, names: &Names<'_>, used: &Use)
+    ensures { Puts text.old text.new (mention_text names.now used.now) }
+{
+    let path = label_of(&names.map.members, used.object);
+    put_mentioner(text, path, used.references.len() as u64);
+    put_references(text, names, used);
+}
+
+/// Adds an object that mentions a name, unless it defines it.
+fn put_mention_if(text: &mut Text, names: &Names<'_>, used: &Use)
+    ensures { Puts text.old text.new (mention_if names.now used.now) }
+{
+    if !used.is_definition() {
+        put_mention(text, names, used);
+    }
+}
+
+/// Adds the objects that mention a name.
+fn put_mentions(text: &mut Text, names: &Names<'_>, uses: &[Use])
+    ensures { Puts text.old text.new (mentions_text names.now uses.now) }
+{
+    for used in uses {
+        put_mention_if(text, names, used);
+    }
+}
+
+/// The row of a name in the table of the link.
+fn row_in(names: &Names<'_>, name: &Name) -> Option<Symbol>
+    ensures { result ≡ row_of names.now name.now }
+{
+    match &names.map.outcome {
+        Some(outcome) => match &outcome.externals {
+            Some(rows) => row_of(&names.objects.session, rows, name),
+            None => None,
+        },
+        None => None,
+    }
+}
+
+/// Adds the value and the letter of a name's row, or of its symbol without the address.
+fn put_row(text: &mut Text, row: Option<Symbol>, symbol: &Symbol)
+    ensures { Puts text.old text.new (front_by row symbol.now) }
+{
+    match row {
+        Some(row) => put_front(text, &row, true),
+        None => put_front(text, symbol, false),
+    }
+}
+
+/// Adds the line of a name as `nm` has it; without its address if the link is refused.
+#[tactic(auto, unfolding(crate::specs::MapTexts::name_line))]
+fn put_line(text: &mut Text, row: Option<Symbol>, symbol: &Symbol)
+    ensures { Puts text.old text.new (name_line row symbol.now) }
+{
+    put_row(text, row, symbol);
+    text.put_printable_bytes(symbol.name.as_bytes());
+    text.put("\n");
+}
+
+/// Adds the line of a name, and its lists.
+#[tactic(auto, unfolding(crate::specs::MapTexts::symbol_text))]
+fn put_symbol(text: &mut Text, names: &Names<'_>, symbol: &Symbol, uses: &[Use])
+    ensures { Puts text.old text.new (symbol_text names.now symbol.now uses.now) }
+{
+    let members = names.map.members.as_slice();
+    put_line(text, row_in(names, &symbol.name), symbol);
+    put_definers(text, members, uses);
+    put_commons(text, members, uses);
+    put_mentions(text, names, uses);
+}
+
+/// Adds all that is known of a name: its line, and its lists.
+fn put_known(text: &mut Text, names: &Names<'_>, uses: &[Use])
+    ensures { Puts text.old text.new (known_text names.now uses.now) }
+{
+    if let Some(symbol) = telling(uses) {
+        put_symbol(text, names, &symbol, uses);
+    }
+}
+
+fn is_among(list: &[Name], name: &Name) -> bool
+    ensures { result ≡ is_among list.now name.now }
+{
+    list.iter().any(|one| one == name)
+}
+
+/// Whether the objects define or want a name that the linker defines, and the report says so.
+fn is_reserved(map: &LinkMap, name: &Name) -> bool
+    ensures { result ≡ is_among (reserved_in map.now.outcome) name.now }
+{
+    match &map.outcome {
+        Some(outcome) => match &outcome.linked {
+            Ok(linked) => is_among(&linked.report.reserved, name),
+            Err(_) => false,
+        },
+        None => false,
+    }
+}
+
+/// Whether the report of the link has a name among those multiply defined.
+fn is_multiple(names: &Names<'_>, uses: &[Use]) -> bool
+    ensures { result ≡ is_multiple_by names.now (slice_get uses.now 0) }
+{
+    match uses.first() {
+        Some(first) => {
+            let name = &first.symbol.name;
+            is_among(names.objects.session.multiples(), name) || is_reserved(names.map, name)
+        }
+        None => false,
+    }
+}
+
+/// Which names a part of the map has.
+#[derive(Clone, Copy)]
+pub(crate) enum Section {
+    /// Those that stay undefined.
+    Undefined,
+    /// Those that are multiply defined.
+    Multiple,
+    /// All externals.
+    All,
+}
+
+/// Whether a part has the name of these uses.
+fn has_name(names: &Names<'_>, section: Section, uses: &[Use]) -> bool
+    ensures { result ≡ has_name names.now section uses.now }
+{
+    match section {
+        Section::Undefined => stays_undefined(uses),
+        Section::Multiple => is_multiple(names, uses),
+        Section::All => true,
+    }
+}
+
+/// Adds the title of a part, unless it is there.
+fn put_title(text: &mut Text, is_titled: bool, title: &str)
+    ensures { Puts text.old text.new (title_if is_titled title.now) }
+{
+    if !is_titled {
+        text.put(title);
+    }
+}
+
+/// Adds all that is known of a name, after the title of its part.
+#[tactic(auto, unfolding(crate::specs::MapTexts::titled_text))]
+fn put_titled(text: &mut Text, names: &Names<'_>, title: &str, is_titled: bool, uses: &[Use])
+    ensures { Puts text.old text.new (titled_text names.now title.now is_titled uses.now) }
+{
+    put_title(text, is_titled, title);
+    put_known(text, names, uses);
+}
+
+/// Adds a name, if a part has it. Returns whether the title of the part is there then.
+fn put_name(
+    text: &mut Text,
+    names: &Names<'_>,
+    section: Section,
+    title: &str,
+    is_titled: bool,
+    uses: &[Use],
+) -> bool
+    ensures put { Puts text.old text.new
+        (group_text names.now section title.now is_titled uses.now) }
+    ensures titled { result ≡ (is_titled || has_name names.now section uses.now) }
+{
+    if !has_name(names, section, uses) {
+        return is_titled;
+    }
+    put_titled(text, names, title, is_titled, uses);
+    true
+}
+
+/// Adds a part of the map, if it has a name: its title, and the names in their order.
+pub(crate) fn put_names(text: &mut Text, names: &Names<'_>, section: Section, title: &str)
+    ensures { Puts text.old text.new (names_text names.now section title.now) }
+{
+    let mut is_titled = false;
+    let mut rest = names.map.uses.as_slice();
+    while !rest.is_empty() {
+        let (named, after) = rest.split_at(uses_of_name(rest));
+        is_titled = put_name(text, names, section, title, is_titled, named);
+        rest = after;
+    }
+}
