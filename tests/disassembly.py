@@ -1,5 +1,5 @@
 #!/usr/bin/env python3
-"""Compares what `v7-explain -d` and listings show of instructions with what this script computes from v7-explain(1).
+"""Compares what `v7-explain -d`, `-p` and listings show of instructions with what this script computes from v7-explain(1).
 
 usage: disassembly.py V7_EXPLAIN
 
@@ -116,7 +116,7 @@ def signed(number):
 
 class File:
     """A file of text words, with relocation words or without, and symbols as (name, type word, value). Without `knows_calls` it is shown
-    as libv7 does, which knows no arguments of system calls."""
+    as by `-p` and libv7, which know no arguments of system calls."""
 
     knows_calls = True
 
@@ -357,8 +357,9 @@ def shown_by(words, made, folder, what):
 
 
 def compare(made, folder, what):
-    """Compares the lines of a file, and returns how many there are."""
-    compare_lines(shown_by([EXPLAIN, "-d"], made, folder, what), made.disassembly(), what)
+    """Compares the lines of a file, without arguments of system calls and with them, and returns how many there are."""
+    for option, made.knows_calls in (("-p", False), ("-d", True)):
+        compare_lines(shown_by([EXPLAIN, option], made, folder, what), made.disassembly(), what + " by " + option)
     return len(made.disassembly())
 
 

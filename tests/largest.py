@@ -244,12 +244,16 @@ def checked(kind):
 
 
 def shown(kind):
-    """The instructions of each file."""
-    status, text, errors = answer("v7-explain", "-d", *written(encoded(kind)))
-    check("errors", errors, "")
-    lines = [line for line in text.split("\n")[:-1] if not line.startswith("/")]
-    check_lines("instructions", lines, [line for file in KINDS[kind] for line in file.disassembly()])
-    check("status", status, int(kind.startswith("bad")))
+    """The instructions of each file, without arguments of system calls and with them."""
+    files = written(encoded(kind))
+    for option, knows_calls in (("-p", False), ("-d", True)):
+        status, text, errors = answer("v7-explain", option, *files)
+        check("errors", errors, "")
+        lines = [line for line in text.split("\n")[:-1] if not line.startswith("/")]
+        for file in KINDS[kind]:
+            file.knows_calls = knows_calls
+        check_lines("instructions", lines, [line for file in KINDS[kind] for line in file.disassembly()])
+        check("status", status, int(kind.startswith("bad")))
 
 
 def rows(words, start, letter):

@@ -553,7 +553,7 @@ def nm(data: bytes, options: int = 0) -> str:
 
 
 def disassemble(data: bytes) -> str:
-    """The text of a file as instructions, with names and labels, as `v7-explain -d` shows it without notes.
+    """The text of a file as instructions, with names and labels, as `v7-explain -p` shows it without notes.
 
     >>> call = [(0o4767, NUMBER), (0o177774, refers_to(0) + FROM_PC), (0o207, NUMBER)]
     >>> print(disassemble(make(text=call, symbols=[("_f", EXTERNAL, 0), ("_main", TEXT | EXTERNAL, 0)])), end="")

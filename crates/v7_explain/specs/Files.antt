@@ -130,9 +130,9 @@ listed_as tells path bytes c refused = record {
   status = status_in refused;
 }
 
--- the text as instructions, or text and data in rows
+-- the text as instructions of a decoder, or text and data in rows
 abbrev pub body_of : View → Contents → List ℕ
-body_of Instructions c = disassembly Unix c
+body_of (Instructions decoder) c = disassembly decoder c
 body_of (Rows base) c = dump base c
 
 abbrev pub viewed_as : View → List ℕ → List ℕ → Contents → Option ObjectFault → Answer

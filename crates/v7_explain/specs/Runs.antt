@@ -23,6 +23,7 @@ use Rattle.v7_explain.specs.declared.program.Task.TheVariants.{Store, MapLink, E
 use Rattle.v7_explain.specs.declared.explaining.Mode.TheVariants.{Listing, Show, Check, Inventory}
 use Rattle.v7_explain.specs.declared.views.View.TheVariants.{Instructions, Rows}
 use Rattle.explanations.specs.declared.rows.Base.TheVariants.{Octal, Hexadecimal}
+use Rattle.instructions.specs.declared.unix.Decoder.TheVariants.{Pdp11, Unix}
 
 -- ---- files one after another
 
@@ -111,10 +112,11 @@ storing _ = None
 abbrev pub mode_of : List ℕ → Option Mode
 mode_of word =
     if bytes_eq word (codes "-c") then Some Check
-    else (if bytes_eq word (codes "-d") then Some (Show Instructions)
+    else (if bytes_eq word (codes "-d") then Some (Show (Instructions Unix))
     else (if bytes_eq word (codes "-l") then Some Inventory
+    else (if bytes_eq word (codes "-p") then Some (Show (Instructions Pdp11))
     else (if bytes_eq word (codes "-s") then Some (Show (Rows Octal))
-    else (if bytes_eq word (codes "-x") then Some (Show (Rows Hexadecimal)) else None))))
+    else (if bytes_eq word (codes "-x") then Some (Show (Rows Hexadecimal)) else None)))))
 
 -- after the option the paths, or with no option these paths
 abbrev pub explaining_by : Option Mode → List ℕ → List (List ℕ) → Option Call

@@ -7,6 +7,7 @@ use crate::map::map_files;
 use crate::storing::store_listing;
 use crate::views::View;
 use explanations::Base;
+use instructions::Decoder;
 use std::alloc::Global;
 use std::io::Write;
 use surroundings::{Answer, Fault, Office, Outputs, give, shown_answer, shown_in, usage_answer};
@@ -15,7 +16,7 @@ use surroundings::{Answer, Fault, Office, Outputs, give, shown_answer, shown_in,
 pub(crate) const NAME: &str = "v7-explain";
 
 /// How it is called.
-pub(crate) const USAGE: &str = "usage: v7-explain [-c|-d|-l|-s|-x] FILE...
+pub(crate) const USAGE: &str = "usage: v7-explain [-c|-d|-l|-p|-s|-x] FILE...
        v7-explain -o LISTING FILE
        v7-explain -m [OPTIONS OF LD] FILE...
        v7-explain --help | --version
@@ -84,8 +85,9 @@ fn mode_of(word: &str) -> Option<Mode>
 {
     match word {
         "-c" => Some(Mode::Check),
-        "-d" => Some(Mode::Show(View::Instructions)),
+        "-d" => Some(Mode::Show(View::Instructions(Decoder::Unix))),
         "-l" => Some(Mode::Inventory),
+        "-p" => Some(Mode::Show(View::Instructions(Decoder::Pdp11))),
         "-s" => Some(Mode::Show(View::Rows(Base::Octal))),
         "-x" => Some(Mode::Show(View::Rows(Base::Hexadecimal))),
         _ => None,

@@ -21,8 +21,8 @@ use texts::Text;
 /// How the contents of a file are shown.
 #[derive(Clone, Copy, PartialEq, Eq)]
 pub(crate) enum View {
-    /// The text as instructions.
-    Instructions,
+    /// The text as instructions, as this decoder finds them.
+    Instructions(Decoder),
     /// Text and data in rows of words.
     Rows(Base),
 }
@@ -32,7 +32,7 @@ fn put_body(text: &mut Text, view: View, file: &File)
     ensures { Puts text.old text.new (body_of view file.now) }
 {
     match view {
-        View::Instructions => put_disassembly(text, Decoder::Unix, file),
+        View::Instructions(decoder) => put_disassembly(text, decoder, file),
         View::Rows(base) => put_dump(text, base, file),
     }
 }
