@@ -1,7 +1,8 @@
 //! Links objects: `link OUT OBJECT...` does what `v7 ld -o OUT OBJECT...` does, and writes where each name that is reported comes from to
-//! standard error. It compares the link with that of a session and with its map, and each object with that of its listing.
+//! standard error. It compares the link with that of a session and with its map, and each object, in a thread of its own, with that of its
+//! listing.
 use std::io::{self, Write};
-use std::{env, error, fs, process};
+use std::{env, error, fs, process, thread};
 use v7::{from_gnu, from_listing, listing, remarks, Edit, Link, Program};
 
 /// Each name that is reported, with the path of the object that has it first.
@@ -38,7 +39,11 @@ fn link(out: &str, paths: &[String]) -> Result<u32, Box<dyn error::Error>> {
     let again = Link::default().session(&vec![Edit::Add; objects.len()], &objects)?;
     assert_eq!((&program.file, &program.findings), (&again.file, &again.findings));
     compare_map(&program, &objects);
-    objects.iter().for_each(|object| compare_listing(object));
+    thread::scope(|scope| {
+        for object in &objects {
+            scope.spawn(|| compare_listing(object));
+        }
+    });
     assert_eq!(from_gnu(b"short", 0).unwrap_err().fault, 11);
     fs::write(out, &program.file)?;
     io::stdout().write_all(&program.report)?;
