@@ -1,4 +1,4 @@
-//! Safe calls of libv7, the linker of Seventh Edition Unix for the PDP-11. The crate `v7_sys` declares the calls and their numbers.
+//! Safe calls of libv7, the linker of Seventh Edition Unix for the PDP-11. `raw` declares the calls and their numbers.
 //!
 //! ```no_run
 //! let objects = [std::fs::read("main.o")?, std::fs::read("twice.o")?];
@@ -7,14 +7,14 @@
 //! # Ok::<(), Box<dyn std::error::Error>>(())
 //! ```
 //!
-//! Calls share nothing and keep no pointer, so threads may make them at the same time, and all types are `Send` and `Sync`.
+//! Calls share nothing and keep no pointer, so threads may make them at the same time, and the types of this crate are `Send` and `Sync`.
 mod records;
 
 pub use records::{Link, Map, Program, Remark};
+pub use v7_sys as raw;
 pub use v7_sys::{Edit, Fault, Finding, FindingPlace, MapHead, MapLimit, MapName, MapObject, MapUse, Name, Number};
 
 use std::mem::size_of;
-use v7_sys as raw;
 
 impl Link {
     /// Links these objects in their order.

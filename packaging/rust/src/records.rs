@@ -1,7 +1,7 @@
 //! What a link is asked for, and what the calls give. Bits, kinds and statuses are those of v7.h.
 use v7_sys::{Finding, FindingPlace, MapHead, MapLimit, MapName, MapObject, MapUse, Name};
 
-/// What a link is asked for: options, a bit each; the name of the entry point; and names that are forced.
+/// What a link is asked for: options, a bit each, as `raw::V7_STRIP`; the name of the entry point; and names that are forced.
 #[derive(Clone, Debug, Default, PartialEq, Eq)]
 pub struct Link {
     pub options: u32,

@@ -36,12 +36,18 @@ impl fmt::Debug for Name {
 
 /// The number of an object, counted from 0, or that there is none.
 #[repr(transparent)]
-#[derive(Clone, Copy, Debug, PartialEq, Eq)]
+#[derive(Clone, Copy, PartialEq, Eq)]
 pub struct Number(usize);
 
 impl Number {
     pub fn get(self) -> Option<usize> {
         Some(self.0).filter(|number| *number != usize::MAX)
+    }
+}
+
+impl fmt::Debug for Number {
+    fn fmt(&self, f: &mut fmt::Formatter<'_>) -> fmt::Result {
+        self.get().fmt(f)
     }
 }
 
