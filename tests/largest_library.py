@@ -1,7 +1,8 @@
 """Makes each call of libv7 with the largest input of each kind, those of tests/largest.py, and expects an answer: no call may say that
 there is no memory. What is expected is computed by tests/model.py and tests/disassembly.py, or below.
 
-usage: python3 tests/largest_library.py      with the module v7 and the folder tests on the path
+usage: python3 tests/largest_library.py [ROW ..]      with the module v7 and the folder tests on the path. All rows of the table are
+                                                      tried, or these: 'v7_state, v7_run, objects'
 """
 import ctypes
 import dataclasses
@@ -191,4 +192,4 @@ TABLE = [
 ]
 
 if __name__ == "__main__":
-    sys.exit(largest.main("libv7", TABLE))
+    sys.exit(largest.main("libv7", TABLE, sys.argv[1:]))

@@ -7,9 +7,9 @@ usage: tests/planted.py [BUG ..]    tries the bugs of all rows, or these; an err
        tests/planted.py -c          looks only whether each edit fits the code, and the table the edits and the cases
 
 A bug CRATE/NAME is an edit of the crate that the prover refuses, in its must-fail/ or wrong-bodies/. Any other is an edit of
-tests/planted/. The rows of tests/largest.py count as cases. The bug is made in a copy of the sources, and programs are compiled
-there with no proof: those that use its crate, one after another, as long as a case that the row names does not fail. The other
-programs are those without a bug.
+tests/planted/. The rows of tests/largest.py and tests/largest_library.py count as cases. The bug is made in a copy of the sources,
+and programs are compiled there with no proof: those that use its crate, one after another, as long as a case that the row names does
+not fail. The other programs are those without a bug. libv7 counts as a program.
 """
 import glob
 import os
@@ -21,7 +21,7 @@ import tempfile
 from concurrent.futures import ThreadPoolExecutor
 
 import largest
-from compiling import CRATES, NotCompiled, compile_program, uses_of
+from compiling import CRATES, NotCompiled, compile_library, compile_program, uses_of
 
 TOP = os.path.normpath(os.path.join(os.path.dirname(os.path.abspath(__file__)), ".."))
 CASES = os.path.join(TOP, "tests", "cases")
@@ -30,6 +30,12 @@ ROW = re.compile(r"^\| `([\w/]+)` \| .* \| (.*) \|$")
 # the rows of tests/largest.py, each with the program that it runs as a case has it. A listing is read back by v7-object
 READS_BACK = {"v7-explain": "$ v7-object\n"}
 LARGEST = {f"largest.py: {name}, {kind}": f"$ {name}\n{READS_BACK.get(name, '')}" for name, _, kinds in largest.TABLE for kind in kinds}
+# the rows of tests/largest_library.py. Importing it would load the library
+with open(os.path.join(TOP, "tests", "largest_library.py"), encoding="utf-8") as script:
+    CALLS = re.findall(r'^    \("(v7_[^"]+)", ', script.read(), re.M)
+LARGEST.update({f"largest_library.py: {calls}, {kind}": "$ libv7\n" for calls in CALLS for kind in largest.KINDS})
+# what is compiled, and the crate of each
+COMPILED = {**{name: crate for name, (crate, _) in CRATES.items()}, "libv7": "v7_c"}
 # for a command of a case, on a machine with other work too
 SECONDS = "300"
 # a compilation takes a processor and a gigabyte
@@ -112,10 +118,13 @@ def failed(folder, texts):
 def row_fails(folder, name):
     """Whether a row of largest.py fails."""
     script, row = name.split(": ")
-    words = [sys.executable, os.path.join(TOP, "tests", script), folder, row]
-    ran = subprocess.run(words, stdout=subprocess.PIPE, stderr=subprocess.STDOUT, check=False)
+    path = os.path.join(TOP, "tests", script)
+    words = [sys.executable, path, row] if script == "largest_library.py" else [sys.executable, path, folder, row]
+    module = os.path.join(TOP, "examples", "python")
+    ran = subprocess.run(words, stdout=subprocess.PIPE, stderr=subprocess.STDOUT, check=False,
+                         env={**os.environ, "LIBV7": os.path.join(folder, "libv7.so"), "PYTHONPATH": module})
     said = ran.stdout.decode("utf-8", "replace")
-    if not re.search(r"^programs: [01] of 1 answers .*\n\Z", said, re.M):
+    if not re.search(r"^(?:programs|libv7): [01] of 1 answers .*\n\Z", said, re.M):
         raise Fault(said)
     return ran.returncode != 0
 
@@ -150,7 +159,7 @@ def failing(bug, texts, good, is_whole=False):
     programs that the bug reaches are compiled before the cases are played."""
     files, uses = changed(bug), uses_of(TOP)
     crate = next(iter(files)).split(os.sep)[1]
-    using = [name for name in CRATES if crate in below(CRATES[name][0], uses)]
+    using = [name for name in COMPILED if crate in below(COMPILED[name], uses)]
     counts = {name: sum(name in programs_of(text) for text in texts.values()) for name in using}
     reached = sorted(filter(counts.get, using), key=lambda name: -counts[name])
     with tempfile.TemporaryDirectory() as top:
@@ -159,7 +168,7 @@ def failing(bug, texts, good, is_whole=False):
         shutil.copytree(good, folder, ignore=shutil.ignore_patterns("*.compiled"))
         found = []
         for place, program in enumerate(reached, 1):
-            compile_program(top, program, folder)
+            compile_one(top, program, folder)
             if not is_whole or place == len(reached):
                 found = failed(folder, texts)
             if len(found) == len(texts):
@@ -167,11 +176,19 @@ def failing(bug, texts, good, is_whole=False):
         return found
 
 
+def compile_one(top, name, folder):
+    """Compiles a program or libv7 of the sources at `top`."""
+    if name == "libv7":
+        compile_library(top, folder)
+    else:
+        compile_program(top, name, folder)
+
+
 def programs(folder, names):
     """Compiles programs without a bug."""
     os.mkdir(folder)
     with ThreadPoolExecutor(SIDE_BY_SIDE) as pool:
-        list(pool.map(lambda name: compile_program(TOP, name, folder), names))
+        list(pool.map(lambda name: compile_one(TOP, name, folder), names))
 
 
 def check_table():
