@@ -7,9 +7,9 @@ usage: tests/planted.py [BUG ..]    tries the bugs of all rows, or these; an err
        tests/planted.py -c          looks only whether each edit fits the code, and the table the edits and the cases
 
 A bug CRATE/NAME is an edit of the crate that the prover refuses, in its must-fail/ or wrong-bodies/. Any other is an edit of
-tests/planted/. The rows of tests/largest.py and tests/largest_library.py count as cases. The bug is made in a copy of the sources,
-and programs are compiled there with no proof: those that use its crate, one after another, as long as a case that the row names does
-not fail. The other programs are those without a bug. libv7 counts as a program.
+tests/planted/, with the path from the top. The rows of tests/largest.py and tests/largest_library.py count as cases. The bug is made
+in a copy of the sources, and programs are compiled there with no proof: those that use its crate, one after another, as long as a case
+that the row names does not fail. The other programs are those without a bug. libv7 counts as a program.
 """
 import glob
 import os
