@@ -313,7 +313,7 @@ def linked(files, letters):
 
 
 def mapped(kind):
-    """The map has each object, each external, and each word that refers to one."""
+    """The map has each object, each external, and each word that refers to one; with -y, each external that is asked for."""
     files = encoded(kind)
     together, paths = merged(files.values()), written(files)
     places = sum(reloc & 0o16 == 0o10 for file in KINDS[kind] for reloc in file.relocation + file.data_relocation)
@@ -329,6 +329,12 @@ def mapped(kind):
         check(f"-m {letters}, externals", list(names), [in_listing(name) for name in sorted(together.externals)])
         words = sum(len(lines) for _, _, places in names.values() for lines in places.values())
         check(f"-m {letters}, words", words, places)
+    asked = sorted(name for name in together.externals if name.isascii())[::4]
+    status, text, errors = answer("v7-explain", "-m", *(word for name in [b"_absent", *asked] for word in ("-y", name)), *paths)
+    check("-m -y", (status, errors), (1, ""))
+    lines = maps.parts(text)["Externals"]
+    check("-m -y, an absent name", lines[-1], "  _absent: not mentioned")
+    check("-m -y, externals", list(maps.names_in(lines[:-1])), [in_listing(name) for name in asked])
 
 
 def object_made(kind):

@@ -9,7 +9,8 @@ The links are those of a few lists of objects in examples/, and 200 that are mad
 words, with names that are defined, wanted as commons and referred to. Who defines a name, who wants it, and which words
 of an object refer to it are known from the objects as they were made. The instruction of each such word is what
 tests/disassembly.py makes of the object's words. What is used of each limit is counted in the objects and in the linked
-file. 60 further links are refused, some because a file can't be read.
+file. 60 further links are refused, some because a file can't be read. Of each made link, and of 51 that are refused, there is
+a map of some names too (-y), with names that are too long, absent or asked for twice.
 """
 import os
 import random
@@ -156,17 +157,40 @@ def word_line(given, starts, word):
     return f"text {starts['text'] + 2 * word:06o}{before}: {given.file.line(first)[1]}"
 
 
-def check_words(what, names, found, objects):
-    """The words of each name are those of the objects as they were made, each with its address, label and instruction."""
+def check_words(what, names, found, objects, asked=None):
+    """The words of each name, or of the names that are asked for, are those of the objects as they were made, each with its address,
+    label and instruction."""
     expected = {}
     for place, (row, given) in enumerate(zip(found["Objects"][1:], objects)):
         starts = {"text": int(row.split()[0], 8), "data": int(row.split()[2], 8)}
         for number, symbol in enumerate(given.symbols):
             lines = [word_line(given, starts, word) for word, to, _ in given.references if to == number]
-            if lines:
+            if lines and (asked is None or symbol[0] in asked):
                 expected.setdefault(symbol[0], {})[f"{place}.o"] = lines
     check(f"{what}: words", {name: words for name, (_, _, words) in names.items() if words}, expected)
     return sum(len(lines) for words in expected.values() for lines in words.values())
+
+
+def check_asked(what, dice, command, objects, whole):
+    """The map of some names has what the objects have of these, after what becomes of the link. `command` has the options and the
+    paths, and `whole` the status, the parts and the lines of the externals of the whole map."""
+    words = [dice.choice(NAMES + ["_none", "_long_name", "_absent_name"]) for _ in range(dice.randrange(1, 6))]
+    status, text, errors = run(EXPLAIN, "-m", *(it for word in words for it in ("-y", word)), *command)
+    check(f"{what}: standard error of some names", errors, "")
+    asked = list(dict.fromkeys(word[:8] for word in words))
+    known = {name for given in objects for name, kind, _ in given.symbols if kind & 0o40} | ({"_forced"} if "-u" in command else set())
+    absent = [f"  {name}: not mentioned" for name in asked if name not in known]
+    link_status, found, externals = whole
+    check(f"{what}: status of some names", status, 1 if absent else link_status)
+    some = parts(text)
+    check(f"{what}: parts of some names", (list(some), some[""]), (["", "Externals"], found[""]))
+    lines = some["Externals"]
+    there = len(lines) - len(absent)
+    check(f"{what}: absent names", lines[there:], absent)
+    names = names_in(lines[:there])
+    check(f"{what}: some names", [line for line, _, _ in names.values()], [line for line in externals if line[9:] in asked])
+    check_lists(f"{what}: some names", names, objects)
+    check_words(f"{what}: some names", names, found, objects, asked)
 
 
 def check_report(what, found, report):
@@ -284,6 +308,8 @@ def check_random(number):
     names, found = check_map(what, options, paths)
     check_lists(what, names, objects)
     check_places(what, found, objects)
+    status = run(V7, "ld", *options, "-o", "out", *paths)[0]
+    check_asked(what, dice, options + paths, objects, (status, found, run(V7, "nm", "-g", "bare")[1].split("\n")[:-1]))
     return check_words(what, names, found, objects)
 
 
@@ -327,6 +353,7 @@ def check_random_refused(number):
         run(V7, "ld", *options, "-x", "-o", "bare", *paths)
         expected = run(V7, "nm", "-g", "bare")[1].split("\n")[:-1]
     check(f"{what}: externals", [line for line, _, _ in names.values()], expected)
+    check_asked(what, dice, options + paths, objects, (1, found, expected))
     return check_words(what, names, found, objects)
 
 
@@ -416,7 +443,8 @@ def main():
     words = sum(check_random(link) for link in range(LINKS))
     words += sum(check_random_refused(link) for link in range(51))
     refused = 51 + all_refused()
-    print(f"{examples} maps of examples, {LINKS} of made links and {refused} of refused ones agree with ld, nm and size; {words} words are placed")
+    print(f"{examples} maps of examples, {LINKS} of made links and {refused} of refused ones agree with ld, nm and size; {words} words are placed; "
+          f"{LINKS + 51} maps of some names have what the objects have of these")
 
 
 if __name__ == "__main__":

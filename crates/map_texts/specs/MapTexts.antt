@@ -1,10 +1,12 @@
 -- The text of the map of a link, as v7-explain -m writes it. (own choice)
 --
 -- What becomes of the link, the limits, where the segments lie, the names that stay undefined or are multiply defined, the objects, and
--- all externals. Each name has the objects that define it, make it a common and mention it, with the words that refer to it.
-use Rattle.std.specs.Prelude.{ℕ, suc, ◌-◌, Bool, true, false, ◌||◌, eqb, nat_lt, if◌then◌else◌, codes, decimal}
-use Rattle.std.specs.Prelude.{List, [], ◌∷◌, ◌++◌, length, take, slice_get, Option, Some, None, option_map, Result, Ok, Err}
+-- all externals. Each name has the objects that define it, make it a common and mention it, with the words that refer to it. If names are
+-- asked for, the text has only what becomes of the link, these externals, and those names that the link does not have.
+use Rattle.std.specs.Prelude.{ℕ, suc, ◌-◌, Bool, true, false, not, ◌||◌, eqb, nat_lt, bytes_eq, if◌then◌else◌, codes, decimal}
+use Rattle.std.specs.Prelude.{List, [], ◌∷◌, ◌++◌, length, map, take, filter, slice_get, Option, Some, None, option_map, Result, Ok, Err}
 use Rattle.std.specs.List.{flat_map}
+use Rattle.indexmap.specs.IndexSet.{insert_all}
 use Rattle.aout_core.specs.Contents.{Contents}
 use Rattle.aout_core.specs.declared.header.Header.{Header}
 use Rattle.aout_core.specs.declared.part.Part.{Part}
@@ -38,9 +40,10 @@ use Rattle.texts.specs.Columns.{at_left, at_right}
 use Rattle.texts.specs.Names.{printable_bytes}
 use Rattle.texts.specs.Numbers.{octal, six_digits}
 use Rattle.tool_options.specs.Choices.{Choices}
+use Rattle.tool_options.specs.NameLists.{is_among}
 use Rattle.map_texts.specs.declared.limits.Sized.{Sized}
 use Rattle.map_texts.specs.declared.names.Section.{Section}
-use Rattle.map_texts.specs.declared.names.Section.TheVariants.{Undefined, Multiple, All}
+use Rattle.map_texts.specs.declared.names.Section.TheVariants.{Undefined, Multiple, All, Asked}
 
 -- ---- pieces
 
@@ -257,11 +260,12 @@ members_text ms ats = codes "\nObjects\n    text  bytes    data  bytes     bss  
 
 -- ---- names
 
--- a map, its objects, and what these have, in order
+-- a map, its objects, what these have, in order, and the names that are asked for
 pub record Mapped : Type 0 where
   pub link_map : LinkMap
   pub objects : Objects
   pub files : List Contents
+  pub asked : List (List ℕ)
 
 abbrev pub label_of : List Member → Option ℕ → Option (List ℕ)
 label_of ms None = None
@@ -403,11 +407,16 @@ abbrev pub is_multiple_by : Mapped → Option Use → Bool
 is_multiple_by k None = false
 is_multiple_by k (Some u) = is_multiple_in (knowledge_of k.link_map.outcome k.objects.session) (name_of u)
 
+abbrev pub is_asked_by : Mapped → Option Use → Bool
+is_asked_by k None = false
+is_asked_by k (Some u) = is_among k.asked (name_of u)
+
 -- a part has the name of these uses
 abbrev pub has_name : Mapped → Section → List Use → Bool
 has_name k Undefined us = stays_undefined us
 has_name k Multiple us = is_multiple_by k (slice_get us 0)
 has_name k All us = true
+has_name k Asked us = is_asked_by k (slice_get us 0)
 
 abbrev pub title_if : Bool → List ℕ → List ℕ
 title_if titled title = if titled then [] else title
@@ -445,4 +454,30 @@ whole_text choices k =
 
 -- the map of these objects
 abbrev pub map_text : Choices → Objects → LinkMap → List ℕ
-map_text choices o m = whole_text choices (record { link_map = m; objects = o; files = objects (all_of o) })
+map_text choices o m = whole_text choices (record { link_map = m; objects = o; files = objects (all_of o); asked = [] })
+
+-- ---- the map of some names
+
+-- these names, each once
+abbrev pub each_once : List (List ℕ) → List (List ℕ)
+each_once names = insert_all bytes_eq [] names
+
+-- the names that are asked for and have no use among these
+abbrev pub absent_names : List Use → List (List ℕ) → List (List ℕ)
+absent_names us asked = filter (λ name. not (is_among (each_once (map name_of us)) name)) (each_once asked)
+
+unfoldable pub absent_line : List ℕ → List ℕ
+absent_line name = codes "  " ++ printable_bytes name ++ codes ": not mentioned\n"
+
+abbrev pub absent_lines : List (List ℕ) → List ℕ
+absent_lines names = flat_map absent_line names
+
+-- what becomes of the link, the externals that are asked for, and the names that are absent
+unfoldable pub asked_text : Mapped → List (List ℕ) → List ℕ
+asked_text k absent =
+    head_text (length k.link_map.members.items) k.objects.refused k.link_map.outcome ++ codes "\nExternals\n" ++ names_text k Asked []
+    ++ absent_lines absent
+
+-- the map of these objects, of the names that are asked for
+abbrev pub names_map : Objects → LinkMap → List (List ℕ) → List (List ℕ) → List ℕ
+names_map o m asked absent = asked_text (record { link_map = m; objects = o; files = objects (all_of o); asked = each_once asked }) absent

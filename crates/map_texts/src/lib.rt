@@ -1,6 +1,7 @@
 //! The text of the map of a link, as `v7-explain -m` writes it. docs/OBJECTS.md shows one.
 #![tactic(auto)]
 
+mod asked;
 mod limits;
 mod members;
 mod names;
@@ -9,4 +10,5 @@ mod pieces;
 mod segments;
 mod whole;
 
-pub use whole::map_text;
+pub use asked::absent_names;
+pub use whole::{map_text, names_map};

@@ -5,14 +5,15 @@ ghost use Rattle.texts.specs.Texts.{Puts};
 ghost use Rattle.tool_options.specs.NameLists.{is_among};
 ghost use Rattle.map_texts.specs.MapTexts.{bare_address, before_text, beyond_text, common_line, common_text, commons_text, definer_if};
 ghost use Rattle.map_texts.specs.MapTexts.{definer_label, definer_line, definers_text, front_by, group_text, has_name, instruction_if};
-ghost use Rattle.map_texts.specs.MapTexts.{instruction_text, is_multiple_by, known_text, label_of, label_text, mention_by, mention_if};
-ghost use Rattle.map_texts.specs.MapTexts.{mention_line, mention_text, mentions_text, name_line, names_text, part_text, path_of};
+ghost use Rattle.map_texts.specs.MapTexts.{instruction_text, is_asked_by, is_multiple_by, known_text, label_of, label_text, mention_by};
+ghost use Rattle.map_texts.specs.MapTexts.{mention_if, mention_line, mention_text, mentions_text, name_line, names_text, part_text, path_of};
 ghost use Rattle.map_texts.specs.MapTexts.{place_if, reference_line, reference_lines, references_text, row_of, symbol_text, title_if};
 ghost use Rattle.map_texts.specs.MapTexts.{titled_text, word_text};
 
 use crate::pieces::{put_address, put_count, put_front, put_item};
 use aout_core::{Name, Part, Symbol};
 use disassemblies::NamedFile;
+use indexmap::IndexSet;
 use link_maps::{
     Before, LinkMap, Member, Objects, Places, ReferringWord, Use, put_line_of, row_of,
     stays_undefined, telling, uses_of_name,
@@ -27,6 +28,8 @@ pub(crate) struct Names<'a> {
     pub(crate) objects: &'a Objects,
     /// The objects, each with its symbols found by their values.
     pub(crate) files: &'a [NamedFile<'a>],
+    /// The names that are asked for; none for the whole map.
+    pub(crate) asked: &'a IndexSet<Name>,
 }
 
 impl<'a> Model for Names<'a> {
@@ -34,7 +37,7 @@ impl<'a> Model for Names<'a> {
 
     ghost Value = { Mapped };
 
-    ghost view = { λ n. record { link_map = n.map.now; objects = n.objects.now; files = n.files.now } };
+    ghost view = { λ n. record { link_map = n.map.now; objects = n.objects.now; files = n.files.now; asked = n.asked.now.keys } };
 }
 
 /// The path of an object; none for a forced name.
@@ -393,6 +396,16 @@ fn is_multiple(names: &Names<'_>, uses: &[Use]) -> bool
     }
 }
 
+/// Whether the name of these uses is asked for.
+fn is_asked(names: &Names<'_>, uses: &[Use]) -> bool
+    ensures { result ≡ is_asked_by names.now (slice_get uses.now 0) }
+{
+    match uses.first() {
+        Some(first) => names.asked.contains(&first.symbol.name),
+        None => false,
+    }
+}
+
 /// Which names a part of the map has.
 #[derive(Clone, Copy)]
 pub(crate) enum Section {
@@ -402,6 +415,8 @@ pub(crate) enum Section {
     Multiple,
     /// All externals.
     All,
+    /// Those that are asked for.
+    Asked,
 }
 
 /// Whether a part has the name of these uses.
@@ -412,6 +427,7 @@ fn has_name(names: &Names<'_>, section: Section, uses: &[Use]) -> bool
         Section::Undefined => stays_undefined(uses),
         Section::Multiple => is_multiple(names, uses),
         Section::All => true,
+        Section::Asked => is_asked(names, uses),
     }
 }
 

@@ -3,14 +3,18 @@ ghost use Rattle.std.specs.Prelude.{◌≡◌, ◌++◌, IfOk, OnOk};
 ghost use Rattle.link_maps.specs.Members.{all_of};
 ghost use Rattle.link_session.specs.Labelled.{objects};
 ghost use Rattle.texts.specs.Texts.{Puts};
-ghost use Rattle.map_texts.specs.MapTexts.{faults_text, is_refused, largest_if, limits_in, map_text, sizes_text, whole_text};
+ghost use Rattle.map_texts.specs.MapTexts.{asked_text, faults_text, is_refused, largest_if, limits_in, map_text, names_map, sizes_text};
+ghost use Rattle.map_texts.specs.MapTexts.{whole_text};
 
+use crate::asked::{each_once, put_absent_names};
 use crate::limits::{put_largest, put_limits};
 use crate::members::put_members;
 use crate::names::{Names, Section, put_names};
 use crate::outcomes::put_head;
 use crate::segments::put_segments_if;
+use aout_core::Name;
 use disassemblies::NamedFile;
+use indexmap::IndexSet;
 use link_maps::{Left, LinkMap, Member, Objects, limits_of};
 use link_out::Options;
 use link_session::Entry;
@@ -118,7 +122,7 @@ fn put_whole(text: &mut Text, names: &Names<'_>, options: &Options)
     put_names(text, names, Section::All, "\nExternals\n");
 }
 
-/// The text of the map of a link of objects.
+/// The text of the map of a link of objects. An error: out of memory. (own choice)
 pub fn map_text(
     alloc: Global,
     objects: &Objects,
@@ -132,8 +136,44 @@ pub fn map_text(
         map,
         objects,
         files: &files,
+        asked: &IndexSet::new(alloc),
     };
     let mut text = Text::new(alloc);
     put_whole(&mut text, &names, options);
+    text.finish()
+}
+
+/// Adds what becomes of the link, the externals that are asked for, and the names that are absent.
+#[tactic(auto, unfolding(crate::specs::MapTexts::asked_text))]
+fn put_asked(text: &mut Text, names: &Names<'_>, absent: &[Name])
+    ensures { Puts text.old text.new (asked_text names.now absent.now) }
+{
+    put_head(text, names.map, names.objects);
+    text.put("\nExternals\n");
+    put_names(text, names, Section::Asked, "");
+    put_absent_names(text, absent);
+}
+
+/// The text of the map of a link of objects, but only of the names that are asked for. Those of them that the link does not have are
+/// absent, as `absent_names` gives them. An error: out of memory. (own choice)
+pub fn names_map(
+    alloc: Global,
+    objects: &Objects,
+    map: &LinkMap,
+    asked: &[Name],
+    absent: &[Name],
+) -> Result<Vec<u8>, AllocError>
+    ensures { IfOk result (λ v.
+        v.items ≡ names_map objects.now map.now asked.now absent.now) }
+{
+    let files = files_of(alloc, objects)?;
+    let names = Names {
+        map,
+        objects,
+        files: &files,
+        asked: &each_once(alloc, asked)?,
+    };
+    let mut text = Text::new(alloc);
+    put_asked(&mut text, &names, absent);
     text.finish()
 }

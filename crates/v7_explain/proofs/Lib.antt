@@ -2,3 +2,4 @@ pub mod FoundLemmas
 pub mod ExplainingLemmas
 pub mod TakingLemmas
 pub mod MapLemmas
+pub mod AskedLemmas

@@ -11,6 +11,7 @@ use Rattle.command_words.specs.declared.words.Call.{Call}
 use Rattle.command_words.specs.declared.words.Call.TheVariants.{Ld, Nm, Session, Size, Strip}
 use Rattle.link_maps.specs.Members.{all_of, cause_of, left_of}
 use Rattle.link_maps.specs.Rows.{IsOutcome}
+use Rattle.link_maps.specs.declared.map.LinkMap.{LinkMap}
 use Rattle.link_maps.specs.declared.members.Objects.{Objects}
 use Rattle.link_maps.specs.declared.members.Refused.{Refused}
 use Rattle.link_maps.specs.declared.outcome.Outcome.{Outcome as Made}
@@ -31,9 +32,8 @@ use Rattle.surroundings.specs.declared.answer.Fault.{Fault}
 use Rattle.surroundings.specs.declared.answer.Fault.TheVariants as faults
 use Rattle.tool_options.specs.Choices.{Choices}
 use Rattle.v7_explain.specs.Joined.{either, nothing_said, usage}
-use Rattle.map_texts.specs.MapTexts.{map_text}
 use Rattle.v7_explain.specs.Maps.{AreTaken, IsMap, IsMapCall, IsMapping, IsTaking, MapsCall, Split, Taken, link_words, map_status}
-use Rattle.v7_explain.specs.Maps.{nothing_taken, status_by, status_linked}
+use Rattle.v7_explain.specs.Maps.{answer_of, nothing_taken, status_by, status_linked}
 use Rattle.v7_explain.specs.Maps.{not_split, split, split_by, split_from, with_object}
 use Rattle.v7_explain.specs.internal.Takes.{IsMapAnswer, KeepsSplit, split_of, status_made, status_mapped, taken_by, taken_of}
 use Rattle.v7_explain.proofs.TakingLemmas.{taking_memory}
@@ -112,11 +112,11 @@ none_split forced o session refused =
     ∙ sym (ap (λ (os : List Labelled). split o.session.forced os) (none_yet forced o session refused))
 
 -- memory ran out
-pub map_ends : (forced : List (List ℕ)) (choices : Choices) (paths : List (List ℕ)) (old new : History) (o n : Objects) (fault : Fault)
+pub map_ends : (asked forced : List (List ℕ)) (choices : Choices) (paths : List (List ℕ)) (old new : History) (o n : Objects) (fault : Fault)
     (result : Result Answer Fault) → o.session ≡ nothing_kept forced → o.refused ≡ None →
     IsTaking old new (taken_of o nothing_said) paths (taken_by n (Err fault)) → result ≡ Err fault →
-    IsMapping forced choices paths old new result
-map_ends forced choices paths old new o n fault result session refused takes is =
+    IsMapping asked forced choices paths old new result
+map_ends asked forced choices paths old new o n fault result session refused takes is =
     let taking : IsTaking old new nothing_taken paths (Err fault) =
     subst (λ t. IsTaking old new t paths (Err fault)) (begins forced o session refused) takes in
     let memory : fault ≡ faults.Memory = taking_memory old new nothing_taken paths fault taking in
@@ -129,36 +129,36 @@ abbrev pub answered : Answer → Result Answer Fault
 answered said = Ok said
 
 -- some files are not objects
-pub map_refused : (forced : List (List ℕ)) (choices : Choices) (paths : List (List ℕ)) (old new : History) (o n : Objects) (said : Answer) →
+pub map_refused : (asked forced : List (List ℕ)) (choices : Choices) (paths : List (List ℕ)) (old new : History) (o n : Objects) (said : Answer) →
     o.session ≡ nothing_kept forced → o.refused ≡ None → IsTaking old new (taken_of o nothing_said) paths (taken_by n (Ok said)) →
-    said.status ≢ 0 → IsMapping forced choices paths old new (Ok said)
-map_refused forced choices paths old new o n said session refused takes status =
+    said.status ≢ 0 → IsMapping asked forced choices paths old new (Ok said)
+map_refused asked forced choices paths old new o n said session refused takes status =
     let test : eqb said.status 0 ≡ false = grind (arith, nat_tests) in
     inr (
       taken_of n said,
       subst (λ t. IsTaking old new t paths (Ok (taken_of n said))) (begins forced o session refused) takes,
-      subst (λ (t : Bool). either t (IsMap forced choices (all_of n) (Ok said)) (answered said ≡ answered said)) (sym test) refl,
+      subst (λ (t : Bool). either t (IsMap asked forced choices (all_of n) (Ok said)) (answered said ≡ answered said)) (sym test) refl,
     )
 
-maps_by : (forced : List (List ℕ)) (choices : Choices) (paths : List (List ℕ)) (old new : History) (o n : Objects) (said : Answer)
+maps_by : (asked forced : List (List ℕ)) (choices : Choices) (paths : List (List ℕ)) (old new : History) (o n : Objects) (said : Answer)
     (result : Result Answer Fault) → o.session ≡ nothing_kept forced → o.refused ≡ None →
     IsTaking old new (taken_of o nothing_said) paths (taken_by n (Ok said)) →
-    said.status ≡ 0 → IsMap forced choices (all_of n) result → IsMapping forced choices paths old new result
-maps_by forced choices paths old new o n said result session refused takes status is =
+    said.status ≡ 0 → IsMap asked forced choices (all_of n) result → IsMapping asked forced choices paths old new result
+maps_by asked forced choices paths old new o n said result session refused takes status is =
     let test : eqb said.status 0 ≡ true = ap (λ (k : ℕ). eqb k 0) status in
     inr (
       taken_of n said,
       subst (λ t. IsTaking old new t paths (Ok (taken_of n said))) (begins forced o session refused) takes,
-      subst (λ (t : Bool). either t (IsMap forced choices (all_of n) result) (result ≡ Ok said)) (sym test) is,
+      subst (λ (t : Bool). either t (IsMap asked forced choices (all_of n) result) (result ≡ Ok said)) (sym test) is,
     )
 
 -- all are, and there is no memory for the map
-pub map_out : (forced : List (List ℕ)) (choices : Choices) (paths : List (List ℕ)) (old new : History) (o n : Objects) (said : Answer)
+pub map_out : (asked forced : List (List ℕ)) (choices : Choices) (paths : List (List ℕ)) (old new : History) (o n : Objects) (said : Answer)
     (result : Result Answer Fault) → o.session ≡ nothing_kept forced → o.refused ≡ None →
     IsTaking old new (taken_of o nothing_said) paths (taken_by n (Ok said)) →
-    said.status ≡ 0 → result ≡ Err faults.Memory → IsMapping forced choices paths old new result
-map_out forced choices paths old new o n said result session refused takes status memory =
-    maps_by forced choices paths old new o n said result session refused takes status (inl memory)
+    said.status ≡ 0 → result ≡ Err faults.Memory → IsMapping asked forced choices paths old new result
+map_out asked forced choices paths old new o n said result session refused takes status memory =
+    maps_by asked forced choices paths old new o n said result session refused takes status (inl memory)
 
 -- the objects as a session takes them
 are_taken : (forced : List (List ℕ)) (n : Objects) → n.session.forced ≡ forced → KeepsSplit n → AreTaken forced (all_of n) n
@@ -171,13 +171,13 @@ are_taken forced n names keeps =
       left = ap (λ (s : Split). s.left) is;
     }
 
-abbrev answer_with : List ℕ → ℕ → Result Answer Fault
-answer_with text status = Ok (record { output = text; errors = []; status = status })
+abbrev answer_with : List (List ℕ) → Choices → Objects → LinkMap → ℕ → Result Answer Fault
+answer_with asked choices o m status = Ok (answer_of asked choices o m status)
 
-maps_all : (forced : List (List ℕ)) (choices : Choices) (n : Objects) (a : Answer) → AreTaken forced (all_of n) n →
-    IsMapAnswer n forced choices a →
-    IsMap forced choices (all_of n) (Ok a)
-maps_all forced choices n a taken (m, map, same) =
+maps_all : (asked forced : List (List ℕ)) (choices : Choices) (n : Objects) (a : Answer) → AreTaken forced (all_of n) n →
+    IsMapAnswer asked n forced choices a →
+    IsMap asked forced choices (all_of n) (Ok a)
+maps_all asked forced choices n a taken (m, map, same) =
     let s : Split = split forced (all_of n) in
     let coded : status_mapped m.outcome ≡ status_by (cause_of n.refused) (link n.session.forced (objects n.session.entries) choices) =
     mapped_status m.outcome n.refused n.session choices map.made map.outcome in
@@ -192,37 +192,37 @@ maps_all forced choices n a taken (m, map, same) =
       taken,
       map,
       ap (λ (one : Answer). let ok : Result Answer Fault = Ok one in ok) same
-          ∙ ap (answer_with (map_text choices n m)) defined,
+          ∙ ap (answer_with asked choices n m) defined,
     )
 
 -- all are, and there is a map
-pub map_made : (forced : List (List ℕ)) (choices : Choices) (paths : List (List ℕ)) (old new : History) (o n : Objects) (said a : Answer) →
+pub map_made : (asked forced : List (List ℕ)) (choices : Choices) (paths : List (List ℕ)) (old new : History) (o n : Objects) (said a : Answer) →
     o.session ≡ nothing_kept forced → o.refused ≡ None → IsTaking old new (taken_of o nothing_said) paths (taken_by n (Ok said)) →
-    said.status ≡ 0 → (KeepsSplit o → KeepsSplit n) → n.session.forced ≡ o.session.forced → IsMapAnswer n forced choices a →
-    IsMapping forced choices paths old new (Ok a)
-map_made forced choices paths old new o n said a session refused takes status keeps same map =
+    said.status ≡ 0 → (KeepsSplit o → KeepsSplit n) → n.session.forced ≡ o.session.forced → IsMapAnswer asked n forced choices a →
+    IsMapping asked forced choices paths old new (Ok a)
+map_made asked forced choices paths old new o n said a session refused takes status keeps same map =
     let names : n.session.forced ≡ forced = same ∙ ap (λ (k : Kept). k.forced) session in
-    maps_by forced choices paths old new o n said (Ok a) session refused takes status
-    (maps_all forced choices n a (are_taken forced n names (keeps (none_split forced o session refused))) map)
+    maps_by asked forced choices paths old new o n said (Ok a) session refused takes status
+    (maps_all asked forced choices n a (are_taken forced n names (keeps (none_split forced o session refused))) map)
 
 -- ---- what the arguments ask for
 
 -- memory runs out for them
-pub map_call_out : (words : List (List ℕ)) (old new : History) (result : Result Answer Fault) → new ≡ old → result ≡ Err faults.Memory →
-    IsMapCall words old new result
-map_call_out words old new result same memory = inl (same, memory)
+pub map_call_out : (names words : List (List ℕ)) (old new : History) (result : Result Answer Fault) → new ≡ old → result ≡ Err faults.Memory →
+    IsMapCall names words old new result
+map_call_out names words old new result same memory = inl (same, memory)
 
 -- they ask for no call
-pub map_call_none : (words all : List (List ℕ)) (old new : History) (result : Result Answer Fault) → all ≡ link_words words →
-    AsksForNone all Usage → new ≡ old → AnswersOr result (says_usage usage) → IsMapCall words old new result
-map_call_none words all old new result same none still answers =
+pub map_call_none : (names words all : List (List ℕ)) (old new : History) (result : Result Answer Fault) → all ≡ link_words words →
+    AsksForNone all Usage → new ≡ old → AnswersOr result (says_usage usage) → IsMapCall names words old new result
+map_call_none names words all old new result same none still answers =
     inr (inl (subst (λ (ws : List (List ℕ)). AsksForNone ws Usage) same none, still, answers))
 
 -- they ask for a call, which is mapped
-pub map_call_made : (words all : List (List ℕ)) (call : Call) (old new : History) (result : Result Answer Fault) → all ≡ link_words words →
+pub map_call_made : (names words all : List (List ℕ)) (call : Call) (old new : History) (result : Result Answer Fault) → all ≡ link_words words →
     IsWhole call → IsAsked all call → dashes_in all ≡ dashes_in (files_of call) →
-    ((new ≡ old) × (result ≡ Err faults.Memory)) ⊎ MapsCall call old new result → IsMapCall words old new result
-map_call_made words all call old new result same whole asked dashes maps =
+    ((new ≡ old) × (result ≡ Err faults.Memory)) ⊎ MapsCall names call old new result → IsMapCall names words old new result
+map_call_made names words all call old new result same whole asked dashes maps =
     inr (inr (
       call,
       whole,
@@ -232,14 +232,14 @@ map_call_made words all call old new result same whole asked dashes maps =
     ))
 
 -- another call is not mapped
-pub maps_other : (call : Call) (old new : History) (result : Result Answer Fault) →
+pub maps_other : (asked : List (List ℕ)) (call : Call) (old new : History) (result : Result Answer Fault) →
     ((options : Choices) → (forced : List (List ℕ)) → (out : String Global) → (files : Vec (String Global) Global) →
     call ≡ Ld options forced out files → ⊥) →
-    new ≡ old → AnswersOr result (says_usage usage) → MapsCall call old new result
-maps_other (Ld options forced out files) old new result never still answers = absurd (never options forced out files refl)
-maps_other (Nm options files) old new result never still answers = (still, answers)
-maps_other (Size files) old new result never still answers = (still, answers)
-maps_other (Strip files) old new result never still answers = (still, answers)
-maps_other (Session options forced) old new result never still answers = (still, answers)
+    new ≡ old → AnswersOr result (says_usage usage) → MapsCall asked call old new result
+maps_other asked (Ld options forced out files) old new result never still answers = absurd (never options forced out files refl)
+maps_other asked (Nm options files) old new result never still answers = (still, answers)
+maps_other asked (Size files) old new result never still answers = (still, answers)
+maps_other asked (Strip files) old new result never still answers = (still, answers)
+maps_other asked (Session options forced) old new result never still answers = (still, answers)
 
 pub ruleset by_map_call = (map_call_out, map_call_none, map_call_made)

@@ -1,8 +1,8 @@
 -- The map of a link: which files are opened, what is said of those that are not objects, and the map with its status. (own choice)
 --
 -- The files are those that `ld` takes with the same arguments. Each is read whole before the next one is opened. There is a map if all are
--- objects; else the answer has a line for each that is not.
-use Rattle.std.specs.Prelude.{◌≡◌, ◌⊎◌, ℕ, List, [], ◌∷◌, ◌++◌, eqb, map, Option, Some, None, Result, Ok, Err, codes, decimal, string_bytes}
+-- objects; else the answer has a line for each that is not. If names are asked for, the map has only these.
+use Rattle.std.specs.Prelude.{◌≡◌, ◌⊎◌, ℕ, List, [], ◌∷◌, ◌++◌, eqb, map, max, Option, Some, None, Result, Ok, Err, codes, decimal, string_bytes}
 use Rattle.aout_core.specs.Contents.{Contents}
 use Rattle.aout_core.specs.Decoding.{decode}
 use Rattle.aout_core.specs.WellFormed.{first_object_fault, first_of}
@@ -24,6 +24,7 @@ use Rattle.link_out.specs.function.Reports.{status_of}
 use Rattle.link_session.specs.declared.entry.AddFault.{AddFault}
 use Rattle.link_session.specs.Labelled.{Labelled, objects}
 use Rattle.link_session.specs.Limits.{refusal}
+use Rattle.map_texts.specs.MapTexts.{absent_names, map_text, names_map}
 use Rattle.surroundings.specs.Answer.{Answer}
 use Rattle.surroundings.specs.Answers.{AnswersOr, failed_at, only_errors, says_usage}
 use Rattle.surroundings.specs.Events.{History, Extends, opened}
@@ -33,7 +34,6 @@ use Rattle.surroundings.specs.declared.answer.Fault.TheVariants as faults
 use Rattle.tool_options.specs.Choices.{Choices}
 use Rattle.v7_explain.specs.Files.{line_of, program}
 use Rattle.v7_explain.specs.Joined.{either, joined, nothing_said, usage}
-use Rattle.map_texts.specs.MapTexts.{map_text}
 
 -- ---- objects
 
@@ -137,39 +137,56 @@ pub record AreTaken (forced : List (List ℕ)) (xs : List Labelled) (o : Objects
   pub cause : cause_of o.refused ≡ (split forced xs).cause
   pub left : left_of o.refused ≡ (split forced xs).left
 
--- the map of these objects, with its status; or memory ran out for it
-abbrev pub IsMap : List (List ℕ) → Choices → List Labelled → Result Answer Fault → Type 0
-IsMap forced choices xs result =
+-- the text of a map: the whole one, or only the names that are asked for
+abbrev pub text_asked : List (List ℕ) → Choices → Objects → LinkMap → List ℕ
+text_asked [] choices o m = map_text choices o m
+text_asked (name ∷ names) choices o m = names_map o m (name ∷ names) (absent_names m.uses.items (name ∷ names))
+
+abbrev pub status_with : List (List ℕ) → ℕ → ℕ
+status_with [] status = status
+status_with (name ∷ names) status = max status 1
+
+-- a name that is asked for and absent is something to report
+abbrev pub status_asked : List (List ℕ) → LinkMap → ℕ → ℕ
+status_asked asked m status = status_with (absent_names m.uses.items asked) status
+
+-- the map of these objects, with its status
+abbrev pub answer_of : List (List ℕ) → Choices → Objects → LinkMap → ℕ → Answer
+answer_of asked choices o m status =
+    record { output = text_asked asked choices o m; errors = []; status = status_asked asked m status }
+
+-- that is the answer; or memory ran out for it
+abbrev pub IsMap : List (List ℕ) → List (List ℕ) → Choices → List Labelled → Result Answer Fault → Type 0
+IsMap asked forced choices xs result =
     (result ≡ Err faults.Memory)
     ⊎ ((o : Objects) × (m : LinkMap) × AreTaken forced xs o × IsMapOf o forced choices m
-    × (result ≡ Ok (record { output = map_text choices o m; errors = []; status = map_status forced choices (split forced xs) })))
+    × (result ≡ Ok (answer_of asked choices o m (map_status forced choices (split forced xs)))))
 
 -- there is a map if each file is an object
-abbrev pub MapsTaken : List (List ℕ) → Choices → Result Answer Fault → Taken → Type 0
-MapsTaken forced choices result taken =
-    either (eqb taken.said.status 0) (IsMap forced choices taken.objects result) (result ≡ Ok taken.said)
+abbrev pub MapsTaken : List (List ℕ) → List (List ℕ) → Choices → Result Answer Fault → Taken → Type 0
+MapsTaken asked forced choices result taken =
+    either (eqb taken.said.status 0) (IsMap asked forced choices taken.objects result) (result ≡ Ok taken.said)
 
 abbrev pub nothing_taken : Taken
 nothing_taken = record { objects = []; said = nothing_said }
 
-abbrev pub IsMapping : List (List ℕ) → Choices → List (List ℕ) → History → History → Result Answer Fault → Type 0
-IsMapping forced choices paths old new result =
+abbrev pub IsMapping : List (List ℕ) → List (List ℕ) → Choices → List (List ℕ) → History → History → Result Answer Fault → Type 0
+IsMapping asked forced choices paths old new result =
     (IsTaking old new nothing_taken paths (Err faults.Memory) × (result ≡ Err faults.Memory))
-    ⊎ ((taken : Taken) × IsTaking old new nothing_taken paths (Ok taken) × MapsTaken forced choices result taken)
+    ⊎ ((taken : Taken) × IsTaking old new nothing_taken paths (Ok taken) × MapsTaken asked forced choices result taken)
 
 -- the files of a call of ld are mapped
-abbrev pub MapsCall : Call → History → History → Result Answer Fault → Type 0
-MapsCall (Ld options forced out files) old new result = IsMapping forced options (map string_bytes files.items) old new result
-MapsCall _ old new result = (new ≡ old) × AnswersOr result (says_usage usage)
+abbrev pub MapsCall : List (List ℕ) → Call → History → History → Result Answer Fault → Type 0
+MapsCall asked (Ld options forced out files) old new result = IsMapping asked forced options (map string_bytes files.items) old new result
+MapsCall asked _ old new result = (new ≡ old) × AnswersOr result (says_usage usage)
 
--- the arguments after -m are those of ld
 abbrev pub link_words : List (List ℕ) → List (List ℕ)
 link_words words = codes "ld" ∷ words
 
--- memory runs out for the arguments, or they ask for no call, or for one that is mapped
-abbrev pub IsMapCall : List (List ℕ) → History → History → Result Answer Fault → Type 0
-IsMapCall words old new result =
+-- the arguments after the names are those of ld: memory runs out for them, or they ask for no call, or for one that is mapped
+abbrev pub IsMapCall : List (List ℕ) → List (List ℕ) → History → History → Result Answer Fault → Type 0
+IsMapCall asked words old new result =
     ((new ≡ old) × (result ≡ Err faults.Memory))
     ⊎ (AsksForNone (link_words words) Usage × (new ≡ old) × AnswersOr result (says_usage usage))
     ⊎ ((call : Call) × IsWhole call × IsAsked (link_words words) call × (dashes_in (link_words words) ≡ dashes_in (files_of call))
-    × (((new ≡ old) × (result ≡ Err faults.Memory)) ⊎ MapsCall call old new result))
+    × (((new ≡ old) × (result ≡ Err faults.Memory)) ⊎ MapsCall asked call old new result))

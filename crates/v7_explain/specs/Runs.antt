@@ -3,8 +3,9 @@
 -- Each file is read whole and explained before the next one is opened. The answer has what is shown of each, in order, and the largest
 -- status. If memory runs out, that is the answer, and nothing was stored.
 use Rattle.std.specs.Prelude.{◌≡◌, ◌⊎◌, ℕ, Bool, true, false, not, eqb, nat_eq, if◌then◌else◌, bytes_eq, codes}
-use Rattle.std.specs.Prelude.{List, [], ◌∷◌, Option, Some, None, Result, Ok, Err}
+use Rattle.std.specs.Prelude.{List, [], ◌∷◌, ◌++◌, take, Option, Some, None, Result, Ok, Err}
 use Rattle.std.specs.List.{starts_with}
+use Rattle.aout_core.specs.Names.{before_nul}
 use Rattle.surroundings.specs.Answer.{Answer}
 use Rattle.surroundings.specs.Answers.{AnswersOr, Checks, Gives, HasAnswer, IsShownOr}
 use Rattle.surroundings.specs.Answers.{answer_in, failed_at, only_errors, says_usage, shown_in}
@@ -87,11 +88,11 @@ StoresListing to path old new result =
 
 -- ---- arguments
 
--- what the arguments ask for: to explain files, to store the listing of a file, or the map of a link
+-- what the arguments ask for: to explain files, to store the listing of a file, or the map of a link, of all names or only of these
 pub data Call : Type 0 where
   explain : Mode → List (List ℕ) → Call
   store : List ℕ → List ℕ → Call
-  map_link : List (List ℕ) → Call
+  map_link : List (List ℕ) → List (List ℕ) → Call
 
 -- paths, of which the first does not begin with a hyphen
 abbrev pub are_files : List (List ℕ) → Bool
@@ -107,6 +108,18 @@ storing_at to path = if starts_with nat_eq path (codes "-") then None else Some 
 abbrev pub storing : List (List ℕ) → Option Call
 storing (to ∷ path ∷ []) = storing_at to path
 storing _ = None
+
+-- -y and a word ask for a name, the word up to its first NUL and its eighth byte, after the names so far; the other words are the
+-- arguments of ld. With -y alone there is no call
+abbrev pub mapping_after : List (List ℕ) → List (List ℕ) → Option Call
+mapping_after names [] = Some (map_link names [])
+mapping_after names (word ∷ []) = if bytes_eq word (codes "-y") then None else Some (map_link names (word ∷ []))
+mapping_after names (word ∷ name ∷ rest) =
+    if bytes_eq word (codes "-y") then mapping_after (names ++ take 8 (before_nul name) ∷ []) rest
+    else Some (map_link names (word ∷ name ∷ rest))
+
+abbrev pub mapping : List (List ℕ) → Option Call
+mapping words = mapping_after [] words
 
 -- how files are explained by the option in front of them, if there is one
 abbrev pub mode_of : List ℕ → Option Mode
@@ -128,7 +141,7 @@ task_of first = if bytes_eq first (codes "-o") then Store else (if bytes_eq firs
 
 abbrev pub asked_by : Task → List ℕ → List (List ℕ) → Option Call
 asked_by Store first rest = storing rest
-asked_by MapLink first rest = Some (map_link rest)
+asked_by MapLink first rest = mapping rest
 asked_by Explain first rest = explaining_by (mode_of first) first rest
 
 abbrev pub asked_in : List (List ℕ) → Option Call
@@ -142,7 +155,7 @@ abbrev pub IsCall : Option Call → History → History → Result Answer Fault 
 IsCall None old new result = (new ≡ old) × AnswersOr result (says_usage usage)
 IsCall (Some (explain mode paths)) old new result = IsExplaining mode old new nothing_said paths result
 IsCall (Some (store to path)) old new result = StoresListing to path old new result
-IsCall (Some (map_link words)) old new result = IsMapCall words old new result
+IsCall (Some (map_link names words)) old new result = IsMapCall names words old new result
 
 -- what the arguments ask for is done
 abbrev pub IsAnswer : List (List ℕ) → History → History → Result Answer Fault → Type 0

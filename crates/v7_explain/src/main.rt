@@ -2,6 +2,7 @@
 //! a link.
 #![tactic(auto)]
 
+mod asked;
 mod checking;
 mod explaining;
 mod inventory;

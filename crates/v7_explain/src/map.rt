@@ -1,16 +1,20 @@
 //! The map of a link, made or refused.
 ghost use Rattle.std.specs.Prelude.{◌≡◌, ◌⊎◌, IfOk, Err, map, string_bytes};
+ghost use Rattle.map_texts.specs.MapTexts.{absent_names};
 ghost use Rattle.surroundings.specs.declared.answer.Fault.TheVariants.{Memory};
-ghost use Rattle.v7_explain.specs.Maps.{IsMapCall, IsMapping, MapsCall, link_words};
+ghost use Rattle.v7_explain.specs.Maps.{IsMapCall, IsMapping, MapsCall, link_words, status_with, text_asked};
+ghost use Rattle.v7_explain.specs.Runs.{IsCall, mapping};
 ghost use Rattle.v7_explain.specs.internal.Takes.{IsMapAnswer, status_mapped};
 
+use crate::asked::take_names;
 use crate::map_objects::take_objects;
 use crate::program::USAGE;
+use aout_core::Name;
 use command_words::{Call, WordsFault, parse};
 use link_maps::{LinkMap, Objects, map_of};
 use link_out::Options;
 use link_session::Forced;
-use map_texts::map_text;
+use map_texts::{absent_names, map_text, names_map};
 use std::alloc::{AllocError, Global};
 use surroundings::{Answer, Fault, Office, usage_answer};
 
@@ -27,20 +31,52 @@ fn status_of(map: &LinkMap) -> u8
     }
 }
 
-/// The map of a link of objects, with its status.
+/// The text of a map: the whole one, or only the names that are asked for. Those of them that the link does not have are absent.
+fn text_with(
+    alloc: Global,
+    objects: &Objects,
+    map: &LinkMap,
+    options: &Options,
+    asked: &[Name],
+    absent: &[Name],
+) -> Result<Vec<u8>, AllocError>
+    requires { absent.now ≡ absent_names map.now.uses.items asked.now }
+    ensures { IfOk result (λ text.
+        text.items ≡ text_asked asked.now options.now objects.now map.now) }
+{
+    match asked {
+        [] => map_text(alloc, objects, map, options),
+        _ => names_map(alloc, objects, map, asked, absent),
+    }
+}
+
+/// The status of a map in which these names are absent.
+fn status_with(absent: &[Name], status: u8) -> u8
+    ensures { result ≡ status_with absent.now status }
+{
+    match absent {
+        [] => status,
+        _ => status.max(1),
+    }
+}
+
+/// The map of a link of objects, with its status: the whole map, or only the names that are asked for.
 fn map_answer(
     alloc: Global,
+    asked: &[Name],
     objects: &Objects,
     forced: &Forced,
     options: &Options,
 ) -> Result<Answer, AllocError>
-    ensures { IfOk result (λ a. IsMapAnswer objects.now forced.now options.now a) }
+    ensures { IfOk result (λ a.
+        IsMapAnswer asked.now objects.now forced.now options.now a) }
 {
     let map = map_of(alloc, objects, forced, options)?;
+    let absent = absent_names(alloc, &map, asked)?;
     Ok(Answer {
-        output: map_text(alloc, objects, &map, options)?,
+        output: text_with(alloc, objects, &map, options, asked, &absent)?,
         errors: Vec::new(alloc),
-        status: status_of(&map),
+        status: status_with(&absent, status_of(&map)),
     })
 }
 
@@ -48,12 +84,13 @@ fn map_answer(
 fn map_link<O: Office>(
     alloc: Global,
     office: &mut O,
+    asked: &[Name],
     forced: &Forced,
     options: &Options,
     files: &[String],
 ) -> Result<Answer, Fault>
     ensures { ((O.history office.new ≡ O.history office.old) × (result ≡ Err Memory))
-        ⊎ IsMapping forced.now options.now (map string_bytes files.now)
+        ⊎ IsMapping asked.now forced.now options.now (map string_bytes files.now)
         (O.history office.old) (O.history office.new) result }
 {
     let mut objects = Objects::new(alloc, forced)?;
@@ -61,7 +98,7 @@ fn map_link<O: Office>(
     if said.status != 0 {
         return Ok(said);
     }
-    Ok(map_answer(alloc, &objects, forced, options)?)
+    Ok(map_answer(alloc, asked, &objects, forced, options)?)
 }
 
 /// The arguments of `ld`, which begin with its name.
@@ -78,9 +115,14 @@ fn link_words(alloc: Global, words: &[String]) -> Result<Vec<String>, AllocError
 }
 
 /// The map of the link that a call asks for, if it is one of `ld`.
-fn map_call<O: Office>(alloc: Global, office: &mut O, call: &Call) -> Result<Answer, Fault>
+fn map_call<O: Office>(
+    alloc: Global,
+    office: &mut O,
+    asked: &[Name],
+    call: &Call,
+) -> Result<Answer, Fault>
     ensures { ((O.history office.new ≡ O.history office.old) × (result ≡ Err Memory))
-        ⊎ MapsCall call.now (O.history office.old) (O.history office.new) result }
+        ⊎ MapsCall asked.now call.now (O.history office.old) (O.history office.new) result }
 {
     match call {
         Call::Ld {
@@ -88,24 +130,42 @@ fn map_call<O: Office>(alloc: Global, office: &mut O, call: &Call) -> Result<Ans
             forced,
             files,
             ..
-        } => map_link(alloc, office, forced, options, files),
+        } => map_link(alloc, office, asked, forced, options, files),
         _ => Ok(usage_answer(alloc, USAGE)?),
     }
 }
 
 /// The map of the link that the arguments of `ld` ask for.
 #[tactic(auto, using(crate::proofs::MapLemmas::by_map_call))]
+fn map_words<O: Office>(
+    alloc: Global,
+    office: &mut O,
+    asked: &[Name],
+    words: &[String],
+) -> Result<Answer, Fault>
+    ensures { IsMapCall asked.now (map string_bytes words.now)
+        (O.history office.old) (O.history office.new) result }
+{
+    match parse(alloc, link_words(alloc, words)?) {
+        Ok(call) => map_call(alloc, office, asked, &call),
+        Err(WordsFault::Usage) => Ok(usage_answer(alloc, USAGE)?),
+        Err(WordsFault::Memory) => Err(Fault::Memory),
+    }
+}
+
+/// The map of the link that the arguments of `ld` ask for, or only the names that the arguments in front of these ask for.
+#[tactic(auto, using(crate::proofs::AskedLemmas::by_asked))]
 pub(crate) fn map_files<O: Office>(
     alloc: Global,
     office: &mut O,
     words: &[String],
 ) -> Result<Answer, Fault>
-    ensures { IsMapCall (map string_bytes words.now)
+    ensures { IsCall (mapping (map string_bytes words.now))
         (O.history office.old) (O.history office.new) result }
 {
-    match parse(alloc, link_words(alloc, words)?) {
-        Ok(call) => map_call(alloc, office, &call),
-        Err(WordsFault::Usage) => Ok(usage_answer(alloc, USAGE)?),
-        Err(WordsFault::Memory) => Err(Fault::Memory),
+    let mut names = Vec::new(alloc);
+    match take_names(&mut names, words)? {
+        Some(rest) => map_words(alloc, office, &names, rest),
+        None => Ok(usage_answer(alloc, USAGE)?),
     }
 }

@@ -1,5 +1,5 @@
 -- Objects that are taken one after another.
-use Rattle.std.specs.Prelude.{◌≡◌, ◌⊎◌, ℕ, List, [], ◌∷◌, ◌++◌, Option, Some, None, Result, Ok, Err, IfOk}
+use Rattle.std.specs.Prelude.{◌≡◌, ◌⊎◌, ℕ, Bool, false, bytes_eq, codes, List, [], ◌∷◌, ◌++◌, Option, Some, None, Result, Ok, Err, IfOk}
 use Rattle.aout_core.specs.Contents.{Contents}
 use Rattle.link_maps.specs.Maps.{IsMapOf}
 use Rattle.link_maps.specs.Members.{all_of, cause_of, left_of}
@@ -16,8 +16,8 @@ use Rattle.surroundings.specs.Events.{History}
 use Rattle.surroundings.specs.declared.answer.Fault.{Fault}
 use Rattle.surroundings.specs.declared.answer.Fault.TheVariants.{Answered, Memory}
 use Rattle.tool_options.specs.Choices.{Choices}
-use Rattle.map_texts.specs.MapTexts.{map_text}
-use Rattle.v7_explain.specs.Maps.{Split, Taken, TakesAt, split, with_found}
+use Rattle.v7_explain.specs.Maps.{Split, Taken, TakesAt, answer_of, split, with_found}
+use Rattle.v7_explain.specs.Runs.{Call, map_link}
 
 abbrev pub taken_of : Objects → Answer → Taken
 taken_of objects said = record { objects = all_of objects; said = said }
@@ -59,7 +59,16 @@ status_mapped None = 1
 status_mapped (Some o) = status_made o.linked
 
 -- the map of these objects, with the status that the link has
-abbrev pub IsMapAnswer : Objects → List (List ℕ) → Choices → Answer → Type 0
-IsMapAnswer o forced choices a =
-    (m : LinkMap) × IsMapOf o forced choices m
-    × (a ≡ record { output = map_text choices o m; errors = []; status = status_mapped m.outcome })
+abbrev pub IsMapAnswer : List (List ℕ) → Objects → List (List ℕ) → Choices → Answer → Type 0
+IsMapAnswer asked o forced choices a =
+    (m : LinkMap) × IsMapOf o forced choices m × (a ≡ answer_of asked choices o m (status_mapped m.outcome))
+
+-- the first word is the option that asks for a name
+abbrev pub asks_for_name : List (List ℕ) → Bool
+asks_for_name [] = false
+asks_for_name (word ∷ words) = bytes_eq word (codes "-y")
+
+-- the names taken so far, and the words that are left; or a name is missing
+abbrev pub mapping_with : List (List ℕ) → Option (List (List ℕ)) → Option Call
+mapping_with names None = None
+mapping_with names (Some words) = Some (map_link names words)
