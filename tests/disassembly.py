@@ -4,13 +4,14 @@
 usage: disassembly.py V7_EXPLAIN
 
 Each of the 65,536 words is the first word of a line four times, each time with two other words after it: 262,144 lines. Then 400 made
-files are compared, objects and linked ones, with names, labels and relocated words, and the text of their listings. The table of
+files are compared, objects and linked ones, with names, labels, relocated words, remarks and strings, and the text of their listings. The table of
 instructions and the rules of names are written here anew. If GNU's assembler for the PDP-11 is installed, it assembles the text back to the same words, the floating
 instructions aside.
 """
 import functools
 import os
 import random
+import re
 import shutil
 import struct
 import subprocess
@@ -224,11 +225,18 @@ class File:
         word = self.words[place]
         if not self.is_relocated(place):
             return "%06o" % word
-        relocation = self.relocation[place]
-        number = (word + 2 * place + 2) & 0o177777 if relocation & 1 else word
+        relocation, number = self.relocation[place], self.number_of(place)
+        return "%06o / %s" % (word, self.meaning(relocation, number, self.referred(relocation, number)))
+
+    def number_of(self, place):
+        """What the word at a place refers to by its relocation word: an address, or a number."""
+        return (self.words[place] + (2 * place + 2 if self.relocation[place] & 1 else 0)) & 0o177777
+
+    @staticmethod
+    def meaning(relocation, number, named):
+        """What a number refers to by a relocation word, by this name if there is one."""
         of = {1: "text", 2: "data", 3: "bss"}.get(relocation >> 1 & 7, "the number")
-        referred = self.referred(relocation, number) or "%s %06o" % (of, number)
-        return "%06o / %s%s" % (word, referred, ", from the pc" if relocation & 1 else "")
+        return (named or "%s %06o" % (of, number)) + (", from the pc" if relocation & 1 else "")
 
     def is_relocated(self, place):
         return self.relocation is not None and self.relocation[place] & 0o17 != 0
@@ -270,13 +278,60 @@ class File:
             "%s = .+%o" % (name, value - address) for name, value in self.of_text if address < value < address + 2 * length
         ]
 
+    def operand_words(self, place):
+        """The places of the operand words of the line at a place, or of its arguments, each with its name in the line, if it has one."""
+        length = self.line(place)[0]
+        if self.knows_calls and self.words[place] in SYS:
+            for at in range(place + 1, place + length):
+                yield at, self.reference("sys", 2, 7, self.words[at], 0, at)
+        elif length > 1:
+            name, fields = FOUND[self.words[place]]
+            at = place + 1
+            for letter, value in fields:
+                if has_word(letter, value):
+                    yield at, self.reference(name, value >> 3, value & 7, self.words[at], 2 * at + 2, at)
+                    at += 1
+
+    def nearest(self, kind, address):
+        """The label of a segment at an address or less than 256 bytes before it."""
+        for back in range(min(256, address + 1)):
+            name = self.exact(kind, address - back)
+            if name:
+                return name + ("+" + octal(back) if back else "")
+        return None
+
+    def string(self, address):
+        """The string at an address of data, as a remark shows it."""
+        start = {0o410: -(-2 * len(self.words) // 0o20000) * 0o20000, 0o411: 0}.get(self.magic, 2 * len(self.words))
+        following = struct.pack("<%dH" % len(self.data), *self.data)[address - start :] if start <= address else b""
+        found = re.match(rb"[\t\n -~]*", following).group()
+        if len(found) <= 40 and (len(found) < 2 or following[len(found) : len(found) + 1] != b"\0"):
+            return None
+        escapes = {9: "\\t", 10: "\\n", 34: '\\"', 92: "\\\\"}
+        return '"%s"%s' % ("".join(escapes.get(byte, chr(byte)) for byte in found[:40]), ".." if len(found) > 40 else "")
+
+    def remarks(self, place):
+        """What is said after the instruction at a place: of a relocated operand word without a name, and of a string."""
+        texts = []
+        for at, named in self.operand_words(place):
+            if not self.is_relocated(at):
+                continue
+            relocation = self.relocation[at]
+            number, kind = self.number_of(at), relocation >> 1 & 7
+            if not named:
+                label = self.nearest(kind + 1, number) if 0 < kind < 4 else self.referred(relocation, number)
+                texts.append(self.meaning(relocation, number, label))
+            if kind == 2:
+                texts.append(self.string(number))
+        return "".join(" / " + text for text in texts if text)
+
     def disassembly(self):
         place, lines = 0, []
         while place < len(self.words):
             length, text = self.line(place)
             words = ["%06o" % word for word in self.words[place : place + length]]
             lines += self.labels(2 * place, length)
-            lines.append("%06o  %-20s  %s" % (2 * place, " ".join(words[:3]), text))
+            lines.append("%06o  %-20s  %s%s" % (2 * place, " ".join(words[:3]), text, self.remarks(place)))
             if length > 3:
                 lines.append("%06o  %s" % (2 * place + 6, " ".join(words[3:])))
             place += length
@@ -296,7 +351,7 @@ class File:
         if self.relocation is None:
             return ""
         relocation, word = self.relocation[place], self.words[place]
-        number, kind = (word + 2 * place + 2) & 0o177777 if relocation & 1 else word, relocation >> 1 & 7
+        number, kind = self.number_of(place), relocation >> 1 & 7
         after = ", from the pc" if relocation & 1 else ""
         if kind > 4:
             return "no kind of relocation" + after
@@ -406,10 +461,19 @@ def random_name(dice):
     return dice.choice([name, name, b"r0", b"sp", b"fr5", b"fr6", b"_main", b"7up"]).ljust(8, b"\0")
 
 
+def random_data(dice):
+    """Words of data: few, or bytes of text with a NUL here and there."""
+    if dice.randrange(2):
+        return [0] * dice.randrange(9)
+    text = b"".join(dice.choice([b"a", b"xy", b"~ ", b'"', b"\\", b"\t", b"\n", b"\0", b"\0", b"\x7f", b"z" * 37]) for _ in range(dice.randrange(40)))
+    return list(struct.unpack("<%dH" % (len(text) // 2), text[: len(text) // 2 * 2]))
+
+
 def random_file(dice):
     """A file of a few words of text, whose symbols and operands often meet."""
     magic, relocated = dice.choice([(0o407, 1), (0o407, 1), (0o407, 0), (0o410, 0), (0o411, 0), (0o405, 0)])
-    count, data, bss = dice.randrange(1, 40), [0] * dice.randrange(9), 2 * dice.randrange(9)
+    count, bss = dice.randrange(1, 40), 2 * dice.randrange(9)
+    data = random_data(dice)
     frequent = [0o016700, 0o012700, 0o004767, 0o000137, 0o000167, 0o013737, 0o017777, 0o016160, 0o000401, 0o077002, 0o172467, 0o005067, 0o067077, 0o104400, 0o104404, 0o104423, 0o104454, 0o104455]
     near = lambda: dice.choice([dice.randrange(0, 2 * count + 40), -dice.randrange(0, 2 * count + 8) & 0o177777, dice.randrange(65536)])
     words = [dice.choice([dice.choice(frequent), near(), near()]) for _ in range(count)]

@@ -5,3 +5,5 @@ pub mod LabelLemmas
 pub mod PlainLemmas
 pub mod ColumnLemmas
 pub mod SweptLemmas
+pub mod StringLemmas
+pub mod NearLemmas

@@ -8,7 +8,7 @@ use Rattle.instructions.specs.declared.unix.Decoder.{Decoder}
 use Rattle.instructions.specs.Lines.{line_length, lines, words_of}
 use Rattle.texts.specs.Numbers.{six_digits}
 use Rattle.instructions.specs.Texts.{line_text}
-use Rattle.disassemblies.specs.Lines.{line_text_in}
+use Rattle.disassemblies.specs.Remarks.{remarked_text}
 use Rattle.disassemblies.specs.Starts.{by_lines}
 use Rattle.disassemblies.specs.Labels.{labels}
 
@@ -26,7 +26,7 @@ rest_row place (w ∷ ws) = six_digits (2 * place) ++ codes "  " ++ six_digits w
 
 -- these words of the line at a place of a file's text
 abbrev pub row_of : Decoder → Contents → ℕ → List ℕ → List ℕ
-row_of d c place words = columns (2 * place) (take 3 words) ++ line_text_in d c place ++ codes "\n" ++ rest_row (place + 3) (drop 3 words)
+row_of d c place words = columns (2 * place) (take 3 words) ++ remarked_text d c place ++ codes "\n" ++ rest_row (place + 3) (drop 3 words)
 
 -- the line of so many words at a place of a file's text
 abbrev pub row : Decoder → Contents → ℕ → ℕ → List ℕ

@@ -1,6 +1,9 @@
 pub mod Naming
+pub mod Near
+pub mod Strings
 pub mod Linked
 pub mod Lines
+pub mod Remarks
 pub mod Labels
 pub mod Starts
 pub mod Columns

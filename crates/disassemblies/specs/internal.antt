@@ -2,3 +2,5 @@
 pub mod Blocks
 pub mod FirstNamed
 pub mod Swept
+pub mod Nearest
+pub mod Spots

@@ -6,11 +6,13 @@ ghost use Rattle.texts.specs.Texts.{Puts};
 ghost use Rattle.instructions.specs.Lines.{words_of};
 ghost use Rattle.disassemblies.specs.Lines.{unix_line_in};
 ghost use Rattle.disassemblies.specs.Labels.{labels};
+ghost use Rattle.disassemblies.specs.Remarks.{remarked_text};
 ghost use Rattle.disassemblies.specs.Columns.{word_column, columns, rest_row, row_of, row, labelled_row, disassembly, plain_row, plain_disassembly};
 
 use crate::label::put_labels;
 use crate::line::{put_text_of, unix_line_in};
 use crate::named::NamedFile;
+use crate::remarks::put_remarks;
 use aout_core::File;
 use instructions::{Decoder, Line, UnixLine, decode};
 use texts::Text;
@@ -102,6 +104,18 @@ struct PlacedLine<'a> {
     line: UnixLine,
 }
 
+/// Appends the text of a line, and its remarks.
+#[tactic(auto, unfolding(crate::specs::Remarks::remarked_text))]
+fn put_remarked_text(text: &mut Text, at: &PlacedLine<'_>)
+    requires within { at.now.place < length at.now.file.now.text_words }
+    requires line { at.now.line ≡ unix_line_in at.now.decoder at.now.file.now at.now.place }
+    ensures { Puts text.old text.new
+        (remarked_text at.now.decoder at.now.file.now at.now.place) }
+{
+    put_text_of(text, at.decoder, at.file, at.place, &at.line);
+    put_remarks(text, at.decoder, at.file, at.place, &at.line);
+}
+
 /// Appends these words of a line, in columns.
 fn put_row_of(text: &mut Text, at: &PlacedLine<'_>, words: &[u16])
     requires within { at.now.place < length at.now.file.now.text_words }
@@ -113,7 +127,7 @@ fn put_row_of(text: &mut Text, at: &PlacedLine<'_>, words: &[u16])
     let _text_words = at.file.file().text_words();
     let (shown, rest) = first_three(words);
     put_columns(text, (2 * at.place) as u16, shown);
-    put_text_of(text, at.decoder, at.file, at.place, &at.line);
+    put_remarked_text(text, at);
     text.put("\n");
     put_rest_row(text, at.place + 3, rest);
 }
@@ -174,8 +188,8 @@ fn put_rows(text: &mut Text, decoder: Decoder, named: &NamedFile<'_>, file: &Fil
 }
 
 /// Appends the lines of a file's text in columns: the address, two blanks, one to three words in 20 columns, two blanks, and
-/// the text of the line. A system call may have more words, which are in a row below it. Labels precede their lines, and those of the
-/// end of the text are last. (own choice)
+/// the text of the line with its remarks. A system call may have more words, which are in a row below it. Labels precede their lines, and
+/// those of the end of the text are last. (own choice)
 pub fn put_disassembly(text: &mut Text, decoder: Decoder, file: &File)
     ensures { Puts text.old text.new (disassembly decoder file.now) }
 {

@@ -34,8 +34,11 @@ mod linked;
 mod named;
 mod names;
 mod naming;
+mod near;
 mod relocated;
+mod remarks;
 mod starts;
+mod strings;
 mod sweep;
 
 pub use columns::{put_disassembly, put_plain_disassembly};

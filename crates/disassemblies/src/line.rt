@@ -1,8 +1,9 @@
 //! The lines of a file's text.
 ghost use Rattle.instructions.specs.UnixLines.{unix_length};
-ghost use Rattle.std.specs.Prelude.{◌≡◌, ◌≤◌, ◌<◌, ◌*◌, ◌+◌, length, take, drop, slice_get, option_copied};
+ghost use Rattle.std.specs.Prelude.{◌≡◌, ◌≤◌, ◌<◌, ◌*◌, ◌+◌, length, take, drop, slice_get, option_copied, IfSome};
 ghost use Rattle.texts.specs.Texts.{Puts};
 ghost use Rattle.instructions.specs.declared.unix.UnixLine.TheVariants.{Call};
+ghost use Rattle.disassemblies.specs.internal.Spots.{first_spot, second_spot};
 ghost use Rattle.disassemblies.specs.Lines.{unix_line_in, word_reference, general_reference, branch_reference, operand_reference, references, argument_reference, arguments_text, unix_text_in, line_text_in};
 
 use crate::linked::{linked_reference, located};
@@ -11,14 +12,15 @@ use crate::naming::reference_at;
 use crate::relocated::{object_reference, put_relocated};
 use aout_core::{File, Reloc, Segment};
 use instructions::{
-    Addressing, CallRow, Decoder, Line, Operand, Operation, Reference, References, UnixLine,
-    branch_back_target, branch_target, decode_by, is_relocated, put_argument,
+    Addressing, CallRow, Decoder, Instruction, Line, Operand, Operation, Reference, References,
+    UnixLine, branch_back_target, branch_target, decode_by, is_relocated, put_argument,
 };
 use texts::Text;
 
 /// The relocation word of the word at a place of the text, if the file has relocation.
-fn reloc_at(file: &File, place: usize) -> Option<Reloc>
-    ensures { result ≡ slice_get file.now.text_reloc place }
+pub(crate) fn reloc_at(file: &File, place: usize) -> Option<Reloc>
+    ensures value { result ≡ slice_get file.now.text_reloc place }
+    ensures within { IfSome result (λ r. 2 * place < 65536) }
 {
     file.text_reloc().get(place).copied()
 }
@@ -41,14 +43,36 @@ pub fn unix_line_in(decoder: Decoder, file: &File, place: usize) -> UnixLine
 
 /// Where an operand is in a text, and what its instruction does.
 #[derive(Clone, Copy)]
-struct Spot {
-    operation: Operation,
+pub(crate) struct Spot {
+    pub(crate) operation: Operation,
     /// The address of the instruction.
-    address: u16,
+    pub(crate) address: u16,
     /// The place of the operand word, if there is one.
-    place: usize,
+    pub(crate) place: usize,
     /// The address after the operand word.
-    next: u32,
+    pub(crate) next: u32,
+}
+
+/// Where the operands of an instruction at a place are.
+pub(crate) fn spots(place: usize, instruction: &Instruction) -> (Spot, Spot)
+    requires { 2 * place < 65536 }
+    ensures first { result.0 ≡ first_spot place instruction.now }
+    ensures second { result.1 ≡ second_spot place instruction.now }
+{
+    let address = (2 * place) as u16;
+    let before = instruction.words_before_second();
+    let first = Spot {
+        operation: instruction.row.operation,
+        address,
+        place: place + 1,
+        next: u32::from(address) + 4,
+    };
+    let second = Spot {
+        place: place + 1 + before,
+        next: first.next + 2 * before as u32,
+        ..first
+    };
+    (first, second)
 }
 
 /// What an operand word refers to.
@@ -90,7 +114,7 @@ fn branch_reference(file: &NamedFile<'_>, target: u16) -> Option<Reference>
 }
 
 /// What an operand refers to, if a name is known for it.
-fn operand_reference(
+pub(crate) fn operand_reference(
     file: &NamedFile<'_>,
     spot: Spot,
     operand: Option<Operand>,
@@ -124,19 +148,7 @@ fn references(file: &NamedFile<'_>, place: usize, line: &Line) -> References
             second: None,
         };
     };
-    let address = (2 * place) as u16;
-    let before = instruction.words_before_second();
-    let first = Spot {
-        operation: instruction.row.operation,
-        address,
-        place: place + 1,
-        next: u32::from(address) + 4,
-    };
-    let second = Spot {
-        place: place + 1 + before,
-        next: first.next + 2 * before as u32,
-        ..first
-    };
+    let (first, second) = spots(place, instruction);
     References {
         first: operand_reference(file, first, instruction.first, *word),
         second: operand_reference(file, second, instruction.second, *other),
@@ -144,7 +156,7 @@ fn references(file: &NamedFile<'_>, place: usize, line: &Line) -> References
 }
 
 /// What an argument of a system call refers to, if a name is known for it.
-fn argument_reference(
+pub(crate) fn argument_reference(
     file: &NamedFile<'_>,
     reloc: Option<Reloc>,
     argument: u16,

@@ -3,6 +3,7 @@ ghost use Rattle.std.specs.Prelude.{◌≡◌, ℕ, true, false, find, if◌then
 ghost use Rattle.std.specs.BTreeMap.{get};
 ghost use Rattle.disassemblies.specs.Naming.{is_at, is_external_at};
 ghost use Rattle.disassemblies.specs.internal.FirstNamed.{key_cmp, has_key, FindsFirst};
+ghost use Rattle.disassemblies.specs.internal.Nearest.{IsLastUpTo, IsNearest};
 
 use aout_core::{Segment, Symbol};
 use std::alloc::{AllocError, Global};
@@ -63,6 +64,30 @@ impl<'a> Names<'a> {
         ensures { result ≡ find (λ s. is_external_at segment value s) self.now.symbols.now }
     {
         self.externals.get(&(segment.number(), value)).copied()
+    }
+
+    /// The last segment and value of a symbol up to these.
+    fn last_up_to(&self, number: u16, value: u16) -> Option<(u16, u16)>
+        ensures { IsLastUpTo self.now.symbols.now (number, value) result }
+    {
+        match self.all.range(..=(number, value)).next_back() {
+            Some((key, _)) => Some(*key),
+            None => None,
+        }
+    }
+
+    /// The nearest value of a segment's symbols at an address or fewer than 0400 bytes before it.
+    pub(crate) fn nearest(&self, segment: Segment, address: u16) -> Option<u16>
+        ensures { IsNearest self.now.symbols.now segment address result }
+    {
+        let number = segment.number();
+        match self.last_up_to(number, address) {
+            Some((of, value))
+                if of == number && usize::from(address) < usize::from(value) + 0o400 => {
+                Some(value)
+            }
+            _ => None,
+        }
     }
 
     /// The first symbol with this segment and value.

@@ -24,7 +24,7 @@ pub(crate) fn is_at(segment: Segment, value: u16, symbol: &Symbol) -> bool
 
 /// The symbol that names an address of a segment, or an absolute number: an external one before the others, and then the
 /// first of the table.
-fn symbol_at(names: &Names<'_>, segment: Segment, value: u16) -> Option<Symbol>
+pub(crate) fn symbol_at(names: &Names<'_>, segment: Segment, value: u16) -> Option<Symbol>
     ensures { result ≡ symbol_at names.now.symbols.now segment value }
 {
     match names.external_at(segment, value) {

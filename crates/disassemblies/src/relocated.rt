@@ -10,7 +10,7 @@ use instructions::{Addressing, Reference};
 use texts::Text;
 
 /// What a number refers to by its relocation word.
-fn referred(names: &Names<'_>, reloc: Reloc, number: u16) -> Option<Reference>
+pub(crate) fn referred(names: &Names<'_>, reloc: Reloc, number: u16) -> Option<Reference>
     ensures { result ≡ referred names.now.symbols.now reloc number }
 {
     match reloc.kind()? {
@@ -80,7 +80,7 @@ fn segment_word(reloc: Reloc) -> &'static str
 }
 
 /// Appends what a number refers to, with or without a name.
-fn put_referred(text: &mut Text, reference: Option<Reference>, reloc: Reloc, number: u16)
+pub(crate) fn put_referred(text: &mut Text, reference: Option<Reference>, reloc: Reloc, number: u16)
     ensures { Puts text.old text.new (referred_text reference reloc number) }
 {
     match reference {
@@ -93,7 +93,7 @@ fn put_referred(text: &mut Text, reference: Option<Reference>, reloc: Reloc, num
 }
 
 /// Appends whether a word is relative to the pc.
-fn put_from_the_pc(text: &mut Text, reloc: Reloc)
+pub(crate) fn put_from_the_pc(text: &mut Text, reloc: Reloc)
     ensures { Puts text.old text.new (from_the_pc reloc) }
 {
     if reloc.is_pc() {
