@@ -35,11 +35,11 @@ impl Model for File {
     ghost Value = { Contents };
 
     ghost use Rattle.aout_core.specs.Parts.{contents_of};
-    ghost use Rattle.aout_core.specs.Contents.{Fits};
+    ghost use Rattle.aout_core.specs.Contents.{Fits, AreWords};
 
     ghost view = { λ a. contents_of a.parts };
 
-    ghost invariant = { λ a. Fits (contents_of a.parts) };
+    ghost invariant = { λ a. Fits (contents_of a.parts) × AreWords a.parts.header };
 }
 
 /// Whether a file may begin with this word: 0405, 0407, 0410 or 0411. (a.out(5))
@@ -105,7 +105,6 @@ impl Parts {
     }
 }
 
-// Some functions read a size only for the prover, which then knows that it is a word: the clauses `short` rest on it.
 impl File {
     ghost use Rattle.std.specs.Prelude.{◌≡◌, ◌*◌, ◌^◌, ◌<◌, length};
     ghost use Rattle.aout_core.specs.Parts.{contents_of};
@@ -132,7 +131,6 @@ impl File {
         ensures value { result.now ≡ self.now.text_words }
         ensures short { 2 * length result.now < 2 ^ 16 }
     {
-        let _size = self.parts.header.text_size;
         &self.parts.text_words
     }
 
@@ -141,7 +139,6 @@ impl File {
         ensures value { result.now ≡ self.now.data_words }
         ensures short { 2 * length result.now < 2 ^ 16 }
     {
-        let _size = self.parts.header.data_size;
         &self.parts.data_words
     }
 
@@ -150,7 +147,6 @@ impl File {
         ensures value { result.now ≡ self.now.text_reloc }
         ensures short { 2 * length result.now < 2 ^ 16 }
     {
-        let _size = self.parts.header.text_size;
         &self.parts.text_reloc
     }
 
@@ -159,7 +155,6 @@ impl File {
         ensures value { result.now ≡ self.now.data_reloc }
         ensures short { 2 * length result.now < 2 ^ 16 }
     {
-        let _size = self.parts.header.data_size;
         &self.parts.data_reloc
     }
 
@@ -168,7 +163,6 @@ impl File {
         ensures value { result.now ≡ self.now.symbols }
         ensures short { 12 * length result.now < 2 ^ 16 }
     {
-        let _size = self.parts.header.symbol_size;
         &self.parts.symbols
     }
 

@@ -1,5 +1,6 @@
 //! Laws of the format, over its definitions alone: each is the contract of a function with an empty body, but for
 //! `sound_law`, whose body looks at each part of a file.
+ghost use Rattle.std.specs.Prelude.{◌<◌};
 ghost use Rattle.std.specs.List.{AllByRecursion};
 ghost use Rattle.aout_core.specs.Words.{AreBytes};
 ghost use Rattle.aout_core.specs.Contents.{IsWord, AreWords, IsSymbol, IsSound};
@@ -24,12 +25,21 @@ pub fn reading_law()
     ensures read { EncodedIsRead }
 {}
 
-// The functions below read each number only for the prover, which then knows that it has 16 bits, or 8: that is all they show.
+// The prover knows of a number that is passed by value that it has 16 bits, or 8. The functions below pass each one on,
+// and show no more than that.
+fn is_word(_word: u16)
+    ensures { IsWord _word }
+{}
+
+fn is_byte(_byte: u8)
+    ensures { _byte < 256 }
+{}
+
 fn are_words(words: &[u16])
     ensures { AllByRecursion IsWord words.now }
 {
     for word in words {
-        let _word = *word;
+        is_word(*word);
     }
 }
 
@@ -37,13 +47,9 @@ fn are_bytes(bytes: &[u8])
     ensures { AreBytes bytes.now }
 {
     for byte in bytes {
-        let _byte = *byte;
+        is_byte(*byte);
     }
 }
-
-fn is_word(_word: u16)
-    ensures { IsWord _word }
-{}
 
 fn is_symbol(symbol: &Symbol)
     ensures { IsSymbol symbol.now }
@@ -73,14 +79,14 @@ fn are_symbols(symbols: &[Symbol])
 fn is_header(header: &Header)
     ensures { AreWords header.now }
 {
-    let _magic = header.magic;
-    let _text_size = header.text_size;
-    let _data_size = header.data_size;
-    let _bss_size = header.bss_size;
-    let _symbol_size = header.symbol_size;
-    let _entry_point = header.entry_point;
-    let _unused = header.unused;
-    let _flag = header.flag;
+    is_word(header.magic);
+    is_word(header.text_size);
+    is_word(header.data_size);
+    is_word(header.bss_size);
+    is_word(header.symbol_size);
+    is_word(header.entry_point);
+    is_word(header.unused);
+    is_word(header.flag);
 }
 
 /// Each file is one that the laws are about: its words have 16 bits, and its names are at most eight bytes and no NUL.

@@ -74,9 +74,8 @@ pub(crate) fn locals_within(plan: &Plan<'_>) -> Option<u16>
     ensures many { IsNone result ↔ IsTrue (nat_lt 5461 (length (table_in plan.now))) }
     ensures count { IfSome result (λ n. n ≡ length (locals_in plan.now)) }
 {
-    let keep = plan.options.keep();
-    if keep == Keep::Nothing {
+    if plan.keep == Keep::Nothing {
         return Some(0);
     }
-    count_locals(plan.session.entries(), keep, plan.session.external_count())
+    count_locals(plan.entries, plan.keep, plan.session.external_count())
 }

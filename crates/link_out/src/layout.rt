@@ -1,8 +1,6 @@
 //! Where the segments of a link lie.
 ghost use Rattle.std.specs.Prelude.{◌≡◌, ◌≤◌, ◌*◌};
-ghost use Rattle.std.specs.List.{AllByRecursion};
 ghost use Rattle.link_session.specs.Labelled.{objects};
-ghost use Rattle.link_session.specs.Sessions.{IsObject};
 ghost use Rattle.link_session.specs.Starts.{total};
 ghost use Rattle.link_session.specs.Undo.{image_of};
 ghost use Rattle.aout_core.specs.declared.symbol.Segment.TheVariants.{TextSeg, DataSeg};
@@ -108,7 +106,6 @@ pub(crate) fn commons_laid(session: &Session, options: &Options) -> u64
 
 /// The bytes of the merged text.
 pub(crate) fn text_size(session: &Session) -> u16
-    requires { AllByRecursion IsObject (objects session.now.entries) }
     ensures { result ≡ total TextSeg (objects session.now.entries) }
 {
     let cells = session.text_cells();
@@ -117,7 +114,6 @@ pub(crate) fn text_size(session: &Session) -> u16
 
 /// The bytes of the merged data.
 pub(crate) fn data_size(session: &Session) -> u16
-    requires { AllByRecursion IsObject (objects session.now.entries) }
     ensures { result ≡ total DataSeg (objects session.now.entries) }
 {
     let cells = session.data_cells();
@@ -130,8 +126,6 @@ pub fn link_bases(session: &Session, options: &Options) -> Bases
     ensures value { result ≡ (plan_of session.now options.now).at }
     ensures text { result.text_end ≤ 65535 }
 {
-    // for its contract: what the session keeps are objects, and it is within its limits
-    let _objects = session.entries();
     segment_bases(
         options.layout(),
         text_size(session),

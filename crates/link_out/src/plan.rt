@@ -11,15 +11,21 @@ ghost use Rattle.link_out.specs.internal.OneProof.{objects-prop};
 
 use crate::layout::{Bases, link_bases};
 use aout_core::Header;
-use link_session::Session;
-use tool_options::{Layout, Options};
+use link_session::{Entry, Session};
+use tool_options::{Keep, Layout, Options};
 
 /// What is linked, by which options, and where each segment begins. Each pass of a link reads it.
 #[derive(Drop)]
 pub(crate) struct Plan<'a> {
     pub(crate) session: &'a Session,
+    /// What the session keeps.
+    pub(crate) entries: &'a [Entry],
     pub(crate) options: &'a Options,
+    /// Which symbols the options keep.
+    pub(crate) keep: Keep,
     pub(crate) bases: Bases,
+    ghost entries_of: { entries.now ≡ session.now.entries },
+    ghost keep_of: { keep ≡ options.now.keep },
     ghost at: { bases ≡ (plan_of session.now options.now).at },
     ghost text: { bases.text_end ≤ 65535 },
     ghost order: { (bases.data_start ≤ bases.data_end) × (bases.data_end ≤ bases.bss_end) },
@@ -45,12 +51,11 @@ impl<'a> Plan<'a> {
         ensures options { result.options.now ≡ options.now }
         ensures at { result.bases ≡ (plan_of session.now options.now).at }
     {
-        // for their contracts: what the session keeps are objects, and the options are allowed
-        let _objects = session.entries();
-        let _keep = options.keep();
         Plan {
             session,
+            entries: session.entries(),
             options,
+            keep: options.keep(),
             bases: link_bases(session, options),
         }
     }

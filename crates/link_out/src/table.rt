@@ -146,11 +146,10 @@ pub(crate) fn table(
     requires { finals.now ≡ from_cells.finals (plan_in plan.now) }
     ensures { IfOk result (λ rows. rows.items ≡ table_in plan.now) }
 {
-    let keep = plan.options.keep();
-    if keep == Keep::Nothing {
+    if plan.keep == Keep::Nothing {
         return Ok(Vec::new(alloc));
     }
-    let mut rows = kept_locals(alloc, plan.session.entries(), keep, &plan.bases)?;
+    let mut rows = kept_locals(alloc, plan.entries, plan.keep, &plan.bases)?;
     put_externals(&mut rows, plan.session, finals)?;
     Ok(rows)
 }

@@ -113,7 +113,7 @@ pub(crate) fn mention(externals: &mut Externals, name: Name, says: State)
         ≡ with_mention externals.old.entries (mention_of name says) }
     ensures left { spare externals.old ≤ spare externals.new + 1 }
 {
-    let _place = update(externals, name, says);
+    update(externals, name, says);
 }
 
 /// The place of a known name, if no more is said than that it is wanted: that changes nothing.

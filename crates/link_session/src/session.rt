@@ -4,10 +4,12 @@ ghost use Rattle.std.specs.List.{AllByRecursion};
 ghost use Rattle.std.specs.Map.{keys_of};
 ghost use Rattle.indexmap.specs.IndexMap.{spare};
 ghost use Rattle.tool_options.specs.ForcedNames.{AreDifferent};
+ghost use Rattle.aout_core.specs.declared.symbol.Segment.TheVariants.{TextSeg, DataSeg};
 ghost use Rattle.link_session.specs.Image.{GivesInOrder};
 ghost use Rattle.link_session.specs.Labelled.{objects};
 ghost use Rattle.link_session.specs.Mentions.{externals, forced_mention};
 ghost use Rattle.link_session.specs.Limits.{limit_passed, refusal};
+ghost use Rattle.link_session.specs.Starts.{total};
 ghost use Rattle.link_session.specs.Undo.{image_of, IsJournal};
 ghost use Rattle.link_session.specs.internal.Additions.{with_mentions};
 ghost use Rattle.link_session.specs.Sessions.{nothing_kept, labelled, newest, Adds, Withdraws, IsCause, IsObject};
@@ -221,6 +223,7 @@ impl Session {
     pub fn text_cells(&self) -> &[Cell]
         ensures value { result.now ≡ (image_of self.now).text_cells }
         ensures short { 2 * length result.now ≤ 65534 }
+        ensures total { 2 * length result.now ≡ total TextSeg (objects self.now.entries) }
     {
         &self.image.text_cells
     }
@@ -229,6 +232,7 @@ impl Session {
     pub fn data_cells(&self) -> &[Cell]
         ensures value { result.now ≡ (image_of self.now).data_cells }
         ensures short { 2 * length result.now ≤ 65534 }
+        ensures total { 2 * length result.now ≡ total DataSeg (objects self.now.entries) }
     {
         &self.image.data_cells
     }

@@ -8,21 +8,21 @@ use Rattle.link_out.proofs.kept_symbols.locals_within.Goals as goal
 
 pub returns-then-eq-clause-count : goal.returns-then-eq-clause-count
 returns-then-eq-clause-count c =
-    let nothing : c.keep-keep.result ≡ keeps.Nothing = search rules in
-    none_counted (plan_in c.args.plan.now) (objects_in c.args.plan.now) c.keep-keep.result (sym c.keep-keep.ensures.value) nothing
+    let nothing : c.args.plan.now.keep ≡ keeps.Nothing = search rules in
+    none_counted (plan_in c.args.plan.now) (objects_in c.args.plan.now) c.args.plan.now.keep (sym c.args.plan.now.keep_of) nothing
 
 pub returns-clause-many : goal.returns-clause-many
 returns-clause-many c =
     let p = plan_in c.args.plan.now in
-    let others : c.keep-keep.result ≡ keeps.Nothing → ⊥ = search rules in
+    let others : c.args.plan.now.keep ≡ keeps.Nothing → ⊥ = search rules in
     let h = c.count_locals.ensures.many in
-    many_rows p (objects_in c.args.plan.now) c.keep-keep.result c.external_count.result c.count_locals.result
-    (sym c.keep-keep.ensures.value) others
+    many_rows p (objects_in c.args.plan.now) c.args.plan.now.keep c.external_count.result c.count_locals.result
+    (sym c.args.plan.now.keep_of) others
     (c.external_count.ensures ∙ length-map (names_by_first_mention p.mentions) _)
-    (rw c.entries.ensures.value at h)
+    (rw c.args.plan.now.entries_of at h)
 
 pub returns-clause-count : goal.returns-clause-count
 returns-clause-count c =
     let h = c.count_locals.ensures.count in
-    locals_counted (plan_in c.args.plan.now) (objects_in c.args.plan.now) c.keep-keep.result c.count_locals.result
-    (sym c.keep-keep.ensures.value) (rw c.entries.ensures.value at h)
+    locals_counted (plan_in c.args.plan.now) (objects_in c.args.plan.now) c.args.plan.now.keep c.count_locals.result
+    (sym c.args.plan.now.keep_of) (rw c.args.plan.now.entries_of at h)

@@ -17,12 +17,12 @@ returns c =
     let os = objects_in p in
     let names = (image_of p.session.now).externals in
     let rows = c.in_ok-rows.rows.items in
-    let others : c.keep-keep.result ≡ keeps.Nothing → ⊥ = search rules in
+    let others : p.keep ≡ keeps.Nothing → ⊥ = search rules in
     let locals : rows ≡ local_rows (plan_in p) os =
     c.in_ok-rows.ensures
-    ∙ (λ i. rows_from (p.at i) (c.keep-keep.ensures.value i) no_starts (objects (c.entries.ensures.value i)))
+    ∙ (λ i. rows_from (p.at i) (p.keep_of i) no_starts (objects (p.entries_of i)))
     ∙ rows_from-local_rows (plan_in p) os in
     let externals : rows_with names c.args.finals.now ≡ external_rows (plan_in p) =
     ap (λ (l : List Final). rows_with names l) c.requires ∙ rows_planned (plan_in p) in
-    table_whole (plan_in p) os c.keep-keep.result rows c.put_externals.new.rows.items (sym c.keep-keep.ensures.value)
+    table_whole (plan_in p) os p.keep rows c.put_externals.new.rows.items (sym p.keep_of)
     others locals (c.in_ok-put_externals.ensures ∙ ap (λ (l : List Symbol). rows ++ l) externals)

@@ -1,6 +1,12 @@
-use Rattle.std.proofs.Common.{arith}
+use Rattle.std.proofs.Common.{◌*◌, ◌∙◌, length, ap, arith, rules}
+use Rattle.aout_core.specs.declared.symbol.Segment.TheVariants.{TextSeg}
+use Rattle.link_session.specs.Labelled.{objects}
+use Rattle.link_session.specs.Mentions.{mentions}
+use Rattle.link_session.specs.Starts.{total}
+use Rattle.link_session.specs.Undo.{Kept}
 use Rattle.link_session.specs.internal.Fields.{image_in, threads_in, IsSmall}
 use Rattle.link_session.proofs.SessionLemmas.{small}
+use Rattle.link_session.proofs.TotalLemmas.{text_total}
 use Rattle.link_session.proofs.session.Session.text_cells.Goals as goal
 
 pub returns-clause-short : goal.returns-clause-short
@@ -8,3 +14,10 @@ returns-clause-short c =
     let s : IsSmall (image_in c.self.inside.image) = small c.self.inside.forced c.self.inside.entries.items
     c.self.inside.undo_records.items (image_in c.self.inside.image) (threads_in c.self.inside.image) c.self.invariant in
     omega (arith, c.deref.ensures.len)
+
+pub returns-clause-total : goal.returns-clause-total
+returns-clause-total c =
+    let os = objects c.self.inside.entries.items in
+    ap (λ cells. 2 * length cells) (search rules)
+    ∙ text_total (mentions c.self.inside.forced os) os c.self.invariant.good
+    ∙ ap (λ (k : Kept). total TextSeg (objects k.entries)) c.self.view_is
