@@ -21,6 +21,7 @@ pub record Passed (bytes : List ℕ) (c : Contents) : Type 0 where
   pub sizes : has_whole_sizes (header_in bytes) ≡ true
   pub long : file_length (header_in bytes) ≤ length bytes
 
+-- what is read has passed each test of the reader
 pub decoded_passed : (bytes : List ℕ) (c : Contents) → decode bytes ≡ Ok c → Passed bytes c
 decoded_passed bytes c h =
     by_tests (nat_lt (length bytes) 16) (is_magic (header_in bytes).magic) refl (has_whole_sizes (header_in bytes)) refl
@@ -65,6 +66,7 @@ relocs_fit from size bytes h e =
     length-map (words_in (part from size bytes)) (λ w. let r : Reloc = record { 0 = w } in r) in
     omega (arith, words_fit from size bytes h e)
 
+-- relocation is of whole words
 pub with_relocation-even : (h : Header) (n : ℕ) → n % 2 ≡ 0 → with_relocation h n % 2 ≡ 0
 with_relocation-even h n e = by_flag (eqb h.flag 0)
   where
@@ -96,6 +98,7 @@ contents_in_fits h bytes magic sizes long =
       table = omega (arith, length-symbols_in (h.symbol_size / 12) (drop (symbols_at h) bytes));
     }
 
+-- what is read is a file
 pub decoded_fits : (bytes : List ℕ) (c : Contents) → decode bytes ≡ Ok c → Fits c
 decoded_fits bytes c h =
     let p = decoded_passed bytes c h in

@@ -14,6 +14,7 @@ use Rattle.aout_core.specs.Contents.{Contents, with_relocation, IsSymbol, IsSoun
 use Rattle.aout_core.specs.Encoding.{header_encoding, reloc_encoding, symbol_encoding, file_length, encoding}
 use Rattle.aout_core.specs.Decoding.{part, header_in, relocs_in, symbol_in, symbols_in, contents_in, decode_with, decode}
 
+-- the two bytes of a word give the word
 pub word_back : (w : ℕ) → w % 256 + 256 * (w / 256) ≡ w
 word_back w = omega arith
 
@@ -21,6 +22,7 @@ pub words_in-all_word_bytes : (ws : List ℕ) → words_in (all_word_bytes ws) �
 words_in-all_word_bytes [] = refl
 words_in-all_word_bytes (w ∷ ws) = rw (word_back w, words_in-all_word_bytes ws) refl
 
+-- these count the bytes of a part of a file: two for a word
 pub length-all_word_bytes : (ws : List ℕ) → length (all_word_bytes ws) ≡ 2 * length ws
 length-all_word_bytes [] = refl
 length-all_word_bytes (w ∷ ws) = omega (arith, length-all_word_bytes ws)
@@ -29,10 +31,12 @@ pub relocs_in-reloc_encoding : (rs : List Reloc) → relocs_in (reloc_encoding r
 relocs_in-reloc_encoding [] = refl
 relocs_in-reloc_encoding (r ∷ rs) = rw (word_back r.0) (ap (λ (xs : List Reloc). r ∷ xs) (relocs_in-reloc_encoding rs))
 
+-- two for a relocation word
 pub length-reloc_encoding : (rs : List Reloc) → length (reloc_encoding rs) ≡ 2 * length rs
 length-reloc_encoding [] = refl
 length-reloc_encoding (r ∷ rs) = omega (arith, length-reloc_encoding rs)
 
+-- 16 for a header
 pub length-header_encoding : (h : Header) → length (header_encoding h) ≡ 16
 length-header_encoding h = refl
 
@@ -55,6 +59,7 @@ before_nul-zeros zero m = refl
 before_nul-zeros (suc n) zero = refl
 before_nul-zeros (suc n) (suc m) = refl
 
+-- a name without a NUL does not begin with one, and its rest has none
 pub nul_free_head : (b : ℕ) (bs : List ℕ) (t : Bool) → cond t [] (b ∷ before_nul bs) ≡ b ∷ bs → (t ≡ false) × (before_nul bs ≡ bs)
 nul_free_head b bs true e = absurd (cc)
 nul_free_head b bs false e = (refl, cc)
@@ -68,9 +73,11 @@ before_nul-padded (suc n) m (b ∷ bs) short no_nul =
     let short' : length bs ≤ n = omega arith in
     rw (free.0, before_nul-padded n m bs short' free.1) refl
 
+-- eight for a name
 pub length-padded : (name : List ℕ) → length (padded name) ≡ 8
 length-padded name = omega (arith, length-take 8 (name ++ replicate 8 0), length-append name (replicate 8 0))
 
+-- 12 for a symbol
 pub length-symbol_encoding : (s : Symbol) → length (symbol_encoding s) ≡ 12
 length-symbol_encoding s = omega (arith, length-padded s.name, length-append (padded s.name) (word_bytes s.type_bits ++ word_bytes s.value))
 
@@ -99,6 +106,7 @@ symbols_back (s ∷ ss) rest h =
     subst (λ (bytes : List ℕ). symbol_in (take 12 bytes) ∷ symbols_in (length ss) (drop 12 bytes) ≡ s ∷ ss) (sym split)
     (rw (head, tail, symbol_back s h.0.name, symbols_back ss rest h.1) refl)
 
+-- and so many for a table
 pub length-symbols_encoding : (ss : List Symbol) → length (flat_map symbol_encoding ss) ≡ 12 * length ss
 length-symbols_encoding [] = refl
 length-symbols_encoding (s ∷ ss) =

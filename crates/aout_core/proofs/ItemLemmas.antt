@@ -133,6 +133,7 @@ pub record IsPutBut {A : Type 0} (encoding : A → List ℕ) (old new : Option (
   pub sent : AppendsBut old new waiting done
   pub split : all ≡ done ++ flat_map encoding rest
 
+-- a turn of the loop passes a few more items on
 pub few_put : {A : Type 0} (encoding : A → List ℕ) (a b d : Option (List ℕ)) (waiting left all : List ℕ)
     (rest few after : List A) → rest ≡ few ++ after →
     IsPutBut encoding a b waiting all rest → AppendsBut b d left (waiting ++ flat_map encoding few) → IsPutBut encoding a d left all after
@@ -143,6 +144,7 @@ few_put encoding a b d waiting left all rest few after split put more =
       split = parts_encoded encoding rest few after put.done all split put.split;
     }
 
+-- and if that fails, the device took a front of all
 pub few_broke : {A : Type 0} (encoding : A → List ℕ) (a b d : Option (List ℕ)) (waiting all : List ℕ)
     (rest few after : List A) → rest ≡ few ++ after →
     IsPutBut encoding a b waiting all rest → AppendsPrefix b d (waiting ++ flat_map encoding few) → AppendsPrefix a d all

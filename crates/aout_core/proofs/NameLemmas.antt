@@ -15,10 +15,12 @@ length-chosen : (c : Bool) (b : ℕ) (xs : List ℕ) → length (if c then [] el
 length-chosen true b xs = refl
 length-chosen false b xs = omega arith
 
+-- the place that the code searches is the length of the name
 pub position_or_len-nul : (xs : List ℕ) → position_or_len (λ b. b == 0) xs ≡ length (before_nul xs)
 position_or_len-nul xs =
     sym (is_position_or_len (λ l. length (before_nul l)) (λ b. b == 0) refl (λ b l. length-chosen (b == 0) b (before_nul l)) xs)
 
+-- cut there, the bytes are the name
 pub take-before_nul : (xs : List ℕ) → take (length (before_nul xs)) xs ≡ before_nul xs
 take-before_nul [] = refl
 take-before_nul (b ∷ xs) = by (b == 0) (take-before_nul xs)
@@ -28,6 +30,7 @@ take-before_nul (b ∷ xs) = by (b == 0) (take-before_nul xs)
     by true h = refl
     by false h = ap (λ l. b ∷ l) h
 
+-- a name is no longer than its bytes
 pub length-before_nul-le : (xs : List ℕ) → length (before_nul xs) ≤ length xs
 length-before_nul-le xs = omega (arith, ap length (take-before_nul xs), position_or_len-nul xs, prefix_len-le-length {X = ℕ})
 
@@ -47,6 +50,7 @@ before_nul-filled (b ∷ xs) (suc n) m = by (b == 0) (before_nul-filled xs n m)
     by true h = refl
     by false h = ap (λ l. b ∷ l) h
 
+-- a name has no NUL
 pub before_nul-twice : (xs : List ℕ) → before_nul (before_nul xs) ≡ before_nul xs
 before_nul-twice [] = refl
 before_nul-twice (b ∷ xs) = by (b == 0) refl (before_nul-twice xs)
@@ -66,6 +70,7 @@ nul_found xs n e = by (nat_lt (position_or_len (λ b. b == 0) xs) (length xs)) e
     by true h = let same : n ≡ position_or_len (λ b. b == 0) xs = cc in same ∙ position_or_len-nul xs
     by false h = cc
 
+-- without a NUL the name is all bytes
 pub nul_missing : (xs : List ℕ) → None ≡ position (λ b. b == 0) xs → length xs ≡ length (before_nul xs)
 nul_missing xs e = by (nat_lt (position_or_len (λ b. b == 0) xs) (length xs)) refl e
   where

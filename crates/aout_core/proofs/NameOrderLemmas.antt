@@ -126,6 +126,7 @@ filled_cmp (x ∷ xs) [] m (suc n) p q long =
 filled_cmp (x ∷ xs) (y ∷ ys) m n p q long =
     ap (ordering_then (nat_cmp x y)) (filled_cmp xs ys m n (no_nul x xs p).1 (no_nul y ys q).1 (omega arith))
 
+-- the order of two names as numbers is that of their bytes, one after the other
 pub names_ordered : (a b : List ℕ) → length a ≡ 8 → length b ≡ 8 → ((i : ℕ) → get_or a i 0 < 256) → ((i : ℕ) → get_or b i 0 < 256)
     → padded (before_nul a) ≡ a → padded (before_nul b) ≡ b →
     nat_cmp (from_be_bytes w64 a) (from_be_bytes w64 b) ≡ slice_cmp nat_cmp (before_nul a) (before_nul b)

@@ -141,6 +141,7 @@ pub refused_if_known : (e : ReadFault) (old left : Option (List ℕ)) → IsHead
 refused_if_known e None left r = tt
 refused_if_known e (Some bytes) left r = refused_header e bytes left r
 
+-- a header and a body that were read in turn are the file that the definition reads
 pub read_if_known : (r : Result Contents ReadFault) (old mid left : Option (List ℕ)) (h : Header) → TakesHeader old mid h →
     IsFileHeader h → IsBodyRead h mid left r → IfSome old (λ bytes. IsReadOf r bytes × LeavesAfter r bytes left)
 read_if_known r None mid left h t good body = tt

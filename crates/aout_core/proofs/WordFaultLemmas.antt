@@ -34,11 +34,13 @@ fault_of_words : (c : Contents) → c.header.magic ≡ 263 → c.header.flag ≡
 fault_of_words c magic flag =
     rw (magic, flag) (first_bad_word-append c.symbols 0 (length c.text_reloc) c.text_reloc c.data_reloc (omega arith))
 
+-- the first bad word of an object is in text, if one is there
 pub fault_in_text : (c : Contents) (fault : ObjectFault) → c.header.magic ≡ 263 → c.header.flag ≡ 0 →
     first_bad_word c.symbols 0 c.text_reloc ≡ Some fault → first_object_fault c ≡ Some fault
 fault_in_text c fault magic flag e =
     fault_of_words c magic flag ∙ ap (λ first. first_of first (first_bad_word c.symbols (length c.text_reloc) c.data_reloc)) e
 
+-- and else it is that of data, which is counted after text
 pub fault_in_data : (c : Contents) → c.header.magic ≡ 263 → c.header.flag ≡ 0 →
     first_bad_word c.symbols 0 c.text_reloc ≡ None → first_object_fault c ≡ first_bad_word c.symbols (length c.text_reloc) c.data_reloc
 fault_in_data c magic flag e =

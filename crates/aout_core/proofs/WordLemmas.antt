@@ -26,6 +26,7 @@ is_read-words (a ∷ (b ∷ rest)) (d ∷ ds) long read =
     omega arith in read (suc k) (omega arith) ∙ ap (λ n. little_number 2 (drop n (a ∷ (b ∷ rest)))) e in
     λ i. first i ∷ is_read-words rest ds (omega arith) later i
 
+-- the bytes that `byteorder` writes are those of the definition
 pub little_bytes-words : (ws : List ℕ) → ((i : ℕ) → Fits w16 (slice_index ws i)) → flat_map (little_bytes 2) ws ≡ all_word_bytes ws
 little_bytes-words [] fits = refl
 little_bytes-words (w ∷ ws) fits =

@@ -7,6 +7,7 @@ use Rattle.std.proofs.lemmas.List.Concat.{flat_map-append}
 use Rattle.link_out.specs.function.Reports.{ReportNames, line, entry_lines, undefined_lines, report_text, status_of}
 use Rattle.link_out.specs.internal.ReportParts.{is_silent, multiple_lines}
 
+-- the status of a report, by whether it has no text
 abbrev pub status : Bool → ℕ
 status b = cond b 0 1
 

@@ -139,6 +139,7 @@ next_shifts-after forced os o h = λ i. record {
   bss = shift os o segments.BssSeg;
 }
 
+-- the mentions that the code makes by the sizes of the image are those of the definition
 pub next_mentions-in : (forced : List (List ℕ)) (os : List Contents) (o : Contents) → AllByRecursion IsObject os →
     next_mentions (image forced os) o ≡ mentions_in os o
 next_mentions-in forced os o h = ap (λ (s : Shifts). mentions_by s o.symbols) (next_shifts-after forced os o h) ∙ each (externals_in o)
@@ -155,6 +156,7 @@ next_mentions-in forced os o h = ap (λ (s : Shifts). mentions_by s o.symbols) (
     each [] = refl
     each (s ∷ ss) = λ i. record { name = s.name; says = says (segment_of s) s.value i } ∷ each ss i
 
+-- the names after an addition are those of the longer list of objects
 pub next_named-states : (forced : List (List ℕ)) (os : List Contents) (o : Contents) → AllByRecursion IsObject os →
     next_named (image forced os) o ≡ named_states (mentions forced os ++ mentions_in os o)
 next_named-states forced os o h =
@@ -196,6 +198,7 @@ own_cells-are : (ms : List Mention) (os : List Contents) (o : Contents) (segment
 own_cells-are ms os o segment [] = refl
 own_cells-are ms os o segment (wr ∷ words) = λ i. own_cell-is ms os o segment wr.0 wr.1 i ∷ own_cells-are ms os o segment words i
 
+-- many lemmas need only this of what a session keeps
 pub well_formed : (os : List Contents) → AllByRecursion IsObject os → AllByRecursion IsWellFormed os
 well_formed os h = all_map IsObject IsWellFormed (λ o k. k.well) os h
 

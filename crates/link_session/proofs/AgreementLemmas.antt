@@ -96,6 +96,7 @@ none_defines (m ∷ ms) name h = by_test (bytes_eq name m.name) refl (definition
     by_test true te None de h rest = ((λ k. de), rest h)
     by_test true te (Some d) de h rest = absurd (cc)
 
+-- a mention that only wants a name never makes it multiply defined
 pub no_definition : (first : Option Definition) (s : State) → definition_by s ≡ None → differs first s ≡ false
 no_definition first (Wanted size) h = refl
 no_definition first (Defined segment offset) h = absurd (cc)
@@ -112,6 +113,7 @@ pub none_kept : (all ms : List Mention) → AllByRecursion (AgreesIn all) ms →
 none_kept all [] h = refl
 none_kept all (m ∷ ms) h = rw h.0 (none_kept all ms h.1)
 
+-- if each mention agrees with the first definition of its name, no name is multiply defined
 pub no_multiples : (all ms : List Mention) → AllByRecursion (AgreesIn all) ms →
     map (λ m. m.name) (filter (λ m. differs (first_definition all m.name) m.says) ms) ≡ []
 no_multiples all ms h = ap (λ (ks : List Mention). map (λ m. m.name) ks) (none_kept all ms h)

@@ -99,6 +99,7 @@ mentions_back m kept es (k ∷ ms) h =
 
 -- Where the marks lie.
 
+-- the marks of mentions may be put back: each is of a name that the image had
 pub states_inside : (m : Image) (es : Named) (ms : List Mention) → AllByRecursion (IsInside m) (state_marks (length m.externals) es ms)
 states_inside m es [] = tt
 states_inside m es (k ∷ ms) =
@@ -114,6 +115,7 @@ states_inside m es (k ∷ ms) =
 
 -- How many marks there are.
 
+-- an addition needs room for one mark of each mention, and no more
 pub states_few : (kept : ℕ) (es : Named) (ms : List Mention) → length (state_marks kept es ms) ≤ length ms
 states_few kept es [] = omega arith
 states_few kept es (k ∷ ms) =

@@ -43,6 +43,7 @@ capacity_then old mid new p q = record {
 pub rest_same : (m : Merged) → KeepsRest m m
 rest_same m = record { image = refl; threads = refl; capacity = capacity_same m }
 
+-- what two steps of binding leave alone, both together leave alone
 pub rest_then : (old mid new : Merged) → KeepsRest old mid → KeepsRest mid new → KeepsRest old new
 rest_then old mid new p q = record {
   image = q.image ∙ ap (with_cells new.text_cells.items new.data_cells.items) p.image;
@@ -60,14 +61,17 @@ module _ (old mid : Merged) (h : HoldsChains old) (same : threads_in mid ≡ thr
   links : (of : Threads → List Link) → of (threads_in new) ≡ of (with_heads new.heads.items (threads_in old))
   links of = ap of r ∙ ap (λ (t : Threads). of (with_heads new.heads.items t)) same
 
+  -- binding changes no length: neither that of text
   pub texts_bound : length new.text_cells.items ≡ length old.text_cells.items
   texts_bound = sym g.text ∙ ap (λ (l : List Link). length l) (links (λ t. t.text_links)) ∙ h.text
 
+  -- nor that of data
   pub datas_bound : length new.data_cells.items ≡ length old.data_cells.items
   datas_bound = sym g.data ∙ ap (λ (l : List Link). length l) (links (λ t. t.data_links)) ∙ h.data
 
 -- A chain, cell by cell.
 
+-- before the loop over a chain nothing is bound
 pub chain_begun : (to : Definition) (head : Link) (m : Merged) (marks : List Mark) → IsChainIn m head →
     BindsTo to head head m m marks marks
 chain_begun to head m marks ends = record {
@@ -91,6 +95,7 @@ module _ (to : Definition) (head next : Link) (old mid : Merged) (marks mid_mark
   abbrev datas : List Cell
   datas = old.data_cells.items
 
+  -- the loop may read and write the cell at the next place: it is in the image
   pub chain_inside : IsPlaceIn mid p
   chain_inside =
       next_inside ts ds head to.segment to.offset texts datas marks next mid.text_cells.items mid.data_cells.items mid_marks
@@ -104,6 +109,7 @@ module _ (to : Definition) (head next : Link) (old mid : Merged) (marks mid_mark
     at : link ≡ link_at ts ds p
     at = goes_on ∙ link_same old new after p
 
+    -- a turn of the loop binds one more cell of the chain, and marks it
     pub chain_step : BindsTo to head link old new marks new_marks
     chain_step = record {
       bound =
@@ -115,6 +121,7 @@ module _ (to : Definition) (head next : Link) (old mid : Merged) (marks mid_mark
       rest = after;
     }
 
+    -- the loop ends, since each turn leaves a shorter chain
     pub chain_shorter : length (walk (length texts + length datas) ts ds link) < length (walk (length texts + length datas) ts ds next)
     chain_shorter =
         subst (λ (l : Link). length (walk (length texts + length datas) ts ds l) < length (walk (length texts + length datas) ts ds next))
@@ -133,6 +140,7 @@ module _ (to : Definition) (k : ℕ) (next : Link) (old mid : Merged) (marks new
   abbrev datas_of : List Cell
   datas_of = old.data_cells.items
 
+  -- with the head that the loop ends at, all chains are right again
   pub chain_cut : AreChained mid.text_cells.items mid.data_cells.items mid.text_links.items mid.data_links.items heads
   chain_cut =
       subst (λ (P : Type 0). P)
@@ -141,6 +149,7 @@ module _ (to : Definition) (k : ℕ) (next : Link) (old mid : Merged) (marks new
       (cut_to texts_of datas_of old.text_links.items old.data_links.items old.heads.items h k to.segment to.offset next marks
       mid.text_cells.items mid.data_cells.items new_marks w.bound)
 
+  -- the marks that the loop made undo it
   pub chain_back : LeavesMarks texts_of datas_of old.heads.items mid.text_cells.items mid.data_cells.items heads marks new_marks
   chain_back =
       subst (λ (hs : List Link). LeavesMarks texts_of datas_of old.heads.items mid.text_cells.items mid.data_cells.items hs marks
@@ -170,11 +179,13 @@ module _ (to : Definition) (k : ℕ) (next : Link) (old mid : Merged) (marks new
         cut ∙ ap (λ (l : Link). slice_set old.heads.items k l) end
         ∙ ap (λ (s : State). cut_by_state s k old.heads.items) (sym defined)
 
+    -- the cells and heads after the loop are those of the definition
     pub chain_bound :
         (let b : Bindable = record { texts = mid.text_cells.items; datas = mid.data_cells.items; heads = heads } in b)
         ≡ settled es k (bindable_in old)
     chain_bound = λ i. record { texts = texts_settled i; datas = datas_settled i; heads = heads_cut i }
 
+    -- a mark was made for each cell that became bound, and for no other
     pub chain_few : NotesBound es texts_of datas_of mid.text_cells.items mid.data_cells.items marks new_marks
     chain_few =
         defined_noted es k to.segment to.offset defined texts_of datas_of mid.text_cells.items mid.data_cells.items marks
@@ -195,6 +206,7 @@ heads_stay : (s : State) (heads : List Link) (k : ℕ) → slice_index_or heads 
 heads_stay (Defined segment offset) heads k e = set_none heads k e
 heads_stay (Wanted size) heads k e = refl
 
+-- no loop is needed for an external without a head: no cell waits for it
 pub none_waits : (m : Merged) (k : ℕ) → HoldsChains m → slice_index_or m.heads.items k None ≡ None →
     bindable_in m ≡ settled m.externals.entries k (bindable_in m)
 none_waits m k h empty = λ i. record {
@@ -207,6 +219,7 @@ none_waits m k h empty = λ i. record {
   heads = heads_stay (state_at m.externals.entries k) m.heads.items k empty i;
 }
 
+-- nor for one that is still wanted
 pub none_defined : (m : Merged) (k size : ℕ) → state_at m.externals.entries k ≡ Wanted size →
     bindable_in m ≡ settled m.externals.entries k (bindable_in m)
 none_defined m k size wanted = λ i. record {
@@ -221,6 +234,7 @@ module _ (old mid new : Merged) (marks mid_marks new_marks : List Mark) (r : Kee
   names_same : mid.externals.entries ≡ old.externals.entries
   names_same = ap (λ (x : Image). x.externals) r.image
 
+  -- the marks of one external and of those after it, in turn, undo all that was bound
   pub back_then : HoldsChains old → HoldsChains mid → LeavesMarksIn old mid marks mid_marks →
       LeavesMarksIn mid new mid_marks new_marks → LeavesMarksIn old new marks new_marks
   back_then h g a b =
@@ -228,6 +242,7 @@ module _ (old mid new : Merged) (marks mid_marks new_marks : List Mark) (r : Kee
       new.data_cells.items old.heads.items mid.heads.items new.heads.items marks mid_marks new_marks
       (texts_bound old old h refl mid g r.threads) (datas_bound old old h refl mid g r.threads) a b
 
+  -- and are one for each cell that became bound
   pub few_then : NotesBound old.externals.entries old.text_cells.items old.data_cells.items mid.text_cells.items
       mid.data_cells.items marks mid_marks → NotesBound mid.externals.entries mid.text_cells.items mid.data_cells.items
       new.text_cells.items new.data_cells.items mid_marks new_marks → NotesBound old.externals.entries
@@ -238,6 +253,7 @@ module _ (old mid new : Merged) (marks mid_marks new_marks : List Mark) (r : Kee
       (subst (λ (es : Named). NotesBound es mid.text_cells.items mid.data_cells.items new.text_cells.items
       new.data_cells.items mid_marks new_marks) names_same b)
 
+  -- binding the first external, and then the others, is what the definition makes of all
   pub settled_then : (k : ℕ) (ks : List ℕ) → IsSettled (k ∷ []) mid new →
       settled_all old.externals.entries (k ∷ ks) (bindable_in mid) ≡ settled_all old.externals.entries ks (bindable_in new)
   settled_then k ks one =
@@ -245,14 +261,17 @@ module _ (old mid new : Merged) (marks mid_marks new_marks : List Mark) (r : Kee
 
 -- Several externals, list by list.
 
+-- what the definition makes of all externals, list by list: the cells of text
 pub several_texts : (es : Named) (ks : List ℕ) (b : Bindable) → (settled_all es ks b).texts ≡ map (settled_over es ks) b.texts
 several_texts es [] b = sym (none_left es b.texts)
 several_texts es (k ∷ ks) b = several_texts es ks (settled es k b) ∙ sym (all_one es k ks b.texts)
 
+-- the cells of data
 pub several_datas : (es : Named) (ks : List ℕ) (b : Bindable) → (settled_all es ks b).datas ≡ map (settled_over es ks) b.datas
 several_datas es [] b = sym (none_left es b.datas)
 several_datas es (k ∷ ks) b = several_datas es ks (settled es k b) ∙ sym (all_one es k ks b.datas)
 
+-- the heads of the chains
 pub several_heads : (es : Named) (ks : List ℕ) (b : Bindable) → (settled_all es ks b).heads ≡ cut_heads es ks b.heads
 several_heads es [] b = refl
 several_heads es (k ∷ ks) b = several_heads es ks (settled es k b)

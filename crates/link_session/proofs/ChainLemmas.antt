@@ -50,10 +50,12 @@ bound_where-one segment offset f g (suc i) off on others (c ∷ cs) =
     λ k. cond (others 0 (λ e. omega arith) k) (bound_to segment offset c) c ∷ bound_where-one segment offset
     (λ n. f (suc n)) (λ n. g (suc n)) i off on (λ j ne. others (suc j) (λ e. ne (omega arith))) cs k
 
+-- the loop over a chain begins so
 pub none_bound : (segment : Segment) (offset : ℕ) (cs : List Cell) → cs ≡ bound_where (λ i. false) segment offset cs
 none_bound segment offset [] = refl
 none_bound segment offset (c ∷ cs) = ap (λ (l : List Cell). c ∷ l) (none_bound segment offset cs)
 
+-- binding changes no number of cells
 pub length-bound_where : (test : ℕ → Bool) (segment : Segment) (offset : ℕ) (cs : List Cell) →
     length (bound_where test segment offset cs) ≡ length cs
 length-bound_where test segment offset [] = refl
@@ -74,6 +76,7 @@ index_where test segment offset (c ∷ cs) (suc i) h =
 
 -- Places.
 
+-- a place that is added at the end of a list is on it, and no other comes
 pub on_last : (ps : List Place) (p q : Place) → is_on (ps ++ q ∷ []) p ≡ (is_on ps p || same_place p q)
 on_last [] p q = by_test (same_place p q)
   where
@@ -87,16 +90,20 @@ on_last (x ∷ ps) p q = by_test (same_place p x) (on_last ps p q)
     by_test true h = refl
     by_test false h = h
 
+-- these two compute tests of numbers: of a number with itself
 pub own_number : (i : ℕ) → nat_eq i i ≡ true
 own_number i = grind (arith, nat_tests)
 
+-- and with another one
 pub other_number : (i j : ℕ) → i ≢ j → nat_eq i j ≡ false
 other_number i j ne = grind (arith, nat_tests)
 
+-- these two compute a test of two parts: if the second part fails
 pub or_false : (t : Bool) → (t || false) ≡ t
 or_false true = refl
 or_false false = refl
 
+-- and if it holds
 pub or_true : (t : Bool) → (t || true) ≡ true
 or_true true = refl
 or_true false = refl
@@ -115,6 +122,7 @@ same_sym (InData i) (InData j) = by_order (cases_eq i j)
 same_sym (InText i) (InData j) = refl
 same_sym (InData i) (InText j) = refl
 
+-- the test of two places decides whether they are equal
 pub same_is : (p q : Place) → same_place p q ≡ true → p ≡ q
 same_is (InText i) (InText j) e = let same : i ≡ j = grind (arith, nat_tests) in ap (λ (n : ℕ). InText n) same
 same_is (InData i) (InData j) e = let same : i ≡ j = grind (arith, nat_tests) in ap (λ (n : ℕ). InData n) same
@@ -130,12 +138,14 @@ on_either (x ∷ ps) qs p = by_test (same_place p x) (on_either ps qs p)
     by_test true h = refl
     by_test false h = h
 
+-- if the places of a list differ, so do those of each part
 pub apart_parts : (ps qs : List Place) → AreApart (ps ++ qs) → AreApart ps × AreApart qs
 apart_parts [] qs h = (tt, h)
 apart_parts (p ∷ ps) qs h =
     let both = apart_parts ps qs h.1 in
     (((or_parts (is_on ps p) (is_on qs p) (sym (on_either ps qs p) ∙ h.0)).0, both.0), both.1)
 
+-- and no place is in both parts
 pub apart_from : (ps qs : List Place) → AreApart (ps ++ qs) → (p : Place) → is_on ps p ≡ true → is_on qs p ≡ false
 apart_from [] qs h p e = absurd (cc)
 apart_from (q ∷ ps) qs h p e = by_test (same_place p q) refl e (apart_from ps qs h.1 p)
@@ -194,6 +204,7 @@ below t d (p ∷ ps) h q e = by_order (cases_eq q (number t p)) (below t d ps h.
     by_order (inl same) rest = let b = number_below t d p h.0 in omega arith
     by_order (inr ne) rest = rest (let other : eqb q (number t p) ≡ false = other_number q (number t p) ne in rw other at e)
 
+-- places that differ are no more than the words of the image: so each walk along a chain ends
 pub few_places : (t d : ℕ) (ps : List Place) → AreApart ps → AllByRecursion (IsWithin t d) ps → length ps ≤ t + d
 few_places t d ps a h =
     let few = length-le_from_distinct_below (map (number t) ps) (t + d) (distinct t d ps a h) (below t d ps h) in
@@ -216,6 +227,7 @@ on_inside t d (q ∷ ps) p h e = by_test (same_place p q) refl e (on_inside t d 
 
 -- Walks.
 
+-- a head leads along one chain only
 pub chain-unique : (ts ds : List Link) (head : Link) (ps qs : List Place) → IsChain ts ds head ps → IsChain ts ds head qs → ps ≡ qs
 chain-unique ts ds head [] [] a b = refl
 chain-unique ts ds head [] (q ∷ qs) a b = absurd (let e = sym a ∙ b.0 in cc)
@@ -225,6 +237,7 @@ chain-unique ts ds head (p ∷ ps) (q ∷ qs) a b =
     let tail = chain-unique ts ds (link_at ts ds q) ps qs (subst (λ (r : Place). IsChain ts ds (link_at ts ds r) ps) same a.1) b.1 in
     λ j. same j ∷ tail j
 
+-- a walk that may take enough steps visits the chain
 pub walk-is : (n : ℕ) (ts ds : List Link) (next : Link) (rest : List Place) → IsChain ts ds next rest →
     length rest ≤ n → walk n ts ds next ≡ rest
 walk-is zero ts ds next [] c h = refl
@@ -239,6 +252,7 @@ pub record Ahead (ts ds : List Link) (rest : List Place) (p : Place) : Type 0 wh
   pub is : rest ≡ p ∷ tail
   pub goes_on : IsChain ts ds (link_at ts ds p) tail
 
+-- at a next place, the rest of the chain begins with that place
 pub next_ahead : (ts ds : List Link) (next : Link) (rest : List Place) (p : Place) → IsChain ts ds next rest →
     next ≡ Some p → Ahead ts ds rest p
 next_ahead ts ds next [] p c e = absurd (let bad = sym c ∙ e in cc)
@@ -250,6 +264,7 @@ next_ahead ts ds next (q ∷ rest) p c e =
       goes_on = subst (λ (r : Place). IsChain ts ds (link_at ts ds r) rest) same c.1;
     }
 
+-- without a next place, nothing of the chain is left
 pub none_ahead : (ts ds : List Link) (next : Link) (rest : List Place) → IsChain ts ds next rest → next ≡ None → rest ≡ []
 none_ahead ts ds next [] c e = refl
 none_ahead ts ds next (q ∷ rest) c e = absurd (let bad = sym e ∙ c.0 in cc)

@@ -139,6 +139,7 @@ module _ (texts datas : List Cell) (ts ds heads : List Link) (a : AreChained tex
       each = λ j. by_order j (cases_eq k j);
     }
 
+    -- while a chain is bound, its head may be set to the next place at any time, and all chains are right
     pub cut_to : AreChained new_texts new_datas ts ds (slice_set heads k next)
     cut_to = subst (λ (P : Type 0). P) (λ i. AreChained (sym w.text i) (sym w.data i) ts ds (slice_set heads k next)) bound_chained
 
@@ -204,6 +205,7 @@ head_elsewhere heads k link (targets.External i) e = by_order (cases_eq i k)
     by_order (inl same) = absurd (let yes : nat_eq i k ≡ true = rw same (own_number k) in cc)
     by_order (inr ne) = index_set_other heads i k link None ne
 
+-- a cell that is put in front of its chain adds no external
 pub length-with_head : (heads : List Link) (t : Target) (link : Link) → length (with_head t link heads) ≡ length heads
 length-with_head heads targets.Absolute link = refl
 length-with_head heads targets.TextSeg link = refl
@@ -281,6 +283,7 @@ all_text texts datas ts ds heads (c ∷ cs) a h =
     (one_text texts datas ts ds heads c a h.0)
     (subst (λ (m : ℕ). AllByRecursion (λ (x : Cell). WaitsBelow m x.target) cs) (sym (length-with_head heads c.target (Some p))) h.1))
 
+-- the same of the cells of data
 pub all_data : (texts datas : List Cell) (ts ds heads : List Link) (cs : List Cell) →
     AreChained texts datas ts ds heads → AllByRecursion (λ c. WaitsBelow (length heads) c.target) cs →
     AreChained texts (datas ++ cs) ts (ds ++ (threaded (λ i. InData i) (length datas) cs heads).0)

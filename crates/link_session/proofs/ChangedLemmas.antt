@@ -32,6 +32,7 @@ one_by_one : (earlier : List Mention) (m : Mention) (ms : List Mention) (name : 
     state (earlier ++ (m ∷ ms)) name ≡ state ((earlier ++ m ∷ []) ++ ms) name
 one_by_one earlier m ms name = ap (λ (l : List Mention). state l name) (sym (append_assoc earlier (m ∷ []) ms))
 
+-- a name whose state is as it was has no mark
 pub none_changed : (earlier ms : List Mention) (name : List ℕ) → state (earlier ++ ms) name ≡ state earlier name →
     states_changed earlier ms name ≡ []
 none_changed earlier [] name e = refl
@@ -48,6 +49,7 @@ none_changed earlier (m ∷ ms) name e =
     ∙ ap (λ (t : Bool). cond t [] (state earlier name ∷ [])) (own_state (state earlier name)) in
     λ i. here i ++ none_changed (earlier ++ m ∷ []) ms name (sym (one_by_one earlier m ms name) ∙ e ∙ sym stays) i
 
+-- a name whose state changed has marks, the first with the state before the addition
 pub first_changed : (earlier ms : List Mention) (name : List ℕ) → state (earlier ++ ms) name ≢ state earlier name →
     (later : List State) × (states_changed earlier ms name ≡ state earlier name ∷ later)
 first_changed earlier [] name other = absurd (other (ap (λ (l : List Mention). state l name) (append-nil earlier)))

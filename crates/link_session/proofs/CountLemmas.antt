@@ -90,6 +90,7 @@ segment_stays es segments.DataSeg c = refl
 segment_stays es segments.BssSeg c = refl
 segment_stays es segments.Other c = refl
 
+-- what the test whether a cell waits decides
 pub waits_is : (k : ℕ) (t : Target) → waits_at k t ≡ true → t ≡ targets.External k
 waits_is k targets.Absolute e = absurd (cc)
 waits_is k targets.TextSeg e = absurd (cc)

@@ -64,6 +64,7 @@ cell_held f cs own new marked e i was is there then h =
 
 -- States.
 
+-- a state is the same as itself, by the test
 pub own_state : (s : State) → same_state s s ≡ true
 own_state (Defined segment offset) = own_definition segment offset
 own_state (Wanted size) = eq-eqb size size refl
@@ -228,6 +229,7 @@ module _ (kept i : ℕ) (name : List ℕ) (low : i < kept) where
 
 -- The difference.
 
+-- marks that take an addition back are the difference that it makes, and nothing else
 pub taken_difference : (forced : List (List ℕ)) (os : List Contents) (o : Contents) (heads : List Link) (marks : List Mark) →
     AllByRecursion IsObject os → TakesBack (image forced os) o heads marks → IsDifference forced os o marks
 taken_difference forced os o heads marks good b = record {

@@ -25,8 +25,10 @@ module _ (es : Named) (k : ℕ) (texts datas : List Cell) (ts ds : List Link) (h
   none : waits.places ≡ []
   none = no_places ts ds head waits.places empty waits.visits
 
+  -- binding such an external changes no cell of text
   pub no_text : texts ≡ map (settled_at es k) texts
   no_text = unsettled es k texts (subst (λ (ps : List Place). FindsWaiting (λ i. is_on ps (InText i)) k texts) none waits.text)
 
+  -- nor one of data
   pub no_data : datas ≡ map (settled_at es k) datas
   no_data = unsettled es k datas (subst (λ (ps : List Place). FindsWaiting (λ i. is_on ps (InData i)) k datas) none waits.data)

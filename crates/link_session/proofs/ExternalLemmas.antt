@@ -4,6 +4,7 @@ use Rattle.std.specs.Iterator.{YieldsFirst}
 use Rattle.std.proofs.iter.runs.Sources.{from_front, as_is}
 use Rattle.link_session.specs.Image.{Named, GivesInOrder}
 
+-- the iterator of `Session::externals` gives the names one after another
 pub gives_in_order : GivesInOrder
 gives_in_order p s =
     as_is p p.from (from_front (YieldsFirst (λ (left : Named). left)) (λ x. x) (λ (left : Named). left)

@@ -27,6 +27,7 @@ length-cut_by_state : (s : State) (k : ℕ) (heads : List Link) → length (cut_
 length-cut_by_state (Defined segment offset) k heads = length-slice_set heads k None
 length-cut_by_state (Wanted size) k heads = refl
 
+-- a head is cut in its place: there is still one for each external
 pub length-cut_heads : (es : Named) (ks : List ℕ) (heads : List Link) → length (cut_heads es ks heads) ≡ length heads
 length-cut_heads es [] heads = refl
 length-cut_heads es (k ∷ ks) heads =
@@ -51,6 +52,7 @@ cut_all es (k ∷ ks) texts datas ts ds heads a =
 
 -- Names that are added.
 
+-- an external that is new has no chain, and the others keep theirs
 pub more_heads : (n : ℕ) (texts datas : List Cell) (ts ds heads : List Link) → AreChained texts datas ts ds heads →
     AreChained texts datas ts ds (heads ++ replicate n None)
 more_heads zero texts datas ts ds heads a = subst (λ (hs : List Link). AreChained texts datas ts ds hs) (sym (append-nil heads)) a
@@ -58,10 +60,12 @@ more_heads (suc n) texts datas ts ds heads a =
     subst (λ (hs : List Link). AreChained texts datas ts ds hs) (append_assoc heads (None ∷ []) (replicate n None))
     (more_heads n texts datas ts ds (heads ++ None ∷ []) (one_more_head texts datas ts ds heads a))
 
+-- the same, if there are enough heads already
 pub grown_chained : (n : ℕ) (texts datas : List Cell) (ts ds heads : List Link) → AreChained texts datas ts ds heads →
     AreChained texts datas ts ds (grown_heads n heads)
 grown_chained n texts datas ts ds heads a = more_heads (n - length heads) texts datas ts ds heads a
 
+-- after growing there is a head for each external
 pub length-grown_heads : (n : ℕ) (heads : List Link) → length heads ≤ n → length (grown_heads n heads) ≡ n
 length-grown_heads n heads h =
     let none : Link = None in
@@ -77,6 +81,7 @@ cut_grown n k heads e = take_at heads (replicate (n - length heads) None) k e
 
 -- Cells that are put in front.
 
+-- cells that are put in front of their chains add no head
 pub length-threaded_heads : (at : ℕ → Place) (n : ℕ) (cs : List Cell) (heads : List Link) → length (threaded at n cs heads).1 ≡ length heads
 length-threaded_heads at n [] heads = refl
 length-threaded_heads at n (c ∷ cs) heads =
@@ -84,6 +89,7 @@ length-threaded_heads at n (c ∷ cs) heads =
 
 -- Heads that are put back.
 
+-- nor do marks that are put back
 pub length-heads_back : (ks : List Mark) (heads : List Link) → length (heads_back ks heads) ≡ length heads
 length-heads_back [] heads = refl
 length-heads_back (CellWas p c ∷ ks) heads = length-with_head (heads_back ks heads) c.target (Some p) ∙ length-heads_back ks heads

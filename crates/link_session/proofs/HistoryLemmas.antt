@@ -44,6 +44,7 @@ threads_from-append : (forced : List (List ℕ)) (ps qs : List (List Contents ×
 threads_from-append forced [] qs t = refl
 threads_from-append forced (p ∷ ps) qs t = threads_from-append forced ps qs (next_threads (image forced p.0) p.1 t)
 
+-- the threads of one more object are those that its addition makes of the earlier ones
 pub threads_push : (forced : List (List ℕ)) (os : List Contents) (o : Contents) →
     threads_of forced (os ++ o ∷ []) ≡ next_threads (image forced os) o (threads_of forced os)
 threads_push forced os o =
@@ -209,6 +210,7 @@ threaded_of forced os good = from [] os (forced_threads forced) tt good (forced_
         (subst (λ (m : Image). IsThreaded m (next_threads (image forced earlier) o t))
         (joined_image-is forced earlier o e) (threaded_next forced earlier o e r.0 t h)))
 
+-- binding the names that an object mentions binds each cell that its addition has to bind
 pub image_covered : (forced : List (List ℕ)) (os : List Contents) (o : Contents) → AllByRecursion IsObject os →
     IsCovered (image forced os) o
 image_covered forced os o good =

@@ -122,6 +122,7 @@ module _ (m n : Image) (o : Contents) (symbols : List Symbol) (made : n ≡ ente
 
 -- an object that could not be bound is taken back
 module _ (m n b : Image) (o : Contents) (t u v : Threads) (h : IsThreaded m t) (old new : List Mark) where
+  -- the marks of an addition, put back, give the image and the chains before it
   pub undone : n ≡ entered m o → u ≡ t → b ≡ with_cells b.text_cells b.data_cells n → v ≡ with_heads v.heads u →
       length b.text_cells ≡ length m.text_cells → length b.data_cells ≡ length m.data_cells →
       old ≡ state_marks (length m.externals) m.externals (next_mentions m o) →
@@ -152,9 +153,11 @@ module _ (m n b : Image) (o : Contents) (t u v : Threads) (h : IsThreaded m t) (
 -- the fields once the object's own cells stand last
 module _ (m b : Image) (o f : Contents) (shifts : Shifts) (bound : b ≡ bound_image m o) (file : f ≡ o)
     (moved : shifts ≡ next_shifts m o) where
+  -- the image at the end of an addition is that of the longer list
   pub joined-is : (r : Image) → r ≡ with_own_cells b f shifts → r ≡ joined_image m o
   joined-is r own = own ∙ (λ i. with_own_cells (bound i) (file i) (moved i))
 
+  -- and so are the chains
   pub joined_threads : (t v w : Threads) → v ≡ with_heads (bound_heads m o t.heads) t →
       w ≡ with_own_threads b f shifts v → w ≡ next_threads m o t
   joined_threads t v w heads own = own ∙ (λ i. with_own_threads (bound i) (file i) (moved i) (heads i))

@@ -19,10 +19,12 @@ pub kept_threaded : (forced : List (List ℕ)) (os : List Contents) (journal : L
 kept_threaded forced os journal t good k =
     subst (λ (u : Threads). IsThreaded (image forced os) u) (sym k.threads) (threaded_of forced os good)
 
+-- the chains of a new session are kept
 pub forced_kept : (forced : List (List ℕ)) → KeepsThreads forced [] [] (forced_threads forced)
 forced_kept forced = record { threads = refl; undoes = journal_empty (UndoesThreads forced) }
 
 module _ (forced : List (List ℕ)) (os : List Contents) (o : Contents) (journal : List (List Mark)) (marks : List Mark) (t : Threads) where
+  -- and those of an addition
   pub kept_push : AllByRecursion IsObject os → KeepsThreads forced os journal t →
       heads_back marks (bound_heads (image forced os) o t.heads) ≡ t.heads →
       KeepsThreads forced (os ++ o ∷ []) (journal ++ marks ∷ []) (next_threads (image forced os) o t)
@@ -37,6 +39,7 @@ module _ (forced : List (List ℕ)) (os : List Contents) (o : Contents) (journal
           ∙ threads_back (image forced os) o t (kept_threaded forced os journal t good k) marks back
           ∙ k.threads
 
+  -- and those of a withdrawal
   pub kept_pop : KeepsThreads forced (os ++ o ∷ []) (journal ++ marks ∷ []) t →
       KeepsThreads forced os journal (undo_threads marks (image forced (os ++ o ∷ [])) (image forced os) t)
   kept_pop k =

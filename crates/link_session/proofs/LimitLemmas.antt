@@ -34,6 +34,7 @@ external-is_among (s ∷ ss) name = by_test (is_external s) (external-is_among s
     by_test true h = ap (λ (b : Bool). bytes_eq name s.name || b) h
     by_test false h = h
 
+-- an object has no more new names than symbols: so much room is enough
 pub length-new_names : (seen xs : List (List ℕ)) → length (new_names seen xs) ≤ length xs
 length-new_names seen [] = omega arith
 length-new_names seen (x ∷ xs) = by_test (is_among seen x) (length-new_names (seen ++ x ∷ []) xs)

@@ -24,6 +24,7 @@ take_grown xs ys zero h = refl
 take_grown [] ys (suc n) h = absurd (omega arith)
 take_grown {A = A} (x ∷ xs) ys (suc n) h = ap (λ (zs : List A). x ∷ zs) (take_grown xs ys n (omega arith))
 
+-- a state that is written after the first n entries leaves these alone
 pub take_with_state : (es : List (List ℕ × State)) (n i : ℕ) (s : State) → n ≤ i → take n (with_state es i s) ≡ take n es
 take_with_state [] n i s h = refl
 take_with_state (e ∷ es) zero i s h = refl
@@ -35,6 +36,7 @@ abbrev pub awaited : List (List ℕ) → List Mention → Target → Option Defi
 awaited names later (targets.External i) = first_definition later (slice_index_or names i [])
 awaited names later _ = None
 
+-- what later mentions make of a cell depends only on what they define for its target
 pub bound-awaited : (names : List (List ℕ)) (later : List Mention) (c : Cell) →
     bound names later c ≡ rebound (awaited names later c.target) c
 bound-awaited names later c = by_target c.target

@@ -20,6 +20,7 @@ use Rattle.link_session.proofs.ChainLemmas.{same_is}
 
 -- Two lists of marks together.
 
+-- the marks of a cell, in two lists in a row
 pub cells_marked-append : (p : Place) (ks ls : List Mark) → cells_marked p (ks ++ ls) ≡ cells_marked p ks ++ cells_marked p ls
 cells_marked-append p [] ls = refl
 cells_marked-append p (StateWas i s ∷ ks) ls = cells_marked-append p ks ls
@@ -31,6 +32,7 @@ cells_marked-append p (CellWas q c ∷ ks) ls = by_test (same_place p q) (cells_
     by_test true h = ap (λ (l : List Cell). c ∷ l) h
     by_test false h = h
 
+-- the marks of a name, in two lists in a row
 pub states_marked-append : (i : ℕ) (ks ls : List Mark) → states_marked i (ks ++ ls) ≡ states_marked i ks ++ states_marked i ls
 states_marked-append i [] ls = refl
 states_marked-append i (CellWas q c ∷ ks) ls = states_marked-append i ks ls
@@ -44,6 +46,7 @@ states_marked-append i (StateWas j s ∷ ks) ls = by_test (nat_eq i j) (states_m
 
 -- Marks of mentions hold no cells, and those of chains no states.
 
+-- the marks of mentions are of no cell
 pub no_cells : (p : Place) (kept : ℕ) (es : Named) (ms : List Mention) → cells_marked p (state_marks kept es ms) ≡ []
 no_cells p kept es [] = refl
 no_cells p kept es (m ∷ ms) =
@@ -56,12 +59,14 @@ no_cells p kept es (m ∷ ms) =
     by_test true = refl
     by_test false = refl
 
+-- the marks of a chain are of no name
 pub no_states : (i : ℕ) (texts datas : List Cell) (ps : List Place) → states_marked i (marks_of texts datas ps) ≡ []
 no_states i texts datas [] = refl
 no_states i texts datas (p ∷ ps) = no_states i texts datas ps
 
 -- Marks of a chain.
 
+-- the marks of a chain have each of its cells once, as it was
 pub chain_marked : (texts datas : List Cell) (ps : List Place) → AreApart ps → (p : Place) →
     cells_marked p (marks_of texts datas ps) ≡ cond (is_on ps p) (cell_at texts datas p ∷ []) []
 chain_marked texts datas [] apart p = refl
@@ -81,6 +86,7 @@ chain_marked texts datas (q ∷ ps) apart p = by_test (same_place p q) refl (cha
 
 -- Cells that get bound.
 
+-- a cell is not bound and left alone at once
 pub none_bound : (t : Bool) → (t && not t) ≡ false
 none_bound true = refl
 none_bound false = refl

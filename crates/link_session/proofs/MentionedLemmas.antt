@@ -43,13 +43,16 @@ insert_entry-is (e ∷ es) name s = by_test (bytes_eq name e.0) (insert_entry-is
     by_test true h = ap (λ (l : Named). (e.0, s) ∷ l) (sym (append-nil es))
     by_test false h = rw add-one (ap (λ (l : Named). e ∷ l) h)
 
+-- the state that a mention leaves its name in
 abbrev pub next_state : Named → Mention → State
 next_state es m = updated_state (state_for es m.name) m.says
 
+-- a mention writes the state at the place of its name, or puts a new name last
 pub with_mention-is : (es : Named) (m : Mention) → with_mention es m ≡ with_state es (place_in es m.name)
     (next_state es m) ++ cond (is_among (keys_of es) m.name) [] ((m.name, next_state es m) ∷ [])
 with_mention-is es m = insert_entry-is es m.name (next_state es m)
 
+-- a mention renames no external, and adds its name last if that is new
 pub keys-with_mention : (es : Named) (m : Mention) →
     keys_of (with_mention es m) ≡ keys_of es ++ cond (is_among (keys_of es) m.name) [] (m.name ∷ [])
 keys-with_mention es m =
@@ -151,6 +154,7 @@ with_mentions-named_states ms (n ∷ ns) =
     ap (λ (es : Named). with_mentions es ns) (with_mention-named_states ms n)
     ∙ with_mentions-named_states (ms ++ n ∷ []) ns ∙ ap named_states (append_assoc ms (n ∷ []) ns)
 
+-- the names that an addition notes as multiply defined are those that the longer list has more
 pub all_clashes-named_states : (ms ns : List Mention) → multiple_names (ms ++ ns) ≡ multiple_names ms ++ all_clashes (named_states ms) ns
 all_clashes-named_states ms [] = ap multiple_names (append-nil ms) ∙ sym (append-nil (multiple_names ms))
 all_clashes-named_states ms (n ∷ ns) =

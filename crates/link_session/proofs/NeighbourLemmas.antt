@@ -53,9 +53,11 @@ shift-start earlier o BssSeg = refl
 abbrev pub AreAsLong : List Contents → List Contents → Type 0
 AreAsLong xs ys = (segment : Segment) → start xs segment ≡ start ys segment
 
+-- lists that are as long as others, segment by segment, are so in a row
 pub as_long_append : (xs ys us vs : List Contents) → AreAsLong xs ys → AreAsLong us vs → AreAsLong (xs ++ us) (ys ++ vs)
 as_long_append xs ys us vs h k segment = start-append xs us segment ∙ (λ i. h segment i + k segment i) ∙ sym (start-append ys vs segment)
 
+-- each list is as long as itself
 pub as_long_self : (xs : List Contents) → AreAsLong xs xs
 as_long_self xs segment = refl
 
@@ -78,6 +80,7 @@ blocks_same {A = A} f same xs ys (o ∷ os) h =
     (blocks_same f same (xs ++ o ∷ []) (ys ++ o ∷ []) os (as_long_append xs ys (o ∷ []) (o ∷ []) h (as_long_self (o ∷ []))))
     ∙ ap (λ (front : List A). front ++ blocks f (ys ++ o ∷ []) os) (same xs ys o h)
 
+-- what is made object by object is split by this into that of the first objects and the rest
 pub blocks-append : {A : Type 0} (f : List Contents → Contents → List A) (earlier xs ys : List Contents) →
     blocks f earlier (xs ++ ys) ≡ blocks f earlier xs ++ blocks f (earlier ++ xs) ys
 blocks-append f earlier xs ys =
@@ -107,6 +110,7 @@ statement_same xs ys o TextSeg value h = ap (λ (n : ℕ). Defined TextSeg (plus
 statement_same xs ys o DataSeg value h = ap (λ (n : ℕ). Defined DataSeg (plus value n)) (shift_same xs ys o DataSeg h)
 statement_same xs ys o BssSeg value h = ap (λ (n : ℕ). Defined BssSeg (plus value n)) (shift_same xs ys o BssSeg h)
 
+-- what an object mentions depends only on how long the objects before it are
 pub mentions_in_same : (xs ys : List Contents) (o : Contents) → AreAsLong xs ys → mentions_in xs o ≡ mentions_in ys o
 mentions_in_same xs ys o h = from (externals_in o)
   where
@@ -121,10 +125,12 @@ mentions_in_same xs ys o h = from (externals_in o)
 abbrev pub mentions_after : List Contents → List Contents → List Mention
 mentions_after earlier os = blocks mentions_in earlier os
 
+-- what a state is once more objects come first: an offset counts their bytes too
 abbrev pub raised : List Contents → State → State
 raised bs (Defined segment offset) = Defined segment (plus (start bs segment) offset)
 raised bs (Wanted size) = Wanted size
 
+-- the same of a mention
 abbrev pub raise : List Contents → Mention → Mention
 raise bs m = record { name = m.name; says = raised bs m.says }
 
@@ -148,6 +154,7 @@ statement_raised bs earlier o TextSeg value = ap (λ (n : ℕ). Defined TextSeg 
 statement_raised bs earlier o DataSeg value = ap (λ (n : ℕ). Defined DataSeg n) (shift_raised bs earlier o DataSeg value)
 statement_raised bs earlier o BssSeg value = ap (λ (n : ℕ). Defined BssSeg n) (shift_raised bs earlier o BssSeg value)
 
+-- more objects that come first raise what an object mentions, and change nothing else
 pub mentions_in_raised : (bs earlier : List Contents) (o : Contents) →
     mentions_in (bs ++ earlier) o ≡ map (raise bs) (mentions_in earlier o)
 mentions_in_raised bs earlier o = from (externals_in o)
@@ -171,6 +178,7 @@ mentions_raised bs earlier (o ∷ os) =
 pub mentions_after-raised : (bs os : List Contents) → mentions_after bs os ≡ map (raise bs) (mentions_after [] os)
 mentions_after-raised bs os = ap (λ (es : List Contents). mentions_after es os) (sym (append-nil bs)) ∙ mentions_raised bs [] os
 
+-- and no name
 pub names_of_raised : (bs : List Contents) (ms : List Mention) → names_of (map (raise bs) ms) ≡ names_of ms
 names_of_raised bs ms = names_of-map (raise bs) (λ (m : Mention). m.name) (λ m. refl) ms
 
@@ -187,6 +195,7 @@ forced_front (n ∷ ns) ms name =
     by_test true d size = ap (λ (k : ℕ). state_by d k) (omega arith)
     by_test false d size = refl
 
+-- forced names are mentioned under their own names
 pub names_of_forced : (forced : List (List ℕ)) → names_of (map forced_mention forced) ≡ forced
 names_of_forced forced = names_of-map forced_mention (λ n. n) (λ n. refl) forced ∙ map-id forced
 

@@ -14,6 +14,7 @@ use Rattle.link_session.specs.Undo.{with_state}
 use Rattle.link_session.specs.Image.{Named, state_in, state_at}
 use Rattle.link_session.specs.internal.Additions.{state_for, place_in}
 
+-- the place at which the code finds a name, or puts it if it is new, is that of the definition
 pub place_is : (name : List ℕ) (names : List (List ℕ)) → position_or_len (bytes_eq name) names ≡ place_of name names
 place_is name [] = refl
 place_is name (n ∷ ns) = by_test (bytes_eq name n) (place_is name ns)
@@ -67,6 +68,7 @@ after (e ∷ es) = after es
 pub missing_place : (es : Named) (name : List ℕ) → None ≡ position (bytes_eq name) (keys_of es) → length es ≡ place_in es name
 missing_place es name e = sym (missing name (keys_of es) (sym e) ∙ length-map es (λ p. p.0))
 
+-- a name that has no place counts as wanted, at size 0
 pub missing_state : (es : Named) (name : List ℕ) → None ≡ position (bytes_eq name) (keys_of es) → Wanted 0 ≡ state_for es name
 missing_state es name e = ap state_in (sym (after es)) ∙ ap (state_at es) (missing_place es name e)
 
@@ -81,6 +83,7 @@ known_state (e ∷ es) name was h = by_test (bytes_eq name e.0) h (known_state e
     by_test true h rest = let same : e.1 ≡ was = cc in sym same
     by_test false h rest = rw add-one (rest h)
 
+-- so does one that a lookup does not find
 pub unknown_state : (es : Named) (name : List ℕ) → lookup (bytes_eq name) es ≡ None → Wanted 0 ≡ state_for es name
 unknown_state [] name h = refl
 unknown_state (e ∷ es) name h = by_test (bytes_eq name e.0) h (unknown_state es name)
@@ -103,11 +106,13 @@ written_again (e ∷ es) name first then = by_test (bytes_eq name e.0) (written_
     by_test true h = refl
     by_test false h = rw add-one (ap (λ (l : Named). e ∷ l) h)
 
+-- a state that is written after the last name changes nothing
 pub with_state-after : (es : Named) (i : ℕ) (s : State) → length es ≤ i → with_state es i s ≡ es
 with_state-after [] i s h = refl
 with_state-after (e ∷ es) zero s h = absurd (omega arith)
 with_state-after (e ∷ es) (suc i) s h = ap (λ (l : Named). e ∷ l) (with_state-after es i s (omega arith))
 
+-- those that pass a test are no more than all: sums of them fit if the whole does
 pub filter_le : {A : Type 0} (p : A → Bool) (xs : List A) → length (filter p xs) ≤ length xs
 filter_le p [] = omega arith
 filter_le {A = A} p (x ∷ xs) = by_test (p x) (filter_le p xs)

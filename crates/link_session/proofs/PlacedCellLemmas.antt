@@ -82,12 +82,14 @@ module _ (es : Named) (o : Contents) (shifts : Shifts) (own_shift : ℕ) (well :
       all_split (λ r. IsFit o.symbols (symbol_number r) (kind_of r)) o.text_reloc o.data_reloc
       (all_fit o.symbols 0 (o.text_reloc ++ o.data_reloc) (well_formed_parts o well).1)
 
+  -- the code makes the cells of text by the places of names, and they are those by the names
   pub placed_texts : placed_cells es places shifts own_shift o.text_words o.text_reloc
       ≡ own_cells es o.symbols shifts own_shift o.text_words o.text_reloc
   placed_texts =
       ap (λ (ps : List ℕ). placed_cells es ps shifts own_shift o.text_words o.text_reloc) same
       ∙ cells-are es o.symbols shifts own_shift o.text_words o.text_reloc both.0
 
+  -- the same of data
   pub placed_datas : placed_cells es places shifts own_shift o.data_words o.data_reloc
       ≡ own_cells es o.symbols shifts own_shift o.data_words o.data_reloc
   placed_datas =

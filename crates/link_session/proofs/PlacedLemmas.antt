@@ -111,6 +111,7 @@ module _ (es : Named) (few : length es ≤ 65535) where
   nowhere : state_at es no_place ≡ Wanted 0
   nowhere = after_last es no_place few
 
+  -- the cells are the same
   pub settled_places : (ss : List Symbol) (cs : List Cell) →
       map (settled_over es (all_places es ss)) cs ≡ map (settled_over es (places_of es ss)) cs
   settled_places [] cs = refl
@@ -128,6 +129,7 @@ module _ (es : Named) (few : length es ≤ 65535) where
           all_one es no_place (all_places es ss) cs ∙ ap (λ (l : List Cell). map (settled_over es (all_places es ss)) l)
           (sym (unsettled es no_place 0 nowhere cs)) ∙ rest cs
 
+  -- and so are the heads
   pub cut_places : (ss : List Symbol) (heads : List Link) → cut_heads es (all_places es ss) heads ≡ cut_heads es (places_of es ss) heads
   cut_places [] heads = refl
   cut_places (s ∷ ss) heads = by_test (is_external s) (cut_places ss)

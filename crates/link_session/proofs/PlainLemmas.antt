@@ -34,10 +34,12 @@ known_alone es name was h =
 
 -- of a name that is found
 module _ (es : Named) (name : List ℕ) where
+  -- the place that a lookup gives is that of the name
   pub plain_place : (at : Option ℕ) → at ≡ position (bytes_eq name) (keys_of es) → IfSome at (λ place. place ≡ place_in es name)
   plain_place None e = tt
   plain_place (Some i) e = found_place es name i e
 
+  -- the names and their states stay as they are
   pub plain_names : (says : State) (at : Option ℕ) → says ≡ Wanted 0 → is_some at ≡ is_some (lookup (bytes_eq name) es) →
       IfSome at (λ _. with_mention es (mention_of name says) ≡ es)
   plain_names says None e found = tt

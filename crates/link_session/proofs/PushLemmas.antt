@@ -163,6 +163,7 @@ module _ (ts ds : List Link) (head : Link) (texts datas : List Cell) (k : ℕ) (
             (ap (λ (t : Bool). t || is_on w.places (InData (length datas))) (own_number (length datas)) ∙ sym waits);
       }
 
+  -- the same of a cell of data
   pub pass_data : (x : Link) → length ds ≡ length datas → waits_at k c.target ≡ false →
       Waits ts (ds ++ x ∷ []) head texts (datas ++ c ∷ []) k
   pass_data x long waits =

@@ -74,16 +74,19 @@ module _ (ts ds : List Link) (texts datas : List Cell) (heads : List Link) (a : 
       ended ts ds (slice_index_or heads k None) segment offset texts datas marks next new_texts new_datas new_marks w e
       (a.each k).places (a.each k).visits
 
+  -- once a chain is at its end, all cells of text that waited are bound
   pub all_texts : next ≡ None → new_texts ≡ map (bound_if k segment offset) texts
   all_texts e =
       w.text ∙ ap (λ (ps : List Place). bound_where (λ i. is_on ps (InText i)) segment offset texts) (all_done e)
       ∙ bound_on_chain segment offset k (λ i. is_on (a.each k).places (InText i)) texts (a.each k).text
 
+  -- the same of data
   pub all_datas : next ≡ None → new_datas ≡ map (bound_if k segment offset) datas
   all_datas e =
       w.data ∙ ap (λ (ps : List Place). bound_where (λ i. is_on ps (InData i)) segment offset datas) (all_done e)
       ∙ bound_on_chain segment offset k (λ i. is_on (a.each k).places (InData i)) datas (a.each k).data
 
+  -- and the marks are those of the whole chain
   pub all_marks : next ≡ None → new_marks ≡ marks ++ marks_of texts datas (a.each k).places
   all_marks e = w.marked ∙ ap (λ (ps : List Place). marks ++ marks_of texts datas ps) (all_done e)
 

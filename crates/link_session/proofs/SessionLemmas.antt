@@ -37,6 +37,7 @@ use Rattle.link_session.proofs.DifferenceLemmas.{taken_difference}
 use Rattle.link_session.proofs.KeptThreadLemmas.{kept_threaded, forced_kept, kept_push, kept_pop}
 use Rattle.link_session.proofs.ListLemmas.{all_append, all_split}
 
+-- what a session keeps is within the limits: so its sizes and indices fit their types
 pub small : (forced : List (List ℕ)) (es : List Labelled) (undo_records : List UndoRecord) (m : Image) (t : Threads) →
     IsSession forced es undo_records m t → IsSmall m
 small forced es undo_records m t s = subst IsSmall (sym s.image) (image_small forced (objects es) s.good s.within)
@@ -144,6 +145,7 @@ module _ (forced : List (List ℕ)) (es : List Labelled) (undo_records : List Un
   earlier_good =
       (all_split IsObject (objects es) (e.object ∷ []) (subst (λ (xs : List Contents). AllByRecursion IsObject xs) one_less s.good)).0
 
+  -- a withdrawal cuts the lists to the sizes before the last object, which its record has
   pub kept_sizes : (map sizes_in undo_records ≡ sizes_before forced (objects es))
       × (undo_record.sizes ≡ sizes_of (image forced (objects es)))
   kept_sizes =
@@ -223,6 +225,7 @@ none_twice : (names : List (List ℕ)) (ms : List Mention) →
 none_twice [] ms = refl
 none_twice (n ∷ names) ms = none_twice names ms
 
+-- a session that has only forced names keeps its invariant
 pub forced_session : (forced : List (List ℕ)) → length forced ≤ 64 → (m : Image) (t : Threads) → m.text_cells ≡ [] →
     m.data_cells ≡ [] → m.bss_total ≡ 0 → m.externals ≡ with_mentions [] (map forced_mention forced) → m.multiples ≡ [] →
     t.text_links ≡ [] → t.data_links ≡ [] → t.heads ≡ replicate (length m.externals) None → IsSession forced [] [] m t

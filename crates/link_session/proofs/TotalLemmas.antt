@@ -43,6 +43,7 @@ text_beside o h = omega (arith, h.fits.text, h.fits.text_relocation, with_all o 
 data_beside : (o : Contents) → IsObject o → length o.data_words ≡ length o.data_reloc
 data_beside o h = omega (arith, h.fits.data, h.fits.data_relocation, with_all o h.well o.header.data_size)
 
+-- for inductions over objects: the size of the first one, and of the rest
 pub total-first : (segment : Segment) (o : Contents) (rest : List Contents) →
     total segment (o ∷ rest) ≡ size_of segment o + total segment rest
 total-first segment o rest = sum_by-append (size_of segment) (o ∷ []) rest ∙ omega arith
@@ -51,6 +52,7 @@ total-first segment o rest = sum_by-append (size_of segment) (o ∷ []) rest ∙
 pub text_counted : (o : Contents) → IsObject o → 2 * length (words_of segments.TextSeg o) ≡ size_of segments.TextSeg o
 text_counted o h = omega (arith, length-zip o.text_words o.text_reloc, text_beside o h, h.fits.text)
 
+-- the same of data
 pub data_counted : (o : Contents) → IsObject o → 2 * length (words_of segments.DataSeg o) ≡ size_of segments.DataSeg o
 data_counted o h = omega (arith, length-zip o.data_words o.data_reloc, data_beside o h, h.fits.data)
 
@@ -80,6 +82,7 @@ module _ (ms : List Mention) where
       blocks_counted segments.TextSeg (λ q. cells_in ms segments.TextSeg q.0 q.1)
       (cells_counted segments.TextSeg) text_counted [] os h
 
+  -- the same of data
   pub data_total : (os : List Contents) → AllByRecursion IsObject os → 2 * length (cells ms segments.DataSeg os) ≡ total segments.DataSeg os
   data_total os h =
       blocks_counted segments.DataSeg (λ q. cells_in ms segments.DataSeg q.0 q.1)
@@ -130,6 +133,7 @@ pub record Within (t d b n : ℕ) : Type 0 where
   pub bss : b ≤ 65534
   pub names : n ≤ 65535
 
+-- what an image within its limits gives for sums and casts
 pub within_limit : (t d b n : ℕ) → limit t d b n ≡ None → Within t d b n
 within_limit t d b n h = by_text (nat_lt 65534 t) refl h
   where
@@ -157,6 +161,7 @@ within_limit t d b n h = by_text (nat_lt 65534 t) refl h
         by_data (record { text = ltb-false 65534 t e; «data» = omega arith; bss = omega arith; names = omega arith })
         (nat_lt 65534 d) refl h
 
+-- and the other way
 pub limit_within : (t d b n : ℕ) → Within t d b n → limit t d b n ≡ None
 limit_within t d b n w = rw (le-ltb 65534 t w.text, le-ltb 65534 d w.data, le-ltb 65534 b w.bss, le-ltb 65535 n w.names) refl
 

@@ -43,6 +43,7 @@ state_mention ms m name =
     by_test false (Some d) w s = refl
     by_test false None w s = ap (λ (k : ℕ). Wanted k) (omega arith)
 
+-- the first definition of a name can be read off its state
 pub definition_of : (ms : List Mention) (name : List ℕ) → first_definition ms name ≡ definition_by (state ms name)
 definition_of ms name = by_definition (first_definition ms name)
   where
@@ -50,6 +51,7 @@ definition_of ms name = by_definition (first_definition ms name)
     by_definition None = refl
     by_definition (Some d) = refl
 
+-- a definition is the same as itself, by the test
 pub own_definition : (segment : Segment) (offset : ℕ) → is_definition segment offset (Some (segment, offset)) ≡ true
 own_definition segment offset =
     let a = eq-eqb (segment_number segment) (segment_number segment) refl in let b = eq-eqb offset offset refl in
@@ -66,6 +68,7 @@ same_segment a b e = back a ∙ ap segment_numbered (eqb-true (segment_number a)
     back segments.BssSeg = refl
     back segments.Other = refl
 
+-- the test of two definitions decides whether they are equal
 pub definition_same : (segment : Segment) (offset : ℕ) (d : Definition) → is_definition segment offset (Some d) ≡ true →
     Some d ≡ Some (segment, offset)
 definition_same segment offset d h =
@@ -74,6 +77,7 @@ definition_same segment offset d h =
     let o : offset ≡ d.1 = eqb-true offset d.1 parts.1 in
     λ i. Some (sym s i, sym o i)
 
+-- a name is the same as itself, by the test
 pub own_name : (name : List ℕ) → bytes_eq name name ≡ true
 own_name name = (bytes_eq-Decides name name).1 refl
 
@@ -103,6 +107,7 @@ multiples_mention ms m =
         ∙ ap (λ (t : Bool). cond t (updated_state (state ms m.name) m.says) (state ms m.name)) (own_name m.name)))
         ∙ by_states (state ms m.name) m.says
 
+-- the test of two names may be turned round
 pub bytes_eq_sym : (a b : List ℕ) → bytes_eq a b ≡ bytes_eq b a
 bytes_eq_sym a b = by_tests (bytes_eq a b) refl (bytes_eq b a) refl
   where

@@ -18,6 +18,7 @@ use Rattle.link_session.proofs.ChainLemmas.{on_last, own_number, other_number, o
 use Rattle.link_session.proofs.ChainLemmas.{none_ahead, chain-unique, walk-is, few_places}
 
 module _ (ts ds : List Link) (head : Link) (segment : Segment) (offset : ℕ) (texts datas : List Cell) (marks : List Mark) where
+  -- before the walk no cell is bound
   pub begun : EndsWithin ts ds head (length texts) (length datas) →
       IsBoundTo ts ds head head segment offset texts datas marks texts datas marks
   begun w = record {
@@ -52,6 +53,7 @@ module _ (ts ds : List Link) (head : Link) (segment : Segment) (offset : ℕ) (t
         (all_split (IsWithin (length texts) (length datas)) w.done (p ∷ a.tail)
         (subst (λ (l : List Place). AllByRecursion (IsWithin (length texts) (length datas)) (w.done ++ l)) a.is w.inside)).1.0
 
+    -- the places that were visited are in the image
     pub done_inside : AllByRecursion (IsWithin (length texts) (length datas)) w.done
     done_inside = (all_split (IsWithin (length texts) (length datas)) w.done w.rest w.inside).0
 
@@ -123,6 +125,7 @@ module _ (ts ds : List Link) (head : Link) (segment : Segment) (offset : ℕ) (t
     few_ahead : length w.rest ≤ length texts + length datas
     few_ahead = omega (arith, few_places (length texts) (length datas) (w.done ++ w.rest) w.apart w.inside, length-append w.done w.rest)
 
+    -- each step leaves a shorter chain: so the walk ends
     pub shorter : (p : Place) → next ≡ Some p → length (walk (length texts + length datas) ts ds (link_at ts ds p))
         < length (walk (length texts + length datas) ts ds next)
     shorter p e =

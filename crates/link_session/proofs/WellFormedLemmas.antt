@@ -57,6 +57,7 @@ word_refers earlier o i number (Some kinds.External) h =
     by_test true h = refl
     by_test false h = absurd (cc)
 
+-- without a first fault there is none in either half
 pub first_of_none : {A : Type 0} (a b : Option A) → first_of a b ≡ None → (a ≡ None) × (b ≡ None)
 first_of_none None b h = (refl, h)
 first_of_none (Some x) b h = absurd (cc)

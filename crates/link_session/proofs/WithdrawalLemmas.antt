@@ -43,6 +43,7 @@ heads_back-states kept es (m ∷ ms) heads =
     by_tests true = refl
     by_tests false = refl
 
+-- marks of names put no cell back, so they change no head
 pub heads_back-after_states : (kept : ℕ) (es : Named) (ms : List Mention) (ks : List Mark) (heads : List Link) →
     heads_back (state_marks kept es ms ++ ks) heads ≡ heads_back ks heads
 heads_back-after_states kept es ms ks heads =

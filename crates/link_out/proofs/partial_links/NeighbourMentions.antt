@@ -59,12 +59,14 @@ module _ (forced : List (List ℕ)) (bs os cs : List Contents) (keep : Keep) (en
   abbrev pub front_said : List Mention
   front_said = map forced_mention forced ++ mentions_after [] bs
 
+  -- those by the objects themselves
   abbrev pub whole_said : List Mention
   whole_said = mentions_after bs os
 
   abbrev pub partial_said : List Mention
   partial_said = mentions_in bs m
 
+  -- those by the objects after them
   abbrev pub back_said : List Mention
   back_said = mentions_after (bs ++ os) cs
 

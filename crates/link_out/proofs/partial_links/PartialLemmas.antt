@@ -32,9 +32,11 @@ use Rattle.link_out.proofs.ObjectLemmas.{relocating}
 abbrev pub partly : Keep → Option (List ℕ) → Choices
 partly keep entry = relocating keep entry false
 
+-- the plan of such a link
 abbrev pub partial_plan : List (List ℕ) → List Contents → Keep → Option (List ℕ) → Plan
 partial_plan forced os keep entry = plan forced os (partly keep entry)
 
+-- and its file, which takes the place of its objects
 abbrev pub partial_file : List (List ℕ) → List Contents → Keep → Option (List ℕ) → Contents
 partial_file forced os keep entry = linked_file (partial_plan forced os keep entry) os
 
