@@ -16,9 +16,7 @@ pub(crate) fn word_place(at: &Suspect<'_>) -> usize
     requires { at.now.start < length at.now.sweep.now.text_words }
     ensures { result ≡ word_place at.now.start }
 {
-    let file = at.sweep.file();
-    let _words = file.text_words();
-    FilePlaces::of(file.header()).text + 2 * at.start
+    FilePlaces::of(at.sweep.file().header()).text + usize::from(at.address())
 }
 
 /// A text that the branch at an address leads to another one.
@@ -64,7 +62,7 @@ fn outside_in(findings: &Findings, at: &Suspect<'_>, target: u16) -> Text
     ensures { Holds result (outside_in at.now.sweep.now at.now.start target at.now.trust.is_sure) }
 {
     let size = (2 * at.sweep.file().text_words().len()) as u32;
-    let address = (2 * at.start) as u32;
+    let address = u32::from(at.address());
     let mut text = outside_text(findings, address, target, size, at.trust.is_sure);
     put_instruction(&mut text, at.sweep.named(), at.start);
     text
@@ -77,8 +75,7 @@ fn within_in(findings: &Findings, at: &Suspect<'_>, target: u16, start: usize) -
     ensures { Holds result
         (within_in at.now.sweep.now at.now.start target start at.now.trust.is_sure) }
 {
-    let _words = at.sweep.file().text_words();
-    let address = (2 * at.start) as u32;
+    let address = u32::from(at.address());
     let start = (2 * start) as u32;
     let mut text = within_text(findings, address, target, start, at.trust.is_sure);
     put_instruction(&mut text, at.sweep.named(), at.start);

@@ -10,6 +10,16 @@ use instructions::{
     branch_target,
 };
 
+/// The address of a place of the text.
+pub(crate) fn address_of(file: &File, place: usize) -> u16
+    requires { place < length file.now.text_words }
+    ensures { result ≡ 2 * place }
+{
+    let is_inside = place < file.text_words().len();
+    prove!(is_inside);
+    (2 * place) as u16
+}
+
 /// Whether the line after an instruction is not reached from it.
 fn ends(operation: Operation) -> bool
     ensures { result ≡ ends operation }

@@ -9,7 +9,7 @@ ghost use Rattle.suspicions.specs.declared.evidence.Evidence.TheVariants.{Symbol
 ghost use Rattle.suspicions.specs.internal.Marks.{AreMarks, is_unmarked};
 
 use crate::evidence::Evidence;
-use crate::leads::{branch_of, jump, next_of};
+use crate::leads::{address_of, branch_of, jump, next_of};
 use aout_core::{File, Reloc, Segment, Symbol};
 use disassemblies::Sweep;
 use instructions::{Addressing, Instruction, Line, Operand, UnixLine, is_relocated};
@@ -167,9 +167,9 @@ fn shown(sweep: &Sweep<'_>, place: usize) -> Option<u16>
     ensures { result ≡ shown sweep.now place }
 {
     let file = sweep.file();
-    let _words = file.text_words();
+    let address = address_of(file, place);
     match sweep.line_from(place) {
-        Some(line) if is_shown(file, place, &line) => Some((2 * place) as u16),
+        Some(line) if is_shown(file, place, &line) => Some(address),
         _ => None,
     }
 }
@@ -226,6 +226,9 @@ fn visit_leads(
     sweep: &Sweep<'_>,
     place: usize,
 ) -> Result<(), AllocError>
+    let end = file.text_words().len();
+    let ends_inside = place + line.length() <= end;
+    prove!(ends_inside);
     requires inside { place < length sweep.now.text_words }
     requires marks { AreMarks marks.old found.old.items }
     ensures found { OnOk result (found.new.items
@@ -234,7 +237,6 @@ fn visit_leads(
     ensures same { length marks.new ≡ length marks.old }
 {
     let file = sweep.file();
-    let _words = file.text_words();
     let line = sweep.line_at(place);
     match line {
         UnixLine::Machine(Line::Decoded(instruction, word, other)) => visit_all(

@@ -1,7 +1,8 @@
 //! A line that is looked at.
 ghost use Rattle.suspicions.specs.SuspicionTexts.{doubt_text};
-ghost use Rattle.std.specs.Prelude.{◌≡◌};
+ghost use Rattle.std.specs.Prelude.{◌≡◌, ◌<◌, ◌*◌, length};
 
+use crate::leads::address_of;
 use crate::trust::Trust;
 use disassemblies::Sweep;
 
@@ -13,6 +14,16 @@ pub(crate) struct Suspect<'a> {
     pub(crate) sure: &'a [bool],
     pub(crate) start: usize,
     pub(crate) trust: Trust,
+}
+
+impl<'a> Suspect<'a> {
+    /// The address of the line.
+    pub(crate) fn address(&self) -> u16
+        requires { self.now.start < length self.now.sweep.now.text_words }
+        ensures { result ≡ 2 * self.now.start }
+    {
+        address_of(self.sweep.file(), self.start)
+    }
 }
 
 /// What is said of a line that may be of data.

@@ -105,11 +105,10 @@ fn find_first(findings: &mut Findings, at: &Suspect<'_>)
         (suspicious_first at.now.sweep.now at.now.trust.is_reached at.now.start) }
 {
     let file = at.sweep.file();
-    let _words = file.text_words();
     if is_relocated(reloc_at(file, at.start))
         && (at.trust.is_reached || may_begin(file, at.start))
     {
-        let text = relocated_first_text(findings, (2 * at.start) as u32, at.trust.is_reached);
+        let text = relocated_first_text(findings, u32::from(at.address()), at.trust.is_reached);
         findings.find(
             reloc_place(file, at.start),
             FindingKind::RelocatedFirstWord,
@@ -187,8 +186,7 @@ fn find_lack(findings: &mut Findings, at: &Suspect<'_>, word: u16)
     requires { at.now.start < length at.now.sweep.now.text_words }
     ensures { Finds findings.old findings.new (suspicious_lack at.now.start (instruction_of word)) }
 {
-    let _words = at.sweep.file().text_words();
-    let address = (2 * at.start) as u32;
+    let address = u32::from(at.address());
     if Instruction::from_first_word(word).is_some() {
         let text = cut_text(findings, address);
         findings.find(word_place(at), FindingKind::CutInstruction, text);
@@ -238,8 +236,7 @@ fn find_branches(findings: &mut Findings, at: &Suspect<'_>, instruction: &Instru
         ++ suspicious_branch at.now.sweep.now at.now.trust at.now.start
         (branch_of (2 * at.now.start) instruction.now.second)) }
 {
-    let _words = at.sweep.file().text_words();
-    let address = (2 * at.start) as u16;
+    let address = at.address();
     find_branch(findings, at, branch_of(address, instruction.first));
     find_branch(findings, at, branch_of(address, instruction.second));
 }
@@ -251,7 +248,8 @@ pub(crate) fn find_line(findings: &mut Findings, at: &Suspect<'_>)
     ensures { Finds findings.old findings.new
         (suspicious_at at.now.sweep.now at.now.trust at.now.start) }
 {
-    let _words = at.sweep.file().text_words();
+    let is_inside = at.start < at.sweep.file().text_words().len();
+    prove!(is_inside);
     match at.sweep.line_at(at.start) {
         UnixLine::Machine(Line::Plain(word)) => find_plain(findings, at, word),
         UnixLine::Machine(Line::Decoded(instruction, _, _)) => {
