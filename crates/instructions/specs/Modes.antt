@@ -54,3 +54,9 @@ addressing IndexDeferred r = if is_pc r then Some RelativeDeferred else Some Ind
 addressing Increment r = if is_pc r then Some Immediate else None
 addressing IncrementDeferred r = if is_pc r then Some Absolute else None
 addressing _ r = None
+
+-- the machine adds the address after the operand word to it: modes 67 and 77
+abbrev pub counts_from_pc : Addressing → Bool
+counts_from_pc Relative = true
+counts_from_pc RelativeDeferred = true
+counts_from_pc _ = false

@@ -1,6 +1,6 @@
 //! The modes and registers of general operands.
 ghost use Rattle.std.specs.Prelude.{◌≡◌, ◌≤◌};
-ghost use Rattle.instructions.specs.Modes.{mode_numbered, mode_number, register_numbered, register_number, has_word, addressing};
+ghost use Rattle.instructions.specs.Modes.{mode_numbered, mode_number, register_numbered, register_number, has_word, addressing, counts_from_pc};
 
 /// How an operand is found by its register, in the order of the modes' numbers. (the handbook of the PDP-11/70)
 #[derive(Clone, Copy, Debug, PartialEq, Eq)]
@@ -36,6 +36,18 @@ pub enum Addressing {
     RelativeDeferred,
     /// Modes 6 and 7 of another register: the word is added to the register.
     Indexed,
+}
+
+impl Addressing {
+    /// Whether the machine adds the address after the operand word to it: modes 67 and 77. (the handbook of the PDP-11/70)
+    pub fn counts_from_pc(self) -> bool
+        ensures { result ≡ counts_from_pc self }
+    {
+        match self {
+            Addressing::Relative | Addressing::RelativeDeferred => true,
+            _ => false,
+        }
+    }
 }
 
 impl Mode {

@@ -39,7 +39,7 @@ use Rattle.instructions.specs.declared.mode.Addressing.TheVariants.{Immediate, A
 use Rattle.instructions.specs.declared.operand.Operand.{Operand}
 use Rattle.instructions.specs.declared.operand.Operand.TheVariants as operands
 use Rattle.instructions.specs.declared.instruction.Instruction.{Instruction}
-use Rattle.instructions.specs.Modes.{is_pc, has_word, addressing}
+use Rattle.instructions.specs.Modes.{is_pc, has_word, addressing, counts_from_pc}
 use Rattle.instructions.specs.Operands.{takes_word}
 use Rattle.instructions.specs.Instructions.{instruction_of, jumps, word_count_of, following_words}
 use Rattle.instructions.specs.Alike.{is_cut}
@@ -47,7 +47,7 @@ use Rattle.instructions.proofs.AlikeLemmas.{get_inside}
 use Rattle.laws.specs.Core.{Space, of_instructions, of_data, IsWordAt}
 use Rattle.laws.specs.CoreLaws.{space_of}
 use Rattle.laws.specs.Operands.{operand, FindsMore, segment_meant, Defines}
-use Rattle.laws.specs.OperandWords.{is_relative, machine_value, space_used}
+use Rattle.laws.specs.OperandWords.{machine_value, space_used}
 use Rattle.laws.specs.OperandPlaces.{addressing_of, within_text, kind_meant, IsNamedByte, IsAddress, HasOperand}
 use Rattle.laws.specs.OperandPlaces.{IsOperand, OperandsAreThere, IsDirect, JumpsArrive, PointersToSegments}
 use Rattle.laws.specs.OperandPlaces.{PointersToNames}
@@ -138,10 +138,11 @@ module _ (forced : List (List ℕ)) (os : List Contents) (o : Choices) (x : Outc
 
 -- the relocation word of an operand word suits its addressing, or the word is a distance within the text
 abbrev Suits : Addressing → Reloc → Kind → Type 0
-Suits a r kind = (is_pc_relative r ≡ is_relative a) × (kind_of r ≡ Some kind)
+Suits a r kind = (is_pc_relative r ≡ counts_from_pc a) × (kind_of r ≡ Some kind)
 
 abbrev IsDistance : Addressing → Reloc → Kind → Type 0
-IsDistance a r kind = (is_relative a ≡ true) × (is_pc_relative r ≡ false) × (kind_of r ≡ Some kinds.Absolute) × (kind ≡ kinds.TextSeg)
+IsDistance a r kind =
+    (counts_from_pc a ≡ true) × (is_pc_relative r ≡ false) × (kind_of r ≡ Some kinds.Absolute) × (kind ≡ kinds.TextSeg)
 
 text_of : (found : Option Kind) (kind : Kind) → within_text found ≡ Some kind → (found ≡ Some kinds.Absolute) × (kind ≡ kinds.TextSeg)
 text_of None kind e = absurd cc
@@ -151,7 +152,7 @@ text_of (Some kinds.DataSeg) kind e = absurd cc
 text_of (Some kinds.BssSeg) kind e = absurd cc
 text_of (Some kinds.External) kind e = absurd cc
 
-suits_by : (a : Addressing) (r : Reloc) (kind : Kind) (relative pc : Bool) → is_relative a ≡ relative → is_pc_relative r ≡ pc →
+suits_by : (a : Addressing) (r : Reloc) (kind : Kind) (relative pc : Bool) → counts_from_pc a ≡ relative → is_pc_relative r ≡ pc →
     (if relative then (if pc then kind_of r else within_text (kind_of r)) else (if pc then None else kind_of r)) ≡ Some kind →
     Suits a r kind ⊎ IsDistance a r kind
 suits_by a r kind true true e f h = inl (f ∙ sym e, h)
@@ -160,10 +161,10 @@ suits_by a r kind false true e f h = absurd cc
 suits_by a r kind false false e f h = inl (f ∙ sym e, h)
 
 suits : (a : Addressing) (r : Reloc) (kind : Kind) → kind_meant a r ≡ Some kind → Suits a r kind ⊎ IsDistance a r kind
-suits a r kind h = suits_by a r kind (is_relative a) (is_pc_relative r) refl refl h
+suits a r kind h = suits_by a r kind (counts_from_pc a) (is_pc_relative r) refl refl h
 
 -- what the machine makes of a distance within the text is moved with the text
-distance_value : (a : Addressing) → is_relative a ≡ true → (i w address word move : ℕ) →
+distance_value : (a : Addressing) → counts_from_pc a ≡ true → (i w address word move : ℕ) →
     operand false address word ≡ plus 0 (operand false (0 + 2 * i) w) →
     plus (0 + 2 * i) move ≡ address % 65536 → machine_value a (address + 2) word ≡ plus move (machine_value a (2 * i + 2) w)
 distance_value a e i w address word move f there = by_mode a e
@@ -175,7 +176,8 @@ distance_value a e i w address word move f there = by_mode a e
         let r : (word + (address + 2)) % 65536 ≡ (move + (w + (2 * i + 2)) % 65536) % 65536 = omega arith in
         r
 
-    by_mode : (a : Addressing) → is_relative a ≡ true → machine_value a (address + 2) word ≡ plus move (machine_value a (2 * i + 2) w)
+    by_mode : (a : Addressing) → counts_from_pc a ≡ true →
+        machine_value a (address + 2) word ≡ plus move (machine_value a (2 * i + 2) w)
     by_mode Relative e = sums
     by_mode RelativeDeferred e = sums
     by_mode Absolute e = absurd cc
@@ -183,7 +185,7 @@ distance_value a e i w address word move f there = by_mode a e
     by_mode Indexed e = absurd cc
 
 -- what the machine makes of a word whose pc bit suits its addressing
-suited_value : (a : Addressing) (r : Reloc) → is_pc_relative r ≡ is_relative a → (i w address word more : ℕ) →
+suited_value : (a : Addressing) (r : Reloc) → is_pc_relative r ≡ counts_from_pc a → (i w address word more : ℕ) →
     operand (is_pc_relative r) address word ≡ plus more (operand (is_pc_relative r) (0 + 2 * i) w) →
     machine_value a (address + 2) word ≡ plus more (machine_value a (2 * i + 2) w)
 suited_value a r e i w address word more f =
@@ -336,6 +338,7 @@ word_inside ws i w following here instruction is whole operand p place takes =
         let sum : word_count_of instruction.first + word_count_of instruction.second ≤ length following = enough in
         omega arith
 
+-- for `instruction_law`: each operand is the address of the byte to which it refers
 pub operands_there : OperandsAreThere
 operands_there forced before k after o x good linked i w following here instruction is whole operand p place a e =
     let inside : p < length k.text_words =
@@ -351,6 +354,7 @@ jump_space operation a j (inl e) =
 jump_space operation a j (inr e) =
     ap (λ (b : Addressing). space_used operation b) e ∙ ap (λ (t : Bool). if t then of_instructions else of_data) j
 
+-- for `instruction_law`: a jump or a call to a name arrives at its definition
 pub jumps_arrive : JumpsArrive
 jumps_arrive forced before k after o x good kept linked once i w following here instruction is whole j operand p place a
     e direct u r ew er front c back all to n b =
@@ -372,6 +376,7 @@ alone_value r start address word more w e f =
     subst (λ (pc : Bool). operand pc address word ≡ plus more (operand pc start w)) e f
     ∙ (let p : (more + (0 + w) % 65536) % 65536 ≡ (more + w % 65536) % 65536 = omega arith in p)
 
+-- for `pointer_law`: a word that refers to a segment of its object
 pub pointers_to_segments : PointersToSegments
 pointers_to_segments forced before k after o x good linked from i w r ew er alone to n b =
     let f = segments_found forced before k after o x good linked from i w r ew er b.meant to b.is b.segment in
@@ -390,6 +395,7 @@ pointers_to_segments forced before k after o x good linked from i w r ew er alon
           (any_place x.file.header (before ++ k ∷ after) before k to n).symbol);
     }
 
+-- and one that refers to a name
 pub pointers_to_names : PointersToNames
 pointers_to_names forced before k after o x good kept linked once from i w r ew er alone front c back all to n b =
     let f = address_found forced before k after o x good kept linked from i w r ew er b.is in

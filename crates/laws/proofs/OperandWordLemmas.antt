@@ -6,10 +6,11 @@ use Rattle.aout_core.specs.Contents.{Contents}
 use Rattle.aout_core.specs.Words.{plus}
 use Rattle.aout_core.specs.WellFormed.{is_pc_relative}
 use Rattle.link_laws.specs.relation.Relocated.{move_in}
+use Rattle.instructions.specs.Modes.{counts_from_pc}
 use Rattle.instructions.specs.declared.mode.Addressing.{Addressing}
 use Rattle.instructions.specs.declared.mode.Addressing.TheVariants.{Immediate, Absolute, Relative, RelativeDeferred, Indexed}
 use Rattle.laws.specs.Operands.{operand, FindsMore}
-use Rattle.laws.specs.OperandWords.{is_relative, machine_value, GivesMore, OperandsGiveNames, OperandsGiveSegments}
+use Rattle.laws.specs.OperandWords.{machine_value, GivesMore, OperandsGiveNames, OperandsGiveSegments}
 use Rattle.laws.proofs.OperandLemmas.{names_found, segments_found}
 
 with_next : (address word : ℕ) → plus word (address + 2) ≡ plus (address + 2) word
@@ -18,7 +19,8 @@ with_next address word = let e : (word + (address + 2)) % 65536 ≡ (address + 2
 alone : (word : ℕ) → word % 65536 ≡ plus 0 word
 alone word = let e : word % 65536 ≡ (0 + word) % 65536 = omega arith in e
 
-pub machine_is : (a : Addressing) (pc : Bool) → pc ≡ is_relative a → (address word : ℕ) →
+-- with a pc bit that suits the mode, what the machine computes is what the format says
+pub machine_is : (a : Addressing) (pc : Bool) → pc ≡ counts_from_pc a → (address word : ℕ) →
     machine_value a (address + 2) word ≡ operand pc address word
 machine_is Relative true e address word = with_next address word
 machine_is Relative false e address word = absurd cc
@@ -32,7 +34,7 @@ machine_is Indexed true e address word = absurd cc
 machine_is Indexed false e address word = alone word
 
 gives_more : (file : Contents) (os before : List Contents) (k : Contents) (i w : ℕ) (r : Reloc) (more : ℕ) (a : Addressing) →
-    is_pc_relative r ≡ is_relative a → FindsMore file os before k TextSeg i w r more → GivesMore file os before k a i w more
+    is_pc_relative r ≡ counts_from_pc a → FindsMore file os before k TextSeg i w r more → GivesMore file os before k a i w more
 gives_more file os before k i w r more a e f =
     let from_nothing : 0 + 2 * i ≡ 2 * i = omega arith in
     record {
@@ -47,6 +49,7 @@ gives_more file os before k i w r more a e f =
           (sym (machine_is a (is_pc_relative r) e (0 + 2 * i) w) ∙ ap (λ (n : ℕ). machine_value a (n + 2) w) from_nothing);
     }
 
+-- for `operand_word_law`: an operand that refers to a name
 pub operands_give_names : OperandsGiveNames
 operands_give_names forced before k after o x good kept final linked i w r ew er a e kind =
     let f = names_found forced before k after o x good kept final linked TextSeg i w r ew er kind in
@@ -58,6 +61,7 @@ operands_give_names forced before k after o x good kept final linked i w r ew er
       more = gives_more x.file (before ++ k ∷ after) before k i w r f.row.value a e f.more;
     }
 
+-- and one that refers to a segment
 pub operands_give_segments : OperandsGiveSegments
 operands_give_segments forced before k after o x good linked i w r ew er a e kind meant is m =
     let f = segments_found forced before k after o x good linked TextSeg i w r ew er kind meant is m in

@@ -20,6 +20,7 @@ use Rattle.tool_options.specs.Choices.{Choices}
 use Rattle.link_out.specs.Results.{Outcome}
 use Rattle.link_out.specs.function.Link.{link}
 use Rattle.link_laws.proofs.LinkedTheorem.{linked_exactly}
+use Rattle.instructions.specs.Modes.{counts_from_pc}
 use Rattle.instructions.specs.declared.operation.Operation.{Operation}
 use Rattle.instructions.specs.declared.mode.Addressing.{Addressing}
 use Rattle.instructions.specs.declared.mode.Addressing.TheVariants.{Immediate, Absolute, Relative, RelativeDeferred, Indexed}
@@ -42,11 +43,10 @@ use Rattle.instructions.specs.UnixLaws.{sys, AreMadeBySys}
 use Rattle.instructions.proofs.CallLemmas.{each_made_by_sys}
 use Rattle.disassemblies.specs.Lines.{unix_line_in}
 use Rattle.suspicions.specs.declared.evidence.Evidence.TheVariants.{Distances}
-use Rattle.suspicions.specs.Reached.{counts_from_pc}
 use Rattle.suspicions.specs.Trust.{is_plain}
 use Rattle.suspicions.specs.SureLaw.{SuitsMode, SuitsModes}
 use Rattle.suspicions.proofs.SureLemmas.{place_below, sure_places, reached_words}
-use Rattle.laws.specs.OperandWords.{is_relative, machine_value}
+use Rattle.laws.specs.OperandWords.{machine_value}
 use Rattle.laws.specs.OperandPlaces.{addressing_of, within_text, kind_meant, IsOwnByte, HasOperand, IsOperand}
 use Rattle.laws.specs.ReachedInstructions.{kind_said, HasOperandSaid, ReachedInstructionsAreKept, SurePlacesBegin}
 use Rattle.laws.proofs.InstructionLemmas.{moves_low}
@@ -147,18 +147,11 @@ operand_suits k i w following here instruction is whole still modes operand p pl
         let same : instruction ≡ sys c.number = same_Some instruction (sys c.number) (sym is ∙ call_made w c e) in
         no_operand_word k i c.number operand p (subst (λ (j : Instruction). IsOperand j i operand p) same place)
 
-counts : (a : Addressing) → counts_from_pc a ≡ is_relative a
-counts Relative = refl
-counts RelativeDeferred = refl
-counts Absolute = refl
-counts Immediate = refl
-counts Indexed = refl
-
 bit_suits : (k : Contents) (p : ℕ) (operand : Option Operand) (a : Addressing) (r : Reloc) → SuitsMode k p operand →
     addressing_of operand ≡ Some a → slice_get k.text_reloc p ≡ Some r → is_relocated (Some r) ≡ true →
-    is_pc_relative r ≡ is_relative a
+    is_pc_relative r ≡ counts_from_pc a
 bit_suits k p None a r s e at moved = absurd cc
-bit_suits k p (Some (operands.General m register)) a r s e at moved = s a r e at moved ∙ counts a
+bit_suits k p (Some (operands.General m register)) a r s e at moved = s a r e at moved
 bit_suits k p (Some (operands.Accumulator v)) a r s e at moved = absurd cc
 bit_suits k p (Some (operands.Register v)) a r s e at moved = absurd cc
 bit_suits k p (Some (operands.Forward v)) a r s e at moved = absurd cc
@@ -214,22 +207,22 @@ said_alone true = refl
 said_alone false = refl
 
 said_by : (a : Addressing) (r : Reloc) (kind : Kind) (moved : Bool) → is_relocated (Some r) ≡ moved → kind_of r ≡ Some kind →
-    (is_relocated (Some r) ≡ true → is_pc_relative r ≡ is_relative a) → IsSaid a r
+    (is_relocated (Some r) ≡ true → is_pc_relative r ≡ counts_from_pc a) → IsSaid a r
 said_by a r kind true e is bit = record {
   kind = kind;
-  said = ap (λ (b : Bool). if b then kind_of r else (if is_relative a then Some kinds.TextSeg else Some kinds.Absolute)) e ∙ is;
-  meant = meant_if_same (is_relative a) (is_pc_relative r) (kind_of r) (bit e) ∙ is;
+  said = ap (λ (b : Bool). if b then kind_of r else (if counts_from_pc a then Some kinds.TextSeg else Some kinds.Absolute)) e ∙ is;
+  meant = meant_if_same (counts_from_pc a) (is_pc_relative r) (kind_of r) (bit e) ∙ is;
 }
 said_by a r kind false e is bit =
     let low : r.0 % 16 ≡ 0 = moves_low (r ∷ []) 0 r refl e in
     let number : kind_of r ≡ Some kinds.Absolute = ap kind_numbered (let z : r.0 / 2 % 8 ≡ 0 = omega arith in z) in
     let pc : is_pc_relative r ≡ false = ap (λ (n : ℕ). eqb n 1) (let z : r.0 % 2 ≡ 0 = omega arith in z) in
     record {
-      kind = number_or_distance (is_relative a);
+      kind = number_or_distance (counts_from_pc a);
       said =
-          ap (λ (b : Bool). if b then kind_of r else (if is_relative a then Some kinds.TextSeg else Some kinds.Absolute)) e
-          ∙ said_alone (is_relative a);
-      meant = meant_alone (is_relative a) (is_pc_relative r) (kind_of r) pc number;
+          ap (λ (b : Bool). if b then kind_of r else (if counts_from_pc a then Some kinds.TextSeg else Some kinds.Absolute)) e
+          ∙ said_alone (counts_from_pc a);
+      meant = meant_alone (counts_from_pc a) (is_pc_relative r) (kind_of r) pc number;
     }
 
 -- what the machine makes of a word is a word
@@ -245,7 +238,7 @@ same_number n value address small is there = let p : (0 + n + 0) % 65536 ≡ add
 
 operand_said : (os : List Contents) (o : Choices) (x : Outcome) (before : List Contents) (k : Contents) (operation : Operation)
     (a : Addressing) (p : ℕ) → IsObject k → (h : HasOperand os o x before k operation a p) →
-    (is_relocated (Some h.r) ≡ true → is_pc_relative h.r ≡ is_relative a) → HasOperandSaid os o x before k operation a p
+    (is_relocated (Some h.r) ≡ true → is_pc_relative h.r ≡ counts_from_pc a) → HasOperandSaid os o x before k operation a p
 operand_said os o x before k operation a p is h bit =
     let found = kind_at k.symbols 0 k.text_reloc k.data_reloc p h.r (well_formed_parts k is.well).1 h.reloc_in in
     let s : IsSaid a h.r = said_by a h.r found.0 (is_relocated (Some h.r)) refl found.1 bit in
@@ -268,6 +261,7 @@ operand_said os o x before k operation a p is h bit =
           there.place.symbol;
     }
 
+-- for `reached_instruction_law`: a reached instruction is in the program, with its operands
 pub reached_instructions_kept : ReachedInstructionsAreKept
 reached_instructions_kept forced before k after o x good small none l v i r w following here instruction is whole =
     let linked : link forced (before ++ k ∷ after) o ≡ Ok x = (linked_exactly forced (before ++ k ∷ after) o x good).1 l in
@@ -313,6 +307,7 @@ begins w ws i same (Some c) e plain =
           ∙ le-ltb (length (drop (i + 1) ws)) 0 (omega arith);
     }
 
+-- and one begins at each place that distances reach
 pub sure_places_begin : SurePlacesBegin
 sure_places_begin k none i r =
     let still = (reached_words k none Distances i r).0 in

@@ -30,13 +30,13 @@ use Rattle.instructions.specs.declared.mode.Addressing.TheVariants.{Absolute, Re
 use Rattle.instructions.specs.declared.operand.Operand.{Operand}
 use Rattle.instructions.specs.declared.operand.Operand.TheVariants.{General}
 use Rattle.instructions.specs.declared.instruction.Instruction.{Instruction}
-use Rattle.instructions.specs.Modes.{addressing}
+use Rattle.instructions.specs.Modes.{addressing, counts_from_pc}
 use Rattle.instructions.specs.Instructions.{instruction_of, jumps, word_count_of}
 use Rattle.instructions.specs.Alike.{is_cut}
 use Rattle.laws.specs.Core.{Space, of_instructions, is_in, IsWordAt}
 use Rattle.laws.specs.CoreLaws.{space_of, IsPlace}
 use Rattle.laws.specs.Operands.{operand, segment_meant, Defines, is_usable_in}
-use Rattle.laws.specs.OperandWords.{is_relative, machine_value, space_used}
+use Rattle.laws.specs.OperandWords.{machine_value, space_used}
 
 -- how an operand uses its word, if it has one
 abbrev pub addressing_of : Option Operand → Option Addressing
@@ -52,7 +52,7 @@ within_text _ = None
 -- that is not relocated is within the text
 abbrev pub kind_meant : Addressing → Reloc → Option Kind
 kind_meant a r =
-    if is_relative a then (if is_pc_relative r then kind_of r else within_text (kind_of r))
+    if counts_from_pc a then (if is_pc_relative r then kind_of r else within_text (kind_of r))
     else (if is_pc_relative r then None else kind_of r)
 
 -- the number that a word of this kind gives in k is the address in k of byte n of a segment of k; for an absolute word it is n itself

@@ -20,6 +20,7 @@ use Rattle.tool_options.specs.Choices.{Choices}
 use Rattle.link_out.specs.Results.{Outcome}
 use Rattle.link_out.specs.function.Link.{link}
 use Rattle.link_laws.specs.relation.Relocated.{move_in, entry_of}
+use Rattle.instructions.specs.Modes.{counts_from_pc}
 use Rattle.instructions.specs.declared.operation.Operation.{Operation}
 use Rattle.instructions.specs.declared.mode.Addressing.{Addressing}
 use Rattle.instructions.specs.declared.mode.Addressing.TheVariants.{Immediate, Absolute, Relative, RelativeDeferred, Indexed}
@@ -27,12 +28,6 @@ use Rattle.instructions.specs.Instructions.{jumps}
 use Rattle.laws.specs.Core.{Space, of_instructions, of_data, IsWordAt}
 use Rattle.laws.specs.CoreLaws.{IsPlace}
 use Rattle.laws.specs.Operands.{segment_meant}
-
--- modes 67 and 77
-abbrev pub is_relative : Addressing → Bool
-is_relative Relative = true
-is_relative RelativeDeferred = true
-is_relative _ = false
 
 -- what the machine makes of an operand word, by the address after the word, modulo 65,536
 abbrev pub machine_value : Addressing → ℕ → ℕ → ℕ
@@ -68,7 +63,7 @@ abbrev pub OperandsGiveNames : Type 0
 OperandsGiveNames = (forced : List (List ℕ)) (before : List Contents) (k : Contents) (after : List Contents) (o : Choices) (x : Outcome) →
     AllByRecursion IsObject (before ++ k ∷ after) → o.keep ≢ Nothing → o.relocatable ≡ false → link forced (before ++ k ∷ after) o ≡ Ok x →
     (i w : ℕ) (r : Reloc) → slice_get k.text_words i ≡ Some w → slice_get k.text_reloc i ≡ Some r →
-    (a : Addressing) → is_pc_relative r ≡ is_relative a → kind_of r ≡ Some kinds.External →
+    (a : Addressing) → is_pc_relative r ≡ counts_from_pc a → kind_of r ≡ Some kinds.External →
     GivesName x.file (before ++ k ∷ after) before k a i w r
 
 -- if it refers to a segment of its object, it is more by how far that segment was moved
@@ -77,6 +72,6 @@ OperandsGiveSegments =
     (forced : List (List ℕ)) (before : List Contents) (k : Contents) (after : List Contents) (o : Choices) (x : Outcome) →
     AllByRecursion IsObject (before ++ k ∷ after) → link forced (before ++ k ∷ after) o ≡ Ok x →
     (i w : ℕ) (r : Reloc) → slice_get k.text_words i ≡ Some w → slice_get k.text_reloc i ≡ Some r →
-    (a : Addressing) → is_pc_relative r ≡ is_relative a → (kind : Kind) (meant : Segment) → kind_of r ≡ Some kind →
+    (a : Addressing) → is_pc_relative r ≡ counts_from_pc a → (kind : Kind) (meant : Segment) → kind_of r ≡ Some kind →
     segment_meant kind ≡ Some meant →
     GivesMore x.file (before ++ k ∷ after) before k a i w (move_in x.file.header (before ++ k ∷ after) before k meant)

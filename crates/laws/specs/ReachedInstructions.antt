@@ -16,6 +16,7 @@ use Rattle.link_session.specs.Sessions.{IsObject}
 use Rattle.tool_options.specs.Choices.{Choices}
 use Rattle.link_out.specs.Results.{Outcome}
 use Rattle.link_laws.specs.relation.LinkedFrom.{IsLinkedFrom}
+use Rattle.instructions.specs.Modes.{counts_from_pc}
 use Rattle.instructions.specs.declared.operation.Operation.{Operation}
 use Rattle.instructions.specs.declared.mode.Addressing.{Addressing}
 use Rattle.instructions.specs.declared.operand.Operand.{Operand}
@@ -28,13 +29,13 @@ use Rattle.suspicions.specs.declared.evidence.Evidence.TheVariants.{Distances}
 use Rattle.suspicions.specs.ReachedLaw.{IsReached}
 use Rattle.suspicions.specs.SureSuspicions.{sure_suspicions}
 use Rattle.laws.specs.Instructions.{KeepsLineAt}
-use Rattle.laws.specs.OperandWords.{is_relative, machine_value}
+use Rattle.laws.specs.OperandWords.{machine_value}
 use Rattle.laws.specs.OperandPlaces.{addressing_of, kind_meant, HasOperand, IsOperand}
 
 -- what an operand word refers to: the kind of its relocation word. One that is not relocated is a distance within the text in modes 67 and
 -- 77, and else a number
 abbrev pub kind_said : Addressing → Reloc → Option Kind
-kind_said a r = if is_relocated (Some r) then kind_of r else (if is_relative a then Some kinds.TextSeg else Some kinds.Absolute)
+kind_said a r = if is_relocated (Some r) then kind_of r else (if counts_from_pc a then Some kinds.TextSeg else Some kinds.Absolute)
 
 -- word p of the text of k is the operand word of such an operand. In the program the operand is the address of the byte to which the
 -- word refers in k (`HasOperand`), and that is a byte of what its relocation word refers to
@@ -44,7 +45,7 @@ pub record HasOperandSaid (os : List Contents) (o : Choices) (x : Outcome) (befo
   pub kind : Kind
   pub said : kind_said a operand.r ≡ Some kind
   pub meant : kind_meant a operand.r ≡ Some kind
-  pub bit : is_relocated (Some operand.r) ≡ true → is_pc_relative operand.r ≡ is_relative a
+  pub bit : is_relocated (Some operand.r) ≡ true → is_pc_relative operand.r ≡ counts_from_pc a
   -- a number is the same in the program
   pub number : kind ≡ kinds.Absolute →
       machine_value a (operand.address + 2) operand.word ≡ machine_value a (2 * p + 2) operand.w

@@ -11,7 +11,7 @@ use Rattle.aout_core.specs.declared.symbol.Symbol.{Symbol}
 use Rattle.aout_core.specs.declared.part.Part.{Part}
 use Rattle.aout_core.specs.declared.part.Part.TheVariants.{Text, Data}
 use Rattle.tool_options.specs.NameLists.{is_among}
-use Rattle.link_session.specs.Labelled.{objects}
+use Rattle.link_session.specs.Labelled.{number_or_none, objects}
 use Rattle.link_session.specs.Mentions.{externals}
 use Rattle.link_session.specs.Undo.{Kept, image_of}
 use Rattle.link_out.specs.declared.linked.Linked.{Linked}
@@ -42,11 +42,6 @@ object_record m at = record {
 
 abbrev pub object_records : List Member → List Places → List ObjectRecord
 object_records ms ats = map (λ p. object_record p.0 p.1) (zip ms ats)
-
--- the number of an object, or the largest number of 64 bits for none
-abbrev pub number_or_none : Option ℕ → ℕ
-number_or_none None = 2 ^ 64 - 1
-number_or_none (Some n) = n
 
 -- ---- the uses of each name
 

@@ -15,12 +15,9 @@ use Rattle.link_out.specs.declared.linked.LinkFault.TheVariants.{Memory}
 use Rattle.link_out.specs.Layouts.{Bases}
 use Rattle.link_out.specs.Outcomes.{IsLinkOf}
 use Rattle.link_out.specs.function.Link.{link}
-use Rattle.link_out.specs.function.Plans.{Plan, plan}
+use Rattle.link_out.specs.function.Plans.{plan_of}
 use Rattle.link_out.specs.function.Tables.{external_row, external_rows}
 use Rattle.link_maps.specs.declared.outcome.Outcome.{Outcome}
-
-abbrev pub plan_of : Kept → Choices → Plan
-plan_of k choices = plan k.forced (objects k.entries) choices
 
 -- the addresses of the segments, the link or why it is refused, and the rows of the externals, if the link fits
 pub record IsOutcome (o : Outcome) (k : Kept) (choices : Choices) : Type 0 where

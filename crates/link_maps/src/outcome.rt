@@ -6,8 +6,9 @@ ghost use Rattle.tool_options.specs.Choices.{Choices};
 ghost use Rattle.link_out.specs.declared.linked.LinkFault.TheVariants.{Memory};
 ghost use Rattle.link_out.specs.Outcomes.{IsLinkOf};
 ghost use Rattle.link_out.specs.function.Link.{link};
+ghost use Rattle.link_out.specs.function.Plans.{plan_of};
 ghost use Rattle.link_out.specs.function.Tables.{external_rows};
-ghost use Rattle.link_maps.specs.Rows.{IsOutcome, plan_of, row_at, row_of, number_in, largest_in, largest_number};
+ghost use Rattle.link_maps.specs.Rows.{IsOutcome, row_at, row_of, number_in, largest_in, largest_number};
 
 use aout_core::{File, Kind, Name, Reloc, Symbol};
 use link_out::{Bases, LinkFault, Linked, Options, finish, link_bases, link_externals};

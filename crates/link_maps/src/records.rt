@@ -2,7 +2,8 @@
 ghost use Rattle.std.specs.Prelude.{◌≡◌, ◌++◌, ◌<◌, ◌≤◌, length, map, IfOk, OnOk};
 ghost use Rattle.std.specs.List.{flat_map};
 ghost use Rattle.aout_core.specs.Names.{padded};
-ghost use Rattle.link_maps.specs.Records.{beyond_label, by_name, is_same_name, label_shown, number_or_none, object_record, object_records, places_in, records_from, use_kind, use_record, use_records, uses_of_name, word_kind, word_record};
+ghost use Rattle.link_session.specs.Labelled.{number_or_none};
+ghost use Rattle.link_maps.specs.Records.{beyond_label, by_name, is_same_name, label_shown, object_record, object_records, places_in, records_from, use_kind, use_record, use_records, uses_of_name, word_kind, word_record};
 
 use crate::members::Member;
 use crate::places::Places;

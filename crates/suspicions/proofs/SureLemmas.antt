@@ -9,6 +9,7 @@ use Rattle.std.proofs.lemmas.List.Elements.{Contains-append_left, Contains-appen
 use Rattle.aout_core.specs.declared.reloc.Reloc.{Reloc}
 use Rattle.aout_core.specs.Contents.{Contents}
 use Rattle.aout_core.specs.WellFormed.{is_pc_relative}
+use Rattle.instructions.specs.Modes.{counts_from_pc}
 use Rattle.instructions.specs.declared.operand.Operand.{Operand}
 use Rattle.instructions.specs.declared.operand.Operand.TheVariants.{General, Accumulator, Register, Forward, Backward, Number}
 use Rattle.instructions.specs.declared.instruction.Instruction.{Instruction}
@@ -27,7 +28,7 @@ use Rattle.findings.specs.declared.finding.FindingKind.TheVariants.{RelocatedFir
 use Rattle.suspicions.specs.declared.evidence.Evidence.{Evidence}
 use Rattle.suspicions.specs.declared.evidence.Evidence.TheVariants.{Symbols, Distances}
 use Rattle.suspicions.specs.declared.trust.Trust.{Trust}
-use Rattle.suspicions.specs.Reached.{branch_of, counts_from_pc, is_reached}
+use Rattle.suspicions.specs.Reached.{branch_of, is_reached}
 use Rattle.suspicions.specs.ReachedLaw.{IsReached, Evident, Led}
 use Rattle.suspicions.specs.Trust.{is_sure, is_likely, is_plain, past_place, trust}
 use Rattle.suspicions.specs.Branches.{word_place, has_word_at, enters, entered_by, entered, suspicious_entry, suspicious_target, suspicious_branch}

@@ -26,7 +26,7 @@ use Rattle.instructions.specs.declared.call.SystemCall.TheVariants as calls
 use Rattle.instructions.specs.declared.unix.Decoder.TheVariants.{Unix}
 use Rattle.instructions.specs.declared.unix.UnixLine.{UnixLine}
 use Rattle.instructions.specs.declared.unix.UnixLine.TheVariants.{Machine, Call}
-use Rattle.instructions.specs.Modes.{addressing}
+use Rattle.instructions.specs.Modes.{addressing, counts_from_pc}
 use Rattle.instructions.specs.Instructions.{jumps, word_count_of}
 use Rattle.instructions.specs.Relocated.{is_relocated}
 use Rattle.instructions.specs.Texts.{number, branch_target, branch_back_target}
@@ -136,12 +136,6 @@ visited_all count found (a ∷ rest) = visited_all count (visited count found a)
 abbrev pub named : Contents → Symbol → Option ℕ
 named c s =
     if eqb (masked_type s) (segment_number TextSeg) && not (is_relocated (slice_get c.text_reloc (s.value / 2))) then Some s.value else None
-
--- an operand counts from the pc
-abbrev pub counts_from_pc : Addressing → Bool
-counts_from_pc ways.Relative = true
-counts_from_pc ways.RelativeDeferred = true
-counts_from_pc _ = false
 
 -- an operand word counts from the pc, and is relocated so
 abbrev pub is_distance : Option Reloc → Option Addressing → Bool

@@ -11,14 +11,14 @@ use Rattle.instructions.specs.declared.line.Line.TheVariants.{Decoded}
 use Rattle.instructions.specs.declared.unix.Decoder.TheVariants.{Unix}
 use Rattle.instructions.specs.declared.unix.UnixLine.{UnixLine}
 use Rattle.instructions.specs.declared.unix.UnixLine.TheVariants.{Machine}
-use Rattle.instructions.specs.Modes.{addressing}
+use Rattle.instructions.specs.Modes.{addressing, counts_from_pc}
 use Rattle.instructions.specs.Instructions.{word_count_of}
 use Rattle.instructions.specs.Relocated.{is_relocated}
 use Rattle.instructions.specs.UnixLines.{unix_length}
 use Rattle.disassemblies.specs.Lines.{unix_line_in}
 use Rattle.suspicions.specs.declared.evidence.Evidence.{Evidence}
 use Rattle.suspicions.specs.declared.evidence.Evidence.TheVariants.{Distances}
-use Rattle.suspicions.specs.Reached.{branch_of, counts_from_pc}
+use Rattle.suspicions.specs.Reached.{branch_of}
 use Rattle.suspicions.specs.ReachedLaw.{IsReached}
 use Rattle.suspicions.specs.Trust.{is_plain}
 use Rattle.suspicions.specs.Suspicions.{suspicions}

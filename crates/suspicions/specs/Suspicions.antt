@@ -22,7 +22,7 @@ use Rattle.instructions.specs.declared.line.Line.TheVariants.{Plain, Decoded}
 use Rattle.instructions.specs.declared.unix.Decoder.TheVariants.{Unix}
 use Rattle.instructions.specs.declared.unix.UnixLine.{UnixLine}
 use Rattle.instructions.specs.declared.unix.UnixLine.TheVariants.{Machine, Call}
-use Rattle.instructions.specs.Modes.{addressing}
+use Rattle.instructions.specs.Modes.{addressing, counts_from_pc}
 use Rattle.instructions.specs.Instructions.{instruction_of, word_count_of}
 use Rattle.instructions.specs.Lines.{line_at, line_length}
 use Rattle.instructions.specs.Relocated.{is_relocated}
@@ -31,7 +31,7 @@ use Rattle.disassemblies.specs.Starts.{starts, is_start}
 use Rattle.findings.specs.declared.finding.FindingKind.TheVariants.{RelocatedFirstWord, UnsuitablePcBit, CutInstruction, NoInstruction}
 use Rattle.findings.specs.Found.{Found, found_if}
 use Rattle.suspicions.specs.declared.trust.Trust.{Trust}
-use Rattle.suspicions.specs.Reached.{counts_from_pc, branch_of}
+use Rattle.suspicions.specs.Reached.{branch_of}
 use Rattle.suspicions.specs.Trust.{past_place, trust}
 use Rattle.suspicions.specs.Branches.{word_place, suspicious_branch}
 use Rattle.suspicions.specs.SuspicionTexts.{relocated_first_text, pc_bit_in, cut_text, no_instruction_text}

@@ -1,10 +1,11 @@
 //! The places that are reached.
 ghost use Rattle.std.specs.Prelude.{◌≡◌, ◌<◌, ◌+◌, ◌++◌, ◌∷◌, [], ℕ, false, length, map, get_or, IfOk, OnOk};
+ghost use Rattle.instructions.specs.Modes.{counts_from_pc};
 ghost use Rattle.instructions.specs.UnixLines.{unix_length};
 ghost use Rattle.instructions.specs.declared.line.Line.TheVariants.{Decoded};
 ghost use Rattle.instructions.specs.declared.unix.UnixLine.TheVariants.{Machine};
 ghost use Rattle.instructions.specs.Instructions.{word_count_of};
-ghost use Rattle.suspicions.specs.Reached.{leads_by, leads_to, visited, visited_all, named, counts_from_pc, is_distance, has_distance, is_shown_by, shown, shown_from, evident, spread, reached, is_reached};
+ghost use Rattle.suspicions.specs.Reached.{leads_by, leads_to, visited, visited_all, named, is_distance, has_distance, is_shown_by, shown, shown_from, evident, spread, reached, is_reached};
 ghost use Rattle.suspicions.specs.declared.evidence.Evidence.TheVariants.{Symbols, Distances};
 ghost use Rattle.suspicions.specs.internal.Marks.{AreMarks, is_unmarked};
 
@@ -111,23 +112,13 @@ fn visit_symbols(
     Ok(())
 }
 
-/// Whether an operand counts from the pc.
-pub(crate) fn counts_from_pc(addressing: Addressing) -> bool
-    ensures { result ≡ counts_from_pc addressing }
-{
-    match addressing {
-        Addressing::Relative | Addressing::RelativeDeferred => true,
-        _ => false,
-    }
-}
-
 /// Whether an operand word counts from the pc, and is relocated so.
 fn is_distance(reloc: Option<Reloc>, addressing: Option<Addressing>) -> bool
     ensures { result ≡ is_distance reloc addressing }
 {
     match (reloc, addressing) {
         (Some(reloc), Some(addressing)) => {
-            is_relocated(Some(reloc)) && reloc.is_pc() && counts_from_pc(addressing)
+            is_relocated(Some(reloc)) && reloc.is_pc() && addressing.counts_from_pc()
         }
         _ => false,
     }
@@ -226,9 +217,6 @@ fn visit_leads(
     sweep: &Sweep<'_>,
     place: usize,
 ) -> Result<(), AllocError>
-    let end = file.text_words().len();
-    let ends_inside = place + line.length() <= end;
-    prove!(ends_inside);
     requires inside { place < length sweep.now.text_words }
     requires marks { AreMarks marks.old found.old.items }
     ensures found { OnOk result (found.new.items
@@ -238,6 +226,9 @@ fn visit_leads(
 {
     let file = sweep.file();
     let line = sweep.line_at(place);
+    let end = file.text_words().len();
+    let ends_inside = place + line.length() <= end;
+    prove!(ends_inside);
     match line {
         UnixLine::Machine(Line::Decoded(instruction, word, other)) => visit_all(
             marks,

@@ -1,13 +1,14 @@
 //! What is suspicious in a text.
 ghost use Rattle.std.specs.Prelude.{◌≡◌, ◌+◌, ◌*◌, ◌^◌, ◌<◌, ◌&&◌, ◌++◌, ℕ, false, Some, length, drop, get_or, slice_get, IfOk};
 ghost use Rattle.aout_core.specs.WellFormed.{is_pc_relative};
+ghost use Rattle.instructions.specs.Modes.{counts_from_pc};
 ghost use Rattle.instructions.specs.declared.unix.Decoder.TheVariants.{Unix};
 ghost use Rattle.instructions.specs.Instructions.{instruction_of, word_count_of};
 ghost use Rattle.instructions.specs.Relocated.{is_relocated};
 ghost use Rattle.disassemblies.specs.Starts.{starts, is_start};
 ghost use Rattle.findings.specs.Found.{all_found, Finds, Holds};
 ghost use Rattle.suspicions.specs.declared.evidence.Evidence.TheVariants.{Symbols};
-ghost use Rattle.suspicions.specs.Reached.{counts_from_pc, branch_of, is_reached};
+ghost use Rattle.suspicions.specs.Reached.{branch_of, is_reached};
 ghost use Rattle.suspicions.specs.Trust.{is_sure, past_place, sure_ahead, trust};
 ghost use Rattle.suspicions.specs.Branches.{suspicious_branch};
 ghost use Rattle.suspicions.specs.SuspicionTexts.{relocated_first_text, bit_text, pc_bit_text, pc_bit_in, cut_text, no_instruction_text};
@@ -16,7 +17,7 @@ ghost use Rattle.suspicions.specs.Suspicions.{suspicious_lack, suspicious_plain,
 
 use crate::branches::{find_branch, word_place};
 use crate::leads::branch_of;
-use crate::reached::{counts_from_pc, is_marked, reached_places, sure_places};
+use crate::reached::{is_marked, reached_places, sure_places};
 use crate::suspect::{Suspect, doubt_text};
 use crate::trust::{Trust, past_place, sure_ahead};
 use aout_core::{File, Reloc};
@@ -122,7 +123,7 @@ fn is_unsuitable(reloc: Reloc, addressing: Addressing) -> bool
     ensures { result
         ≡ (is_relocated (Some reloc) && differ (is_pc_relative reloc) (counts_from_pc addressing)) }
 {
-    is_relocated(Some(reloc)) && reloc.is_pc() != counts_from_pc(addressing)
+    is_relocated(Some(reloc)) && reloc.is_pc() != addressing.counts_from_pc()
 }
 
 /// Adds an operand word at a place whose pc bit does not suit its operand.

@@ -1,5 +1,6 @@
 use Rattle.std.proofs.Common.{◌∙◌, ap}
-use Rattle.link_maps.specs.Rows.{plan_of, row_at}
+use Rattle.link_out.specs.function.Plans.{plan_of}
+use Rattle.link_maps.specs.Rows.{row_at}
 use Rattle.link_maps.proofs.RowLemmas.{row_found}
 use Rattle.link_maps.proofs.outcome.row_of.Goals as goal
 

@@ -1,5 +1,6 @@
 use Rattle.std.proofs.Common.{◌≡◌, ◌++◌, drop, map}
-use Rattle.link_maps.specs.Records.{number_or_none, word_record}
+use Rattle.link_session.specs.Labelled.{number_or_none}
+use Rattle.link_maps.specs.Records.{word_record}
 use Rattle.link_maps.proofs.records.put_words.Given as goal
 
 abbrev pub invariant-loop-word : goal.invariant-loop-word
