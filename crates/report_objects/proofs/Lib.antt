@@ -1,3 +1,4 @@
+pub mod CountLemmas
 pub mod FurtherLemmas
 pub mod NumberLemmas
 pub mod PlaceLemmas

@@ -3,12 +3,13 @@
 -- Objects are numbered from 0, and the largest number of 64 bits means none. A name is of the first object that defines it, or
 -- else of the first that has a symbol of it. A name is multiply defined once for each definition that differs from the first, and each
 -- has the object of this further definition too.
-use Rattle.std.specs.Prelude.{ℕ, zero, suc, ◌+◌, ◌-◌, ◌^◌, Bool, true, false, not, ◌&&◌, ◌||◌, eqb, if◌then◌else◌, bytes_eq}
+use Rattle.std.specs.Prelude.{ℕ, zero, suc, ◌+◌, ◌-◌, Bool, true, false, not, ◌&&◌, ◌||◌, eqb, if◌then◌else◌, bytes_eq}
 use Rattle.std.specs.Prelude.{List, [], ◌∷◌, ◌++◌, length, map, replicate, take, zip, Option, Some, None}
 use Rattle.std.specs.List.{list_any}
 use Rattle.aout_core.specs.declared.symbol.Symbol.{Symbol}
 use Rattle.aout_core.specs.Contents.{Contents}
 use Rattle.aout_core.specs.WellFormed.{first_of, is_external, masked_type}
+use Rattle.link_session.specs.Labelled.{no_object, number_or_none}
 use Rattle.link_session.specs.Mentions.{mentions}
 use Rattle.link_session.specs.States.{multiple_names}
 use Rattle.link_out.specs.Results.{ReportNames}
@@ -31,13 +32,6 @@ first_from definitions name number (o ∷ os) =
 
 abbrev pub first_object : Bool → List ℕ → List Contents → Option ℕ
 first_object definitions name os = first_from definitions name 0 os
-
-abbrev pub no_object : ℕ
-no_object = 2 ^ 64 - 1
-
-abbrev pub number_or_none : Option ℕ → ℕ
-number_or_none None = no_object
-number_or_none (Some n) = n
 
 -- the number of the first object that defines the name, or else of the first that has a symbol of it
 abbrev pub first_number : List Contents → List ℕ → ℕ
@@ -80,3 +74,12 @@ places_with os numbers f =
 
 abbrev pub finding_places : List (List ℕ) → List Contents → ReportNames → List FindingPlace
 finding_places forced os f = places_with os (further_objects forced os) f
+
+-- ---- how many names a report has
+
+abbrev pub named_by_entry : Option (List ℕ) → ℕ
+named_by_entry None = 0
+named_by_entry (Some name) = 1
+
+abbrev pub name_count : ReportNames → ℕ
+name_count f = ((length f.multiples + length f.reserved) + named_by_entry f.entry_bad) + length f.undefined

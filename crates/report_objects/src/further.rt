@@ -1,6 +1,8 @@
 //! The objects of further definitions, by what withdrawals take back.
 ghost use Rattle.std.specs.Prelude.{◌≡◌, ◌-◌, ◌++◌, length, replicate, take, IfOk, OnOk};
 ghost use Rattle.link_session.specs.Labelled.{objects};
+ghost use Rattle.link_session.specs.Mentions.{mentions};
+ghost use Rattle.link_session.specs.States.{multiple_names};
 ghost use Rattle.report_objects.specs.Places.{differing, further_objects};
 
 use link_session::Session;
@@ -29,11 +31,13 @@ fn put_times(numbers: &mut Vec<usize>, number: usize, times: usize) -> Result<()
     Ok(())
 }
 
-/// The number of the object of each definition that differs from the first of its name, in the order of the definitions. An error: out of
-/// memory.
+/// The number of the object of each definition that differs from the first of its name, in the order of the definitions: one for each
+/// name that is multiply defined. An error: out of memory.
 pub(crate) fn further_objects(alloc: Global, all: Session) -> Result<Vec<usize>, AllocError>
-    ensures { IfOk result (λ numbers.
+    ensures value { IfOk result (λ numbers.
         numbers.items ≡ further_objects all.forced (objects all.entries)) }
+    ensures as_many { IfOk result (λ numbers. length numbers.items
+        ≡ length (multiple_names (mentions all.forced (objects all.entries)))) }
 {
     let mut session = all;
     let mut numbers = Vec::new(alloc);

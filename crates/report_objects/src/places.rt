@@ -1,8 +1,10 @@
 //! The objects of the names of a report.
-ghost use Rattle.std.specs.Prelude.{◌≡◌, map, zip, IfOk};
+ghost use Rattle.std.specs.Prelude.{◌≡◌, length, map, zip, IfOk};
 ghost use Rattle.link_out.specs.Outcomes.{report_names};
-ghost use Rattle.link_session.specs.Labelled.{objects};
-ghost use Rattle.report_objects.specs.Places.{finding_places, no_object};
+ghost use Rattle.link_session.specs.Labelled.{objects, no_object};
+ghost use Rattle.link_session.specs.Mentions.{mentions};
+ghost use Rattle.link_session.specs.States.{multiple_names};
+ghost use Rattle.report_objects.specs.Places.{finding_places, name_count};
 ghost use Rattle.report_objects.specs.internal.Numbered.{IsIndex, entry_indexed, found, indexed, indexed_place, indexed_places};
 
 use crate::further::further_objects;
@@ -120,7 +122,7 @@ fn all_placed(
     Ok(places)
 }
 
-/// The objects of the names of a report on the link of a session, in the order of its lines. (own choice)
+/// The objects of the names of a report on the link of a session, in the order of its lines, and as many. (own choice)
 ///
 /// An error: out of memory.
 pub fn places_of(
@@ -128,8 +130,11 @@ pub fn places_of(
     session: Session,
     report: &Report,
 ) -> Result<Vec<FindingPlace>, AllocError>
-    ensures { IfOk result (λ places. places.items
+    ensures value { IfOk result (λ places. places.items
         ≡ finding_places session.forced (objects session.entries) (report_names report.now)) }
+    ensures each { report.now.multiples.items
+        ≡ multiple_names (mentions session.forced (objects session.entries))
+        → IfOk result (λ places. length places.items ≡ name_count (report_names report.now)) }
 {
     let index = index_of(alloc, session.entries())?;
     let numbers = further_objects(alloc, session)?;

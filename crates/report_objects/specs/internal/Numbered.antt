@@ -5,10 +5,11 @@ use Rattle.indexmap.specs.IndexMap.{IndexMap, get}
 use Rattle.aout_core.specs.declared.symbol.Symbol.{Symbol}
 use Rattle.aout_core.specs.Contents.{Contents}
 use Rattle.aout_core.specs.WellFormed.{first_of}
+use Rattle.link_session.specs.Labelled.{no_object, number_or_none}
 use Rattle.link_out.specs.Results.{ReportNames}
 use Rattle.report_objects.specs.declared.places.FindingPlace.{FindingPlace}
 use Rattle.report_objects.specs.declared.places.Index.{Index}
-use Rattle.report_objects.specs.Places.{first_from, first_number, no_object, number_or_none, shows}
+use Rattle.report_objects.specs.Places.{first_from, first_number, shows}
 
 module _ {S : Type 0} where
   -- the number of an object for the name of a symbol, if that is looked for

@@ -1,7 +1,9 @@
 use Rattle.std.proofs.Common.{◌≡◌, ℕ, ◌+◌, ◌-◌, ◌≤◌, List, ◌++◌, length, reverse, take, ap, sym, ◌∙◌, arith}
+use Rattle.std.proofs.lemmas.Grind.{common_steps}
 use Rattle.std.proofs.lemmas.List.{length-take-le, take-take}
 use Rattle.link_session.specs.Labelled.{Labelled, objects}
 use Rattle.report_objects.specs.Places.{further_among, further_objects}
+use Rattle.report_objects.proofs.CountLemmas.{as_many}
 use Rattle.report_objects.proofs.FurtherLemmas.{one_less}
 use Rattle.report_objects.proofs.further.further_objects.Goals as goal
 
@@ -34,3 +36,8 @@ loop-number-preserved c =
           (ap (λ (k : ℕ). further_among c.args.all.forced (objects es) k ++ reverse c.loop-number.numbers.items) (sym on)
           ∙ c.loop-number.invariant.so_far);
     }
+
+pub returns-clause-as_many : goal.returns-clause-as_many
+returns-clause-as_many c =
+    let value : c.reverse.new.self.items ≡ further_objects c.args.all.forced (objects c.args.all.entries) = grind (arith, common_steps) in
+    ap (λ (l : List ℕ). length l) value ∙ as_many c.args.all.forced (objects c.args.all.entries)
