@@ -53,6 +53,7 @@ module _ (words : List (List ℕ)) (one other : Call) (a : AsksFor words one) (b
 
 module _ (words forced : List (List ℕ)) (o : Choices) (output : String Global) (files : Vec (String Global) Global)
     (a : AsksFor words (Ld o forced output files)) where
+  -- what arguments ask for, if they ask for this link
   pub same_link : (call : Call) → AsksFor words call → IsLink forced o (string_bytes output) (map string_bytes files.items) call
   same_link (Ld options names out paths) b =
       let rows : b.asked.1 ≡ a.asked.1 = sym (same_rows words (Ld o forced output files) (Ld options names out paths) a b) in (
@@ -71,6 +72,7 @@ module _ (words forced : List (List ℕ)) (o : Choices) (output : String Global)
       absurd (let bad : true ≡ false = same_name words (Ld o forced output files) (Session options names) a b (codes "ld") in cc)
 
 module _ (words : List (List ℕ)) (files : Vec (String Global) Global) (a : AsksFor words (Strip files)) where
+  -- or for this strip
   pub same_strip : (call : Call) → AsksFor words call → IsStrip (map string_bytes files.items) call
   same_strip (Ld options names out paths) b =
       absurd (let bad : true ≡ false = same_name words (Strip files) (Ld options names out paths) a b (codes "strip") in cc)

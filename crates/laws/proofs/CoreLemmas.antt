@@ -19,6 +19,7 @@ pub record IsWithin (h : Header) (space : Space) (segment : Segment) (address : 
   pub before : address < first_address h segment + bytes_of h segment
 
 module _ (h : Header) (space : Space) (segment : Segment) (address : ℕ) where
+  -- what the test whether an address is in a segment means
   pub within : is_in h space segment address ≡ true → IsWithin h space segment address
   within e =
       let one = and_parts (has_segment h.magic segment space)
@@ -31,6 +32,7 @@ module _ (h : Header) (space : Space) (segment : Segment) (address : ℕ) where
         before = ltb-true address (first_address h segment + bytes_of h segment) two.1;
       }
 
+  -- and the other way
   pub within_back : IsWithin h space segment address → is_in h space segment address ≡ true
   within_back w =
       and_from (has_segment h.magic segment space)
@@ -90,6 +92,7 @@ module _ (h : Header) (space : Space) (address : ℕ) where
       clash : (a e : ℕ) → a < e → e ≤ a → ⊥
       clash a e f g = omega arith
 
+-- an address is in one segment at most
 pub segments_apart : (h : Header) (space : Space) (one two : Segment) (address : ℕ) → is_in h space one address ≡ true →
     is_in h space two address ≡ true → one ≡ two
 segments_apart h space TextSeg TextSeg a p q = refl
@@ -153,6 +156,7 @@ module _ (file : Contents) (space : Space) (address byte : ℕ) where
   one_of None (Some b) z e = inr (inl e)
   one_of None None z e = inr (inr e)
 
+  -- a byte of the core is one of text, of data or of bss
   pub core_back : core file space address ≡ Some byte → IsByteOf TextSeg ⊎ (IsByteOf DataSeg ⊎ IsByteOf BssSeg)
   core_back e =
       by_case (one_of (loaded_byte file space TextSeg address) (loaded_byte file space DataSeg address)

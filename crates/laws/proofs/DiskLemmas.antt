@@ -38,6 +38,7 @@ pub after_opens : (disk : Disk) (found : List Opened) (events : List Event) →
 after_opens disk [] events = refl
 after_opens disk (f ∷ fs) events = after_opens disk fs events
 
+-- files that a run opened are those on the disk
 pub given : (disk : Disk) (found : List Opened) (events : List Event) → IsOn disk (opens found ++ events) → AreGiven disk found
 given disk [] events h = tt
 given disk (f ∷ fs) events h = (h.0, given disk fs events h.1)
@@ -50,6 +51,7 @@ stored_there disk path bytes = let same : bytes_eq path path ≡ true = (bytes_e
 pub read_back : EncodingLaw → (file : Contents) → IsSound file → decode (encoding file) ≡ Ok file
 read_back law file sound = ap decode (sym (append-nil (encoding file))) ∙ law file [] sound
 
+-- more paths have more objects
 pub are_at_append : (disk : Disk) (paths more : List (List ℕ)) (os ps : List Contents) → AreAt disk paths os →
     AreAt disk more ps → AreAt disk (paths ++ more) (os ++ ps)
 are_at_append disk [] more [] ps h k = k
@@ -100,6 +102,7 @@ pub record AreTaken (kept more : List Labelled) (os : List Contents) : Type 0 wh
   pub well : AllByRecursion IsWellFormed os
   pub text : total TextSeg (objects kept) ≤ 65534 → total TextSeg (objects more) ≤ 65534
 
+-- what ld took from the files that it opened is the objects on the disk, in order
 pub objects_taken : (disk : Disk) (forced : List (List ℕ)) (found : List Opened) (os : List Contents)
     (kept more : List Labelled) → AreGiven disk found → AreAt disk (paths_of found) os →
     TakesAll forced kept (inputs_opened found) more → AreTaken kept more os

@@ -304,12 +304,14 @@ module _ (forced : List (List ℕ)) (os : List Contents) (o : Choices) (x : Outc
         shows = λ plain. ap letter r.is ∙ row_letter x.file.header bss o (at + r.taken) name r.state plain;
       }
 
+-- for `listing_law`: nm shows each external once
 pub externals_are_listed : (forced : List (List ℕ)) (os : List Contents) (o : Choices) (x : Outcome) →
     o.keep ≢ Nothing → IsLinkedFrom forced os o x →
     (n : NmOptions) → n.undefined ≡ false → (name : List ℕ) → is_among (externals forced os) name ≡ true →
     IsListedOnce forced os o x.file (shown n x.file) name
 externals_are_listed forced os o x others l n u name known = listed_once forced os o x others l n u name known
 
+-- and its lines are those of the kept locals and of the externals
 pub row_lines : (forced : List (List ℕ)) (os : List Contents) (o : Choices) (x : Outcome) → o.keep ≢ Nothing →
     (l : IsLinkedFrom forced os o x) →
     (n : NmOptions) (path : List ℕ) → n.undefined ≡ false → nm_text n ((path, x.file) ∷ []) ≡ lines n path

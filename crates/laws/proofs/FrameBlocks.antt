@@ -47,6 +47,7 @@ module _ {A : Type 0} (f : List Contents → Contents → List A)
       blocks-append f [] before (k ∷ after)
       ∙ ap (λ (rest : List A). blocks f [] before ++ rest) (blocks-append f before (k ∷ []) after)
 
+  -- what the objects after a replaced one make does not change
   pub after_same : (before : List Contents) (k l : Contents) (after : List Contents) → AreAsLong (k ∷ []) (l ∷ []) →
       blocks f (before ++ k ∷ []) after ≡ blocks f (before ++ l ∷ []) after
   after_same before k l after long =
@@ -81,6 +82,7 @@ module _ {A : Type 0} (f : List Contents → Contents → List A)
 
 -- two objects of the same sizes
 module _ (k l : Contents) (sizes : (segment : Segment) → size_of segment k ≡ size_of segment l) where
+  -- nor do the sizes of the merged segments
   pub same_totals : (before after : List Contents) (segment : Segment) →
       total segment (before ++ k ∷ after) ≡ total segment (before ++ l ∷ after)
   same_totals before after segment =
@@ -89,6 +91,7 @@ module _ (k l : Contents) (sizes : (segment : Segment) → size_of segment k ≡
       ∙ ap (λ (n : ℕ). n + total segment after) (sizes segment) ∙ sym (total-first segment l after))
       ∙ sym (sum_by-append (size_of segment) before (l ∷ after))
 
+  -- the two lists of objects are as long, segment by segment
   pub as_long : (before after : List Contents) → AreAsLong (before ++ k ∷ after) (before ++ l ∷ after)
   as_long before after Undefined = refl
   as_long before after Absolute = refl

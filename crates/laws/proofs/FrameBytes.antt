@@ -219,6 +219,7 @@ module _ (o : Choices) (before : List Contents) (k : Contents) (x y : Outcome) (
       (reloc_encoding x.file.data_reloc) (reloc_encoding y.file.data_reloc) _ _
       (length-reloc_encoding x.file.data_reloc ∙ fits.data_relocation) data_relocs_alike symbols_alike))))
 
+-- for `frame_law`: the files are as long, and have the same bytes outside the parts of the replaced object
 pub bytes_framed : (forced : List (List ℕ)) (before : List Contents) (k l : Contents) (after : List Contents)
     (o : Choices) (x y : Outcome) → AreReplaced forced before k l after o x y →
     (length (encoding x.file) ≡ length (encoding y.file)) × ((place : ℕ) → IsOutside o x.file.header before k place →

@@ -119,6 +119,7 @@ module _ (forced : List (List ℕ)) (before : List Contents) (k l : Contents) (a
   other_link : link_at p.at.bss_end (length (table p os)) ≡ link forced ps o
   other_link = λ i. link_at (same_plan i).at.bss_end (table_counted i)
 
+  -- for `frame_law`: without -r both links are made, or refused by the same fault
   pub linked_alike : o.relocatable ≡ false → AreAlike (link forced os o) (link forced ps o)
   linked_alike plain =
       subst (λ (r : Result Outcome LinkFault). AreAlike (link forced os o) r) other_link
@@ -136,6 +137,7 @@ module _ (forced : List (List ℕ)) (before : List Contents) (k l : Contents) (a
       by_tests false false true w x y e f = absurd (cc)
       by_tests false false false true x y e f = absurd (cc)
 
+  -- with -r a fault that refuses the one refuses the other, but for `SymbolNumber`
   pub refused_alike : (fault : LinkFault) → fault ≢ SymbolNumber → link forced os o ≡ Err fault → link forced ps o ≡ Err fault
   refused_alike fault others h =
       sym other_link

@@ -37,6 +37,7 @@ move_same : (p : Plan) (xs ys : List Contents) (c : Contents) → AreAsLong xs y
 move_same p xs ys c h (to_segment segment) = ap (λ (n : ℕ). plus (base p.at segment) n) (shift_same xs ys c segment h)
 move_same p xs ys c h (to_name name) = refl
 
+-- a linked word of an object depends only on how long the objects before it are
 pub word_same : (p : Plan) (segment : Segment) (xs ys : List Contents) (c : Contents) → AreAsLong xs ys →
     (w : ℕ) (r : Reloc) → final_word p xs c segment w r ≡ final_word p ys c segment w r
 word_same p segment xs ys c h w r =
@@ -71,6 +72,7 @@ none_in (s ∷ ss) = by_test (is_external s) (none_in ss)
     by_test true rest = rest
     by_test false rest = rest
 
+-- a table that keeps nothing has no locals
 pub none_kept : (os : List Contents) → length (flat_map (λ (k : Contents). filter (is_kept_local Nothing) k.symbols) os) ≡ 0
 none_kept [] = refl
 none_kept (k ∷ ks) =
@@ -92,12 +94,14 @@ module _ (forced : List (List ℕ)) (before : List Contents) (k l : Contents) (a
   abbrev p : Plan
   p = plan forced os o
 
+  -- the rows of locals differ at most at those of the replaced object
   pub locals_differ : DifferAt (length (kept_locals o before)) (length (kept_locals o (k ∷ []))) (local_rows p os) (local_rows p ps)
   locals_differ =
       replaced (locals_of p.at o.keep) (locals_same p.at o.keep) before k l after (as_long k l sizes [] [])
       (length (kept_locals o before)) (length (kept_locals o (k ∷ [])))
       (locals_long forced os o [] before) (locals_long forced os o before (k ∷ [])) (locals_long forced os o before (l ∷ []) ∙ sym locals)
 
+  -- and are as many
   pub rows_counted : length (local_rows p os) ≡ length (local_rows p ps)
   rows_counted =
       differ_long (length (kept_locals o before)) (length (kept_locals o (k ∷ []))) (local_rows p os) (local_rows p ps) locals_differ

@@ -22,6 +22,7 @@ AreNear (Defined g m) (Wanted n) = ⊥
 AreNear (Wanted m) (Defined h n) = ⊥
 AreNear (Wanted m) (Wanted n) = m ≡ n
 
+-- a state that stays is near itself
 pub near_self : (s : State) → AreNear s s
 near_self (Defined g m) = refl
 near_self (Wanted m) = refl
@@ -66,6 +67,7 @@ module _ (at : Segment → ℕ) where
       subst (λ (g : Segment). AreNear (said_by at s).says (statement_by at g t.value)) (same_segment s t r)
       (near_said at (segment_of s) s.value t.value r.undefined)
 
+  -- symbols with other values mention the same names
   pub names_revalued : (ss ts : List Symbol) → AreRevalued ss ts → names_of (map (said_by at) ss) ≡ names_of (map (said_by at) ts)
   names_revalued [] [] h = refl
   names_revalued [] (t ∷ ts) h = absurd h

@@ -195,6 +195,7 @@ module _ (forced : List (List ℕ)) (before : List Contents) (k l : Contents) (a
 
   -- the report
 
+  -- the reports are the same, but for names that are multiply defined
   pub same_report : (record (report_of p) { multiples = multiple_names ns }) ≡ report_of q
   same_report = λ i. record {
     multiples = multiple_names ns;
@@ -272,6 +273,7 @@ module _ (forced : List (List ℕ)) (before : List Contents) (k l : Contents) (a
           (sym (slice_get_after (local_rows q ps) (external_rows q) (length (local_rows p os))
           (place - length (local_rows p os)) (sym all_rows_counted))) (external_rows_stay (place - length (local_rows p os)))))
 
+  -- the relocation words of the other objects are the same
   pub bits_same : (r : Referent) → referent_bits p os r ≡ referent_bits q ps r
   bits_same (to_segment segment) = refl
   bits_same (to_name name) = λ i. name_bits (near_final name i) (all_rows_counted i + place_of name (same_names i))
@@ -292,6 +294,7 @@ module _ (forced : List (List ℕ)) (before : List Contents) (k l : Contents) (a
         ∙ sym (length-append (local_rows q ps) (external_rows q))
         ∙ sym (ap length other_table)
 
+    -- the headers are the same, but for the entry point
     pub same_header : (record (linked_header p os) { entry_point = (linked_header q ps).entry_point }) ≡ linked_header q ps
     same_header = λ i. record {
       magic = magic_of o.layout;
@@ -304,6 +307,7 @@ module _ (forced : List (List ℕ)) (before : List Contents) (k l : Contents) (a
       flag = cond o.relocatable 0 1;
     }
 
+    -- a name has the same row, if the replaced object does not define it
     pub same_entry : (name : List ℕ) → (entry_of (table p os) name ≡ entry_of (table q ps) name) ⊎ IsRedefined k l name
     same_entry name = by_row (same_row name)
       where
@@ -314,6 +318,7 @@ module _ (forced : List (List ℕ)) (before : List Contents) (k l : Contents) (a
             cond (is_among (same_names i) name) (Some (e i)) None in r) ∙ sym (entry_in_table q ps name others))
         by_row (inr c) = inr c
 
+    -- rows outside those of its locals stay, but for names that it redefines
     pub tables_stay : (place : ℕ) → IsBeside start count place →
         SymbolsStay k l (slice_get (table p os) place) (slice_get (table q ps) place)
     tables_stay place beside =

@@ -193,6 +193,7 @@ module _ (forced : List (List ℕ)) (before : List Contents) (k l : Contents) (a
         (as_long k l h.takes.sizes before front) (same_totals k l h.takes.sizes before front);
   }
 
+  -- for `frame_law`: which words of the other objects change, and to what
   pub values_framed : DifferByValues before k l after o x y
   values_framed =
       subst (λ (z : Outcome). DifferByValues before k l after o x z) (made (plan forced ps o) ps y h.other).outcome

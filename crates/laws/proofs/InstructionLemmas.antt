@@ -34,11 +34,13 @@ pub relocs_by : (b : Bool) (words relocs size : ℕ) → b ≡ true → 2 * word
 relocs_by true words relocs size e long same = omega arith
 relocs_by false words relocs size e long same = absurd cc
 
+-- an object has a relocation word for each word of text
 pub relocs_long : (k : Contents) → IsObject k → length k.text_reloc ≡ length k.text_words
 relocs_long k is =
     relocs_by (eqb k.header.flag 0) (length k.text_words) (length k.text_reloc) k.header.text_size
     (well_formed_parts k is.well).0 is.fits.text is.fits.text_relocation
 
+-- so there is one at each place of the text
 pub reloc_inside : (rs : List Reloc) (i : ℕ) → i < length rs → (r : Reloc) × (slice_get rs i ≡ Some r)
 reloc_inside [] i h = absurd (omega arith)
 reloc_inside (r ∷ rs) zero h = (r, refl)
@@ -66,6 +68,7 @@ unmoved file rows os before k i w v r small low is there =
     ∙ ap (λ n. minus (plus w n) 0) added ∙ (let e : ((w + 0) % 65536 + (65536 - 0 % 65536)) % 65536 ≡ w = omega arith in e) in
     same_Some v w (sym there ∙ is.word ∙ ap (λ n. Some n) value)
 
+-- a word that is not relocated has a relocation word whose low four bits are 0
 pub moves_low : (rs : List Reloc) (i : ℕ) (r : Reloc) → slice_get rs i ≡ Some r → is_relocated (slice_get rs i) ≡ false → r.0 % 16 ≡ 0
 moves_low rs i r at e = low_bits (eqb (r.0 % 16) 0) r.0 refl (sym (ap is_relocated at) ∙ e)
 
@@ -88,6 +91,7 @@ module _ (forced : List (List ℕ)) (os : List Contents) (o : Choices) (x : Outc
         there = sym (get_from x.file.text_words (total TextSeg before / 2) i) ∙ there;
       })
 
+  -- the text of an object is in the file with the same words, but for those that are relocated
   pub linked_same : (before : List Contents) (k : Contents) (after : List Contents) → os ≡ before ++ k ∷ after →
       IsObject k → AllByRecursion IsWord k.text_words →
       Pairs (Same (λ place. is_relocated (slice_get k.text_reloc place))) 0 k.text_words (drop (total TextSeg before / 2) x.file.text_words)
@@ -157,6 +161,7 @@ module _ (forced : List (List ℕ)) (os : List Contents) (o : Choices) (x : Outc
       all_append [] k none is = (is, tt)
       all_append (y ∷ xs) k some is = (some.0, all_append xs k some.1 is)
 
+-- for `instruction_law`: decoded from where the text of an object begins, the file has its lines
 pub instructions_kept : InstructionsAreKept
 instructions_kept forced before k after o x all has l =
     let b = begins forced (before ++ k ∷ after) o x all l before k after refl (all_split IsObject before (k ∷ after) all).1.0 has in
@@ -167,5 +172,6 @@ instructions_kept forced before k after o x all has l =
       alike = b.alike;
     }
 
+-- and decoded from its beginning, it has those of all objects in order
 pub texts_kept : TextsAreKept
 texts_kept forced os o x all whole l = texts_from forced os o x all l [] os refl tt all whole

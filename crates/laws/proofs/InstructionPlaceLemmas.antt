@@ -33,6 +33,7 @@ line_in_by P moves i w f (v ∷ g) more pairs same still whole =
       alike = line_alike P i (instruction_of w) w f g whole tails (subst (λ n. Pairs P i (w ∷ f) (n ∷ g)) e pairs);
     }
 
+-- for `instruction_law`: wherever that is, even within a line of a sweep
 pub instructions_there : InstructionsAreThere
 instructions_there forced before k after o x all small l i w f here still whole =
     let os : List Contents = before ++ k ∷ after in

@@ -201,6 +201,7 @@ module _ (forced : List (List ℕ)) (os : List Contents) (o : Choices) (x : Outc
       sums : (a v m own n address : ℕ) → a ≡ plus v m → n ≡ minus v own → plus (own + n) m ≡ address % 65536 → a % 65536 ≡ address % 65536
       sums a v m own n address e f g = omega arith
 
+-- for `isomorphism_law`: each place has a byte
 pub places_loaded : PlacesAreLoaded
 places_loaded forced os o x good kept lays linked = loaded_place forced os o x good kept linked lays
 
@@ -542,6 +543,7 @@ module _ (forced : List (List ℕ)) (os ps : List Contents) (o : Choices) (layou
   same_byte (of_object number Absolute n) free s t a b l k = absurd (omega (arith, l.is.inside))
   same_byte (of_object number Other n) free s t a b l k = absurd (omega (arith, l.is.inside))
 
+-- for `isomorphism_law`: two links of the same objects differ only in where these are
 pub links_isomorphic : LinksAreIsomorphic
 links_isomorphic forced os ps o layout x y h good kept nr single to from renumbered = record {
   there = place_there forced os ps o layout x y h good kept nr single to from renumbered;
@@ -556,8 +558,10 @@ as_links : (forced : List (List ℕ)) (os ps : List Contents) (o : Choices) (x y
     AreOrders forced os ps o x y → AreLinks forced os ps o o.layout x y
 as_links forced os ps o x y h = record { same = h.same; one = h.one; other = h.other }
 
+-- for `order_law`: words refer to the same in another order of the objects
 pub orders_keep_referents : LinksKeepReferents → OrderKeepsReferents
 orders_keep_referents law forced os ps o x y h = law forced os ps o o.layout x y (as_links forced os ps o x y h)
 
+-- and names mean the same
 pub orders_keep_meanings : OrderKeepsMeanings
 orders_keep_meanings forced os ps o x y h = meanings_kept forced os ps o o.layout x y (as_links forced os ps o x y h)

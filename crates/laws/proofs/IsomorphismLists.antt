@@ -27,6 +27,7 @@ module _ {A : Type 0} (f : A → ℕ) where
   first_more : (x : A) (xs : List A) → sum_by f (x ∷ xs) ≡ f x + sum_by f xs
   first_more x xs = sum_by-append f (x ∷ []) xs ∙ omega arith
 
+  -- a number below the sum of all sizes is of a unit in one of the elements
   pub unit_at : (xs : List A) (n : ℕ) → n < sum_by f xs → IsUnit f xs n
   unit_at [] n h = absurd (omega arith)
   unit_at (x ∷ xs) n h = by_test (nat_lt n (f x)) refl (unit_at xs (n - f x))
@@ -82,10 +83,12 @@ cut [] i a e = absurd (cc)
 cut {A = A} (x ∷ xs) zero a e = let same : x ≡ a = cc in ap (λ (y : A). y ∷ xs) same
 cut {A = A} (x ∷ xs) (suc i) a e = ap (λ (ys : List A). x ∷ ys) (cut xs i a e)
 
+-- these two find an element by the elements before it: what comes first
 pub take_before : {A : Type 0} (before : List A) (a : A) (after : List A) → take (length before) (before ++ a ∷ after) ≡ before
 take_before [] a after = refl
 take_before {A = A} (x ∷ before) a after = ap (λ (ys : List A). x ∷ ys) (take_before before a after)
 
+-- and the element
 pub get_between : {A : Type 0} (before : List A) (a : A) (after : List A) → slice_get (before ++ a ∷ after) (length before) ≡ Some a
 get_between [] a after = refl
 get_between (x ∷ before) a after = get_between before a after
@@ -185,6 +188,7 @@ renumbered xs (p ∷ ms) h =
           (renumbered_once ys p.0 p.1 inside inside_too),
     )
 
+-- for `isomorphism_law`: another order of the objects numbers them anew, each once
 pub orders_renumbered : OrdersAreRenumbered
 orders_renumbered os ps same =
     subst (λ (ks : List Contents). (to : ℕ → ℕ) × (from : ℕ → ℕ) × AreRenumbered os ks to from) (sym same.is)

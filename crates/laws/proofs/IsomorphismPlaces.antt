@@ -200,6 +200,7 @@ module _ (forced : List (List ℕ)) (os : List Contents) (o : Choices) (x : Outc
         under : (e t n v r s all b more : ℕ) → v ≡ e + t → r ≡ s → n < s → t + r ≤ all → b ≡ all + more → v + n < e + b
         under e t n v r s all b more f g h k l = omega arith
 
+    -- a place that is loaded is in its segment
     pub place_in : (place : Place) (space : Space) (address : ℕ) → IsLoadedAt forced os x.file place space address →
         is_in x.file.header space (segment_at place) address ≡ true
     place_in (of_object number segment n) space address l =
@@ -370,8 +371,10 @@ module _ (forced : List (List ℕ)) (os : List Contents) (o : Choices) (x : Outc
         by_case (inr (inl b)) = of_segment DataSeg space address refl full.data b.in
         by_case (inr (inr b)) = of_bss space address b.in
 
+-- for `isomorphism_law`: two places have two addresses
 pub places_apart : PlacesAreApart
 places_apart forced os o x good kept lays linked = lie_apart forced os o x kept lays linked good
 
+-- and each loaded byte is of a place
 pub bytes_placed : BytesHavePlaces
 bytes_placed forced os o x good kept lays linked = has_place forced os o x kept lays linked good

@@ -61,6 +61,7 @@ module _ (h : Header) (os before : List Contents) (k : Contents) where
   abbrev pub address_of : Segment → ℕ → ℕ
   address_of segment n = base_in h (total BssSeg os) segment + total segment before + n
 
+  -- a place of an object has the address that its segment's begin gives
   pub place_at : (segment : Segment) → HasPlace segment → (n : ℕ) → IsPlace h os before k segment n (address_of segment n)
   place_at TextSeg has n =
       record { sum = refl; symbol = place_sum (own k TextSeg) n (base_in h (total BssSeg os) TextSeg + total TextSeg before) }
@@ -106,6 +107,7 @@ found_in forced os o x linked segment has =
     ap (λ (m : ℕ). has_segment m segment (space_of segment)) (sym (magic_is forced os o x linked))
     ∙ found_by o.layout segment has
 
+-- for `core_law`: without -i a program sees the same bytes as instructions and as data
 pub spaces_are_one : (forced : List (List ℕ)) (os : List Contents) (o : Choices) (x : Outcome) → o.layout ≢ Split →
     link forced os o ≡ Ok x → (address : ℕ) → core x.file of_instructions address ≡ core x.file of_data address
 spaces_are_one forced os o x apart linked = one_space x.file (ap has_one_space (sym (magic_is forced os o x linked)) ∙ one o.layout apart)
@@ -228,6 +230,7 @@ module _ (forced : List (List ℕ)) (os : List Contents) (o : Choices) (x : Outc
 
   -- zeros
 
+  -- for `core_law`: bss is loaded as zeros
   pub bss_zero : (before : List Contents) (k : Contents) (after : List Contents) → os ≡ before ++ k ∷ after → (n : ℕ) →
       n < k.header.bss_size → IsZero x.file os before k n
   bss_zero before k after all n h =
@@ -375,6 +378,7 @@ of_word h os space segment has good start size address inside =
         by_case (inl h) = inl (omega arith)
         by_case (inr h) = inr (omega arith)
 
+-- for `core_law`: each byte of the core is of a word of an object, or a zero of bss
 pub nothing_else : (forced : List (List ℕ)) (os : List Contents) (o : Choices) (x : Outcome) → AllByRecursion IsObject os →
     link forced os o ≡ Ok x → (space : Space) (address byte : ℕ) → core x.file space address ≡ Some byte →
     IsOfWord x.file.header os space address ⊎ ((is_in x.file.header space BssSeg address ≡ true) × (byte ≡ 0))
@@ -409,6 +413,7 @@ file_short forced os o x linked =
     sums : (a b d c n : ℕ) → a ≡ b → a + d + c + n ≤ 65535 → b + d + (c + n) ≤ 65535
     sums a b d c n e h = omega arith
 
+-- for `core_law`: each loaded address fits a word
 pub addresses_fit : (forced : List (List ℕ)) (os : List Contents) (o : Choices) (x : Outcome) →
     link forced os o ≡ Ok x → x.file.header.text_size ≤ 65535 →
     (space : Space) (address byte : ℕ) → core x.file space address ≡ Some byte → address < 65535
@@ -435,6 +440,7 @@ addresses_fit forced os o x linked short space address byte e = by_case (core_ba
 
 -- each word of a link that keeps symbols is loaded
 
+-- for `core_law`: each word of an object is at its address, with what was added to it
 pub words_loaded : (forced : List (List ℕ)) (before : List Contents) (k : Contents) (after : List Contents) (o : Choices) (x : Outcome) →
     AllByRecursion IsObject (before ++ k ∷ after) → o.keep ≢ Nothing → link forced (before ++ k ∷ after) o ≡ Ok x →
     (segment : Segment) (i w : ℕ) (r : Reloc) → slice_get (segment_words segment k) i ≡ Some w →
@@ -471,6 +477,7 @@ relocated_in forced os o x l before k after all Absolute i w r ew er = absurd (c
 relocated_in forced os o x l before k after all BssSeg i w r ew er = absurd (cc)
 relocated_in forced os o x l before k after all Other i w r ew er = absurd (cc)
 
+-- the same by the rows of the relation of linking, so also for a link that keeps no symbols
 pub words_of_rows : (forced : List (List ℕ)) (before : List Contents) (k : Contents) (after : List Contents) (o : Choices) (x : Outcome) →
     AllByRecursion IsObject (before ++ k ∷ after) → (l : IsLinkedFrom forced (before ++ k ∷ after) o x) →
     (segment : Segment) (i w : ℕ) (r : Reloc) → slice_get (segment_words segment k) i ≡ Some w →

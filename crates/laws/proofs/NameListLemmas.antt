@@ -133,6 +133,7 @@ not_new seen (x ∷ xs) n h =
     by_test true e rest = rest
     by_test false e rest = λ i. other (bytes_eq n x) refl e i || rest i
 
+-- a list of new names has each of them once
 pub new_once : (seen xs : List (List ℕ)) → AreOnce (new_names seen xs)
 new_once seen [] = tt
 new_once seen (x ∷ xs) = by_test (is_among seen x) (new_once (seen ++ x ∷ []) xs)

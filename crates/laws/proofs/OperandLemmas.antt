@@ -61,6 +61,7 @@ by_pc false start own n w more = alone w more
 
 -- a word that is loaded finds more by what was added to it
 module _ (file : Contents) (rows : List Symbol) (os before : List Contents) (k : Contents) where
+  -- a loaded word finds so much more as was added to it
   pub loaded_finds : (segment : Segment) → HasWords segment → (i w : ℕ) (r : Reloc)
       (l : IsLoaded file rows os before k segment i w r) → FindsMore file os before k segment i w r l.added
   loaded_finds TextSeg has i w r l = record {
@@ -149,6 +150,7 @@ pub record FindsAddress (file : Contents) (os before : List Contents) (k : Conte
   pub found : entry_of file.symbols symbol.name ≡ Some row
   pub more : FindsMore file os before k segment i w r (address_in row)
 
+-- a word that refers to a name finds the address of its definition
 pub address_found : (forced : List (List ℕ)) (before : List Contents) (k : Contents) (after : List Contents) (o : Choices) (x : Outcome) →
     AllByRecursion IsObject (before ++ k ∷ after) → o.keep ≢ Nothing → link forced (before ++ k ∷ after) o ≡ Ok x →
     (segment : Segment) (i w : ℕ) (r : Reloc) → slice_get (segment_words segment k) i ≡ Some w →
@@ -169,6 +171,7 @@ address_found forced before k after o x good others linked segment i w r ew er k
           (loaded_finds x.file x.file.symbols os before k segment (words_there segment k i w ew) i w r l);
     }
 
+-- for `operand_law`: the same by the value of the name in the file's table
 pub names_found : (forced : List (List ℕ)) (before : List Contents) (k : Contents) (after : List Contents) (o : Choices) (x : Outcome) →
     AllByRecursion IsObject (before ++ k ∷ after) → o.keep ≢ Nothing → o.relocatable ≡ false → link forced (before ++ k ∷ after) o ≡ Ok x →
     (segment : Segment) (i w : ℕ) (r : Reloc) → slice_get (segment_words segment k) i ≡ Some w →
@@ -202,6 +205,7 @@ meant_added h rows os before k kinds.BssSeg meant number a e is =
     is ∙ ap (λ (s : Segment). move_in h os before k s) (same_Some BssSeg meant e)
 meant_added h rows os before k kinds.External meant number a e is = absurd (cc)
 
+-- for `operand_law`: a word that refers to a segment finds it where it was moved
 pub segments_found : (forced : List (List ℕ)) (before : List Contents) (k : Contents) (after : List Contents) (o : Choices) (x : Outcome) →
     AllByRecursion IsObject (before ++ k ∷ after) → link forced (before ++ k ∷ after) o ≡ Ok x →
     (segment : Segment) (i w : ℕ) (r : Reloc) → slice_get (segment_words segment k) i ≡ Some w →
@@ -230,6 +234,7 @@ module _ (h : Header) (os before : List Contents) (k : Contents) where
   unmoved : (total n : ℕ) → total ≡ 0 → plus (0 + n) 0 ≡ (0 + total + n) % 65536
   unmoved total n e = omega arith
 
+  -- the address of a place, in any segment
   pub any_place : (segment : Segment) (n : ℕ) → IsPlace h os before k segment n (address_of h os before k segment n)
   any_place TextSeg n = place_at h os before k TextSeg tt n
   any_place DataSeg n = place_at h os before k DataSeg tt n
@@ -304,6 +309,7 @@ byte_in forced os o x good linked front c back all space segment there n inside 
     by_segment Absolute has h = absurd (omega arith)
     by_segment Other has h = absurd (omega arith)
 
+-- for `operand_law`: if no name is multiply defined, a call of a name arrives at its definition
 pub calls_arrive : (forced : List (List ℕ)) (os : List Contents) (o : Choices) (x : Outcome) →
     AllByRecursion IsObject os → o.keep ≢ Nothing → link forced os o ≡ Ok x → x.report.multiples ≡ [] →
     (before : List Contents) (k : Contents) (after : List Contents) → os ≡ before ++ k ∷ after →

@@ -103,6 +103,7 @@ added_too forced (e ∷ es) (d ∷ ds) same told =
     (all_added forced [] (d ∷ ds) (sym (same_limit forced (objects (e ∷ es)) (objects (d ∷ ds))
     (objects_reordered (e ∷ es) (d ∷ ds) same)) ∙ within_limits forced e es told)).0
 
+-- for `order_law`: a session accepts objects in each order, or in none
 pub added_in_order : (forced : List (List ℕ)) (es ds : List Labelled) → IsPermutation es ds → AreAdded forced es ↔ AreAdded forced ds
 added_in_order forced es ds same = (added_too forced es ds same, added_too forced ds es (IsPermutation-sym es ds same))
 
@@ -116,6 +117,7 @@ linked_in_order forced os ps o same plain = by_links (link forced os o) refl (li
     by_links (Ok x) a (Err fault) b =
         absurd (let bad : Ok x ≡ Err fault = sym a ∙ refused_in_order forced ps os o fault (IsPermutation-sym os ps same) plain b in cc)
 
+-- and their links are both made, or refused by the same fault
 pub linked_alike : (forced : List (List ℕ)) (es ds : List Labelled) (o : Choices) →
     IsPermutation es ds → o.relocatable ≡ false → AreAdded forced es →
     AreAlike (link_after forced (additions es) o) (link_after forced (additions ds) o)

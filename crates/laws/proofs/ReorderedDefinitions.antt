@@ -142,6 +142,7 @@ pub record IsSaidAgain (ps : List Contents) (name : List ℕ) (segment : Segment
   pub object : said.k ≡ k
   pub symbol : said.symbol ≡ s
 
+-- what one order of the objects defines, another order defines by the same symbol
 pub said_again : (os ps : List Contents) → IsPermutation os ps → (name : List ℕ) (segment : Segment) (n : ℕ)
     (d : IsSaid os name (Defined segment n)) → IsSaidAgain ps name segment d.k d.symbol
 said_again os ps same name segment n d =

@@ -159,10 +159,12 @@ module _ (forced : List (List ℕ)) (os ps : List Contents) (o : Choices) (same 
         λ i. let r : Option (List ℕ) =
         cond (same_names forced os ps same name i && eqb (type_of (same_bounds name i)) 0o42) None (Some name) in r
 
+-- for `order_law`: a fault that refuses one order refuses the other
 pub refused_in_order : (forced : List (List ℕ)) (os ps : List Contents) (o : Choices) (fault : LinkFault) →
     IsPermutation os ps → o.relocatable ≡ false → link forced os o ≡ Err fault → link forced ps o ≡ Err fault
 refused_in_order forced os ps o fault same r h = refused forced os ps o same fault r h
 
+-- the headers are the same, but for the entry point
 pub sizes_kept : (forced : List (List ℕ)) (os ps : List Contents) (o : Choices) (x y : Outcome) →
     AreOrders forced os ps o x y → (record x.file.header { entry_point = y.file.header.entry_point }) ≡ y.file.header
 sizes_kept forced os ps o x y h =
@@ -172,6 +174,7 @@ sizes_kept forced os ps o x y h =
     ≡ linked_header (plan forced ps o) ps) (made_file (plan forced os o) os x h.one)
     (same_header forced os ps o h.same))
 
+-- the same names are reported, undefined ones in another order
 pub reported_alike : (forced : List (List ℕ)) (os ps : List Contents) (o : Choices) (x y : Outcome) → AreOrders forced
     os ps o x y → (x.report.reserved ≡ y.report.reserved) × IsPermutation x.report.undefined y.report.undefined
 reported_alike forced os ps o x y h =
@@ -187,6 +190,7 @@ reported_alike forced os ps o x y h =
     by_test true = IsPermutation-refl []
     by_test false = undefined_reordered forced os ps h.same
 
+-- and if no name is multiply defined, the same entry name is reported
 pub entry_found : (forced : List (List ℕ)) (os ps : List Contents) (o : Choices) (x y : Outcome) →
     AreOrders forced os ps o x y → x.report.multiples ≡ [] → x.report.entry_bad ≡ y.report.entry_bad
 entry_found forced os ps o x y h none =

@@ -189,6 +189,7 @@ module _ (forced : List (List ℕ)) (os : List Contents) (o : Choices) (x : Outc
             ∙ ap (λ (m : ℕ). plus d.symbol.value m) (move_by_header forced os o d.before d.k (segment_of d.symbol));
       }
 
+-- without -r, commons get addresses
 pub laid : (o : Choices) → o.relocatable ≡ false → lays_commons o ≡ true
 laid o r = by_test o.relocatable r
   where
@@ -196,6 +197,7 @@ laid o r = by_test o.relocatable r
     by_test false e = refl
     by_test true e = absurd (let bad : true ≡ false = e in cc)
 
+-- a name that is defined once is of the same symbol or common in both links
 pub meanings_kept : (forced : List (List ℕ)) (os ps : List Contents) (o : Choices) (layout : Layout) (x y : Outcome) →
     AreLinks forced os ps o layout x y → o.keep ≢ Nothing → o.relocatable ≡ false →
     x.report.multiples ≡ [] → (name : List ℕ) → is_among (externals forced os) name ≡ true → MeansTheSame forced os ps o x y name
@@ -261,6 +263,7 @@ objects_too os ps same good = from [] ps refl
         subst (λ (cs : List Contents). AllByRecursion IsObject cs) there.all good in
         ((all_split IsObject there.before (k ∷ there.after) all).1.0, from (done ++ k ∷ []) ks (e ∙ sym (append_assoc done (k ∷ []) ks)))
 
+-- and a word refers to the same
 pub referents_kept : LinksKeepReferents
 referents_kept forced os ps o layout x y h others nr none good before k after all front back all_too segment i w r ew er = record {
   one = subst (λ (ks : List Contents). IsRelocated x.file x.file.symbols ks before k segment i w r) (sym all)

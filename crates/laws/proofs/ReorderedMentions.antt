@@ -183,6 +183,7 @@ module _ (forced : List (List ℕ)) (os ps : List Contents) (same : IsPermutatio
           absurd (let bad : true ≡ false = sym te ∙ unnamed_too forced ps os (IsPermutation-sym os ps same) name ue in cc)
       by_tests false te true ue = absurd (let bad : true ≡ false = sym ue ∙ unnamed_too forced os ps same name te in cc)
 
+  -- the externals are the same, in another order
   pub names_reordered : IsPermutation (names_by_first_mention (mentions forced os)) (names_by_first_mention (mentions forced ps))
   names_reordered =
       reordered (names_by_first_mention ms) (names_by_first_mention ns) (new_once [] (names_of ms))
@@ -204,6 +205,7 @@ module _ (forced : List (List ℕ)) (os ps : List Contents) (same : IsPermutatio
           absurd (none_first ms name g n (wanted_too forced ps os (IsPermutation-sym os ps same) name y k).undefined h)
       by_states (Defined g n) h (Defined f m) k = refl
 
+  -- the merged segments are as long
   pub same_total : (segment : Segment) → total segment os ≡ total segment ps
   same_total segment = sym (sum_by-IsPermutation (size_of segment) os ps same)
 
@@ -232,14 +234,17 @@ module _ (forced : List (List ℕ)) (os ps : List Contents) (same : IsPermutatio
       is (Wanted size) = refl
       is (Defined segment offset) = refl
 
+  -- so are the commons
   pub same_commons : commons_total (mentions forced os) ≡ commons_total (mentions forced ps)
   same_commons =
       sym (sum_by-IsPermutation (λ n. common_size (state ms n)) (names_by_first_mention ms) (names_by_first_mention ns) names_reordered)
       ∙ ap (λ (f : List ℕ → ℕ). sum_by f (names_by_first_mention ns)) (λ i n. by_wants common_size size_by common_size_by n i)
 
+  -- the same reserved names are taken
   pub same_reserved : reserved_taken (mentions forced os) ≡ reserved_taken (mentions forced ps)
   same_reserved = ap (λ (f : List ℕ → Bool). filter f reserved_names) (λ i n. not (same_undefined n i))
 
+  -- and the same names are undefined, in another order
   pub undefined_reordered : IsPermutation (undefined_names (mentions forced os)) (undefined_names (mentions forced ps))
   undefined_reordered =
       subst (λ (f : List ℕ → Bool). IsPermutation (undefined_names ms) (filter f (names_by_first_mention ns)))

@@ -101,6 +101,7 @@ module _ {W E : Type 0} (contents : W → Option (List ℕ)) (r : Run W E) (stat
       (same_link r.words forced o output files asks h.call h.asks) h.run
 
 module _ {W E : Type 0} (out_contents : W → Option (List ℕ)) (error_contents : E → Option (List ℕ)) (r : Run W E) where
+  -- a run that ends well and has the arguments of a link stored the file of that link
   pub link_done : (forced : List (List ℕ)) (o : Choices) (out : List ℕ) (paths : List (List ℕ)) →
       Links out_contents error_contents forced o out paths r → LinkDone out_contents forced o out paths r
   link_done forced o out paths h = by_result h.ends.performs.0 h.ends.performs.1 h.ends.performs.2
@@ -156,6 +157,7 @@ module _ {W E : Type 0} (path : List ℕ) (r : Run W E) (status : ℕ) (is : r.s
   strip_by_call contents before after (Session options names) same run = absurd same
 
 module _ {W E : Type 0} (out_contents : W → Option (List ℕ)) (error_contents : E → Option (List ℕ)) (r : Run W E) where
+  -- and one with those of a strip stored the stripped file
   pub strip_done : (path : List ℕ) → Strips out_contents error_contents path r → StripDone path r
   strip_done path h = by_result h.ends.performs.0 h.ends.performs.1 h.ends.performs.2
     where

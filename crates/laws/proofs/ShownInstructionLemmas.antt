@@ -26,6 +26,7 @@ words_after [] i h = absurd (omega arith)
 words_after (w ∷ ws) zero h = refl
 words_after (w ∷ ws) (suc i) h = words_after ws i (omega arith)
 
+-- splits the words from a place on into the first and the others
 pub words_from : (ws : List ℕ) (i : ℕ) → i < length ws → drop i ws ≡ slice_index ws i ∷ drop (i + 1) ws
 words_from ws i h = let e : suc i ≡ i + 1 = omega arith in words_after ws i h ∙ ap (λ (n : ℕ). slice_index ws i ∷ drop n ws) e
 
@@ -39,6 +40,7 @@ head_of (v ∷ ws) zero w more e =
     (λ j. line_of (instruction_of (same j)) (same j) (rest j))
 head_of (v ∷ ws) (suc i) w more e = head_of ws i w more e
 
+-- so the line there is that of the first word
 pub at_head : (ws : List ℕ) (i w : ℕ) (more : List ℕ) → drop i ws ≡ w ∷ more → line_at ws i ≡ line_of (instruction_of w) w more
 at_head ws i w more e =
     let next : i + 1 ≡ suc i = omega arith in
@@ -73,6 +75,7 @@ no_reloc : (rs : List Reloc) (i : ℕ) → 2 * length rs ≡ 0 → is_relocated 
 no_reloc [] i e = refl
 no_reloc (r ∷ rs) i e = absurd (omega arith)
 
+-- for `disassembly_law`: the line of an instruction in the object, and in the program
 pub programs_show_instructions : ProgramsShowInstructions
 programs_show_instructions forced before k after o x good small final l i inside still whole =
     let w : ℕ = slice_index k.text_words i in

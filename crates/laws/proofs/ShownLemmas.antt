@@ -16,6 +16,7 @@ all_pass [] = refl
 all_pass (s ∷ ss) = ap (λ (rest : List Symbol). s ∷ rest) (all_pass ss)
 
 module _ (t : Symbol → Bool) where
+  -- a table without externals shows none
   pub no_local : (ss : List Symbol) → filter is_external ss ≡ [] → filter (λ s. is_external s && t s) ss ≡ []
   no_local [] inner = refl
   no_local (s ∷ ss) inner = by_test (is_external s) inner (no_local ss)
@@ -39,6 +40,7 @@ module _ (t : Symbol → Bool) where
 
 module _ (n : NmOptions) (locals rows : List Symbol) (inner : filter is_external locals ≡ [])
     (outer : AllByRecursion (λ s. is_external s ≡ true) rows) where
+  -- with -u, nm shows the undefined ones of the locals and then of the externals
   pub undefined_apart : n.undefined ≡ true → filter (is_shown n) (locals ++ rows) ≡ listed_locals n
       (filter is_shown_undefined locals) ++ filter is_shown_undefined rows
   undefined_apart u =
@@ -46,6 +48,7 @@ module _ (n : NmOptions) (locals rows : List Symbol) (inner : filter is_external
       ∙ ap (λ (b : Bool). cond n.external [] (filter (λ s. not b || is_shown_undefined s) locals)
       ++ filter (λ s. not b || is_shown_undefined s) rows) u
 
+  -- without it, all that its options show of both
   pub all_apart : n.undefined ≡ false → filter (is_shown n) (locals ++ rows) ≡ listed_locals n locals ++ rows
   all_apart u =
       apart (λ s. not n.undefined || is_shown_undefined s) n.external locals rows inner outer

@@ -142,6 +142,7 @@ module _ (name : List ℕ) where
       definers-append name (map forced_mention forced) (blocks mentions_in [] os)
       ∙ (λ i. forced_none forced i + objects_definers [] os i) ∙ omega arith
 
+-- for `order_law`: objects that define each name once do so in each order
 pub once_in_any_order : (forced : List (List ℕ)) (os ps : List Contents) (o : Choices) (y : Outcome) →
     IsPermutation os ps → DefineOnce os → link forced ps o ≡ Ok y → y.report.multiples ≡ []
 once_in_any_order forced os ps o y same once linked =

@@ -38,6 +38,7 @@ module _ (o : Choices) (ms : List Mention) where
       both all r c rest true e f = omega arith
       both all r c rest false e f = omega arith
 
+-- for `listing_law`: what size prints of a linked file
 pub sizes_are_sums : (forced : List (List ℕ)) (os : List Contents) (o : Choices) (x : Outcome) →
     link forced os o ≡ Ok x → HasSizes forced os o x.file
 sizes_are_sums forced os o x linked =

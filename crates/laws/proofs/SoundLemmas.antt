@@ -294,6 +294,7 @@ are_objects : (os : List Contents) → AllByRecursion IsSound os → AllByRecurs
 are_objects [] sound well = tt
 are_objects (o ∷ os) sound well = (record { fits = sound.0.fits; well = well.0 }, are_objects os sound.1 well.1)
 
+-- so what was linked can be written and read again
 pub linked_sound : (forced : List (List ℕ)) (os : List Contents) (o : Choices) (x : Outcome) →
     AllByRecursion IsName forced → AllByRecursion IsSound os → AllByRecursion IsWellFormed os → total TextSeg os ≤ 65534 →
     link forced os o ≡ Ok x → IsSound x.file

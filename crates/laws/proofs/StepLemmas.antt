@@ -79,6 +79,7 @@ module _ {W E : Type 0} (out_contents : W → Option (List ℕ)) (error_contents
     status = first ∙ ap status_of e ∙ sym second;
   }
 
+  -- for `steps_law`: ld of the files that an ld -r stored
   pub link_steps : EncodingLaw → PartialReplacesAmongOthers → LinkStepsLaw out_contents error_contents
   link_steps encodes replaces first second whole own forced by o m p q before parts after bs os cs first_links second_links
       whole_links parts_at before_at after_at all_at intact sound names relocatable no_commons less part single =
@@ -133,6 +134,7 @@ module _ {W E : Type 0} (out_contents : W → Option (List ℕ)) (error_contents
       loaded_is : (a b : Contents) → (let x : Result Contents ReadFault = Ok a in let y : Result Contents ReadFault = Ok b in x ≡ y) → a ≡ b
       loaded_is a b e = cc
 
+  -- and strip of the program that ld stored
   pub strip_steps : EncodingLaw → StripLaw → StripStepsLaw out_contents error_contents
   strip_steps encodes law linked strip whole forced o p q paths os linked_links strips whole_links at all_at intact sound names =
       let x = linking linked forced o p paths os linked_links at in

@@ -187,6 +187,7 @@ none_listed n locals (inr none) = ap (λ (ls : List Symbol). cond n.external [] 
     either true = refl
     either false = refl
 
+-- for `listing_law`: nm -u shows the names that ld reports
 pub undefined_are_listed : (forced : List (List ℕ)) (os : List Contents) (o : Choices) (x : Outcome) →
     o.keep ≢ Nothing → o.relocatable ≡ false → link forced os o ≡ Ok x →
     (n : NmOptions) → n.undefined ≡ true → (n.external ≡ true) ⊎ (undefined_locals o os ≡ []) →
@@ -201,6 +202,7 @@ undefined_are_listed forced os o x others plain linked n u without =
     subst (λ (ns : List (List ℕ)). IsPermutation (map (λ (s : Symbol). s.name) (arranged n all)) ns) names
     (IsPermutation-map (λ (s : Symbol). s.name) (arranged n all) all (IsPermutation-sym all (arranged n all) (arranged_moves n all)))
 
+-- and its lines are those of them, with undefined locals if these are shown
 pub undefined_lines : (forced : List (List ℕ)) (os : List Contents) (o : Choices) (x : Outcome) → o.keep ≢ Nothing →
     o.relocatable ≡ false → link forced os o ≡ Ok x → (n : NmOptions) (path : List ℕ) → n.undefined ≡ true →
     nm_text n ((path, x.file) ∷ [])
