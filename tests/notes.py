@@ -5,7 +5,8 @@ v7-explain(1).
 usage: notes.py V7_EXPLAIN
 
 The files are made, the same in each run: objects whose numbers lie at the edges of their ranges and beside them, one file cut
-at each byte, objects with 15 to 18 bad relocation words, files with other magic numbers, flags and sizes, and objects of instructions.
+at each byte, objects with 15 to 18 bad relocation words, files with other magic numbers, flags and sizes, files of other forms, and
+objects of instructions.
 """
 import os
 import random
@@ -20,6 +21,14 @@ from suspicions import DOUBT, suspicions
 
 PROGRAMS = {0o405: "an overlay", 0o407: "a program", 0o410: "a program, pure text", 0o411: "a program, separate text and data"}
 KINDS = {0o405: "overlay", 0o407: "program 0407", 0o410: "program 0410", 0o411: "program 0411"}
+MAGICS = {0o405: "overlay", 0o407: "normal, data after text", 0o410: "text can be shared, data at a multiple of 020000",
+          0o411: "text and data in spaces of their own"}
+# the first bytes of other files, what is said of them, and their kinds in an inventory
+MEMBERS = "take its members out with the ar of its system"
+FORMS = [(b"\x7fELF", "this is an ELF file, of another system", "ELF"),
+         (b"\x65\xff", f"this is an archive (0177545); {MEMBERS}", "archive"),
+         (b"\x6d\xff", f"this is an old archive (0177555); {MEMBERS}", "archive"),
+         (b"!<arch>", "this is an archive; take its members out with ar", "archive")]
 SEGMENTS = {2: "text", 3: "data", 4: "bss"}
 # types of symbols, without the external bit
 TYPES = (0, 1, 2, 3, 4, 0o24, 0o37)
@@ -145,6 +154,34 @@ def kind(file, is_damaged):
     return f"{PROGRAMS[file.magic]}{table}; {refused}"
 
 
+def form(data):
+    """What a file is that has no magic number of ours, and its kind in an inventory, if that is known."""
+    if not data:
+        return "the file is empty", "other"
+    for begin, said, kind_said in FORMS:
+        if data.startswith(begin):
+            return said, kind_said
+    if all(byte in b"\n\r\t" or 32 <= byte < 127 for byte in data):
+        return "this is text", "text"
+    if len(data) > 1 and 256 * data[0] + data[1] in PROGRAMS:
+        return "a magic number with its bytes swapped: each word has its low byte first", "other"
+    return None, "other"
+
+
+def has_no_magic(data):
+    return len(data) < 16 or File(data).magic not in PROGRAMS
+
+
+def header_said(data):
+    """The words of a header by name."""
+    file = File(data)
+    words = [(file.magic, "magic: " + MAGICS.get(file.magic, "none that a file begins with"))]
+    sizes = (("text", file.text), ("data", file.data_size), ("bss", file.bss), ("the symbol table", file.table))
+    words += [(size, f"size of {part}: {size} bytes") for part, size in sizes]
+    words += [(file.entry, "entry point"), (file.unused, "unused"), (file.flag, f"flag: {'no relocation' if file.flag else 'relocation is present'}")]
+    return [f"{2 * place:03o}  {word:06o}  {said}" for place, (word, said) in enumerate(words)]
+
+
 def odd_header(file):
     if file.entry and file.flag == 0:
         yield 10, f"the entry point of an object, {file.entry:06o}, is ignored"
@@ -193,27 +230,44 @@ def odd_symbol(file, number, symbol, first):
             yield 10, f"of {segment} has value {value:06o}, and {segment} lies from {begin:06o} to {end:06o}"
 
 
+def odd_of(file):
+    """What is odd of a file, each with its byte; what is suspicious in its text comes last, and is given alone too."""
+    odd, firsts = [*odd_header(file), *odd_words(file)], {}
+    for number, symbol in enumerate(file.symbols()):
+        at, title = file.symbols_at + 12 * number, f"symbol {number} {shown(symbol[0])}"
+        found = odd_symbol(file, number, symbol, firsts.setdefault(symbol[0], number))
+        odd += [(at + place, f"{title} {text}") for place, text in found]
+    parts = {"word": 16, "relocation": file.relocation_at}
+    suspicious = [(parts[part] + 2 * place, text) for part, place, text in suspicions(text_of(file))]
+    return odd + suspicious, suspicious
+
+
+def at_byte(found):
+    return [f"byte 0{at:o} ({at}): {text}" for at, text in found]
+
+
 def notes_of(data):
-    """What a file is, and all that is wrong or odd, in any order; and what `-c` says of it: what is wrong, or odd in instructions for sure."""
+    """What a file is, and all that is wrong or odd, in the order of a listing; and what `-c` says of it: what is wrong, or odd in
+    instructions for sure."""
     found, file = wrong(data)
-    what = kind(file, found) if file else None
-    refused = [f"byte 0{at:o} ({at}): {text}" for at, text in found] or ([what] if what != "an object" else [])
+    if file is None:
+        said = [text for text in (form(data)[0],) if text and has_no_magic(data)]
+        return [f"wrong: {note}" for note in at_byte(found)] + said, at_byte(found) + said
+    what, (odd, suspicious) = kind(file, found), odd_of(file)
+    refused = at_byte(found) or ([what] if what != "an object" else at_byte(note for note in suspicious if DOUBT not in note[1]))
     notes = [what] if what else []
-    notes += [f"wrong: byte 0{at:o} ({at}): {text}" for at, text in found]
-    if file:
-        odd = [*odd_header(file), *odd_words(file)]
-        firsts = {}
-        for number, symbol in enumerate(file.symbols()):
-            at, title = file.symbols_at + 12 * number, f"symbol {number} {shown(symbol[0])}"
-            found = odd_symbol(file, number, symbol, firsts.setdefault(symbol[0], number))
-            odd += [(at + place, f"{title} {text}") for place, text in found]
-        parts = {"word": 16, "relocation": file.relocation_at}
-        suspicious = [(parts[part] + 2 * place, text) for part, place, text in suspicions(text_of(file))]
-        odd += suspicious
-        if what == "an object":
-            refused = [f"byte 0{at:o} ({at}): {text}" for at, text in suspicious if DOUBT not in text]
-        notes += [f"odd: byte 0{at:o} ({at}): {text}" for at, text in odd]
-    return sorted(notes), refused
+    return notes + [f"wrong: {note}" for note in at_byte(found)] + [f"odd: {note}" for note in at_byte(odd)], refused
+
+
+def lines_of(path, data):
+    """All notes of a listing: the path with the size, what the file is, its header, and the others."""
+    notes, _ = notes_of(data)
+    title = f"{path}: 0{len(data):o} ({len(data)}) bytes"
+    if wrong(data)[1] is None:
+        known = has_no_magic(data) and form(data)[0]
+        return [title] + (header_said(data) if len(data) >= 16 and not known else []) + notes
+    first = 0 if notes and notes[0].startswith(("wrong", "odd")) else 1
+    return [title, *notes[:first], *header_said(data), *notes[first:]]
 
 
 def condition(data):
@@ -226,8 +280,8 @@ def condition(data):
 
 def inventory_of(path, data):
     """The line of a file in an inventory, unless it has the form of GNU's assembler."""
-    kind_said, numbers, said = "other", ["-"] * 5, "-"
-    if len(data) >= 16 and File(data).magic in PROGRAMS:
+    kind_said, numbers, said = form(data)[1], ["-"] * 5, "-"
+    if not has_no_magic(data):
         file = File(data)
         is_object = file.magic == 0o407 and file.flag == 0
         kind_said, said = "object" if is_object else KINDS[file.magic], condition(data)
@@ -300,6 +354,8 @@ def files():
             yield whole[:at] + struct.pack("<H", size) + whole[at + 2:]
     for magic in (*PROGRAMS, 0o404, 0o406, 0o412, 0, 65535):
         yield from (random_file(text, 1, magic, flag) for text in (0, 1, 2) for flag in (0, 1, 65535))
+    for begin in (*(begin for begin, _, _ in FORMS), b"text\r\n\t", b"text\x1b", b"text\x7f", b"\1\7", b"\1\4", b"\1\6"):
+        yield from (begin, begin + bytes(12) + b"and more", begin + b" and more of it, all of them text")
     # text and data of more than 65,536 bytes, the last words of which have relocation words of text and of data
     yield struct.pack("<8H", 0o407, 40000, 40000, 0, 0, 0, 0, 0) + bytes(159996) + b"\x22\0\x05\0"
     yield from (random_file(dice.randrange(9), dice.randrange(5)) for _ in range(1000))
@@ -307,10 +363,15 @@ def files():
 
 
 def explained(paths):
-    """The notes of each file: what it is, and what is wrong or odd, each in one line."""
-    done = subprocess.run([EXPLAIN, *paths], stdout=subprocess.PIPE, check=False)
-    parts = re.split(r"^/ f\d+\.o: 0[0-7]+ \(\d+\) bytes$", done.stdout.decode("ascii"), flags=re.M)[1:]
-    return [sorted(re.findall(r"^/ ((?:wrong: |odd: |an? ).*)$", part, re.M)) for part in parts]
+    """The notes of each file, in order."""
+    done = subprocess.run([EXPLAIN, *paths], stdout=subprocess.PIPE, stderr=subprocess.PIPE, check=False)
+    assert (done.returncode, done.stderr) == (1, b""), (done.returncode, done.stderr)
+    notes = []
+    for line in re.findall(r"^/ (.*)$", done.stdout.decode("ascii"), re.M):
+        if re.match(r"f\d+\.o: ", line):
+            notes.append([])
+        notes[-1].append(line)
+    return notes
 
 
 def checked(paths):
@@ -333,7 +394,7 @@ def inventoried(paths):
 
 def compare(path, data, found, expected):
     if found != expected:
-        print(f"{path}, {data.hex()}:", *set(found) - set(expected), "and not", *set(expected) - set(found), sep="\n  ")
+        print(f"{path}, {data.hex()}:", *found, "and not", *expected, sep="\n  ")
         sys.exit(1)
 
 
@@ -345,20 +406,16 @@ def main():
             file.write(data)
     found, refused, inventory = explained(paths), checked(paths), inventoried(paths)
     assert len(found) == len(inventory) == len(datas), (len(found), len(inventory), len(datas))
-    count = gnu = 0
+    count = 0
     for path, data, notes, line in zip(paths, datas, found, inventory):
-        expected, why = notes_of(data)
+        expected, why = lines_of(path, data), notes_of(data)[1]
         count += len(expected)
         compare(path, data, notes, expected)
-        said = [text for text in refused[path] if re.match("byte |a program|an overlay", text)]
-        compare(f"-c {path}", data, said, why)
+        compare(f"-c {path}", data, refused[path], why)
         alone = subprocess.run([EXPLAIN, "-c", path], stderr=subprocess.DEVNULL, check=False).returncode
         compare(f"-c {path}", data, [alone], [1 if why else 0])
-        if line.startswith("GNU object"):
-            gnu += 1
-        else:
-            compare(f"-l {path}", data, [line], [inventory_of(path, data)])
-    print(f"{count} notes of {len(datas)} files compared, and {len(datas) - gnu} lines of an inventory")
+        compare(f"-l {path}", data, [line], [inventory_of(path, data)])
+    print(f"{count} notes of {len(datas)} files compared, and {len(datas)} lines of an inventory")
 
 
 if __name__ == "__main__":
