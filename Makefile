@@ -236,8 +236,8 @@ crates/lesson/out/lesson: crates.txt $(shell find $(LESSON_CRATES) -name out -pr
 check-manual: check-examples
 	cd man && mandoc -T lint *.1 *.3 *.5 | { ! grep -v 'lacks .* entry, run makewhatis\|referenced manual not found'; }
 
-# the program with standard streams closed, and with words and files of each kind and number; and what it adds at a terminal
-check-streams: build/v7
+# the programs with standard streams closed, and with words and files of each kind and number; and what v7 adds at a terminal
+check-streams: build/v7 build/v7-from-gnu build/v7-object build/v7-explain build/v7-lesson
 	sh tests/streams.sh
 	python3 tests/terminal.py build/v7
 

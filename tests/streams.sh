@@ -1,17 +1,20 @@
 #!/bin/sh
 # Runs the program with standard streams closed, and compares its files, faults and statuses: what goes to a closed stream
 # is a write error, what is read from one is a read error, and no file that a command opens takes the place of one. Then its
-# words: one that is not UTF-8 is refused, empty ones and blanks are words as others, and there may be many. Last, as many
-# files as may be open, and more.
+# words: one that is not UTF-8 is refused, empty ones and blanks are words as others, and there may be many. Then as many
+# files as may be open, and more. Last, the same of the programs beside v7.
 #
-# usage: tests/streams.sh       the program has to stand in build/v7
+# usage: tests/streams.sh       the programs are in build/, or in the folder V7_BUILD
 set -u
 cd "$(dirname "$0")/.."
-v7=$PWD/build/v7
-[ -x "$v7" ] || { echo "build/v7 is missing: make builds it"; exit 2; }
+build=${V7_BUILD:-$PWD/build}
+v7=$build/v7
+for program in v7 v7-explain v7-object v7-from-gnu v7-lesson; do
+    [ -x "$build/$program" ] || { echo "$build/$program is missing: make builds it"; exit 2; }
+done
 room=$(mktemp -d)
 trap 'rm -rf "$room"' EXIT
-cp examples/*.o "$room"
+cp examples/*.o examples/squares.gnu "$room"
 cd "$room" || exit 2
 failed=0
 
@@ -140,6 +143,70 @@ expect 'ld, input closed' 1 ''
 same out reported
 printf 'Undefined:\n_twice\n' | cmp - answers || failed=1
 
+# the programs beside v7: what goes to a closed stream, or to a device that is full, is a write error
+PATH=$build:$PATH
+v7-explain main.o >listing 2>fault; status=$?
+expect 'v7-explain' 0 ''
+v7-from-gnu squares.gnu converted 2>fault; status=$?
+expect 'v7-from-gnu' 0 ''
+for letter in '' -d -l -s -x -m; do
+    v7-explain $letter main.o >&- 2>fault; status=$?
+    expect "v7-explain $letter, output closed" 2 'v7-explain: write error'
+done
+v7-explain -c reported >&- 2>fault; status=$?
+expect 'v7-explain -c, output closed' 1 'v7-explain: reported: a program; relocation removed, so ld cannot link it again'
+v7-lesson main.o >&- 2>answers; status=$?
+: >fault
+expect 'v7-lesson, output closed' 2 ''
+if [ -c /dev/full ]; then
+    v7-explain main.o >/dev/full 2>fault; status=$?
+    expect 'v7-explain, device full' 2 'v7-explain: write error'
+    v7-explain -o /dev/full main.o >answers 2>fault; status=$?
+    expect 'v7-explain -o, device full' 2 'v7-explain: /dev/full: write error'
+    v7-lesson main.o >/dev/full 2>answers; status=$?
+    : >fault
+    expect 'v7-lesson, device full' 2 ''
+fi
+
+# with a closed stream, or with none, they store the same
+: >fault
+for closed in 0 1 2 all; do
+    case $closed in
+        0) v7-explain -o stored main.o <&- >answers 2>fault && v7-object listing made <&- >>answers 2>>fault \
+            && v7-from-gnu squares.gnu out <&- >>answers 2>>fault; status=$? ;;
+        1) v7-explain -o stored main.o >&- 2>fault && v7-object listing made >&- 2>>fault \
+            && v7-from-gnu squares.gnu out >&- 2>>fault; status=$? ;;
+        2) v7-explain -o stored main.o >answers 2>&- && v7-object listing made >>answers 2>&- \
+            && v7-from-gnu squares.gnu out >>answers 2>&-; status=$? ;;
+        *) v7-explain -o stored main.o <&- >&- 2>&- && v7-object listing made <&- >&- 2>&- \
+            && v7-from-gnu squares.gnu out <&- >&- 2>&-; status=$? ;;
+    esac
+    expect "stored, closed: $closed" 0 ''
+    same stored listing
+    same made main.o
+    same out converted
+    rm -f stored made out
+done
+v7-explain -c reported >answers 2>&-; status=$?
+expect 'v7-explain -c, error closed' 1 ''
+v7-object main.o out >answers 2>&-; status=$?
+expect 'v7-object, error closed' 1 ''
+v7-from-gnu main.o out >answers 2>&-; status=$?
+expect 'v7-from-gnu, error closed' 1 ''
+[ ! -e out ] || { echo 'a file that was refused is stored'; failed=1; }
+
+# words that are not UTF-8, and 1,000 of them
+for program in v7-explain v7-object v7-from-gnu v7-lesson; do
+    "$program" "$(printf '\377')" x >answers 2>errors; status=$?
+    : >fault
+    expect "$program, a word that is not UTF-8" 2 ''
+    grep -q "usage: $program" errors || { echo "$program, a word that is not UTF-8: $(cat errors)"; failed=1; }
+    same answers /dev/null
+done
+v7-explain -l $(repeated 999 main.o) >answers 2>fault; status=$?
+expect 'v7-explain, 1,000 words' 0 ''
+repeated 999 "$(v7-explain -l main.o)" | cmp - answers || failed=1
+
 # standard error closed, and all three
 : >fault
 "$v7" ld -o out main.o count.o >answers 2>&-; status=$?
@@ -169,6 +236,24 @@ expect 'descriptor 2' 2 ''
 for descriptor in 0 1 2; do
     "$v7" ld -o out main.o /dev/fd/$descriptor <&- >&- 2>&-; status=$?
     expect "descriptor $descriptor, all closed" 2 ''
+done
+# the other programs hold them too
+v7-explain main.o /dev/fd/0 <&- >answers 2>fault; status=$?
+expect 'v7-explain, descriptor 0' 2 'v7-explain: /dev/fd/0: read error'
+v7-explain -o out /dev/fd/1 >&- 2>fault; status=$?
+expect 'v7-explain, descriptor 1' 2 'v7-explain: /dev/fd/1: read error'
+v7-object /dev/fd/0 out <&- >answers 2>fault; status=$?
+expect 'v7-object, descriptor 0' 2 'v7-object: /dev/fd/0: read error'
+v7-from-gnu /dev/fd/1 out >&- 2>fault; status=$?
+expect 'v7-from-gnu, descriptor 1' 2 'v7-from-gnu: /dev/fd/1: read error'
+: >fault
+for descriptor in 0 1 2; do
+    v7-explain /dev/fd/$descriptor <&- >&- 2>&-; status=$?
+    expect "v7-explain, descriptor $descriptor, all closed" 2 ''
+    v7-object /dev/fd/$descriptor out <&- >&- 2>&-; status=$?
+    expect "v7-object, descriptor $descriptor, all closed" 2 ''
+    v7-from-gnu /dev/fd/$descriptor out <&- >&- 2>&-; status=$?
+    expect "v7-from-gnu, descriptor $descriptor, all closed" 2 ''
 done
 [ ! -e out ] || { echo 'a file that is opened took the place of a stream'; failed=1; }
 exit $failed
