@@ -206,7 +206,7 @@ class File:
     """An object or a linked file, as far as limits need it."""
 
     def __init__(self, data):
-        _, self.text, self.data, self.bss, table, _, _, flag = struct.unpack("<8H", data[:16])
+        self.magic, self.text, self.data, self.bss, table, self.entry, _, flag = struct.unpack("<8H", data[:16])
         segments = 0 if flag else self.text + self.data
         at = 16 + self.text + self.data
         self.relocation = struct.unpack_from(f"<{segments // 2}H", data, at)
@@ -247,6 +247,30 @@ def limits_of(options, paths, linked, end):
     return lines + [limit("symbol number", number, 4095)] * ("-r" in options) + [limit("externals", len(names), 65535)]
 
 
+def check_head(what, found, paths, report, linked):
+    """What becomes of a link that is made: whether there is something to report, the magic number, and the entry point."""
+    lines = [f"Link of {len(paths)} objects: made, with {'something' if report else 'nothing'} to report"]
+    lines.append(f"  magic 0{linked.magic:o}, entry point {linked.entry:06o}")
+    lines += [f"  entry point not in text: {line.split(':')[0]}" for line in report.split("\n") if line.endswith("Entry point not in text")]
+    check(f"{what}: head", found[""], lines)
+
+
+def check_segments(what, found, options, paths, linked):
+    """Each segment begins where the one before it ends, but for data, which begins by the options; commons are in the bss of the file."""
+    objects = [file_at(path) for path in paths]
+    bss = sum(o.bss for o in objects)
+    sizes = [("text", linked.text), ("data", linked.data), ("commons", linked.bss - bss), ("bss", bss)]
+    lines, at = [], 0
+    for name, size in sizes:
+        if name == "data" and "-n" in options:
+            at = -(-at // 8192) * 8192
+        if name == "data" and "-i" in options:
+            at = 0
+        lines.append(f"  {name:8}{at:06o}  {at + size:06o}{size:>8}")
+        at += size
+    check(f"{what}: segments", found["Segments"], lines)
+
+
 def check_map(what, options, paths):
     """The map of a link that is made agrees with the link. Returns its externals."""
     status, text, errors = explain(*options, *paths)
@@ -264,7 +288,10 @@ def check_map(what, options, paths):
     sizes = {name: int(row[2]) for name, row in segments.items()}
     check(f"{what}: sizes", [sizes["text"], sizes["data"], sizes["commons"] + sizes["bss"]], [text_size, data_size, bss_size])
     run(V7, "ld", *[word for word in options if word not in ("-s", "-X")], "-x", "-o", "bare", *paths)
-    check(f"{what}: limits", found["Limits"], limits_of(options, paths, file_at("out"), end_of(options, sizes)))
+    out = file_at("out")
+    check_head(what, found, paths, report, out)
+    check_segments(what, found, options, paths, out)
+    check(f"{what}: limits", found["Limits"], limits_of(options, paths, out, end_of(options, sizes)))
     names = names_in(found.get("Externals", []))
     check(f"{what}: externals", [line for line, _, _ in names.values()], run(V7, "nm", "-g", "bare")[1].split("\n")[:-1])
     return names, found
