@@ -395,14 +395,21 @@ GNU_FILES = {
 }
 
 
-def converted(kind):
-    """The object of GNU's form becomes that of the Seventh Edition."""
+def to_convert(kind):
+    """A file in GNU's form, the lines of names that are cut, and the object that it becomes without locals and symbols for a debugger."""
     words, relocs, rows = GNU_FILES[kind]
-    written({"in": gnu_named(words, relocs, [(name.rstrip(b"\0"), of, value) for name, of, value in rows])})
+    data = gnu_named(words, relocs, [(name.rstrip(b"\0"), of, value) for name, of, value in rows])
     kept = [row for row in rows if row[1] not in (LOCAL, 0o144)]
     told = [f"v7-from-gnu: in: {name.decode()} is cut to {name[:8].decode()}\n" for name, _, _ in kept if len(name) > 8]
-    check("answer", answer("v7-from-gnu", "-SX", "in", "out"), (0, "", "".join(told)))
-    check("the object", read("out"), agree.pack(list(zip(words, relocs)), symbols=cut(kept)))
+    return data, "".join(told), agree.pack(list(zip(words, relocs)), symbols=cut(kept))
+
+
+def converted(kind):
+    """The object of GNU's form becomes that of the Seventh Edition."""
+    data, told, made = to_convert(kind)
+    written({"in": data})
+    check("answer", answer("v7-from-gnu", "-SX", "in", "out"), (0, "", told))
+    check("the object", read("out"), made)
 
 
 # files that are converted together: many, and those that have the names of a session

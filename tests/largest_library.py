@@ -12,8 +12,9 @@ import agree_library
 import largest
 import library
 import model
+import notes
 import v7
-from largest import ALONE, GOOD, KINDS, MARKS, check, check_lines, encoded
+from largest import ALONE, GNU_FILES, GOOD, KINDS, MARKS, OTHER_FILES, check, check_lines, encoded
 
 NM = {"": 0, "g": v7.NM_EXTERNAL, "n": v7.NM_BY_VALUE, "p": v7.NM_TABLE_ORDER, "r": v7.NM_REVERSE, "u": v7.NM_UNDEFINED}
 
@@ -42,6 +43,21 @@ def texts(kind):
     check("strip", v7.strip(data), model.write_file(dataclasses.replace(model.read_file(data), symbols=[], flag=1)))
     check_lines("disassemble", v7.disassemble(data).split("\n"), [*file.disassembly(), ""])
     check("from_listing", v7.from_listing(v7.listing(data)), data)
+
+
+def remarked(kind):
+    """All that is wrong and odd in a file."""
+    data = OTHER_FILES[kind][0] if kind in OTHER_FILES else next(iter(encoded(kind).values()))
+    wanted = [note for note in notes.notes_of(data)[0] if note.startswith(("wrong: ", "odd: "))]
+    words = {True: "odd", False: "wrong"}
+    found = [f"{words[row.kind > v7.REMARK_MORE_BAD_WORDS]}: byte 0{row.byte:o} ({row.byte}): {row.text}" for row in v7.remarks(data)]
+    check_lines("remarks", found, wanted)
+
+
+def converted(kind):
+    """The object that one in GNU's form becomes."""
+    data, _, made = largest.to_convert(kind)
+    check("from_gnu", v7.from_gnu(data, v7.DROP_DEBUGGER | v7.DROP_UNUSED), made)
 
 
 def taken_apart(kind):
@@ -183,6 +199,8 @@ def words_shown(count):
 
 TABLE = [
     ("v7_nm, v7_size, v7_strip, v7_disassemble, v7_list, v7_from_listing", texts, ALONE),
+    ("v7_remarks", remarked, [*ALONE, *OTHER_FILES]),
+    ("v7_from_gnu", converted, [*GNU_FILES]),
     ("v7_read, v7_check, v7_take_apart, v7_make", taken_apart, ALONE),
     ("v7_check, v7_take_apart, v7_link_list", bad, [kind for kind in KINDS if kind.startswith("bad")]),
     ("v7_link, v7_link_list, v7_link_findings, v7_run", linked, GOOD),

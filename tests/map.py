@@ -78,12 +78,21 @@ def random_object(dice):
     return RandomObject(text, data, bss, symbols, references, [dice.choice(WORDS) for _ in range(text)])
 
 
+# what follows a title in its line, and the first line of a part that begins with one of titles
+COLUMNS = {"Limits": "              used      of    left", "Segments": "    from     end   bytes"}
+FIRST_LINES = {"Objects": "    text  bytes    data  bytes     bss  bytes", "Largest objects": "     text    data     bss     all  symbols"}
+
+
 def parts(text):
     """The parts of a map: the lines of each by its title, those before the first by an empty one."""
     found = {}
     for block in text.split("\n\n"):
         title, *lines = block.rstrip("\n").split("\n")
-        found[title.split("  ")[0] if found else ""] = lines if found else [title] + lines
+        name = title.split("  ")[0] if found else ""
+        if found:
+            check("a title", title, name + COLUMNS.get(name, ""))
+            check(f"the first line of {name}", lines[:1], [FIRST_LINES.get(name, lines[0])])
+        found[name] = lines if found else [title] + lines
     return found
 
 
