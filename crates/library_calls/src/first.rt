@@ -1,5 +1,5 @@
 //! The file and the object that bytes begin with.
-ghost use Rattle.std.specs.Prelude.{◌≡◌, ◌≢◌, ◌≤◌, ℕ, List, length, Ok, Err, IfOk, IfErr, IsTrue};
+ghost use Rattle.std.specs.Prelude.{◌≡◌, ◌≢◌, ℕ, List, Ok, Err, IfOk, IfErr, IsTrue};
 ghost use Rattle.aout_core.specs.Contents.{has_whole_sizes, is_magic};
 ghost use Rattle.aout_core.specs.Decoding.{contents_in, decode, header_in};
 ghost use Rattle.aout_core.specs.Encoding.{file_length};
@@ -8,32 +8,15 @@ ghost use Rattle.library_calls.specs.MemoryWanted.{HasBody};
 ghost use Rattle.library_calls.specs.declared.cause.Cause.TheVariants.{Memory};
 
 use crate::cause::Cause;
-use aout_core::{File, Header, Object, Parts, ReadFault, Wire, read_file};
+use aout_core::{File, Header, Object, Parts, ReadFault, Wire, is_magic, read_file};
+use findings::{FilePlaces, header_of};
 use std::alloc::Global;
 
 /// How many bytes a file with this header takes.
 pub(crate) fn file_length(header: &Header) -> usize
     ensures { result ≡ file_length header.now }
 {
-    let segments = header.text_size as usize + header.data_size as usize;
-    let relocation = if header.flag == 0 { segments } else { 0 };
-    16 + segments + relocation + header.symbol_size as usize
-}
-
-/// The header in the first 16 bytes.
-fn header_in(bytes: &[u8]) -> Header
-    requires { 16 ≤ length bytes.now }
-    ensures { result ≡ header_in bytes.now }
-{
-    let mut start = [0; 16];
-    start.copy_from_slice(&bytes[..16]);
-    Header::read(&start)
-}
-
-fn is_magic(magic: u16) -> bool
-    ensures { result ≡ is_magic magic }
-{
-    magic == 0o405 || magic == 0o407 || magic == 0o410 || magic == 0o411
+    FilePlaces::of(header).end
 }
 
 /// Whether the segments have whole words, and the symbol table whole symbols.
@@ -53,10 +36,9 @@ fn whole_header(bytes: &[u8]) -> Result<Header, Cause>
     ensures err { IfErr result (λ cause. file_in bytes.now ≡ Err cause) }
     ensures memory { IfErr result (λ cause. cause ≢ Memory) }
 {
-    if bytes.len() < 16 {
+    let Some(header) = header_of(bytes) else {
         return Err(Cause::BadFile(ReadFault::ShortHeader));
-    }
-    let header = header_in(bytes);
+    };
     if !is_magic(header.magic) {
         return Err(Cause::BadFile(ReadFault::BadMagic));
     }
