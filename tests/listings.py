@@ -5,7 +5,8 @@ usage: listings.py V7_EXPLAIN V7_OBJECT
 
 Each listing of examples/ has to make the object of the same name. The listing that v7-explain writes of each file of examples/, and
 of 1,000 made files, objects and linked ones, has to make that file again, bytes after the NUL of a name aside. 2,000 damaged listings
-have to end with the status 0 or 1: with 1 one line tells the line and the column of the mistake, and no file is written.
+have to end with the status 0 or 1: with 1 one line tells the line and the column of the mistake, and no file is written. In 200 more one
+number is not octal, and the line and the column are those of this number.
 """
 import os
 import random
@@ -109,6 +110,18 @@ def tried(text):
     return True
 
 
+def not_octal(text):
+    """A listing in which the address or the word of a row has a digit 9, and what has to be said of it; none without a row."""
+    lines = text.split(b"\n")
+    rows = [number for number, line in enumerate(lines) if re.match(rb"[0-7]{6}  [0-7]{6}", line)]
+    if not rows:
+        return None
+    number, column = dice.choice(rows), dice.choice([0, 8])
+    at = column + dice.randrange(6)
+    lines[number] = lines[number][:at] + b"9" + lines[number][at + 1:]
+    return b"\n".join(lines), b"v7-object: in: line %d, column %d: not an octal number\n" % (number + 1, column + 1)
+
+
 def main():
     names = sorted(os.listdir(EXAMPLES))
     by_hand = [name[:-4] for name in names if name.endswith(".lst")]
@@ -126,7 +139,10 @@ def main():
     print("%d listings made by hand, and %d of files turned back" % (len(by_hand), len(files)))
     short = [listing for listing in listings if len(listing) < 5000]
     refused = sum(tried(damaged(dice.choice(short))) for _ in range(2000))
-    print("2000 damaged listings tried, of which %d are refused" % refused)
+    wrong = [made for made in map(not_octal, dice.choices(short, k=200)) if made]
+    for text, said in wrong:
+        assert run(text) == (1, said, None), (text, said)
+    print("2000 damaged listings tried, of which %d are refused, and %d with a number that is not octal" % (refused, len(wrong)))
 
 
 with tempfile.TemporaryDirectory() as folder:
