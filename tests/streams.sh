@@ -207,6 +207,18 @@ v7-explain -l $(repeated 999 main.o) >answers 2>fault; status=$?
 expect 'v7-explain, 1,000 words' 0 ''
 repeated 999 "$(v7-explain -l main.o)" | cmp - answers || failed=1
 
+# a file that is larger than the memory that there is can be read, but there is no memory for it
+dd if=/dev/null of=large bs=1 seek=300000000 2>answers
+if (ulimit -v 200000 && exec v7-explain main.o) >answers 2>fault; then
+    for words in 'v7-explain large' 'v7-explain -c large' 'v7-explain -o out large' 'v7-explain -m large' 'v7-object large out' 'v7-from-gnu large out'; do
+        (ulimit -v 200000 && exec $words) >answers 2>fault; status=$?
+        expect "$words, with little memory" 2 "${words%% *}: no memory"
+        same answers /dev/null
+    done
+fi
+[ ! -e out ] || { echo 'with little memory a file is stored'; failed=1; }
+rm large
+
 # standard error closed, and all three
 : >fault
 "$v7" ld -o out main.o count.o >answers 2>&-; status=$?
