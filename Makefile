@@ -251,6 +251,7 @@ check-explain: build/v7 build/v7-explain build/v7-object build/v7-from-gnu build
 	python3 tests/notes.py build/v7-explain
 	python3 tests/map.py build/v7 build/v7-explain
 	python3 tests/disassembly.py build/v7-explain
+	python3 tests/folders.py build/v7-explain
 	python3 tests/mistakes.py build/v7-explain
 	python3 tests/largest.py build
 

@@ -13,6 +13,7 @@ use Rattle.surroundings.specs.declared.answer.Fault.TheVariants as faults
 use Rattle.v7_explain.specs.Joined.{usage}
 use Rattle.v7_explain.specs.Maps.{IsMapCall}
 use Rattle.v7_explain.specs.Runs.{Call, IsCall, map_link, mapping_after}
+use Rattle.v7_explain.specs.Walks.{Folders}
 use Rattle.v7_explain.specs.internal.Takes.{asks_for_name}
 
 -- one name more
@@ -36,13 +37,13 @@ name_taken_at names (w ∷ n ∷ rest) after name d two is left asks =
     ∙ ap (λ (s : String Global). mapping_after (names ++ take 8 (before_nul (string_bytes s)) ∷ []) (map string_bytes rest)) (sym is)
     ∙ ap (λ (l : List (String Global)). mapping_after (names ++ take 8 (before_nul (string_bytes name)) ∷ []) (map string_bytes l)) (sym whole)
 
-module _ (old new : History) (result : Result Answer Fault) where
-  either_call : (b : Bool) (x y : Option Call) → IsCall x old new result → IsCall y old new result → IsCall (if b then x else y) old new result
+module _ (folders : Option Folders) (old new : History) (result : Result Answer Fault) where
+  either_call : (b : Bool) (x y : Option Call) → IsCall folders x old new result → IsCall folders y old new result → IsCall folders (if b then x else y) old new result
   either_call true x y p q = p
   either_call false x y p q = q
 
   -- memory runs out for the names
-  pub names_out : (names words : List (List ℕ)) → new ≡ old → result ≡ Err faults.Memory → IsCall (mapping_after names words) old new result
+  pub names_out : (names words : List (List ℕ)) → new ≡ old → result ≡ Err faults.Memory → IsCall folders (mapping_after names words) old new result
   names_out names [] same memory = inl (same, memory)
   names_out names (word ∷ []) same memory =
       either_call (bytes_eq word (codes "-y")) None (Some (map_link names (word ∷ []))) (same, inr memory) (inl (same, memory))
@@ -52,12 +53,12 @@ module _ (old new : History) (result : Result Answer Fault) where
       (names_out longer rest same memory) (inl (same, memory))
 
   -- a name is missing
-  pub names_missing : (call : Option Call) → call ≡ None → new ≡ old → AnswersOr result (says_usage usage) → IsCall call old new result
-  names_missing call none same answers = subst (λ c. IsCall c old new result) (sym none) (same, answers)
+  pub names_missing : (call : Option Call) → call ≡ None → new ≡ old → AnswersOr result (says_usage usage) → IsCall folders call old new result
+  names_missing call none same answers = subst (λ c. IsCall folders c old new result) (sym none) (same, answers)
 
   -- the words after the names are mapped
   pub names_mapped : (call : Option Call) (names words : List (List ℕ)) → call ≡ Some (map_link names words) →
-      IsMapCall names words old new result → IsCall call old new result
-  names_mapped call names words is maps = subst (λ c. IsCall c old new result) (sym is) maps
+      IsMapCall names words old new result → IsCall folders call old new result
+  names_mapped call names words is maps = subst (λ c. IsCall folders c old new result) (sym is) maps
 
 pub ruleset by_asked = (names_out, names_missing, names_mapped)

@@ -3,3 +3,4 @@ pub mod ExplainingLemmas
 pub mod TakingLemmas
 pub mod MapLemmas
 pub mod AskedLemmas
+pub mod WalkLemmas

@@ -2,4 +2,5 @@ pub mod Files
 pub mod Joined
 pub mod Maps
 pub mod Runs
+pub mod Walks
 pub mod internal

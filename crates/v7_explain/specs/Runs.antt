@@ -18,6 +18,7 @@ use Rattle.surroundings.specs.declared.office.Stored.{Stored}
 use Rattle.v7_explain.specs.Files.{checked, inventoried, listed, program, viewed}
 use Rattle.v7_explain.specs.Joined.{either, joined, nothing_said, usage}
 use Rattle.v7_explain.specs.Maps.{IsMapCall}
+use Rattle.v7_explain.specs.Walks.{AreWalked, Folders}
 use Rattle.v7_explain.specs.declared.explaining.Mode.{Mode}
 use Rattle.v7_explain.specs.declared.program.Task.{Task}
 use Rattle.v7_explain.specs.declared.program.Task.TheVariants.{Store, MapLink, Explain}
@@ -50,6 +51,14 @@ IsExplaining mode old new said [] result = (new ≡ old) × AnswersOr result sai
 IsExplaining mode old new said (path ∷ paths) result =
     (more : Answer) × (between : History) × SaysAt mode old between path more
     × (((new ≡ between) × (result ≡ Err faults.Memory)) ⊎ IsExplaining mode between new (joined said more) paths result)
+
+-- ---- folders
+
+-- the files of a walk are found before the first is opened, and then a line of an inventory is said of each; or memory runs out
+abbrev pub IsWalk : Option Folders → History → History → List (List ℕ) → Result Answer Fault → Type 0
+IsWalk folders old new paths result =
+    ((new ≡ old) × (result ≡ Err faults.Memory))
+    ⊎ ((found : List (List ℕ)) × AreWalked folders paths found × IsExplaining Inventory old new nothing_said found result)
 
 -- ---- a listing that is stored
 
@@ -88,9 +97,11 @@ StoresListing to path old new result =
 
 -- ---- arguments
 
--- what the arguments ask for: to explain files, to store the listing of a file, or the map of a link, of all names or only of these
+-- what the arguments ask for: to explain files, or those in folders, to store the listing of a file, or the map of a link, of all
+-- names or only of these
 pub data Call : Type 0 where
   explain : Mode → List (List ℕ) → Call
+  walk : List (List ℕ) → Call
   store : List ℕ → List ℕ → Call
   map_link : List (List ℕ) → List (List ℕ) → Call
 
@@ -131,8 +142,17 @@ mode_of word =
     else (if bytes_eq word (codes "-s") then Some (Show (Rows Octal))
     else (if bytes_eq word (codes "-x") then Some (Show (Rows Hexadecimal)) else None)))))
 
+abbrev pub walking : List (List ℕ) → Option Call
+walking words = if are_files words then Some (walk words) else None
+
+-- after -l, with -R in front of the paths or without it
+abbrev pub inventory : List (List ℕ) → Option Call
+inventory [] = None
+inventory (first ∷ rest) = if bytes_eq first (codes "-R") then walking rest else explaining Inventory (first ∷ rest)
+
 -- after the option the paths, or with no option these paths
 abbrev pub explaining_by : Option Mode → List ℕ → List (List ℕ) → Option Call
+explaining_by (Some Inventory) first rest = inventory rest
 explaining_by (Some mode) first rest = explaining mode rest
 explaining_by None first rest = explaining Listing (first ∷ rest)
 
@@ -151,19 +171,21 @@ asked_in (first ∷ rest) = asked_by (task_of first) first rest
 -- ---- the program
 
 -- that is done, or the usage of the program goes to standard error
-abbrev pub IsCall : Option Call → History → History → Result Answer Fault → Type 0
-IsCall None old new result = (new ≡ old) × AnswersOr result (says_usage usage)
-IsCall (Some (explain mode paths)) old new result = IsExplaining mode old new nothing_said paths result
-IsCall (Some (store to path)) old new result = StoresListing to path old new result
-IsCall (Some (map_link names words)) old new result = IsMapCall names words old new result
+abbrev pub IsCall : Option Folders → Option Call → History → History → Result Answer Fault → Type 0
+IsCall folders None old new result = (new ≡ old) × AnswersOr result (says_usage usage)
+IsCall folders (Some (explain mode paths)) old new result = IsExplaining mode old new nothing_said paths result
+IsCall folders (Some (walk paths)) old new result = IsWalk folders old new paths result
+IsCall folders (Some (store to path)) old new result = StoresListing to path old new result
+IsCall folders (Some (map_link names words)) old new result = IsMapCall names words old new result
 
 -- what the arguments ask for is done
-abbrev pub IsAnswer : List (List ℕ) → History → History → Result Answer Fault → Type 0
-IsAnswer words old new result = IsShownOr program usage (shown_in words) old new result (IsCall (asked_in words) old new result)
+abbrev pub IsAnswer : Option Folders → List (List ℕ) → History → History → Result Answer Fault → Type 0
+IsAnswer folders words old new result =
+    IsShownOr program usage (shown_in words) old new result (IsCall folders (asked_in words) old new result)
 
 -- what the arguments ask for is done, and its answer is written
-abbrev pub PerformsExplain : {W E : Type 0} → (W → Option (List ℕ)) → (E → Option (List ℕ)) → List (List ℕ) →
+abbrev pub PerformsExplain : {W E : Type 0} → (W → Option (List ℕ)) → (E → Option (List ℕ)) → Option Folders → List (List ℕ) →
     Surroundings W E → Surroundings W E → ℕ → Type 0
-PerformsExplain contents error_contents words before after status =
-    (result : Result Answer Fault) × IsAnswer words before.asked after.asked result
+PerformsExplain contents error_contents folders words before after status =
+    (result : Result Answer Fault) × IsAnswer folders words before.asked after.asked result
     × Gives contents error_contents program (answer_in program result) before.output after.output before.error after.error status

@@ -1,9 +1,10 @@
 //! Files that are explained one after another: each is read whole and explained before the next one is opened.
 ghost use Rattle.std.specs.Prelude.{◌≡◌, OnOk, IfOk, map, string_bytes};
 ghost use Rattle.v7_explain.specs.Joined.{joined, nothing_said};
-ghost use Rattle.v7_explain.specs.Runs.{IsExplaining, Explains, said_of};
+ghost use Rattle.v7_explain.specs.Runs.{IsExplaining, IsWalk, Explains, said_of};
 
 use crate::checking::check;
+use crate::folders::{Folders, walk_all};
 use crate::inventory::take_inventory;
 use crate::listing::list;
 use crate::program::NAME;
@@ -101,4 +102,20 @@ pub(crate) fn explain_each<O: Office>(
         }
     }
     Ok(said)
+}
+
+/// A line of an inventory of each file at these paths, and in the folders there. All files are found before the first is opened.
+pub(crate) fn explain_walked<O: Office, F: Folders>(
+    alloc: Global,
+    office: &mut O,
+    folders: &F,
+    paths: &[String],
+) -> Result<Answer, Fault>
+    ensures { IsWalk (F.folders folders.now) (O.history office.old) (O.history office.new)
+        (map string_bytes paths.now) result }
+{
+    match walk_all(alloc, folders, paths) {
+        Ok(found) => explain_each(alloc, office, Mode::Inventory, &found),
+        Err(_) => Err(Fault::Memory),
+    }
 }

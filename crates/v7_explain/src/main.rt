@@ -1,10 +1,12 @@
-//! The program `v7-explain`: an a.out file as a listing, with what is wrong and odd of it, whether files are objects, or the map of
-//! a link.
+//! The program `v7-explain`: an a.out file as a listing, with what is wrong and odd of it, whether files are objects, what is in
+//! folders, or the map of a link.
 #![tactic(auto)]
 
 mod asked;
 mod checking;
+mod disk_folders;
 mod explaining;
+mod folders;
 mod inventory;
 mod listing;
 mod map;
@@ -15,6 +17,7 @@ mod storing;
 mod views;
 
 use aout_core::Wire;
+use disk_folders::DiskFolders;
 use program::{NAME, USAGE, perform};
 use std::process::ExitCode;
 use std::{env, io};
@@ -28,7 +31,13 @@ fn run(rt: &HostRuntime) -> io::Result<u8> {
         output: Wire::new(io::writer(rt)),
         error: Wire::new(StandardError::new(rt)),
     };
-    Ok(perform(rt.alloc(), &mut Disk::new(rt), &mut outputs, &words))
+    Ok(perform(
+        rt.alloc(),
+        &mut Disk::new(rt),
+        &DiskFolders::new(rt),
+        &mut outputs,
+        &words,
+    ))
 }
 
 fn main(rt: HostRuntime) -> ExitCode {
