@@ -1,4 +1,4 @@
-use Rattle.std.proofs.Common.{ℕ, Option, Some, None, ◌∙◌, subst, arith}
+use Rattle.std.proofs.Common.{ℕ, Option, Some, None, subst, arith}
 use Rattle.aout_core.specs.WellFormed.{segment_number}
 use Rattle.disassemblies.specs.internal.Nearest.{IsLastUpTo}
 use Rattle.disassemblies.proofs.NearLemmas.{nearest_none, nearest_far, nearest_some}
@@ -11,7 +11,7 @@ returns-in-Some c =
     let last : IsLastUpTo symbols (segment_number c.args.segment, c.args.address) key =
     subst (λ (n : ℕ). IsLastUpTo symbols (n, c.args.address) key) c.number-number.ensures.value c.in-Some.ensures in
     nearest_some symbols c.args.segment c.args.address c.in-Some.of c.in-Some.value last
-    (c.if-of-number.true ∙ c.number-number.ensures.value)
+    (omega (arith, c.if-of-number.true, c.number-number.ensures.value))
     (omega (arith, c.if-from.true, c.from.ensures, c.from-then-of-number.ensures))
 
 pub returns-in_default : goal.returns-in_default
@@ -30,7 +30,7 @@ returns-in_default-2 c =
     let last : IsLastUpTo symbols (segment_number c.args.segment, c.args.address) key =
     subst (λ (n : ℕ). IsLastUpTo symbols (n, c.args.address) key) c.number-number.ensures.value c.in-Some.ensures in
     nearest_far symbols c.args.segment c.args.address c.in-Some.of c.in-Some.value last
-    (λ same close. c.if-of-number.false (omega (arith, same, c.number-number.ensures.value)))
+    (λ same close. omega (arith, same, c.if-of-number.false, c.number-number.ensures.value))
 
 pub returns-in_default-3 : goal.returns-in_default-3
 returns-in_default-3 c =
