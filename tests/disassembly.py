@@ -346,6 +346,12 @@ class File:
                 return first if first < place else None
             first += length
 
+    def is_damaged(self):
+        """Whether it is an object, but for a relocation word of no kind, or one that refers to no undefined external."""
+        undefined = {number for number, symbol in enumerate(self.symbols) if symbol[1] & 0o77 == 0o40}
+        relocs = [] if self.relocation is None or self.magic != 0o407 else [*self.relocation, *self.data_relocation]
+        return any(reloc & 0o16 > 0o10 or reloc & 0o16 == 0o10 and reloc >> 4 not in undefined for reloc in relocs)
+
     def remark(self, place):
         """What a listing says of an operand word."""
         if self.relocation is None:
@@ -406,7 +412,7 @@ def shown_by(words, made, folder, what):
     with open(path, "wb") as out:
         out.write(made.encoded())
     done = subprocess.run([*words, path], capture_output=True, check=False)
-    if done.stderr or done.returncode not in (0, 1):
+    if done.stderr or done.returncode != made.is_damaged():
         sys.exit("%s: status %d, %r" % (what, done.returncode, done.stderr))
     return [line for line in done.stdout.decode("latin-1").split("\n")[:-1] if not line.startswith("/")]
 
