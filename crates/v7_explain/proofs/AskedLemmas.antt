@@ -21,7 +21,8 @@ pub name_taken : (names words rest : List (List ℕ)) (word name : List ℕ) →
     mapping_after names words ≡ mapping_after (names ++ take 8 (before_nul name) ∷ []) rest
 name_taken names words rest word name are asks =
     ap (mapping_after names) are
-    ∙ ap (λ (b : Bool). if b then mapping_after (names ++ take 8 (before_nul name) ∷ []) rest else Some (map_link names (word ∷ name ∷ rest)))
+    ∙ ap (λ (b : Bool).
+        if b then mapping_after (names ++ take 8 (before_nul name) ∷ []) rest else Some (map_link names (word ∷ name ∷ rest)))
     (sym (ap asks_for_name are) ∙ asks)
 
 -- as the code has it
@@ -35,15 +36,18 @@ name_taken_at names (w ∷ n ∷ rest) after name d two is left asks =
     let whole : after ≡ rest = left ∙ take_all (length (w ∷ n ∷ rest) - 2) rest (omega (arith)) in
     name_taken names (map string_bytes (w ∷ n ∷ rest)) (map string_bytes rest) (string_bytes w) (string_bytes n) refl asks
     ∙ ap (λ (s : String Global). mapping_after (names ++ take 8 (before_nul (string_bytes s)) ∷ []) (map string_bytes rest)) (sym is)
-    ∙ ap (λ (l : List (String Global)). mapping_after (names ++ take 8 (before_nul (string_bytes name)) ∷ []) (map string_bytes l)) (sym whole)
+    ∙ ap (λ (l : List (String Global)). mapping_after (names ++ take 8 (before_nul (string_bytes name)) ∷ []) (map string_bytes l))
+    (sym whole)
 
 module _ (folders : Option Folders) (old new : History) (result : Result Answer Fault) where
-  either_call : (b : Bool) (x y : Option Call) → IsCall folders x old new result → IsCall folders y old new result → IsCall folders (if b then x else y) old new result
+  either_call : (b : Bool) (x y : Option Call) → IsCall folders x old new result → IsCall folders y old new result →
+      IsCall folders (if b then x else y) old new result
   either_call true x y p q = p
   either_call false x y p q = q
 
   -- memory runs out for the names
-  pub names_out : (names words : List (List ℕ)) → new ≡ old → result ≡ Err faults.Memory → IsCall folders (mapping_after names words) old new result
+  pub names_out : (names words : List (List ℕ)) → new ≡ old → result ≡ Err faults.Memory →
+      IsCall folders (mapping_after names words) old new result
   names_out names [] same memory = inl (same, memory)
   names_out names (word ∷ []) same memory =
       either_call (bytes_eq word (codes "-y")) None (Some (map_link names (word ∷ []))) (same, inr memory) (inl (same, memory))
@@ -53,7 +57,8 @@ module _ (folders : Option Folders) (old new : History) (result : Result Answer 
       (names_out longer rest same memory) (inl (same, memory))
 
   -- a name is missing
-  pub names_missing : (call : Option Call) → call ≡ None → new ≡ old → AnswersOr result (says_usage usage) → IsCall folders call old new result
+  pub names_missing : (call : Option Call) → call ≡ None → new ≡ old → AnswersOr result (says_usage usage) →
+      IsCall folders call old new result
   names_missing call none same answers = subst (λ c. IsCall folders c old new result) (sym none) (same, answers)
 
   -- the words after the names are mapped
