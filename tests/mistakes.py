@@ -6,7 +6,7 @@ usage: mistakes.py V7_EXPLAIN
 The objects are those of examples/ and of the page, 300 that are made here, and the texts of the page as GNU's assembler for the PDP-11
 assembles them, if it is installed and v7-from-gnu is beside V7_EXPLAIN. Of each of them v7-explain may say nothing new without a mistake. A pc bit that is
 forgotten, relocation words one word early, and mistakes that instructions show alone have to be found in each object in which they
-change something that is suspicious.
+change something that is suspicious. All that tests/suspicions.py finds in an object with a mistake has to be said.
 """
 import glob
 import os
@@ -279,6 +279,10 @@ def main():
         print(f"{name}: planted in {len(planted)} objects, found in {len(found)}")
         missed = [number for number in planted if number not in found and any(suspicions(wrong[number]))]
         assert not (name in SURE and missed), missed
+        for number, lines in zip(planted, after):
+            said_of = {line.split(": ", 2)[2] for line in lines if line.startswith("/ odd: ")}
+            untold = [text for _, _, text in suspicions(wrong[number]) if text not in said_of]
+            assert not untold, (name, number, untold)
 
 
 with tempfile.TemporaryDirectory() as folder:
