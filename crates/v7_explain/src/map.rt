@@ -1,5 +1,5 @@
 //! The map of a link, made or refused.
-ghost use Rattle.std.specs.Prelude.{◌≡◌, ◌⊎◌, IfOk, Err, map, string_bytes};
+ghost use Rattle.std.specs.Prelude.{◌≡◌, ◌⊎◌, List, ℕ, Option, IfOk, Err, map, string_bytes};
 ghost use Rattle.map_texts.specs.MapTexts.{absent_names};
 ghost use Rattle.surroundings.specs.declared.answer.Fault.TheVariants.{Memory};
 ghost use Rattle.v7_explain.specs.Maps.{IsMapCall, IsMapping, MapsCall, link_words, status_with, text_asked};
