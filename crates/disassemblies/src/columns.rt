@@ -124,9 +124,8 @@ fn put_row_of(text: &mut Text, at: &PlacedLine<'_>, words: &[u16])
     ensures { Puts text.old text.new
         (row_of at.now.decoder at.now.file.now at.now.place words.now) }
 {
-    let _text_words = at.file.file().text_words();
     let (shown, rest) = first_three(words);
-    put_columns(text, (2 * at.place) as u16, shown);
+    put_columns(text, at.file.address(at.place), shown);
     put_remarked_text(text, at);
     text.put("\n");
     put_rest_row(text, at.place + 3, rest);
@@ -152,8 +151,7 @@ fn put_labelled_row(text: &mut Text, at: &PlacedLine<'_>, count: usize)
     ensures { Puts text.old text.new
         (labelled_row at.now.decoder at.now.file.now at.now.place count) }
 {
-    let _words = at.file.file().text_words();
-    put_labels(text, at.file, (2 * at.place) as u16, count as u8);
+    put_labels(text, at.file, at.file.address(at.place), count as u8);
     put_row(text, at, count);
 }
 

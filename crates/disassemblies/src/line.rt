@@ -53,13 +53,12 @@ pub(crate) struct Spot {
     pub(crate) next: u32,
 }
 
-/// Where the operands of an instruction at a place are.
-pub(crate) fn spots(place: usize, instruction: &Instruction) -> (Spot, Spot)
-    requires { 2 * place < 65536 }
+/// Where the operands of an instruction are, by its place in the text and its address.
+pub(crate) fn spots(place: usize, address: u16, instruction: &Instruction) -> (Spot, Spot)
+    requires { address ≡ 2 * place }
     ensures first { result.0 ≡ first_spot place instruction.now }
     ensures second { result.1 ≡ second_spot place instruction.now }
 {
-    let address = (2 * place) as u16;
     let before = instruction.words_before_second();
     let first = Spot {
         operation: instruction.row.operation,
@@ -139,7 +138,7 @@ pub(crate) fn operand_reference(
 
 /// What the operands of the line at a place refer to.
 fn references(file: &NamedFile<'_>, place: usize, line: &Line) -> References
-    requires { 2 * place < 65536 }
+    requires { place < length file.now.text_words }
     ensures { result ≡ references file.now place line.now }
 {
     let Line::Decoded(instruction, word, other) = line else {
@@ -148,7 +147,7 @@ fn references(file: &NamedFile<'_>, place: usize, line: &Line) -> References
             second: None,
         };
     };
-    let (first, second) = spots(place, instruction);
+    let (first, second) = spots(place, file.address(place), instruction);
     References {
         first: operand_reference(file, first, instruction.first, *word),
         second: operand_reference(file, second, instruction.second, *other),
@@ -201,12 +200,11 @@ fn put_decoded(text: &mut Text, file: &NamedFile<'_>, place: usize, line: &UnixL
     requires fits { place + unix_length line.now ≤ length file.now.text_words }
     ensures { Puts text.old text.new (unix_text_in file.now place line.now) }
 {
-    let _words = file.file().text_words();
     match line {
         UnixLine::Call(call) => put_call(text, file, place, call),
         UnixLine::Machine(line) => {
             let references = references(file, place, line);
-            line.put_text_with((2 * place) as u16, &references, text);
+            line.put_text_with(file.address(place), &references, text);
         }
     }
 }

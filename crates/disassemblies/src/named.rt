@@ -1,5 +1,5 @@
 //! A file whose symbols are found by their values.
-ghost use Rattle.std.specs.Prelude.{◌≡◌, IfOk};
+ghost use Rattle.std.specs.Prelude.{◌≡◌, ◌<◌, ◌*◌, length, IfOk};
 
 use crate::chains::Chains;
 use crate::names::Names;
@@ -67,6 +67,16 @@ impl<'a> NamedFile<'a> {
         ensures { result.now ≡ self.now }
     {
         self.file
+    }
+
+    /// The address of a word of text.
+    pub(crate) fn address(&self, place: usize) -> u16
+        requires { place < length self.now.text_words }
+        ensures { result ≡ 2 * place }
+    {
+        let is_inside = place < self.file.text_words().len();
+        prove!(is_inside);
+        (2 * place) as u16
     }
 
     pub(crate) fn names(&self) -> &Names<'a>

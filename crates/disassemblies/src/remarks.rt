@@ -122,11 +122,11 @@ fn put_instruction(
     instruction: &Instruction,
     words: (Option<u16>, Option<u16>),
 )
-    requires { 2 * place < 65536 }
+    requires { place < length file.now.text_words }
     ensures { Puts text.old text.new
         (line_remarks file.now place (Machine (Decoded instruction.now words.0 words.1))) }
 {
-    let (first, second) = spots(place, instruction);
+    let (first, second) = spots(place, file.address(place), instruction);
     put_operand(text, file, first, instruction.first, words.0);
     put_operand(text, file, second, instruction.second, words.1);
 }
@@ -187,7 +187,6 @@ pub(crate) fn put_remarks(
     requires line { line.now ≡ unix_line_in decoder file.now place }
     ensures { Puts text.old text.new (line_remarks file.now place line.now) }
 {
-    let _words = file.file().text_words();
     match line {
         UnixLine::Call(call) => put_call(text, file, place, call),
         UnixLine::Machine(Line::Plain(_)) => {},
