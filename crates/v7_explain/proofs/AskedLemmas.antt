@@ -22,7 +22,7 @@ pub name_taken : (names words rest : List (List ℕ)) (word name : List ℕ) →
 name_taken names words rest word name are asks =
     ap (mapping_after names) are
     ∙ ap (λ (b : Bool).
-        if b then mapping_after (names ++ take 8 (before_nul name) ∷ []) rest else Some (map_link names (word ∷ name ∷ rest)))
+    if b then mapping_after (names ++ take 8 (before_nul name) ∷ []) rest else Some (map_link names (word ∷ name ∷ rest)))
     (sym (ap asks_for_name are) ∙ asks)
 
 -- as the code has it
