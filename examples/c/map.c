@@ -1,5 +1,6 @@
 /* Prints the map of a link from the records of libv7: map [-rsxXnid] [-u NAME] [-e NAME] OBJECT... prints what v7-explain -m prints, but
  * for the arguments of system calls, which v7_disassemble does not put on the line of their `sys`. */
+#include <ctype.h>
 #include <inttypes.h>
 #include <stdio.h>
 #include <stdlib.h>
@@ -177,6 +178,16 @@ static char letter(const struct v7_map_name *name)
     }
 }
 
+/* Prints an instruction without the remarks after it. In the line of a relocated word, which begins with a digit, all is shown. */
+static void print_without_remarks(const char *text, const char *end)
+{
+    const char *at = text;
+
+    while (at < end && (isdigit((unsigned char)*text) || end - at < 3 || memcmp(at, " / ", 3) != 0))
+        at++;
+    printf("%.*s", (int)(at - text), text);
+}
+
 /* The instruction at a place of an object's text: it begins in the 31st column of its line. */
 static void print_instruction(size_t object, unsigned place)
 {
@@ -187,7 +198,7 @@ static void print_instruction(size_t object, unsigned place)
     for (; text < end; text = next) {
         next = (const char *)memchr(text, '\n', (size_t)(end - text)) + 1;
         if (next - text > 30 && memcmp(text, address, 8) == 0) {
-            printf("%.*s", (int)(next - text - 31), text + 30);
+            print_without_remarks(text + 30, next - 1);
             return;
         }
     }
