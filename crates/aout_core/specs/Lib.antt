@@ -13,4 +13,5 @@ pub mod Objects
 pub mod Strip
 pub mod Laws
 pub mod Devices
+pub mod FaultTexts
 pub mod internal

@@ -49,8 +49,8 @@ pub fn is_magic(magic: u16) -> bool
     magic == 0o405 || magic == 0o407 || magic == 0o410 || magic == 0o411
 }
 
-/// Whether text, data and bss have even sizes, and the symbol table one that 12 divides.
-pub(crate) fn has_whole_sizes(header: &Header) -> bool
+/// Whether text, data and bss have even sizes, and the symbol table one that 12 divides. (a.out(5))
+pub fn has_whole_sizes(header: &Header) -> bool
     ensures { result ≡ has_whole_sizes header.now }
 {
     header.text_size % 2 == 0
@@ -178,25 +178,39 @@ impl File {
 
 /// Why no file was read. (own choice)
 #[derive(Clone, Copy, Debug, PartialEq, Eq, Error)]
+#[error("{}", self.text())]
 pub enum ReadFault {
     /// 1: fewer than 16 bytes.
-    #[error("short header")]
     ShortHeader,
     /// 2: the first word is none of 0405, 0407, 0410 and 0411.
-    #[error("bad magic number")]
     BadMagic,
     /// 3: an odd size of text, data or bss, or a size of the symbol table that 12 does not divide.
-    #[error("odd size")]
     OddSize,
     /// 4: memory runs out for what the header announces.
-    #[error("no memory")]
     Memory,
     /// 5: fewer bytes than the header announces.
-    #[error("truncated")]
     Truncated,
     /// 6: the device failed, in this call or before it.
-    #[error("read error")]
     Device,
+}
+
+impl ReadFault {
+    ghost use Rattle.std.specs.Prelude.{◌≡◌};
+    ghost use Rattle.aout_core.specs.FaultTexts.{read_text};
+
+    /// What is said of the file. (own choice)
+    pub fn text(self) -> &'static str
+        ensures { result.now ≡ read_text self }
+    {
+        match self {
+            ReadFault::ShortHeader => "short header",
+            ReadFault::BadMagic => "bad magic number",
+            ReadFault::OddSize => "odd size",
+            ReadFault::Memory => "no memory",
+            ReadFault::Truncated => "truncated",
+            ReadFault::Device => "read error",
+        }
+    }
 }
 
 impl From<DeviceFault> for ReadFault {

@@ -29,7 +29,8 @@
 //! - `read_file`, `read_object`: reads a file, or an object, from a wire
 //! - `write_file`: writes a file to a wire
 //! - `strip_file`: the file without symbols and relocation
-//! - `is_magic`: whether a file may begin with a word
+//! - `is_magic`, `has_whole_sizes`: whether a file may begin with a word, and whether a header has whole sizes
+//! - `object_fault`: why a file is not an object
 //! - `data_start`, `next_boundary`: where data begins, and the next multiple of 020000
 //! - `pc_target`: what a word refers to that is relative to the pc
 //! - `read_all`, `read_bytes`: all bytes at a path, and all that a reader gives
@@ -68,10 +69,10 @@ mod writer;
 
 pub use address::{data_start, next_boundary, pc_target};
 pub use block::{BLOCK_SIZE, Block};
-pub use file::{File, Parts, ReadFault, is_magic};
+pub use file::{File, Parts, ReadFault, has_whole_sizes, is_magic};
 pub use header::Header;
 pub use name::Name;
-pub use object::{Object, ObjectFault};
+pub use object::{Object, ObjectFault, object_fault};
 pub use object_reader::{NoObject, read_object};
 pub use part::Part;
 pub use reader::read_file;

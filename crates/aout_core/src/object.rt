@@ -30,19 +30,45 @@ impl Model for Object {
 
 /// Why a file is not an object. An index counts the words of text and then of data, from 0. (own choice)
 #[derive(Clone, Copy, Debug, PartialEq, Eq, Error)]
+#[error("{}", self.words())]
 pub enum ObjectFault {
     /// 1: the magic is not 0407.
-    #[error("not an object")]
     NotAnObject,
     /// 2: the flag says that relocation was stripped.
-    #[error("no relocation")]
     NoRelocation,
     /// 3: the relocation word at this index has kind 012, 014 or 016.
-    #[error("bad relocation at word {0}")]
+    #[error("{}{}", self.words(), .0)]
     BadRelocation(u16),
     /// 4: the relocation word at this index has kind 010 and a number that is not that of an external symbol of type 0.
-    #[error("bad symbol number at word {0}")]
+    #[error("{}{}", self.words(), .0)]
     BadSymbolNumber(u16),
+}
+
+impl ObjectFault {
+    ghost use Rattle.std.specs.Prelude.{◌≡◌};
+    ghost use Rattle.aout_core.specs.FaultTexts.{bad_word, object_words};
+
+    /// What is said of the file, before the number of the bad word if there is one. (own choice)
+    pub fn words(self) -> &'static str
+        ensures { result.now ≡ object_words self }
+    {
+        match self {
+            ObjectFault::NotAnObject => "not an object",
+            ObjectFault::NoRelocation => "no relocation",
+            ObjectFault::BadRelocation(_) => "bad relocation at word ",
+            ObjectFault::BadSymbolNumber(_) => "bad symbol number at word ",
+        }
+    }
+
+    /// The bad word, if it is one. (own choice)
+    pub fn bad_word(self) -> Option<u16>
+        ensures { result ≡ bad_word self }
+    {
+        match self {
+            ObjectFault::BadRelocation(n) | ObjectFault::BadSymbolNumber(n) => Some(n),
+            ObjectFault::NotAnObject | ObjectFault::NoRelocation => None,
+        }
+    }
 }
 
 /// Whether a relocation word may refer to the symbol of this number: it is there, external and of type 0.
@@ -123,8 +149,8 @@ impl Object {
     }
 }
 
-/// Why the file is not an object, if it is not.
-fn object_fault(file: &File) -> Option<ObjectFault>
+/// Why the file is not an object, if it is not: the error of `Object::from_file`. (a.out(5); the refusals: own choice)
+pub fn object_fault(file: &File) -> Option<ObjectFault>
     ensures { result ≡ first_object_fault file.now }
 {
     let header = file.header();

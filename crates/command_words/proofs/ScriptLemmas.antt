@@ -9,7 +9,8 @@ use Rattle.std.proofs.lemmas.Bool.{ne_eqb, lt-leb, lt-ltb, le-ltb}
 use Rattle.command_words.specs.declared.lines.Line.{Line}
 use Rattle.command_words.specs.declared.line_reader.Stop.{Stop}
 use Rattle.command_words.specs.declared.line_reader.Stop.TheVariants as stops
-use Rattle.command_words.specs.Scripts.{asked, lines_in, on_first, long_line, many_lines, and_given, ends_with_fault, given_after}
+use Rattle.command_words.specs.Scripts.{asked, long_line, many_lines, and_given, ends_with_fault, given_after}
+use Rattle.texts.specs.Lines.{lines_in, on_first}
 use Rattle.command_words.specs.ScriptAnswers.{Answer, asked_by, HasLine, HasNone, NamesPath, after_line, WhereKnown, IsNextOf}
 use Rattle.command_words.specs.internal.LineParts.{IsStopOf, IsTakenOf}
 

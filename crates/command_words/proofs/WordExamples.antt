@@ -42,7 +42,8 @@ options_after_files : seen (STRIP.now ∷ []) (FILE.now ∷ []) (codes "ld" ∷ 
 unfolding clap_on_literals
 options_after_files = refl
 
-options_ended : seen (STRIP.now ∷ []) (FILE.now ∷ []) (codes "ld" ∷ codes "--" ∷ codes "-s" ∷ []) ≡ Some (codes "ld", false ∷ [], (codes "-s" ∷ []) ∷ [])
+options_ended : seen (STRIP.now ∷ []) (FILE.now ∷ []) (codes "ld" ∷ codes "--" ∷ codes "-s" ∷ [])
+    ≡ Some (codes "ld", false ∷ [], (codes "-s" ∷ []) ∷ [])
 unfolding clap_on_literals
 options_ended = refl
 

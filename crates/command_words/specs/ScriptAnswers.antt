@@ -11,7 +11,8 @@ use Rattle.command_words.specs.declared.lines.Line.TheVariants as lines
 use Rattle.command_words.specs.declared.line_reader.Stop.{Stop}
 use Rattle.command_words.specs.declared.line_reader.Stop.TheVariants as stops
 use Rattle.command_words.specs.Scripts.{Asked, to_add, to_withdraw, for_externals, for_undefined, to_link, for_nothing}
-use Rattle.command_words.specs.Scripts.{lines_in, ScriptFault, long_line, many_lines, and_given, given_after}
+use Rattle.command_words.specs.Scripts.{ScriptFault, long_line, many_lines, and_given, given_after}
+use Rattle.texts.specs.Lines.{lines_in}
 
 -- what a line that was given asks for
 abbrev pub asked_by : Line → Asked

@@ -17,7 +17,7 @@ use Rattle.findings.specs.declared.other_files.OtherForm.{OtherForm}
 use Rattle.findings.specs.declared.other_files.OtherForm.TheVariants as forms
 use Rattle.suspicions.specs.Suspicions.{suspicions}
 use Rattle.texts.specs.Columns.{at_left, at_right}
-use Rattle.texts.specs.Numbers.{octal, six_digits}
+use Rattle.texts.specs.Numbers.{padded_octal}
 use Rattle.explanations.specs.Said.{printed}
 use Rattle.explanations.specs.declared.inventory.Condition.{Condition}
 use Rattle.explanations.specs.declared.inventory.Condition.TheVariants.{NotExamined, DamagedAt, Odd}
@@ -129,13 +129,9 @@ abbrev pub number_text : Option ℕ → List ℕ
 number_text None = codes "-"
 number_text (Some n) = decimal n
 
--- a byte of a file, in six octal digits or more
-abbrev pub byte_text : ℕ → List ℕ
-byte_text n = if nat_lt n 0o1000000 then six_digits n else octal n
-
 abbrev pub condition_text : Condition → List ℕ
 condition_text NotExamined = codes "-"
-condition_text (DamagedAt place) = codes "damaged at " ++ byte_text place
+condition_text (DamagedAt place) = codes "damaged at " ++ padded_octal place
 condition_text (Odd n) = if eqb n 0 then codes "ok" else decimal n ++ codes " odd"
 
 abbrev pub number_column : Option ℕ → List ℕ

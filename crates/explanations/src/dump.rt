@@ -1,5 +1,5 @@
 //! A dump of the text and the data of a file.
-ghost use Rattle.std.specs.Prelude.{◌≡◌, ◌+◌, ◌*◌, ◌^◌, ◌<◌, ◌≤◌, length};
+ghost use Rattle.std.specs.Prelude.{◌+◌, ◌*◌, ◌^◌, ◌<◌, length};
 ghost use Rattle.texts.specs.Texts.{Puts};
 ghost use Rattle.explanations.specs.Dumps.{dump, head_text, segment_text, size_text};
 

@@ -1,7 +1,7 @@
 //! What an inventory says of a file: what it is, its sizes, its symbols, and what is wrong or odd in it.
 ghost use Rattle.std.specs.Prelude.{◌≡◌, filter, length, IfOk};
 ghost use Rattle.findings.specs.Found.{all_found};
-ghost use Rattle.explanations.specs.Inventories.{condition_of, counts_of, damaged_row, file_row, gnu_row, kind_at, odd_count, other_row, own_row, refused_row, sizes_in, unread_row, wants_definition};
+ghost use Rattle.explanations.specs.Inventories.{condition_of, counts_of, damaged_row, file_row, gnu_row, odd_count, other_row, refused_row, sizes_in, wants_definition};
 
 use crate::file_kind::{FileKind, file_kind, kind_of_form};
 use aout_core::{File, Header, ReadFault, Symbol};

@@ -1,8 +1,7 @@
 //! A line of an inventory.
-ghost use Rattle.std.specs.Prelude.{◌≡◌};
 ghost use Rattle.texts.specs.Texts.{Puts};
 ghost use Rattle.findings.specs.Found.{Holds};
-ghost use Rattle.explanations.specs.Inventories.{byte_text, condition_column, condition_text, kind_column, number_column, path_column, row_line, size_columns, symbol_columns};
+ghost use Rattle.explanations.specs.Inventories.{condition_column, condition_text, kind_column, number_column, path_column, row_line, size_columns, symbol_columns};
 
 use crate::file_kind::{FileKind, kind_text};
 use crate::inventory::{Condition, InventoryRow, SegmentSizes, SymbolCounts};
@@ -57,17 +56,6 @@ fn put_symbols(text: &mut Text, symbols: Option<SymbolCounts>)
     }
 }
 
-/// Appends a byte of a file, in six octal digits or more.
-fn put_byte_text(text: &mut Text, place: usize)
-    ensures { Puts text.old text.new (byte_text place) }
-{
-    if place < 0o1000000 {
-        text.put_six_digits(place as u32);
-    } else {
-        text.put_octal(place as u64);
-    }
-}
-
 /// Appends what is wrong or odd.
 fn put_condition(text: &mut Text, condition: Condition)
     ensures { Puts text.old text.new (condition_text condition) }
@@ -76,7 +64,7 @@ fn put_condition(text: &mut Text, condition: Condition)
         Condition::NotExamined => text.put("-"),
         Condition::DamagedAt(place) => {
             text.put("damaged at ");
-            put_byte_text(text, place);
+            text.put_padded_octal(place as u64);
         }
         Condition::Odd(0) => text.put("ok"),
         Condition::Odd(count) => {

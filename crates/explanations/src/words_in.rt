@@ -1,5 +1,5 @@
 //! What a relocation word says, in words.
-ghost use Rattle.std.specs.Prelude.{◌≡◌, ◌++◌, ◌∷◌, Some, slice_get, codes, decimal};
+ghost use Rattle.std.specs.Prelude.{◌++◌, ◌∷◌, Some, slice_get, codes, decimal};
 ghost use Rattle.aout_core.specs.WellFormed.{kind_of};
 ghost use Rattle.texts.specs.Numbers.{six_digits};
 ghost use Rattle.texts.specs.Names.{printable_name};

@@ -1,4 +1,3 @@
 pub mod BadWordLemmas
 pub mod SymbolLemmas
-pub mod TextLemmas
 pub mod WrongLemmas

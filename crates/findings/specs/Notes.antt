@@ -1,6 +1,6 @@
 -- Notes on a file: the words of its header by name, and findings in lines. (own choice)
 use Rattle.std.specs.Prelude.{◌≡◌, ℕ, Bool, false, eqb, if◌then◌else◌, List, [], ◌∷◌, ◌++◌, codes, decimal}
-use Rattle.texts.specs.Numbers.{octal, six_digits, three_digits}
+use Rattle.texts.specs.Numbers.{octal_and_decimal, six_digits, three_digits}
 use Rattle.aout_core.specs.declared.header.Header.{Header}
 use Rattle.findings.specs.declared.finding.Finding.{Finding}
 
@@ -58,13 +58,9 @@ header_lines h =
     ++ header_line 12 h.unused (codes "unused") ∷ []
     ++ header_line 14 h.flag (flag_text h.flag) ∷ []
 
--- a number in octal after a 0, and in decimal
-unfoldable pub in_both : ℕ → List ℕ
-in_both n = codes "0" ++ octal n ++ codes " (" ++ decimal n ++ codes ")"
-
 -- a byte of a file
 abbrev pub byte_text : ℕ → List ℕ
-byte_text place = codes "byte " ++ in_both place
+byte_text place = codes "byte " ++ octal_and_decimal place
 
 abbrev pub finding_text : Finding → List ℕ
 finding_text f = byte_text f.place ++ codes ": " ++ f.text.items

@@ -3,10 +3,9 @@ use Rattle.std.specs.Prelude.{ℕ, List, ◌++◌, codes, decimal}
 use Rattle.aout_core.specs.declared.header.Header.{Header}
 use Rattle.aout_core.specs.declared.symbol.Segment.{Segment}
 use Rattle.aout_core.specs.declared.symbol.Segment.TheVariants.{DataSeg, BssSeg}
-use Rattle.texts.specs.Numbers.{six_digits}
+use Rattle.texts.specs.Numbers.{octal_and_decimal, six_digits}
 use Rattle.texts.specs.Names.{printable_name}
 use Rattle.findings.specs.Segments.{segment_from, segment_to}
-use Rattle.findings.specs.Notes.{in_both}
 
 unfoldable pub entry_text : ℕ → List ℕ
 entry_text entry = codes "the entry point of an object, " ++ six_digits entry ++ codes ", is ignored"
@@ -15,7 +14,7 @@ unfoldable pub unused_text : ℕ → List ℕ
 unused_text word = codes "the unused word, " ++ six_digits word ++ codes ", is ignored"
 
 unfoldable pub bytes_after_text : ℕ → List ℕ
-bytes_after_text more = in_both more ++ codes " bytes after the symbol table are not read"
+bytes_after_text more = octal_and_decimal more ++ codes " bytes after the symbol table are not read"
 
 abbrev pub segment_name : Segment → List ℕ
 segment_name DataSeg = codes "data"

@@ -7,9 +7,8 @@ use Rattle.aout_core.specs.declared.reloc.Reloc.{Reloc}
 use Rattle.aout_core.specs.Contents.{Contents}
 use Rattle.aout_core.specs.Encoding.{relocation_at, symbols_at, file_length}
 use Rattle.aout_core.specs.WellFormed.{symbol_number}
-use Rattle.texts.specs.Numbers.{octal, six_digits}
+use Rattle.texts.specs.Numbers.{octal, octal_and_decimal, six_digits}
 use Rattle.texts.specs.Names.{printable_name}
-use Rattle.findings.specs.Notes.{in_both}
 use Rattle.instructions.specs.declared.unix.Decoder.TheVariants.{Unix}
 use Rattle.disassemblies.specs.Starts.{starts, line_start}
 use Rattle.disassemblies.specs.Lines.{line_text_in}
@@ -24,10 +23,10 @@ bad_magic_text magic = codes "bad magic number: " ++ six_digits magic ++ codes "
 
 unfoldable pub odd_size_text : List ℕ → ℕ → List ℕ
 odd_size_text part size =
-    codes "odd size: " ++ part ++ codes " has " ++ in_both size ++ codes " bytes, which are no whole words"
+    codes "odd size: " ++ part ++ codes " has " ++ octal_and_decimal size ++ codes " bytes, which are no whole words"
 
 unfoldable pub odd_table_text : ℕ → List ℕ
-odd_table_text size = codes "odd size: the symbol table has " ++ in_both size ++ codes " bytes, and a symbol 12"
+odd_table_text size = codes "odd size: the symbol table has " ++ octal_and_decimal size ++ codes " bytes, and a symbol 12"
 
 -- the part of a file that has a byte
 abbrev pub part_at : Header → ℕ → List ℕ
@@ -41,7 +40,7 @@ part_at h place =
 unfoldable pub truncated_text : Header → ℕ → List ℕ
 truncated_text h place =
     codes "truncated: the file ends here, in " ++ part_at h place ++ codes "; by its header it has "
-    ++ in_both (file_length h) ++ codes " bytes"
+    ++ octal_and_decimal (file_length h) ++ codes " bytes"
 
 -- symbol n of so many
 unfoldable pub counted_text : ℕ → ℕ → List ℕ

@@ -1,5 +1,5 @@
 -- What is damaged in a file: why it is refused, at which byte, and in which words. (a.out(5); the refusals: own choice)
-use Rattle.std.specs.Prelude.{ℕ, ◌+◌, ◌*◌, ◌-◌, ◌%◌, true, not, eqb, nat_lt, if◌then◌else◌, List, []}
+use Rattle.std.specs.Prelude.{ℕ, ◌+◌, ◌*◌, ◌-◌, ◌%◌, Bool, true, false, not, eqb, nat_lt, if◌then◌else◌, List, []}
 use Rattle.std.specs.Prelude.{◌∷◌, ◌++◌, take, length, codes, Option, Some, None}
 use Rattle.aout_core.specs.declared.header.Header.{Header}
 use Rattle.aout_core.specs.declared.reloc.Reloc.{Reloc}
@@ -52,6 +52,12 @@ wrong_by _ bytes = truncated (header_in bytes) (length bytes)
 abbrev pub wrong_bytes : ReadFault → List ℕ → List Found
 wrong_bytes fault bytes = if nat_lt (length bytes) 16 then short_header (length bytes) else wrong_by fault bytes
 
+-- a word makes ld refuse it
+abbrev pub is_damaged : Option ObjectFault → Bool
+is_damaged (Some (refusals.BadRelocation _)) = true
+is_damaged (Some (refusals.BadSymbolNumber _)) = true
+is_damaged _ = false
+
 -- what is wrong with a relocation word, by what makes ld refuse an object
 abbrev pub fault_kind : Option ObjectFault → Option FindingKind
 fault_kind (Some (refusals.BadRelocation _)) = Some BadRelocation
@@ -79,3 +85,7 @@ more_bad_words h count = found_if (nat_lt 16 count) (relocation_at h) MoreBadWor
 -- the first 16 one by one, and that there are more
 abbrev pub wrong_words : Contents → List Found
 wrong_words c = take 16 (all_bad_words c) ++ more_bad_words c.header (length (all_bad_words c))
+
+-- of a file that ld refuses for this reason, if it does
+abbrev pub wrong_in : Option ObjectFault → Contents → List Found
+wrong_in refused c = if is_damaged refused then wrong_words c else []

@@ -3,7 +3,7 @@ ghost use Rattle.std.specs.Prelude.{◌≡◌, [], ◌∷◌, map};
 ghost use Rattle.texts.specs.Texts.{nothing_written, Puts};
 ghost use Rattle.findings.specs.Notes.{finding_text, finding_note, AddsNotes};
 
-use crate::notes::{Notes, put_in_both};
+use crate::notes::Notes;
 use std::alloc::{AllocError, Global};
 use std::marker::Model;
 use texts::Text;
@@ -155,7 +155,7 @@ pub fn put_finding_text(text: &mut Text, finding: &Finding)
     ensures { Puts text.old text.new (finding_text finding.now) }
 {
     text.put("byte ");
-    put_in_both(text, finding.place);
+    text.put_octal_and_decimal(finding.place as u64);
     text.put(": ");
     text.put_bytes(&finding.text);
 }

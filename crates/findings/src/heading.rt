@@ -1,5 +1,5 @@
 //! The words of a header, and what they say.
-ghost use Rattle.std.specs.Prelude.{◌≡◌, [], ◌∷◌, false};
+ghost use Rattle.std.specs.Prelude.{◌≡◌, [], ◌∷◌};
 ghost use Rattle.findings.specs.Notes.{magic_text, flag_text, size_text, place_text, word_front, header_line, size_line, size_lines, header_lines, AddsNotes};
 ghost use Rattle.texts.specs.Texts.{Puts};
 ghost use Rattle.findings.specs.Found.{Holds};

@@ -33,4 +33,4 @@ pub use notes::Notes;
 pub use odd::odd_of;
 pub use other_files::{OtherForm, header_of, is_of_gnu, likeness, other_form};
 pub use places::FilePlaces;
-pub use wrong::{put_instruction, wrong_bytes, wrong_words};
+pub use wrong::{is_damaged, put_instruction, wrong_bytes, wrong_in, wrong_words};

@@ -1,7 +1,6 @@
 //! Notes on a file, a line each.
 ghost use Rattle.std.specs.Prelude.{◌≡◌, ◌∷◌, []};
-ghost use Rattle.texts.specs.Texts.{Puts};
-ghost use Rattle.findings.specs.Notes.{in_both, note_text, AddsNotes};
+ghost use Rattle.findings.specs.Notes.{note_text, AddsNotes};
 
 use std::alloc::Global;
 use std::marker::Model;
@@ -84,16 +83,4 @@ impl Notes {
     {
         &self.list
     }
-}
-
-/// Appends a number in octal after a 0, and in decimal.
-#[tactic(auto, unfolding(crate::specs::Notes::in_both))]
-pub(crate) fn put_in_both(text: &mut Text, number: usize)
-    ensures { Puts text.old text.new (in_both number) }
-{
-    text.put("0");
-    text.put_octal(number as u64);
-    text.put(" (");
-    text.put_decimal(number as u64);
-    text.put(")");
 }

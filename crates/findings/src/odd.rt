@@ -1,11 +1,10 @@
 //! What is odd of a file, and not refused.
-ghost use Rattle.std.specs.Prelude.{◌≡◌, ◌+◌, ◌*◌, ◌%◌, ◌^◌, ◌<◌, ◌≤◌, ◌&&◌, not, Some, length, take, slice_index};
+ghost use Rattle.std.specs.Prelude.{◌≡◌, ◌+◌, ◌*◌, ◌%◌, ◌^◌, ◌<◌, ◌≤◌, ◌&&◌, not, Some, length, take};
 ghost use Rattle.std.specs.Prelude.{if◌then◌else◌, bytes_eq, is_some, IfOk, OnOk, List, ℕ, false};
 ghost use Rattle.std.specs.List.{list_any};
 ghost use Rattle.std.specs.BTreeMap.{get};
 ghost use Rattle.std.specs.Cmp.Lexicographic.{slice_cmp};
 ghost use Rattle.std.specs.Ordering.{nat_cmp};
-ghost use Rattle.aout_core.specs.WellFormed.{segment_of};
 ghost use Rattle.texts.specs.Texts.{Puts};
 ghost use Rattle.findings.specs.Found.{all_found, Finds, Holds};
 ghost use Rattle.findings.specs.Segments.{segment_meant};
@@ -20,7 +19,6 @@ ghost use Rattle.findings.specs.Odd.{odd_type, odd_common, odd_value, odd_fields
 ghost use Rattle.findings.specs.Odd.{odd_symbols, odd};
 
 use crate::finding::{Finding, FindingKind, Findings};
-use crate::notes::put_in_both;
 use crate::places::{FilePlaces, has_address, range_of, segment_name, symbol_at};
 use aout_core::{File, Header, Kind, Name, Reloc, Segment, Symbol};
 use std::alloc::{AllocError, Global};
@@ -578,7 +576,7 @@ fn bytes_after_text(findings: &Findings, more: usize) -> Text
     ensures { Holds result (bytes_after_text more) }
 {
     let mut text = findings.text();
-    put_in_both(&mut text, more);
+    text.put_octal_and_decimal(more as u64);
     text.put(" bytes after the symbol table are not read");
     text
 }

@@ -8,14 +8,13 @@ ghost use Rattle.findings.specs.Found.{all_found, found_if, Finds, Holds};
 ghost use Rattle.findings.specs.Texts.{odd_size_text, odd_table_text, part_at, truncated_text, short_header_text, bad_magic_text, counted_text, typed_text, unwanted_symbol_text, no_symbol_text};
 ghost use Rattle.findings.specs.Texts.{unwanted_text, numbered_text, bad_relocation_text, bad_number_text, bad_word_text, address_text, instruction_text, owner_text, more_text};
 ghost use Rattle.findings.specs.Wrong.{odd_size, odd_table, odd_sizes, short_header, bad_magic, truncated, wrong_bytes};
-ghost use Rattle.findings.specs.Wrong.{fault_kind, bad_words, all_bad_words, more_bad_words, wrong_words};
+ghost use Rattle.findings.specs.Wrong.{fault_kind, is_damaged, bad_words, all_bad_words, more_bad_words, wrong_in, wrong_words};
 ghost use Rattle.findings.specs.internal.BadWords.{bad_text, all_bad};
 
 use crate::finding::{Finding, FindingKind, Findings};
-use crate::notes::put_in_both;
 use crate::other_files::header_of;
 use crate::places::FilePlaces;
-use aout_core::{File, Header, Kind, ReadFault, Reloc, Symbol};
+use aout_core::{File, Header, Kind, ObjectFault, ReadFault, Reloc, Symbol};
 use disassemblies::{NamedFile, line_start, line_starts, put_line_text};
 use instructions::Decoder;
 use std::alloc::{AllocError, Global};
@@ -33,7 +32,7 @@ fn odd_size_text(findings: &Findings, part: &str, size: u16) -> Text
     text.put("odd size: ");
     text.put(part);
     text.put(" has ");
-    put_in_both(&mut text, usize::from(size));
+    text.put_octal_and_decimal(u64::from(size));
     text.put(" bytes, which are no whole words");
     text
 }
@@ -55,7 +54,7 @@ fn odd_table_text(findings: &Findings, size: u16) -> Text
 {
     let mut text = findings.text();
     text.put("odd size: the symbol table has ");
-    put_in_both(&mut text, usize::from(size));
+    text.put_octal_and_decimal(u64::from(size));
     text.put(" bytes, and a symbol 12");
     text
 }
@@ -105,7 +104,7 @@ fn truncated_text(findings: &Findings, header: &Header, size: usize) -> Text
     text.put("truncated: the file ends here, in ");
     text.put(part_at(header, size));
     text.put("; by its header it has ");
-    put_in_both(&mut text, FilePlaces::of(header).end);
+    text.put_octal_and_decimal(FilePlaces::of(header).end as u64);
     text.put(" bytes");
     text
 }
@@ -460,4 +459,28 @@ pub fn wrong_words(alloc: Global, file: &File) -> Result<Vec<Finding>, AllocErro
     find_shown(&mut findings, file, shown)?;
     find_more(&mut findings, file.header(), bad.len());
     findings.finish()
+}
+
+/// Whether it is a word of a file that makes `ld` refuse it. (own choice)
+pub fn is_damaged(refused: Option<ObjectFault>) -> bool
+    ensures { result ≡ is_damaged refused }
+{
+    match refused {
+        Some(ObjectFault::BadRelocation(_) | ObjectFault::BadSymbolNumber(_)) => true,
+        Some(ObjectFault::NotAnObject | ObjectFault::NoRelocation) | None => false,
+    }
+}
+
+/// The bad relocation words of a file that `ld` refuses for this reason, if it does. An error: out of memory.
+pub fn wrong_in(
+    alloc: Global,
+    file: &File,
+    refused: Option<ObjectFault>,
+) -> Result<Vec<Finding>, AllocError>
+    ensures { IfOk result (λ wrong. all_found wrong.items ≡ wrong_in refused file.now) }
+{
+    if is_damaged(refused) {
+        return wrong_words(alloc, file);
+    }
+    Ok(Vec::new(alloc))
 }

@@ -55,7 +55,8 @@ pub record KeepsInstruction (o : Choices) (x : Outcome) (rows : List Symbol) (os
     (i w : ℕ) (following : List ℕ) (instruction : Instruction) : Type 0 where
   pub still : is_relocated (slice_get k.text_reloc i) ≡ false
   pub kept : KeepsLineAt x.file rows os before k i w following
-  pub operands : (operand : Option Operand) (p : ℕ) → IsOperand instruction i operand p → (a : Addressing) → addressing_of operand ≡ Some a →
+  pub operands : (operand : Option Operand) (p : ℕ) → IsOperand instruction i operand p → (a : Addressing) →
+      addressing_of operand ≡ Some a →
       HasOperandSaid os o x before k instruction.row.operation a p
 
 -- if nothing is suspicious for sure, so it is at each place that symbols or distances reach, if an instruction begins there and is not cut

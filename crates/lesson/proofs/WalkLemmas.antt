@@ -1,5 +1,5 @@
 -- The objects that may come, one after another.
-use Rattle.std.proofs.Common.{◌≡◌, ℕ, ◌+◌, ◌-◌, ◌<◌, suc, false, if◌then◌else◌, Option, Some, ◌∙◌, ap, arith}
+use Rattle.std.proofs.Common.{◌≡◌, ℕ, ◌+◌, ◌-◌, ◌<◌, suc, false, if◌then◌else◌, Some, ◌∙◌, ap, arith}
 use Rattle.lesson.specs.Walks.{Walked, first_free, may_come}
 
 module _ (w : Walked) (object : ℕ) (inside : object < w.count) where

@@ -1,5 +1,5 @@
 -- The place that a bound word refers to, as a step shows it after the word. (own choice)
-use Rattle.std.specs.Prelude.{ℕ, ◌*◌, ◌-◌, Bool, true, false, ◌&&◌, nat_lt, if◌then◌else◌, List, [], ◌++◌, length, codes}
+use Rattle.std.specs.Prelude.{ℕ, ◌*◌, ◌-◌, Bool, ◌&&◌, nat_lt, if◌then◌else◌, List, [], ◌++◌, length, codes}
 use Rattle.aout_core.specs.Addresses.{pc_target}
 use Rattle.link_session.specs.declared.cell.Cell.{Cell}
 use Rattle.link_session.specs.declared.cell.Target.{Target}

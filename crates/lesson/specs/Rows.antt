@@ -1,7 +1,7 @@
 -- The rows of a state: the lines of `reports`, with more about the words. (own choice)
 --
 -- The line of a bound word has the place that it refers to, and a word of text that begins an instruction has this.
-use Rattle.std.specs.Prelude.{ℕ, ◌*◌, List, [], ◌∷◌, ◌++◌, map, Option, Some, None, slice_get, codes}
+use Rattle.std.specs.Prelude.{ℕ, List, [], ◌∷◌, ◌++◌, map, Option, Some, None, slice_get, codes}
 use Rattle.link_session.specs.declared.cell.Cell.{Cell}
 use Rattle.link_session.specs.declared.state.State.{State}
 use Rattle.link_session.specs.Image.{Image}

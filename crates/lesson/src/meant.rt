@@ -1,5 +1,5 @@
 //! The place that a bound word refers to, after the word.
-ghost use Rattle.std.specs.Prelude.{◌≡◌, ◌*◌, ◌<◌};
+ghost use Rattle.std.specs.Prelude.{◌*◌, ◌<◌};
 ghost use Rattle.link_session.specs.Undo.{image_of};
 ghost use Rattle.texts.specs.Texts.{Puts};
 ghost use Rattle.lesson.specs.Meant.{meant_text, place_in, place_text};

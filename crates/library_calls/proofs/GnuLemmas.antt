@@ -9,7 +9,7 @@ use Rattle.aout_core.specs.WellFormed.{first_object_fault}
 use Rattle.aout_core.specs.declared.header.Header.{Header}
 use Rattle.aout_core.specs.declared.object.ObjectFault.{ObjectFault}
 use Rattle.aout_core.specs.declared.object.ObjectFault.TheVariants as faults
-use Rattle.gnu_objects.specs.Converted.{contents_with, converted, converted_by, converted_with, object_of, object_unless, unless}
+use Rattle.gnu_objects.specs.Converted.{contents_with, converted, converted_with, object_of, object_unless, unless}
 use Rattle.gnu_objects.specs.GnuForm.{is_stab, long_at, name_at, relocation_of, strings_of, symbols_of}
 use Rattle.gnu_objects.specs.GnuRefusals.{alike_at, alike_refusal, count_refusal, dropped_refusal, first_alike}
 use Rattle.gnu_objects.specs.GnuRefusals.{first_bad_symbol, first_dropped_word, header_refusal, linked_refusal}

@@ -16,7 +16,7 @@ use Rattle.link_out.specs.Steps.{and_then, refused_as, unless}
 use Rattle.library_calls.specs.declared.cause.Cause.{Cause}
 use Rattle.library_calls.specs.declared.cause.Cause.TheVariants.{NoOption, Excluded, LongName, CutNames, ManyNames}
 use Rattle.library_calls.specs.declared.cause.Cause.TheVariants.{TooLong, NoEdit, BadFile, BadObject, NotAdded}
-use Rattle.library_calls.specs.declared.cause.Cause.TheVariants.{NotLinked, BadListing}
+use Rattle.library_calls.specs.declared.cause.Cause.TheVariants.{NotLinked}
 use Rattle.library_calls.specs.declared.cause.LongPart.TheVariants as long
 use Rattle.library_calls.specs.declared.cause.Refusal.{Refusal}
 use Rattle.library_calls.specs.Causes.{at, mistake_of, number_of, reason_number}

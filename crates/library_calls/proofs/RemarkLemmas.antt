@@ -1,5 +1,5 @@
 -- The records of findings, one finding after another.
-use Rattle.std.proofs.Common.{◌≡◌, ℕ, ◌+◌, List, [], ◌∷◌, ◌++◌, length, refl, sym, ap, ◌∙◌, append_assoc, length-append}
+use Rattle.std.proofs.Common.{◌≡◌, ℕ, ◌+◌, List, [], ◌∷◌, ◌++◌, length, ap, ◌∙◌, append_assoc, length-append}
 use Rattle.findings.specs.Found.{Found}
 use Rattle.library_calls.specs.RemarkAnswers.{records_from, texts_of}
 use Rattle.library_calls.specs.declared.remarks_call.RemarkRecord.{RemarkRecord}

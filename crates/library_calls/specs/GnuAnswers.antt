@@ -4,7 +4,6 @@ use Rattle.aout_core.specs.Encoding.{encoding}
 use Rattle.gnu_objects.specs.Converted.{converted}
 use Rattle.gnu_objects.specs.GnuRefusals.{sizes_refusal}
 use Rattle.gnu_objects.specs.Places.{place_of}
-use Rattle.gnu_objects.specs.declared.options.Locals.{Locals}
 use Rattle.gnu_objects.specs.declared.options.Locals.TheVariants.{KeepAll, KeepNeeded, KeepNone}
 use Rattle.gnu_objects.specs.declared.options.Options.{Options}
 use Rattle.gnu_objects.specs.declared.refusal.Refusal as gnu

@@ -1,12 +1,10 @@
 -- The map of a link of objects whose bytes are apart, as a call answers it. (own choice)
-use Rattle.std.specs.Prelude.{◌≡◌, ◌≢◌, ◌⊎◌, ℕ, ◌+◌, is_some, if◌then◌else◌, List, [], ◌∷◌, ◌++◌, length}
+use Rattle.std.specs.Prelude.{◌≡◌, ◌≢◌, ◌⊎◌, ℕ, ◌+◌, is_some, List, [], ◌∷◌, ◌++◌, length}
 use Rattle.std.specs.Prelude.{Option, Some, None, Result, Ok, Err, IsOk, IsOkAnd}
 use Rattle.aout_core.specs.Contents.{Contents}
 use Rattle.aout_core.specs.Names.{padded}
-use Rattle.aout_core.specs.WellFormed.{first_of}
 use Rattle.link_session.specs.declared.entry.AddFault.{AddFault}
 use Rattle.link_session.specs.Labelled.{objects}
-use Rattle.link_session.specs.Limits.{refusal}
 use Rattle.tool_options.specs.Choices.{Choices}
 use Rattle.link_out.specs.declared.linked.Linked.{Linked}
 use Rattle.link_out.specs.declared.linked.LinkFault.{LinkFault}
@@ -20,6 +18,7 @@ use Rattle.link_maps.specs.declared.outcome.Outcome.{Outcome}
 use Rattle.link_maps.specs.Maps.{AreRecords, IsMapOf}
 use Rattle.link_maps.specs.Members.{all_of, cause_of}
 use Rattle.link_maps.specs.Records.{bit, no_label}
+use Rattle.link_maps.specs.Taking.{split, split_of}
 use Rattle.library_calls.specs.declared.cause.Cause.{Cause}
 use Rattle.library_calls.specs.declared.cause.Cause.TheVariants.{NotAdded, NotLinked}
 use Rattle.library_calls.specs.declared.cause.Refusal.{Refusal}
@@ -39,32 +38,11 @@ with_read os bytes = and_then (object_in bytes) (λ o. Ok (os ++ o ∷ []))
 abbrev pub objects_each : List (List ℕ) → Result (List Contents) Refusal
 objects_each parts = with_each_of with_read [] parts
 
--- what a session takes of objects: those that it keeps, and why it refuses the first that it does not keep. It takes none after that
-pub record Taking : Type 0 where
-  pub kept : List Contents
-  pub cause : Option AddFault
-
-abbrev pub take_next : List (List ℕ) → Taking → Contents → Taking
-take_next forced t c = record {
-  kept = if is_some (first_of t.cause (refusal forced t.kept c)) then t.kept else t.kept ++ c ∷ [];
-  cause = first_of t.cause (refusal forced t.kept c);
-}
-
-abbrev pub take_all : List (List ℕ) → Taking → List Contents → Taking
-take_all forced t [] = t
-take_all forced t (c ∷ cs) = take_all forced (take_next forced t c) cs
-
-abbrev pub nothing_taken : Taking
-nothing_taken = record { kept = []; cause = None }
-
-abbrev pub taking_of : Objects → Taking
-taking_of all = record { kept = objects all.session.entries; cause = cause_of all.refused }
-
 -- these objects, with what a session takes of them
 pub record AreTaken (forced : List (List ℕ)) (os : List Contents) (all : Objects) : Type 0 where
   pub are : objects (all_of all) ≡ os
   pub names : all.session.forced ≡ forced
-  pub taken : taking_of all ≡ take_all forced nothing_taken os
+  pub taken : split_of all ≡ split forced (all_of all)
 
 -- ---- what becomes of the link
 

@@ -1,17 +1,15 @@
 -- What a call remarks of a file: what is wrong and odd in it, as records with their texts. (own choice)
 --
 -- Each record has the place of its text among all texts, which are one after another.
-use Rattle.std.specs.Prelude.{ℕ, ◌+◌, is_none, if◌then◌else◌, List, [], ◌∷◌, ◌++◌, length, Option, Some, None, Result, Ok, Err}
+use Rattle.std.specs.Prelude.{ℕ, ◌+◌, List, [], ◌∷◌, ◌++◌, length, Result, Ok, Err}
 use Rattle.std.specs.List.{flat_map}
 use Rattle.aout_core.specs.Contents.{Contents}
 use Rattle.aout_core.specs.Decoding.{decode}
 use Rattle.aout_core.specs.WellFormed.{first_object_fault}
 use Rattle.aout_core.specs.declared.file.ReadFault.{ReadFault}
-use Rattle.aout_core.specs.declared.object.ObjectFault.{ObjectFault}
-use Rattle.aout_core.specs.declared.object.ObjectFault.TheVariants.{NotAnObject, NoRelocation, BadRelocation, BadSymbolNumber}
 use Rattle.findings.specs.Found.{Found}
 use Rattle.findings.specs.Odd.{odd}
-use Rattle.findings.specs.Wrong.{wrong_bytes, wrong_words}
+use Rattle.findings.specs.Wrong.{wrong_bytes, wrong_in}
 use Rattle.findings.specs.declared.finding.FindingKind.{FindingKind}
 use Rattle.findings.specs.declared.finding.FindingKind.TheVariants as kinds
 use Rattle.suspicions.specs.Suspicions.{suspicions}
@@ -60,17 +58,9 @@ records_from at (f ∷ fs) =
 
 -- ---- what is remarked
 
--- a word that makes ld refuse an object
-abbrev pub wrong_for : Option ObjectFault → Contents → List Found
-wrong_for None c = []
-wrong_for (Some NotAnObject) c = []
-wrong_for (Some NoRelocation) c = []
-wrong_for (Some (BadRelocation index)) c = wrong_words c
-wrong_for (Some (BadSymbolNumber index)) c = wrong_words c
-
 abbrev pub wrong_by : List ℕ → Result Contents ReadFault → List Found
 wrong_by bytes (Err fault) = wrong_bytes fault bytes
-wrong_by bytes (Ok c) = wrong_for (first_object_fault c) c
+wrong_by bytes (Ok c) = wrong_in (first_object_fault c) c
 
 abbrev pub odd_by : List ℕ → Result Contents ReadFault → List Found
 odd_by bytes (Err fault) = []

@@ -39,8 +39,8 @@ changes_each letters parts = with_edits_of first_part parts_after 0 [] letters p
 
 -- ---- what is given
 
--- the status, the replies to the edits, the bytes of the linked file, its report as the bytes of its lines and as a list, and the objects of
--- what the list has
+-- the status, the replies to the edits, the bytes of the linked file, its report as the bytes of its lines and as a list, and the
+-- objects of what the list has
 pub record RunOutput : Type 0 where
   pub status : ℕ
   pub replies : List ℕ

@@ -1,5 +1,5 @@
 //! Objects and other files taken apart.
-ghost use Rattle.std.specs.Prelude.{◌≡◌, ◌≢◌, ◌⊎◌, map, length, Ok, Err, IsOk, IfOk, IfErr};
+ghost use Rattle.std.specs.Prelude.{◌≡◌, ◌≢◌, ◌⊎◌, map, Ok, Err, IsOk, IfOk, IfErr};
 ghost use Rattle.library_calls.specs.MemoryWanted.{HasBody};
 ghost use Rattle.library_calls.specs.ObjectParts.{parts_in, pieces_in, pieces_of, row_of, whole_in, whole_of, words_alone, words_of, words_with};
 ghost use Rattle.library_calls.specs.declared.cause.Cause.TheVariants.{Memory};

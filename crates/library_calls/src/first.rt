@@ -8,7 +8,9 @@ ghost use Rattle.library_calls.specs.MemoryWanted.{HasBody};
 ghost use Rattle.library_calls.specs.declared.cause.Cause.TheVariants.{Memory};
 
 use crate::cause::Cause;
-use aout_core::{File, Header, Object, Parts, ReadFault, Wire, is_magic, read_file};
+use aout_core::{
+    File, Header, Object, Parts, ReadFault, Wire, has_whole_sizes, is_magic, read_file,
+};
 use findings::{FilePlaces, header_of};
 use std::alloc::Global;
 
@@ -17,16 +19,6 @@ pub(crate) fn file_length(header: &Header) -> usize
     ensures { result ≡ file_length header.now }
 {
     FilePlaces::of(header).end
-}
-
-/// Whether the segments have whole words, and the symbol table whole symbols.
-fn has_whole_sizes(header: &Header) -> bool
-    ensures { result ≡ has_whole_sizes header.now }
-{
-    header.text_size % 2 == 0
-        && header.data_size % 2 == 0
-        && header.bss_size % 2 == 0
-        && header.symbol_size % 12 == 0
 }
 
 /// The header of the file that the bytes begin with, if the whole file is there.

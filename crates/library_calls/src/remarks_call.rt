@@ -1,18 +1,18 @@
 //! What is wrong and odd in a file, as records.
-ghost use Rattle.std.specs.Prelude.{◌≡◌, ◌++◌, ◌∷◌, [], length, IfOk, IfErr};
-ghost use Rattle.aout_core.specs.Decoding.{decode};
+ghost use Rattle.std.specs.Prelude.{◌≡◌, ◌++◌, ◌∷◌, [], IfOk, IfErr};
 ghost use Rattle.aout_core.specs.WellFormed.{first_object_fault};
 ghost use Rattle.findings.specs.Found.{all_found, found_in};
 ghost use Rattle.findings.specs.Odd.{odd};
+ghost use Rattle.findings.specs.Wrong.{wrong_in};
 ghost use Rattle.suspicions.specs.Suspicions.{suspicions};
-ghost use Rattle.library_calls.specs.RemarkAnswers.{kind_number, odd_by, records_from, remarked_by, remarked_in, remarks_in, status_by, texts_of, wrong_by, wrong_for};
+ghost use Rattle.library_calls.specs.RemarkAnswers.{kind_number, records_from, remarked_by, remarked_in, remarks_in, status_by, texts_of};
 ghost use Rattle.library_calls.specs.declared.cause.Cause.TheVariants.{Memory};
 
 use crate::cause::Cause;
 use crate::first::first_file;
-use aout_core::{File, Object, ObjectFault};
+use aout_core::{File, object_fault};
 use disassemblies::Sweep;
-use findings::{Finding, FindingKind, odd_of, wrong_bytes, wrong_words};
+use findings::{Finding, FindingKind, odd_of, wrong_bytes, wrong_in};
 use std::alloc::{AllocError, Global};
 use suspicions::suspicions_of;
 
@@ -132,22 +132,6 @@ fn remarks_by(alloc: Global, wrong: Vec<Finding>, odd: Vec<Finding>) -> Result<R
     })
 }
 
-/// The words that make `ld` refuse an object, if it does so for one.
-fn wrong_for(
-    alloc: Global,
-    file: &File,
-    refused: Option<ObjectFault>,
-) -> Result<Vec<Finding>, AllocError>
-    ensures { IfOk result (λ found. all_found found.items ≡ wrong_for refused file.now) }
-{
-    match refused {
-        Some(ObjectFault::BadRelocation(_) | ObjectFault::BadSymbolNumber(_)) => {
-            wrong_words(alloc, file)
-        }
-        Some(ObjectFault::NotAnObject | ObjectFault::NoRelocation) | None => Ok(Vec::new(alloc)),
-    }
-}
-
 /// What is odd and what is suspicious in a file.
 fn odd_in(alloc: Global, bytes: &[u8], file: &File) -> Result<Vec<Finding>, AllocError>
     ensures { IfOk result (λ found.
@@ -159,25 +143,14 @@ fn odd_in(alloc: Global, bytes: &[u8], file: &File) -> Result<Vec<Finding>, Allo
     Ok(found)
 }
 
-/// The file, and why it is not an object, if it is not.
-fn as_object(file: File) -> (File, Option<ObjectFault>)
-    ensures file { result.0 ≡ file }
-    ensures refused { result.1 ≡ first_object_fault file }
-{
-    match Object::from_file(file) {
-        Ok(object) => (object.into_file(), None),
-        Err((file, fault)) => (file, Some(fault)),
-    }
-}
-
 /// The remarks on a file that is in these bytes.
-fn file_remarks(alloc: Global, bytes: &[u8], file: File) -> Result<Remarks, AllocError>
+fn file_remarks(alloc: Global, bytes: &[u8], file: &File) -> Result<Remarks, AllocError>
     ensures { IfOk result (λ x. remarks_in x ≡ remarked_by
-        (wrong_for (first_object_fault file) file) (odd bytes.now file ++ suspicions file)) }
+        (wrong_in (first_object_fault file.now) file.now)
+        (odd bytes.now file.now ++ suspicions file.now)) }
 {
-    let (file, refused) = as_object(file);
-    let wrong = wrong_for(alloc, &file, refused)?;
-    let odd = odd_in(alloc, bytes, &file)?;
+    let wrong = wrong_in(alloc, file, object_fault(file))?;
+    let odd = odd_in(alloc, bytes, file)?;
     remarks_by(alloc, wrong, odd)
 }
 
@@ -190,7 +163,7 @@ pub fn remarks_of(alloc: Global, bytes: &[u8]) -> Result<Remarks, Cause>
     ensures err { IfErr result (λ cause. cause ≡ Memory) }
 {
     match first_file(alloc, bytes) {
-        Ok((file, _)) => Ok(file_remarks(alloc, bytes, file)?),
+        Ok((file, _)) => Ok(file_remarks(alloc, bytes, &file)?),
         Err(Cause::BadFile(fault)) => {
             let wrong = wrong_bytes(alloc, bytes, fault)?;
             Ok(remarks_by(alloc, wrong, Vec::new(alloc))?)

@@ -4,4 +4,5 @@ pub mod MemberLemmas
 pub mod PaddedLemmas
 pub mod RecordLemmas
 pub mod RowLemmas
+pub mod TakingLemmas
 pub mod UseLemmas

@@ -2,6 +2,7 @@
 pub mod References
 pub mod Uses
 pub mod Members
+pub mod Taking
 pub mod Rows
 pub mod Records
 pub mod MapLimits

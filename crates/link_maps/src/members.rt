@@ -1,10 +1,9 @@
 //! The objects of a link: those that a session takes, and those that are left if it refuses one.
-ghost use Rattle.std.specs.Prelude.{◌≡◌, ◌++◌, ◌∷◌, [], None, is_some, if◌then◌else◌, option_copied, slice_get, IfOk, IsOk, OnOk};
-ghost use Rattle.aout_core.specs.WellFormed.{first_of};
+ghost use Rattle.std.specs.Prelude.{◌≡◌, ◌++◌, ◌∷◌, [], None, option_copied, slice_get, IfOk, IsOk, OnOk};
 ghost use Rattle.link_session.specs.Labelled.{objects};
-ghost use Rattle.link_session.specs.Limits.{refusal};
 ghost use Rattle.link_session.specs.Sessions.{labelled, nothing_kept};
-ghost use Rattle.link_maps.specs.Members.{all_of, left_of, cause_of, member_of};
+ghost use Rattle.link_maps.specs.Members.{all_of, cause_of, left_of, member_of};
+ghost use Rattle.link_maps.specs.Taking.{split_of, split_with, with_object};
 
 use aout_core::{File, Header, Object};
 use link_session::{AddFault, Forced, Session};
@@ -64,12 +63,9 @@ fn add(
     label: String,
     object: Object,
 ) -> Result<Option<Refused>, AllocError>
-    ensures cause { IfOk result (λ refused.
-        cause_of refused ≡ refusal session.old.forced (objects session.old.entries) object) }
-    ensures left { IfOk result (λ refused.
-        left_of refused ≡ (if is_some (cause_of refused) then labelled label object ∷ [] else [])) }
-    ensures entries { IfOk result (λ refused. session.new.entries ≡ (if is_some (cause_of refused)
-        then session.old.entries else session.old.entries ++ labelled label object ∷ [])) }
+    ensures taken { IfOk result (λ refused. split_with session.new.entries refused
+        ≡ with_object session.old.forced (split_with session.old.entries None)
+        (labelled label object)) }
     ensures forced { session.new.forced ≡ session.old.forced }
 {
     let Err(refused) = session.add(label, object) else {
@@ -111,15 +107,8 @@ impl Objects {
     ///
     /// An error: out of memory.
     pub fn take(&mut self, alloc: Global, label: String, object: Object) -> Result<(), AllocError>
-        ensures cause { OnOk result (cause_of self.new.refused
-            ≡ first_of (cause_of self.old.refused)
-            (refusal self.old.session.forced (objects self.old.session.entries) object)) }
-        ensures left { OnOk result (left_of self.new.refused
-            ≡ (if is_some (cause_of self.new.refused)
-            then left_of self.old.refused ++ labelled label object ∷ [] else [])) }
-        ensures entries { OnOk result (self.new.session.entries
-            ≡ (if is_some (cause_of self.new.refused) then self.old.session.entries
-            else self.old.session.entries ++ labelled label object ∷ [])) }
+        ensures taken { OnOk result (split_of self.new
+            ≡ with_object self.old.session.forced (split_of self.old) (labelled label object)) }
         ensures forced { self.new.session.forced ≡ self.old.session.forced }
     {
         match &mut self.refused {

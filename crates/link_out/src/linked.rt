@@ -36,19 +36,33 @@ pub struct Report {
 
 /// Why there is no file. They are tested in this order. (own choice)
 #[derive(Clone, Copy, Debug, PartialEq, Eq, Error)]
+#[error("{}", self.text())]
 pub enum LinkFault {
     /// 1: the end of bss would pass 65,535.
-    #[error("does not fit")]
     DoesNotFit,
     /// 2: more than 5,461 symbols would be written.
-    #[error("too many symbols")]
     TooManySymbols,
     /// 3: a relocation word would need a symbol number over 4,095.
-    #[error("symbol number too large")]
     SymbolNumber,
     /// 4: memory ran out for the file or the report.
-    #[error("no memory")]
     Memory,
+}
+
+impl LinkFault {
+    ghost use Rattle.std.specs.Prelude.{◌≡◌};
+    ghost use Rattle.link_out.specs.FaultTexts.{link_text};
+
+    /// What is said of the link. (own choice)
+    pub fn text(self) -> &'static str
+        ensures { result.now ≡ link_text self }
+    {
+        match self {
+            LinkFault::DoesNotFit => "does not fit",
+            LinkFault::TooManySymbols => "too many symbols",
+            LinkFault::SymbolNumber => "symbol number too large",
+            LinkFault::Memory => "no memory",
+        }
+    }
 }
 
 impl From<AllocError> for LinkFault {

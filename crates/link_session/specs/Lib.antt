@@ -11,5 +11,6 @@ pub mod Bounds
 pub mod Marks
 pub mod Undo
 pub mod Sessions
+pub mod FaultTexts
 pub mod Laws
 pub mod internal

@@ -55,22 +55,36 @@ impl Entry {
 
 /// Why an object was not added: the first that applies. (own choice)
 #[derive(Clone, Copy, Debug, PartialEq, Eq, Error)]
+#[error("{}", self.text())]
 pub enum AddFault {
     /// 1: the text would pass 65,534 bytes in all.
-    #[error("text full")]
     TextFull,
     /// 2: the data would pass 65,534 bytes in all.
-    #[error("data full")]
     DataFull,
     /// 3: the bss would pass 65,534 bytes in all.
-    #[error("bss full")]
     BssFull,
     /// 4: there would be more than 65,535 external names, forced names counted.
-    #[error("names full")]
     NamesFull,
     /// 5: memory ran out for the object's cells, names and marks.
-    #[error("no memory")]
     Memory,
+}
+
+impl AddFault {
+    ghost use Rattle.std.specs.Prelude.{◌≡◌};
+    ghost use Rattle.link_session.specs.FaultTexts.{add_text};
+
+    /// What is said of the object. (own choice)
+    pub fn text(self) -> &'static str
+        ensures { result.now ≡ add_text self }
+    {
+        match self {
+            AddFault::TextFull => "text full",
+            AddFault::DataFull => "data full",
+            AddFault::BssFull => "bss full",
+            AddFault::NamesFull => "names full",
+            AddFault::Memory => "no memory",
+        }
+    }
 }
 
 /// An object that was not added, handed back. (own choice)

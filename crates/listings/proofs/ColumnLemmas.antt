@@ -6,7 +6,8 @@ use Rattle.std.specs.List.{AllByRecursion}
 use Rattle.std.proofs.lemmas.List.{append-nil}
 use Rattle.listings.specs.Laws.{IsLine}
 use Rattle.listings.proofs.OctalLemmas.{AreDigits, IsNumber}
-use Rattle.listings.specs.Columns.{lines_in, skip, column, after_column, from_second, from_third, from_fourth, row_of}
+use Rattle.listings.specs.Columns.{skip, column, after_column, from_second, from_third, from_fourth, row_of}
+use Rattle.texts.specs.Lines.{lines_in}
 use Rattle.texts.specs.Lines.{text_of}
 use Rattle.listings.specs.Listing.{gap, remarked}
 

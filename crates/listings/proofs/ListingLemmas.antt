@@ -15,7 +15,8 @@ use Rattle.listings.specs.declared.fault.Reason.TheVariants.{NoMagic, OddSize}
 use Rattle.listings.specs.declared.fault.Section.TheVariants.{InText, InData, InSymbols}
 use Rattle.texts.specs.Numbers.{six_digits, octal}
 use Rattle.listings.specs.Octal.{number}
-use Rattle.listings.specs.Columns.{lines_in, Row, row_of, column, from_third, from_fourth}
+use Rattle.listings.specs.Columns.{Row, row_of, column, from_third, from_fourth}
+use Rattle.texts.specs.Lines.{lines_in}
 use Rattle.texts.specs.Names.{printable_name}
 use Rattle.aout_core.specs.Addresses.{data_start}
 use Rattle.listings.specs.Drafts.{Segment, Draft, empty_segment, empty_draft, finished}

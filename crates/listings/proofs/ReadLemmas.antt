@@ -13,7 +13,8 @@ use Rattle.listings.specs.MemoryWanted.{IsEntry, MayRunOutInLines}
 use Rattle.listings.specs.Said.{Says, Gives}
 use Rattle.listings.specs.internal.Lines.{Stops}
 use Rattle.listings.proofs.ListingLemmas.{listing_read}
-use Rattle.listings.specs.Columns.{row_of, lines_in, first_line, other_lines}
+use Rattle.listings.specs.Columns.{row_of, first_line, other_lines}
+use Rattle.texts.specs.Lines.{lines_in}
 
 lines_by : (b : ℕ) (bs : List ℕ) (t : Bool) → eqb b 10 ≡ t → lines_in bs ≡ first_line bs ∷ lines_in (other_lines bs) →
     lines_in (b ∷ bs) ≡ first_line (b ∷ bs) ∷ lines_in (other_lines (b ∷ bs))

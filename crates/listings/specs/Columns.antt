@@ -4,15 +4,6 @@
 -- columns make a row; a column that is missing is the empty list.
 use Rattle.std.specs.Prelude.{ℕ, ◌+◌, ◌-◌, Bool, nat_lt, eqb, if◌then◌else◌, List, [], ◌∷◌, length}
 
--- one more byte at the front of the first line
-abbrev pub with_front : ℕ → List (List ℕ) → List (List ℕ)
-with_front b [] = (b ∷ []) ∷ []
-with_front b (l ∷ ls) = (b ∷ l) ∷ ls
-
-abbrev pub lines_in : List ℕ → List (List ℕ)
-lines_in [] = []
-lines_in (b ∷ bs) = if eqb b 10 then [] ∷ lines_in bs else with_front b (lines_in bs)
-
 -- the first line, and what follows its newline
 abbrev pub first_line : List ℕ → List ℕ
 first_line [] = []
@@ -59,7 +50,13 @@ abbrev pub from_fourth : List ℕ → List ℕ
 from_fourth line = skip (after_column (from_third line))
 
 abbrev pub row_of : List ℕ → Row
-row_of line = record { first = column (from_first line); second = column (from_second line); third = column (from_third line); fourth = column (from_fourth line) }
+row_of line =
+    record {
+      first = column (from_first line);
+      second = column (from_second line);
+      third = column (from_third line);
+      fourth = column (from_fourth line);
+    }
 
 abbrev pub from_column : ℕ → List ℕ → List ℕ
 from_column k line =

@@ -25,7 +25,18 @@ abbrev pub empty_segment : Segment
 empty_segment = record { words = []; relocs = [] }
 
 abbrev pub empty_draft : Draft
-empty_draft = record { section = InHeader; magic = 0o407; bss = 0; entry = 0; unused = 0; flag = 0; text_part = empty_segment; data_part = empty_segment; symbols = [] }
+empty_draft =
+    record {
+      section = InHeader;
+      magic = 0o407;
+      bss = 0;
+      entry = 0;
+      unused = 0;
+      flag = 0;
+      text_part = empty_segment;
+      data_part = empty_segment;
+      symbols = [];
+    }
 
 abbrev pub finished : Draft → Contents
 finished d = record {

@@ -4,6 +4,7 @@ pub mod Names
 pub mod Drafts
 pub mod Listing
 pub mod Reading
+pub mod ReasonTexts
 pub mod Said
 pub mod MemoryWanted
 pub mod Laws

@@ -4,7 +4,8 @@
 -- read.
 use Rattle.std.specs.Prelude.{◌≢◌, ◌⊎◌, ℕ, Bool, false, List, [], ◌∷◌, IsOkAnd, IsTrue}
 use Rattle.listings.specs.declared.fault.Section.TheVariants.{InHeader}
-use Rattle.listings.specs.Columns.{Row, lines_in, row_of}
+use Rattle.listings.specs.Columns.{Row, row_of}
+use Rattle.texts.specs.Lines.{lines_in}
 use Rattle.listings.specs.Drafts.{Draft, empty_draft}
 use Rattle.listings.specs.Reading.{is_decimal, row_read}
 

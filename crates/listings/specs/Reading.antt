@@ -19,7 +19,8 @@ use Rattle.listings.specs.declared.fault.Word.{Word}
 use Rattle.listings.specs.declared.fault.Word.TheVariants.{Text, Data, Symbols, Bss, Entry, Unused, Magic, Flag, Unknown}
 use Rattle.listings.specs.declared.fault.Fault.{Fault}
 use Rattle.listings.specs.Octal.{number}
-use Rattle.listings.specs.Columns.{lines_in, Row, row_of, column_place}
+use Rattle.listings.specs.Columns.{Row, row_of, column_place}
+use Rattle.texts.specs.Lines.{lines_in}
 use Rattle.listings.specs.Names.{name_of}
 use Rattle.aout_core.specs.Addresses.{data_start}
 use Rattle.listings.specs.Drafts.{Segment, Draft, empty_draft, finished}

@@ -30,52 +30,66 @@ pub(crate) enum Word {
 
 /// Why a line of a listing is wrong. (own choice)
 #[derive(Clone, Copy, Debug, PartialEq, Eq, Error)]
+#[error("{}", self.text())]
 pub enum Reason {
     /// The line has no such column.
-    #[error("a column is missing")]
     Missing,
     /// A byte of the number is not an octal digit.
-    #[error("not an octal number")]
     NotOctal,
     /// The number is over 177777.
-    #[error("over 177777")]
     TooLarge,
     /// A byte of the name does not print, or a backslash is not followed by three octal digits up to 377.
-    #[error("bad byte in a name")]
     BadName,
     /// The address is not that of the next word of the section.
-    #[error("the address does not follow")]
     WrongAddress,
     /// The number is not that of the next symbol.
-    #[error("the number does not follow")]
     WrongNumber,
     /// The section has 32,767 words already.
-    #[error("more than 32767 words")]
     TooManyWords,
     /// The table has 5,461 symbols already.
-    #[error("more than 5461 symbols")]
     TooManySymbols,
     /// A number comes before the first section.
-    #[error("text, data or symbols is missing")]
     NoSection,
     /// No line begins with this word.
-    #[error("unknown word")]
     UnknownWord,
     /// Text comes before data and data before symbols, and each comes once.
-    #[error("text, data and symbols are not in this order")]
     OutOfOrder,
     /// The magic number or the flag comes after the first section.
-    #[error("magic and flag come before text, data and symbols")]
     TooLate,
     /// A word comes after the symbols.
-    #[error("only symbols can follow symbols")]
     AfterTable,
     /// No file has this magic number.
-    #[error("bad magic number")]
     NoMagic,
     /// The size of bss is odd.
-    #[error("odd size")]
     OddSize,
+}
+
+impl Reason {
+    ghost use Rattle.std.specs.Prelude.{◌≡◌};
+    ghost use Rattle.listings.specs.ReasonTexts.{reason_text};
+
+    /// What is said of the line. (own choice)
+    pub fn text(self) -> &'static str
+        ensures { result.now ≡ reason_text self }
+    {
+        match self {
+            Reason::Missing => "a column is missing",
+            Reason::NotOctal => "not an octal number",
+            Reason::TooLarge => "over 177777",
+            Reason::BadName => "bad byte in a name",
+            Reason::WrongAddress => "the address does not follow",
+            Reason::WrongNumber => "the number does not follow",
+            Reason::TooManyWords => "more than 32767 words",
+            Reason::TooManySymbols => "more than 5461 symbols",
+            Reason::NoSection => "text, data or symbols is missing",
+            Reason::UnknownWord => "unknown word",
+            Reason::OutOfOrder => "text, data and symbols are not in this order",
+            Reason::TooLate => "magic and flag come before text, data and symbols",
+            Reason::AfterTable => "only symbols can follow symbols",
+            Reason::NoMagic => "bad magic number",
+            Reason::OddSize => "odd size",
+        }
+    }
 }
 
 /// The first mistake of a listing. Lines are counted from 1, and so are columns, in bytes. (own choice)

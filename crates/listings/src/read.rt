@@ -2,7 +2,8 @@
 ghost use Rattle.std.specs.Prelude.{◌≡◌, IfOk, IfErr};
 ghost use Rattle.aout_core.specs.Contents.{Contents, IsSound};
 ghost use Rattle.listings.specs.declared.fault.ListingFault.TheVariants.{Memory};
-ghost use Rattle.listings.specs.Columns.{lines_in, row_of};
+ghost use Rattle.listings.specs.Columns.{row_of};
+ghost use Rattle.texts.specs.Lines.{lines_in};
 ghost use Rattle.listings.specs.Drafts.{finished};
 ghost use Rattle.listings.specs.Listing.{Remarks, listing};
 ghost use Rattle.listings.specs.Laws.{AreRemarks};

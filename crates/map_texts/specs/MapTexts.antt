@@ -25,20 +25,19 @@ use Rattle.link_maps.specs.declared.outcome.Outcome.{Outcome}
 use Rattle.link_maps.specs.declared.places.Places.{Places}
 use Rattle.link_maps.specs.declared.references.Before.{Before}
 use Rattle.link_maps.specs.declared.references.ReferringWord.{ReferringWord}
+use Rattle.link_out.specs.FaultTexts.{link_text}
 use Rattle.link_out.specs.Layouts.{Bases}
 use Rattle.link_out.specs.Outcomes.{report_names}
 use Rattle.link_out.specs.declared.linked.LinkFault.{LinkFault}
-use Rattle.link_out.specs.declared.linked.LinkFault.TheVariants as links
 use Rattle.link_out.specs.declared.linked.Linked.{Linked}
 use Rattle.link_out.specs.function.Reports.{status_of}
 use Rattle.link_session.specs.Labelled.{Labelled, objects}
-use Rattle.link_session.specs.declared.entry.AddFault.{AddFault}
-use Rattle.link_session.specs.declared.entry.AddFault.TheVariants as adds
+use Rattle.link_session.specs.FaultTexts.{add_text}
 use Rattle.symtools.specs.NmLists.{in_order}
 use Rattle.symtools.specs.SymbolLines.{letter, value_column}
 use Rattle.texts.specs.Columns.{at_left, at_right}
 use Rattle.texts.specs.Names.{printable_bytes}
-use Rattle.texts.specs.Numbers.{octal, six_digits}
+use Rattle.texts.specs.Numbers.{octal, padded_octal, six_digits}
 use Rattle.tool_options.specs.Choices.{Choices}
 use Rattle.tool_options.specs.NameLists.{is_among}
 use Rattle.map_texts.specs.declared.limits.Sized.{Sized}
@@ -50,10 +49,6 @@ use Rattle.map_texts.specs.declared.names.Section.TheVariants.{Undefined, Multip
 -- a number in decimal, at the right of a column
 abbrev pub number_text : ℕ → ℕ → List ℕ
 number_text width n = at_right width (decimal n)
-
--- in octal, with at least six digits
-abbrev pub address_text : ℕ → List ℕ
-address_text a = if nat_lt a 0o1000000 then six_digits a else octal a
 
 unfoldable pub count_text : ℕ → List ℕ
 count_text n = codes " (" ++ decimal n ++ codes ")\n"
@@ -70,19 +65,6 @@ unfoldable pub symbol_front : Bool → Symbol → List ℕ
 symbol_front placed s = value_text placed s ++ codes " " ++ letter s ∷ [] ++ codes " "
 
 -- ---- what becomes of the link
-
-abbrev pub link_text : LinkFault → List ℕ
-link_text links.DoesNotFit = codes "does not fit"
-link_text links.TooManySymbols = codes "too many symbols"
-link_text links.SymbolNumber = codes "symbol number too large"
-link_text links.Memory = codes "no memory"
-
-abbrev pub limit_text : AddFault → List ℕ
-limit_text adds.TextFull = codes "text full"
-limit_text adds.DataFull = codes "data full"
-limit_text adds.BssFull = codes "bss full"
-limit_text adds.NamesFull = codes "names full"
-limit_text adds.Memory = codes "no memory"
 
 abbrev pub whether_text : ℕ → List ℕ
 whether_text status = if eqb status 0 then codes "nothing" else codes "something"
@@ -126,7 +108,7 @@ first_label (x ∷ xs) = x.label
 
 unfoldable pub refused_text : Refused → List ℕ
 refused_text r =
-    codes "refused, " ++ limit_text r.cause ++ codes " at\n  " ++ first_label r.left.items
+    codes "refused, " ++ add_text r.cause ++ codes " at\n  " ++ first_label r.left.items
     ++ codes "\n  (addresses below count from 0 in each segment)\n"
 
 abbrev pub becomes_text : Option Refused → Option Outcome → List ℕ
@@ -209,7 +191,7 @@ largest_text ms =
 
 -- where a segment begins and ends, and its size
 unfoldable pub range_text : ℕ → ℕ → List ℕ
-range_text start end = address_text start ++ codes "  " ++ address_text end ++ number_text 8 (end - start) ++ codes "\n"
+range_text start end = padded_octal start ++ codes "  " ++ padded_octal end ++ number_text 8 (end - start) ++ codes "\n"
 
 unfoldable pub segment_line : List ℕ → ℕ → ℕ → List ℕ
 segment_line label start end = codes "  " ++ at_left 8 label ++ range_text start end
@@ -239,7 +221,7 @@ largest_if refused ms = if refused then largest_text ms else []
 -- ---- objects
 
 unfoldable pub place_text : ℕ → ℕ → List ℕ
-place_text address bytes = codes "  " ++ address_text address ++ number_text 7 bytes
+place_text address bytes = codes "  " ++ padded_octal address ++ number_text 7 bytes
 
 -- a long path has a line of its own
 abbrev pub path_gap : List ℕ → List ℕ
@@ -318,7 +300,7 @@ before_text None = []
 before_text (Some b) = label_text b
 
 unfoldable pub bare_address : ℕ → List ℕ
-bare_address a = codes "  " ++ address_text a
+bare_address a = codes "  " ++ padded_octal a
 
 -- without a label before it an instruction has its address
 abbrev pub place_if : Option Before → ℕ → List ℕ
@@ -337,7 +319,7 @@ part_text Text = codes "text"
 part_text Data = codes "data"
 
 unfoldable pub word_text : Part → ℕ → List ℕ
-word_text part address = codes "                " ++ part_text part ++ codes " " ++ address_text address
+word_text part address = codes "                " ++ part_text part ++ codes " " ++ padded_octal address
 
 -- a word that refers to a name: its address, the label before it, and of text the instruction
 unfoldable pub reference_line : Contents → Places → ReferringWord → List ℕ

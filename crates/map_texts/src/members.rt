@@ -2,7 +2,7 @@
 ghost use Rattle.texts.specs.Texts.{Puts};
 ghost use Rattle.map_texts.specs.MapTexts.{member_line, member_lines, members_text, path_gap, place_text};
 
-use crate::pieces::{put_address, put_size};
+use crate::pieces::put_size;
 use link_maps::{LinkMap, Member, Places};
 use texts::Text;
 
@@ -15,7 +15,7 @@ fn put_place(text: &mut Text, address: u64, bytes: u16)
     ensures { Puts text.old text.new (place_text address bytes) }
 {
     text.put("  ");
-    put_address(text, address);
+    text.put_padded_octal(address);
     put_size(text, 7, bytes);
 }
 

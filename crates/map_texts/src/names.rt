@@ -10,7 +10,7 @@ ghost use Rattle.map_texts.specs.MapTexts.{mention_if, mention_line, mention_tex
 ghost use Rattle.map_texts.specs.MapTexts.{place_if, reference_line, reference_lines, references_text, row_of, symbol_text, title_if};
 ghost use Rattle.map_texts.specs.MapTexts.{titled_text, word_text};
 
-use crate::pieces::{put_address, put_count, put_front, put_item};
+use crate::pieces::{put_count, put_front, put_item};
 use aout_core::{Name, Part, Symbol};
 use disassemblies::NamedFile;
 use indexmap::IndexSet;
@@ -158,7 +158,7 @@ fn put_bare_address(text: &mut Text, address: u64)
     ensures { Puts text.old text.new (bare_address address) }
 {
     text.put("  ");
-    put_address(text, address);
+    text.put_padded_octal(address);
 }
 
 /// Adds the address of an instruction, unless there is a label before it.
@@ -222,7 +222,7 @@ fn put_word(text: &mut Text, part: Part, address: u64)
     text.put("                ");
     text.put(part_text(part));
     text.put(" ");
-    put_address(text, address);
+    text.put_padded_octal(address);
 }
 
 /// Adds the line of a word that refers to a name: its address, the label before it, and of text the instruction.

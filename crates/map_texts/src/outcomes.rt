@@ -5,7 +5,7 @@ ghost use Rattle.map_texts.specs.MapTexts.{becomes_text, entry_line, entry_lines
 ghost use Rattle.map_texts.specs.MapTexts.{linked_text, made_line, made_text, magic_text, not_made, outcome_text, refused_text};
 ghost use Rattle.map_texts.specs.MapTexts.{whether_text};
 
-use crate::pieces::{limit_text, link_text, put_name, put_octal_word};
+use crate::pieces::{put_name, put_octal_word};
 use aout_core::{Header, Name};
 use link_maps::{LinkMap, Objects, Outcome, Refused};
 use link_out::{LinkFault, Linked};
@@ -93,7 +93,7 @@ fn put_not_made(text: &mut Text, fault: LinkFault)
     ensures { Puts text.old text.new (not_made fault) }
 {
     text.put("refused, ");
-    text.put(link_text(fault));
+    text.put(fault.text());
     text.put("\n");
 }
 
@@ -132,7 +132,7 @@ fn put_refused(text: &mut Text, refused: &Refused)
     ensures { Puts text.old text.new (refused_text refused.now) }
 {
     text.put("refused, ");
-    text.put(limit_text(refused.cause));
+    text.put(refused.cause.text());
     text.put(" at\n  ");
     text.put(first_label(refused));
     text.put("\n  (addresses below count from 0 in each segment)\n");

@@ -1,15 +1,12 @@
-//! Pieces of the map's text: numbers, what `nm` has of a symbol, lists in lines, and why something is refused.
-ghost use Rattle.std.specs.Prelude.{◌≡◌};
+//! Pieces of the map's text: numbers, what `nm` has of a symbol, and lists in lines.
 ghost use Rattle.texts.specs.Names.{printable_bytes};
 ghost use Rattle.texts.specs.Numbers.{six_digits};
 ghost use Rattle.texts.specs.Texts.{Puts};
-ghost use Rattle.map_texts.specs.MapTexts.{address_text, count_text, item_text, limit_text, link_text, number_text, symbol_front};
+ghost use Rattle.map_texts.specs.MapTexts.{count_text, item_text, number_text, symbol_front};
 ghost use Rattle.map_texts.specs.MapTexts.{value_text};
 
 use aout_core::{Name, Symbol};
 use itoa::Buffer;
-use link_out::LinkFault;
-use link_session::AddFault;
 use symtools::{letter, value_column};
 use texts::Text;
 
@@ -73,17 +70,6 @@ pub(crate) fn put_number(text: &mut Text, width: usize, number: u64)
     text.put_at_right(width, Buffer::new().format(number).as_bytes());
 }
 
-/// Adds a number in octal, with at least six digits.
-pub(crate) fn put_address(text: &mut Text, address: u64)
-    ensures { Puts text.old text.new (address_text address) }
-{
-    if address < 0o1000000 {
-        text.put_six_digits(address as u32);
-    } else {
-        text.put_octal(address);
-    }
-}
-
 /// Adds a number in decimal in parentheses, and ends the line.
 #[tactic(auto, unfolding(crate::specs::MapTexts::count_text))]
 pub(crate) fn put_count(text: &mut Text, count: u64)
@@ -92,29 +78,4 @@ pub(crate) fn put_count(text: &mut Text, count: u64)
     text.put(" (");
     text.put_decimal(count);
     text.put(")\n");
-}
-
-/// Why a link is refused.
-pub(crate) fn link_text(fault: LinkFault) -> &'static str
-    ensures { result.now ≡ link_text fault }
-{
-    match fault {
-        LinkFault::DoesNotFit => "does not fit",
-        LinkFault::TooManySymbols => "too many symbols",
-        LinkFault::SymbolNumber => "symbol number too large",
-        LinkFault::Memory => "no memory",
-    }
-}
-
-/// Why an object is refused.
-pub(crate) fn limit_text(fault: AddFault) -> &'static str
-    ensures { result.now ≡ limit_text fault }
-{
-    match fault {
-        AddFault::TextFull => "text full",
-        AddFault::DataFull => "data full",
-        AddFault::BssFull => "bss full",
-        AddFault::NamesFull => "names full",
-        AddFault::Memory => "no memory",
-    }
 }

@@ -2,7 +2,7 @@
 ghost use Rattle.texts.specs.Texts.{Puts};
 ghost use Rattle.map_texts.specs.MapTexts.{range_text, segment_line, segments_if, segments_text};
 
-use crate::pieces::{put_address, put_number};
+use crate::pieces::put_number;
 use link_maps::Outcome;
 use link_out::Bases;
 use texts::Text;
@@ -12,9 +12,9 @@ use texts::Text;
 fn put_range(text: &mut Text, start: u64, end: u64)
     ensures { Puts text.old text.new (range_text start end) }
 {
-    put_address(text, start);
+    text.put_padded_octal(start);
     text.put("  ");
-    put_address(text, end);
+    text.put_padded_octal(end);
     put_number(text, 8, end.saturating_sub(start));
     text.put("\n");
 }

@@ -36,7 +36,8 @@ grows forced os ps =
   where
     by_mentions : (all more : List Mention) → all ≡ mentions forced os ++ more → differing forced os ≤ length (multiple_names all)
     by_mentions all more e =
-        let again = map (λ (m : Mention). m.name) (filter (λ m. differs (first_definition (mentions forced os ++ more) m.name) m.says) more) in
+        let again = map (λ (m : Mention). m.name)
+        (filter (λ m. differs (first_definition (mentions forced os ++ more) m.name) m.says) more) in
         omega (
           arith,
           ap (λ (ms : List Mention). length (multiple_names ms)) e,

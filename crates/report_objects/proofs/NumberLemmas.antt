@@ -41,9 +41,11 @@ module _ {S : Type 0} (definitions : Bool) where
       let here : get_or os n d.object ≡ (get_or es n d).object = get_or-map (λ (e : Labelled). e.object) es n d d.object inside in
       put name
       ∙ ap (λ (r : Option ℕ). if list_any (shows definitions name) ss then Some n else r) (so_far name)
-      ∙ ap (λ (l : List Symbol). if list_any (shows definitions name) l then Some n else first_from definitions name (n + 1) (drop (n + 1) os))
+      ∙ ap (λ (l : List Symbol). if list_any (shows definitions name) l then Some n
+      else first_from definitions name (n + 1) (drop (n + 1) os))
       (are ∙ ap (λ (o : Contents). o.symbols) (sym here))
-      ∙ sym (ap (first_from definitions name n) (drop_more os n d.object (subst (λ (k : ℕ). n < k) (sym (length-map es (λ (e : Labelled). e.object))) inside)))
+      ∙ sym (ap (first_from definitions name n) (drop_more os n d.object
+      (subst (λ (k : ℕ). n < k) (sym (length-map es (λ (e : Labelled). e.object))) inside)))
 
   -- no object is put in
   pub none_put : (es : List Labelled) (m : IndexMap (List ℕ) ℕ S) → IsEmpty m →

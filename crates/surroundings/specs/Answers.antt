@@ -1,5 +1,5 @@
 -- What a program answers, and what of it goes out. (own choice)
-use Rattle.std.specs.Prelude.{◌≡◌, ◌⊎◌, ℕ, Bool, true, false, List, [], ◌++◌, if◌then◌else◌, ◌∷◌, Option}
+use Rattle.std.specs.Prelude.{◌≡◌, ◌⊎◌, ℕ, Bool, List, [], ◌++◌, if◌then◌else◌, ◌∷◌, Option}
 use Rattle.std.specs.Prelude.{Some, None, Result, Ok, Err, bytes_eq, codes}
 use Rattle.aout_core.specs.declared.shown.Shown.{Shown}
 use Rattle.aout_core.specs.declared.shown.Shown.TheVariants.{Help, Version}
@@ -8,11 +8,15 @@ use Rattle.surroundings.specs.Emits.{PutsUnless}
 use Rattle.surroundings.specs.declared.answer.Fault.{Fault}
 use Rattle.surroundings.specs.declared.answer.Fault.TheVariants.{Answered, Memory}
 use Rattle.surroundings.specs.Answer.{Answer}
-use Rattle.surroundings.specs.Events.{History}
+use Rattle.surroundings.specs.Events.{History, Surroundings}
+
+-- with what a program begins a line on a path
+unfoldable pub line_front : List ℕ → List ℕ → List ℕ
+line_front program path = program ++ codes ": " ++ path ++ codes ": "
 
 -- the line with which a program reports a text for a path
-abbrev pub fault_line : List ℕ → List ℕ → List ℕ → List ℕ
-fault_line program path text = program ++ codes ": " ++ path ++ codes ": " ++ text ++ codes "\n"
+unfoldable pub fault_line : List ℕ → List ℕ → List ℕ → List ℕ
+fault_line program path text = line_front program path ++ text ++ codes "\n"
 
 -- nothing but these lines on standard error
 abbrev pub only_errors : List ℕ → ℕ → Answer
@@ -78,6 +82,12 @@ abbrev pub Faults : {A : Type 0} → Result A Answer → Fault → Type 0
 Faults (Ok x) fault = fault ≡ Memory
 Faults (Err answer) fault = HasAnswer fault answer
 
+-- the answer once a file was to be stored at a path: this one, or why it was not stored
+abbrev pub AnswersStored : List ℕ → List ℕ → Answer → Option (List ℕ) → Result Answer Fault → Type 0
+AnswersStored program to answer None result = result ≡ Ok answer
+AnswersStored program to answer (Some why) (Ok other) = ⊥
+AnswersStored program to answer (Some why) (Err fault) = HasAnswer fault (failed_at program to why)
+
 -- ---- what goes out
 
 -- what goes to standard error, and the status, if standard output failed or did not
@@ -94,3 +104,10 @@ pub record Gives {W E : Type 0} (contents : W → Option (List ℕ)) (error_cont
   pub reported : PutsUnless new_error.has_failed (error_contents error.device) (error_contents new_error.device)
       (errors_unless program new_output.has_failed answer)
   pub ends : status ≡ status_unless new_output.has_failed answer
+
+-- a program does this, and its answer goes out
+abbrev pub IsPerformed : {W E : Type 0} → (W → Option (List ℕ)) → (E → Option (List ℕ)) → List ℕ →
+    (History → History → Result Answer Fault → Type 0) → Surroundings W E → Surroundings W E → ℕ → Type 0
+IsPerformed contents error_contents program Does before after status =
+    (result : Result Answer Fault) × Does before.asked after.asked result
+    × Gives contents error_contents program (answer_in program result) before.output after.output before.error after.error status

@@ -4,6 +4,7 @@ ghost use Rattle.aout_core.specs.Wires.{Writes};
 ghost use Rattle.surroundings.specs.declared.answer.Fault.TheVariants.{Memory};
 ghost use Rattle.surroundings.specs.Answers.{Gives, HasAnswer, answer_in, errors_unless, failed_at, fault_answer, only_errors, says_usage, shown_by, shown_in, shows, status_unless};
 
+use crate::lines::put_fault_line;
 use crate::outputs::Outputs;
 use aout_core::{DeviceFault, Shown, VERSION, Wire};
 use std::alloc::{AllocError, AllocFailed, Global};
@@ -71,12 +72,7 @@ fn answer_at(alloc: Global, program: &str, path: &str, text: &str) -> Result<Ans
     ensures { IfOk result (λ a. a ≡ failed_at program.now path.now text.now) }
 {
     let mut line = Text::new(alloc);
-    line.put(program);
-    line.put(": ");
-    line.put(path);
-    line.put(": ");
-    line.put(text);
-    line.put("\n");
+    put_fault_line(&mut line, program, path, text);
     error_answer(alloc, line, 2)
 }
 

@@ -18,6 +18,8 @@
 //! - `check_path`: refuses an output that is the input
 //! - `shown_in`: what an argument asks a program to show of itself
 //! - `error_answer`, `fault_at`, `usage_answer`, `shown_answer`: answers
+//! - `put_line_front`, `put_fault_line`: the lines in which a program says something of a path
+//! - `put_object_fault`: why a file is not an object, in such a line
 //! - `give`: writes an answer
 #![tactic(auto)]
 
@@ -25,6 +27,7 @@ mod answer;
 mod arguments;
 mod disk;
 mod held;
+mod lines;
 mod office;
 mod outputs;
 mod paths;
@@ -37,6 +40,7 @@ pub use answer::{
 pub use arguments::words;
 pub use disk::Disk;
 pub use held::{end, hold_streams};
+pub use lines::{put_fault_line, put_line_front, put_object_fault};
 pub use office::{Office, Stored, stored_text};
 pub use outputs::Outputs;
 pub use paths::{PlainPaths, check_path};

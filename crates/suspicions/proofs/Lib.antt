@@ -1,5 +1,4 @@
 pub mod MarkLemmas
 pub mod SpreadLemmas
 pub mod ReachLemmas
-pub mod TrustLemmas
 pub mod SureLemmas

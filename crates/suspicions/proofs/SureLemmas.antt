@@ -31,7 +31,8 @@ use Rattle.suspicions.specs.declared.trust.Trust.{Trust}
 use Rattle.suspicions.specs.Reached.{branch_of, is_reached}
 use Rattle.suspicions.specs.ReachedLaw.{IsReached, Evident, Led}
 use Rattle.suspicions.specs.Trust.{is_sure, is_likely, is_plain, past_place, trust}
-use Rattle.suspicions.specs.Branches.{word_place, has_word_at, enters, entered_by, entered, suspicious_entry, suspicious_target, suspicious_branch}
+use Rattle.suspicions.specs.Branches.{word_place, has_word_at, enters, entered_by}
+use Rattle.suspicions.specs.Branches.{entered, suspicious_entry, suspicious_target, suspicious_branch}
 use Rattle.suspicions.specs.Suspicions.{reloc_place, may_begin, differ, suspicious_bit, suspicious_by, suspicious_lack, suspicious_plain}
 use Rattle.suspicions.specs.Suspicions.{suspicious_operand, suspicious_line, suspicious_at, suspicious_place, suspicious_words}
 use Rattle.suspicions.specs.SureSuspicions.{sure_trust, sure_suspicions_from, sure_suspicions}

@@ -1,6 +1,6 @@
 //! A text that grows, and remembers whether memory ran out for it.
 ghost use Rattle.std.specs.Prelude.{◌≡◌, ◌∷◌, [], true, false, decimal, IfOk, IsErr};
-ghost use Rattle.texts.specs.Numbers.{six_digits, three_digits, octal};
+ghost use Rattle.texts.specs.Numbers.{six_digits, three_digits, octal, octal_and_decimal, padded_octal};
 ghost use Rattle.texts.specs.Names.{escaped, printable_byte, printable_bytes, printable_name};
 ghost use Rattle.texts.specs.Columns.{blanks, at_left, at_right};
 ghost use Rattle.texts.specs.Texts.{nothing_written, Puts};
@@ -94,6 +94,29 @@ impl Text {
         ensures { Puts self.old self.new (octal number) }
     {
         self.put_bytes(OctalBuffer::new().format(number));
+    }
+
+    /// Puts a number in octal at the end, with zeros in front up to six digits. A larger number has more.
+    pub fn put_padded_octal(&mut self, number: u64)
+        ensures { Puts self.old self.new (padded_octal number) }
+    {
+        if number < 0o1000000 {
+            self.put_six_digits(number as u32);
+        } else {
+            self.put_octal(number);
+        }
+    }
+
+    /// Puts a number at the end in octal after a 0, and in decimal: `020 (16)`.
+    #[tactic(auto, unfolding(crate::specs::Numbers::octal_and_decimal))]
+    pub fn put_octal_and_decimal(&mut self, number: u64)
+        ensures { Puts self.old self.new (octal_and_decimal number) }
+    {
+        self.put("0");
+        self.put_octal(number);
+        self.put(" (");
+        self.put_decimal(number);
+        self.put(")");
     }
 
     /// Puts a number in decimal at the end.

@@ -1,30 +1,29 @@
 -- The objects of a map as a session takes them, and the map of these.
-use Rattle.std.proofs.Common.{◌≡◌, ◌≢◌, ℕ, Bool, true, false, eqb, List, [], ◌∷◌, ◌++◌, Option, Some, None, map, refl, sym, ap, ◌∙◌}
+use Rattle.std.proofs.Common.{◌≡◌, ◌≢◌, ℕ, Bool, true, false, eqb, List, Option, Some, None, map, refl, sym, ap, ◌∙◌}
 use Rattle.std.proofs.Common.{◌⊎◌, subst, inl, inr, arith}
 use Rattle.std.proofs.lemmas.Bool.Decides.{nat_tests}
-use Rattle.std.specs.Prelude.{Result, Ok, Err, IfSome, String, Vec, is_some, not, if◌then◌else◌}
+use Rattle.std.specs.Prelude.{Result, Ok, Err, IfSome, String, Vec, is_some, not}
 use Rattle.std.specs.declared.alloc.Global.{Global}
-use Rattle.aout_core.specs.WellFormed.{first_of}
 use Rattle.command_words.specs.Calls.{AsksForNone, IsAsked, IsWhole, dashes_in, files_of}
 use Rattle.command_words.specs.declared.fault.WordsFault.TheVariants.{Usage}
 use Rattle.command_words.specs.declared.words.Call.{Call}
 use Rattle.command_words.specs.declared.words.Call.TheVariants.{Ld, Nm, Session, Size, Strip}
-use Rattle.link_maps.specs.Members.{all_of, cause_of, left_of}
+use Rattle.link_maps.specs.Members.{all_of, cause_of}
 use Rattle.link_maps.specs.Rows.{IsOutcome}
+use Rattle.link_maps.specs.Taking.{Split, split, split_of, with_object}
 use Rattle.link_maps.specs.declared.map.LinkMap.{LinkMap}
 use Rattle.link_maps.specs.declared.members.Objects.{Objects}
 use Rattle.link_maps.specs.declared.members.Refused.{Refused}
 use Rattle.link_maps.specs.declared.outcome.Outcome.{Outcome as Made}
+use Rattle.link_maps.proofs.TakingLemmas.{none_split, none_yet, split_more}
 use Rattle.link_out.specs.Outcomes.{IsLinkOf}
 use Rattle.link_out.specs.declared.linked.LinkFault.{LinkFault}
 use Rattle.link_out.specs.declared.linked.LinkFault.TheVariants.{DoesNotFit, Memory, SymbolNumber, TooManySymbols}
 use Rattle.link_out.specs.declared.linked.Linked.{Linked}
 use Rattle.link_out.specs.function.Link.{Outcome, link}
 use Rattle.link_session.specs.Labelled.{Labelled, objects}
-use Rattle.link_session.specs.Limits.{refusal}
 use Rattle.link_session.specs.Sessions.{nothing_kept}
 use Rattle.link_session.specs.Undo.{Kept}
-use Rattle.link_session.specs.declared.entry.AddFault.{AddFault}
 use Rattle.surroundings.specs.Answer.{Answer}
 use Rattle.surroundings.specs.Answers.{AnswersOr, says_usage}
 use Rattle.surroundings.specs.Events.{History}
@@ -32,45 +31,18 @@ use Rattle.surroundings.specs.declared.answer.Fault.{Fault}
 use Rattle.surroundings.specs.declared.answer.Fault.TheVariants as faults
 use Rattle.tool_options.specs.Choices.{Choices}
 use Rattle.v7_explain.specs.Joined.{either, nothing_said, usage}
-use Rattle.v7_explain.specs.Maps.{AreTaken, IsMap, IsMapCall, IsMapping, IsTaking, MapsCall, Split, Taken, link_words, map_status}
+use Rattle.v7_explain.specs.Maps.{AreTaken, IsMap, IsMapCall, IsMapping, IsTaking, MapsCall, Taken, link_words, map_status}
 use Rattle.v7_explain.specs.Maps.{answer_of, nothing_taken, status_by, status_linked}
-use Rattle.v7_explain.specs.Maps.{not_split, split, split_by, split_from, with_object}
-use Rattle.v7_explain.specs.internal.Takes.{IsMapAnswer, KeepsSplit, split_of, status_made, status_mapped, taken_by, taken_of}
+use Rattle.v7_explain.specs.internal.Takes.{IsMapAnswer, KeepsSplit, status_made, status_mapped, taken_by, taken_of}
 use Rattle.v7_explain.proofs.TakingLemmas.{taking_memory}
 
 -- ---- objects that a session takes, up to a limit
 
-abbrev split_with : Option AddFault → List Labelled → List Labelled → Split
-split_with cause kept left = record { kept = kept; cause = cause; left = left }
-
--- as the code has it
-split_step : (s : Split) (x : Labelled) (cause : Option AddFault) (kept left : List Labelled) →
-    kept ≡ (if is_some cause then s.kept else s.kept ++ x ∷ []) → left ≡ (if is_some cause then s.left ++ x ∷ [] else []) →
-    split_with cause kept left ≡ split_by s x cause
-split_step s x None kept left k l = ap (λ (es : List Labelled). split_with None es left) k ∙ ap (split_with None (s.kept ++ x ∷ [])) l
-split_step s x (Some limit) kept left k l = ap (λ (es : List Labelled). split_with (Some limit) es left) k
-    ∙ ap (split_with (Some limit) s.kept) l
-
 -- one more object
-split_more : (forced : List (List ℕ)) (s : Split) (xs : List Labelled) (x : Labelled) →
-    split_from forced s (xs ++ x ∷ []) ≡ with_object forced (split_from forced s xs) x
-split_more forced s [] x = refl
-split_more forced s (y ∷ ys) x = split_more forced (with_object forced s y) ys x
-
--- one more object, as the code takes it
-pub keeps_split : (old new : Objects) (x : Labelled) →
-    cause_of new.refused ≡ first_of (cause_of old.refused) (refusal old.session.forced (objects old.session.entries) x.object) →
-    left_of new.refused ≡ (if is_some (cause_of new.refused) then left_of old.refused ++ x ∷ [] else []) →
-    new.session.entries ≡ (if is_some (cause_of new.refused) then old.session.entries else old.session.entries ++ x ∷ []) →
-    all_of new ≡ all_of old ++ x ∷ [] → new.session.forced ≡ old.session.forced → KeepsSplit old → KeepsSplit new
-keeps_split old new x cause left entries all forced h =
-    let f : List (List ℕ) = old.session.forced in
-    let step : split_of new ≡ split_by (split_of old) x (cause_of new.refused) =
-    split_step (split_of old) x (cause_of new.refused) new.session.entries (left_of new.refused) entries left in
-    step ∙ ap (split_by (split_of old) x) cause
-    ∙ ap (λ (s : Split). with_object f s x) h
-    ∙ sym (split_more f not_split (all_of old) x)
-    ∙ ap (split f) (sym all)
+pub keeps_split : (old new : Objects) (x : Labelled) → split_of new ≡ with_object old.session.forced (split_of old) x →
+    new.session.forced ≡ old.session.forced → KeepsSplit old → KeepsSplit new
+keeps_split old new x taken forced h =
+    split_more old.session.forced old new x refl taken h
     ∙ ap (λ (names : List (List ℕ)). split names (all_of new)) (sym forced)
 
 -- ---- the status
@@ -95,24 +67,15 @@ mapped_status (Some o) (Some r) kept choices h is = absurd (cc)
 
 -- ---- a map, after the files were taken
 
-none_yet : (forced : List (List ℕ)) (o : Objects) → o.session ≡ nothing_kept forced → o.refused ≡ None → all_of o ≡ []
-none_yet forced o session refused =
-    ap (λ (k : Kept). k.entries ++ left_of o.refused) session ∙ ap (λ (r : Option Refused). left_of r) refused
-
 begins : (forced : List (List ℕ)) (o : Objects) → o.session ≡ nothing_kept forced → o.refused ≡ None →
     taken_of o nothing_said ≡ nothing_taken
 begins forced o session refused =
     ap (λ (os : List Labelled). let taken : Taken = record { objects = os; said = nothing_said } in taken)
     (none_yet forced o session refused)
 
-none_split : (forced : List (List ℕ)) (o : Objects) → o.session ≡ nothing_kept forced → o.refused ≡ None → KeepsSplit o
-none_split forced o session refused =
-    ap (λ (k : Kept). split_with (cause_of o.refused) k.entries (left_of o.refused)) session
-    ∙ ap (λ (r : Option Refused). split_with (cause_of r) [] (left_of r)) refused
-    ∙ sym (ap (λ (os : List Labelled). split o.session.forced os) (none_yet forced o session refused))
-
 -- memory ran out
-pub map_ends : (asked forced : List (List ℕ)) (choices : Choices) (paths : List (List ℕ)) (old new : History) (o n : Objects) (fault : Fault)
+pub map_ends : (asked forced : List (List ℕ)) (choices : Choices) (paths : List (List ℕ)) (old new : History) (o n : Objects)
+    (fault : Fault)
     (result : Result Answer Fault) → o.session ≡ nothing_kept forced → o.refused ≡ None →
     IsTaking old new (taken_of o nothing_said) paths (taken_by n (Err fault)) → result ≡ Err fault →
     IsMapping asked forced choices paths old new result
@@ -129,7 +92,8 @@ abbrev pub answered : Answer → Result Answer Fault
 answered said = Ok said
 
 -- some files are not objects
-pub map_refused : (asked forced : List (List ℕ)) (choices : Choices) (paths : List (List ℕ)) (old new : History) (o n : Objects) (said : Answer) →
+pub map_refused : (asked forced : List (List ℕ)) (choices : Choices) (paths : List (List ℕ)) (old new : History) (o n : Objects)
+    (said : Answer) →
     o.session ≡ nothing_kept forced → o.refused ≡ None → IsTaking old new (taken_of o nothing_said) paths (taken_by n (Ok said)) →
     said.status ≢ 0 → IsMapping asked forced choices paths old new (Ok said)
 map_refused asked forced choices paths old new o n said session refused takes status =
@@ -162,14 +126,10 @@ map_out asked forced choices paths old new o n said result session refused takes
 
 -- the objects as a session takes them
 are_taken : (forced : List (List ℕ)) (n : Objects) → n.session.forced ≡ forced → KeepsSplit n → AreTaken forced (all_of n) n
-are_taken forced n names keeps =
-    let is : split_of n ≡ split forced (all_of n) = keeps ∙ ap (λ (f : List (List ℕ)). split f (all_of n)) names in
-    record {
-      forced_names = names;
-      kept = ap (λ (s : Split). s.kept) is;
-      cause = ap (λ (s : Split). s.cause) is;
-      left = ap (λ (s : Split). s.left) is;
-    }
+are_taken forced n names keeps = record {
+  forced_names = names;
+  taken = keeps ∙ ap (λ (f : List (List ℕ)). split f (all_of n)) names;
+}
 
 abbrev answer_with : List (List ℕ) → Choices → Objects → LinkMap → ℕ → Result Answer Fault
 answer_with asked choices o m status = Ok (answer_of asked choices o m status)
@@ -184,8 +144,7 @@ maps_all asked forced choices n a taken (m, map, same) =
     let defined : status_mapped m.outcome ≡ map_status forced choices s =
     coded
     ∙ ap (λ (f : List (List ℕ)). status_by (cause_of n.refused) (link f (objects n.session.entries) choices)) taken.forced_names
-    ∙ ap (λ (es : List Labelled). status_by (cause_of n.refused) (link forced (objects es) choices)) taken.kept
-    ∙ ap (λ (cause : Option AddFault). status_by cause (link forced (objects s.kept) choices)) taken.cause in
+    ∙ ap (map_status forced choices) taken.taken in
     inr (
       n,
       m,
@@ -196,19 +155,21 @@ maps_all asked forced choices n a taken (m, map, same) =
     )
 
 -- all are, and there is a map
-pub map_made : (asked forced : List (List ℕ)) (choices : Choices) (paths : List (List ℕ)) (old new : History) (o n : Objects) (said a : Answer) →
+pub map_made : (asked forced : List (List ℕ)) (choices : Choices) (paths : List (List ℕ)) (old new : History) (o n : Objects)
+    (said a : Answer) →
     o.session ≡ nothing_kept forced → o.refused ≡ None → IsTaking old new (taken_of o nothing_said) paths (taken_by n (Ok said)) →
     said.status ≡ 0 → (KeepsSplit o → KeepsSplit n) → n.session.forced ≡ o.session.forced → IsMapAnswer asked n forced choices a →
     IsMapping asked forced choices paths old new (Ok a)
 map_made asked forced choices paths old new o n said a session refused takes status keeps same map =
     let names : n.session.forced ≡ forced = same ∙ ap (λ (k : Kept). k.forced) session in
     maps_by asked forced choices paths old new o n said (Ok a) session refused takes status
-    (maps_all asked forced choices n a (are_taken forced n names (keeps (none_split forced o session refused))) map)
+    (maps_all asked forced choices n a (are_taken forced n names (keeps (none_split forced o.session.forced o session refused))) map)
 
 -- ---- what the arguments ask for
 
 -- memory runs out for them
-pub map_call_out : (names words : List (List ℕ)) (old new : History) (result : Result Answer Fault) → new ≡ old → result ≡ Err faults.Memory →
+pub map_call_out : (names words : List (List ℕ)) (old new : History) (result : Result Answer Fault) →
+    new ≡ old → result ≡ Err faults.Memory →
     IsMapCall names words old new result
 map_call_out names words old new result same memory = inl (same, memory)
 
@@ -219,7 +180,8 @@ map_call_none names words all old new result same none still answers =
     inr (inl (subst (λ (ws : List (List ℕ)). AsksForNone ws Usage) same none, still, answers))
 
 -- they ask for a call, which is mapped
-pub map_call_made : (names words all : List (List ℕ)) (call : Call) (old new : History) (result : Result Answer Fault) → all ≡ link_words words →
+pub map_call_made : (names words all : List (List ℕ)) (call : Call) (old new : History) (result : Result Answer Fault) →
+    all ≡ link_words words →
     IsWhole call → IsAsked all call → dashes_in all ≡ dashes_in (files_of call) →
     ((new ≡ old) × (result ≡ Err faults.Memory)) ⊎ MapsCall names call old new result → IsMapCall names words old new result
 map_call_made names words all call old new result same whole asked dashes maps =

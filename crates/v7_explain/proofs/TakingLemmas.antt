@@ -1,14 +1,8 @@
 -- Objects that are taken one after another: which there are then, and what comes of the files that are left.
-use Rattle.std.proofs.Common.{◌≡◌, ℕ, List, [], ◌∷◌, ◌++◌, Option, Some, None, refl, sym, ap, ◌∙◌, subst, inl, inr}
-use Rattle.std.proofs.lemmas.List.{append-nil, append_assoc}
-use Rattle.std.specs.Prelude.{IsOk, Result, Ok, Err, OnOk, if◌then◌else◌, is_some}
+use Rattle.std.proofs.Common.{◌≡◌, ℕ, List, [], ◌∷◌, ◌++◌, refl, sym, ap, ◌∙◌, subst, inl, inr}
+use Rattle.std.specs.Prelude.{IsOk, Result, Ok, Err, OnOk}
 use Rattle.aout_core.specs.Contents.{Contents}
-use Rattle.aout_core.specs.WellFormed.{first_of}
-use Rattle.link_maps.specs.Members.{all_of, cause_of, left_of}
-use Rattle.link_maps.specs.declared.members.Objects.{Objects}
-use Rattle.link_maps.specs.declared.members.Refused.{Refused}
 use Rattle.link_session.specs.Labelled.{Labelled}
-use Rattle.link_session.specs.declared.entry.AddFault.{AddFault}
 use Rattle.surroundings.specs.Answer.{Answer}
 use Rattle.surroundings.specs.Answers.{Faults, failed_at}
 use Rattle.surroundings.specs.Events.{History}
@@ -19,16 +13,6 @@ use Rattle.v7_explain.specs.Files.{program}
 use Rattle.v7_explain.specs.Joined.{joined}
 use Rattle.v7_explain.specs.Maps.{IsTaking, Taken, TakesAt, object_in, with_found}
 use Rattle.v7_explain.specs.internal.Takes.{TakesNext, TakesOne}
-
--- ---- an object is the last one, whether a session took it or not
-
-pub last_of_all : (entries : List Labelled) (refused : Option Refused) (found : Option AddFault) (x : Labelled) →
-    (let cause : Option AddFault = first_of (cause_of refused) found in
-    (if is_some cause then entries else entries ++ x ∷ []) ++ (if is_some cause then left_of refused ++ x ∷ [] else []))
-    ≡ (entries ++ left_of refused) ++ x ∷ []
-last_of_all entries None None x = append-nil (entries ++ x ∷ []) ∙ ap (λ (l : List Labelled). l ++ x ∷ []) (sym (append-nil entries))
-last_of_all entries None (Some fault) x = ap (λ (l : List Labelled). l ++ x ∷ []) (sym (append-nil entries))
-last_of_all entries (Some r) found x = sym (append_assoc entries (left_of (Some r)) (x ∷ []))
 
 -- ---- one after another
 
@@ -101,23 +85,6 @@ pub takes_object : (old new : History) (path bytes : List ℕ) (object : Content
     ReadsAt old new path bytes → object_in path bytes ≡ Ok object → after ≡ before ++ record { label = path; object = object } ∷ [] →
     TakesOne old new path before after (Ok tt)
 takes_object old new path bytes object before after reads is grows = (Ok object, inl (bytes, reads, sym is), inl (refl, grows))
-
--- the objects after one was taken
-pub taken_last : (old new : Objects) (x : Labelled) (found : Option AddFault) →
-    cause_of new.refused ≡ first_of (cause_of old.refused) found →
-    left_of new.refused ≡ (if is_some (cause_of new.refused) then left_of old.refused ++ x ∷ [] else []) →
-    new.session.entries ≡ (if is_some (cause_of new.refused) then old.session.entries else old.session.entries ++ x ∷ []) →
-    all_of new ≡ all_of old ++ x ∷ []
-taken_last old new x found cause left entries =
-    let c : Option AddFault = first_of (cause_of old.refused) found in
-    let left_now : left_of new.refused ≡ (if is_some c then left_of old.refused ++ x ∷ [] else []) =
-    subst (λ (k : Option AddFault). left_of new.refused ≡ (if is_some k then left_of old.refused ++ x ∷ [] else [])) cause left in
-    let entries_now : new.session.entries ≡ (if is_some c then old.session.entries else old.session.entries ++ x ∷ []) =
-    subst (λ (k : Option AddFault). new.session.entries ≡ (if is_some k then old.session.entries else old.session.entries ++ x ∷ []))
-    cause entries in
-    ap (λ (es : List Labelled). es ++ left_of new.refused) entries_now
-    ∙ ap (λ (ls : List Labelled). (if is_some c then old.session.entries else old.session.entries ++ x ∷ []) ++ ls) left_now
-    ∙ last_of_all old.session.entries old.refused found x
 
 -- ---- and what is said of it
 

@@ -2,7 +2,7 @@
 -- or a line of an inventory. (own choice)
 --
 -- What goes to standard output comes with lines for standard error and a status: 1 if there is something to report.
-use Rattle.std.specs.Prelude.{ℕ, Bool, true, false, nat_lt, if◌then◌else◌, codes, decimal}
+use Rattle.std.specs.Prelude.{ℕ, Bool, true, false, nat_lt, if◌then◌else◌, codes}
 use Rattle.std.specs.Prelude.{List, [], ◌∷◌, ◌++◌, length, map, Option, Some, None, Result, Ok, Err}
 use Rattle.std.specs.List.{flat_map}
 use Rattle.aout_core.specs.Contents.{Contents}
@@ -12,7 +12,6 @@ use Rattle.aout_core.specs.declared.file.ReadFault.{ReadFault}
 use Rattle.aout_core.specs.declared.file.ReadFault.TheVariants as faults
 use Rattle.aout_core.specs.declared.header.Header.{Header}
 use Rattle.aout_core.specs.declared.object.ObjectFault.{ObjectFault}
-use Rattle.aout_core.specs.declared.object.ObjectFault.TheVariants as refusals
 use Rattle.disassemblies.specs.Columns.{disassembly}
 use Rattle.disassemblies.specs.Starts.{starts}
 use Rattle.findings.specs.Found.{Found}
@@ -20,15 +19,15 @@ use Rattle.findings.specs.Kinds.{kind_text, or_nothing}
 use Rattle.findings.specs.Notes.{byte_text, header_lines, note_text}
 use Rattle.findings.specs.Odd.{odd}
 use Rattle.findings.specs.OtherFiles.{is_of_gnu, likeness}
-use Rattle.findings.specs.Wrong.{wrong_bytes, wrong_words}
+use Rattle.findings.specs.Wrong.{is_damaged, wrong_bytes, wrong_in, wrong_words}
 use Rattle.instructions.specs.declared.unix.Decoder.TheVariants.{Unix}
 use Rattle.listings.specs.Listing.{listing, note_lines}
 use Rattle.surroundings.specs.Answer.{Answer}
-use Rattle.surroundings.specs.Answers.{only_errors}
+use Rattle.surroundings.specs.Answers.{line_front, only_errors}
 use Rattle.suspicions.specs.SureSuspicions.{sure_suspicions}
 use Rattle.suspicions.specs.Suspicions.{suspicions}
 use Rattle.texts.specs.Lines.{text_of}
-use Rattle.texts.specs.Numbers.{octal}
+use Rattle.texts.specs.Numbers.{octal_and_decimal}
 use Rattle.explanations.specs.Dumps.{dump}
 use Rattle.explanations.specs.Inventories.{file_row, refused_row, row_line}
 use Rattle.explanations.specs.Said.{explained, printed}
@@ -45,15 +44,9 @@ gnu_text =
     codes "this file has the form of GNU's assembler and of 2.11BSD, with symbols of 8 bytes and a table of strings: v7-from-gnu "
     ++ codes "makes an object of it"
 
--- a line for standard error begins with the program and the path
-unfoldable pub front_of : List ℕ → List ℕ → List ℕ
-front_of program path = program ++ codes ": " ++ path ++ codes ": "
-
-abbrev pub line_front : List ℕ → List ℕ
-line_front path = front_of program path
-
+-- a line for standard error
 unfoldable pub line_of : List ℕ → List ℕ → List ℕ
-line_of path text = line_front path ++ text ++ codes "\n"
+line_of path text = line_front program path ++ text ++ codes "\n"
 
 -- ---- findings
 
@@ -74,7 +67,7 @@ reports path found = flat_map (λ f. line_of path (found_text f)) found
 -- ---- notes
 
 unfoldable pub title : List ℕ → ℕ → List ℕ
-title path size = codes " " ++ path ++ codes ": 0" ++ octal size ++ codes " (" ++ decimal size ++ codes ") bytes"
+title path size = codes " " ++ path ++ codes ": " ++ octal_and_decimal size ++ codes " bytes"
 
 -- a note with a text, if there is one
 abbrev pub note_if : Option (List ℕ) → List (List ℕ)
@@ -92,15 +85,6 @@ abbrev pub lines_of : List (List ℕ) → List ℕ
 lines_of notes = text_of (note_lines (map printed notes))
 
 -- ---- damage
-
--- a word makes ld refuse it
-abbrev pub is_damaged : Option ObjectFault → Bool
-is_damaged (Some (refusals.BadRelocation _)) = true
-is_damaged (Some (refusals.BadSymbolNumber _)) = true
-is_damaged _ = false
-
-abbrev pub wrong_in : Option ObjectFault → Contents → List Found
-wrong_in refused c = if is_damaged refused then wrong_words c else []
 
 abbrev pub status_in : Option ObjectFault → ℕ
 status_in refused = if is_damaged refused then 1 else 0

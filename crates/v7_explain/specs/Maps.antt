@@ -2,20 +2,19 @@
 --
 -- The files are those that `ld` takes with the same arguments. Each is read whole before the next one is opened. There is a map if all are
 -- objects; else the answer has a line for each that is not. If names are asked for, the map has only these.
-use Rattle.std.specs.Prelude.{◌≡◌, ◌⊎◌, ℕ, List, [], ◌∷◌, ◌++◌, eqb, map, max, Option, Some, None, Result, Ok, Err, codes, decimal, string_bytes}
+use Rattle.std.specs.Prelude.{◌≡◌, ◌⊎◌, ℕ, List, [], ◌∷◌, ◌++◌, eqb, map, max, Option, Some, None, Result, Ok, Err, codes, string_bytes}
 use Rattle.aout_core.specs.Contents.{Contents}
 use Rattle.aout_core.specs.Decoding.{decode}
-use Rattle.aout_core.specs.WellFormed.{first_object_fault, first_of}
+use Rattle.aout_core.specs.WellFormed.{first_object_fault}
 use Rattle.aout_core.specs.declared.file.ReadFault.{ReadFault}
-use Rattle.aout_core.specs.declared.file.ReadFault.TheVariants as reads
 use Rattle.aout_core.specs.declared.object.ObjectFault.{ObjectFault}
-use Rattle.aout_core.specs.declared.object.ObjectFault.TheVariants.{NotAnObject, NoRelocation, BadRelocation, BadSymbolNumber}
+use Rattle.aout_core.specs.FaultTexts.{object_text, read_text}
 use Rattle.command_words.specs.Calls.{AsksForNone, IsAsked, IsWhole, dashes_in, files_of}
 use Rattle.command_words.specs.declared.fault.WordsFault.TheVariants.{Usage}
 use Rattle.command_words.specs.declared.words.Call.{Call}
 use Rattle.command_words.specs.declared.words.Call.TheVariants.{Ld}
 use Rattle.link_maps.specs.Maps.{IsMapOf}
-use Rattle.link_maps.specs.Members.{cause_of, left_of}
+use Rattle.link_maps.specs.Taking.{Split, split, split_of}
 use Rattle.link_maps.specs.declared.map.LinkMap.{LinkMap}
 use Rattle.link_maps.specs.declared.members.Objects.{Objects}
 use Rattle.link_out.specs.declared.linked.LinkFault.{LinkFault}
@@ -23,7 +22,6 @@ use Rattle.link_out.specs.function.Link.{Outcome, link}
 use Rattle.link_out.specs.function.Reports.{status_of}
 use Rattle.link_session.specs.declared.entry.AddFault.{AddFault}
 use Rattle.link_session.specs.Labelled.{Labelled, objects}
-use Rattle.link_session.specs.Limits.{refusal}
 use Rattle.map_texts.specs.MapTexts.{absent_names, map_text, names_map}
 use Rattle.surroundings.specs.Answer.{Answer}
 use Rattle.surroundings.specs.Answers.{AnswersOr, failed_at, only_errors, says_usage}
@@ -36,23 +34,6 @@ use Rattle.v7_explain.specs.Files.{line_of, program}
 use Rattle.v7_explain.specs.Joined.{either, joined, nothing_said, usage}
 
 -- ---- objects
-
-abbrev pub read_text : ReadFault → List ℕ
-read_text reads.ShortHeader = codes "short header"
-read_text reads.BadMagic = codes "bad magic number"
-read_text reads.OddSize = codes "odd size"
-read_text reads.Truncated = codes "truncated"
-read_text reads.Device = codes "read error"
-read_text reads.Memory = codes "no memory"
-
-abbrev pub at_word : List ℕ → ℕ → List ℕ
-at_word text n = text ++ codes " at word " ++ decimal n
-
-abbrev pub object_text : ObjectFault → List ℕ
-object_text NotAnObject = codes "not an object"
-object_text NoRelocation = codes "no relocation"
-object_text (BadRelocation n) = at_word (codes "bad relocation") n
-object_text (BadSymbolNumber n) = at_word (codes "bad symbol number") n
 
 -- a file is refused, with the status 1
 abbrev pub refused_for : List ℕ → List ℕ → Answer
@@ -94,30 +75,6 @@ IsTaking old new taken (path ∷ paths) result =
 
 -- ---- the map
 
--- the objects that a session keeps, the limit that the next one passes, and that one with those after it
-pub record Split : Type 0 where
-  pub kept : List Labelled
-  pub cause : Option AddFault
-  pub left : List Labelled
-
-abbrev pub not_split : Split
-not_split = record { kept = []; cause = None; left = [] }
-
-abbrev pub split_by : Split → Labelled → Option AddFault → Split
-split_by s x None = record { kept = s.kept ++ x ∷ []; cause = None; left = [] }
-split_by s x (Some limit) = record { kept = s.kept; cause = Some limit; left = s.left ++ x ∷ [] }
-
--- with one more object; after one that is refused all are left
-abbrev pub with_object : List (List ℕ) → Split → Labelled → Split
-with_object forced s x = split_by s x (first_of s.cause (refusal forced (objects s.kept) x.object))
-
-abbrev pub split_from : List (List ℕ) → Split → List Labelled → Split
-split_from forced s [] = s
-split_from forced s (x ∷ xs) = split_from forced (with_object forced s x) xs
-
-abbrev pub split : List (List ℕ) → List Labelled → Split
-split forced xs = split_from forced not_split xs
-
 abbrev pub status_linked : Result Outcome LinkFault → ℕ
 status_linked (Ok made) = status_of made.report
 status_linked (Err fault) = 1
@@ -133,9 +90,7 @@ map_status forced choices s = status_by s.cause (link forced (objects s.kept) ch
 -- these objects, as a session with these forced names takes them
 pub record AreTaken (forced : List (List ℕ)) (xs : List Labelled) (o : Objects) : Type 0 where
   pub forced_names : o.session.forced ≡ forced
-  pub kept : o.session.entries ≡ (split forced xs).kept
-  pub cause : cause_of o.refused ≡ (split forced xs).cause
-  pub left : left_of o.refused ≡ (split forced xs).left
+  pub taken : split_of o ≡ split forced xs
 
 -- the text of a map: the whole one, or only the names that are asked for
 abbrev pub text_asked : List (List ℕ) → Choices → Objects → LinkMap → List ℕ

@@ -7,8 +7,8 @@ use Rattle.std.specs.Prelude.{List, [], ◌∷◌, ◌++◌, take, Option, Some,
 use Rattle.std.specs.List.{starts_with}
 use Rattle.aout_core.specs.Names.{before_nul}
 use Rattle.surroundings.specs.Answer.{Answer}
-use Rattle.surroundings.specs.Answers.{AnswersOr, Checks, Gives, HasAnswer, IsShownOr}
-use Rattle.surroundings.specs.Answers.{answer_in, failed_at, only_errors, says_usage, shown_in}
+use Rattle.surroundings.specs.Answers.{AnswersOr, AnswersStored, Checks, IsPerformed, IsShownOr}
+use Rattle.surroundings.specs.Answers.{failed_at, only_errors, says_usage, shown_in}
 use Rattle.surroundings.specs.Events.{History, Extends, Surroundings, opened, written}
 use Rattle.surroundings.specs.Paths.{path_answer}
 use Rattle.surroundings.specs.Sources.{EndsReading, ReadsAt, stored_text, unread_text}
@@ -66,17 +66,12 @@ IsWalk folders old new paths result =
 abbrev pub rest_of : Answer → Answer
 rest_of said = only_errors said.errors said.status
 
--- what is reported once the listing was to be stored, or why it was not stored
-abbrev pub AnswersStored : List ℕ → Answer → Option (List ℕ) → Result Answer Fault → Type 0
-AnswersStored to said None result = result ≡ Ok (rest_of said)
-AnswersStored to said (Some why) (Ok answer) = ⊥
-AnswersStored to said (Some why) (Err fault) = HasAnswer fault (failed_at program to why)
-
 -- the listing is stored if there is nothing to report
 abbrev pub IsStoring : List ℕ → Answer → History → History → Result Answer Fault → Type 0
 IsStoring to said old new result =
     either (eqb said.status 0)
-    ((what : Stored) × Extends old new (written to said.output what ∷ []) × AnswersStored to said (stored_text what) result)
+    ((what : Stored) × Extends old new (written to said.output what ∷ [])
+    × AnswersStored program to (rest_of said) (stored_text what) result)
     ((new ≡ old) × (result ≡ Ok (rest_of said)))
 
 -- the bytes of a file are listed, and the listing is stored; or memory ran out before
@@ -187,5 +182,4 @@ IsAnswer folders words old new result =
 abbrev pub PerformsExplain : {W E : Type 0} → (W → Option (List ℕ)) → (E → Option (List ℕ)) → Option Folders → List (List ℕ) →
     Surroundings W E → Surroundings W E → ℕ → Type 0
 PerformsExplain contents error_contents folders words before after status =
-    (result : Result Answer Fault) × IsAnswer folders words before.asked after.asked result
-    × Gives contents error_contents program (answer_in program result) before.output after.output before.error after.error status
+    IsPerformed contents error_contents program (IsAnswer folders words) before after status

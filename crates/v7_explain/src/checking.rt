@@ -8,12 +8,11 @@ ghost use Rattle.surroundings.specs.Answers.{only_errors};
 ghost use Rattle.v7_explain.specs.Files.{checked, checked_as, gnu_line, line_if, line_of, refused_lines, status_of};
 
 use crate::source::{
-    GNU_NOTE, Source, as_object, decoded, is_damaged, likeness_of, put_front, put_reports,
-    put_text_line,
+    GNU_NOTE, Source, decoded, likeness_of, put_front, put_reports, put_text_line,
 };
-use aout_core::{File, Header, ObjectFault, ReadFault};
+use aout_core::{File, Header, ObjectFault, ReadFault, object_fault};
 use disassemblies::Sweep;
-use findings::{Finding, is_of_gnu, put_kind, wrong_bytes, wrong_words};
+use findings::{Finding, is_damaged, is_of_gnu, put_kind, wrong_bytes, wrong_words};
 use std::alloc::{AllocError, Global};
 use surroundings::{Answer, error_answer};
 use suspicions::sure_suspicions_of;
@@ -84,16 +83,16 @@ fn check_object(alloc: Global, path: &str, file: &File) -> Result<Answer, AllocE
 }
 
 /// Why a file is not an object, if it is not; or what is suspicious for sure in it.
-fn check_file(alloc: Global, path: &str, file: File) -> Result<Answer, AllocError>
-    ensures { IfOk result (λ answer. answer ≡ checked_as path.now file (first_object_fault file)) }
+fn check_file(alloc: Global, path: &str, file: &File) -> Result<Answer, AllocError>
+    ensures { IfOk result (λ answer. answer ≡ checked_as path.now file.now (first_object_fault file.now)) }
 {
-    let (file, refused) = as_object(file);
+    let refused = object_fault(file);
     if refused.is_none() {
-        return check_object(alloc, path, &file);
+        return check_object(alloc, path, file);
     }
     let mut lines = Text::new(alloc);
     if is_damaged(refused) {
-        let wrong = wrong_words(alloc, &file)?;
+        let wrong = wrong_words(alloc, file)?;
         put_reports(&mut lines, path, &wrong);
     } else {
         put_kind_line(&mut lines, path, file.header(), refused);
@@ -107,7 +106,7 @@ pub(crate) fn check(alloc: Global, source: Source<'_>) -> Result<Answer, AllocEr
         answer ≡ checked source.entry.path.now source.entry.bytes.now) }
 {
     match decoded(alloc, source.bytes)? {
-        Ok(file) => check_file(alloc, source.path, file),
+        Ok(file) => check_file(alloc, source.path, &file),
         Err(fault) => check_refused(alloc, source, fault),
     }
 }

@@ -2,25 +2,24 @@
 ghost use Rattle.std.specs.Prelude.{◌≡◌, IfOk};
 ghost use Rattle.aout_core.specs.WellFormed.{first_object_fault};
 ghost use Rattle.explanations.specs.Inventories.{file_row, refused_row};
-ghost use Rattle.findings.specs.Wrong.{wrong_bytes};
-ghost use Rattle.v7_explain.specs.Files.{inventoried, row_said, wrong_in};
+ghost use Rattle.findings.specs.Wrong.{wrong_bytes, wrong_in};
+ghost use Rattle.v7_explain.specs.Files.{inventoried, row_said};
 
-use crate::source::{Source, as_object, decoded, wrong_in};
-use aout_core::{File, ReadFault};
+use crate::source::{Source, decoded};
+use aout_core::{File, ReadFault, object_fault};
 use explanations::{InventoryRow, file_row, put_row, refused_row};
-use findings::wrong_bytes;
+use findings::{wrong_bytes, wrong_in};
 use std::alloc::{AllocError, Global};
 use surroundings::Answer;
 use texts::Text;
 
 /// What the inventory says of a file.
-fn row_of_file(alloc: Global, bytes: &[u8], file: File) -> Result<InventoryRow, AllocError>
+fn row_of_file(alloc: Global, bytes: &[u8], file: &File) -> Result<InventoryRow, AllocError>
     ensures { IfOk result (λ row.
-        row ≡ file_row bytes.now file (wrong_in (first_object_fault file) file)) }
+        row ≡ file_row bytes.now file.now (wrong_in (first_object_fault file.now) file.now)) }
 {
-    let (file, refused) = as_object(file);
-    let wrong = wrong_in(alloc, &file, refused)?;
-    file_row(alloc, bytes, &file, &wrong)
+    let wrong = wrong_in(alloc, file, object_fault(file))?;
+    file_row(alloc, bytes, file, &wrong)
 }
 
 /// What the inventory says of bytes that do not make a file for this reason.
@@ -50,7 +49,7 @@ pub(crate) fn take_inventory(alloc: Global, source: Source<'_>) -> Result<Answer
         answer ≡ inventoried source.entry.path.now source.entry.bytes.now) }
 {
     let row = match decoded(alloc, source.bytes)? {
-        Ok(file) => row_of_file(alloc, source.bytes, file)?,
+        Ok(file) => row_of_file(alloc, source.bytes, &file)?,
         Err(fault) => row_of_bytes(alloc, source.bytes, fault)?,
     };
     line_of(alloc, source.path, &row)

@@ -2,17 +2,17 @@
 ghost use Rattle.std.specs.Prelude.{◌≡◌, false, IfOk};
 ghost use Rattle.aout_core.specs.WellFormed.{first_object_fault};
 ghost use Rattle.findings.specs.Found.{all_found};
-ghost use Rattle.v7_explain.specs.Files.{list_findings, list_notes, listed, listed_as, listing_with, wrong_in};
+ghost use Rattle.findings.specs.Wrong.{wrong_in};
+ghost use Rattle.v7_explain.specs.Files.{list_findings, list_notes, listed, listed_as, listing_with};
 ghost use Rattle.v7_explain.specs.internal.Notes.{HasNotes};
 
 use crate::source::{
-    Source, as_object, decoded, explain_refused, front_notes, put_found, put_gnu_note, reported,
-    status_in, wrong_in,
+    Source, decoded, explain_refused, front_notes, put_found, put_gnu_note, reported, status_in,
 };
-use aout_core::{File, ObjectFault};
+use aout_core::{File, ObjectFault, object_fault};
 use disassemblies::Sweep;
 use explanations::write_explained;
-use findings::{Finding, Notes, odd_of, put_header};
+use findings::{Finding, Notes, odd_of, put_header, wrong_in};
 use std::alloc::{AllocError, Global};
 use surroundings::Answer;
 use suspicions::suspicions_of;
@@ -71,15 +71,15 @@ fn list_file(
     alloc: Global,
     source: Source<'_>,
     is_reported: bool,
-    file: File,
+    file: &File,
 ) -> Result<Answer, AllocError>
     ensures { IfOk result (λ answer. answer ≡ listed_as is_reported source.entry.path.now
-        source.entry.bytes.now file (first_object_fault file)) }
+        source.entry.bytes.now file.now (first_object_fault file.now)) }
 {
-    let (file, refused) = as_object(file);
-    let wrong = wrong_in(alloc, &file, refused)?;
-    let notes = list_notes(alloc, source, &file, refused);
-    let sweep = Sweep::new(alloc, &file)?;
+    let refused = object_fault(file);
+    let wrong = wrong_in(alloc, file, refused)?;
+    let notes = list_notes(alloc, source, file, refused);
+    let sweep = Sweep::new(alloc, file)?;
     let findings = list_findings(alloc, source.bytes, &sweep, refused, &wrong)?;
     Ok(Answer {
         output: listing_with(alloc, &sweep, &notes, &findings)?,
@@ -98,7 +98,7 @@ pub(crate) fn list(
         answer ≡ listed is_reported source.entry.path.now source.entry.bytes.now) }
 {
     match decoded(alloc, source.bytes)? {
-        Ok(file) => list_file(alloc, source, is_reported, file),
+        Ok(file) => list_file(alloc, source, is_reported, &file),
         Err(fault) => explain_refused(alloc, source, is_reported, fault),
     }
 }

@@ -1,12 +1,13 @@
 //! The objects of a link, from their files.
 ghost use Rattle.std.specs.Prelude.{◌≡◌, ◌≢◌, IfErr, IfOk, Err, Ok, map, string_bytes};
+ghost use Rattle.aout_core.specs.FaultTexts.{object_text, read_text};
 ghost use Rattle.link_maps.specs.Members.{all_of};
 ghost use Rattle.surroundings.specs.Answers.{Faults};
 ghost use Rattle.surroundings.specs.declared.answer.Fault.TheVariants.{Memory};
 ghost use Rattle.texts.specs.Texts.{Puts};
 ghost use Rattle.v7_explain.specs.Files.{line_of};
 ghost use Rattle.v7_explain.specs.Joined.{nothing_said};
-ghost use Rattle.v7_explain.specs.Maps.{IsTaking, at_word, object_in, object_text, read_text, refused_for};
+ghost use Rattle.v7_explain.specs.Maps.{IsTaking, object_in, refused_for};
 ghost use Rattle.v7_explain.specs.internal.Takes.{KeepsSplit, TakesNext, TakesOne, taken_by, taken_of};
 
 use crate::explaining::{join, nothing_said};
@@ -15,50 +16,15 @@ use crate::source::{decoded, put_front, put_text_line};
 use aout_core::{Object, ObjectFault, ReadFault};
 use link_maps::Objects;
 use std::alloc::{AllocError, Global};
-use surroundings::{Answer, Fault, Office, error_answer, read_whole};
+use surroundings::{Answer, Fault, Office, error_answer, put_object_fault, read_whole};
 use texts::Text;
-
-/// Why bytes are not a file.
-fn read_text(fault: ReadFault) -> &'static str
-    ensures { result.now ≡ read_text fault }
-{
-    match fault {
-        ReadFault::ShortHeader => "short header",
-        ReadFault::BadMagic => "bad magic number",
-        ReadFault::OddSize => "odd size",
-        ReadFault::Truncated => "truncated",
-        ReadFault::Device => "read error",
-        ReadFault::Memory => "no memory",
-    }
-}
-
-/// Puts what is bad at a word.
-fn put_at_word(line: &mut Text, bad: &str, n: u16)
-    ensures { Puts line.old line.new (at_word bad.now n) }
-{
-    line.put(bad);
-    line.put(" at word ");
-    line.put_decimal(u64::from(n));
-}
-
-/// Puts why a file is not an object.
-fn put_object_text(line: &mut Text, fault: ObjectFault)
-    ensures { Puts line.old line.new (object_text fault) }
-{
-    match fault {
-        ObjectFault::NotAnObject => line.put("not an object"),
-        ObjectFault::NoRelocation => line.put("no relocation"),
-        ObjectFault::BadRelocation(n) => put_at_word(line, "bad relocation", n),
-        ObjectFault::BadSymbolNumber(n) => put_at_word(line, "bad symbol number", n),
-    }
-}
 
 /// The answer that bytes are not a file.
 fn not_read(alloc: Global, path: &str, fault: ReadFault) -> Result<Answer, AllocError>
     ensures { IfOk result (λ a. a ≡ refused_for path.now (read_text fault)) }
 {
     let mut line = Text::new(alloc);
-    put_text_line(&mut line, path, read_text(fault));
+    put_text_line(&mut line, path, fault.text());
     error_answer(alloc, line, 1)
 }
 
@@ -68,7 +34,7 @@ fn put_object_line(line: &mut Text, path: &str, fault: ObjectFault)
     ensures { Puts line.old line.new (line_of path.now (object_text fault)) }
 {
     put_front(line, path);
-    put_object_text(line, fault);
+    put_object_fault(line, fault);
     line.put("\n");
 }
 

@@ -1,26 +1,26 @@
 //! A file that is explained, and what is said of it whatever becomes of it.
 ghost use Rattle.std.specs.Prelude.{◌≡◌, ◌∷◌, [], false, length, option_map, IfOk, OnOk, Ok};
 ghost use Rattle.aout_core.specs.Decoding.{decode};
-ghost use Rattle.aout_core.specs.WellFormed.{first_object_fault};
 ghost use Rattle.findings.specs.Found.{all_found};
 ghost use Rattle.findings.specs.Notes.{AddsNotes, finding_text};
 ghost use Rattle.findings.specs.Kinds.{kind_text};
 ghost use Rattle.findings.specs.Wrong.{wrong_bytes};
+ghost use Rattle.surroundings.specs.Answers.{line_front};
 ghost use Rattle.texts.specs.Texts.{Puts};
-ghost use Rattle.v7_explain.specs.Files.{found_notes, front_notes, front_of, gnu_notes, header_notes, is_damaged, likeness_of};
-ghost use Rattle.v7_explain.specs.Files.{line_front, line_of, lines_of, note_if, refused_as, refused_notes, reported, reports};
-ghost use Rattle.v7_explain.specs.Files.{status_in, title, wrong_in};
+ghost use Rattle.v7_explain.specs.Files.{found_notes, front_notes, gnu_notes, header_notes, likeness_of};
+ghost use Rattle.v7_explain.specs.Files.{line_of, lines_of, note_if, program, refused_as, refused_notes, reported, reports};
+ghost use Rattle.v7_explain.specs.Files.{status_in, title};
 ghost use Rattle.v7_explain.specs.internal.Notes.{HasNotes};
 
 use crate::program::NAME;
-use aout_core::{File, Header, Object, ObjectFault, ReadFault, Wire, read_file};
+use aout_core::{File, Header, ObjectFault, ReadFault, Wire, read_file};
 use explanations::put_lines;
 use findings::{
-    Finding, Notes, header_of, is_of_gnu, likeness, put_finding_text, put_findings, put_header,
-    put_kind, wrong_bytes, wrong_words,
+    Finding, Notes, header_of, is_damaged, is_of_gnu, likeness, put_finding_text, put_findings,
+    put_header, put_kind, wrong_bytes,
 };
 use std::alloc::{AllocError, Global};
-use surroundings::Answer;
+use surroundings::{Answer, put_line_front};
 use texts::Text;
 
 /// That a file is in the form of GNU's assembler.
@@ -46,46 +46,11 @@ pub(crate) fn decoded(alloc: Global, bytes: &[u8]) -> Result<Result<File, ReadFa
     }
 }
 
-/// The file, and why `ld` does not take it as an object, if it does not.
-pub(crate) fn as_object(file: File) -> (File, Option<ObjectFault>)
-    ensures file { result.0 ≡ file }
-    ensures refused { result.1 ≡ first_object_fault file }
-{
-    match Object::from_file(file) {
-        Ok(object) => (object.into_file(), None),
-        Err((file, fault)) => (file, Some(fault)),
-    }
-}
-
-/// Whether a word of a file makes `ld` refuse it.
-pub(crate) fn is_damaged(refused: Option<ObjectFault>) -> bool
-    ensures { result ≡ is_damaged refused }
-{
-    match refused {
-        Some(ObjectFault::BadRelocation(_) | ObjectFault::BadSymbolNumber(_)) => true,
-        _ => false,
-    }
-}
-
 /// The status of a file.
 pub(crate) fn status_in(refused: Option<ObjectFault>) -> u8
     ensures { result ≡ status_in refused }
 {
     if is_damaged(refused) { 1 } else { 0 }
-}
-
-/// What is wrong in a file.
-pub(crate) fn wrong_in(
-    alloc: Global,
-    file: &File,
-    refused: Option<ObjectFault>,
-) -> Result<Vec<Finding>, AllocError>
-    ensures { IfOk result (λ wrong. all_found wrong.items ≡ wrong_in refused file.now) }
-{
-    if is_damaged(refused) {
-        return wrong_words(alloc, file);
-    }
-    Ok(Vec::new(alloc))
 }
 
 /// What bytes are that are not a file, if it is known.
@@ -98,22 +63,11 @@ pub(crate) fn likeness_of(bytes: &[u8], fault: ReadFault) -> Option<&'static str
     }
 }
 
-/// Puts a program and a path.
-#[tactic(auto, unfolding(crate::specs::Files::front_of))]
-fn put_program(lines: &mut Text, program: &str, path: &str)
-    ensures { Puts lines.old lines.new (front_of program.now path.now) }
-{
-    lines.put(program);
-    lines.put(": ");
-    lines.put(path);
-    lines.put(": ");
-}
-
 /// Puts the program and a path.
 pub(crate) fn put_front(lines: &mut Text, path: &str)
-    ensures { Puts lines.old lines.new (line_front path.now) }
+    ensures { Puts lines.old lines.new (line_front program path.now) }
 {
-    put_program(lines, NAME, path);
+    put_line_front(lines, NAME, path);
 }
 
 /// Puts a line with a text on a file.
@@ -179,11 +133,9 @@ fn put_title(notes: &mut Notes, source: Source<'_>)
     let size = source.bytes.len() as u64;
     let mut note = notes.begin();
     note.put(source.path);
-    note.put(": 0");
-    note.put_octal(size);
-    note.put(" (");
-    note.put_decimal(size);
-    note.put(") bytes");
+    note.put(": ");
+    note.put_octal_and_decimal(size);
+    note.put(" bytes");
     notes.add(note);
 }
 

@@ -1,5 +1,4 @@
 //! The listing of a file, stored in place of being written to standard output.
-ghost use Rattle.std.specs.Prelude.{◌≡◌};
 ghost use Rattle.v7_explain.specs.Runs.{IsStoring, StoresListing};
 
 use crate::listing::list;

@@ -6,13 +6,11 @@ ghost use Rattle.texts.specs.Texts.{Puts, nothing_written};
 ghost use Rattle.v7_explain.specs.Files.{body_of, found_notes, lines_of, viewed, viewed_as};
 ghost use Rattle.v7_explain.specs.internal.Notes.{HasNotes};
 
-use crate::source::{
-    Source, as_object, decoded, explain_refused, front_notes, put_found, status_in, wrong_in,
-};
-use aout_core::File;
+use crate::source::{Source, decoded, explain_refused, front_notes, put_found, status_in};
+use aout_core::{File, object_fault};
 use disassemblies::put_disassembly;
 use explanations::{Base, put_dump, put_lines};
-use findings::{Finding, Notes};
+use findings::{Finding, Notes, wrong_in};
 use instructions::Decoder;
 use std::alloc::{AllocError, Global};
 use surroundings::Answer;
@@ -63,20 +61,20 @@ fn show_file(
     alloc: Global,
     source: Source<'_>,
     view: View,
-    file: File,
+    file: &File,
 ) -> Result<Answer, AllocError>
     ensures { IfOk result (λ answer. answer ≡ viewed_as view source.entry.path.now
-        source.entry.bytes.now file (first_object_fault file)) }
+        source.entry.bytes.now file.now (first_object_fault file.now)) }
 {
-    let (file, refused) = as_object(file);
-    let wrong = wrong_in(alloc, &file, refused)?;
+    let refused = object_fault(file);
+    let wrong = wrong_in(alloc, file, refused)?;
     let notes = front_notes(alloc, source, file.header(), refused);
     let findings = wrong_notes(alloc, &wrong);
     if notes.is_cut() || findings.is_cut() {
         return Err(AllocError);
     }
     Ok(Answer {
-        output: body(alloc, view, &file, &notes, &findings).finish()?,
+        output: body(alloc, view, file, &notes, &findings).finish()?,
         errors: Vec::new(alloc),
         status: status_in(refused),
     })
@@ -88,7 +86,7 @@ pub(crate) fn show(alloc: Global, source: Source<'_>, view: View) -> Result<Answ
         answer ≡ viewed view source.entry.path.now source.entry.bytes.now) }
 {
     match decoded(alloc, source.bytes)? {
-        Ok(file) => show_file(alloc, source, view, file),
+        Ok(file) => show_file(alloc, source, view, &file),
         Err(fault) => explain_refused(alloc, source, false, fault),
     }
 }

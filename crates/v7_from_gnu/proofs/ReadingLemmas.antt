@@ -1,6 +1,6 @@
 -- Files that are read one after another, from what comes of those that are left.
 use Rattle.std.proofs.Common.{◌≡◌, ℕ, List, [], ◌∷◌, ◌++◌, Some, refl, sym, subst, inl, inr}
-use Rattle.std.specs.Prelude.{Result, Ok, Err}
+use Rattle.std.specs.Prelude.{Result, Err}
 use Rattle.surroundings.specs.Events.{History}
 use Rattle.surroundings.specs.Sources.{EndsReading, ReadsAt}
 use Rattle.surroundings.specs.declared.answer.Fault.{Fault}

@@ -1,10 +1,10 @@
 -- What is passed on from one check, or from one step, to the next.
-use Rattle.std.proofs.Common.{◌≡◌, ℕ, List, [], ◌∷◌, ◌++◌, Option, Some, None, refl, sym, subst, inl, inr}
+use Rattle.std.proofs.Common.{◌≡◌, Option, Some, None, refl, inr}
 use Rattle.std.specs.Prelude.{Result, Ok, Err}
 use Rattle.surroundings.specs.Answer.{Answer}
-use Rattle.surroundings.specs.Answers.{Checks, Faults, HasAnswer}
+use Rattle.surroundings.specs.Answers.{Checks, Faults}
 use Rattle.surroundings.specs.declared.answer.Fault.{Fault}
-use Rattle.surroundings.specs.declared.answer.Fault.TheVariants.{Answered, Memory}
+use Rattle.surroundings.specs.declared.answer.Fault.TheVariants.{Memory}
 use Rattle.v7_from_gnu.specs.Checks.{first_of}
 use Rattle.v7_from_gnu.specs.Converting.{and_then, unless}
 

@@ -2,7 +2,7 @@
 --
 -- The first argument may ask for help or the version. Else arguments that begin with a hyphen have letters of options, up to the first
 -- path; the argument after the letter `o` is a folder. Without a folder there are two paths.
-use Rattle.std.specs.Prelude.{ℕ, ◌==◌, ◌&&◌, ◌||◌, Bool, true, false, not, nat_eq, nat_lt, if◌then◌else◌, List, []}
+use Rattle.std.specs.Prelude.{ℕ, ◌==◌, ◌&&◌, true, false, not, nat_eq, nat_lt, if◌then◌else◌, List, []}
 use Rattle.std.specs.Prelude.{◌∷◌, ◌++◌, map, drop, length, Option, Some, None, option_map, codes}
 use Rattle.std.specs.List.{starts_with}
 use Rattle.aout_core.specs.Words.{letter_of}

@@ -2,9 +2,8 @@
 --
 -- Each begins with the program and a path. A symbol is named by its whole name, in which a byte that does not print, a blank and a
 -- backslash are a backslash and three octal digits.
-use Rattle.std.specs.Prelude.{ℕ, List, [], ◌∷◌, ◌++◌, take, codes, decimal}
-use Rattle.aout_core.specs.declared.object.ObjectFault.{ObjectFault}
-use Rattle.aout_core.specs.declared.object.ObjectFault.TheVariants.{NotAnObject, NoRelocation, BadRelocation, BadSymbolNumber}
+use Rattle.std.specs.Prelude.{ℕ, List, [], ◌++◌, take, codes, decimal}
+use Rattle.aout_core.specs.FaultTexts.{object_text}
 use Rattle.gnu_objects.specs.Places.{name_there, place_of}
 use Rattle.gnu_objects.specs.declared.clash.Clash.{Clash}
 use Rattle.gnu_objects.specs.declared.refusal.Refusal.{Refusal}
@@ -17,7 +16,8 @@ use Rattle.gnu_objects.specs.declared.refusal.Size.TheVariants.{TextSize, DataSi
 use Rattle.gnu_objects.specs.declared.remark.Remark.{Remark}
 use Rattle.gnu_objects.specs.declared.remark.Remark.TheVariants.{Cut, Dropped}
 use Rattle.texts.specs.Names.{printable_bytes}
-use Rattle.texts.specs.Numbers.{octal, six_digits}
+use Rattle.surroundings.specs.Answers.{line_front}
+use Rattle.texts.specs.Numbers.{octal_and_decimal, six_digits}
 use Rattle.v7_from_gnu.specs.Jobs.{Source}
 
 abbrev pub program : List ℕ
@@ -28,11 +28,8 @@ usage = codes "usage: v7-from-gnu [-SXxq] IN OUT\n       v7-from-gnu [-SXxq] -o 
 
 -- ---- parts of lines
 
-unfoldable pub front_of : List ℕ → List ℕ → List ℕ
-front_of program path = program ++ codes ": " ++ path ++ codes ": "
-
-abbrev pub line_front : List ℕ → List ℕ
-line_front path = front_of program path
+abbrev pub path_front : List ℕ → List ℕ
+path_front path = line_front program path
 
 unfoldable pub shown_name : List ℕ → ℕ → List ℕ
 shown_name bytes n = printable_bytes (name_there bytes n)
@@ -44,7 +41,7 @@ unfoldable pub word_text : List ℕ → ℕ → List ℕ → List ℕ
 word_text before word after = before ++ six_digits word ++ after
 
 unfoldable pub place_text : ℕ → List ℕ
-place_text place = codes "byte 0" ++ octal place ++ codes " (" ++ decimal place ++ codes "): "
+place_text place = codes "byte " ++ octal_and_decimal place ++ codes ": "
 
 -- ---- why a file is refused
 
@@ -59,12 +56,6 @@ both_texts first second = first ++ second
 
 abbrev pub odd_text : Size → List ℕ
 odd_text size = both_texts (codes "odd size of ") (size_text size)
-
-abbrev pub object_text : ObjectFault → List ℕ
-object_text NotAnObject = codes "not an object"
-object_text NoRelocation = codes "no relocation"
-object_text (BadRelocation n) = number_text (codes "bad relocation at word ") n []
-object_text (BadSymbolNumber n) = number_text (codes "bad symbol number at word ") n []
 
 unfoldable pub alike_text : ℕ → ℕ → List ℕ
 alike_text n m = number_text (codes "symbols ") n (codes " and ") ++ number_text [] m (codes " have names that are equal in eight bytes")
@@ -99,7 +90,7 @@ refusal_names bytes _ = []
 -- the line of a file that is refused, with the byte of the file in octal and in decimal
 unfoldable pub refusal_line : Source → Refusal → List ℕ
 refusal_line file refusal =
-    line_front file.from ++ place_text (place_of file.bytes refusal) ++ refusal_text refusal
+    path_front file.from ++ place_text (place_of file.bytes refusal) ++ refusal_text refusal
     ++ refusal_names file.bytes refusal ++ codes "\n"
 
 -- ---- what becomes of names
@@ -118,7 +109,7 @@ remark_text bytes (Dropped n m) = dropped_text bytes n m
 
 -- the line of a name that is cut, or of a local that is dropped for its name
 abbrev pub remark_line : Source → Remark → List ℕ
-remark_line file remark = line_front file.from ++ remark_text file.bytes remark
+remark_line file remark = path_front file.from ++ remark_text file.bytes remark
 
 -- two externals of two files that would become one
 unfoldable pub twin_text : List ℕ → List ℕ → Clash → List ℕ
@@ -127,4 +118,4 @@ twin_text first second clash = shown_name second clash.second ++ codes " is equa
 -- their line
 unfoldable pub clash_line : Source → Source → Clash → List ℕ
 clash_line first second clash =
-    line_front second.from ++ twin_text first.bytes second.bytes clash ++ codes " of " ++ first.from ++ codes "\n"
+    path_front second.from ++ twin_text first.bytes second.bytes clash ++ codes " of " ++ first.from ++ codes "\n"

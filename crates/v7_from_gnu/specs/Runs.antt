@@ -3,9 +3,8 @@
 -- Paths are checked before a file is opened. All files are read before one is converted, and all are converted before one is stored. So
 -- nothing is stored if one is refused. If memory runs out, that is the answer; it does so after a file was stored only if one was not.
 use Rattle.std.specs.Prelude.{◌≡◌, ◌⊎◌, ℕ, List, [], ◌∷◌, ◌++◌, Option, Some, None, Result, Ok, Err}
-use Rattle.aout_core.specs.declared.shown.Shown.{Shown}
 use Rattle.surroundings.specs.Answer.{Answer}
-use Rattle.surroundings.specs.Answers.{AnswersOr, Checks, Faults, Gives, answer_in, fault_line, only_errors, says_usage, shows}
+use Rattle.surroundings.specs.Answers.{AnswersOr, Checks, Faults, IsPerformed, fault_line, only_errors, says_usage, shows}
 use Rattle.surroundings.specs.Events.{History, Extends, Surroundings, stored}
 use Rattle.surroundings.specs.Sources.{stored_text}
 use Rattle.surroundings.specs.declared.answer.Fault.{Fault}
@@ -85,5 +84,4 @@ IsAnswer words old new result = ((new ≡ old) × (result ≡ Err faults.Memory)
 abbrev pub PerformsFromGnu : {W E : Type 0} → (W → Option (List ℕ)) → (E → Option (List ℕ)) → List (List ℕ) →
     Surroundings W E → Surroundings W E → ℕ → Type 0
 PerformsFromGnu contents error_contents words before after status =
-    (result : Result Answer Fault) × IsAnswer words before.asked after.asked result
-    × Gives contents error_contents program (answer_in program result) before.output after.output before.error after.error status
+    IsPerformed contents error_contents program (IsAnswer words) before after status

@@ -1,5 +1,5 @@
 //! What is checked before a file is opened, and before one is written.
-ghost use Rattle.std.specs.Prelude.{◌≡◌, ◌++◌, ◌∷◌, [], map, string_bytes, IfOk};
+ghost use Rattle.std.specs.Prelude.{◌≡◌, ◌++◌, ◌∷◌, [], string_bytes, IfOk};
 ghost use Rattle.gnu_objects.specs.Clashes.{clash_among};
 ghost use Rattle.surroundings.specs.Answers.{Checks, only_errors};
 ghost use Rattle.surroundings.specs.declared.answer.Fault.TheVariants.{Answered};

@@ -1,13 +1,12 @@
 //! The lines for standard error: why a file is refused, and what became of names.
 ghost use Rattle.std.specs.Prelude.{◌≡◌, take};
-ghost use Rattle.surroundings.specs.Answers.{fault_line};
 ghost use Rattle.texts.specs.Texts.{Puts};
-ghost use Rattle.v7_from_gnu.specs.Lines.{alike_text, both_texts, clash_line, cut_text, dropped_text, front_of, line_front, odd_text, twin_text, number_text, object_text, place_text, refusal_line, refusal_names, refusal_text, remark_line, shown_name, size_text, word_text};
+ghost use Rattle.v7_from_gnu.specs.Lines.{alike_text, both_texts, clash_line, cut_text, dropped_text, odd_text, path_front, twin_text, number_text, place_text, refusal_line, refusal_names, refusal_text, remark_line, shown_name, size_text, word_text};
 
 use crate::program::NAME;
 use crate::reading::Source;
-use aout_core::ObjectFault;
 use gnu_objects::{Clash, Refusal, Remark, Size, place_of, whole_name};
+use surroundings::{put_line_front, put_object_fault};
 use texts::Text;
 
 /// Puts the whole name of a symbol.
@@ -66,18 +65,6 @@ fn put_odd(line: &mut Text, size: Size)
     put_both(line, "odd size of ", size_name(size));
 }
 
-/// Puts why a file is not an object.
-fn put_fault(line: &mut Text, fault: ObjectFault)
-    ensures { Puts line.old line.new (object_text fault) }
-{
-    match fault {
-        ObjectFault::NotAnObject => line.put("not an object"),
-        ObjectFault::NoRelocation => line.put("no relocation"),
-        ObjectFault::BadRelocation(n) => put_number(line, "bad relocation at word ", n, ""),
-        ObjectFault::BadSymbolNumber(n) => put_number(line, "bad symbol number at word ", n, ""),
-    }
-}
-
 /// Puts that two externals have names that are equal in eight bytes.
 #[tactic(auto, unfolding(crate::specs::Lines::alike_text))]
 fn put_alike(line: &mut Text, n: u16, m: u16)
@@ -131,7 +118,7 @@ fn put_reason(line: &mut Text, refusal: Refusal)
             n,
             " refers to a local that is dropped",
         ),
-        Refusal::BadWord(fault) => put_fault(line, fault),
+        Refusal::BadWord(fault) => put_object_fault(line, fault),
         Refusal::Memory => line.put("no memory"),
     }
 }
@@ -163,41 +150,16 @@ fn put_names(line: &mut Text, bytes: &[u8], refusal: Refusal)
 fn put_place(line: &mut Text, place: u64)
     ensures { Puts line.old line.new (place_text place) }
 {
-    line.put("byte 0");
-    line.put_octal(place);
-    line.put(" (");
-    line.put_decimal(place);
-    line.put("): ");
-}
-
-/// Puts the name of a program and a path.
-#[tactic(auto, unfolding(crate::specs::Lines::front_of))]
-fn put_front(line: &mut Text, program: &str, path: &str)
-    ensures { Puts line.old line.new (front_of program.now path.now) }
-{
-    line.put(program);
-    line.put(": ");
-    line.put(path);
+    line.put("byte ");
+    line.put_octal_and_decimal(place);
     line.put(": ");
 }
 
 /// Puts the name of the program and a path.
 fn put_path(line: &mut Text, path: &str)
-    ensures { Puts line.old line.new (line_front path.now) }
+    ensures { Puts line.old line.new (path_front path.now) }
 {
-    put_front(line, NAME, path);
-}
-
-/// Puts the line in which a program says a text of a path.
-pub(crate) fn put_failure(line: &mut Text, program: &str, path: &str, text: &str)
-    ensures { Puts line.old line.new (fault_line program.now path.now text.now) }
-{
-    line.put(program);
-    line.put(": ");
-    line.put(path);
-    line.put(": ");
-    line.put(text);
-    line.put("\n");
+    put_line_front(line, NAME, path);
 }
 
 /// Puts the line of a file that is refused.

@@ -7,10 +7,9 @@ ghost use Rattle.surroundings.specs.Answers.{AnswersOr};
 ghost use Rattle.v7_from_gnu.specs.Runs.{IsStoring, Stores, not_stored};
 
 use crate::converting::{Plan, Target};
-use crate::lines::put_failure;
 use crate::program::NAME;
 use std::alloc::{AllocError, Global};
-use surroundings::{Answer, Fault, Office, error_answer, stored_text};
+use surroundings::{Answer, Fault, Office, error_answer, put_fault_line, stored_text};
 use texts::Text;
 
 /// The answer with what is reported of names.
@@ -28,7 +27,7 @@ fn not_stored_lines(alloc: Global, remarks: &[u8], path: &str, why: &str) -> Tex
 {
     let mut text = Text::new(alloc);
     text.put_bytes(remarks);
-    put_failure(&mut text, NAME, path, why);
+    put_fault_line(&mut text, NAME, path, why);
     text
 }
 

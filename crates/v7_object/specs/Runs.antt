@@ -8,8 +8,8 @@ use Rattle.aout_core.specs.Contents.{Contents}
 use Rattle.listings.specs.Reading.{read}
 use Rattle.listings.specs.declared.fault.Fault.{Fault as Mistake}
 use Rattle.surroundings.specs.Answer.{Answer}
-use Rattle.surroundings.specs.Answers.{AnswersOr, Checks, Faults, Gives, HasAnswer, IsShownOr, answer_in}
-use Rattle.surroundings.specs.Answers.{failed_at, only_errors, says_usage, shown_in}
+use Rattle.surroundings.specs.Answers.{AnswersOr, AnswersStored, Checks, Faults, IsPerformed, IsShownOr}
+use Rattle.surroundings.specs.Answers.{only_errors, says_usage, shown_in}
 use Rattle.surroundings.specs.Events.{History, Extends, Surroundings, stored}
 use Rattle.surroundings.specs.Paths.{path_answer}
 use Rattle.surroundings.specs.Sources.{EndsReading, ReadsAt, stored_text}
@@ -40,17 +40,11 @@ abbrev pub file_of : List ℕ → Result Contents Mistake → Result Contents An
 file_of path (Ok file) = Ok file
 file_of path (Err mistake) = Err (only_errors (mistake_line path mistake) 1)
 
--- the answer to what became of a file, or memory ran out for it
-abbrev pub AnswersStored : List ℕ → Option (List ℕ) → Result Answer Fault → Type 0
-AnswersStored to None result = result ≡ Ok (only_errors [] 0)
-AnswersStored to (Some why) (Ok answer) = ⊥
-AnswersStored to (Some why) (Err fault) = HasAnswer fault (failed_at program to why)
-
 -- a file is stored, or it can't be; or there was no memory for the answer before
 abbrev pub IsStoring : List ℕ → Contents → History → History → Result Answer Fault → Type 0
 IsStoring to file old new result =
     ((new ≡ old) × (result ≡ Err faults.Memory))
-    ⊎ ((what : Stored) × Extends old new (stored to file what ∷ []) × AnswersStored to (stored_text what) result)
+    ⊎ ((what : Stored) × Extends old new (stored to file what ∷ []) × AnswersStored program to (only_errors [] 0) (stored_text what) result)
 
 -- the bytes of a listing are read as a file, which is stored; or there is a mistake
 abbrev pub AfterReading : List ℕ → List ℕ → List ℕ → History → History → Result Answer Fault → Type 0
@@ -84,5 +78,4 @@ IsAnswer words old new result = IsShownOr program usage (shown_in words) old new
 abbrev pub PerformsObject : {W E : Type 0} → (W → Option (List ℕ)) → (E → Option (List ℕ)) → List (List ℕ) →
     Surroundings W E → Surroundings W E → ℕ → Type 0
 PerformsObject contents error_contents words before after status =
-    (result : Result Answer Fault) × IsAnswer words before.asked after.asked result
-    × Gives contents error_contents program (answer_in program result) before.output after.output before.error after.error status
+    IsPerformed contents error_contents program (IsAnswer words) before after status

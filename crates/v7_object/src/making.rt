@@ -1,5 +1,5 @@
 //! The file of a listing. It is written only if the listing has no mistake.
-ghost use Rattle.std.specs.Prelude.{◌≡◌, ◌∷◌, [], IfErr, IfOk, Ok};
+ghost use Rattle.std.specs.Prelude.{◌≡◌, [], IfErr, IfOk, Ok};
 ghost use Rattle.listings.specs.Reading.{read};
 ghost use Rattle.surroundings.specs.Answers.{Faults, only_errors};
 ghost use Rattle.v7_object.specs.Lines.{mistake_line};

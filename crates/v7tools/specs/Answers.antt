@@ -13,13 +13,14 @@ use Rattle.link_session.specs.Mentions.{mentions}
 use Rattle.aout_core.specs.WellFormed.{segment_number}
 use Rattle.link_session.specs.Image.{image}
 use Rattle.link_session.specs.Edits.{without_last, last_of}
+use Rattle.link_out.specs.FaultTexts.{link_text}
 use Rattle.link_out.specs.declared.linked.LinkFault.{LinkFault}
 use Rattle.tool_options.specs.Choices.{Choices}
 use Rattle.link_out.specs.function.Reports.{ReportNames, line, report_text, status_of, undefined_names}
 use Rattle.link_out.specs.function.Link.{Outcome, link}
 use Rattle.symtools.specs.SymbolLines.{symbol_line}
 use Rattle.v7tools.specs.Inputs.{Cause, cannot_open, bad_file, with_input}
-use Rattle.v7tools.specs.FaultTexts.{cause_text, link_text, at_file}
+use Rattle.v7tools.specs.FaultTexts.{cause_text, at_file}
 use Rattle.surroundings.specs.declared.office.Stored.{Stored}
 use Rattle.surroundings.specs.declared.office.Stored.TheVariants.{Kept, NotCreated, Failed}
 

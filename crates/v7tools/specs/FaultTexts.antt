@@ -1,16 +1,17 @@
 -- The texts of faults. (own choice)
 --
 -- Each fault has one text, which the program writes after `v7: `, and a session without it. A fault of a file begins with its path.
-use Rattle.std.specs.Prelude.{ℕ, List, ◌++◌, codes, decimal, String, string_bytes, [], ◌∷◌}
+use Rattle.std.specs.Prelude.{ℕ, List, ◌++◌, codes, String, string_bytes, [], ◌∷◌}
 use Rattle.std.specs.declared.alloc.Global.{Global}
 use Rattle.aout_core.specs.declared.file.ReadFault.{ReadFault}
 use Rattle.aout_core.specs.declared.file.ReadFault.TheVariants as reads
-use Rattle.aout_core.specs.declared.object.ObjectFault.{ObjectFault}
-use Rattle.aout_core.specs.declared.object.ObjectFault.TheVariants.{NotAnObject, NoRelocation, BadRelocation, BadSymbolNumber}
+use Rattle.aout_core.specs.FaultTexts.{object_text, read_text}
 use Rattle.link_session.specs.declared.entry.AddFault.{AddFault}
 use Rattle.link_session.specs.declared.entry.AddFault.TheVariants as adds
+use Rattle.link_session.specs.FaultTexts.{add_text}
 use Rattle.link_out.specs.declared.linked.LinkFault.{LinkFault}
 use Rattle.link_out.specs.declared.linked.LinkFault.TheVariants as links
+use Rattle.link_out.specs.FaultTexts.{link_text}
 use Rattle.symtools.specs.declared.fault.ToolFault.{ToolFault}
 use Rattle.symtools.specs.declared.fault.ToolFault.TheVariants as tools
 use Rattle.v7tools.specs.Inputs.{Cause, cannot_open, bad_file, bad_object, not_added}
@@ -24,46 +25,28 @@ no_memory = codes "no memory"
 abbrev pub at_file : List ℕ → List ℕ → List ℕ
 at_file path text = path ++ codes ": " ++ text
 
-abbrev pub read_text : List ℕ → ReadFault → List ℕ
-read_text path reads.ShortHeader = at_file path (codes "short header")
-read_text path reads.BadMagic = at_file path (codes "bad magic number")
-read_text path reads.OddSize = at_file path (codes "odd size")
-read_text path reads.Truncated = at_file path (codes "truncated")
-read_text path reads.Device = at_file path (codes "read error")
-read_text path reads.Memory = no_memory
+-- if memory runs out, that is not said of the file
+abbrev pub file_text : List ℕ → ReadFault → List ℕ
+file_text path reads.Memory = no_memory
+file_text path fault = at_file path (read_text fault)
 
-abbrev pub object_text : ObjectFault → List ℕ
-object_text NotAnObject = codes "not an object"
-object_text NoRelocation = codes "no relocation"
-object_text (BadRelocation i) = codes "bad relocation at word " ++ decimal i
-object_text (BadSymbolNumber i) = codes "bad symbol number at word " ++ decimal i
-
-abbrev pub add_text : List ℕ → AddFault → List ℕ
-add_text path adds.TextFull = at_file path (codes "text full")
-add_text path adds.DataFull = at_file path (codes "data full")
-add_text path adds.BssFull = at_file path (codes "bss full")
-add_text path adds.NamesFull = at_file path (codes "names full")
-add_text path adds.Memory = no_memory
-
-abbrev pub link_text : LinkFault → List ℕ
-link_text links.DoesNotFit = codes "does not fit"
-link_text links.TooManySymbols = codes "too many symbols"
-link_text links.SymbolNumber = codes "symbol number too large"
-link_text links.Memory = no_memory
+abbrev pub addition_text : List ℕ → AddFault → List ℕ
+addition_text path adds.Memory = no_memory
+addition_text path fault = at_file path (add_text fault)
 
 abbrev pub cause_text : List ℕ → Cause → List ℕ
 cause_text path cannot_open = at_file path (codes "cannot open")
-cause_text path (bad_file fault) = read_text path fault
+cause_text path (bad_file fault) = file_text path fault
 cause_text path (bad_object fault) = at_file path (object_text fault)
-cause_text path (not_added fault) = add_text path fault
+cause_text path (not_added fault) = addition_text path fault
 
 -- the text of a fault of the program, without the `v7: ` that its line begins with
 abbrev pub cli_text : CliFault → List ℕ
 cli_text faults.Usage = codes "usage"
 cli_text (faults.CannotOpen path) = at_file (string_bytes path) (codes "cannot open")
-cli_text (faults.BadFile path fault) = read_text (string_bytes path) fault
+cli_text (faults.BadFile path fault) = file_text (string_bytes path) fault
 cli_text (faults.BadObject path fault) = at_file (string_bytes path) (object_text fault)
-cli_text (faults.NotAdded path fault) = add_text (string_bytes path) fault
+cli_text (faults.NotAdded path fault) = addition_text (string_bytes path) fault
 cli_text (faults.NotLinked fault) = link_text fault
 cli_text (faults.CannotCreate path) = at_file (string_bytes path) (codes "cannot create")
 cli_text faults.WriteFailed = codes "write error"

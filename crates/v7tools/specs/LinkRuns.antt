@@ -1,6 +1,7 @@
 -- What ld does: what it opens, what it stores, what it writes, and its status. (ld(1); the order of these: own choice)
 --
--- All inputs are opened, whatever they hold, or the first that can't be is the fault. Only a link is stored, and only what was stored is reported.
+-- All inputs are opened, whatever they hold, or the first that can't be is the fault. Only a link is stored, and only what was stored is
+-- reported.
 use Rattle.std.specs.declared.alloc.Global.{Global}
 use Rattle.std.specs.Prelude.{◌≡◌, ◌⊎◌, ℕ, List, [], ◌∷◌, ◌++◌, map, false, Option, None, Result}
 use Rattle.std.specs.Prelude.{Ok, Err, IfErr, IfOk, String, string_bytes}

@@ -12,7 +12,8 @@ use Rattle.link_session.specs.Undo.{Kept}
 use Rattle.tool_options.specs.Choices.{Choices}
 use Rattle.surroundings.specs.Events.{Event, History, Extends}
 use Rattle.v7tools.specs.LinkRuns.{Refuses}
-use Rattle.command_words.specs.Scripts.{Asked, lines_in, Given, ScriptFault, long_line, many_lines, given_after}
+use Rattle.command_words.specs.Scripts.{Asked, Given, ScriptFault, long_line, many_lines, given_after}
+use Rattle.texts.specs.Lines.{lines_in}
 use Rattle.command_words.specs.ScriptAnswers.{NamesPath}
 use Rattle.v7tools.specs.declared.fault.CliFault.{CliFault}
 use Rattle.v7tools.specs.declared.fault.CliFault.TheVariants as faults

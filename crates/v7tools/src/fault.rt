@@ -8,9 +8,7 @@ ghost use Rattle.v7tools.specs.internal.FaultParts.{text_of};
 
 pub(crate) mod wording;
 
-use crate::fault::wording::{
-    FaultText, add_text, link_text, object_text, read_text, says, says_of,
-};
+use crate::fault::wording::{FaultText, addition_text, file_text, object_text, says, says_of};
 use aout_core::{DeviceFault, ObjectFault, ReadFault, Wire};
 use command_words::WordsFault;
 use link_out::LinkFault;
@@ -163,10 +161,10 @@ impl CliFault {
         match self {
             CliFault::Usage => says("usage"),
             CliFault::CannotOpen(path) => says_of(path.as_str(), "cannot open"),
-            CliFault::BadFile(path, fault) => read_text(path.as_str(), *fault),
+            CliFault::BadFile(path, fault) => file_text(path.as_str(), *fault),
             CliFault::BadObject(path, fault) => object_text(path.as_str(), *fault),
-            CliFault::NotAdded(path, fault) => add_text(path.as_str(), *fault),
-            CliFault::NotLinked(fault) => link_text(*fault),
+            CliFault::NotAdded(path, fault) => addition_text(path.as_str(), *fault),
+            CliFault::NotLinked(fault) => says(fault.text()),
             CliFault::CannotCreate(path) => says_of(path.as_str(), "cannot create"),
             CliFault::WriteFailed => says("write error"),
             CliFault::Memory => says("no memory"),

@@ -39,7 +39,8 @@ pub record IsLinkedFrom (forced : List (List ℕ)) (os : List Contents) (o : Cho
   pub holds : HoldsObjects x.file os
   pub header : HasHeader o x.file
   pub names : map (λ s. s.name) rows ≡ externals forced os
-  pub are_rows : AreRows x.file.header (total BssSeg os) o (mentions forced os) (data_start_in x.file.header + x.file.header.data_size) rows (base_in x.file.header (total BssSeg os) BssSeg)
+  pub are_rows : AreRows x.file.header (total BssSeg os) o (mentions forced os)
+      (data_start_in x.file.header + x.file.header.data_size) rows (base_in x.file.header (total BssSeg os) BssSeg)
   pub table : x.file.symbols ≡ rows_kept o.keep (moved_locals_in x.file.header os o ++ rows)
   pub text : AreRelocated x.file rows os TextSeg
   pub «data» : AreRelocated x.file rows os DataSeg

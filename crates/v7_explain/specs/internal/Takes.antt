@@ -2,7 +2,8 @@
 use Rattle.std.specs.Prelude.{◌≡◌, ◌⊎◌, ℕ, Bool, false, bytes_eq, codes, List, [], ◌∷◌, ◌++◌, Option, Some, None, Result, Ok, Err, IfOk}
 use Rattle.aout_core.specs.Contents.{Contents}
 use Rattle.link_maps.specs.Maps.{IsMapOf}
-use Rattle.link_maps.specs.Members.{all_of, cause_of, left_of}
+use Rattle.link_maps.specs.Members.{all_of}
+use Rattle.link_maps.specs.Taking.{split, split_of}
 use Rattle.link_maps.specs.declared.map.LinkMap.{LinkMap}
 use Rattle.link_maps.specs.declared.members.Objects.{Objects}
 use Rattle.link_maps.specs.declared.outcome.Outcome.{Outcome}
@@ -16,7 +17,7 @@ use Rattle.surroundings.specs.Events.{History}
 use Rattle.surroundings.specs.declared.answer.Fault.{Fault}
 use Rattle.surroundings.specs.declared.answer.Fault.TheVariants.{Answered, Memory}
 use Rattle.tool_options.specs.Choices.{Choices}
-use Rattle.v7_explain.specs.Maps.{Split, Taken, TakesAt, answer_of, split, with_found}
+use Rattle.v7_explain.specs.Maps.{Taken, TakesAt, answer_of, with_found}
 use Rattle.v7_explain.specs.Runs.{Call, map_link}
 
 abbrev pub taken_of : Objects → Answer → Taken
@@ -40,10 +41,6 @@ TakesOne old new path before after result =
 abbrev pub TakesNext : {E : Type 0} → History → History → Taken → List ℕ → Taken → Result (Unit {0}) E → Type 0
 TakesNext old new before path after result =
     (found : Result Contents Answer) × TakesAt old new path found × IfOk result (λ _. after ≡ with_found before path found)
-
--- what a session kept of these objects, and what is left
-abbrev pub split_of : Objects → Split
-split_of o = record { kept = o.session.entries; cause = cause_of o.refused; left = left_of o.refused }
 
 -- the objects were split as they are by their definition
 abbrev pub KeepsSplit : Objects → Type 0

@@ -1,6 +1,7 @@
 -- The text of a fault, by its parts.
-use Rattle.std.specs.Prelude.{ℕ, List, [], ◌++◌, codes, decimal, Option, Some, None}
+use Rattle.std.specs.Prelude.{ℕ, List, [], ◌++◌, codes, Option, Some, None}
 use Rattle.std.specs.Borrow.{Bor}
+use Rattle.aout_core.specs.FaultTexts.{number_text}
 use Rattle.v7tools.specs.declared.fault.wording.FaultText.{FaultText}
 
 -- a path and `: `, if there is a path
@@ -8,9 +9,5 @@ abbrev pub path_text : Option (Bor (List ℕ)) → List ℕ
 path_text (Some path) = path.now ++ codes ": "
 path_text None = []
 
-abbrev pub index_text : Option ℕ → List ℕ
-index_text (Some index) = decimal index
-index_text None = []
-
 abbrev pub text_of : FaultText → List ℕ
-text_of text = path_text text.path ++ text.words.now ++ index_text text.index
+text_of text = path_text text.path ++ text.words.now ++ number_text text.index

@@ -1,12 +1,12 @@
 //! The texts of faults, in parts.
-ghost use Rattle.std.specs.Prelude.{◌≡◌, ◌++◌, decimal};
+ghost use Rattle.std.specs.Prelude.{◌≡◌, None, Some, if◌then◌else◌, option_map};
+ghost use Rattle.aout_core.specs.FaultTexts.{number_text, object_text};
 ghost use Rattle.aout_core.specs.Wires.{Writes};
-ghost use Rattle.v7tools.specs.FaultTexts.{add_text, at_file, link_text, object_text, read_text};
-ghost use Rattle.v7tools.specs.internal.FaultParts.{text_of, path_text, index_text};
+ghost use Rattle.v7tools.specs.FaultTexts.{addition_text, at_file, file_text};
+ghost use Rattle.v7tools.specs.internal.FaultParts.{text_of, path_text};
 
 use aout_core::{DeviceFault, ObjectFault, ReadFault, Wire};
 use itoa::Buffer;
-use link_out::LinkFault;
 use link_session::AddFault;
 use std::io::Write;
 
@@ -41,28 +41,21 @@ pub(crate) fn says_of<'a>(path: &'a str, words: &'a str) -> FaultText<'a>
     }
 }
 
-/// What is said of a word of the file at a path.
-fn says_of_word<'a>(path: &'a str, words: &'a str, index: u16) -> FaultText<'a>
-    ensures { text_of result ≡ at_file path.now (words.now ++ decimal index) }
+/// The path of a file, unless memory ran out: that is not said of the file.
+fn path_unless<'a>(path: &'a str, is_memory: bool) -> Option<&'a str>
+    ensures { option_map (λ path. path.now) result ≡ (if is_memory then None else Some path.now) }
 {
-    FaultText {
-        path: Some(path),
-        words,
-        index: Some(index),
-    }
+    if is_memory { None } else { Some(path) }
 }
 
 /// What is wrong with a file.
-pub(crate) fn read_text<'a>(path: &'a str, fault: ReadFault) -> FaultText<'a>
-    ensures { text_of result ≡ read_text path.now fault }
+pub(crate) fn file_text<'a>(path: &'a str, fault: ReadFault) -> FaultText<'a>
+    ensures { text_of result ≡ file_text path.now fault }
 {
-    match fault {
-        ReadFault::ShortHeader => says_of(path, "short header"),
-        ReadFault::BadMagic => says_of(path, "bad magic number"),
-        ReadFault::OddSize => says_of(path, "odd size"),
-        ReadFault::Truncated => says_of(path, "truncated"),
-        ReadFault::Device => says_of(path, "read error"),
-        ReadFault::Memory => says("no memory"),
+    FaultText {
+        path: path_unless(path, matches!(fault, ReadFault::Memory)),
+        words: fault.text(),
+        index: None,
     }
 }
 
@@ -70,39 +63,22 @@ pub(crate) fn read_text<'a>(path: &'a str, fault: ReadFault) -> FaultText<'a>
 pub(crate) fn object_text<'a>(path: &'a str, fault: ObjectFault) -> FaultText<'a>
     ensures { text_of result ≡ at_file path.now (object_text fault) }
 {
-    match fault {
-        ObjectFault::NotAnObject => says_of(path, "not an object"),
-        ObjectFault::NoRelocation => says_of(path, "no relocation"),
-        ObjectFault::BadRelocation(index) => says_of_word(path, "bad relocation at word ", index),
-        ObjectFault::BadSymbolNumber(index) => {
-            says_of_word(path, "bad symbol number at word ", index)
-        }
+    FaultText {
+        path: Some(path),
+        words: fault.words(),
+        index: fault.bad_word(),
     }
 }
 
 /// Why an object was not added.
-pub(crate) fn add_text<'a>(path: &'a str, fault: AddFault) -> FaultText<'a>
-    ensures { text_of result ≡ add_text path.now fault }
+pub(crate) fn addition_text<'a>(path: &'a str, fault: AddFault) -> FaultText<'a>
+    ensures { text_of result ≡ addition_text path.now fault }
 {
-    match fault {
-        AddFault::TextFull => says_of(path, "text full"),
-        AddFault::DataFull => says_of(path, "data full"),
-        AddFault::BssFull => says_of(path, "bss full"),
-        AddFault::NamesFull => says_of(path, "names full"),
-        AddFault::Memory => says("no memory"),
+    FaultText {
+        path: path_unless(path, matches!(fault, AddFault::Memory)),
+        words: fault.text(),
+        index: None,
     }
-}
-
-/// Why there is no link.
-pub(crate) fn link_text<'a>(fault: LinkFault) -> FaultText<'a>
-    ensures { text_of result ≡ link_text fault }
-{
-    says(match fault {
-        LinkFault::DoesNotFit => "does not fit",
-        LinkFault::TooManySymbols => "too many symbols",
-        LinkFault::SymbolNumber => "symbol number too large",
-        LinkFault::Memory => "no memory",
-    })
 }
 
 /// Writes a path and `: `, if there is a path.
@@ -117,7 +93,7 @@ fn put_path<W: Write>(path: Option<&str>, out: &mut Wire<W>) -> Result<(), Devic
 
 /// Writes the index of a word in decimal, if there is one.
 fn put_index<W: Write>(index: Option<u16>, out: &mut Wire<W>) -> Result<(), DeviceFault>
-    ensures { Writes W.contents result out.old out.new (index_text index) }
+    ensures { Writes W.contents result out.old out.new (number_text index) }
 {
     match index {
         Some(index) => out.put(Buffer::new().format(index).as_bytes()),

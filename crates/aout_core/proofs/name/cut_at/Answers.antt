@@ -1,4 +1,4 @@
-use Rattle.std.proofs.Common.{◌∷◌, [], ◌∙◌, ltb, ap, replicate, length, rules, w8}
+use Rattle.std.proofs.Common.{◌∷◌, [], ◌∙◌, ltb, ap, replicate, rules, w8}
 use lib.Lanes.{sel_l}
 use Rattle.std.proofs.lemmas.Simd.{tops_compared}
 use Rattle.aout_core.proofs.NameLemmas.{lanes_kept}

@@ -15,7 +15,8 @@ loop-place-preserved c =
     c.length-count.ensures ∙ ap unix_length c.unix_line_in-line.ensures.line in
     let inside : c.loop-place.place < length file.text_words = search rules in
     let fits : c.loop-place.place + c.length-count.result ≤ length file.text_words = search rules in (
-      line_more Unix file (λ place n. line_words (unix_line_in Unix file place) n) [] (swept Unix file) c.loop-place.lines.items c.put_line.new.lines.items
+      line_more Unix file (λ place n. line_words (unix_line_in Unix file place) n)
+          [] (swept Unix file) c.loop-place.lines.items c.put_line.new.lines.items
           c.loop-place.place c.length-count.result
           inside count
           (c.in_ok-put_line.ensures ∙ ap (λ (l : UnixLine). c.loop-place.lines.items ++ line_words l c.length-count.result)

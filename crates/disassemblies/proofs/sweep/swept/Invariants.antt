@@ -8,7 +8,8 @@ use Rattle.disassemblies.proofs.sweep.swept.Given as goal
 -- what has been appended, and what the lines give that are left, are the whole
 abbrev pub invariant-loop-place : goal.invariant-loop-place
 invariant-loop-place l =
-    (l.lines.items ++ lines_from Unix l.file (λ place n. line_words (unix_line_in Unix l.file place) n) [] (length l.file.text_words - l.place) l.place
+    (l.lines.items ++ lines_from Unix l.file (λ place n. line_words (unix_line_in Unix l.file place) n)
+    [] (length l.file.text_words - l.place) l.place
     ≡ swept Unix l.file)
     × (l.place ≤ length l.file.text_words)
     × (l.end ≡ length l.file.text_words)

@@ -10,5 +10,6 @@ pub overflow_cast-length : goal.overflow_cast-length
 overflow_cast-length c =
     let file = c.args.x.now.sweep.now in
     let same = line_there file c.args.place c.in-Some.line c.in-Some.ensures in
-    let short : unix_length c.in-Some.line ≤ 5 = subst (λ (l : UnixLine). unix_length l ≤ 5) (sym same) (length_in Unix file c.args.place).1 in
+    let short : unix_length c.in-Some.line ≤ 5 =
+    subst (λ (l : UnixLine). unix_length l ≤ 5) (sym same) (length_in Unix file c.args.place).1 in
     omega (arith, short, c.length.ensures)

@@ -22,7 +22,8 @@ returns c =
     let two = puts_both old c.put_address.new.text c.put.new.self at (codes " ") c.put_address.ensures c.put.ensures in
     let three = puts_both old c.put.new.self c.put_words.new.text (at ++ codes " ") words two c.put_words.ensures in
     let four = puts_both old c.put_words.new.text c.put_blanks.new.self (at ++ codes " " ++ words) lacking three filled in
-    let five = puts_both old c.put_blanks.new.self c.put-2.new.self (at ++ codes " " ++ words ++ lacking) (codes "  ") four c.put-2.ensures in
+    let five = puts_both old c.put_blanks.new.self c.put-2.new.self (at ++ codes " " ++ words ++ lacking)
+    (codes "  ") four c.put-2.ensures in
     let six = puts_both old c.put-2.new.self c.put_characters.new.text (at ++ codes " " ++ words ++ lacking ++ codes "  ") shown five
     c.put_characters.ensures in
     puts_both old c.put_characters.new.text c.put-3.new.self (at ++ codes " " ++ words ++ lacking ++ codes "  " ++ shown) (codes "\n") six

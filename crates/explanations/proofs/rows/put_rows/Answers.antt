@@ -27,8 +27,11 @@ loop-row-preserved c =
             search rules,
             counted,
             place,
-            rw (w.text-is) rw (w.last-is) rw (w.times-is) (λ whole. let before = inv.5 whole in
-                (before.0, same_put c.args.base c.loop-row.at last c.loop-row.times row rest left bytes all off (sym c.eq.ensures ∙ w.if-eq.true) before.1)),
+            rw (w.text-is) rw (w.last-is) rw (w.times-is) (λ whole. let before = inv.5 whole in (
+              before.0,
+              same_put c.args.base c.loop-row.at last c.loop-row.times row rest left bytes all off
+                  (sym c.eq.ensures ∙ w.if-eq.true) before.1,
+            )),
           ))
       | else-eq w ↦
           (let counted : 16 * c.if-eq.times ≤ c.loop-row.at + 16 = (let n = w.times-is in omega arith) in (

@@ -5,9 +5,9 @@ use Rattle.library_calls.proofs.map_call.take_read.Goals as goal
 pub returns-clause-read : goal.returns-clause-read
 returns-clause-read c =
     read_more c.args.all.now c.take.new.self (labelled c.new.result c.in_ok-object.object)
-    c.in_ok-take.ensures.cause c.in_ok-take.ensures.left c.in_ok-take.ensures.entries c.args.bytes.now c.in_ok-object.ensures.object
+    c.in_ok-take.ensures.taken c.args.bytes.now c.in_ok-object.ensures.object
 
 pub returns-clause-taken : goal.returns-clause-taken
 returns-clause-taken c =
     taken_more c.args.all.now c.take.new.self (labelled c.new.result c.in_ok-object.object)
-    c.in_ok-take.ensures.cause c.in_ok-take.ensures.left c.in_ok-take.ensures.entries c.in_ok-take.ensures.forced
+    c.in_ok-take.ensures.taken c.in_ok-take.ensures.forced

@@ -3,7 +3,7 @@ use Rattle.std.specs.Prelude.{IfErr}
 use Rattle.link_session.specs.Undo.{Kept}
 use Rattle.link_out.specs.Runs.{change_of}
 use Rattle.library_calls.specs.declared.cause.Cause.TheVariants.{Memory}
-use Rattle.library_calls.specs.RunAnswers.{changes_run, results_of, run_output}
+use Rattle.library_calls.specs.RunAnswers.{results_of, run_output}
 use Rattle.library_calls.specs.SessionAnswers.{given_by}
 use Rattle.library_calls.proofs.EditLemmas.{run_ok, run_err, run_memory}
 use Rattle.library_calls.proofs.run_call.run_changes.Goals as goal

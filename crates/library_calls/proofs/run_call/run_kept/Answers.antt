@@ -1,4 +1,3 @@
-use Rattle.std.proofs.Common.{List}
 use Rattle.link_session.specs.Labelled.{objects}
 use Rattle.link_out.specs.Outcomes.{outcome_of}
 use Rattle.link_out.specs.function.Link.{link}

@@ -41,7 +41,8 @@ cut : (c : After-begin_chain) → stopped c
 cut c =
     with_items_is c.bind_chain-rest.new.image.heads c.begin_chain.new.heads (c.begin_chain.auto.heads ∙ c.deref_mut.ensures.len)
     ∙ c.begin_chain.ensures
-    ∙ ap (λ (l : List Link). slice_set l c.args.place c.bind_chain-rest.result) (c.deref_mut.ensures.value ∙ c.bind_chain-rest.ensures.heads)
+    ∙ ap (λ (l : List Link). slice_set l c.args.place c.bind_chain-rest.result)
+    (c.deref_mut.ensures.value ∙ c.bind_chain-rest.ensures.heads)
 
 pub returns-in-Some-clause-chained : goal.returns-in-Some-clause-chained
 returns-in-Some-clause-chained c =

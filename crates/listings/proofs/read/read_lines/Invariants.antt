@@ -1,5 +1,5 @@
 use Rattle.std.proofs.Common.{◌≡◌, ◌+◌, ◌≤◌, length}
-use Rattle.listings.specs.Columns.{lines_in}
+use Rattle.texts.specs.Lines.{lines_in}
 use Rattle.listings.specs.internal.DraftParts.{draft_of}
 use Rattle.listings.specs.MemoryWanted.{MayRunOutInLines}
 use Rattle.listings.specs.Reading.{lines_read}

@@ -1,12 +1,12 @@
 use Rattle.std.proofs.Common.{rules, ◌≡◌, [], ◌∷◌, ◌++◌, ap, ◌∙◌, string_bytes, subst}
 use Rattle.std.specs.Prelude.{Ok}
 use Rattle.link_maps.specs.Members.{all_of}
-use Rattle.link_session.specs.Labelled.{Labelled, objects}
-use Rattle.link_session.specs.Limits.{refusal}
+use Rattle.link_session.specs.Labelled.{Labelled}
 use Rattle.link_session.specs.Sessions.{labelled}
+use Rattle.link_maps.proofs.TakingLemmas.{all_more}
 use Rattle.v7_explain.specs.Maps.{object_in}
 use Rattle.v7_explain.proofs.MapLemmas.{keeps_split}
-use Rattle.v7_explain.proofs.TakingLemmas.{taken_last, takes_none, takes_object, takes_out, takes_unread}
+use Rattle.v7_explain.proofs.TakingLemmas.{takes_none, takes_object, takes_out, takes_unread}
 use Rattle.v7_explain.proofs.map_objects.take_at.Goals as goal
 
 pub returns-clause-taken : goal.returns-clause-taken
@@ -18,9 +18,7 @@ returns-clause-taken g c =
     let x : Labelled = labelled c.in_ok-label.label object in
     let same : c.deref.result.now ≡ bytes = search rules in
     let named : string_bytes c.in_ok-label.label ≡ c.args.path.now = search rules in
-    let grown : all_of after ≡ all_of before ++ x ∷ [] =
-    taken_last before after x (refusal before.session.forced (objects before.session.entries) object)
-    c.in_ok-take.ensures.cause c.in_ok-take.ensures.left c.in_ok-take.ensures.entries in
+    let grown : all_of after ≡ all_of before ++ x ∷ [] = all_more before after x c.in_ok-take.ensures.taken in
     takes_object (g.O.Office.history c.args.office.now)
     (g.O.Office.history c.read_whole.new.office) c.args.path.now bytes object (all_of before) (all_of after)
     c.in_ok-bytes.ensures.ok (subst (λ b. object_in c.args.path.now b ≡ Ok object) same c.in_ok-object.ensures.ok)
@@ -28,15 +26,8 @@ returns-clause-taken g c =
 
 pub returns-clause-split : goal.returns-clause-split
 returns-clause-split g c =
-    let before = c.args.objects.now in
-    let after = c.take.new.self in
-    let object = c.in_ok-object.object in
-    let x : Labelled = labelled c.in_ok-label.label object in
-    let grown : all_of after ≡ all_of before ++ x ∷ [] =
-    taken_last before after x (refusal before.session.forced (objects before.session.entries) object)
-    c.in_ok-take.ensures.cause c.in_ok-take.ensures.left c.in_ok-take.ensures.entries in
     λ _ h.
-    keeps_split before after x c.in_ok-take.ensures.cause c.in_ok-take.ensures.left c.in_ok-take.ensures.entries grown
+    keeps_split c.args.objects.now c.take.new.self (labelled c.in_ok-label.label c.in_ok-object.object) c.in_ok-take.ensures.taken
     c.take.ensures.forced h
 
 pub returns-in_err-bytes-clause-taken : goal.returns-in_err-bytes-clause-taken

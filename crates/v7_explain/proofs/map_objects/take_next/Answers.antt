@@ -12,5 +12,6 @@ returns-in-Err-Answered-clause-taken g c =
     let before = all_of c.args.objects.now in
     let after = all_of c.take_at.new.objects in
     next_joined _ old new c.args.path.now before after c.args.said.now c.in-Err-Answered.more c.join.new.said c.join.result
-    (subst (λ fault. TakesOne old new c.args.path.now before after (Err fault)) c.in-Err-Answered.field-0-is c.in-Err-Answered.ensures.taken)
+    (subst (λ fault. TakesOne old new c.args.path.now before after (Err fault))
+    c.in-Err-Answered.field-0-is c.in-Err-Answered.ensures.taken)
     c.join.ensures

@@ -34,7 +34,8 @@ loop-path-preserved g c =
       forced = search rules;
       split = search rules;
       goes_on = taking_next _ (g.O.Office.history c.args.office.now) mid next (taken_of c.args.objects.now nothing_said) before after
-          (map string_bytes (drop i all)) (map string_bytes (drop (i + 1) all)) (map string_bytes all) (string_bytes path) c.take_next.result
+          (map string_bytes (drop i all)) (map string_bytes (drop (i + 1) all)) (map string_bytes all)
+          (string_bytes path) c.take_next.result
           c.loop-path.invariant.goes_on (paths_left all i path c.loop-path-test.true c.path-item.is)
           (subst (λ at. TakesNext mid next before at after c.take_next.result) same c.take_next.ensures.taken) (search rules);
     }

@@ -1,0 +1,23 @@
+-- What is said of a wrong line of a listing. (own choice)
+use Rattle.std.specs.Prelude.{ℕ, List, codes}
+use Rattle.listings.specs.declared.fault.Reason.{Reason}
+use Rattle.listings.specs.declared.fault.Reason.TheVariants.{Missing, NotOctal, TooLarge, BadName, WrongAddress}
+use Rattle.listings.specs.declared.fault.Reason.TheVariants.{WrongNumber, TooManyWords, TooManySymbols, NoSection}
+use Rattle.listings.specs.declared.fault.Reason.TheVariants.{UnknownWord, OutOfOrder, TooLate, AfterTable, NoMagic, OddSize}
+
+abbrev pub reason_text : Reason → List ℕ
+reason_text Missing = codes "a column is missing"
+reason_text NotOctal = codes "not an octal number"
+reason_text TooLarge = codes "over 177777"
+reason_text BadName = codes "bad byte in a name"
+reason_text WrongAddress = codes "the address does not follow"
+reason_text WrongNumber = codes "the number does not follow"
+reason_text TooManyWords = codes "more than 32767 words"
+reason_text TooManySymbols = codes "more than 5461 symbols"
+reason_text NoSection = codes "text, data or symbols is missing"
+reason_text UnknownWord = codes "unknown word"
+reason_text OutOfOrder = codes "text, data and symbols are not in this order"
+reason_text TooLate = codes "magic and flag come before text, data and symbols"
+reason_text AfterTable = codes "only symbols can follow symbols"
+reason_text NoMagic = codes "bad magic number"
+reason_text OddSize = codes "odd size"
