@@ -94,7 +94,7 @@ ends_after_waiting Device w a b r = tt
 ends_after_waiting ShortHeader w a b r = absurd r
 ends_after_waiting BadMagic w a b r = absurd r
 ends_after_waiting OddSize w a b r = absurd r
-ends_after_waiting Memory w a b r = absurd r
+ends_after_waiting (Memory _) w a b r = absurd r
 
 -- bytes were taken, and then more
 pub takes_more : (w v u : Awaited) (a b d : Option (List ℕ)) (first second : List ℕ) → Takes w a v b first →
@@ -121,7 +121,7 @@ ends_later Device w v a b d first p e = tt
 ends_later ShortHeader w v a b d first p e = absurd e
 ends_later BadMagic w v a b d first p e = absurd e
 ends_later OddSize w v a b d first p e = absurd e
-ends_later Memory w v a b d first p e = absurd e
+ends_later (Memory _) w v a b d first p e = absurd e
 
 -- one more item after a row
 row_in-more : {A : Type 0} (item_in : List ℕ → A) (width count : ℕ) (front back : List ℕ) →
@@ -183,7 +183,7 @@ ends_in_body Device h n v a b d taken size takes ends = tt
 ends_in_body ShortHeader h n v a b d taken size takes ends = absurd ends
 ends_in_body BadMagic h n v a b d taken size takes ends = absurd ends
 ends_in_body OddSize h n v a b d taken size takes ends = absurd ends
-ends_in_body Memory h n v a b d taken size takes ends = absurd ends
+ends_in_body (Memory _) h n v a b d taken size takes ends = absurd ends
 
 -- all bytes after the header were taken
 pub took_body : (h : Header) (n : ℕ) (u : Awaited) (a b : Option (List ℕ)) (body : List ℕ) → 16 + n ≡ file_length h →

@@ -95,7 +95,7 @@ refused_header BadMagic bytes (Some rest) (h, t, bad) =
 refused_header OddSize bytes None (h, t, magic, bad) = absurd t.taken
 refused_header OddSize bytes (Some rest) (h, t, magic, bad) =
     let b = begins bytes rest h t in (odd_size bytes rest h b magic bad, ap Some (rest_after bytes rest h b))
-refused_header Memory bytes left r = absurd r
+refused_header (Memory _) bytes left r = absurd r
 refused_header Truncated bytes left r = absurd r
 refused_header Device bytes left r = (tt, tt)
 
@@ -124,8 +124,8 @@ read_after (Ok c) bytes (Some rest) left h t good body = file_after c bytes rest
 read_after (Err ShortHeader) bytes (Some rest) left h t good body = absurd body
 read_after (Err BadMagic) bytes (Some rest) left h t good body = absurd body
 read_after (Err OddSize) bytes (Some rest) left h t good body = absurd body
-read_after (Err Memory) bytes (Some rest) None h t good body = absurd body.0
-read_after (Err Memory) bytes (Some rest) (Some more) h t good body =
+read_after (Err (Memory _)) bytes (Some rest) None h t good body = absurd body.0
+read_after (Err (Memory _)) bytes (Some rest) (Some more) h t good body =
     let b = begins bytes rest h t in
     let size = length-begins bytes rest h b in
     let header : HasHeader bytes = record { long = omega arith; header = subst IsFileHeader (sym b.encoded) good } in

@@ -7,6 +7,7 @@ pub mod Encoding
 pub mod Encodes
 pub mod Decoding
 pub mod Reading
+pub mod Refusals
 pub mod WellFormed
 pub mod Addresses
 pub mod Objects

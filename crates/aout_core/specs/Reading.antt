@@ -24,7 +24,7 @@ pub record HasHeader (bytes : List ℕ) : Type 0 where
 -- header announces after its 16 bytes
 abbrev pub IsReadOf : Result Contents ReadFault → List ℕ → Type 0
 IsReadOf (Ok c) bytes = decode bytes ≡ Ok c
-IsReadOf (Err Memory) bytes = HasHeader bytes × (16 < file_length (header_in bytes))
+IsReadOf (Err (Memory _)) bytes = HasHeader bytes × (16 < file_length (header_in bytes))
 IsReadOf (Err Device) bytes = Unit {0}
 IsReadOf (Err fault) bytes = decode bytes ≡ Err fault
 

@@ -2,8 +2,10 @@
 ghost use Rattle.std.specs.Prelude.{◌≡◌, ◌↔◌, ◌*◌, IsTrue};
 ghost use Rattle.aout_core.specs.Contents.{is_magic, has_whole_sizes};
 ghost use Rattle.aout_core.specs.declared.file.ReadFault.TheVariants.{Memory, Device};
+ghost use Rattle.aout_core.specs.Refusals.{refused};
 
 use crate::header::Header;
+use crate::refused::Refused;
 use crate::reloc::Reloc;
 use crate::symbol::Symbol;
 use crate::wire::DeviceFault;
@@ -187,7 +189,7 @@ pub enum ReadFault {
     /// 3: an odd size of text, data or bss, or a size of the symbol table that 12 does not divide.
     OddSize,
     /// 4: memory runs out for what the header announces.
-    Memory,
+    Memory(Refused),
     /// 5: fewer bytes than the header announces.
     Truncated,
     /// 6: the device failed, in this call or before it.
@@ -206,7 +208,7 @@ impl ReadFault {
             ReadFault::ShortHeader => "short header",
             ReadFault::BadMagic => "bad magic number",
             ReadFault::OddSize => "odd size",
-            ReadFault::Memory => "no memory",
+            ReadFault::Memory(_) => "no memory",
             ReadFault::Truncated => "truncated",
             ReadFault::Device => "read error",
         }
@@ -222,9 +224,9 @@ impl From<DeviceFault> for ReadFault {
 }
 
 impl From<AllocError> for ReadFault {
-    ghost from_gives = { λ _ fault. fault ≡ Memory };
+    ghost from_gives = { λ _ fault. fault ≡ Memory refused };
 
-    fn from(_error: AllocError) -> ReadFault {
-        ReadFault::Memory
+    fn from(error: AllocError) -> ReadFault {
+        ReadFault::Memory(Refused::from(error))
     }
 }

@@ -20,7 +20,7 @@
 //! - `Wire`, `BufferedWrite`: a reader or a writer with a sticky error, and a writer that may hold bytes back
 //! - `Block`, `BLOCK_SIZE`: bytes between a wire and its user, and how many a block holds
 //! - `ReadFault`, `NoObject`: why no file was read, and why no object was
-//! - `DeviceFault`: a device failed
+//! - `DeviceFault`, `Refused`: a device failed, and a request for memory was refused
 //! - `FileFault`: why the bytes at a path were not read
 //! - `Shown`, `VERSION`: what a program shows of itself, and the version of v7
 //!
@@ -57,6 +57,7 @@ mod object_reader;
 mod outgoing;
 mod part;
 mod reader;
+mod refused;
 mod reloc;
 pub mod samples;
 mod shown;
@@ -76,6 +77,7 @@ pub use object::{Object, ObjectFault, object_fault};
 pub use object_reader::{NoObject, read_object};
 pub use part::Part;
 pub use reader::read_file;
+pub use refused::Refused;
 pub use reloc::{Kind, Reloc};
 pub use shown::{Shown, VERSION, show, shown_by};
 pub use strip::strip_file;

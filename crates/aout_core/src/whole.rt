@@ -1,11 +1,13 @@
 //! Files that are read whole. No contract can say what a file gives, so `read_all` has none: read its body.
 ghost use Rattle.std.specs.Prelude.{◌≡◌, ◌⊎◌, IfErr, IfOk, IfSome};
 ghost use Rattle.aout_core.specs.declared.whole.FileFault.TheVariants.{Failed, Memory};
+ghost use Rattle.aout_core.specs.Refusals.{refused};
 
+use crate::refused::Refused;
 use std::alloc::{AllocGlobal, Global};
+use std::fs;
 use std::io::Read;
 use std::rt::Runtime;
-use std::{fs, io};
 use thiserror::Error;
 
 /// Why a file was not read. (own choice)
@@ -17,7 +19,7 @@ pub enum FileFault {
     #[error("read error")]
     Failed,
     #[error("no memory")]
-    Memory,
+    Memory(Refused),
 }
 
 /// All bytes that a reader still gives. (own choice)
@@ -25,13 +27,15 @@ pub enum FileFault {
 /// Errors: `Memory` if memory runs out for them; `Failed` if the reader fails.
 pub fn read_bytes<R: Read>(alloc: Global, source: &mut R) -> Result<Vec<u8>, FileFault>
     ensures ok { IfOk result (λ bytes. IfSome (R.remaining source.old) (λ all. bytes.items ≡ all)) }
-    ensures err { IfErr result (λ fault. (fault ≡ Failed) ⊎ (fault ≡ Memory)) }
+    ensures err { IfErr result (λ fault. (fault ≡ Failed) ⊎ (fault ≡ Memory refused)) }
 {
     let mut bytes = Vec::new(alloc);
     match source.read_to_end(&mut bytes) {
         Ok(_) => Ok(bytes),
-        Err(error) if error.kind() == io::ErrorKind::OutOfMemory => Err(FileFault::Memory),
-        Err(_) => Err(FileFault::Failed),
+        Err(error) => match Refused::told_by(&error) {
+            Some(refused) => Err(FileFault::Memory(refused)),
+            None => Err(FileFault::Failed),
+        },
     }
 }
 

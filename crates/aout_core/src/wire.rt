@@ -9,10 +9,10 @@ use std::io::{Read, Write};
 use std::marker::Model;
 use thiserror::Error;
 
-/// The device of a wire failed, in this call or before it. (own choice)
+/// The device of a wire failed, in this call or before it. Only a wire makes it. (own choice)
 #[derive(Clone, Copy, Debug, PartialEq, Eq, Error)]
 #[error("device fault")]
-pub struct DeviceFault;
+pub struct DeviceFault(());
 
 /// A writer that may hold bytes back, and tells contracts which. (own choice)
 pub trait BufferedWrite: Write {
@@ -65,6 +65,16 @@ impl<D> Wire<D> {
         self.has_failed
     }
 
+    /// The fault, if the latch is on. This does not touch the device. (own choice)
+    pub fn working(&self) -> Result<(), DeviceFault>
+        ensures { IsErr result ↔ IsTrue self.now.has_failed }
+    {
+        if self.has_failed {
+            return Err(DeviceFault(()));
+        }
+        Ok(())
+    }
+
     /// The device back, whether the latch is on or not. (own choice)
     pub fn into_inner(self) -> D
         ensures { result ≡ self.device }
@@ -90,13 +100,13 @@ impl<R: Read> Wire<R> {
         ensures untouched { IsTrue self.old.has_failed → (buf.new ≡ buf.old) }
     {
         if self.has_failed {
-            return Err(DeviceFault);
+            return Err(DeviceFault(()));
         }
         match self.device.read(buf) {
             Ok(n) => Ok(n),
             Err(_) => {
                 self.has_failed = true;
-                Err(DeviceFault)
+                Err(DeviceFault(()))
             }
         }
     }
@@ -114,7 +124,7 @@ impl<R: Read> Wire<R> {
         ensures untouched { IsTrue self.old.has_failed → (buf.new ≡ buf.old) }
     {
         if self.has_failed {
-            return Err(DeviceFault);
+            return Err(DeviceFault(()));
         }
         let mut filled = 0;
         while filled < buf.len() {
@@ -136,14 +146,14 @@ impl<W: Write> Wire<W> {
         ensures nothing { bytes.now ≡ [] → self.new ≡ self.old }
     {
         if self.has_failed {
-            return Err(DeviceFault);
+            return Err(DeviceFault(()));
         }
         let mut rest = bytes;
         while !rest.is_empty() {
             match self.device.write(rest) {
                 Ok(0) | Err(_) => {
                     self.has_failed = true;
-                    return Err(DeviceFault);
+                    return Err(DeviceFault(()));
                 }
                 Ok(n) => rest = &rest[n..],
             }
@@ -166,13 +176,13 @@ impl<W: Write> Wire<W> {
         ensures bytes { Keeps (W.contents self.old.device) (W.contents self.new.device) }
     {
         if self.has_failed {
-            return Err(DeviceFault);
+            return Err(DeviceFault(()));
         }
         match self.device.flush() {
             Ok(()) => Ok(()),
             Err(_) => {
                 self.has_failed = true;
-                Err(DeviceFault)
+                Err(DeviceFault(()))
             }
         }
     }
@@ -187,11 +197,11 @@ impl<W: BufferedWrite> Wire<W> {
         ensures empty { IfOk result (λ _. W.waiting self.new.device ≡ []) }
     {
         if self.has_failed {
-            return Err(DeviceFault);
+            return Err(DeviceFault(()));
         }
         if self.device.pass_on().is_err() {
             self.has_failed = true;
-            return Err(DeviceFault);
+            return Err(DeviceFault(()));
         }
         Ok(())
     }

@@ -13,9 +13,7 @@ use std::io::Write;
 pub fn write_file<W: Write>(file: &File, wire: &mut Wire<W>) -> Result<(), DeviceFault>
     ensures { Writes W.contents result wire.old wire.new (encoding file.now) }
 {
-    if wire.failed() {
-        return Err(DeviceFault);
-    }
+    wire.working()?;
     let mut outgoing = Outgoing::new();
     outgoing.put(&file.header().to_bytes(), wire)?;
     put_both(file.text_words(), file.data_words(), &mut outgoing, wire)?;

@@ -1,5 +1,6 @@
 -- The lines of a script, taken off its bytes one by one.
 use Rattle.std.proofs.Common.{◌≡◌, ◌≢◌, ◌+◌, ◌<◌, ◌≤◌, ℕ, Bool, true, false, cond, if◌then◌else◌, List, [], ◌∷◌}
+use Rattle.aout_core.specs.Refusals.{refused}
 use Rattle.std.proofs.Common.{◌++◌, length, Option, Some, None, Ok, refl, sym, ap, ◌∙◌, ◌↔◌, Err, subst, drop, drop_at}
 use Rattle.std.proofs.Common.{arith, append_assoc, append-nil, length-append}
 use Rattle.std.specs.Prelude.{nat_lt, IsSome}
@@ -171,10 +172,10 @@ line_answered n settled line is_last it bytes left same last h = (
 -- no memory for the line that was taken
 pub lost_known : (n : ℕ) (old new : Option (List ℕ)) (settled : Option Stop) (line : List ℕ) (is_last : Bool) → NamesPath (asked line) →
     WhereKnown old new (λ bytes left. IsTakenOf n bytes left line (Ok is_last)) →
-    WhereKnown old new (λ bytes left. IsNextOf n bytes left settled (Err stops.Memory))
+    WhereKnown old new (λ bytes left. IsNextOf n bytes left settled (Err (stops.Memory refused)))
 lost_known n old new settled line is_last named =
     known_map old new (λ bytes left. IsTakenOf n bytes left line (Ok is_last))
-    (λ bytes left. IsNextOf n bytes left settled (Err stops.Memory)) (λ bytes left h. (asked line, named, h.0))
+    (λ bytes left. IsNextOf n bytes left settled (Err (stops.Memory refused))) (λ bytes left h. (asked line, named, h.0))
 
 -- why there is no further line
 stops_next : (n : ℕ) (settled : Option Stop) (stop : Stop) (bytes left : List ℕ) → IsStopOf n bytes left stop →
@@ -183,7 +184,7 @@ stops_next n settled stops.End bytes left h = h
 stops_next n settled stops.LongLine bytes left h = h
 stops_next n settled stops.ManyLines bytes left h = h
 stops_next n settled stops.ReadFailed bytes left h = h
-stops_next n settled stops.Memory bytes left h = absurd h
+stops_next n settled (stops.Memory _) bytes left h = absurd h
 
 pub stop_known : (n : ℕ) (old new : Option (List ℕ)) (settled : Option Stop) (stop : Stop) →
     WhereKnown old new (λ bytes left. IsStopOf n bytes left stop) →

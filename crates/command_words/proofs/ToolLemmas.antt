@@ -1,5 +1,6 @@
 -- What options make of a command, and what is read of the words by it.
 use Rattle.std.proofs.Common.{◌≡◌, ◌<◌, ◌+◌, ℕ, Bool, true, false, cond, drop, get_or, List, [], length}
+use Rattle.aout_core.specs.Refusals.{refused}
 use Rattle.std.proofs.Common.{filter, map, Option, Some, None, option_map, Result, Ok, Err, refl}
 use Rattle.std.proofs.Common.{sym, ap, ap₂, ◌∙◌, subst, inl, inr}
 use Rattle.std.specs.Borrow.{Bor}
@@ -181,7 +182,7 @@ none_refused command words given e (Err fault) app_is words_are kinds is = λ ca
     let none : fault_of (app_of command) given ≡ [] = ap₂ fault_of app_is (sym words_are) ∙ asked.0 in
     by_kind (subst (λ (ks : Kinds). HasKind ks e) none (kinds (ap is_simple_and_free app_is ∙ v7_is_free)))
   where
-    by_kind : HasKind [] e → fault ≡ Memory
+    by_kind : HasKind [] e → fault ≡ Memory refused
     by_kind (inl memory) = is ∙ ap fault_of_words memory
     by_kind (inr other) = absurd other
 

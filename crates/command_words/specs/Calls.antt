@@ -3,6 +3,7 @@
 -- A call is a tool with its options and files. Arguments ask for a call if `clap` takes them, they name its tool, and its options
 -- and files are those that `clap` reads from them. Without files nm and size take the program, `a.out`.
 use Rattle.std.specs.Prelude.{◌≡◌, ◌<◌, ℕ, List, [], ◌∷◌, map, filter, length, Ok, Some, bytes_eq, codes, string_bytes, unwrap_or, vec_len}
+use Rattle.aout_core.specs.Refusals.{refused}
 use Rattle.clap.specs.Faults.{fault_of}
 use Rattle.clap.specs.Simple.{subcommand_of}
 use Rattle.clap.specs.Walk.{Row, first_of}
@@ -81,11 +82,11 @@ IsAsked words call =
 
 -- that there was no memory is distinguished from all other causes
 abbrev pub fault_of_words : ErrorKind → WordsFault
-fault_of_words OutOfMemory = faults.Memory
+fault_of_words OutOfMemory = faults.Memory refused
 fault_of_words kind = faults.Usage
 
 -- arguments that ask for a call fail only if memory runs out. Others may fail for that reason too: memory is requested for the tools
 -- and their options before an argument is read, so nothing rules out `Memory`
 abbrev pub AsksForNone : List (List ℕ) → WordsFault → Type 0
 AsksForNone words fault =
-    (call : Call) → IsWhole call → IsAsked words call → dashes_in words ≡ dashes_in (files_of call) → fault ≡ faults.Memory
+    (call : Call) → IsWhole call → IsAsked words call → dashes_in words ≡ dashes_in (files_of call) → fault ≡ faults.Memory refused

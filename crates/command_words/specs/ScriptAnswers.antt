@@ -105,7 +105,7 @@ IsNextOf n bytes left settled (Err stops.End) = (left ≡ []) × GivesNone n byt
 IsNextOf n bytes left settled (Err stops.LongLine) = (left ≡ drop 4097 bytes) × GivesNone n bytes (Some long_line)
 IsNextOf n bytes left settled (Err stops.ManyLines) = (left ≡ drop 1 bytes) × GivesNone n bytes (Some many_lines)
 IsNextOf n bytes left settled (Err stops.ReadFailed) = FailsInLine bytes left
-IsNextOf n bytes left settled (Err stops.Memory) = (asks : Asked) × NamesPath asks × TakesLine n bytes left asks
+IsNextOf n bytes left settled (Err (stops.Memory _)) = (asks : Asked) × NamesPath asks × TakesLine n bytes left asks
 
 -- what a call returned, and what it made of the script: once it is settled that there is no further line, nothing
 pub record GivesNext {R : Type 0} (remaining : R → Option (List ℕ)) (old new : Progress R) (answer : Answer) : Type 0 where

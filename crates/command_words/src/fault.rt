@@ -1,9 +1,11 @@
 //! Why words ask for no call.
 ghost use Rattle.std.specs.Prelude.{◌≡◌};
+ghost use Rattle.aout_core.specs.Refusals.{refused};
 ghost use Rattle.clap.specs.Values.{kind_of};
 ghost use Rattle.command_words.specs.Calls.{fault_of_words};
 ghost use Rattle.command_words.specs.declared.fault.WordsFault.TheVariants.{Memory};
 
+use aout_core::Refused;
 use clap::error::ErrorKind;
 use std::alloc::{AllocError, AllocFailed};
 use thiserror::Error;
@@ -16,7 +18,7 @@ pub enum WordsFault {
     Usage,
     /// 9: memory ran out.
     #[error("no memory")]
-    Memory,
+    Memory(Refused),
 }
 
 impl From<clap::Error> for WordsFault {
@@ -24,24 +26,24 @@ impl From<clap::Error> for WordsFault {
 
     fn from(error: clap::Error) -> WordsFault {
         match error.kind() {
-            ErrorKind::OutOfMemory => WordsFault::Memory,
+            ErrorKind::OutOfMemory => WordsFault::Memory(Refused::from(AllocError)),
             _ => WordsFault::Usage,
         }
     }
 }
 
 impl From<AllocError> for WordsFault {
-    ghost from_gives = { λ _ fault. fault ≡ Memory };
+    ghost from_gives = { λ _ fault. fault ≡ Memory refused };
 
-    fn from(_error: AllocError) -> WordsFault {
-        WordsFault::Memory
+    fn from(error: AllocError) -> WordsFault {
+        WordsFault::Memory(Refused::from(error))
     }
 }
 
 impl<T: Drop> From<AllocFailed<T>> for WordsFault {
-    ghost from_gives = { λ _ fault. fault ≡ Memory };
+    ghost from_gives = { λ _ fault. fault ≡ Memory refused };
 
-    fn from(_error: AllocFailed<T>) -> WordsFault {
-        WordsFault::Memory
+    fn from(error: AllocFailed<T>) -> WordsFault {
+        WordsFault::Memory(Refused::from(error))
     }
 }

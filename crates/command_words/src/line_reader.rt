@@ -7,7 +7,7 @@ ghost use Rattle.command_words.specs.internal.LineParts.{EndsLine, IsStopOf, IsT
 
 use crate::block_reader::BlockReader;
 use crate::lines::{LINE_LIMIT, Line};
-use aout_core::{DeviceFault, Wire};
+use aout_core::{DeviceFault, Refused, Wire};
 use std::alloc::{AllocError, Global};
 use std::io::Read;
 use std::marker::Model;
@@ -36,7 +36,7 @@ pub enum Stop {
     /// Its device failed.
     ReadFailed,
     /// Memory ran out for a path.
-    Memory,
+    Memory(Refused),
 }
 
 /// Takes a line with its newline, and keeps it without; of one over `LINE_LIMIT` bytes it takes a byte more than that.
@@ -182,9 +182,13 @@ impl<R: Read + Drop> LineReader<R> {
                 return Err(stop);
             }
         };
-        let Ok(line) = Line::from_bytes(self.alloc, &self.line) else {
-            self.stop = Some(Stop::Memory);
-            return Err(Stop::Memory);
+        let line = match Line::from_bytes(self.alloc, &self.line) {
+            Ok(line) => line,
+            Err(error) => {
+                let refused = Refused::from(error);
+                self.stop = Some(Stop::Memory(refused));
+                return Err(Stop::Memory(refused));
+            }
         };
         self.line_count += 1;
         if is_last {

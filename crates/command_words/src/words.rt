@@ -3,6 +3,7 @@ ghost use Rattle.std.specs.Prelude.{◌≡◌, ◌<◌, false, [], IfErr, IfOk, 
 ghost use Rattle.clap.specs.Matches.{found_of};
 ghost use Rattle.clap.specs.Simple.{app_of};
 ghost use Rattle.clap.specs.Walk.{first_of, rows_of, rule_of};
+ghost use Rattle.aout_core.specs.Refusals.{refused};
 ghost use Rattle.command_words.specs.declared.fault.WordsFault.TheVariants.{Memory};
 ghost use Rattle.command_words.specs.Calls.{Asks, AsksForNone, IsAsked, IsWhole, dashes_in, files_of, name_of, or_program, program};
 ghost use Rattle.command_words.specs.internal.ToolApps.{tool_app, tools_added};
@@ -170,7 +171,7 @@ fn tools<'a>(alloc: Global) -> Result<Command<'a>, AllocError>
 fn owned_files(alloc: Global, matches: &ArgMatches<'_>) -> Result<Vec<String>, WordsFault>
     ensures value { IfOk result (λ owned.
         map string_bytes owned.items ≡ values_of (rows_of (found_of matches.now)) FILE.now) }
-    ensures faults { IfErr result (λ fault. fault ≡ Memory) }
+    ensures faults { IfErr result (λ fault. fault ≡ Memory refused) }
 {
     let mut owned = Vec::new(alloc);
     let Some(given) = matches.get_strs(FILE) else {
@@ -187,7 +188,7 @@ fn files_or_program(alloc: Global, mut files: Vec<String>) -> Result<Vec<String>
     ensures whole { IfOk result (λ files. 0 < vec_len files) }
     ensures value { IfOk result (λ given.
         map string_bytes given.items ≡ or_program (map string_bytes files.items)) }
-    ensures faults { IfErr result (λ fault. fault ≡ Memory) }
+    ensures faults { IfErr result (λ fault. fault ≡ Memory refused) }
 {
     if !files.is_empty() {
         return Ok(files);
@@ -200,7 +201,7 @@ fn files_or_program(alloc: Global, mut files: Vec<String>) -> Result<Vec<String>
 fn output(alloc: Global, given: &ArgMatches<'_>) -> Result<String, WordsFault>
     ensures value { IfOk result (λ out.
         string_bytes out ≡ unwrap_or (first_of OUT.now (rows_of (found_of given.now))) program) }
-    ensures faults { IfErr result (λ fault. fault ≡ Memory) }
+    ensures faults { IfErr result (λ fault. fault ≡ Memory refused) }
 {
     let path = given.get_str(OUT).unwrap_or(PROGRAM);
     Ok(String::from_str(alloc, path)?)

@@ -27,3 +27,4 @@ mod InstructionExamples
 mod TableExamples
 mod CallExamples
 mod ReachedExamples
+mod SessionLawExamples

@@ -29,6 +29,11 @@ abbrev pub IsStrip : List (List ℕ) → Call → Type 0
 IsStrip paths (Strip files) = map string_bytes files.items ≡ paths
 IsStrip paths _ = ⊥
 
+-- a call is a session
+abbrev pub IsSession : List (List ℕ) → Choices → Call → Type 0
+IsSession forced o (Session options names) = (options ≡ o) × (names ≡ forced)
+IsSession forced o _ = ⊥
+
 abbrev has_name : List ℕ → Option (List ℕ × List Row) → Bool
 has_name name None = false
 has_name name (Some p) = bytes_eq p.0 name
@@ -84,3 +89,20 @@ module _ (words : List (List ℕ)) (files : Vec (String Global) Global) (a : Ask
       ∙ sym a.asked.3
   same_strip (Session options names) b =
       absurd (let bad : true ≡ false = same_name words (Strip files) (Session options names) a b (codes "strip") in cc)
+
+module _ (words forced : List (List ℕ)) (o : Choices) (a : AsksFor words (Session o forced)) where
+  -- or for this session
+  pub same_session : (call : Call) → AsksFor words call → IsSession forced o call
+  same_session (Ld options names out paths) b =
+      absurd (let bad : true ≡ false = same_name words (Session o forced) (Ld options names out paths) a b (codes "session") in cc)
+  same_session (Nm options paths) b =
+      absurd (let bad : true ≡ false = same_name words (Session o forced) (Nm options paths) a b (codes "session") in cc)
+  same_session (Size paths) b =
+      absurd (let bad : true ≡ false = same_name words (Session o forced) (Size paths) a b (codes "session") in cc)
+  same_session (Strip paths) b =
+      absurd (let bad : true ≡ false = same_name words (Session o forced) (Strip paths) a b (codes "session") in cc)
+  same_session (Session options names) b =
+      let rows : b.asked.1 ≡ a.asked.1 = sym (same_rows words (Session o forced) (Session options names) a b) in (
+        same_value options o (sym b.asked.3.0 ∙ ap options_asked rows ∙ a.asked.3.0),
+        same_value names forced (sym b.asked.3.1 ∙ ap forced_asked rows ∙ a.asked.3.1),
+      )

@@ -36,3 +36,8 @@ pub mod RunLemmas
 pub mod DiskLemmas
 pub mod SoundLemmas
 pub mod StepLemmas
+pub mod LeftLemmas
+pub mod LineLawLemmas
+pub mod LinkLineLemmas
+pub mod UndoLemmas
+pub mod SameDiskLemmas

@@ -1,5 +1,6 @@
 -- A link that no fault refuses.
 use Rattle.std.proofs.Common.{◌≡◌, ℕ, ◌+◌, ◌-◌, ◌≤◌, true, false, cond, List, [], map, length, ◌∙◌, ap, refl, sym, subst, arith}
+use Rattle.aout_core.specs.Refusals.{refused}
 use Rattle.std.specs.Prelude.{Result, Ok, Err, IsOk}
 use Rattle.std.specs.List.{AllByRecursion, list_any}
 use Rattle.std.proofs.lemmas.Bool.{or_parts}
@@ -143,7 +144,7 @@ module _ (p : code.Plan) (s : Kept) (o : Choices) (session : p.session.now ≡ s
       (subst (λ (x : Result Outcome LinkFault). IsLinkOf (Err fault) x) by_plan (refused_link (plan_in p) (objects_in p) fault h))
 
   -- it returns `Memory` only for a link that there is
-  pub ends_without_memory : (r : Result Linked LinkFault) (locals : ℕ) → r ≡ Err Memory →
+  pub ends_without_memory : (r : Result Linked LinkFault) (locals : ℕ) → r ≡ Err (Memory refused) →
       IsPassed (plan_in p) (objects_in p) locals → IsLinkOf r result
   ends_without_memory r locals is h =
       subst (λ (x : Result Linked LinkFault). IsLinkOf x result) (sym is)

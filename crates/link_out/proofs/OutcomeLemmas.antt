@@ -1,5 +1,6 @@
 -- The file and the report of a link that no fault refuses.
 use Rattle.std.proofs.Common.{◌≡◌, ℕ, ◌≤◌, Bool, true, false, cond, ◌&&◌, List, length, refl, ap, arith}
+use Rattle.aout_core.specs.Refusals.{refused}
 use Rattle.std.specs.Prelude.{Result, Ok, Err, nat_lt}
 use Rattle.std.proofs.lemmas.Bool.{ltb-true, ltb-false}
 use Rattle.aout_core.specs.Contents.{Contents}
@@ -79,14 +80,14 @@ passed_link p os locals h =
     numbered false h = refl
 
 -- a link is not refused for want of memory
-never_memory : (p : Plan) (os : List Contents) → link_by p os ≡ Err Memory → ⊥
+never_memory : (p : Plan) (os : List Contents) → link_by p os ≡ Err (Memory refused) → ⊥
 never_memory p os =
     by_tests (record { file = linked_file p os; report = report_of p })
     (nat_lt 65535 p.at.bss_end) (nat_lt 5461 (length (table p os))) (p.choices.relocatable && has_number_too_large p os)
   where
     by_tests : (x : Outcome) (t u v : Bool) →
         (let r : Result Outcome LinkFault = cond t (Err DoesNotFit) (cond u (Err TooManySymbols) (cond v (Err SymbolNumber) (Ok x))) in r)
-        ≡ Err Memory → ⊥
+        ≡ Err (Memory refused) → ⊥
     by_tests x true u v h = cc
     by_tests x false true v h = cc
     by_tests x false false true h = cc
@@ -97,4 +98,4 @@ pub refused_link : (p : Plan) (os : List Contents) (fault : LinkFault) → link_
 refused_link p os DoesNotFit h = h
 refused_link p os TooManySymbols h = h
 refused_link p os SymbolNumber h = h
-refused_link p os Memory h = absurd (never_memory p os h)
+refused_link p os (Memory _) h = absurd (never_memory p os h)

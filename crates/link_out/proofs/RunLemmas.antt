@@ -1,6 +1,8 @@
 -- What edits of a session do, one alone and one after the other.
 use Rattle.std.proofs.Common.{◌≡◌, ℕ, Bool, true, false, if◌then◌else◌, nat_lt, length, List, [], ◌∷◌, ◌++◌, map}
+use Rattle.aout_core.specs.Refusals.{refused}
 use Rattle.std.proofs.Common.{Option, None, Some, Result, Ok, Err, String, Vec, refl, sym, subst, ◌∙◌, ap, inr}
+use Rattle.std.specs.declared.alloc.AllocError.{AllocError}
 use Rattle.std.specs.Prelude.{IfErr, IsOk}
 use Rattle.std.proofs.lemmas.List.{append_assoc, map-append}
 use Rattle.std.specs.declared.alloc.Global.{Global}
@@ -39,13 +41,13 @@ added_done old new e fits h = record {
 }
 
 -- a cause that is not want of memory is the limit that was passed
-pub limit_is : (r : Option AddFault) (cause : AddFault) → IsCause r cause → (cause ≡ Memory → ⊥) → r ≡ Some cause
+pub limit_is : (r : Option AddFault) (cause : AddFault) → IsCause r cause → (cause ≡ Memory refused → ⊥) → r ≡ Some cause
 limit_is None cause h other = absurd (other h)
 limit_is (Some limit) cause h other = ap Some (sym h)
 
 -- memory runs out for an object that is within all limits
 pub within_limits : (forced : List (List ℕ)) (os : List Contents) (o : Contents) →
-    IsCause (refusal forced os o) Memory → refusal forced os o ≡ None
+    IsCause (refusal forced os o) (Memory refused) → refusal forced os o ≡ None
 within_limits forced os o h =
     by_tests (nat_lt 65534 (total TextSeg (os ++ o ∷ []))) (nat_lt 65534 (total DataSeg (os ++ o ∷ [])))
     (nat_lt 65534 (total BssSeg (os ++ o ∷ []))) (nat_lt 65535 (length (externals forced (os ++ o ∷ [])))) h
@@ -55,7 +57,7 @@ within_limits forced os o h =
         if text then Some TextFull
         else (if datas then Some DataFull else (if bss then Some BssFull else (if names then Some NamesFull else None)))
 
-    by_tests : (text datas bss names : Bool) → IsCause (limit_by text datas bss names) Memory → limit_by text datas bss names ≡ None
+    by_tests : (text datas bss names : Bool) → IsCause (limit_by text datas bss names) (Memory refused) → limit_by text datas bss names ≡ None
     by_tests true datas bss names h = absurd (cc)
     by_tests false true bss names h = absurd (cc)
     by_tests false false true names h = absurd (cc)
@@ -64,7 +66,7 @@ within_limits forced os o h =
 
 -- an addition that was refused, for another cause than memory
 pub refused_done : (old new : Kept) (e : Labelled) (cause : AddFault) →
-    IsCause (refusal old.forced (objects old.entries) e.object) cause → (cause ≡ Memory → ⊥) → new ≡ old →
+    IsCause (refusal old.forced (objects old.entries) e.object) cause → (cause ≡ Memory refused → ⊥) → new ≡ old →
     IsDone old new (addition e) (replies.Refused cause)
 refused_done old new e cause h other same =
     let limit : refusal old.forced (objects old.entries) e.object ≡ Some cause =
@@ -116,7 +118,7 @@ answers-one_more forced kept (d ∷ cs) c = ap (λ xs. answer_to forced kept d �
 
 -- the changes before an addition that is accepted were made
 pub stopped_among : (old mid new : Kept) (before : List Edit) (edit : Edit) (left all : List Edit)
-    (replies : Option (Vec Reply Global)) → AreDone old mid (map change_of before) replies → all ≡ before ++ edit ∷ left →
+    (replies : Result (Vec Reply Global) AllocError) → AreDone old mid (map change_of before) replies → all ≡ before ++ edit ∷ left →
     new ≡ mid → answer_to mid.forced mid.entries (change_of edit) ≡ added → StopsAmong old new (map change_of all)
 stopped_among old mid new before edit left all replies h order same is = record {
   before = map change_of before;
@@ -139,7 +141,7 @@ pub one_more : {A : Type 0} (all before left later : List A) (x : A) → all ≡
 one_more {A} all before left later x order split = order ∙ ap (λ (l : List A). before ++ l) split ∙ sym (append_assoc before (x ∷ []) later)
 
 -- one more edit
-pub one_more_done : (old new last : Kept) (edits : List Edit) (edit : Edit) (replies next : Option (Vec Reply Global)) →
+pub one_more_done : (old new last : Kept) (edits : List Edit) (edit : Edit) (replies next : Result (Vec Reply Global) AllocError) →
     AreDone old new (map change_of edits) replies →
     IsReplied new last (change_of edit) replies next → AreDone old last (map change_of (edits ++ edit ∷ [])) next
 one_more_done old new last edits edit replies next h one =
@@ -163,7 +165,7 @@ one_more_done old new last edits edit replies next h one =
     }
 
 -- the link of what is kept after all changes
-module _ (old new : Kept) (cs : List Change) (o : Choices) (replies : Option (Vec Reply Global)) (done : AreDone old new cs replies) where
+module _ (old new : Kept) (cs : List Change) (o : Choices) (replies : Result (Vec Reply Global) AllocError) (done : AreDone old new cs replies) where
   same_link : link new.forced (objects new.entries) o ≡ link old.forced (objects (survivors_from old.forced old.entries cs)) o
   same_link = λ i. link (done.forced i) (objects (done.kept i)) o
 
@@ -177,16 +179,16 @@ module _ (old new : Kept) (cs : List Change) (o : Choices) (replies : Option (Ve
       by_link : (r : Result (Vec Reply Global × Linked) RunFault) (x : Result Outcome LinkFault) →
           IsLinkedWith replies x r → IsRunOf r (answers_from old.forced old.entries cs) x
       by_link (Ok run) x (is, made) =
-          (ap (map answer_of) (subst (λ (rs : Option (Vec Reply Global)). Lists rs done.noted) is done.lists) ∙ done.answers, made)
-      by_link (Err faults.Memory) x h = tt
-      by_link (Err (faults.Link links.Memory)) x h = h
+          (ap (map answer_of) (subst (λ (rs : Result (Vec Reply Global) AllocError). Lists rs done.noted) is done.lists) ∙ done.answers, made)
+      by_link (Err (faults.Memory _)) x h = tt
+      by_link (Err (faults.Link (links.Memory _))) x h = h
       by_link (Err (faults.Link links.DoesNotFit)) x h = h
       by_link (Err (faults.Link links.TooManySymbols)) x h = h
       by_link (Err (faults.Link links.SymbolNumber)) x h = h
 
   -- the run that ends without memory for its link
   pub out_of_memory : (r : Result (Vec Reply Global × Linked) RunFault) →
-      IsLinkedWith replies (link new.forced (objects new.entries) o) r → r ≡ Err faults.Memory → RunsOut old new cs o
+      IsLinkedWith replies (link new.forced (objects new.entries) o) r → r ≡ Err (faults.Memory refused) → RunsOut old new cs o
   out_of_memory r h is = inr (record {
     kept = done.kept;
     link = subst IsOk same_link (subst (IsLinkedWith replies (link new.forced (objects new.entries) o)) is h);

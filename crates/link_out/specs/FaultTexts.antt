@@ -7,4 +7,4 @@ abbrev pub link_text : LinkFault → List ℕ
 link_text DoesNotFit = codes "does not fit"
 link_text TooManySymbols = codes "too many symbols"
 link_text SymbolNumber = codes "symbol number too large"
-link_text Memory = codes "no memory"
+link_text (Memory _) = codes "no memory"

@@ -22,5 +22,5 @@ outcome_of l = record { file = l.file; report = report_names l.report }
 -- a result is the link of the objects; Memory is returned only if there is a file
 abbrev pub IsLinkOf : Result Linked LinkFault → Result Outcome LinkFault → Type 0
 IsLinkOf (Ok l) x = x ≡ Ok (outcome_of l)
-IsLinkOf (Err Memory) x = IsOk x
+IsLinkOf (Err (Memory _)) x = IsOk x
 IsLinkOf (Err fault) x = x ≡ Err fault

@@ -1,11 +1,12 @@
 //! Runs of additions and withdrawals.
 ghost use Rattle.std.specs.Prelude.{◌≡◌};
+ghost use Rattle.aout_core.specs.Refusals.{refused};
 ghost use Rattle.link_out.specs.Runs.{run_fault_of};
 ghost use Rattle.link_out.specs.declared.edit.RunFault.TheVariants as run_faults;
 
 use crate::linked::LinkFault;
-use aout_core::Object;
-use link_session::{AddFault, Memory};
+use aout_core::{Object, Refused};
+use link_session::AddFault;
 use std::alloc::AllocError;
 use thiserror::Error;
 
@@ -36,25 +37,25 @@ pub enum Reply {
 pub enum RunFault {
     /// 1: memory ran out, in any step.
     #[error("no memory")]
-    Memory,
+    Memory(Refused),
     /// 2: the link was refused, for another cause than memory.
     #[error("{0}")]
     Link(LinkFault),
 }
 
 impl From<AllocError> for RunFault {
-    ghost from_gives = { λ _ fault. fault ≡ run_faults.Memory };
+    ghost from_gives = { λ _ fault. fault ≡ run_faults.Memory refused };
 
-    fn from(_: AllocError) -> RunFault {
-        RunFault::Memory
+    fn from(error: AllocError) -> RunFault {
+        RunFault::Memory(Refused::from(error))
     }
 }
 
-impl From<Memory> for RunFault {
-    ghost from_gives = { λ _ fault. fault ≡ run_faults.Memory };
+impl From<Refused> for RunFault {
+    ghost from_gives = { λ _ fault. fault ≡ run_faults.Memory refused };
 
-    fn from(_: Memory) -> RunFault {
-        RunFault::Memory
+    fn from(refused: Refused) -> RunFault {
+        RunFault::Memory(refused)
     }
 }
 
@@ -63,7 +64,7 @@ impl From<LinkFault> for RunFault {
 
     fn from(fault: LinkFault) -> RunFault {
         match fault {
-            LinkFault::Memory => RunFault::Memory,
+            LinkFault::Memory(refused) => RunFault::Memory(refused),
             refusal => RunFault::Link(refusal),
         }
     }

@@ -1,13 +1,14 @@
 //! What a link gives.
 ghost use Rattle.std.specs.Prelude.{◌≡◌, ◌++◌};
 ghost use Rattle.std.specs.List.{flat_map};
+ghost use Rattle.aout_core.specs.Refusals.{refused};
 ghost use Rattle.aout_core.specs.Wires.{Writes};
 ghost use Rattle.link_out.specs.function.Reports.{report_text, status_of, entry_lines, undefined_lines};
 ghost use Rattle.link_out.specs.Outcomes.{report_names};
 ghost use Rattle.link_out.specs.internal.ReportParts.{is_silent, multiple_lines};
 ghost use Rattle.link_out.specs.declared.linked.LinkFault.TheVariants.{Memory};
 
-use aout_core::{DeviceFault, File, Name, Wire};
+use aout_core::{DeviceFault, File, Name, Refused, Wire};
 use std::alloc::AllocError;
 use std::io::Write;
 use thiserror::Error;
@@ -45,7 +46,7 @@ pub enum LinkFault {
     /// 3: a relocation word would need a symbol number over 4,095.
     SymbolNumber,
     /// 4: memory ran out for the file or the report.
-    Memory,
+    Memory(Refused),
 }
 
 impl LinkFault {
@@ -60,16 +61,16 @@ impl LinkFault {
             LinkFault::DoesNotFit => "does not fit",
             LinkFault::TooManySymbols => "too many symbols",
             LinkFault::SymbolNumber => "symbol number too large",
-            LinkFault::Memory => "no memory",
+            LinkFault::Memory(_) => "no memory",
         }
     }
 }
 
 impl From<AllocError> for LinkFault {
-    ghost from_gives = { λ _ fault. fault ≡ Memory };
+    ghost from_gives = { λ _ fault. fault ≡ Memory refused };
 
-    fn from(_: AllocError) -> LinkFault {
-        LinkFault::Memory
+    fn from(error: AllocError) -> LinkFault {
+        LinkFault::Memory(Refused::from(error))
     }
 }
 

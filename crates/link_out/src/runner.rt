@@ -1,5 +1,6 @@
 //! Runs: edits of a session in order, then the link.
 ghost use Rattle.std.specs.Prelude.{◌≡◌, ℕ, ◌+◌, None, Err, true, map, IfOk, IfErr};
+ghost use Rattle.aout_core.specs.Refusals.{refused};
 ghost use Rattle.aout_core.specs.WellFormed.{IsWellFormed};
 ghost use Rattle.link_session.specs.Limits.{refusal};
 ghost use Rattle.link_session.specs.Edits.{addition, withdrawal, added, answer_to, answers};
@@ -30,7 +31,7 @@ fn add_or_refuse(session: &mut Session, label: String, object: Object) -> Result
         return Ok(Reply::Added);
     };
     match refused.cause {
-        AddFault::Memory => Err(AllocError),
+        AddFault::Memory(refused) => Err(AllocError::from(refused)),
         limit => Ok(Reply::Refused(limit)),
     }
 }
@@ -67,7 +68,7 @@ pub fn reply_to(session: &mut Session, edit: Edit) -> Result<Reply, AllocError>
 fn put_reply(
     session: &mut Session,
     edit: Edit,
-    replies: &mut Option<Vec<Reply>>,
+    replies: &mut Result<Vec<Reply>, AllocError>,
 ) -> Result<(), AllocError>
     requires { HasCapacity 1 replies.old }
     ensures replied { IfOk result (λ done.
@@ -78,24 +79,24 @@ fn put_reply(
     ensures same { IfErr result (λ _. session.new ≡ session.old) }
 {
     let reply = reply_to(session, edit)?;
-    if let Some(list) = replies {
+    if let Ok(list) = replies {
         list.push(reply).unwrap();
     }
     Ok(())
 }
 
-/// Does the edits in order, with a reply to each; `None` in place of the replies if there was not enough memory for them. An
+/// Does the edits in order, with a reply to each; the error in place of the replies if there was not enough memory for them. An
 /// error: out of memory for an addition that is accepted.
 fn replies_to(
     alloc: Global,
     session: &mut Session,
     edits: Vec<Edit>,
-) -> Result<Option<Vec<Reply>>, AllocError>
+) -> Result<Result<Vec<Reply>, AllocError>, AllocError>
     ensures done { IfOk result (AreDone session.old session.new (map change_of edits.items)) }
     ensures stopped { IfErr result (λ _.
         StopsAmong session.old session.new (map change_of edits.items)) }
 {
-    let mut replies = Vec::with_capacity(alloc, edits.len()).ok();
+    let mut replies = Vec::with_capacity(alloc, edits.len());
     for edit in edits {
         put_reply(session, edit, &mut replies)?;
     }
@@ -108,16 +109,13 @@ fn link_replied(
     alloc: Global,
     session: &Session,
     options: &Options,
-    replies: Option<Vec<Reply>>,
+    replies: Result<Vec<Reply>, AllocError>,
 ) -> Result<(Vec<Reply>, Linked), RunFault>
     ensures value { IsLinkedWith replies (link_of session.now options.now) result }
     ensures object { options.now.relocatable ≡ true → IfOk result (λ run. IsWellFormed run.1.file) }
 {
     let linked = finish(alloc, session, options)?;
-    match replies {
-        Some(replies) => Ok((replies, linked)),
-        None => Err(RunFault::Memory),
-    }
+    Ok((replies?, linked))
 }
 
 /// Does the edits in order, and links what is left.
@@ -128,7 +126,7 @@ fn run_on(
     options: &Options,
 ) -> Result<(Vec<Reply>, Linked), RunFault>
     ensures value { IsRunFrom session.old (map change_of edits.items) options.now result }
-    ensures memory { result ≡ Err run_faults.Memory
+    ensures memory { result ≡ Err (run_faults.Memory refused)
         → RunsOut session.old session.new (map change_of edits.items) options.now }
     ensures object { options.now.relocatable ≡ true → IfOk result (λ run. IsWellFormed run.1.file) }
 {

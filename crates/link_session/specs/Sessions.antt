@@ -6,6 +6,7 @@ use Rattle.std.specs.Prelude.{◌≡◌, ℕ, List, [], ◌∷◌, ◌++◌, Opt
 use Rattle.std.specs.declared.alloc.Global.{Global}
 use Rattle.aout_core.specs.Contents.{Contents, Fits}
 use Rattle.aout_core.specs.WellFormed.{IsWellFormed}
+use Rattle.aout_core.specs.Refusals.{refused}
 use Rattle.link_session.specs.declared.entry.AddFault.{AddFault}
 use Rattle.link_session.specs.declared.entry.AddFault.TheVariants.{Memory}
 use Rattle.link_session.specs.declared.mark.Mark.{Mark}
@@ -42,7 +43,7 @@ pub record Withdraws (old new : Kept) (e : Labelled) : Type 0 where
 
 -- a limit is the cause if one is passed, and else that memory ran out
 abbrev pub IsCause : Option AddFault → AddFault → Type 0
-IsCause None cause = cause ≡ Memory
+IsCause None cause = cause ≡ Memory refused
 IsCause (Some limit) cause = cause ≡ limit
 
 -- the marks of the object added last

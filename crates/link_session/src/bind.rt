@@ -1,5 +1,5 @@
 //! The cells that wait for names, bound once the names are defined.
-ghost use Rattle.std.specs.Prelude.{◌≡◌, ◌*◌, ◌∷◌, [], OnOk, OnErr};
+ghost use Rattle.std.specs.Prelude.{◌≡◌, ◌*◌, ◌∷◌, [], None, OnOk, OnErr};
 ghost use Rattle.link_session.specs.internal.Fields.{HoldsChains, LeavesMarksIn, NotesBoundIn};
 ghost use Rattle.link_session.specs.internal.Bindings.{BindsAt, BindsTo, IsChainIn, IsPlaceIn, IsSettled, KeepsRest};
 
@@ -47,19 +47,26 @@ fn bind_cell(
 }
 
 /// Marks the cells of the chain that begins here, in its order, and binds them to a definition. The links stay as they are.
-/// Answers the first place for whose mark there was no memory: it and those after it are left as they were.
-fn bind_chain(image: &mut Merged, marks: &mut Vec<Mark>, head: Link, definition: Definition) -> Link
+/// Answers the first place for whose mark there was no memory, with that error: it and those after it are left as they were.
+fn bind_chain(
+    image: &mut Merged,
+    marks: &mut Vec<Mark>,
+    head: Link,
+    definition: Definition,
+) -> (Link, Result<(), AllocError>)
     requires { IsChainIn image.old head }
-    ensures { BindsTo definition head result image.old image.new marks.old.items marks.new.items }
+    ensures binds { BindsTo definition head result.0
+        image.old image.new marks.old.items marks.new.items }
+    ensures all { OnOk result.1 (result.0 ≡ None) }
 {
     let mut next = head;
     while let Some(place) = next {
-        if let Err(_) = bind_cell(image, marks, place, definition) {
-            return next;
+        if let Err(error) = bind_cell(image, marks, place, definition) {
+            return (next, Err(error));
         }
         next = image.link_at(place);
     }
-    next
+    (next, Ok(()))
 }
 
 /// Binds the cells that wait for the external at a place, if it is defined: marks them, binds them, and cuts their chain.
@@ -79,12 +86,10 @@ fn bind_external(image: &mut Merged, marks: &mut Vec<Mark>, place: u16) -> Resul
     let State::Defined(segment, offset) = state_at(&image.externals, place) else {
         return Ok(());
     };
-    let rest = bind_chain(image, marks, head, Definition { segment, offset });
+    let (rest, bound) = bind_chain(image, marks, head, Definition { segment, offset });
     begin_chain(&mut image.heads, place, rest);
-    match rest {
-        Some(_) => Err(AllocError),
-        None => Ok(()),
-    }
+    bound?;
+    Ok(())
 }
 
 /// Binds the cells that wait for the externals at these places, as far as they are defined, and marks them. After an
@@ -136,7 +141,7 @@ mod tests {
             offset: 7,
         };
         let mut marks = Vec::new(rt.alloc());
-        let rest = bind_chain(&mut image, &mut marks, Some(Place::InText(2)), seven);
+        let (rest, _) = bind_chain(&mut image, &mut marks, Some(Place::InText(2)), seven);
         let bound = Cell {
             value: 7,
             target: Target::Absolute,

@@ -1,7 +1,7 @@
 //! The objects of a session, and why one is refused.
 ghost use Rattle.std.specs.Prelude.{◌≡◌};
 
-use aout_core::Object;
+use aout_core::{Object, Refused};
 use std::marker::Model;
 use thiserror::Error;
 
@@ -66,7 +66,7 @@ pub enum AddFault {
     /// 4: there would be more than 65,535 external names, forced names counted.
     NamesFull,
     /// 5: memory ran out for the object's cells, names and marks.
-    Memory,
+    Memory(Refused),
 }
 
 impl AddFault {
@@ -82,7 +82,7 @@ impl AddFault {
             AddFault::DataFull => "data full",
             AddFault::BssFull => "bss full",
             AddFault::NamesFull => "names full",
-            AddFault::Memory => "no memory",
+            AddFault::Memory(_) => "no memory",
         }
     }
 }

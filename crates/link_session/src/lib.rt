@@ -20,7 +20,6 @@
 //! - `Mark`, `Place`: what an addition overwrote, and where
 //! - `Starts`, `Shifts`: where the segments of an object start in the image, and by how much its addresses move
 //! - `Forced`: the names of `-u`, at most 64
-//! - `Memory`: memory ran out
 //!
 //! Limits:
 //!
@@ -53,6 +52,6 @@ pub use externals::ExternalStates;
 pub use limits::{MOST_BYTES, MOST_NAMES};
 pub use mark::{Mark, Place};
 pub use relocate::{Shifts, Starts};
-pub use session::{Memory, Session};
+pub use session::Session;
 pub use state::State;
 pub use tool_options::Forced;

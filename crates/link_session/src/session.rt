@@ -25,22 +25,10 @@ use crate::mention::mention;
 use crate::merged::{Externals, Merged, Sizes};
 use crate::state::State;
 use crate::undo::undo;
-use aout_core::{Name, Object};
+use aout_core::{Name, Object, Refused};
 use std::alloc::{AllocError, Global};
 use std::marker::Model;
-use thiserror::Error;
 use tool_options::Forced;
-
-/// Memory ran out. (own choice)
-#[derive(Clone, Copy, Debug, PartialEq, Eq, Error)]
-#[error("no memory")]
-pub struct Memory;
-
-impl From<AllocError> for Memory {
-    fn from(_: AllocError) -> Memory {
-        Memory
-    }
-}
 
 /// What the addition of one object overwrote, and the sizes of the image before it.
 #[derive(Drop)]
@@ -124,8 +112,8 @@ impl Session {
     /// A session of no objects, whose first externals are the forced names, each wanted at size 0. (ld(1), the option
     /// `-u`)
     ///
-    /// Errors: `Memory`, if memory runs out for the names.
-    pub fn with_forced(alloc: Global, forced: &Forced) -> Result<Session, Memory>
+    /// Errors: `Refused`, if memory runs out for the names.
+    pub fn with_forced(alloc: Global, forced: &Forced) -> Result<Session, Refused>
         ensures kept { IfOk result (λ session. session ≡ nothing_kept forced.now) }
         ensures none { forced.now ≡ [] → IsOk result }
     {
@@ -186,8 +174,8 @@ impl Session {
                 self.entries.push(Entry::new(label, object)).unwrap();
                 Ok(())
             }
-            Err(_) => {
-                let cause = AddFault::Memory;
+            Err(error) => {
+                let cause = AddFault::Memory(Refused::from(error));
                 Err(AddRefused {
                     cause,
                     label,

@@ -1,5 +1,6 @@
 -- What a program answers, and what of it goes out. (own choice)
 use Rattle.std.specs.Prelude.{◌≡◌, ◌⊎◌, ℕ, Bool, List, [], ◌++◌, if◌then◌else◌, ◌∷◌, Option}
+use Rattle.aout_core.specs.Refusals.{refused}
 use Rattle.std.specs.Prelude.{Some, None, Result, Ok, Err, bytes_eq, codes}
 use Rattle.aout_core.specs.declared.shown.Shown.{Shown}
 use Rattle.aout_core.specs.declared.shown.Shown.TheVariants.{Help, Version}
@@ -28,7 +29,7 @@ failed_at program path text = only_errors (fault_line program path text) 2
 
 -- a fault has this answer, or memory ran out for it
 abbrev pub HasAnswer : Fault → Answer → Type 0
-HasAnswer fault answer = (fault ≡ Answered answer) ⊎ (fault ≡ Memory)
+HasAnswer fault answer = (fault ≡ Answered answer) ⊎ (fault ≡ Memory refused)
 
 -- the usage of a program, as the answer to arguments that ask for nothing
 abbrev pub says_usage : List ℕ → Answer
@@ -53,7 +54,7 @@ shows program usage shown = record { output = shown_text program usage shown; er
 -- the answer that a fault has, or that memory ran out
 abbrev pub fault_answer : List ℕ → Fault → Answer
 fault_answer program (Answered answer) = answer
-fault_answer program Memory = only_errors (program ++ codes ": no memory\n") 2
+fault_answer program (Memory _) = only_errors (program ++ codes ": no memory\n") 2
 
 -- the answer of a program, or the answer `no memory` if memory ran out for it
 abbrev pub answer_in : List ℕ → Result Answer Fault → Answer
@@ -62,7 +63,7 @@ answer_in program (Err fault) = fault_answer program fault
 
 -- an answer, or memory ran out for it
 abbrev pub AnswersOr : Result Answer Fault → Answer → Type 0
-AnswersOr result answer = (result ≡ Ok answer) ⊎ (result ≡ Err Memory)
+AnswersOr result answer = (result ≡ Ok answer) ⊎ (result ≡ Err (Memory refused))
 
 -- help or the version is shown, which the first argument asks for, and nothing is asked of the system; or the rest is done
 abbrev pub IsShownOr : List ℕ → List ℕ → Option Shown → History → History → Result Answer Fault → Type 0 → Type 0
@@ -74,12 +75,12 @@ IsShownOr program usage None old new result rest = rest
 -- a check finds nothing, or its answer ends the program; or memory ran out for it
 abbrev pub Checks : Option Answer → Result (Unit {0}) Fault → Type 0
 Checks found (Ok x) = found ≡ None
-Checks None (Err fault) = fault ≡ Memory
+Checks None (Err fault) = fault ≡ Memory refused
 Checks (Some answer) (Err fault) = HasAnswer fault answer
 
 -- a step has this fault, or memory ran out for it
 abbrev pub Faults : {A : Type 0} → Result A Answer → Fault → Type 0
-Faults (Ok x) fault = fault ≡ Memory
+Faults (Ok x) fault = fault ≡ Memory refused
 Faults (Err answer) fault = HasAnswer fault answer
 
 -- the answer once a file was to be stored at a path: this one, or why it was not stored

@@ -1,12 +1,13 @@
 //! What a program answers: what it writes, and its status.
 ghost use Rattle.std.specs.Prelude.{◌≡◌, ◌++◌, [], false, map, string_bytes, IfOk};
+ghost use Rattle.aout_core.specs.Refusals.{refused};
 ghost use Rattle.aout_core.specs.Wires.{Writes};
 ghost use Rattle.surroundings.specs.declared.answer.Fault.TheVariants.{Memory};
 ghost use Rattle.surroundings.specs.Answers.{Gives, HasAnswer, answer_in, errors_unless, failed_at, fault_answer, only_errors, says_usage, shown_by, shown_in, shows, status_unless};
 
 use crate::lines::put_fault_line;
 use crate::outputs::Outputs;
-use aout_core::{DeviceFault, Shown, VERSION, Wire};
+use aout_core::{DeviceFault, Refused, Shown, VERSION, Wire};
 use std::alloc::{AllocError, AllocFailed, Global};
 use std::io::Write;
 use std::marker::Model;
@@ -37,22 +38,22 @@ pub enum Fault {
     /// The answer says why.
     Answered(Answer),
     /// Memory ran out.
-    Memory,
+    Memory(Refused),
 }
 
 impl From<AllocError> for Fault {
-    ghost from_gives = { λ _ fault. fault ≡ Memory };
+    ghost from_gives = { λ _ fault. fault ≡ Memory refused };
 
-    fn from(_error: AllocError) -> Fault {
-        Fault::Memory
+    fn from(error: AllocError) -> Fault {
+        Fault::Memory(Refused::from(error))
     }
 }
 
 impl<T: Drop> From<AllocFailed<T>> for Fault {
-    ghost from_gives = { λ _ fault. fault ≡ Memory };
+    ghost from_gives = { λ _ fault. fault ≡ Memory refused };
 
-    fn from(_error: AllocFailed<T>) -> Fault {
-        Fault::Memory
+    fn from(error: AllocFailed<T>) -> Fault {
+        Fault::Memory(Refused::from(error))
     }
 }
 
@@ -82,7 +83,7 @@ pub fn fault_at(alloc: Global, program: &str, path: &str, text: &str) -> Fault
 {
     match answer_at(alloc, program, path, text) {
         Ok(answer) => Fault::Answered(answer),
-        Err(_) => Fault::Memory,
+        Err(error) => Fault::from(error),
     }
 }
 
@@ -156,7 +157,7 @@ fn put_fault<E: Write>(program: &str, fault: &Fault, error: &mut Wire<E>) -> Res
 {
     match fault {
         Fault::Answered(answer) => error.put(&answer.errors),
-        Fault::Memory => put_line(program, ": no memory\n", error),
+        Fault::Memory(_) => put_line(program, ": no memory\n", error),
     }
 }
 
@@ -188,7 +189,7 @@ fn put_output<W: Write>(
 {
     match answer {
         Ok(answer) | Err(Fault::Answered(answer)) => output.put(&answer.output),
-        Err(Fault::Memory) => output.put(b""),
+        Err(Fault::Memory(_)) => output.put(b""),
     }
 }
 
@@ -201,7 +202,7 @@ fn status_of(is_failed: bool, answer: &Result<Answer, Fault>) -> u8
     }
     match answer {
         Ok(answer) | Err(Fault::Answered(answer)) => answer.status,
-        Err(Fault::Memory) => 2,
+        Err(Fault::Memory(_)) => 2,
     }
 }
 

@@ -37,6 +37,6 @@ pub fn read_whole<O: Office>(
         Ok(bytes) => Ok(bytes),
         Err(FileFault::NotOpened) => Err(fault_at(alloc, program, path, "cannot open")),
         Err(FileFault::Failed) => Err(fault_at(alloc, program, path, "read error")),
-        Err(FileFault::Memory) => Err(Fault::Memory),
+        Err(FileFault::Memory(refused)) => Err(Fault::Memory(refused)),
     }
 }

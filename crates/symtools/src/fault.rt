@@ -1,8 +1,9 @@
 //! Why not all lines went out.
 ghost use Rattle.std.specs.Prelude.{◌≡◌};
+ghost use Rattle.aout_core.specs.Refusals.{refused};
 ghost use Rattle.symtools.specs.declared.fault.ToolFault.TheVariants.{Memory, Device};
 
-use aout_core::DeviceFault;
+use aout_core::{DeviceFault, Refused};
 use std::alloc::{AllocError, AllocFailed};
 use thiserror::Error;
 
@@ -11,7 +12,7 @@ use thiserror::Error;
 pub enum ToolFault {
     /// 1: memory runs out for the symbols of a file that are shown.
     #[error("no memory")]
-    Memory,
+    Memory(Refused),
     /// 2: the device failed, in this call or before it.
     #[error("write error")]
     Device,
@@ -26,17 +27,17 @@ impl From<DeviceFault> for ToolFault {
 }
 
 impl From<AllocError> for ToolFault {
-    ghost from_gives = { λ _ e. e ≡ Memory };
+    ghost from_gives = { λ _ e. e ≡ Memory refused };
 
-    fn from(_error: AllocError) -> ToolFault {
-        ToolFault::Memory
+    fn from(error: AllocError) -> ToolFault {
+        ToolFault::Memory(Refused::from(error))
     }
 }
 
 impl<T: Drop> From<AllocFailed<T>> for ToolFault {
-    ghost from_gives = { λ _ e. e ≡ Memory };
+    ghost from_gives = { λ _ e. e ≡ Memory refused };
 
-    fn from(_error: AllocFailed<T>) -> ToolFault {
-        ToolFault::Memory
+    fn from(error: AllocFailed<T>) -> ToolFault {
+        ToolFault::Memory(Refused::from(error))
     }
 }

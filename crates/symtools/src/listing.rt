@@ -1,6 +1,7 @@
 //! The list of nm.
 ghost use Rattle.std.specs.Prelude.{◌≡◌, ◌≢◌, ◌↔◌, ◌++◌, ◌∷◌, [], false, if◌then◌else◌, IfErr, IfOk, IsOk, IsTrue, OnErr, OnOk, Err, filter, string_bytes};
 ghost use Rattle.std.specs.List.{flat_map};
+ghost use Rattle.aout_core.specs.Refusals.{refused};
 ghost use Rattle.aout_core.specs.Wires.{Puts, Writes};
 ghost use Rattle.symtools.specs.Files.{by_bytes};
 ghost use Rattle.symtools.specs.SymbolLines.{symbol_line};
@@ -31,7 +32,7 @@ pub fn nm<W: Write>(
     ensures latched { IsTrue out.old.has_failed → (out.new ≡ out.old) }
     ensures bytes { Puts result (W.contents out.old.device) (W.contents out.new.device)
         (nm_text options (by_bytes files.now)) }
-    ensures memory { result ≡ Err Memory → ListsUpTo options (by_bytes files.now)
+    ensures memory { result ≡ Err (Memory refused) → ListsUpTo options (by_bytes files.now)
         (W.contents out.old.device) (W.contents out.new.device) }
 {
     if out.failed() {
@@ -54,8 +55,8 @@ fn list_file<W: Write>(
 ) -> Result<(), ToolFault>
     requires { out.old.has_failed ≡ false }
     ensures device { (result ≡ Err Device) ↔ IsTrue out.new.has_failed }
-    ensures memory { result ≡ Err Memory → (out.new ≡ out.old) }
-    ensures shows { result ≡ Err Memory → filter (is_shown options) file.now.1.symbols ≢ [] }
+    ensures memory { result ≡ Err (Memory refused) → (out.new ≡ out.old) }
+    ensures shows { result ≡ Err (Memory refused) → filter (is_shown options) file.now.1.symbols ≢ [] }
     ensures bytes { Puts result (W.contents out.old.device) (W.contents out.new.device)
         ((if is_headed then string_bytes file.now.0 ++ (58 ∷ 10 ∷ []) else [])
         ++ flat_map (λ s. line_heading options (string_bytes file.now.0) ++ symbol_line s)
@@ -89,7 +90,7 @@ fn put_lines<W: Write>(
 fn shown(alloc: Global, table: &[Symbol], options: NmOptions) -> Result<Vec<Symbol>, ToolFault>
     ensures ok { IfOk result (λ list.
         list.items ≡ arranged options (filter (is_shown options) table.now)) }
-    ensures err { IfErr result (λ e. e ≡ Memory) }
+    ensures err { IfErr result (λ e. e ≡ Memory refused) }
     ensures shows { OnErr result (filter (is_shown options) table.now ≢ []) }
 {
     let mut list = kept(alloc, table, options)?;
@@ -109,7 +110,7 @@ fn shown(alloc: Global, table: &[Symbol], options: NmOptions) -> Result<Vec<Symb
 
 fn kept(alloc: Global, table: &[Symbol], options: NmOptions) -> Result<Vec<Symbol>, ToolFault>
     ensures ok { IfOk result (λ list. list.items ≡ filter (is_shown options) table.now) }
-    ensures err { IfErr result (λ e. e ≡ Memory) }
+    ensures err { IfErr result (λ e. e ≡ Memory refused) }
     ensures shows { OnErr result (filter (is_shown options) table.now ≢ []) }
 {
     let mut list = Vec::new(alloc);

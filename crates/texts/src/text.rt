@@ -16,15 +16,16 @@ use std::marker::Model;
 #[derive(Drop)]
 pub struct Text {
     bytes: Vec<u8>,
-    is_cut: bool,
+    refused: Option<AllocError>,
 }
 
 impl Model for Text {
+    ghost use Rattle.std.specs.Option.{is_some};
     ghost use Rattle.texts.specs.Texts.{Written};
 
     ghost Value = { Written };
 
-    ghost view = { λ t. record { bytes = t.bytes.items; is_cut = t.is_cut } };
+    ghost view = { λ t. record { bytes = t.bytes.items; is_cut = is_some t.refused } };
 }
 
 impl Text {
@@ -34,7 +35,7 @@ impl Text {
     {
         Text {
             bytes: Vec::new(alloc),
-            is_cut: false,
+            refused: None,
         }
     }
 
@@ -47,8 +48,8 @@ impl Text {
     pub fn put_bytes(&mut self, bytes: &[u8])
         ensures { Puts self.old self.new bytes.now }
     {
-        if !self.is_cut && self.bytes.extend_from_slice(bytes).is_err() {
-            self.is_cut = true;
+        if self.refused.is_none() {
+            self.refused = self.bytes.extend_from_slice(bytes).err();
         }
     }
 
@@ -63,16 +64,18 @@ impl Text {
     pub fn put_byte(&mut self, byte: u8)
         ensures { Puts self.old self.new (byte ∷ []) }
     {
-        if !self.is_cut && self.bytes.push(byte).is_err() {
-            self.is_cut = true;
+        if self.refused.is_none()
+            && let Err(error) = self.bytes.push(byte)
+        {
+            self.refused = Some(AllocError::from(error));
         }
     }
 
     /// Cuts the text: memory ran out for something that belongs into it.
-    pub fn cut(&mut self)
+    pub fn cut(&mut self, refused: AllocError)
         ensures { self.new.is_cut ≡ true }
     {
-        self.is_cut = true;
+        self.refused = Some(refused);
     }
 
     /// Puts the last six octal digits of a number at the end.
@@ -194,7 +197,10 @@ impl Text {
         ensures bytes { IfOk result (λ bytes. (self.is_cut ≡ false) × (bytes.items ≡ self.bytes)) }
         ensures memory { IsErr result → self.is_cut ≡ true }
     {
-        let Text { bytes, is_cut } = self;
-        if is_cut { Err(AllocError) } else { Ok(bytes) }
+        let Text { bytes, refused } = self;
+        match refused {
+            Some(error) => Err(error),
+            None => Ok(bytes),
+        }
     }
 }

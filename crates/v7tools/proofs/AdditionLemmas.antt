@@ -1,4 +1,5 @@
 -- What came of adding the file at a path.
+use Rattle.aout_core.specs.Refusals.{refused}
 use Rattle.std.specs.declared.alloc.Global.{Global}
 use Rattle.std.proofs.Common.{◌≡◌, ℕ, List, [], ◌∷◌, ◌++◌, Option, Some, None, Result, Ok, Err, refl, sym, ap, ◌∙◌, subst, inl, inr}
 use Rattle.std.specs.Prelude.{String, string_bytes, IfSome, IsErrAnd, IsOk}
@@ -51,7 +52,7 @@ wants_memory (Some bytes) forced kept path o (inr e) within =
 
 -- so may what the header announces
 header_wants : (known left : Option (List ℕ)) (forced : List (List ℕ)) (kept : List Labelled) (path : List ℕ) →
-    IsReadWhereKnown known left (Err reads.Memory) → IfSome known (WantsMemory forced kept path)
+    IsReadWhereKnown known left (Err (reads.Memory refused)) → IfSome known (WantsMemory forced kept path)
 header_wants None left forced kept path h = tt
 header_wants (Some bytes) left forced kept path h = inl h.0
 
@@ -88,7 +89,7 @@ failed_read known old path at same = (
 pub addition_unread : (known left : Option (List ℕ)) (old : Kept) (path : String Global) (fault : CliFault) →
     IsAtPath path (Err fault) → IsReadWhereKnown known left (read_of (Err fault)) → IsAddition known old old path (Err fault)
 addition_unread known left old path (faults.BadFile at reads.Device) a h = failed_read known old path at a.0
-addition_unread known left old path (faults.BadFile at reads.Memory) a h = absurd (a.1 refl)
+addition_unread known left old path (faults.BadFile at (reads.Memory _)) a h = absurd (a.1 refl)
 addition_unread known left old path (faults.BadFile at reads.ShortHeader) a h =
     bad_read known left old path at reads.ShortHeader a.0 (λ bytes read. read) h
 addition_unread known left old path (faults.BadFile at reads.BadMagic) a h =
@@ -97,7 +98,7 @@ addition_unread known left old path (faults.BadFile at reads.OddSize) a h =
     bad_read known left old path at reads.OddSize a.0 (λ bytes read. read) h
 addition_unread known left old path (faults.BadFile at reads.Truncated) a h =
     bad_read known left old path at reads.Truncated a.0 (λ bytes read. read) h
-addition_unread known left old path faults.Memory a h =
+addition_unread known left old path (faults.Memory _) a h =
     (refl, inl (refl, header_wants known left old.forced old.entries (string_bytes path) h))
 addition_unread known left old path faults.Usage a h = absurd a
 addition_unread known left old path (faults.CannotOpen at) a h = absurd a
@@ -136,7 +137,7 @@ read_object known left p q c o read checked =
 -- an object that is not added
 not_fit : (known : Option (List ℕ)) (old new : Kept) (path label : String Global) (o : Contents) (cause : AddFault) →
     IsFound known (Ok o) → label ≡ path → IsCause (refusal old.forced (objects old.entries) o) cause →
-    (cause ≡ adds.Memory → ⊥) → new ≡ old → IsAddition known old new path (Err (faults.NotAdded label cause))
+    (cause ≡ adds.Memory refused → ⊥) → new ≡ old → IsAddition known old new path (Err (faults.NotAdded label cause))
 not_fit known old new path label o cause is_found same why real unchanged = (
   unchanged,
   inr (record {
@@ -155,7 +156,7 @@ pub addition_refused : (known : Option (List ℕ)) (old new : Kept) (path label 
     IsFound known (Ok o) → label ≡ path →
     IsCause (refusal old.forced (objects old.entries) o) cause → new ≡ old →
     IsAddition known old new path (Err (fault_of_addition label cause))
-addition_refused known old new path label o adds.Memory found same why unchanged = (
+addition_refused known old new path label o (adds.Memory _) found same why unchanged = (
   unchanged,
   inl (
     refl,

@@ -1,4 +1,5 @@
 -- The inputs one after another, and the link of what is kept of them.
+use Rattle.aout_core.specs.Refusals.{refused}
 use Rattle.std.specs.declared.alloc.Global.{Global}
 use Rattle.std.proofs.Common.{◌≡◌, ◌≢◌, ℕ, false, List, [], ◌∷◌, Option, Some, None, option_and_then, option_map}
 use Rattle.std.proofs.Common.{Result, Ok, Err, refl, sym, ap, ◌∙◌, subst, inl, inr}
@@ -69,7 +70,7 @@ module _ (i : Input) (path : String Global) (at : string_bytes path ≡ i.path) 
       IsFound i.known found → kept_with old.forced old.entries (string_bytes path) found ≡ Err cause → Stops cause
   stops_for found cannot_open possible works is_found h = absurd possible
   stops_for found (bad_file reads.Device) possible works is_found h = at
-  stops_for found (bad_file reads.Memory) possible works is_found h = absurd possible
+  stops_for found (bad_file (reads.Memory _)) possible works is_found h = absurd possible
   stops_for found (bad_file reads.ShortHeader) possible works is_found h =
       (at, rejects_found found (bad_file reads.ShortHeader) (λ e. absurd (cc)) (works (λ e. absurd (cc))) is_found h)
   stops_for found (bad_file reads.BadMagic) possible works is_found h =
@@ -80,7 +81,7 @@ module _ (i : Input) (path : String Global) (at : string_bytes path ≡ i.path) 
       (at, rejects_found found (bad_file reads.Truncated) (λ e. absurd (cc)) (works (λ e. absurd (cc))) is_found h)
   stops_for found (bad_object fault) possible works is_found h =
       (at, rejects_found found (bad_object fault) (λ e. absurd (cc)) (works (λ e. absurd (cc))) is_found h)
-  stops_for found (not_added adds.Memory) possible works is_found h = absurd possible
+  stops_for found (not_added (adds.Memory _)) possible works is_found h = absurd possible
   stops_for found (not_added adds.TextFull) possible works is_found h =
       (at, rejects_found found (not_added adds.TextFull) (λ e. absurd (cc)) (works (λ e. absurd (cc))) is_found h)
   stops_for found (not_added adds.DataFull) possible works is_found h =
@@ -94,7 +95,7 @@ module _ (i : Input) (path : String Global) (at : string_bytes path ≡ i.path) 
       ((fault ≡ faults.BadFile path reads.Device → ⊥) → i.has_failed ≡ false) → IsAddition i.known old new path (Err fault) →
       StopsAt old.forced old.entries i (said_by fault)
   stops_at new fault possible works (same, inl (memory, wants)) =
-      let stops : StopsAt old.forced old.entries i (said_by faults.Memory) = (
+      let stops : StopsAt old.forced old.entries i (said_by (faults.Memory refused)) = (
         works (λ e. let is = sym memory ∙ e in absurd (cc)),
         subst (λ (p : List ℕ). IfSome i.known (WantsMemory old.forced old.entries p)) at wants,
       ) in
@@ -272,7 +273,7 @@ final_fault x cause (Err f) h e = subst (λ (f : CliFault). IsFinalLink x (Err f
     by_cause links.DoesNotFit h = h
     by_cause links.TooManySymbols h = h
     by_cause links.SymbolNumber h = h
-    by_cause links.Memory h = h
+    by_cause (links.Memory _) h = h
 
 -- ---- the link of what was taken
 
@@ -305,8 +306,8 @@ module _ (forced : List (List ℕ)) (o : Choices) (is : List Input) (old new : K
 
       by_final : (r : Result Linked CliFault) → IsFinalLink (link forced (objects new.entries) o) r → IsLinkOver forced o is r
       by_final (Ok l) f = record { kept = new.entries; taken = taken; link = f }
-      by_final (Err faults.Memory) f = runs_out_after forced is new.entries taken
-      by_final (Err (faults.NotLinked links.Memory)) f = absurd f
+      by_final (Err (faults.Memory _)) f = runs_out_after forced is new.entries taken
+      by_final (Err (faults.NotLinked (links.Memory _))) f = absurd f
       by_final (Err (faults.NotLinked links.DoesNotFit)) f = inr (record { kept = new.entries; taken = taken; none = f })
       by_final (Err (faults.NotLinked links.TooManySymbols)) f = inr (record { kept = new.entries; taken = taken; none = f })
       by_final (Err (faults.NotLinked links.SymbolNumber)) f = inr (record { kept = new.entries; taken = taken; none = f })
@@ -323,10 +324,10 @@ module _ (forced : List (List ℕ)) (o : Choices) (is : List Input) (old new : K
 
 -- memory runs out for forced names
 pub no_names : (forced : List (List ℕ)) (o : Choices) (is : List Input) (r : Result Linked CliFault) → forced ≢ [] →
-    IsErrAnd r (λ f. f ≡ faults.Memory) → IsLinkOf forced o is r
+    IsErrAnd r (λ f. f ≡ faults.Memory refused) → IsLinkOf forced o is r
 no_names forced o is (Ok l) some e = absurd e
 no_names forced o is (Err f) some e =
     subst (λ (x : CliFault). IsLinkOf forced o is (Err x)) (sym e)
-    (is_link_of forced o is (Err faults.Memory) (runs_out_for forced is some))
+    (is_link_of forced o is (Err (faults.Memory refused)) (runs_out_for forced is some))
 
 pub ruleset by_final = (final_fault)

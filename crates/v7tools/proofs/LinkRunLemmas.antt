@@ -40,7 +40,7 @@ module _ {R : Type 0} (remaining : R → Option (List ℕ)) where
         after ≡ before → IsLinkRun contents forced o out (map string_bytes files) old new result before after
     not_opened new (faults.CannotOpen path) h is same =
         inr (inl (record { path = path; stops = h; refuses = record { refusal = is; silent = same } }))
-    not_opened new faults.Memory h is same = inl (h, record { refusal = is; silent = same })
+    not_opened new (faults.Memory _) h is same = inl (h, record { refusal = is; silent = same })
     not_opened new faults.Usage h is same = absurd h
     not_opened new (faults.BadFile path fault) h is same = absurd h
     not_opened new (faults.BadObject path fault) h is same = absurd h

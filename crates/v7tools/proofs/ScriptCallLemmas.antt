@@ -13,7 +13,7 @@ read_failed (Err stops.End) e = absurd (cc)
 read_failed (Err stops.LongLine) e = absurd (cc)
 read_failed (Err stops.ManyLines) e = absurd (cc)
 read_failed (Err stops.ReadFailed) e = refl
-read_failed (Err stops.Memory) e = absurd (cc)
+read_failed (Err (stops.Memory _)) e = absurd (cc)
 
 -- it is a fault of the script exactly where its reader failed
 pub failed_as : {P : Type 0} {result : Result (Option Line) CliFault} (answer : Answer) → result ≡ returned answer →
@@ -27,7 +27,7 @@ gave_line (Err stops.End) it e = absurd (cc)
 gave_line (Err stops.LongLine) it e = absurd (cc)
 gave_line (Err stops.ManyLines) it e = absurd (cc)
 gave_line (Err stops.ReadFailed) it e = absurd (cc)
-gave_line (Err stops.Memory) it e = absurd (cc)
+gave_line (Err (stops.Memory _)) it e = absurd (cc)
 
 -- the end was returned
 pub gave_end : (answer : Answer) → Ok None ≡ returned answer → answer ≡ Err stops.End
@@ -36,4 +36,4 @@ gave_end (Err stops.End) e = refl
 gave_end (Err stops.LongLine) e = absurd (cc)
 gave_end (Err stops.ManyLines) e = absurd (cc)
 gave_end (Err stops.ReadFailed) e = absurd (cc)
-gave_end (Err stops.Memory) e = absurd (cc)
+gave_end (Err (stops.Memory _)) e = absurd (cc)

@@ -1,4 +1,5 @@
 -- The lines of a script, run one after another on a session.
+use Rattle.aout_core.specs.Refusals.{refused}
 use Rattle.std.proofs.Common.{◌≡◌, ℕ, ◌+◌, max, List, [], ◌∷◌, ◌++◌, Option, Some, None, Result, Ok, Err, refl}
 use Rattle.std.proofs.Common.{sym, ap, ◌∙◌, subst, inl, inr, append_assoc, append-nil, arith}
 use Rattle.std.specs.Prelude.{IfSome, IsSome, IsTrue, ◌⊎◌}
@@ -204,12 +205,12 @@ module _ (first mid now : Option (List ℕ)) (n : ℕ) (settled later : Option S
   stops_with stops.ReadFailed fault e next =
       let is : fault ≡ faults.ScriptFailed = cc in
       subst (StopsAfter first lines) (sym is) (reads_front first mid n settled lines h)
-  stops_with stops.Memory fault e next =
-      let is : fault ≡ faults.Memory = cc in
+  stops_with (stops.Memory _) fault e next =
+      let is : fault ≡ faults.Memory refused = cc in
       subst (StopsAfter first lines) (sym is)
       (known_alone first now (λ a c. (x : Asked) × (more : List Asked) × NamesPath x × ((given a).lines ≡ lines ++ x ∷ more))
       (λ a. (x : Asked) × (more : List Asked) × NamesPath x × ((given a).lines ≡ lines ++ x ∷ more)) (λ a c k. k)
-      (known_on first mid now (GivesFirst lines n) (λ bytes left. IsNextOf n bytes left later (Err stops.Memory))
+      (known_on first mid now (GivesFirst lines n) (λ bytes left. IsNextOf n bytes left later (Err (stops.Memory refused)))
       (λ a c. (x : Asked) × (more : List Asked) × NamesPath x × ((given a).lines ≡ lines ++ x ∷ more))
       (λ a b c first_given is. (
         is.0,
@@ -360,6 +361,6 @@ module _ {R W : Type 0} (remaining : R → Option (List ℕ)) (contents : W → 
 -- memory is wanted before a line is read
 pub no_memory : {W : Type 0} (contents : W → Option (List ℕ)) (o : Choices) (forced : List (List ℕ))
     (script : Option (List ℕ)) (old : History) (before : Latched W) (fault : CliFault) (result : Result ℕ CliFault) →
-    fault ≡ faults.Memory → result ≡ Err fault → IsSessionRun contents forced o script old old result before before
+    fault ≡ faults.Memory refused → result ≡ Err fault → IsSessionRun contents forced o script old old result before before
 no_memory contents o forced script old before fault result is answer =
     inl (nothing_asked old, record { refusal = answer ∙ ap (λ (f : CliFault). let r : Result ℕ CliFault = Err f in r) is; silent = refl })

@@ -1,4 +1,5 @@
 -- What the parts of a step say of the whole.
+use Rattle.aout_core.specs.Refusals.{refused as refused_request}
 use Rattle.std.specs.declared.alloc.Global.{Global}
 use Rattle.std.proofs.Common.{◌≡◌, ◌↔◌, ℕ, suc, ◌-◌, length, arith, Bool, true, false, List, [], ◌∷◌, ◌++◌, Option}
 use Rattle.std.proofs.Common.{Some, None, Result, Ok, Err, refl, sym, ap, ◌∙◌, subst, ◌⊎◌, inl, inr}
@@ -151,7 +152,7 @@ module _ {R : Type 0} (remaining : R → Option (List ℕ)) (from to : Latched R
                 (sound h latch) e h.refuses)),
           )
 
-  by_memory : fault ≡ faults.Memory → IfSome (remaining from.device) (WantsMemory old.forced old.entries (string_bytes path)) → IsRefused
+  by_memory : fault ≡ faults.Memory refused_request → IfSome (remaining from.device) (WantsMemory old.forced old.entries (string_bytes path)) → IsRefused
   by_memory is header =
       let after = false_from_ne_true to.has_failed (λ failed. let e = device.1 failed in absurd (cc)) in
       inr (after, worked after, inl (ap (λ (f : CliFault). refused_as old.entries (cli_text f)) is, header))
@@ -179,7 +180,7 @@ added_over remaining from to forced kept path did (inr (after, before, inr on)) 
 -- a link that is refused
 pub link_refused_by : (kept : List Labelled) (answer : Result Outcome LinkFault) (fault : LinkFault) →
     IsLinkOf (Err fault) answer → IsLinkBy kept answer (refused_as kept (cli_text (fault_of_link fault)))
-link_refused_by kept answer links.Memory h = inr (refl, h)
+link_refused_by kept answer (links.Memory _) h = inr (refl, h)
 link_refused_by kept answer links.DoesNotFit h = inl (ap (link_step kept) (sym h))
 link_refused_by kept answer links.TooManySymbols h = inl (ap (link_step kept) (sym h))
 link_refused_by kept answer links.SymbolNumber h = inl (ap (link_step kept) (sym h))
@@ -298,7 +299,7 @@ device_path path cannot_open h = absurd h
 device_path path (bad_file reads.ShortHeader) h = absurd h
 device_path path (bad_file reads.BadMagic) h = absurd h
 device_path path (bad_file reads.OddSize) h = absurd h
-device_path path (bad_file reads.Memory) h = absurd h
+device_path path (bad_file (reads.Memory _)) h = absurd h
 device_path path (bad_file reads.Truncated) h = absurd h
 device_path path (bad_file reads.Device) h = refl
 device_path path (bad_object fault) h = absurd h
@@ -314,7 +315,7 @@ device_fault known old new path fault latch h device =
     as_fault : failed_with fault ≡ failed_with (faults.BadFile path reads.Device) → fault ≡ faults.BadFile path reads.Device
     as_fault e = cc
 
-    by_why : ((fault ≡ faults.Memory) × IfSome known (WantsMemory old.forced old.entries (string_bytes path)))
+    by_why : ((fault ≡ faults.Memory refused_request) × IfSome known (WantsMemory old.forced old.entries (string_bytes path)))
         ⊎ IsRefusal known old path fault → IsDeviceFault fault →
         failed_with fault ≡ failed_with (faults.BadFile path reads.Device)
     by_why (inl (is, header)) d = absurd (subst IsDeviceFault is d)

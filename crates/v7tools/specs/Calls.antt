@@ -1,4 +1,5 @@
 -- Which fault the program has for arguments that ask for no call. (own choice)
+use Rattle.aout_core.specs.Refusals.{refused}
 use Rattle.std.specs.Prelude.{◌≡◌, ℕ, List}
 use Rattle.command_words.specs.Calls.{AsksForNone}
 use Rattle.command_words.specs.declared.fault.WordsFault.{WordsFault}
@@ -8,7 +9,7 @@ use Rattle.v7tools.specs.declared.fault.CliFault.TheVariants as faults
 
 abbrev pub fault_of_words : WordsFault → CliFault
 fault_of_words words.Usage = faults.Usage
-fault_of_words words.Memory = faults.Memory
+fault_of_words (words.Memory _) = faults.Memory refused
 
 -- the fault of arguments that ask for no call, or for which memory ran out
 abbrev pub IsOfWords : List (List ℕ) → CliFault → Type 0

@@ -1,6 +1,7 @@
 -- The texts of faults. (own choice)
 --
 -- Each fault has one text, which the program writes after `v7: `, and a session without it. A fault of a file begins with its path.
+use Rattle.aout_core.specs.Refusals.{refused}
 use Rattle.std.specs.Prelude.{ℕ, List, ◌++◌, codes, String, string_bytes, [], ◌∷◌}
 use Rattle.std.specs.declared.alloc.Global.{Global}
 use Rattle.aout_core.specs.declared.file.ReadFault.{ReadFault}
@@ -27,11 +28,11 @@ at_file path text = path ++ codes ": " ++ text
 
 -- if memory runs out, that is not said of the file
 abbrev pub file_text : List ℕ → ReadFault → List ℕ
-file_text path reads.Memory = no_memory
+file_text path (reads.Memory _) = no_memory
 file_text path fault = at_file path (read_text fault)
 
 abbrev pub addition_text : List ℕ → AddFault → List ℕ
-addition_text path adds.Memory = no_memory
+addition_text path (adds.Memory _) = no_memory
 addition_text path fault = at_file path (add_text fault)
 
 abbrev pub cause_text : List ℕ → Cause → List ℕ
@@ -50,7 +51,7 @@ cli_text (faults.NotAdded path fault) = addition_text (string_bytes path) fault
 cli_text (faults.NotLinked fault) = link_text fault
 cli_text (faults.CannotCreate path) = at_file (string_bytes path) (codes "cannot create")
 cli_text faults.WriteFailed = codes "write error"
-cli_text faults.Memory = no_memory
+cli_text (faults.Memory _) = no_memory
 cli_text faults.LongLine = codes "line too long"
 cli_text faults.ManyLines = codes "too many lines"
 cli_text faults.ScriptFailed = codes "script read error"
@@ -68,15 +69,15 @@ fault_at path (not_added fault) = faults.NotAdded path fault
 
 -- the fault of the program if an object at a path was not added
 abbrev pub fault_of_addition : String Global → AddFault → CliFault
-fault_of_addition path adds.Memory = faults.Memory
+fault_of_addition path (adds.Memory _) = faults.Memory refused
 fault_of_addition path fault = faults.NotAdded path fault
 
 -- the fault of the program if there is no link
 abbrev pub fault_of_link : LinkFault → CliFault
-fault_of_link links.Memory = faults.Memory
+fault_of_link (links.Memory _) = faults.Memory refused
 fault_of_link fault = faults.NotLinked fault
 
 -- the fault of the program if a list was not written
 abbrev pub fault_of_tool : ToolFault → CliFault
-fault_of_tool tools.Memory = faults.Memory
+fault_of_tool (tools.Memory _) = faults.Memory refused
 fault_of_tool tools.Device = faults.WriteFailed

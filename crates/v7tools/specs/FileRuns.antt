@@ -2,6 +2,7 @@
 --
 -- Each file is opened and read before the next one is opened, and nothing is written or stored before all are read, so that one bad
 -- file leaves all as it was (own choice).
+use Rattle.aout_core.specs.Refusals.{refused}
 use Rattle.std.specs.declared.alloc.Global.{Global}
 use Rattle.std.specs.Prelude.{◌≡◌, ◌≢◌, ◌↔◌, ◌⊎◌, ℕ, List, [], ◌∷◌, ◌++◌, map, Option, Some, None, Result}
 use Rattle.std.specs.Prelude.{Ok, Err, IfErr, IfOk, IfSome, IsTrue, String, string_bytes}
@@ -33,8 +34,8 @@ OpensOn old new path holds = (known : Option (List ℕ)) × Extends old new (ope
 abbrev pub IsLoadAt : History → History → String Global → Result Loaded CliFault → Type 0
 IsLoadAt old new path (Ok loaded) = (loaded.0 ≡ path) × OpensOn old new path (λ bytes. decode bytes ≡ Ok loaded.1)
 IsLoadAt old new path (Err (faults.CannotOpen at)) = (at ≡ path) × Extends old new (opened (string_bytes path) None ∷ [])
-IsLoadAt old new path (Err (faults.BadFile at fault)) = (at ≡ path) × (fault ≢ reads.Memory) × OpensOn old new path (IsReadOf (Err fault))
-IsLoadAt old new path (Err faults.Memory) = OpensOn old new path (IsReadOf (Err reads.Memory))
+IsLoadAt old new path (Err (faults.BadFile at fault)) = (at ≡ path) × (fault ≢ reads.Memory refused) × OpensOn old new path (IsReadOf (Err fault))
+IsLoadAt old new path (Err (faults.Memory _)) = OpensOn old new path (IsReadOf (Err (reads.Memory refused)))
 IsLoadAt old new path (Err _) = ⊥
 
 -- what was read at each path is what the bytes of the file that was opened there give, if they are known
@@ -65,7 +66,7 @@ ReadsAll old new files loaded = (files ≡ map (λ l. l.0) loaded) × Reads old 
 
 -- only those up to one that was not read; or memory ran out before any was opened
 abbrev pub ReadsNotAll : History → History → List (String Global) → CliFault → Type 0
-ReadsNotAll old new files fault = ((fault ≡ faults.Memory) × Extends old new []) ⊎ ReadsUpTo old new files fault
+ReadsNotAll old new files fault = ((fault ≡ faults.Memory refused) × Extends old new []) ⊎ ReadsUpTo old new files fault
 
 -- a list of files is cut short only if a device failed
 abbrev pub OnlyWriteFailed : List (List ℕ × Contents) → CliFault → Option (List ℕ) → Option (List ℕ) → Type 0
@@ -73,7 +74,7 @@ OnlyWriteFailed files fault old new = fault ≡ faults.WriteFailed
 
 -- or also if memory ran out for one file; then all lines of the files before it went out, and nothing else
 abbrev pub OrMemory : NmOptions → List (List ℕ × Contents) → CliFault → Option (List ℕ) → Option (List ℕ) → Type 0
-OrMemory o files fault old new = (fault ≡ faults.WriteFailed) ⊎ ((fault ≡ faults.Memory) × ListsUpTo o files old new)
+OrMemory o files fault old new = (fault ≡ faults.WriteFailed) ⊎ ((fault ≡ faults.Memory refused) × ListsUpTo o files old new)
 
 -- the text went out, or on a fault a prefix of it
 pub record Lists {W : Type 0} (contents : W → Option (List ℕ)) (cut_short : CliFault → Option (List ℕ) → Option (List ℕ) → Type 0)

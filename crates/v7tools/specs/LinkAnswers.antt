@@ -7,6 +7,7 @@
 -- At each stage (forced names, the header of an input, the addition of its object, the final link) `Memory` is returned only if nothing
 -- at that stage is refused. The result does not reveal which stage ran out: once an object has been accepted, memory may have run out
 -- there. So for the result as a whole only the first input can rule out `Memory`.
+use Rattle.aout_core.specs.Refusals.{refused}
 use Rattle.std.specs.declared.alloc.Global.{Global}
 use Rattle.std.specs.Prelude.{◌≡◌, ◌⊎◌, ℕ, Bool, false, List, [], ◌∷◌, map, Option, Some, option_and_then, option_map}
 use Rattle.std.specs.Prelude.{Result, Ok, Err, IfSome, IsOk, String, string_bytes}
@@ -49,14 +50,14 @@ pub data Said : Type 0 where
 -- no other fault than these comes from a link
 abbrev pub said_by : CliFault → Said
 said_by (faults.BadFile path reads.Device) = breaks (string_bytes path)
-said_by (faults.BadFile path reads.Memory) = never
+said_by (faults.BadFile path (reads.Memory _)) = never
 said_by (faults.BadFile path fault) = refuses (of_input (string_bytes path) (bad_file fault))
 said_by (faults.BadObject path fault) = refuses (of_input (string_bytes path) (bad_object fault))
-said_by (faults.NotAdded path adds.Memory) = never
+said_by (faults.NotAdded path (adds.Memory _)) = never
 said_by (faults.NotAdded path fault) = refuses (of_input (string_bytes path) (not_added fault))
-said_by (faults.NotLinked links.Memory) = never
+said_by (faults.NotLinked (links.Memory _)) = never
 said_by (faults.NotLinked fault) = refuses (not_linked fault)
-said_by faults.Memory = runs_out
+said_by (faults.Memory _) = runs_out
 said_by _ = never
 
 -- ---- input by input
@@ -77,7 +78,7 @@ pub record Rejects (forced : List (List ℕ)) (kept : List Labelled) (i : Input)
 
 -- memory is wanted for a file of these bytes: for what its header announces, or to add its object, which is within all limits
 abbrev pub WantsMemory : List (List ℕ) → List Labelled → List ℕ → List ℕ → Type 0
-WantsMemory forced kept path bytes = IsReadOf (Err reads.Memory) bytes ⊎ IsOk (with_input forced kept path bytes)
+WantsMemory forced kept path bytes = IsReadOf (Err (reads.Memory refused)) bytes ⊎ IsOk (with_input forced kept path bytes)
 
 -- the link stops at an input, after those that are kept
 abbrev pub StopsAt : List (List ℕ) → List Labelled → Input → Said → Type 0

@@ -2,6 +2,7 @@
 --
 -- All inputs are opened, whatever they hold, or the first that can't be is the fault. Only a link is stored, and only what was stored is
 -- reported.
+use Rattle.aout_core.specs.Refusals.{refused}
 use Rattle.std.specs.declared.alloc.Global.{Global}
 use Rattle.std.specs.Prelude.{◌≡◌, ◌⊎◌, ℕ, List, [], ◌∷◌, ◌++◌, map, false, Option, None, Result}
 use Rattle.std.specs.Prelude.{Ok, Err, IfErr, IfOk, String, string_bytes}
@@ -83,7 +84,7 @@ pub record StoresLink {W : Type 0} (contents : W → Option (List ℕ)) (forced 
 abbrev pub IsLinkRun : {W : Type 0} → (W → Option (List ℕ)) → List (List ℕ) → Choices → String Global → List (List ℕ) →
     History → History → Result ℕ CliFault → Latched W → Latched W → Type 0
 IsLinkRun contents forced o out files old new result before after =
-    (Extends old new [] × Refuses faults.Memory result before after)
+    (Extends old new [] × Refuses (faults.Memory refused) result before after)
     ⊎ (CannotOpenOne files old new result before after
     ⊎ (MakesNoLink forced o files old new result before after
     ⊎ StoresLink contents forced o out files old new result before after))

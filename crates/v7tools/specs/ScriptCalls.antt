@@ -1,4 +1,5 @@
 -- What a call of a script returns: what the reader of its lines gives, with the end and the faults of the program. (own choice)
+use Rattle.aout_core.specs.Refusals.{refused}
 use Rattle.std.specs.Prelude.{◌≡◌, ℕ, List, Option, Some, None, Result, Ok, Err}
 use Rattle.command_words.specs.ScriptAnswers.{Answer, GivesNext, Progress}
 use Rattle.command_words.specs.declared.line_reader.Stop.TheVariants as stops
@@ -13,7 +14,7 @@ returned (Err stops.End) = Ok None
 returned (Err stops.LongLine) = Err faults.LongLine
 returned (Err stops.ManyLines) = Err faults.ManyLines
 returned (Err stops.ReadFailed) = Err faults.ScriptFailed
-returned (Err stops.Memory) = Err faults.Memory
+returned (Err (stops.Memory _)) = Err (faults.Memory refused)
 
 -- a call returned what the lines give next
 abbrev pub ReturnsNext : {R : Type 0} → (R → Option (List ℕ)) → Progress R → Progress R → Result (Option Line) CliFault → Type 0

@@ -3,6 +3,7 @@
 -- Each line is run on what the line before it left (LineRuns). What a session asks of the system, and what it answers, is that of
 -- its lines, one after another, and its status is the largest of theirs. It ends after the last line, at a fault of the script, or
 -- at an answer that can't be written.
+use Rattle.aout_core.specs.Refusals.{refused}
 use Rattle.std.specs.Prelude.{◌≡◌, ◌⊎◌, ℕ, max, List, [], ◌∷◌, ◌++◌, map, Option, Some, None, Result, Ok, Err, IfSome, IsTrue}
 use Rattle.std.specs.List.{flat_map}
 use Rattle.std.specs.Io.KnownBytes.{Appends}
@@ -64,7 +65,7 @@ abbrev pub StopsAfter : Option (List ℕ) → List Asked → CliFault → Type 0
 StopsAfter known lines faults.LongLine = AreLines known lines (Some long_line)
 StopsAfter known lines faults.ManyLines = AreLines known lines (Some many_lines)
 StopsAfter known lines faults.ScriptFailed = AreFirst known lines
-StopsAfter known lines faults.Memory =
+StopsAfter known lines (faults.Memory _) =
     IfSome known (λ bytes. (a : Asked) × (more : List Asked) × NamesPath a × ((given bytes).lines ≡ lines ++ a ∷ more))
 StopsAfter known lines _ = ⊥
 
@@ -105,6 +106,6 @@ pub record BreaksOff {W : Type 0} (contents : W → Option (List ℕ)) (forced :
 abbrev pub IsSessionRun : {W : Type 0} → (W → Option (List ℕ)) → List (List ℕ) → Choices → Option (List ℕ) → History →
     History → Result ℕ CliFault → Latched W → Latched W → Type 0
 IsSessionRun contents forced o script old new result before after =
-    (Extends old new [] × Refuses faults.Memory result before after)
+    (Extends old new [] × Refuses (faults.Memory refused) result before after)
     ⊎ (RunsLines contents forced o script old new result before after
     ⊎ BreaksOff contents forced o script old new result before after)

@@ -1,6 +1,7 @@
 //! The faults of the program, and their lines.
 ghost use Rattle.std.specs.Prelude.{◌≡◌, ◌++◌, codes, Some};
 ghost use Rattle.aout_core.specs.Wires.{Writes};
+ghost use Rattle.aout_core.specs.Refusals.{refused};
 ghost use Rattle.v7tools.specs.Calls.{fault_of_words};
 ghost use Rattle.v7tools.specs.declared.fault.CliFault.TheVariants.{Memory, WriteFailed};
 ghost use Rattle.v7tools.specs.FaultTexts.{cli_text, fault_line, fault_of_addition, fault_of_link, fault_of_tool};
@@ -9,7 +10,7 @@ ghost use Rattle.v7tools.specs.internal.FaultParts.{text_of};
 pub(crate) mod wording;
 
 use crate::fault::wording::{FaultText, addition_text, file_text, object_text, says, says_of};
-use aout_core::{DeviceFault, ObjectFault, ReadFault, Wire};
+use aout_core::{DeviceFault, ObjectFault, ReadFault, Refused, Wire};
 use command_words::WordsFault;
 use link_out::LinkFault;
 use link_session::{AddFault, AddRefused};
@@ -40,7 +41,7 @@ pub enum CliFault {
     /// 8: a device failed while it was written.
     WriteFailed,
     /// 9: memory ran out.
-    Memory,
+    Memory(Refused),
     /// 11: a line of a script has more than 4,096 bytes.
     LongLine,
     /// 12: a script has more than 1,000,000 lines.
@@ -63,24 +64,24 @@ impl From<WordsFault> for CliFault {
     fn from(fault: WordsFault) -> CliFault {
         match fault {
             WordsFault::Usage => CliFault::Usage,
-            WordsFault::Memory => CliFault::Memory,
+            WordsFault::Memory(refused) => CliFault::Memory(refused),
         }
     }
 }
 
 impl From<AllocError> for CliFault {
-    ghost from_gives = { λ _ fault. fault ≡ Memory };
+    ghost from_gives = { λ _ fault. fault ≡ Memory refused };
 
-    fn from(_error: AllocError) -> CliFault {
-        CliFault::Memory
+    fn from(error: AllocError) -> CliFault {
+        CliFault::Memory(Refused::from(error))
     }
 }
 
-impl From<link_session::Memory> for CliFault {
-    ghost from_gives = { λ _ fault. fault ≡ Memory };
+impl From<Refused> for CliFault {
+    ghost from_gives = { λ _ fault. fault ≡ Memory refused };
 
-    fn from(_error: link_session::Memory) -> CliFault {
-        CliFault::Memory
+    fn from(refused: Refused) -> CliFault {
+        CliFault::Memory(refused)
     }
 }
 
@@ -89,7 +90,7 @@ impl From<AddRefused> for CliFault {
 
     fn from(refused: AddRefused) -> CliFault {
         match refused.cause {
-            AddFault::Memory => CliFault::Memory,
+            AddFault::Memory(refused) => CliFault::Memory(refused),
             AddFault::TextFull | AddFault::DataFull | AddFault::BssFull | AddFault::NamesFull => {
                 CliFault::NotAdded(refused.label, refused.cause)
             }
@@ -102,17 +103,17 @@ impl From<ToolFault> for CliFault {
 
     fn from(fault: ToolFault) -> CliFault {
         match fault {
-            ToolFault::Memory => CliFault::Memory,
+            ToolFault::Memory(refused) => CliFault::Memory(refused),
             ToolFault::Device => CliFault::WriteFailed,
         }
     }
 }
 
 impl<T: Drop> From<AllocFailed<T>> for CliFault {
-    ghost from_gives = { λ _ fault. fault ≡ Memory };
+    ghost from_gives = { λ _ fault. fault ≡ Memory refused };
 
-    fn from(_error: AllocFailed<T>) -> CliFault {
-        CliFault::Memory
+    fn from(error: AllocFailed<T>) -> CliFault {
+        CliFault::Memory(Refused::from(error))
     }
 }
 
@@ -121,7 +122,7 @@ impl From<LinkFault> for CliFault {
 
     fn from(cause: LinkFault) -> CliFault {
         match cause {
-            LinkFault::Memory => CliFault::Memory,
+            LinkFault::Memory(refused) => CliFault::Memory(refused),
             LinkFault::DoesNotFit | LinkFault::TooManySymbols | LinkFault::SymbolNumber => {
                 CliFault::NotLinked(cause)
             }
@@ -167,7 +168,7 @@ impl CliFault {
             CliFault::NotLinked(fault) => says(fault.text()),
             CliFault::CannotCreate(path) => says_of(path.as_str(), "cannot create"),
             CliFault::WriteFailed => says("write error"),
-            CliFault::Memory => says("no memory"),
+            CliFault::Memory(_) => says("no memory"),
             CliFault::LongLine => says("line too long"),
             CliFault::ManyLines => says("too many lines"),
             CliFault::ScriptFailed => says("script read error"),

@@ -43,7 +43,7 @@ IsHeaderRead old new (Err fault) = ⊥
 -- what the reader of the rest returns
 abbrev pub IsBodyRead : Header → Option (List ℕ) → Option (List ℕ) → Result Contents ReadFault → Type 0
 IsBodyRead h old new (Ok c) = TakesBody h old new c
-IsBodyRead h old new (Err Memory) = Keeps old new × (16 < file_length h)
+IsBodyRead h old new (Err (Memory _)) = Keeps old new × (16 < file_length h)
 IsBodyRead h old new (Err Truncated) = EndsEarly old new 16 (file_length h)
 IsBodyRead h old new (Err Device) = Unit {0}
 IsBodyRead h old new (Err fault) = ⊥

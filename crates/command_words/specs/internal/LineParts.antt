@@ -21,7 +21,7 @@ IsStopOf n bytes left stops.End = (left ≡ []) × GivesNone n bytes None
 IsStopOf n bytes left stops.LongLine = (left ≡ drop 4097 bytes) × GivesNone n bytes (Some long_line)
 IsStopOf n bytes left stops.ManyLines = (left ≡ drop 1 bytes) × GivesNone n bytes (Some many_lines)
 IsStopOf n bytes left stops.ReadFailed = FailsInLine bytes left
-IsStopOf n bytes left stops.Memory = ⊥
+IsStopOf n bytes left (stops.Memory _) = ⊥
 
 -- a line was taken after so many others, the last one or not, or why none was
 abbrev pub IsTakenOf : ℕ → List ℕ → List ℕ → List ℕ → Result Bool Stop → Type 0

@@ -1,4 +1,5 @@
 -- Changes that were made, and the replies to them, one after another.
+use Rattle.std.specs.declared.alloc.AllocError.{AllocError}
 use Rattle.std.specs.declared.alloc.Global.{Global}
 use Rattle.std.specs.Prelude.{◌≡◌, ◌⊎◌, ℕ, ◌+◌, ◌≤◌, List, [], ◌∷◌, ◌++◌, map, Option, Some, None}
 use Rattle.std.specs.Prelude.{Vec, vec_len, vec_capacity, Result, Ok, Err, IsOk}
@@ -17,23 +18,23 @@ use Rattle.link_out.specs.Outcomes.{outcome_of}
 use Rattle.link_out.specs.Runs.{answer_of, IsDone, IsRunOf}
 
 -- replies, if there was memory for them, are these
-abbrev pub Lists : Option (Vec Reply Global) → List Reply → Type 0
-Lists None noted = Unit {0}
-Lists (Some list) noted = list.items ≡ noted
+abbrev pub Lists : Result (Vec Reply Global) AllocError → List Reply → Type 0
+Lists (Err _) noted = Unit {0}
+Lists (Ok list) noted = list.items ≡ noted
 
 -- there is memory for so many replies more, if there was any
-abbrev pub HasCapacity : ℕ → Option (Vec Reply Global) → Type 0
-HasCapacity n None = Unit {0}
-HasCapacity n (Some list) = vec_len list + n ≤ vec_capacity list
+abbrev pub HasCapacity : ℕ → Result (Vec Reply Global) AllocError → Type 0
+HasCapacity n (Err _) = Unit {0}
+HasCapacity n (Ok list) = vec_len list + n ≤ vec_capacity list
 
 -- a change was made, and its reply was appended if there is memory for it
-pub record IsReplied (old new : Kept) (change : Change) (before after : Option (Vec Reply Global)) : Type 0 where
+pub record IsReplied (old new : Kept) (change : Change) (before after : Result (Vec Reply Global) AllocError) : Type 0 where
   pub reply : Reply
   pub done : IsDone old new change reply
   pub put : (noted : List Reply) → Lists before noted → Lists after (noted ++ reply ∷ [])
 
 -- changes were made in order, and the replies, if there was memory for them, are the answers to them
-pub record AreDone (old new : Kept) (changes : List Change) (replies : Option (Vec Reply Global)) : Type 0 where
+pub record AreDone (old new : Kept) (changes : List Change) (replies : Result (Vec Reply Global) AllocError) : Type 0 where
   pub forced : new.forced ≡ old.forced
   pub kept : new.entries ≡ survivors_from old.forced old.entries changes
   pub noted : List Reply
@@ -51,10 +52,10 @@ pub record StopsAmong (old new : Kept) (changes : List Change) : Type 0 where
   pub accepted : answer_to new.forced new.entries change ≡ added
 
 -- the replies with the link, or its refusal; memory ran out only if there is a link
-abbrev pub IsLinkedWith : Option (Vec Reply Global) → Result Outcome LinkFault → Result (Vec Reply Global × Linked) RunFault → Type 0
-IsLinkedWith replies x (Ok run) = (replies ≡ Some run.0) × (x ≡ Ok (outcome_of run.1))
-IsLinkedWith replies x (Err faults.Memory) = IsOk x
-IsLinkedWith replies x (Err (faults.Link link_faults.Memory)) = ⊥
+abbrev pub IsLinkedWith : Result (Vec Reply Global) AllocError → Result Outcome LinkFault → Result (Vec Reply Global × Linked) RunFault → Type 0
+IsLinkedWith replies x (Ok run) = (replies ≡ Ok run.0) × (x ≡ Ok (outcome_of run.1))
+IsLinkedWith replies x (Err (faults.Memory _)) = IsOk x
+IsLinkedWith replies x (Err (faults.Link (link_faults.Memory _))) = ⊥
 IsLinkedWith replies x (Err (faults.Link fault)) = x ≡ Err fault
 
 -- a run of changes of what a session keeps

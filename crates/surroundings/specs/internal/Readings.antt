@@ -11,4 +11,4 @@ Opens old new path = (known : Option (List ℕ)) × Extends old new (opened path
 abbrev pub ReadsNot : History → History → List ℕ → FileFault → Type 0
 ReadsNot old new path NotOpened = Extends old new (opened path None ∷ [])
 ReadsNot old new path Failed = Opens old new path
-ReadsNot old new path Memory = Opens old new path
+ReadsNot old new path (Memory _) = Opens old new path

@@ -47,8 +47,8 @@ AreTaken old new inputs (Err fault) = StopsWith old.forced old.entries inputs (s
 -- the link of what was taken, or its refusal; memory ran out only if there is a link
 abbrev pub IsFinalLink : Result Outcome LinkFault → Result Linked CliFault → Type 0
 IsFinalLink x (Ok l) = x ≡ Ok (outcome_of l)
-IsFinalLink x (Err faults.Memory) = IsOk x
-IsFinalLink x (Err (faults.NotLinked links.Memory)) = ⊥
+IsFinalLink x (Err (faults.Memory _)) = IsOk x
+IsFinalLink x (Err (faults.NotLinked (links.Memory _))) = ⊥
 IsFinalLink x (Err (faults.NotLinked fault)) = x ≡ Err fault
 IsFinalLink x (Err _) = ⊥
 

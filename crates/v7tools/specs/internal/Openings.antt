@@ -28,7 +28,7 @@ abbrev pub IsOpening : {R : Type 0} → (R → Option (List ℕ)) → History �
     Result (Vec (String Global × Latched R) Global) CliFault → Type 0
 IsOpening remaining old new files (Ok inputs) = OpensAll remaining old new files inputs.items
 IsOpening remaining old new files (Err (faults.CannotOpen path)) = StopsAt old new (map string_bytes files) (string_bytes path)
-IsOpening remaining old new files (Err faults.Memory) = Extends old new []
+IsOpening remaining old new files (Err (faults.Memory _)) = Extends old new []
 IsOpening remaining old new files (Err _) = ⊥
 
 abbrev pub IsLoading : History → History → List (String Global) → Result (Vec Loaded Global) CliFault → Type 0

@@ -1,4 +1,5 @@
 -- What the parts of a step find and do.
+use Rattle.aout_core.specs.Refusals.{refused}
 use Rattle.std.specs.Prelude.{◌≡◌, ◌≢◌, ◌⊎◌, ℕ, false, cond, List, [], Option, Some, None, Result}
 use Rattle.std.specs.Prelude.{Ok, Err, IfSome, IsTrue, String, string_bytes}
 use Rattle.std.specs.declared.alloc.Global.{Global}
@@ -57,7 +58,7 @@ pub record IsAccepted (known : Option (List ℕ)) (old new : Kept) (path : List 
 abbrev pub IsAddition : Option (List ℕ) → Kept → Kept → String Global → Result (Unit {0}) CliFault → Type 0
 IsAddition known old new path (Ok _) = (object : Contents) × IsAccepted known old new (string_bytes path) object
 IsAddition known old new path (Err fault) =
-    (new ≡ old) × (((fault ≡ faults.Memory) × IfSome known (WantsMemory old.forced old.entries (string_bytes path)))
+    (new ≡ old) × (((fault ≡ faults.Memory refused) × IfSome known (WantsMemory old.forced old.entries (string_bytes path)))
     ⊎ IsRefusal known old path fault)
 
 -- the file at a path is added by its bytes, if they are known; else as some file, or refused for some cause but a

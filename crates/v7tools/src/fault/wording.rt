@@ -53,7 +53,7 @@ pub(crate) fn file_text<'a>(path: &'a str, fault: ReadFault) -> FaultText<'a>
     ensures { text_of result ≡ file_text path.now fault }
 {
     FaultText {
-        path: path_unless(path, matches!(fault, ReadFault::Memory)),
+        path: path_unless(path, matches!(fault, ReadFault::Memory(_))),
         words: fault.text(),
         index: None,
     }
@@ -75,7 +75,7 @@ pub(crate) fn addition_text<'a>(path: &'a str, fault: AddFault) -> FaultText<'a>
     ensures { text_of result ≡ addition_text path.now fault }
 {
     FaultText {
-        path: path_unless(path, matches!(fault, AddFault::Memory)),
+        path: path_unless(path, matches!(fault, AddFault::Memory(_))),
         words: fault.text(),
         index: None,
     }

@@ -25,7 +25,7 @@ pub fn load<R: Read>(
 {
     match read_file(alloc, wire) {
         Ok(file) => Ok((path, file)),
-        Err(ReadFault::Memory) => Err(CliFault::Memory),
+        Err(ReadFault::Memory(refused)) => Err(CliFault::Memory(refused)),
         Err(fault) => Err(CliFault::BadFile(path, fault)),
     }
 }

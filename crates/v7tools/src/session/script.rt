@@ -2,6 +2,7 @@
 ghost use Rattle.std.specs.Prelude.{◌≡◌, ◌↔◌, ◌<◌, Err, IfErr, IfOk, IsTrue, length};
 ghost use Rattle.aout_core.specs.declared.block.TheConstants.{BLOCK_SIZE};
 ghost use Rattle.command_words.specs.ScriptAnswers.{begun};
+ghost use Rattle.aout_core.specs.Refusals.{refused};
 ghost use Rattle.v7tools.specs.declared.fault.CliFault.TheVariants.{Memory, ScriptFailed};
 ghost use Rattle.v7tools.specs.ScriptCalls.{ReturnsNext, returned};
 
@@ -22,7 +23,7 @@ fn returned(answer: Result<Line, Stop>) -> Result<Option<Line>, CliFault>
         Err(Stop::LongLine) => Err(CliFault::LongLine),
         Err(Stop::ManyLines) => Err(CliFault::ManyLines),
         Err(Stop::ReadFailed) => Err(CliFault::ScriptFailed),
-        Err(Stop::Memory) => Err(CliFault::Memory),
+        Err(Stop::Memory(refused)) => Err(CliFault::Memory(refused)),
     }
 }
 
@@ -46,7 +47,7 @@ impl<R: Read + Drop> Script<R> {
     /// Errors: `Memory`, 9, if memory runs out for a line.
     pub fn new(alloc: Global, wire: Wire<R>) -> Result<Script<R>, CliFault>
         ensures ok { IfOk result (λ script. script ≡ begun wire) }
-        ensures err { IfErr result (λ fault. fault ≡ Memory) }
+        ensures err { IfErr result (λ fault. fault ≡ Memory refused) }
     {
         let lines = LineReader::new(alloc, wire)?;
         Ok(Script { lines })

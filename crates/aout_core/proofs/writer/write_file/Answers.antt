@@ -18,7 +18,7 @@ returns-in_err-put g c =
     let b = g.W.Write.contents c.put.new.wire.device in
     let header : c.new-outgoing.result ++ c.to_bytes.result ≡ header_encoding f.header =
     ap (λ l. l ++ c.to_bytes.result) c.new-outgoing.ensures ∙ c.to_bytes.ensures ∙ ap header_encoding c.header.ensures.value in
-    writes_in_part c.from_residual.ensures.0 (search rules) (search rules)
+    writes_in_part c.from_residual-in_err-put.ensures.0 (search rules) (search rules)
     (broke_in_header f a b (subst (AppendsPrefix a b) header c.in_err-put.ensures.bytes))
 
 pub returns-in_err-put_both : goal.returns-in_err-put_both

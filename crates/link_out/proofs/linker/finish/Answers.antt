@@ -1,5 +1,6 @@
 use Rattle.std.proofs.Common.{◌≡◌, rules}
 use Rattle.std.specs.Prelude.{Err}
+use Rattle.aout_core.specs.Refusals.{refused}
 use Rattle.link_out.specs.declared.linked.Linked.{Linked}
 use Rattle.link_out.specs.declared.linked.LinkFault.TheVariants.{Memory}
 use Rattle.link_out.proofs.FinishLemmas.{ends_refused, ends_without_memory, ends_linked, ends_object}
@@ -13,31 +14,31 @@ returns-in_err-locals-clause-value c =
 
 pub returns-in_err-finals-clause-value : goal.returns-in_err-finals-clause-value
 returns-in_err-finals-clause-value c =
-    let same : c.from_residual-in_err-finals.result ≡ Err Memory = search rules in
+    let same : c.from_residual-in_err-finals.result ≡ Err (Memory refused) = search rules in
     ends_without_memory c.of-plan.result c.args.session.now c.args.options.now c.of-plan.ensures.session c.of-plan.ensures.options
     c.from_residual-in_err-finals.result c.in_ok-locals.locals same c.in_ok-locals.ensures.passed
 
 pub returns-in_err-words-clause-value : goal.returns-in_err-words-clause-value
 returns-in_err-words-clause-value c =
-    let same : c.from_residual-in_err-words.result ≡ Err Memory = search rules in
+    let same : c.from_residual-in_err-words.result ≡ Err (Memory refused) = search rules in
     ends_without_memory c.of-plan.result c.args.session.now c.args.options.now c.of-plan.ensures.session c.of-plan.ensures.options
     c.from_residual-in_err-words.result c.in_ok-locals.locals same c.in_ok-locals.ensures.passed
 
 pub returns-in_err-relocs-clause-value : goal.returns-in_err-relocs-clause-value
 returns-in_err-relocs-clause-value c =
-    let same : c.from_residual-in_err-relocs.result ≡ Err Memory = search rules in
+    let same : c.from_residual-in_err-relocs.result ≡ Err (Memory refused) = search rules in
     ends_without_memory c.of-plan.result c.args.session.now c.args.options.now c.of-plan.ensures.session c.of-plan.ensures.options
     c.from_residual-in_err-relocs.result c.in_ok-locals.locals same c.in_ok-locals.ensures.passed
 
 pub returns-in_err-symbols-clause-value : goal.returns-in_err-symbols-clause-value
 returns-in_err-symbols-clause-value c =
-    let same : c.from_residual-in_err-symbols.result ≡ Err Memory = search rules in
+    let same : c.from_residual-in_err-symbols.result ≡ Err (Memory refused) = search rules in
     ends_without_memory c.of-plan.result c.args.session.now c.args.options.now c.of-plan.ensures.session c.of-plan.ensures.options
     c.from_residual-in_err-symbols.result c.in_ok-locals.locals same c.in_ok-locals.ensures.passed
 
 pub returns-in_err-report-clause-value : goal.returns-in_err-report-clause-value
 returns-in_err-report-clause-value c =
-    let same : c.from_residual-in_err-report.result ≡ Err Memory = search rules in
+    let same : c.from_residual-in_err-report.result ≡ Err (Memory refused) = search rules in
     ends_without_memory c.of-plan.result c.args.session.now c.args.options.now c.of-plan.ensures.session c.of-plan.ensures.options
     c.from_residual-in_err-report.result c.in_ok-locals.locals same c.in_ok-locals.ensures.passed
 

@@ -1,5 +1,6 @@
 use Rattle.std.proofs.Common.{◌≡◌, ◌∙◌, true, Ok, Err, Some, subst, ap, rules}
 use Rattle.std.specs.Prelude.{IsSome}
+use Rattle.aout_core.specs.Refusals.{refused}
 use Rattle.std.specs.Io.KnownBytes.{prepend_known}
 use Rattle.command_words.specs.Scripts.{asked}
 use Rattle.command_words.specs.ScriptAnswers.{asked_by, WhereKnown, IsNextOf, NamesPath}
@@ -37,8 +38,8 @@ returns-clause-next g c =
       untouched = search rules;
     }
 
-pub returns-in_default-from_bytes-clause-next : goal.returns-in_default-from_bytes-clause-next
-returns-in_default-from_bytes-clause-next g c =
+pub returns-in-Err-from_bytes-clause-next : goal.returns-in-Err-from_bytes-clause-next
+returns-in-Err-from_bytes-clause-next g c =
     let taken = subst (λ (P : Type 0). P)
     (λ i. WhereKnown (prepend_known (c.self.view_is i).held (g.R.Read.remaining (c.self.view_is i).wire.device))
     (prepend_known c.take_line.new.reader.held (g.R.Read.remaining c.take_line.new.reader.wire.device))
@@ -46,14 +47,14 @@ returns-in_default-from_bytes-clause-next g c =
     c.in-Ok.ensures.value in
     let text : c.deref.result.now ≡ c.take_line.new.line.items = search rules in
     let named : NamesPath (asked c.take_line.new.line.items) =
-    subst (λ line. NamesPath (asked line)) text c.in_default-from_bytes.ensures.memory in
+    subst (λ line. NamesPath (asked line)) text c.in-Err-from_bytes.ensures.memory in
     record {
       stays = search rules;
       next =
           λ _. lost_known c.args.self.now.line_count
           (prepend_known c.args.self.now.held (g.R.Read.remaining c.args.self.now.wire.device))
           (prepend_known c.take_line.new.reader.held (g.R.Read.remaining c.take_line.new.reader.wire.device))
-          (Some Memory) c.take_line.new.line.items c.in-Ok.is_last named taken;
+          (Some (Memory refused)) c.take_line.new.line.items c.in-Ok.is_last named taken;
       settles = search rules;
       failed = search rules;
       latched = search rules;

@@ -1,4 +1,5 @@
 use Rattle.std.proofs.Common.{◌≡◌, ◌++◌, ◌∷◌, [], map, Option, None, Some, ◌∙◌, refl, sym, subst, rules}
+use Rattle.aout_core.specs.Refusals.{refused}
 use Rattle.link_session.specs.declared.entry.AddFault.{AddFault}
 use Rattle.link_session.specs.declared.entry.AddFault.TheVariants.{Memory}
 use Rattle.link_session.specs.Labelled.{objects}
@@ -83,5 +84,5 @@ returns-in-Err-clause-cause c =
     let none : next_limit (image_in c.self.inside.image) c.args.object ≡ None = search rules in
     let fits = refusal-fields c.self.inside.forced c.self.inside.entries.items c.self.inside.undo_records.items
     (image_in c.self.inside.image) (threads_in c.self.inside.image) c.args.object c.self.invariant ∙ none in
-    subst (λ (k : Kept). IsCause (refusal k.forced (objects k.entries) c.args.object) Memory) c.self.view_is
-    (subst (λ (limit : Option AddFault). IsCause limit Memory) (sym fits) refl)
+    subst (λ (k : Kept). IsCause (refusal k.forced (objects k.entries) c.args.object) (Memory refused)) c.self.view_is
+    (subst (λ (limit : Option AddFault). IsCause limit (Memory refused)) (sym fits) refl)

@@ -1,0 +1,179 @@
+-- The lines that a session ran and answered: all of its script if it ends well, and else the first.
+use Rattle.std.proofs.Common.{◌≡◌, ℕ, ◌≤◌, List, [], ◌∷◌, ◌++◌, Option, Some, None, Result, Ok, Err, refl, sym, ap, ◌∙◌, arith, inl, inr, subst}
+use Rattle.std.proofs.KnownBytes.{Appends-nil}
+use Rattle.std.proofs.lemmas.List.{append-nil, append_assoc, append_cancel_left}
+use Rattle.std.specs.Io.KnownBytes.{Appends}
+use Rattle.std.specs.Prelude.{IfSome}
+use Rattle.aout_core.specs.Wires.{Latched}
+use Rattle.link_session.specs.Sessions.{nothing_kept}
+use Rattle.tool_options.specs.Choices.{Choices}
+use Rattle.surroundings.specs.Events.{Extends}
+use Rattle.command_words.specs.Scripts.{Asked, Given, ScriptFault, long_line, many_lines}
+use Rattle.command_words.specs.ScriptAnswers.{NamesPath}
+use Rattle.command_words.specs.declared.words.Call.{Call}
+use Rattle.command_words.specs.declared.words.Call.TheVariants.{Ld, Nm, Size, Strip, Session}
+use Rattle.v7tools.specs.CommandRuns.{Ends, IsCallRun, RunsWords}
+use Rattle.v7tools.specs.LineRuns.{LineRun}
+use Rattle.v7tools.specs.SessionRuns.{AreFirst, AreLines, EndsAfter, IsSessionRun, StopsAfter, answers_of, events_of, given, lines_asked}
+use Rattle.v7tools.specs.declared.fault.CliFault.{CliFault}
+use Rattle.v7tools.specs.declared.fault.CliFault.TheVariants as faults
+use Rattle.laws.specs.Disks.{Run}
+use Rattle.laws.specs.SessionsByCommands.{AnsweredLines, AnswersLaw, LinesLaw, RanLines}
+use Rattle.laws.proofs.CallLemmas.{IsSession, same_session}
+
+no_fault : (answer : ℕ) (fault : CliFault) → (let x : Result ℕ CliFault = Ok answer in let y : Result ℕ CliFault = Err fault in x ≡ y) → ⊥
+no_fault answer fault e = cc
+
+module _ {W E : Type 0} (out_contents : W → Option (List ℕ)) (error_contents : E → Option (List ℕ)) where
+  abbrev HasRun : List (List ℕ) → Choices → Run W E → Type 0
+  HasRun forced o r = (runs : List LineRun) × RanLines out_contents error_contents forced o r runs
+
+  by_session : (forced : List (List ℕ)) (o : Choices) (r : Run W E) (status : ℕ) → r.status ≡ status →
+      IsSessionRun out_contents forced o r.script (Some r.earlier) (Some (r.earlier ++ r.events)) (Ok status)
+      r.output_before r.output_after → HasRun forced o r
+  by_session forced o r status is (inl h) = absurd (no_fault status _ h.1.refusal)
+  by_session forced o r status is (inr (inl h)) = (
+    h.runs,
+    record {
+      kept = h.kept;
+      chain = h.ran.chain;
+      lines = h.ends.0;
+      events = append_cancel_left r.earlier r.events _ h.ran.asked;
+      answers = h.ran.answers;
+      status = is ∙ h.ends.1;
+    },
+  )
+  by_session forced o r status is (inr (inr h)) = absurd (no_fault status _ h.refusal)
+
+  by_call : (forced : List (List ℕ)) (o : Choices) (r : Run W E) (status : ℕ) → r.status ≡ status → (call : Call) →
+      IsSession forced o call → IsCallRun out_contents r.script call (Some r.earlier) (Some (r.earlier ++ r.events)) (Ok status)
+      r.output_before r.output_after → HasRun forced o r
+  by_call forced o r status is (Session options names) same run =
+      subst (λ (c : Choices). HasRun forced c r) same.0
+      (subst (λ (ns : List (List ℕ)). HasRun ns options r) same.1 (by_session names options r status is run))
+  by_call forced o r status is (Ld options names output files) same run = absurd same
+  by_call forced o r status is (Nm options files) same run = absurd same
+  by_call forced o r status is (Size files) same run = absurd same
+  by_call forced o r status is (Strip files) same run = absurd same
+
+  pub lines_law : LinesLaw out_contents error_contents
+  lines_law forced o r h = by_result h.ends.performs.0 h.ends.performs.1 h.ends.performs.2
+    where
+      by_result : (result : Result ℕ CliFault) → RunsWords out_contents r.words r.script (Some r.earlier)
+          (Some (r.earlier ++ r.events)) result r.output_before r.output_after →
+          Ends error_contents result r.status r.error_before r.error_after → HasRun forced o r
+      by_result (Err fault) runs ends =
+          absurd (let small : r.status ≤ 1 = h.ends.no_fault in let two : r.status ≡ 2 = ends.0 in omega arith)
+      by_result (Ok status) (inl k) ends = absurd (no_fault status _ k.refuses.refusal)
+      by_result (Ok status) (inr k) ends =
+          by_call forced o r status ends.0 k.call (same_session r.words forced o h.asks k.call k.asks) k.run
+
+  -- ---- whatever ends it
+
+  abbrev HasAnswered : List (List ℕ) → Choices → Run W E → Type 0
+  HasAnswered forced o r = (runs : List LineRun) × AnsweredLines out_contents error_contents forced o r runs
+
+  all_first : (script : Option (List ℕ)) (lines : List Asked) (fault : Option ScriptFault) → AreLines script lines fault → AreFirst script lines
+  all_first None lines fault h = tt
+  all_first (Some bytes) lines fault h = ([], ap (λ (g : Given). g.lines) h ∙ sym (append-nil lines))
+
+  none_first : (script : Option (List ℕ)) → AreFirst script []
+  none_first None = tt
+  none_first (Some bytes) = ((given bytes).lines, refl)
+
+  fewer_first : (script : Option (List ℕ)) (lines more : List Asked) → AreFirst script (lines ++ more) → AreFirst script lines
+  fewer_first None lines more h = tt
+  fewer_first (Some bytes) lines more (rest, e) = (more ++ rest, e ∙ append_assoc lines more rest)
+
+  named_first : (script : Option (List ℕ)) (lines : List Asked) →
+      IfSome script (λ bytes. (a : Asked) × (more : List Asked) × NamesPath a × ((given bytes).lines ≡ lines ++ a ∷ more)) →
+      AreFirst script lines
+  named_first None lines h = tt
+  named_first (Some bytes) lines (a, more, names, e) = (a ∷ more, e)
+
+  stops_first : (script : Option (List ℕ)) (lines : List Asked) (fault : CliFault) → StopsAfter script lines fault → AreFirst script lines
+  stops_first script lines faults.LongLine h = all_first script lines (Some long_line) h
+  stops_first script lines faults.ManyLines h = all_first script lines (Some many_lines) h
+  stops_first script lines faults.ScriptFailed h = h
+  stops_first script lines faults.Memory h = named_first script lines h
+  stops_first script lines faults.Usage h = absurd h
+  stops_first script lines (faults.CannotOpen path) h = absurd h
+  stops_first script lines (faults.BadFile path fault) h = absurd h
+  stops_first script lines (faults.BadObject path fault) h = absurd h
+  stops_first script lines (faults.NotAdded path fault) h = absurd h
+  stops_first script lines (faults.NotLinked fault) h = absurd h
+  stops_first script lines (faults.CannotCreate path) h = absurd h
+  stops_first script lines faults.WriteFailed h = absurd h
+
+  ends_first : (script : Option (List ℕ)) (runs : List LineRun) (result : Result ℕ CliFault) → EndsAfter script runs result →
+      AreFirst script (lines_asked runs)
+  ends_first script runs (Ok status) h = all_first script (lines_asked runs) None h.0
+  ends_first script runs (Err fault) h = stops_first script (lines_asked runs) fault h
+
+  -- no line was run
+  silent_run : (forced : List (List ℕ)) (o : Choices) (r : Run W E) → Extends (Some r.earlier) (Some (r.earlier ++ r.events)) [] →
+      r.output_after ≡ r.output_before → HasAnswered forced o r
+  silent_run forced o r asked silent = (
+    [],
+    record {
+      kept = nothing_kept forced;
+      chain = refl;
+      lines = none_first r.script;
+      further = [];
+      events = append_cancel_left r.earlier r.events [] asked;
+      part = [];
+      answers =
+          subst (λ (w : Latched W). Appends (out_contents r.output_before.device) (out_contents w.device) []) (sym silent)
+          (Appends-nil (out_contents r.output_before.device));
+    },
+  )
+
+  answered_session : (forced : List (List ℕ)) (o : Choices) (r : Run W E) (result : Result ℕ CliFault) →
+      IsSessionRun out_contents forced o r.script (Some r.earlier) (Some (r.earlier ++ r.events)) result
+      r.output_before r.output_after → HasAnswered forced o r
+  answered_session forced o r result (inl h) = silent_run forced o r h.0 h.1.silent
+  answered_session forced o r result (inr (inl h)) = (
+    h.runs,
+    record {
+      kept = h.kept;
+      chain = h.ran.chain;
+      lines = ends_first r.script h.runs result h.ends;
+      further = [];
+      events = append_cancel_left r.earlier r.events _ h.ran.asked ∙ sym (append-nil (events_of h.runs));
+      part = [];
+      answers =
+          subst (λ (text : List ℕ). Appends (out_contents r.output_before.device) (out_contents r.output_after.device) text)
+          (sym (append-nil (answers_of h.runs))) h.ran.answers;
+    },
+  )
+  answered_session forced o r result (inr (inr h)) = (
+    h.runs,
+    record {
+      kept = h.kept;
+      chain = h.chain;
+      lines = fewer_first r.script (lines_asked h.runs) (h.last.line ∷ []) h.first;
+      further = h.last.events;
+      events = append_cancel_left r.earlier r.events _ h.asked;
+      part = h.part;
+      answers = h.answers;
+    },
+  )
+
+  answered_call : (forced : List (List ℕ)) (o : Choices) (r : Run W E) (result : Result ℕ CliFault) (call : Call) →
+      IsSession forced o call → IsCallRun out_contents r.script call (Some r.earlier) (Some (r.earlier ++ r.events)) result
+      r.output_before r.output_after → HasAnswered forced o r
+  answered_call forced o r result (Session options names) same run =
+      subst (λ (c : Choices). HasAnswered forced c r) same.0
+      (subst (λ (ns : List (List ℕ)). HasAnswered ns options r) same.1 (answered_session names options r result run))
+  answered_call forced o r result (Ld options names output files) same run = absurd same
+  answered_call forced o r result (Nm options files) same run = absurd same
+  answered_call forced o r result (Size files) same run = absurd same
+  answered_call forced o r result (Strip files) same run = absurd same
+
+  pub answers_law : AnswersLaw out_contents error_contents
+  answers_law forced o r asks performs = by_words performs.1
+    where
+      by_words : RunsWords out_contents r.words r.script (Some r.earlier) (Some (r.earlier ++ r.events)) performs.0 r.output_before
+          r.output_after → HasAnswered forced o r
+      by_words (inl h) = silent_run forced o r h.asked h.refuses.silent
+      by_words (inr h) = answered_call forced o r performs.0 h.call (same_session r.words forced o asks h.call h.asks) h.run

@@ -1,0 +1,391 @@
+-- What `ld` does with the files that a session has left, and what a line of the session did.
+use Rattle.std.specs.declared.alloc.Global.{Global}
+use Rattle.std.proofs.Common.{◌≡◌, ℕ, List, [], ◌∷◌, ◌++◌, Option, Some, None, Result, Ok, Err, refl, sym, ap, ◌∙◌}
+use Rattle.std.proofs.Common.{inl, inr, subst, ◌⊎◌}
+use Rattle.std.proofs.lemmas.List.{append-nil, append_cancel_left}
+use Rattle.std.specs.Prelude.{IfSome, String, codes, decimal, string_bytes}
+use Rattle.std.specs.List.{AllByRecursion}
+use Rattle.aout_core.specs.declared.file.ReadFault.TheVariants as reads
+use Rattle.aout_core.specs.Contents.{Contents}
+use Rattle.command_words.specs.declared.words.Call.{Call}
+use Rattle.command_words.specs.declared.words.Call.TheVariants.{Ld, Nm, Size, Strip, Session}
+use Rattle.command_words.specs.Scripts.{Asked, to_link}
+use Rattle.link_session.specs.declared.entry.AddFault.TheVariants as adds
+use Rattle.link_session.specs.Labelled.{Labelled, objects}
+use Rattle.link_session.specs.Sessions.{nothing_kept}
+use Rattle.link_session.specs.Undo as undo
+use Rattle.link_session.proofs.ListLemmas.{all_append}
+use Rattle.link_out.specs.declared.linked.Linked.{Linked}
+use Rattle.link_out.specs.declared.linked.LinkFault.{LinkFault}
+use Rattle.link_out.specs.declared.linked.LinkFault.TheVariants as links
+use Rattle.link_out.specs.FaultTexts.{link_text}
+use Rattle.link_out.specs.Outcomes.{outcome_of, report_names}
+use Rattle.link_out.specs.Results.{Outcome}
+use Rattle.link_out.specs.Steps.{and_then, refused_as}
+use Rattle.link_out.specs.function.Link.{link}
+use Rattle.link_out.specs.function.Reports.{line, report_text, status_of}
+use Rattle.tool_options.specs.Choices.{Choices}
+use Rattle.surroundings.specs.Events.{Event, Extends, Opened, opened, opens, paths_of, stored}
+use Rattle.surroundings.specs.declared.office.Stored.{Stored}
+use Rattle.surroundings.specs.declared.office.Stored.TheVariants.{Kept, NotCreated, Failed}
+use Rattle.v7tools.specs.Answers.{Stepped, link_answer_text, link_status, link_step}
+use Rattle.v7tools.specs.Calls.{fault_of_words}
+use Rattle.v7tools.specs.CommandRuns.{Ends, IsCallRun, RunsWords}
+use Rattle.v7tools.specs.FaultTexts.{cli_text, no_memory}
+use Rattle.v7tools.specs.Inputs.{Refusal, linked, not_linked}
+use Rattle.v7tools.specs.LineRuns.{IsLineOf, LineRun}
+use Rattle.v7tools.specs.LinkAnswers.{IsLinkOfBytes, IsTrueOf, known_inputs, said_by}
+use Rattle.v7tools.specs.LinkRuns.{IsLinkOfFiles, IsLinkRun, Refuses, Reports, ReportsIf, inputs_opened}
+use Rattle.v7tools.specs.SessionSteps.{IsLinkBy}
+use Rattle.v7tools.specs.declared.fault.CliFault.{CliFault}
+use Rattle.v7tools.specs.declared.fault.CliFault.TheVariants as faults
+use Rattle.laws.specs.Disks.{Disk, IsOn, Run, Writes}
+use Rattle.laws.specs.StepsByCommands.{AsksToLink}
+use Rattle.laws.specs.SessionsByCommands.{AreThere, CannotRead, CannotWrite, DoesAsLd, FailsBy, IsOpening, IsRefusedAsLd, LinkLineLaw}
+use Rattle.laws.specs.SessionsByCommands.{RefusedLineLaw, Says, files_left}
+use Rattle.laws.proofs.CallLemmas.{IsLink, same_link}
+use Rattle.laws.proofs.DiskLemmas.{AreGiven, given}
+use Rattle.laws.proofs.LeftLemmas.{IsAt, IsLeft, all_known, at_line, bytes_of, left_lines, taken_bytes}
+
+-- ---- the files that ld opened are those that are left
+
+found_bytes : (disk : Disk) (f g : Opened) (bytes : List ℕ) → f.0 ≡ g.0 → g.1 ≡ Some bytes → disk g.0 ≡ Some bytes →
+    IfSome (disk f.0) (λ bytes. f.1 ≡ Some bytes) → f ≡ g
+found_bytes disk f g bytes at read there given =
+    let known : f.1 ≡ Some bytes =
+    subst (λ (k : Option (List ℕ)). IfSome k (λ bytes. f.1 ≡ Some bytes)) (ap disk at ∙ there) given in
+    let same : f.1 ≡ g.1 = known ∙ sym read in
+    λ i. (at i, same i)
+
+pub same_found : (disk : Disk) (found left : List Opened) → paths_of found ≡ paths_of left → AreGiven disk found →
+    AreThere disk left → found ≡ left
+same_found disk [] [] paths gives there = refl
+same_found disk [] (g ∷ gs) paths gives there = absurd (cc)
+same_found disk (f ∷ fs) [] paths gives there = absurd (cc)
+same_found disk (f ∷ fs) (g ∷ gs) paths gives there =
+    let at : f.0 ≡ g.0 = cc in
+    let rest : paths_of fs ≡ paths_of gs = cc in
+    let first : f ≡ g = found_bytes disk f g there.0.bytes at there.0.read there.0.there gives.0 in
+    let others : fs ≡ gs = same_found disk fs gs rest gives.1 there.1 in
+    λ i. first i ∷ others i
+
+-- the bytes that are left link as the objects that the session keeps do
+linked_left : (disk : Disk) (forced : List (List ℕ)) (o : Choices) (left : List Opened) (k : undo.Kept) → AreThere disk left →
+    IsLeft forced left k → linked forced (bytes_of left) o ≡ refused_as not_linked (link k.forced (objects k.entries) o)
+linked_left disk forced o left k there is =
+    ap (λ (x : Result (List Labelled) Refusal). and_then x (λ es. refused_as not_linked (link forced (objects es) o)))
+    (taken_bytes disk forced left [] k.entries there is.taken)
+    ∙ ap (λ (ns : List (List ℕ)). refused_as not_linked (link ns (objects k.entries) o)) (sym is.names)
+
+-- ---- what the line did
+
+same_ok : {A B : Type 0} (a b : A) → (let x : Result A B = Ok a in let y : Result A B = Ok b in x ≡ y) → a ≡ b
+same_ok a b e = cc
+
+-- a line that stored its link
+record StoredLink (o : Choices) (k : undo.Kept) (p : List ℕ) (file : Contents) (r : LineRun) : Type 0 where
+  outcome : Outcome
+  is_link : link k.forced (objects k.entries) o ≡ Ok outcome
+  same : outcome.file ≡ file
+  answer : r.answer ≡ link_answer_text outcome.report p Kept
+  status : r.status ≡ status_of outcome.report
+
+stored_link : (o : Choices) (k : undo.Kept) (p : List ℕ) (file : Contents) (r : LineRun) → IsLineOf o k r (to_link p) →
+    r.events ≡ stored p file Kept ∷ [] → StoredLink o k p file r
+stored_link o k p file r (inl h) e = absurd (let none : r.events ≡ [] = h.only_answer.events in cc)
+stored_link o k p file r (inr h) e =
+    let both : stored p h.outcome.file h.what ∷ [] ≡ stored p file Kept ∷ [] = sym h.events ∙ e in
+    let same : h.outcome.file ≡ file = cc in
+    let what : h.what ≡ Kept = cc in
+    record {
+      outcome = h.outcome;
+      is_link = h.is_link;
+      same = same;
+      answer = h.answer ∙ ap (link_answer_text h.outcome.report p) what;
+      status = h.status ∙ ap (link_status h.outcome.report) what;
+    }
+
+-- a line whose link was refused
+record RefusedLink (o : Choices) (k : undo.Kept) (r : LineRun) : Type 0 where
+  cause : LinkFault
+  is_none : link k.forced (objects k.entries) o ≡ Err cause
+  answer : r.answer ≡ line (link_text cause)
+
+refused_link : (o : Choices) (k : undo.Kept) (p : List ℕ) (r : LineRun) → IsLineOf o k r (to_link p) → r.events ≡ [] →
+    (r.answer ≡ line no_memory → ⊥) → RefusedLink o k r
+refused_link o k p r (inr h) e memory = absurd (let some : r.events ≡ stored p h.outcome.file h.what ∷ [] = h.events in cc)
+refused_link o k p r (inl h) e memory = by_link h.is_link
+  where
+    by_answer : (x : Result Outcome LinkFault) → link k.forced (objects k.entries) o ≡ x → h.did ≡ link_step k.entries x →
+        RefusedLink o k r
+    by_answer (Ok outcome) is did = absurd (let no = sym h.refuses ∙ ap (λ (s : Stepped). s.verdict) did in cc)
+    by_answer (Err cause) is did = record {
+      cause = cause;
+      is_none = is;
+      answer = h.only_answer.does.answer ∙ ap (λ (s : Stepped). s.answer) did;
+    }
+
+    by_link : IsLinkBy k.entries (link k.forced (objects k.entries) o) h.did → RefusedLink o k r
+    by_link (inl did) = by_answer (link k.forced (objects k.entries) o) refl did
+    by_link (inr (did, ok)) = absurd (memory (h.only_answer.does.answer ∙ ap (λ (s : Stepped). s.answer) did))
+
+-- ---- what ld did
+
+all_openings : (found : List Opened) → AllByRecursion IsOpening (opens found)
+all_openings [] = tt
+all_openings (f ∷ fs) = (tt, all_openings fs)
+
+-- why ld is refused, if its bytes do not link
+abbrev Reason : LinkFault → CliFault → Type 0
+Reason cause fault = (cli_text fault ≡ link_text cause) ⊎ CannotRead fault
+
+reason : (cause : LinkFault) (fault : CliFault) →
+    (let answer : Result Outcome Refusal = Err (not_linked cause) in IsTrueOf (said_by fault) answer) → Reason cause fault
+reason cause faults.Usage h = absurd h
+reason cause (faults.CannotOpen path) h = absurd h
+reason cause (faults.BadFile path reads.Device) h = inr tt
+reason cause (faults.BadFile path reads.Memory) h = absurd h
+reason cause (faults.BadFile path reads.ShortHeader) h = absurd (cc)
+reason cause (faults.BadFile path reads.BadMagic) h = absurd (cc)
+reason cause (faults.BadFile path reads.OddSize) h = absurd (cc)
+reason cause (faults.BadFile path reads.Truncated) h = absurd (cc)
+reason cause (faults.BadObject path fault) h = absurd (cc)
+reason cause (faults.NotAdded path adds.Memory) h = absurd h
+reason cause (faults.NotAdded path adds.TextFull) h = absurd (cc)
+reason cause (faults.NotAdded path adds.DataFull) h = absurd (cc)
+reason cause (faults.NotAdded path adds.BssFull) h = absurd (cc)
+reason cause (faults.NotAdded path adds.NamesFull) h = absurd (cc)
+reason cause (faults.NotLinked links.Memory) h = absurd h
+reason cause (faults.NotLinked links.DoesNotFit) h = let same : cause ≡ links.DoesNotFit = cc in inl (ap link_text (sym same))
+reason cause (faults.NotLinked links.TooManySymbols) h = let same : cause ≡ links.TooManySymbols = cc in inl (ap link_text (sym same))
+reason cause (faults.NotLinked links.SymbolNumber) h = let same : cause ≡ links.SymbolNumber = cc in inl (ap link_text (sym same))
+reason cause (faults.CannotCreate path) h = absurd h
+reason cause faults.WriteFailed h = absurd h
+reason cause faults.Memory h = inr tt
+reason cause faults.LongLine h = absurd h
+reason cause faults.ManyLines h = absurd h
+reason cause faults.ScriptFailed h = absurd h
+
+module _ {W E : Type 0} (out_contents : W → Option (List ℕ)) (error_contents : E → Option (List ℕ)) where
+  -- ---- any ld
+
+  module _ (l : Run W E) (forced : List (List ℕ)) (o : Choices) (q : List ℕ) (paths : List (List ℕ)) where
+    -- ld was run by its arguments, whatever came of it
+    record LdRan : Type 0 where
+      result : Result ℕ CliFault
+      output : String Global
+      at : string_bytes output ≡ q
+      ran : IsLinkRun out_contents forced o output paths (Some l.earlier) (Some (l.earlier ++ l.events)) result l.output_before l.output_after
+      ends : Ends error_contents result l.status l.error_before l.error_after
+
+    module _ (result : Result ℕ CliFault) (ends : Ends error_contents result l.status l.error_before l.error_after) where
+      by_call : (call : Call) → IsLink forced o q paths call →
+          IsCallRun out_contents l.script call (Some l.earlier) (Some (l.earlier ++ l.events)) result l.output_before l.output_after → LdRan
+      by_call (Ld options names output files) same run = record {
+        result = result;
+        output = output;
+        at = same.2;
+        ran = subst (λ (P : Type 0). P)
+            (λ i. IsLinkRun out_contents (same.1 i) (same.0 i) output (same.3 i) (Some l.earlier) (Some (l.earlier ++ l.events)) result
+            l.output_before l.output_after) run;
+        ends = ends;
+      }
+      by_call (Nm options files) same run = absurd same
+      by_call (Size files) same run = absurd same
+      by_call (Strip files) same run = absurd same
+      by_call (Session options names) same run = absurd same
+
+      by_words : (asks : AsksToLink l.words forced o q paths) →
+          RunsWords out_contents l.words l.script (Some l.earlier) (Some (l.earlier ++ l.events)) result l.output_before l.output_after → LdRan
+      by_words asks (inl h) =
+          let memory : h.fault ≡ faults.Memory =
+          h.of_words.1 ∙ ap fault_of_words (h.of_words.2 (Ld o forced asks.output asks.files) asks.asks.whole asks.asks.asked asks.asks.dashes) in
+          record {
+            result = result;
+            output = asks.output;
+            at = asks.out_path;
+            ran = inl (h.asked, subst (λ (f : CliFault). Refuses f result l.output_before l.output_after) memory h.refuses);
+            ends = ends;
+          }
+      by_words asks (inr h) =
+          by_call h.call (subst (λ (P : Type 0). P) (λ i. IsLink forced o (asks.out_path i) (asks.file_paths i) h.call)
+          (same_link l.words forced o asks.output asks.files asks.asks h.call h.asks)) h.run
+
+  module _ (l : Run W E) (forced : List (List ℕ)) (o : Choices) (left : List Opened) (there : AreThere l.disk left)
+      (on_disk : IsOn l.disk l.events) where
+    -- the events of the run
+    events_are : (more : List Event) → Extends (Some l.earlier) (Some (l.earlier ++ l.events)) more → l.events ≡ more
+    events_are more h = append_cancel_left l.earlier l.events more h
+
+    found_left : (found : List Opened) (more : List Event) → l.events ≡ opens found ++ more → paths_of found ≡ paths_of left → found ≡ left
+    found_left found more events all =
+        same_found l.disk found left all (given l.disk found more (subst (λ (es : List Event). IsOn l.disk es) events on_disk)) there
+
+    bytes_say : (found : List Opened) (answer : Result Linked CliFault) (more : List Event) → l.events ≡ opens found ++ more →
+        IsLinkOfFiles forced o (paths_of left) found answer → IsLinkOfBytes forced o (bytes_of left) answer
+    bytes_say found answer more events h =
+        subst (λ (k : Option (List (List ℕ × List ℕ))). IfSome k (λ bytes. IsLinkOfBytes forced o bytes answer))
+        (ap (λ (fs : List Opened). known_inputs (inputs_opened fs)) (found_left found more events h.all) ∙ all_known l.disk left there)
+        h.link.bytes
+
+  -- ---- a line that stored its link
+
+  module _ (l : Run W E) (forced : List (List ℕ)) (o : Choices) (left : List Opened) (there : AreThere l.disk left)
+      (on_disk : IsOn l.disk l.events) (p q : List ℕ) (file : Contents) (r : LineRun) (k : undo.Kept) (did : StoredLink o k p file r)
+      (some : linked forced (bytes_of left) o ≡ Ok did.outcome) (result : Result ℕ CliFault)
+      (ends : Ends error_contents result l.status l.error_before l.error_after) where
+    abbrev Ended : Type 0
+    Ended =
+        DoesAsLd out_contents error_contents p q file left r l
+        ⊎ (FailsBy out_contents error_contents CannotRead l ⊎ FailsBy out_contents error_contents CannotWrite l)
+
+    failed : (IsSuch : CliFault → Type 0) (fault : CliFault) → result ≡ Err fault → IsSuch fault → FailsBy out_contents error_contents IsSuch l
+    failed IsSuch fault is such =
+        let said = subst (λ (x : Result ℕ CliFault). Ends error_contents x l.status l.error_before l.error_after) is ends in
+        (said.0, fault, such, said.1)
+
+    reported : (made : Linked) → made.file ≡ file → report_names made.report ≡ did.outcome.report →
+        l.events ≡ opens left ++ stored q made.file Kept ∷ [] →
+        (it : Result ℕ CliFault) → result ≡ it →
+        Reports out_contents (report_names made.report) it l.output_before l.output_after → Ended
+    reported made same report events (Err fault) is h =
+        inr (inr (failed CannotWrite faults.WriteFailed (is ∙ ap (λ (f : CliFault). Err f) h.write_failed) tt))
+    reported made same report events (Ok status) is h =
+        let ended = subst (λ (x : Result ℕ CliFault). Ends error_contents x l.status l.error_before l.error_after) is ends in
+        let status_is : l.status ≡ status_of did.outcome.report = ended.0 ∙ h.status ∙ ap status_of report in
+        inl (record {
+          asked = events ∙ ap (λ (c : Contents). opens left ++ stored q c Kept ∷ []) same;
+          report = report_text did.outcome.report;
+          reports = subst (λ f. Writes out_contents l (report_text f)) report h.writes.bytes;
+          answers =
+              did.answer
+              ∙ ap (λ (n : ℕ). report_text did.outcome.report ++ line (codes "linked " ++ p ++ codes " " ++ decimal n)) (sym status_is);
+          status = did.status ∙ sym status_is;
+        })
+
+    stored_by : (output : String Global) → string_bytes output ≡ q → (made : Linked) → outcome_of made ≡ did.outcome → (what : Stored) →
+        l.events ≡ opens left ++ stored (string_bytes output) made.file what ∷ [] →
+        ReportsIf out_contents what output (report_names made.report) result l.output_before l.output_after → Ended
+    stored_by output at made same Kept events h =
+        reported made (ap (λ (x : Outcome). x.file) same ∙ did.same) (ap (λ (x : Outcome). x.report) same)
+        (subst (λ (path : List ℕ). l.events ≡ opens left ++ stored path made.file Kept ∷ []) at events) result refl h
+    stored_by output at made same NotCreated events h = inr (inr (failed CannotWrite (faults.CannotCreate output) h.0 tt))
+    stored_by output at made same Failed events h = inr (inr (failed CannotWrite faults.WriteFailed h.0 tt))
+
+    no_reason : (fault : CliFault) → (let answer : Result Outcome Refusal = Ok did.outcome in IsTrueOf (said_by fault) answer) → CannotRead fault
+    no_reason faults.Usage h = absurd h
+    no_reason (faults.CannotOpen path) h = tt
+    no_reason (faults.BadFile path reads.Device) h = tt
+    no_reason (faults.BadFile path reads.Memory) h = absurd h
+    no_reason (faults.BadFile path reads.ShortHeader) h = absurd (cc)
+    no_reason (faults.BadFile path reads.BadMagic) h = absurd (cc)
+    no_reason (faults.BadFile path reads.OddSize) h = absurd (cc)
+    no_reason (faults.BadFile path reads.Truncated) h = absurd (cc)
+    no_reason (faults.BadObject path fault) h = absurd (cc)
+    no_reason (faults.NotAdded path adds.Memory) h = absurd h
+    no_reason (faults.NotAdded path adds.TextFull) h = absurd (cc)
+    no_reason (faults.NotAdded path adds.DataFull) h = absurd (cc)
+    no_reason (faults.NotAdded path adds.BssFull) h = absurd (cc)
+    no_reason (faults.NotAdded path adds.NamesFull) h = absurd (cc)
+    no_reason (faults.NotLinked links.Memory) h = absurd h
+    no_reason (faults.NotLinked links.DoesNotFit) h = absurd (cc)
+    no_reason (faults.NotLinked links.TooManySymbols) h = absurd (cc)
+    no_reason (faults.NotLinked links.SymbolNumber) h = absurd (cc)
+    no_reason (faults.CannotCreate path) h = absurd h
+    no_reason faults.WriteFailed h = absurd h
+    no_reason faults.Memory h = tt
+    no_reason faults.LongLine h = absurd h
+    no_reason faults.ManyLines h = absurd h
+    no_reason faults.ScriptFailed h = absurd h
+
+    ended_by : (output : String Global) → string_bytes output ≡ q → IsLinkRun out_contents forced o output (paths_of left) (Some l.earlier)
+        (Some (l.earlier ++ l.events)) result l.output_before l.output_after → Ended
+    ended_by output at (inl h) = inr (inl (failed CannotRead faults.Memory h.1.refusal tt))
+    ended_by output at (inr (inl h)) = inr (inl (failed CannotRead (faults.CannotOpen h.path) h.refuses.refusal tt))
+    ended_by output at (inr (inr (inl h))) =
+        let events : l.events ≡ opens h.found = events_are l forced o left there on_disk (opens h.found) h.asked in
+        inr (inl (failed CannotRead h.fault h.refuses.refusal (no_reason h.fault
+        (subst (λ (x : Result Outcome Refusal). IsTrueOf (said_by h.fault) x) some
+        (bytes_say l forced o left there on_disk h.found (Err h.fault) [] (events ∙ sym (append-nil (opens h.found))) h.answer)))))
+    ended_by output at (inr (inr (inr h))) =
+        let events = events_are l forced o left there on_disk _ h.asked in
+        let ok = bytes_say l forced o left there on_disk h.found (Ok h.linked) _ events h.answer in
+        let found : h.found ≡ left = found_left l forced o left there on_disk h.found _ events h.answer.all in
+        stored_by output at h.linked (same_ok (outcome_of h.linked) did.outcome (sym ok ∙ some)) h.what
+        (events ∙ ap (λ (fs : List Opened). opens fs ++ stored (string_bytes output) h.linked.file h.what ∷ []) found) h.reports
+
+  -- ---- a line whose link was refused
+
+  module _ (l : Run W E) (forced : List (List ℕ)) (o : Choices) (left : List Opened) (there : AreThere l.disk left)
+      (on_disk : IsOn l.disk l.events) (r : LineRun) (cause : LinkFault) (answer : r.answer ≡ line (link_text cause))
+      (none : linked forced (bytes_of left) o ≡ Err (not_linked cause)) (result : Result ℕ CliFault)
+      (ends : Ends error_contents result l.status l.error_before l.error_after) where
+    refused_by : (fault : CliFault) → Refuses fault result l.output_before l.output_after → AllByRecursion IsOpening l.events →
+        Reason cause fault → IsRefusedAsLd out_contents error_contents r l
+    refused_by fault refuses openings why = record {
+      status = said.0;
+      stores_nothing = openings;
+      writes_nothing = refuses.silent;
+      says = by_reason why;
+    }
+      where
+        said : Ends error_contents (Err fault) l.status l.error_before l.error_after
+        said = subst (λ (x : Result ℕ CliFault). Ends error_contents x l.status l.error_before l.error_after) refuses.refusal ends
+
+        Line : List ℕ → Type 0
+        Line text = Says out_contents error_contents l text
+
+        by_reason : Reason cause fault → Line (codes "v7: " ++ r.answer) ⊎ FailsBy out_contents error_contents CannotRead l
+        by_reason (inl text) =
+            inl (subst Line (ap (λ (t : List ℕ). codes "v7: " ++ line t) text ∙ ap (λ (t : List ℕ). codes "v7: " ++ t) (sym answer)) said.1)
+        by_reason (inr outside) = inr (said.0, fault, outside, said.1)
+
+    abbrev asked : (more : List Event) → Extends (Some l.earlier) (Some (l.earlier ++ l.events)) more → l.events ≡ more
+    asked more h = events_are l forced o left there on_disk more h
+
+    abbrev say : (found : List Opened) (answer : Result Linked CliFault) (more : List Event) → l.events ≡ opens found ++ more →
+        IsLinkOfFiles forced o (paths_of left) found answer → IsLinkOfBytes forced o (bytes_of left) answer
+    say found answer more events h = bytes_say l forced o left there on_disk found answer more events h
+
+    by_ran : (output : String Global) → IsLinkRun out_contents forced o output (paths_of left) (Some l.earlier)
+        (Some (l.earlier ++ l.events)) result l.output_before l.output_after → IsRefusedAsLd out_contents error_contents r l
+    by_ran output (inl h) =
+        refused_by faults.Memory h.1 (subst (λ (es : List Event). AllByRecursion IsOpening es) (sym (asked [] h.0)) tt) (inr tt)
+    by_ran output (inr (inl h)) =
+        refused_by (faults.CannotOpen h.path) h.refuses
+        (subst (λ (es : List Event). AllByRecursion IsOpening es) (sym (asked _ h.stops.asked))
+        (all_append IsOpening (opens h.stops.found) (opened (string_bytes h.path) None ∷ []) (all_openings h.stops.found) (tt, tt)))
+        (inr tt)
+    by_ran output (inr (inr (inl h))) =
+        let events : l.events ≡ opens h.found = asked (opens h.found) h.asked in
+        refused_by h.fault h.refuses (subst (λ (es : List Event). AllByRecursion IsOpening es) (sym events) (all_openings h.found))
+        (reason cause h.fault (subst (λ (x : Result Outcome Refusal). IsTrueOf (said_by h.fault) x) none
+        (say h.found (Err h.fault) [] (events ∙ sym (append-nil (opens h.found))) h.answer)))
+    by_ran output (inr (inr (inr h))) =
+        absurd (let ok = say h.found (Ok h.linked) _ (asked _ h.asked) h.answer in let both = sym none ∙ ok in cc)
+
+  pub refused_line : RefusedLineLaw out_contents error_contents
+  refused_line forced o s l before after r p q ran is_link silent memory ld =
+      let at : IsAt o (nothing_kept forced) before r after ran.kept = at_line o (nothing_kept forced) before r after ran.kept ran.chain in
+      let left = files_left before in
+      let is : IsLeft forced left at.mid =
+      left_lines o forced [] (nothing_kept forced) before at.mid (record { names = refl; taken = refl }) at.first in
+      let did : RefusedLink o at.mid r =
+      refused_link o at.mid p r (subst (λ (a : Asked). IsLineOf o at.mid r a) is_link at.line) silent memory in
+      let d : LdRan l forced o q (paths_of left) =
+      by_words l forced o q (paths_of left) ld.performs.0 ld.performs.2 ld.asks ld.performs.1 in
+      by_ran l forced o left ld.there ld.on_disk r did.cause did.answer
+      (linked_left l.disk forced o left at.mid ld.there is ∙ ap (refused_as not_linked) did.is_none) d.result d.ends d.output d.ran
+
+  pub link_line : LinkLineLaw out_contents error_contents
+  link_line forced o s l before after r p q file ran is_link stores ld =
+      let at : IsAt o (nothing_kept forced) before r after ran.kept = at_line o (nothing_kept forced) before r after ran.kept ran.chain in
+      let left = files_left before in
+      let is : IsLeft forced left at.mid =
+      left_lines o forced [] (nothing_kept forced) before at.mid (record { names = refl; taken = refl }) at.first in
+      let did : StoredLink o at.mid p file r =
+      stored_link o at.mid p file r (subst (λ (a : Asked). IsLineOf o at.mid r a) is_link at.line) stores in
+      let d : LdRan l forced o q (paths_of left) =
+      by_words l forced o q (paths_of left) ld.performs.0 ld.performs.2 ld.asks ld.performs.1 in
+      ended_by l forced o left ld.there ld.on_disk p q file r at.mid did
+      (linked_left l.disk forced o left at.mid ld.there is ∙ ap (refused_as not_linked) did.is_link) d.result d.ends d.output d.at d.ran

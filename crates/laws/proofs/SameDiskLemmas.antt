@@ -1,0 +1,118 @@
+-- The files that a session has left, on its disk and on another.
+use Rattle.std.proofs.Common.{◌≡◌, ℕ, Bool, true, false, cond, List, [], ◌∷◌, ◌++◌, Option, Some, None, refl, sym, ap, ◌∙◌, subst}
+use Rattle.std.proofs.lemmas.Bool.{false_from_ne_true}
+use Rattle.std.proofs.lemmas.Grind.{flat_map-append}
+use Rattle.std.proofs.lemmas.List.{append_assoc}
+use Rattle.std.proofs.lemmas.Slice.Eq.{bytes_eq-Decides}
+use Rattle.std.specs.List.{AllByRecursion}
+use Rattle.std.specs.Prelude.{◌≢◌, IfSome, bytes_eq, eqb}
+use Rattle.command_words.specs.Scripts.{Asked, to_add, to_withdraw, for_externals, for_undefined, to_link, for_nothing}
+use Rattle.link_session.specs.Edits.{without_last}
+use Rattle.link_session.proofs.ListLemmas.{all_append}
+use Rattle.surroundings.specs.Events.{Event, Opened, opened, stored, written}
+use Rattle.v7tools.specs.LineRuns.{LineRun}
+use Rattle.v7tools.specs.SessionRuns.{events_of}
+use Rattle.laws.specs.Disks.{Disk, IsOn, bytes_left, disk_after, text_left, with_file}
+use Rattle.laws.specs.SessionsByCommands.{AreThere, IsSameOn, SameDiskLaw, StoresNot, files_left, left_after, left_by, opened_by}
+
+-- a file that is stored elsewhere changes nothing at a path
+elsewhere : (disk : Disk) (at path : List ℕ) (bytes : Option (List ℕ)) → at ≢ path → with_file disk at bytes path ≡ disk path
+elsewhere disk at path bytes other = ap (λ (t : Bool). cond t bytes (disk path)) differs
+  where
+    differs : bytes_eq path at ≡ false
+    differs = false_from_ne_true (bytes_eq path at) (λ same. other (sym ((bytes_eq-Decides path at).0 same)))
+
+-- after events that store nothing at a path its bytes are those before
+untouched : (disk : Disk) (path : List ℕ) (events : List Event) → AllByRecursion (StoresNot path) events →
+    disk_after disk events path ≡ disk path
+untouched disk path [] h = refl
+untouched disk path (opened at found ∷ events) h = untouched disk path events h.1
+untouched disk path (stored at file what ∷ events) h =
+    untouched (with_file disk at (bytes_left file what)) path events h.1 ∙ elsewhere disk at path (bytes_left file what) h.0
+untouched disk path (written at text what ∷ events) h =
+    untouched (with_file disk at (text_left text what)) path events h.1 ∙ elsewhere disk at path (text_left text what) h.0
+
+-- later events are on the disk that the earlier ones left
+later_on : (disk : Disk) (first then : List Event) → IsOn disk (first ++ then) → IsOn (disk_after disk first) then
+later_on disk [] then h = h
+later_on disk (opened path None ∷ events) then h = later_on disk events then h
+later_on disk (opened path (Some known) ∷ events) then h = later_on disk events then h.1
+later_on disk (stored path file what ∷ events) then h = later_on (with_file disk path (bytes_left file what)) events then h
+later_on disk (written path text what ∷ events) then h = later_on (with_file disk path (text_left text what)) events then h
+
+all_but_last : {A : Type 0} (P : A → Type 0) (xs : List A) → AllByRecursion P xs → AllByRecursion P (without_last xs)
+all_but_last P [] h = tt
+all_but_last P (x ∷ []) h = tt
+all_but_last P (x ∷ (y ∷ ys)) h = (h.0, all_but_last P (y ∷ ys) h.1)
+
+module _ (disk : Disk) (all : List Event) where
+  -- if nothing is stored at the path of a file, it gave the bytes that the disk had there
+  abbrev Gave : Opened → Type 0
+  Gave f = AllByRecursion (StoresNot f.0) all → IfSome (disk f.0) (λ bytes. f.1 ≡ Some bytes)
+
+  -- a disk on which only paths were changed at which something is stored
+  abbrev Agrees : Disk → Type 0
+  Agrees now = (path : List ℕ) → AllByRecursion (StoresNot path) all → now path ≡ disk path
+
+  -- events that are among them
+  abbrev AreAmong : List Event → Type 0
+  AreAmong events = (path : List ℕ) → AllByRecursion (StoresNot path) all → AllByRecursion (StoresNot path) events
+
+  opened_gave : (now : Disk) (events more : List Event) → Agrees now → IsOn now (events ++ more) →
+      AllByRecursion Gave (opened_by events)
+  opened_gave now [] more agrees on = tt
+  opened_gave now (opened path None ∷ events) more agrees on = tt
+  opened_gave now (opened path (Some known) ∷ events) more agrees on =
+      (λ h. subst (λ (d : Option (List ℕ)). IfSome d (λ bytes. known ≡ Some bytes)) (agrees path h) on.0, tt)
+  opened_gave now (stored path file what ∷ events) more agrees on = tt
+  opened_gave now (written path text what ∷ events) more agrees on = tt
+
+  line_gave : (a : Asked) (b : Bool) (events : List Event) (left : List Opened) → AllByRecursion Gave left →
+      AllByRecursion Gave (opened_by events) → AllByRecursion Gave (left_by a b events left)
+  line_gave (to_add path) true events left h k = all_append Gave left (opened_by events) h k
+  line_gave (to_add path) false events left h k = h
+  line_gave to_withdraw true events left h k = all_but_last Gave left h
+  line_gave to_withdraw false events left h k = h
+  line_gave for_externals b events left h k = h
+  line_gave for_undefined b events left h k = h
+  line_gave (to_link path) b events left h k = h
+  line_gave for_nothing b events left h k = h
+
+  lines_gave : (now : Disk) (left : List Opened) (runs : List LineRun) (more : List Event) → Agrees now → AreAmong (events_of runs) →
+      IsOn now (events_of runs ++ more) → AllByRecursion Gave left → AllByRecursion Gave (left_after left runs)
+  lines_gave now left [] more agrees among on h = h
+  lines_gave now left (r ∷ rs) more agrees among on h =
+      let on_all : IsOn now (r.events ++ (events_of rs ++ more)) =
+      subst (λ (es : List Event). IsOn now es) (append_assoc r.events (events_of rs) more) on in
+      let both = λ (path : List ℕ) (h : AllByRecursion (StoresNot path) all). split path r.events (events_of rs) (among path h) in
+      lines_gave (disk_after now r.events) (left_by r.line (eqb r.status 0) r.events left) rs more
+      (λ path h. untouched now path r.events (both path h).0 ∙ agrees path h) (λ path h. (both path h).1)
+      (later_on now r.events (events_of rs ++ more) on_all)
+      (line_gave r.line (eqb r.status 0) r.events left h (opened_gave now r.events (events_of rs ++ more) agrees on_all))
+    where
+      split : (path : List ℕ) (first then : List Event) → AllByRecursion (StoresNot path) (first ++ then) →
+          AllByRecursion (StoresNot path) first × AllByRecursion (StoresNot path) then
+      split path [] then h = (tt, h)
+      split path (e ∷ es) then h = let both = split path es then h.1 in ((h.0, both.0), both.1)
+
+  same_there : (other : Disk) (files : List Opened) → AllByRecursion Gave files → AllByRecursion (IsSameOn disk other all) files →
+      AreThere other files
+  same_there other [] h k = tt
+  same_there other (f ∷ fs) h k = (
+    record {
+      bytes = k.0.bytes;
+      read = subst (λ (d : Option (List ℕ)). IfSome d (λ bytes. f.1 ≡ Some bytes)) k.0.first (h.0 k.0.untouched);
+      there = k.0.second;
+    },
+    same_there other fs h.1 k.1,
+  )
+
+module _ {W E : Type 0} (out_contents : W → Option (List ℕ)) (error_contents : E → Option (List ℕ)) where
+  pub same_disk : SameDiskLaw out_contents error_contents
+  same_disk forced o s before after disk ran on same =
+      let events : s.events ≡ events_of before ++ (events_of after ++ ran.further) =
+      ran.events ∙ ap (λ (es : List Event). es ++ ran.further) (flat_map-append (λ (r : LineRun). r.events) before after)
+      ∙ append_assoc (events_of before) (events_of after) ran.further in
+      same_there s.disk (events_of before) disk (files_left before)
+      (lines_gave s.disk (events_of before) s.disk [] before (events_of after ++ ran.further) (λ path h. refl) (λ path h. h)
+      (subst (λ (es : List Event). IsOn s.disk es) events on) tt) same

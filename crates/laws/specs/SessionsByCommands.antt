@@ -1,0 +1,257 @@
+-- Laws of sessions: a line `link P` of a session does what `ld` does with the files that are left, and two lines that add a file and
+-- withdraw it leave no trace. (own choice)
+--
+-- A session's run is taken line by line: what each line asked of the system, what it answered, and its status. The files that are
+-- left after some lines are those that were added and not withdrawn, with the bytes that were read there. Nothing is assumed of the
+-- disk during the session, and files may change between the session and `ld`, but for those that are left.
+use Rattle.std.specs.Prelude.{◌≡◌, ◌≢◌, ◌⊎◌, ℕ, Bool, true, eqb, List, [], ◌∷◌, ◌++◌, map, Option, Some, None, codes, decimal}
+use Rattle.std.specs.List.{AllByRecursion}
+use Rattle.aout_core.specs.declared.file.ReadFault.TheVariants.{Device}
+use Rattle.aout_core.specs.Contents.{Contents}
+use Rattle.link_session.specs.Edits.{without_last}
+use Rattle.link_session.specs.Sessions.{nothing_kept}
+use Rattle.link_session.specs.Undo as undo
+use Rattle.link_out.specs.function.Reports.{line}
+use Rattle.tool_options.specs.Choices.{Choices}
+use Rattle.surroundings.specs.Emits.{PutsUnless}
+use Rattle.surroundings.specs.Events.{Event, opened, stored, written, Opened, opens, paths_of}
+use Rattle.surroundings.specs.declared.office.Stored.{Stored}
+use Rattle.surroundings.specs.declared.office.Stored.TheVariants.{Kept}
+use Rattle.command_words.specs.declared.words.Call.TheVariants.{Session}
+use Rattle.command_words.specs.Scripts.{Asked, to_add, to_withdraw, to_link}
+use Rattle.v7tools.specs.CommandRuns.{AsksFor, Performs}
+use Rattle.v7tools.specs.FaultTexts.{cause_text, fault_line, no_memory}
+use Rattle.v7tools.specs.Inputs.{bad_file}
+use Rattle.v7tools.specs.LineRuns.{LineRun}
+use Rattle.v7tools.specs.SessionRuns.{AreFirst, AreLines, Chains, answers_of, events_of, lines_asked, worst}
+use Rattle.v7tools.specs.declared.fault.CliFault.{CliFault}
+use Rattle.v7tools.specs.declared.fault.CliFault.TheVariants as faults
+use Rattle.laws.specs.Disks.{Disk, IsOn, Run, EndsWell, Writes}
+use Rattle.laws.specs.StepsByCommands.{AsksToLink}
+
+-- ---- what is left
+
+-- the file that a line opened, with its bytes if they are known
+abbrev pub opened_by : List Event → List Opened
+opened_by (opened path (Some known) ∷ events) = (path, known) ∷ []
+opened_by _ = []
+
+-- a line that is done has status 0: an addition leaves the file that it opened after those before, and a withdrawal takes the last away
+abbrev pub left_by : Asked → Bool → List Event → List Opened → List Opened
+left_by (to_add path) true events left = left ++ opened_by events
+left_by to_withdraw true events left = without_last left
+left_by _ _ events left = left
+
+-- the files that are left after some lines
+abbrev pub left_after : List Opened → List LineRun → List Opened
+left_after left [] = left
+left_after left (r ∷ rs) = left_after (left_by r.line (eqb r.status 0) r.events left) rs
+
+abbrev pub files_left : List LineRun → List Opened
+files_left runs = left_after [] runs
+
+-- a disk has at a path the bytes that the session read there
+pub record IsThere (disk : Disk) (file : Opened) : Type 0 where
+  pub bytes : List ℕ
+  pub read : file.1 ≡ Some bytes
+  pub there : disk file.0 ≡ Some bytes
+
+abbrev pub AreThere : Disk → List Opened → Type 0
+AreThere disk files = AllByRecursion (IsThere disk) files
+
+-- ---- two disks
+
+-- an event stores nothing at this path
+abbrev pub StoresNot : List ℕ → Event → Type 0
+StoresNot path (opened at found) = Unit {0}
+StoresNot path (stored at file what) = at ≢ path
+StoresNot path (written at text what) = at ≢ path
+
+-- two disks have the same bytes at the path of a file, and these events store nothing there
+pub record IsSameOn (one other : Disk) (events : List Event) (file : Opened) : Type 0 where
+  pub bytes : List ℕ
+  pub first : one file.0 ≡ Some bytes
+  pub second : other file.0 ≡ Some bytes
+  pub untouched : AllByRecursion (StoresNot file.0) events
+
+-- ---- what the system gave
+
+-- what the system gives for a request: a file that was opened or could not be, or what became of a file that was to be stored
+pub data Gift : Type 0 where
+  for_opening : Option (Option (List ℕ)) → Gift
+  for_storing : Stored → Gift
+
+abbrev pub gift : Event → Gift
+gift (opened path found) = for_opening found
+gift (stored path file what) = for_storing what
+gift (written path text what) = for_storing what
+
+-- the bytes of a file that was opened are known
+abbrev pub IsKnown : Event → Type 0
+IsKnown (opened path (Some None)) = ⊥
+IsKnown _ = Unit {0}
+
+-- the answer to a line is not that memory ran out, nor that a device failed
+abbrev pub IsUndisturbed : Asked → List ℕ → Type 0
+IsUndisturbed (to_add path) answer = (answer ≢ line no_memory) × (answer ≢ line (cause_text path (bad_file Device)))
+IsUndisturbed (to_link path) answer = answer ≢ line no_memory
+IsUndisturbed _ answer = Unit {0}
+
+-- the system gave two lines the same: the same files with the same bytes, which are known, and the same end of a file that was to be
+-- stored; and for neither memory ran out, or a device failed while a file was read
+pub record IsGivenTheSame (r t : LineRun) : Type 0 where
+  pub gives : map gift r.events ≡ map gift t.events
+  pub known : AllByRecursion IsKnown r.events
+  pub first : IsUndisturbed r.line r.answer
+  pub second : IsUndisturbed t.line t.answer
+
+abbrev pub AreGivenTheSame : List LineRun → List LineRun → Type 0
+AreGivenTheSame [] [] = Unit {0}
+AreGivenTheSame (r ∷ rs) (t ∷ ts) = IsGivenTheSame r t × AreGivenTheSame rs ts
+AreGivenTheSame _ _ = ⊥
+
+-- only files were opened
+abbrev pub IsOpening : Event → Type 0
+IsOpening (opened path found) = Unit {0}
+IsOpening _ = ⊥
+
+-- memory ran out, or a file could not be opened, or a device failed while it was read
+abbrev pub CannotRead : CliFault → Type 0
+CannotRead faults.Memory = Unit {0}
+CannotRead (faults.CannotOpen path) = Unit {0}
+CannotRead (faults.BadFile path Device) = Unit {0}
+CannotRead _ = ⊥
+
+-- no file could be made at a path, or a device failed while it or the report was written
+abbrev pub CannotWrite : CliFault → Type 0
+CannotWrite (faults.CannotCreate path) = Unit {0}
+CannotWrite faults.WriteFailed = Unit {0}
+CannotWrite _ = ⊥
+
+module _ {W E : Type 0} (out_contents : W → Option (List ℕ)) (error_contents : E → Option (List ℕ)) where
+  -- it did what the contract of `perform` specifies
+  abbrev pub DoesPerform : Run W E → Type 0
+  DoesPerform r =
+      Performs out_contents error_contents r.words r.script
+      (record { asked = Some r.earlier; output = r.output_before; error = r.error_before })
+      (record { asked = Some (r.earlier ++ r.events); output = r.output_after; error = r.error_after }) r.status
+
+  -- ---- a session and its lines
+
+  -- a session was run, and ended well
+  pub record Sessions (forced : List (List ℕ)) (o : Choices) (r : Run W E) : Type 0 where
+    pub asks : AsksFor r.words (Session o forced)
+    pub ends : EndsWell out_contents error_contents r
+
+  -- a run is that of these lines: each did what a line does on what those before it left, and the run asked of the system and answered
+  -- what they did, one after another, and nothing else. The largest of their statuses is its status
+  pub record RanLines (forced : List (List ℕ)) (o : Choices) (r : Run W E) (runs : List LineRun) : Type 0 where
+    pub kept : undo.Kept
+    pub chain : Chains o (nothing_kept forced) runs kept
+    pub lines : AreLines r.script (lines_asked runs) None
+    pub events : r.events ≡ events_of runs
+    pub answers : Writes out_contents r (answers_of runs)
+    pub status : r.status ≡ worst runs
+
+  -- a session was run, whatever ended it, and these are the first lines of its script, whose answers went out whole. After them it may
+  -- have asked more of the system, and part of a further answer may have gone out
+  pub record AnsweredLines (forced : List (List ℕ)) (o : Choices) (r : Run W E) (runs : List LineRun) : Type 0 where
+    pub kept : undo.Kept
+    pub chain : Chains o (nothing_kept forced) runs kept
+    pub lines : AreFirst r.script (lines_asked runs)
+    pub further : List Event
+    pub events : r.events ≡ events_of runs ++ further
+    pub part : List ℕ
+    pub answers : Writes out_contents r (answers_of runs ++ part)
+
+  -- each session, whatever ends it, answers lines of its script, one after another
+  abbrev pub AnswersLaw : Type 0
+  AnswersLaw =
+      (forced : List (List ℕ)) (o : Choices) (r : Run W E) → AsksFor r.words (Session o forced) → DoesPerform r →
+      (runs : List LineRun) × AnsweredLines forced o r runs
+
+  -- each session that ends well is the run of all lines of its script
+  abbrev pub LinesLaw : Type 0
+  LinesLaw = (forced : List (List ℕ)) (o : Choices) (r : Run W E) → Sessions forced o r → (runs : List LineRun) × RanLines forced o r runs
+
+  -- ---- a link in a session
+
+  -- ld was run with these options, on a disk that has the files that are left
+  pub record LinksLeft (forced : List (List ℕ)) (o : Choices) (out : List ℕ) (left : List Opened) (r : Run W E) : Type 0 where
+    pub asks : AsksToLink r.words forced o out (paths_of left)
+    pub performs : DoesPerform r
+    pub on_disk : IsOn r.disk r.events
+    pub there : AreThere r.disk left
+
+  -- standard error got this line; only a prefix of it if that device failed
+  abbrev pub Says : Run W E → List ℕ → Type 0
+  Says r text = PutsUnless r.error_after.has_failed (error_contents r.error_before.device) (error_contents r.error_after.device) text
+
+  -- a run ended with such a fault
+  abbrev pub FailsBy : (CliFault → Type 0) → Run W E → Type 0
+  FailsBy IsSuch r = (r.status ≡ 2) × (fault : CliFault) × IsSuch fault × Says r (fault_line fault)
+
+  -- ld opened the files that are left and stored at q the file that the line stored; the line answered what ld wrote, and after that a
+  -- line with its path and the status of ld, and has that status too
+  pub record DoesAsLd (p q : List ℕ) (file : Contents) (left : List Opened) (r : LineRun) (l : Run W E) : Type 0 where
+    pub asked : l.events ≡ opens left ++ stored q file Kept ∷ []
+    pub report : List ℕ
+    pub reports : Writes out_contents l report
+    pub answers : r.answer ≡ report ++ line (codes "linked " ++ p ++ codes " " ++ decimal l.status)
+    pub status : r.status ≡ l.status
+
+  -- ld was refused too, for the same reason, unless an input could not be read
+  pub record IsRefusedAsLd (r : LineRun) (l : Run W E) : Type 0 where
+    pub status : l.status ≡ 2
+    pub stores_nothing : AllByRecursion IsOpening l.events
+    pub writes_nothing : l.output_after ≡ l.output_before
+    pub says : Says l (codes "v7: " ++ r.answer) ⊎ FailsBy CannotRead l
+
+  -- a line `link P` that stored its file, and any ld of the files that are left
+  abbrev pub LinkLineLaw : Type 0
+  LinkLineLaw =
+      (forced : List (List ℕ)) (o : Choices) (s l : Run W E) (before after : List LineRun) (r : LineRun) (p q : List ℕ) (file : Contents) →
+      AnsweredLines forced o s (before ++ r ∷ after) → r.line ≡ to_link p → r.events ≡ stored p file Kept ∷ [] →
+      LinksLeft forced o q (files_left before) l →
+      DoesAsLd p q file (files_left before) r l ⊎ (FailsBy CannotRead l ⊎ FailsBy CannotWrite l)
+
+  -- a line `link P` that stored nothing, for another reason than that memory ran out, and any ld of the files that are left
+  abbrev pub RefusedLineLaw : Type 0
+  RefusedLineLaw =
+      (forced : List (List ℕ)) (o : Choices) (s l : Run W E) (before after : List LineRun) (r : LineRun) (p q : List ℕ) →
+      AnsweredLines forced o s (before ++ r ∷ after) → r.line ≡ to_link p → r.events ≡ [] → r.answer ≢ line no_memory →
+      LinksLeft forced o q (files_left before) l → IsRefusedAsLd r l
+
+  -- the files that are left are those of another disk, if both have the same bytes there and the lines before stored nothing there
+  abbrev pub SameDiskLaw : Type 0
+  SameDiskLaw =
+      (forced : List (List ℕ)) (o : Choices) (s : Run W E) (before after : List LineRun) (disk : Disk) →
+      AnsweredLines forced o s (before ++ after) → IsOn s.disk s.events →
+      AllByRecursion (IsSameOn s.disk disk (events_of before)) (files_left before) → AreThere disk (files_left before)
+
+  -- ---- an addition and a withdrawal
+
+  -- between what the shorter run answered the longer one answered that a path was added and withdrawn; between what the shorter run asked
+  -- of the system the longer one opened that path; and they ended with the same status
+  pub record LeavesNoTrace (path : List ℕ) (long short : Run W E) : Type 0 where
+    pub known : Option (List ℕ)
+    pub answered : List ℕ
+    pub then_answered : List ℕ
+    pub asked : List Event
+    pub then_asked : List Event
+    pub short_answers : Writes out_contents short (answered ++ then_answered)
+    pub long_answers : Writes out_contents long
+        (answered ++ (line (codes "added " ++ path) ++ (line (codes "withdrew " ++ path) ++ then_answered)))
+    pub short_events : short.events ≡ asked ++ then_asked
+    pub long_events : long.events ≡ asked ++ opened path (Some known) ∷ then_asked
+    pub status : long.status ≡ short.status
+
+  -- two runs, of a script and of the same with two lines more, an addition that is done and a withdrawal right after it
+  abbrev pub UndoLaw : Type 0
+  UndoLaw =
+      (forced : List (List ℕ)) (o : Choices) (long short : Run W E) (before after others : List LineRun)
+      (add withdraw : LineRun) (path : List ℕ) →
+      RanLines forced o long (before ++ add ∷ (withdraw ∷ after)) → RanLines forced o short others →
+      add.line ≡ to_add path → add.status ≡ 0 → withdraw.line ≡ to_withdraw →
+      lines_asked others ≡ lines_asked (before ++ after) → AreGivenTheSame (before ++ after) others →
+      LeavesNoTrace path long short
