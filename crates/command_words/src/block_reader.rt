@@ -52,9 +52,7 @@ impl<R: Read> BlockReader<R> {
         ensures kept { IfErr result (λ _. Keeps (unread R.remaining self.old.held
             self.old.wire) (unread R.remaining self.new.held self.new.wire)) }
     {
-        if self.wire.failed() {
-            return Err(DeviceFault);
-        }
+        self.wire.working()?;
         if self.held.is_empty() {
             self.held.read_some(&mut self.wire)?;
         }

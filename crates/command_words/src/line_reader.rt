@@ -7,7 +7,7 @@ ghost use Rattle.command_words.specs.internal.LineParts.{EndsLine, IsStopOf, IsT
 
 use crate::block_reader::BlockReader;
 use crate::lines::{LINE_LIMIT, Line};
-use aout_core::{DeviceFault, Refused, Wire};
+use aout_core::{Refused, Wire};
 use std::alloc::{AllocError, Global};
 use std::io::Read;
 use std::marker::Model;
@@ -60,14 +60,14 @@ fn read_line<R: Read>(reader: &mut BlockReader<R>, line: &mut Vec<u8>) -> Ending
             Ok(Some(b'\n')) => return Ending::Newline,
             Ok(Some(byte)) => line.push(byte).unwrap(),
             Ok(None) => return Ending::End,
-            Err(DeviceFault) => return Ending::Failed,
+            Err(_) => return Ending::Failed,
         }
     }
     match reader.next_byte() {
         Ok(Some(b'\n')) => Ending::Newline,
         Ok(Some(_)) => Ending::Long,
         Ok(None) => Ending::End,
-        Err(DeviceFault) => Ending::Failed,
+        Err(_) => Ending::Failed,
     }
 }
 
@@ -83,7 +83,7 @@ fn stop_at_limit<R: Read>(reader: &mut BlockReader<R>) -> Stop
     match reader.next_byte() {
         Ok(Some(_)) => Stop::ManyLines,
         Ok(None) => Stop::End,
-        Err(DeviceFault) => Stop::ReadFailed,
+        Err(_) => Stop::ReadFailed,
     }
 }
 

@@ -78,9 +78,7 @@ impl From<AllocError> for LinkFault {
 fn put_names<W: Write>(names: &[Name], text: &[u8], out: &mut Wire<W>) -> Result<(), DeviceFault>
     ensures { Writes W.contents result out.old out.new (flat_map (λ n. n ++ text.now) names.now) }
 {
-    if out.failed() {
-        return Err(DeviceFault);
-    }
+    out.working()?;
     for name in names {
         out.put_both(name.as_bytes(), text)?;
     }

@@ -37,9 +37,7 @@ pub(crate) fn put_externals<W: Write>(
     ensures { Writes W.contents result answers.old answers.new
         (externals_text session.now.forced session.now.entries) }
 {
-    if answers.failed() {
-        return Err(DeviceFault);
-    }
+    answers.working()?;
     for index in 0..session.external_count() {
         let (name, state) = session.external(index).unwrap();
         line(&entry_of(name, state), answers)?;
@@ -70,9 +68,7 @@ pub(crate) fn put_undefined<W: Write>(
     ensures { Writes W.contents result answers.old answers.new
         (undefined_text session.now.forced session.now.entries) }
 {
-    if answers.failed() {
-        return Err(DeviceFault);
-    }
+    answers.working()?;
     for index in 0..session.external_count() {
         let (name, state) = session.external(index).unwrap();
         put_if_missing(&name, state, answers)?;
