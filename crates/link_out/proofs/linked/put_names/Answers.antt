@@ -12,7 +12,7 @@ returns-in_err-put_both g c =
     let new = g.W.Write.contents c.put_both.new.self.device in
     let name = c.as_bytes.result.now in
     let is = c.as_bytes.ensures.value ∙ c.name-item.is ∙ ap (λ (d : List ℕ). get_or names i d) (sym c.as_bytes.ensures.value) in
-    writes_in_part c.from_residual.ensures.0 (search rules) (search rules)
+    writes_in_part c.from_residual-in_err-put_both.ensures.0 (search rules) (search rules)
     (front_of_row f names i name old (g.W.Write.contents c.loop-name.out.device) new c.loop-name-test.true is
     c.loop-name.invariant.gone c.in_err-put_both.ensures.bytes)
 

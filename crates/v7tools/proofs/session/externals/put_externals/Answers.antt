@@ -17,7 +17,7 @@ returns-in_err-line g c =
     let mid = g.W.Write.contents c.loop-index.answers.device in
     let new = g.W.Write.contents c.line.new.out.device in
     let entry = c.unwrap-name.result in
-    writes_in_part c.from_residual.ensures.0 (search rules) (search rules)
+    writes_in_part c.from_residual-in_err-line.ensures.0 (search rules) (search rules)
     (stops_next encoding (image_of c.args.session.now).externals c.loop-index.index (entry.0, entry.1) old mid new
     (sym c.external.ensures ∙ c.unwrap-name.ensures) c.loop-index.invariant.gone
     (subst (λ (s : Symbol). AppendsPrefix mid new (symbol_line s)) c.entry_of.ensures c.in_err-line.ensures.bytes))

@@ -14,7 +14,7 @@ returns-in_err-put_if_missing g c =
     let mid = g.W.Write.contents c.loop-index.answers.device in
     let new = g.W.Write.contents c.put_if_missing.new.answers.device in
     let entry = c.unwrap-name.result in
-    writes_in_part c.from_residual.ensures.0 (search rules) (search rules)
+    writes_in_part c.from_residual-in_err-put_if_missing.ensures.0 (search rules) (search rules)
     (subst (AppendsPrefix old new) (missing-text s.forced s.entries)
     (stops_next missing_line (image_of s).externals c.loop-index.index (entry.0, entry.1) old mid new
     (sym c.external.ensures ∙ c.unwrap-name.ensures) c.loop-index.invariant.gone c.in_err-put_if_missing.ensures.bytes))
