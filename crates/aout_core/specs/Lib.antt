@@ -13,6 +13,5 @@ pub mod Addresses
 pub mod Objects
 pub mod Strip
 pub mod Laws
-pub mod Devices
 pub mod FaultTexts
 pub mod internal

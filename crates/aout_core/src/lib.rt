@@ -22,7 +22,6 @@
 //! - `ReadFault`, `NoObject`: why no file was read, and why no object was
 //! - `DeviceFault`, `Refused`: a device failed, and a request for memory was refused
 //! - `FileFault`: why the bytes at a path were not read
-//! - `Shown`, `VERSION`: what a program shows of itself, and the version of v7
 //!
 //! Functions:
 //!
@@ -34,12 +33,10 @@
 //! - `data_start`, `next_boundary`: where data begins, and the next multiple of 020000
 //! - `pc_target`: what a word refers to that is relative to the pc
 //! - `read_all`, `read_bytes`: all bytes at a path, and all that a reader gives
-//! - `shown_by`, `show`: what an argument asks a program to show of itself; shows it
 //!
 //! Modules:
 //!
 //! - `laws`: theorems about reading and writing
-//! - `samples`: objects, readers and writers for tests
 //!
 //! Words have 16 bits, low byte first; docs/FORMAT.md has the format. "(own choice)" marks what a.out(5) leaves open.
 #![tactic(auto)]
@@ -59,8 +56,6 @@ mod part;
 mod reader;
 mod refused;
 mod reloc;
-pub mod samples;
-mod shown;
 mod strip;
 mod symbol;
 mod whole;
@@ -79,7 +74,6 @@ pub use part::Part;
 pub use reader::read_file;
 pub use refused::Refused;
 pub use reloc::{Kind, Reloc};
-pub use shown::{Shown, VERSION, show, shown_by};
 pub use strip::strip_file;
 pub use symbol::{Segment, Symbol};
 pub use whole::{FileFault, read_all, read_bytes};

@@ -1,13 +1,13 @@
 //! How often a link calls its devices, counted by devices over memory.
 use crate::input::{Size, bytes_in, object_files};
 use anyhow::{Result, anyhow};
-use aout_core::Wire;
+use aout_core::{Wire, write_file};
 use link_out::{Keep, Layout, Linked, Options};
 use link_session::Forced;
 use std::cell::Cell;
 use std::io;
 use std::io::{Read, Write};
-use v7tools::{emit, ld};
+use v7tools::ld;
 
 /// A device whose calls of read and write are counted.
 #[derive(Drop)]
@@ -58,9 +58,8 @@ fn counted_inputs<'a>(
 fn write_counted(rt: &HostRuntime, linked: &Linked, calls: &Cell<u32>) -> Result<usize> {
     let device = Vec::new(rt.alloc());
     let mut file = Wire::new(Counted { device, calls });
-    let mut report = Wire::new(Vec::new(rt.alloc()));
-    match emit(linked, &mut file, &mut report) {
-        Ok(_) => Ok(file.into_inner().device.len()),
+    match write_file(&linked.file, &mut file) {
+        Ok(()) => Ok(file.into_inner().device.len()),
         Err(_) => Err(anyhow!("write error")),
     }
 }

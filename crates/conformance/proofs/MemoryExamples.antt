@@ -1,27 +1,21 @@
 -- Where the definitions of a stage rule out that memory ran out.
 use Rattle.std.proofs.Common.{◌≡◌, ℕ, ◌≤◌, ◌<◌, true, false, List, [], ◌∷◌, ◌++◌, length, Option, Some}
 use Rattle.std.proofs.Common.{None, Err, refl, ap, ◌∙◌, subst, arith, inl, inr}
-use Rattle.std.specs.declared.alloc.Global.{Global}
-use Rattle.std.specs.Prelude.{IsOk, Vec, codes}
+use Rattle.std.specs.Prelude.{IsOk, codes}
 use Rattle.aout_core.specs.declared.file.ReadFault.TheVariants as reads
 use Rattle.aout_core.specs.Contents.{Contents}
 use Rattle.aout_core.specs.Encoding.{encoding}
 use Rattle.aout_core.specs.Reading.{IsReadOf}
 use Rattle.aout_core.specs.Wires.{Latched}
 use Rattle.link_session.specs.declared.entry.AddFault.TheVariants as adds
-use Rattle.link_session.specs.Edits.{Change, withdrawal, added, last_of, answer_to, withdrawn_answer}
 use Rattle.link_session.specs.Labelled.{Labelled}
 use Rattle.link_session.specs.Limits.{refusal}
 use Rattle.link_session.specs.Sessions.{IsCause, nothing_kept}
-use Rattle.link_session.specs.Undo.{Kept}
 use Rattle.tool_options.specs.declared.options.Layout.TheVariants.{Pure}
 use Rattle.tool_options.specs.Choices.{Choices}
-use Rattle.link_out.specs.declared.edit.Reply.{Reply}
-use Rattle.link_out.specs.declared.edit.RunFault.TheVariants as runs
 use Rattle.link_out.specs.declared.linked.LinkFault.TheVariants as links
 use Rattle.link_out.specs.function.Link.{link}
 use Rattle.link_out.specs.Outcomes.{IsLinkOf}
-use Rattle.link_out.specs.internal.Replies.{IsLinkedWith, StopsAmong}
 use Rattle.v7tools.specs.declared.fault.CliFault.TheVariants as faults
 use Rattle.v7tools.specs.Answers.{Stepped}
 use Rattle.v7tools.specs.LinkAnswers.{Input, IsLinkOver, WantsMemory, runs_out}
@@ -103,22 +97,6 @@ second_short (inr (next, takes, inr (last, taken, more))) = absurd more
 second_short_over : (o : Choices) → IsLinkOver [] o (input (encoding b_o) ∷ input short ∷ []) (Err faults.Memory)
 second_short_over o = (refl, inr refl)
 
--- ---- the edits of a run
-
-withdrawn_as_added : (last : Option Labelled) → withdrawn_answer last ≡ added → ⊥
-withdrawn_as_added None e = absurd (cc)
-withdrawn_as_added (Some e) is = absurd (cc)
-
-run_of_withdrawal : (old new : Kept) → StopsAmong old new (withdrawal ∷ []) → ⊥
-run_of_withdrawal old new h = by_order h.before h.order
-  where
-    by_order : (before : List Change) → withdrawal ∷ [] ≡ before ++ h.change ∷ h.left → ⊥
-    by_order [] e =
-        let is : withdrawal ≡ h.change = cc in
-        withdrawn_as_added (last_of new.entries) (ap (answer_to new.forced new.entries) is ∙ h.accepted)
-    by_order (b ∷ []) e = absurd (cc)
-    by_order (b ∷ (c ∷ cs)) e = absurd (cc)
-
 -- ---- the final link
 
 abbrev pure : Choices
@@ -132,9 +110,6 @@ whole_refused = refl
 
 linked_whole : IsLinkOf (Err links.Memory) (link [] whole pure) → ⊥
 linked_whole h = let made = subst IsOk whole_refused h in absurd (cc)
-
-run_whole : (replies : Option (Vec Reply Global)) → IsLinkedWith replies (link [] whole pure) (Err runs.Memory) → ⊥
-run_whole replies h = let made = subst IsOk whole_refused h in absurd (cc)
 
 ld_whole : IsFinalLink (link [] whole pure) (Err faults.Memory) → ⊥
 ld_whole h = let made = subst IsOk whole_refused h in absurd (cc)

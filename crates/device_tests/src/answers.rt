@@ -1,7 +1,7 @@
 //! When what a command prints goes out: how often it is flushed, that a session's answer is flushed before the next line is read,
 //! and that a flush that fails ends a command.
-use aout_core::samples::{C_O, Failing, TestReader, TestWriter};
 use aout_core::{File, Wire};
+use fixtures::samples::{C_O, Failing, TestReader, TestWriter};
 use fixtures::words;
 use std::alloc::{AllocError, Global};
 use std::cell::Cell;
@@ -10,10 +10,12 @@ use std::io::{ErrorKind, Read, Write};
 use std::test::Fail;
 use v7tools::{BlockWriter, Office, Outputs, Stored, perform};
 
-/// A file system of `c.o` alone, which keeps each file that it is given, and counts them.
+/// A file system of `c.o` alone, which counts the files that it is given.
 #[derive(Drop)]
 struct OneObject {
     stored: u32,
+    /// What becomes of each.
+    what: Stored,
 }
 
 impl Office for OneObject {
@@ -28,12 +30,12 @@ impl Office for OneObject {
 
     fn store(&mut self, _: &str, _: &File) -> Stored {
         self.stored = self.stored.saturating_add(1);
-        Stored::Kept
+        self.what
     }
 
     fn store_text(&mut self, _: &str, _: &[u8]) -> Stored {
         self.stored = self.stored.saturating_add(1);
-        Stored::Kept
+        self.what
     }
 }
 
@@ -49,7 +51,10 @@ fn run<R: Read + Drop, W: Write>(
         error: Wire::new(TestWriter::whole(Vec::new(alloc))),
     };
     let arguments = words(alloc, arguments)?;
-    let mut office = OneObject { stored: 0 };
+    let mut office = OneObject {
+        stored: 0,
+        what: Stored::Kept,
+    };
     Ok(perform(alloc, &mut office, script, &mut outputs, arguments))
 }
 
@@ -153,11 +158,12 @@ struct Came {
     error: Vec<u8>,
 }
 
-/// Runs a command over a device for what it prints, which fails to be flushed.
+/// Runs a command over files of which this becomes, and a device for what it prints.
 fn run_failing(
     alloc: Global,
     arguments: &[&str],
     script: &str,
+    what: Stored,
     device: &mut TestWriter,
 ) -> Result<Came, AllocError> {
     let mut outputs = Outputs {
@@ -165,7 +171,7 @@ fn run_failing(
         error: Wire::new(TestWriter::whole(Vec::new(alloc))),
     };
     let arguments = words(alloc, arguments)?;
-    let mut office = OneObject { stored: 0 };
+    let mut office = OneObject { stored: 0, what };
     let script = TestReader::whole(script.as_bytes());
     let status = perform(alloc, &mut office, script, &mut outputs, arguments);
     Ok(Came {
@@ -185,7 +191,7 @@ fn ends_unflushed(
 ) -> Result<bool, AllocError> {
     let failure = Failing::Fails(ErrorKind::Other);
     let mut device = TestWriter::new(Vec::new(alloc), usize::MAX, output.len(), failure);
-    let came = run_failing(alloc, arguments, script, &mut device)?;
+    let came = run_failing(alloc, arguments, script, Stored::Kept, &mut device)?;
     let wanted = Came {
         status: 2,
         stored,
@@ -216,6 +222,24 @@ fn outputs_that_fail_to_be_flushed(rt: HostRuntime) -> Result<(), Fail> {
             ends_unflushed(rt.alloc(), arguments, script, output, stored)?,
             "{stored} files"
         );
+    }
+    Ok(())
+}
+
+/// What became of a linked file that is not stored, and the line of its fault.
+static UNSTORED: [(Stored, &[u8]); 2] = [
+    (Stored::NotCreated, b"v7: out: cannot create\n"),
+    (Stored::Failed, b"v7: write error\n"),
+];
+
+#[test]
+fn failing_devices_storing(rt: HostRuntime) -> Result<(), Fail> {
+    let arguments = ["ld", "-o", "out", "c.o"].as_slice();
+    for (what, line) in UNSTORED {
+        let mut device = TestWriter::whole(Vec::new(rt.alloc()));
+        let came = run_failing(rt.alloc(), arguments, "", what, &mut device)?;
+        assert!(rt; came.status == 2 && came.error.as_slice() == line);
+        assert!(rt; device.calls() == 0);
     }
     Ok(())
 }

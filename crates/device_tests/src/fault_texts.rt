@@ -1,17 +1,19 @@
 //! The texts of the faults of files, of lists and of links.
-use aout_core::{DeviceFault, ObjectFault, ReadFault};
+use aout_core::{ObjectFault, ReadFault, Refused, Wire};
 use fixtures::has_text;
-use link_out::{LinkFault, OptionFault, RunFault};
-use link_session::{AddFault, Memory};
+use link_out::{LinkFault, OptionFault};
+use link_session::AddFault;
+use std::alloc::AllocError;
 use symtools::ToolFault;
 
 #[test]
 fn fault_texts_of_files(rt: HostRuntime) {
-    assert!(rt; has_text(DeviceFault, "device fault"));
+    let fault = Wire::new([0u8; 0].as_mut_slice()).put(b"x").err();
+    assert!(rt; fault.is_some_and(|fault| has_text(fault, "device fault")));
     assert!(rt; has_text(ReadFault::ShortHeader, "short header"));
     assert!(rt; has_text(ReadFault::BadMagic, "bad magic number"));
     assert!(rt; has_text(ReadFault::OddSize, "odd size"));
-    assert!(rt; has_text(ReadFault::Memory, "no memory"));
+    assert!(rt; has_text(ReadFault::from(AllocError), "no memory"));
     assert!(rt; has_text(ReadFault::Truncated, "truncated"));
     assert!(rt; has_text(ReadFault::Device, "read error"));
     assert!(rt; has_text(ObjectFault::NotAnObject, "not an object"));
@@ -27,28 +29,29 @@ fn fault_texts_of_files(rt: HostRuntime) {
 
 #[test]
 fn fault_texts(rt: HostRuntime) {
-    assert!(rt; has_text(ToolFault::Memory, "no memory"));
+    assert!(rt; has_text(ToolFault::from(AllocError), "no memory"));
     assert!(rt; has_text(ToolFault::Device, "write error"));
 }
 
-static ADD_FAULTS: [(AddFault, &str); 5] = [
+static ADD_FAULTS: [(AddFault, &str); 4] = [
     (AddFault::TextFull, "text full"),
     (AddFault::DataFull, "data full"),
     (AddFault::BssFull, "bss full"),
     (AddFault::NamesFull, "names full"),
-    (AddFault::Memory, "no memory"),
 ];
 
-static LINK_FAULTS: [(LinkFault, &str); 4] = [
+static LINK_FAULTS: [(LinkFault, &str); 3] = [
     (LinkFault::DoesNotFit, "does not fit"),
     (LinkFault::TooManySymbols, "too many symbols"),
     (LinkFault::SymbolNumber, "symbol number too large"),
-    (LinkFault::Memory, "no memory"),
 ];
 
 #[test]
 fn fault_texts_of_links(rt: HostRuntime) {
-    assert!(rt; has_text(Memory, "no memory"));
+    let refused = Refused::from(AllocError);
+    assert!(rt; has_text(refused, "no memory"));
+    assert!(rt; has_text(AddFault::Memory(refused), "no memory"));
+    assert!(rt; has_text(LinkFault::Memory(refused), "no memory"));
     for (fault, text) in &ADD_FAULTS {
         assert!(rt; has_text(*fault, text), "{text}");
     }
@@ -57,6 +60,4 @@ fn fault_texts_of_links(rt: HostRuntime) {
     for (fault, text) in &LINK_FAULTS {
         assert!(rt; has_text(*fault, text), "{text}");
     }
-    assert!(rt; has_text(RunFault::Memory, "no memory"));
-    assert!(rt; has_text(RunFault::Link(LinkFault::DoesNotFit), "does not fit"));
 }

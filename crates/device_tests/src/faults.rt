@@ -1,13 +1,14 @@
 //! The faults: their lines and texts, and links and loads that meet them.
 use crate::links::{in_memory, link};
-use aout_core::samples::{A_O, B_O, Failing, TestReader, TestWriter};
-use aout_core::{File, ObjectFault, ReadFault, Wire};
+use aout_core::{File, ObjectFault, ReadFault, Refused, Wire};
+use fixtures::samples::{A_O, B_O, Failing, TestReader, TestWriter};
 use fixtures::{TWO_OBJECTS, has_text};
 use link_out::{Keep, LinkFault, Linked};
 use link_session::AddFault;
 use std::alloc::{AllocError, Global};
 use std::test::Fail;
-use v7tools::{CliFault, emit, load};
+use surroundings::{Stored, store_on};
+use v7tools::{CliFault, load};
 
 /// Whether the fault writes this line, over a writer that takes 3 bytes a call.
 fn writes(alloc: Global, fault: &CliFault, line: &str) -> bool {
@@ -27,11 +28,12 @@ fn has_line(alloc: Global, fault: CliFault, line: &str) -> bool {
 fn is_written(alloc: Global, linked: &Linked, bytes: &[u8]) -> bool {
     let mut file = in_memory(alloc);
     let mut report = in_memory(alloc);
-    let is_emitted = emit(linked, &mut file, &mut report).ok() == Some(0);
+    let is_put = store_on(&linked.file, &mut file) == Stored::Kept
+        && linked.report.write(&mut report).is_ok();
     let is_latched = file.failed() || report.failed();
     let file = file.into_inner();
     let report = report.into_inner();
-    is_emitted && !is_latched && file.taken() == bytes && report.taken().is_empty()
+    is_put && !is_latched && file.taken() == bytes && report.taken().is_empty()
 }
 
 #[test]
@@ -73,7 +75,7 @@ fn fault_of(kind: u8, path: String) -> (CliFault, &'static str) {
         ),
         8 => (CliFault::CannotCreate(path), "x.o: cannot create"),
         9 => (CliFault::WriteFailed, "write error"),
-        10 => (CliFault::Memory, "no memory"),
+        10 => (CliFault::from(AllocError), "no memory"),
         11 => (CliFault::LongLine, "line too long"),
         12 => (CliFault::ManyLines, "too many lines"),
         _ => (CliFault::ScriptFailed, "script read error"),
@@ -100,10 +102,28 @@ fn fault_lines_of_refused_growths(rt: HostRuntime) -> Result<(), Fail> {
     let alloc = rt.alloc();
     let line = "v7: no memory\n";
     let path = String::from_str(alloc, "x.o")?;
-    assert!(rt; has_line(alloc, CliFault::BadFile(path, ReadFault::Memory), line));
+    assert!(rt;
+        has_line(
+            alloc,
+            CliFault::BadFile(path, ReadFault::from(AllocError)),
+            line
+        )
+    );
     let path = String::from_str(alloc, "x.o")?;
-    assert!(rt; has_line(alloc, CliFault::NotAdded(path, AddFault::Memory), line));
-    assert!(rt; has_line(alloc, CliFault::NotLinked(LinkFault::Memory), line));
+    assert!(rt;
+        has_line(
+            alloc,
+            CliFault::NotAdded(path, AddFault::Memory(Refused::from(AllocError))),
+            line
+        )
+    );
+    assert!(rt;
+        has_line(
+            alloc,
+            CliFault::NotLinked(LinkFault::from(AllocError)),
+            line
+        )
+    );
     Ok(())
 }
 

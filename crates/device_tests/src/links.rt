@@ -1,14 +1,14 @@
 //! Devices that fail at each place of a link's input, file and report.
-use aout_core::samples::{A_O, B_O, C_O, Failing, G_O, TestReader, TestWriter};
-use aout_core::{ReadFault, Wire, read_file};
-use fixtures::{TWO_OBJECTS, UNDEFINED, plain, wires};
-use link_out::{Keep, Linked};
+use aout_core::{File, ReadFault, Wire, read_file};
+use fixtures::samples::{A_O, B_O, C_O, Failing, G_O, TestReader, TestWriter};
+use fixtures::{TWO_OBJECTS, plain, wires};
+use link_out::{Keep, Linked, Report};
 use link_session::Forced;
 use std::alloc::{AllocError, Global};
 use std::io::ErrorKind;
-use std::process::Abort;
 use std::test::Fail;
-use v7tools::{CliFault, emit, ld};
+use surroundings::{Stored, store_on, store_text_on};
+use v7tools::{CliFault, ld};
 
 /// The link of bytes in memory, each with its path, without options but those that say which symbols are kept.
 pub fn link(alloc: Global, inputs: &[(&str, &[u8])], keep: Keep) -> Result<Linked, CliFault> {
@@ -74,85 +74,81 @@ pub fn in_memory(alloc: Global) -> Wire<TestWriter> {
     Wire::new(TestWriter::whole(Vec::new(alloc)))
 }
 
-/// Whether a link answers that it cannot be written.
-fn fails_to_emit(
-    linked: &Linked,
-    file: &mut Wire<TestWriter>,
-    report: &mut Wire<TestWriter>,
-) -> bool {
-    matches!(emit(linked, file, report), Err(CliFault::WriteFailed))
-}
-
-/// Whether a link answers that its file cannot be written after so many bytes of these; its report is then not written.
-fn fails_to_write(
+/// Whether a file is not stored after so many bytes of these.
+fn fails_to_store(
     alloc: Global,
-    linked: &Linked,
+    file: &File,
     place: usize,
     failing: Failing,
     bytes: &[u8],
 ) -> bool {
-    let mut file = failing_writer(alloc, place, failing);
-    let mut report = in_memory(alloc);
-    let is_reported = fails_to_emit(linked, &mut file, &mut report);
-    let is_latched = file.failed() && !report.failed();
-    let report = report.into_inner();
-    let file = file.into_inner();
-    is_reported && is_latched && report.calls() == 0 && Some(file.taken()) == bytes.get(..place)
-}
-
-/// A link answers at each place that its file cannot be written there.
-fn assert_fails_to_write(rt: &(impl Abort + AllocGlobal), linked: &Linked) {
-    for place in 0..24 {
-        for failing in FAILURES {
-            assert!(rt;
-                fails_to_write(rt.alloc(), linked, place, failing, &TWO_OBJECTS),
-                "{place} bytes"
-            );
-        }
-    }
+    let mut out = failing_writer(alloc, place, failing);
+    let is_reported = store_on(file, &mut out) == Stored::Failed && out.failed();
+    is_reported && Some(out.into_inner().taken()) == bytes.get(..place)
 }
 
 #[test]
 fn writer_fails_everywhere(rt: HostRuntime) -> Result<(), Fail> {
     let linked = link(rt.alloc(), &[("a.o", &A_O), ("b.o", &B_O)], Keep::Nothing)?;
-    assert_fails_to_write(&rt, &linked);
-    Ok(())
-}
-
-/// Whether a link answers that its report cannot be written after so many bytes of these; its file is then whole.
-fn fails_to_report(
-    alloc: Global,
-    linked: &Linked,
-    place: usize,
-    failing: Failing,
-    lines: &[u8],
-) -> bool {
-    let mut file = in_memory(alloc);
-    let mut report = failing_writer(alloc, place, failing);
-    let is_reported = fails_to_emit(linked, &mut file, &mut report);
-    let file = file.into_inner();
-    let report = report.into_inner();
-    is_reported
-        && file.taken() == UNDEFINED.as_slice()
-        && Some(report.taken()) == lines.get(..place)
-}
-
-/// A link answers at each place that its report cannot be written there.
-fn assert_fails_to_report(rt: &(impl Abort + AllocGlobal), linked: &Linked) {
-    let lines = b"Undefined:\n_f\n_g\n".as_slice();
-    for place in 0..17 {
+    for place in 0..24 {
         for failing in FAILURES {
             assert!(rt;
-                fails_to_report(rt.alloc(), linked, place, failing, lines),
+                fails_to_store(rt.alloc(), &linked.file, place, failing, &TWO_OBJECTS),
                 "{place} bytes"
             );
         }
     }
+    Ok(())
 }
+
+/// Whether a file, and a text, are not stored on a device that takes all and then fails to be flushed.
+fn fails_to_flush(alloc: Global, file: &File, failing: Failing) -> bool {
+    let mut out = failing_writer(alloc, 2, failing);
+    fails_to_store(alloc, file, TWO_OBJECTS.len(), failing, &TWO_OBJECTS)
+        && store_text_on(b"ab", &mut out) == Stored::Failed
+        && out.into_inner().taken() == b"ab".as_slice()
+}
+
+/// Whether a file, and a text, are stored on a device that is then flushed once.
+fn stores(alloc: Global, file: &File) -> bool {
+    let mut one = in_memory(alloc);
+    let mut other = in_memory(alloc);
+    let are_kept = store_on(file, &mut one) == Stored::Kept
+        && store_text_on(b"ab", &mut other) == Stored::Kept;
+    are_kept && one.into_inner().flushes() == 1 && other.into_inner().flushes() == 1
+}
+
+#[test]
+fn stored_files_are_flushed(rt: HostRuntime) -> Result<(), Fail> {
+    let alloc = rt.alloc();
+    let linked = link(alloc, &[("a.o", &A_O), ("b.o", &B_O)], Keep::Nothing)?;
+    for kind in [ErrorKind::Other, ErrorKind::Interrupted] {
+        assert!(rt; fails_to_flush(alloc, &linked.file, Failing::Fails(kind)));
+    }
+    assert!(rt; stores(alloc, &linked.file));
+    Ok(())
+}
+
+/// Whether a report cannot be written after so many bytes of these.
+fn fails_to_report(alloc: Global, report: &Report, place: usize, failing: Failing) -> bool {
+    let mut out = failing_writer(alloc, place, failing);
+    let is_reported = report.write(&mut out).is_err();
+    is_reported && Some(out.into_inner().taken()) == REPORT.get(..place)
+}
+
+/// What is reported of `c.o` and `g.o`.
+static REPORT: &[u8] = b"Undefined:\n_f\n_g\n";
 
 #[test]
 fn report_fails_everywhere(rt: HostRuntime) -> Result<(), Fail> {
     let linked = link(rt.alloc(), &[("c.o", &C_O), ("g.o", &G_O)], Keep::All)?;
-    assert_fails_to_report(&rt, &linked);
+    for place in 0..REPORT.len() {
+        for failing in FAILURES {
+            assert!(rt;
+                fails_to_report(rt.alloc(), &linked.report, place, failing),
+                "{place} bytes"
+            );
+        }
+    }
     Ok(())
 }

@@ -1,7 +1,7 @@
 //! Lists and sizes on devices that fail.
 use crate::links::{FAILURES, failing_writer};
 use aout_core::File;
-use aout_core::samples::Failing;
+use fixtures::samples::Failing;
 use fixtures::{S_O_LIST, s_o};
 use std::alloc::Global;
 use std::test::Fail;

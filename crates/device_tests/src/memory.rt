@@ -27,7 +27,7 @@ fn memory_refused_linking(rt: HostRuntime) {
 
 #[test]
 fn memory_refused_running(rt: HostRuntime) {
-    assert!(rt; links::running(rt.alloc()) == Outcome::Done);
+    assert!(rt; programs::running(rt.alloc()) == Outcome::Done);
 }
 
 #[test]
@@ -62,8 +62,7 @@ fn no_memory_needed(rt: HostRuntime) {
     assert!(rt; sessions::asking_after_withdrawals(rt.alloc()) == Outcome::Done);
     assert!(rt; sessions::looking(rt.alloc()) == Outcome::Done);
     assert!(rt; links::forcing_commons(rt.alloc()) == Outcome::Done);
-    assert!(rt; links::reporting(rt.alloc()) == Outcome::Done);
-    assert!(rt; links::emitting(rt.alloc()) == Outcome::Done);
+    assert!(rt; links::writing(rt.alloc()) == Outcome::Done);
     assert!(rt; commands::sizing(rt.alloc()) == Outcome::Done);
     assert!(rt; commands::showing(rt.alloc()) == Outcome::Done);
     assert!(rt; script_steps::other_steps(rt.alloc()) == Outcome::Done);

@@ -2,8 +2,8 @@
 ghost use Rattle.std.specs.Prelude.{◌<◌};
 
 use crate::links::FAILURES;
-use aout_core::samples::{A_O, Failing, TestReader, TestWriter};
 use aout_core::{File, ReadFault, Wire, read_file, write_file};
+use fixtures::samples::{A_O, Failing, TestReader, TestWriter};
 use fixtures::{v_o, written};
 use std::alloc::Global;
 use std::io::ErrorKind;

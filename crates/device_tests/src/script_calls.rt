@@ -2,7 +2,7 @@
 ghost use Rattle.std.specs.Prelude.{◌<◌};
 
 use aout_core::Wire;
-use aout_core::samples::TestReader;
+use fixtures::samples::TestReader;
 use fixtures::{ASKED, SCRIPT, answer_texts};
 use std::alloc::Global;
 use std::io::ErrorKind;

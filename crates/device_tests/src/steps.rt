@@ -1,6 +1,6 @@
 //! The steps of a session whose answers fail at each byte.
 use aout_core::Wire;
-use aout_core::samples::{C_O, D_O, Failing, TestReader, TestWriter};
+use fixtures::samples::{C_O, D_O, Failing, TestReader, TestWriter};
 use fixtures::{ANSWERS, plain};
 use link_out::{Keep, Linked};
 use link_session::Session;

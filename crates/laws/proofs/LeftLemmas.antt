@@ -11,7 +11,7 @@ use Rattle.link_session.specs.Labelled.{Labelled, objects}
 use Rattle.link_session.specs.Limits.{refusal}
 use Rattle.link_session.specs.Undo.{Kept}
 use Rattle.link_out.specs.Steps.{and_then, unless}
-use Rattle.link_out.proofs.RunLemmas.{without_last-put_last}
+use Rattle.link_session.proofs.EditLemmas.{without_last-put_last}
 use Rattle.tool_options.specs.Choices.{Choices}
 use Rattle.surroundings.specs.Events.{Event, Opened}
 use Rattle.command_words.specs.Scripts.{Asked, to_add, to_withdraw, for_externals, for_undefined, to_link, for_nothing}

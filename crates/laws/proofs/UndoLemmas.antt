@@ -18,7 +18,7 @@ use Rattle.link_out.specs.declared.linked.LinkFault.{LinkFault}
 use Rattle.link_out.specs.Steps.{unless}
 use Rattle.link_out.specs.function.Link.{link}
 use Rattle.link_out.specs.function.Reports.{line}
-use Rattle.link_out.proofs.RunLemmas.{last_of-put_last}
+use Rattle.link_session.proofs.EditLemmas.{last_of-put_last}
 use Rattle.tool_options.specs.Choices.{Choices}
 use Rattle.surroundings.specs.Events.{Event, opened, stored}
 use Rattle.v7tools.specs.Answers.{absent, adding, anything_else, listing_externals, listing_undefined, withdrawing}

@@ -1,7 +1,7 @@
 //! The arguments of the program.
 use crate::steps;
 use anyhow::{Result, anyhow};
-use aout_core::{Shown, shown_by};
+use surroundings::{Shown, shown_by};
 use std::{env, io};
 
 const USAGE: &str =

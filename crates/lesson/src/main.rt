@@ -28,7 +28,7 @@ mod symbols;
 mod walk;
 
 use anyhow::{Error, Result};
-use aout_core::show;
+use surroundings::show;
 use arguments::{Call, SYNOPSIS, arguments_given, called};
 use link_session::Session;
 use page::write_page;

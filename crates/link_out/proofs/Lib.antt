@@ -11,5 +11,4 @@ pub mod RowLemmas
 pub mod SymbolNumberLemmas
 pub mod ReportNameLemmas
 pub mod FinishLemmas
-pub mod RunLemmas
 pub mod partial_links

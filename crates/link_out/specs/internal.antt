@@ -8,5 +8,4 @@ pub mod Passes
 pub mod Planned
 pub mod SymbolNumbers
 pub mod Rows
-pub mod Replies
 pub mod ReportParts

@@ -12,14 +12,11 @@
 //! - `Linked`, `Report`: a linked file, and what is reported of it
 //! - `LinkFault`: why there is no file
 //! - `Bases`: where the segments of a link begin and end
-//! - `Edit`, `Reply`, `RunFault`: a change of what is linked, the reply to it, and why a run gave no link
 //! - `Options`, `Layout`, `Keep`, `OptionFault`: what a link is asked for, from `tool_options`
 //!
 //! Functions:
 //!
 //! - `finish`: links the objects of a session
-//! - `run`: makes edits, replies to each, and links what is left
-//! - `reply_to`: makes one edit of a session, and replies to it
 //! - `link_bases`: where the segments of a session's link are
 //! - `link_externals`: the externals of a link with their addresses, also if it is refused
 //! - `is_missing`: whether a link reports a name as undefined
@@ -33,7 +30,6 @@
 //! - `laws`: theorems about links
 #![tactic(auto)]
 
-mod edit;
 mod externals;
 mod finals;
 mod kept_symbols;
@@ -45,12 +41,10 @@ mod plan;
 mod relocs;
 mod report;
 mod reserved_names;
-mod runner;
 mod symbol_numbers;
 mod table;
 mod words;
 
-pub use edit::{Edit, Reply, RunFault};
 pub use externals::link_externals;
 pub use kept_symbols::MOST_ROWS;
 pub use layout::{Bases, link_bases};
@@ -58,5 +52,4 @@ pub use linked::{LinkFault, Linked, Report};
 pub use linker::{LAST_ADDRESS, finish};
 pub use relocs::MOST_NUMBER;
 pub use reserved_names::is_missing;
-pub use runner::{reply_to, run};
 pub use tool_options::{Keep, Layout, OptionFault, Options};

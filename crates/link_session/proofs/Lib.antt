@@ -50,3 +50,4 @@ pub mod ExternalLemmas
 pub mod AgreementLemmas
 pub mod NeighbourLemmas
 pub mod BindingLemmas
+pub mod EditLemmas

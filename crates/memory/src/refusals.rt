@@ -34,9 +34,7 @@ fn call_files_and_sessions(rt: &HostRuntime) -> io::Result<()> {
 fn call_links(rt: &HostRuntime) -> io::Result<()> {
     let alloc = rt.alloc();
     report(rt, "finish", links::linking(alloc))?;
-    report(rt, "run", links::running(alloc))?;
-    report(rt, "write of a report", links::reporting(alloc))?;
-    report(rt, "emit", links::emitting(alloc))?;
+    report(rt, "write of a link", links::writing(alloc))?;
     report(rt, "force_commons", links::forcing_commons(alloc))
 }
 
@@ -53,6 +51,7 @@ fn call_commands(rt: &HostRuntime) -> io::Result<()> {
 
 fn call_scripts(rt: &HostRuntime) -> io::Result<()> {
     let alloc = rt.alloc();
+    report(rt, "session", programs::running(alloc))?;
     report(rt, "next_line", script_steps::reading_lines(alloc))?;
     report(rt, "step, add", script_steps::adding_by_a_step(alloc))?;
     let outcome = script_steps::adding_after_by_a_step(alloc);

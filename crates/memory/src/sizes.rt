@@ -24,21 +24,18 @@ enum Call {
     ListNames,
     /// A name is defined that so many words wait for, the words are linked, and the definition is withdrawn.
     BindWords,
-    /// So many edits are run.
-    RunEdits,
     /// So many inputs are linked.
     LinkInputs,
 }
 
 /// What is said of each call, and the last of its sizes. A file has no more names, and no more than 64 can be forced.
-static CALLS: [(&str, Call, u16); 8] = [
+static CALLS: [(&str, Call, u16); 7] = [
     ("bytes put", Call::Put, 5_000),
     ("bytes read", Call::Read, 5_000),
     ("names forced", Call::Force, 64),
     ("names linked", Call::AddNames, 5_461),
     ("names listed", Call::ListNames, 1_500),
     ("words bound", Call::BindWords, 2_500),
-    ("edits run", Call::RunEdits, 750),
     ("inputs linked", Call::LinkInputs, 500),
 ];
 
@@ -51,7 +48,6 @@ fn is_right(alloc: Global, call: Call, size: u16) -> bool {
         Call::AddNames => sessions::adds_and_withdraws(alloc, size),
         Call::ListNames => listings::lists(alloc, size),
         Call::BindWords => sessions::binds_and_unbinds(alloc, size),
-        Call::RunEdits => links::runs(alloc, size),
         Call::LinkInputs => links::links(alloc, size),
     }
 }

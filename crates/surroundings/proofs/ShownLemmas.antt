@@ -1,7 +1,7 @@
 -- What is done, by what the first argument asks to be shown.
 use Rattle.std.proofs.Common.{◌≡◌, ℕ, List, Option, Some, None, refl, sym, ap, subst, inl}
 use Rattle.std.specs.Prelude.{Result, Ok}
-use Rattle.aout_core.specs.declared.shown.Shown.{Shown}
+use Rattle.surroundings.specs.declared.shown.Shown.{Shown}
 use Rattle.surroundings.specs.Answer.{Answer}
 use Rattle.surroundings.specs.Answers.{IsShownOr, shows}
 use Rattle.surroundings.specs.Events.{History}

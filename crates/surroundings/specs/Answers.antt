@@ -2,8 +2,8 @@
 use Rattle.std.specs.Prelude.{◌≡◌, ◌⊎◌, ℕ, Bool, List, [], ◌++◌, if◌then◌else◌, ◌∷◌, Option}
 use Rattle.aout_core.specs.Refusals.{refused}
 use Rattle.std.specs.Prelude.{Some, None, Result, Ok, Err, bytes_eq, codes}
-use Rattle.aout_core.specs.declared.shown.Shown.{Shown}
-use Rattle.aout_core.specs.declared.shown.Shown.TheVariants.{Help, Version}
+use Rattle.surroundings.specs.declared.shown.Shown.{Shown}
+use Rattle.surroundings.specs.declared.shown.Shown.TheVariants.{Help, Version}
 use Rattle.aout_core.specs.Wires.{Latched}
 use Rattle.surroundings.specs.Emits.{PutsUnless}
 use Rattle.surroundings.specs.declared.answer.Fault.{Fault}

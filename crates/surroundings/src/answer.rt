@@ -1,13 +1,13 @@
 //! What a program answers: what it writes, and its status.
-ghost use Rattle.std.specs.Prelude.{◌≡◌, ◌++◌, [], false, map, string_bytes, IfOk};
+ghost use Rattle.std.specs.Prelude.{◌≡◌, ◌++◌, [], false, IfOk};
 ghost use Rattle.aout_core.specs.Refusals.{refused};
 ghost use Rattle.aout_core.specs.Wires.{Writes};
 ghost use Rattle.surroundings.specs.declared.answer.Fault.TheVariants.{Memory};
-ghost use Rattle.surroundings.specs.Answers.{Gives, HasAnswer, answer_in, errors_unless, failed_at, fault_answer, only_errors, says_usage, shown_by, shown_in, shows, status_unless};
+ghost use Rattle.surroundings.specs.Answers.{Gives, HasAnswer, answer_in, errors_unless, failed_at, fault_answer, only_errors, says_usage, status_unless};
 
 use crate::lines::put_fault_line;
 use crate::outputs::Outputs;
-use aout_core::{DeviceFault, Refused, Shown, VERSION, Wire};
+use aout_core::{DeviceFault, Refused, Wire};
 use std::alloc::{AllocError, AllocFailed, Global};
 use std::io::Write;
 use std::marker::Model;
@@ -94,53 +94,6 @@ pub fn usage_answer(alloc: Global, usage: &str) -> Result<Answer, AllocError>
     let mut errors = Text::new(alloc);
     errors.put(usage);
     error_answer(alloc, errors, 2)
-}
-
-/// What an argument asks a program to show of itself.
-fn shown_by(word: &str) -> Option<Shown>
-    ensures { result ≡ shown_by word.now }
-{
-    match word {
-        "--help" => Some(Shown::Help),
-        "--version" => Some(Shown::Version),
-        _ => None,
-    }
-}
-
-/// What the first argument of a program asks to be shown: `--help` or `--version`. (own choice)
-pub fn shown_in(words: &[String]) -> Option<Shown>
-    ensures { result ≡ shown_in (map string_bytes words.now) }
-{
-    match words {
-        [] => None,
-        [word, ..] => shown_by(word.as_str()),
-    }
-}
-
-/// The answer to an argument that asks a program to show something of itself. (own choice)
-pub fn shown_answer(
-    alloc: Global,
-    program: &str,
-    usage: &str,
-    shown: Shown,
-) -> Result<Answer, AllocError>
-    ensures { IfOk result (λ a. a ≡ shows program.now usage.now shown) }
-{
-    let mut output = Text::new(alloc);
-    match shown {
-        Shown::Help => output.put(usage),
-        Shown::Version => {
-            output.put(program);
-            output.put(" ");
-            output.put(VERSION);
-            output.put("\n");
-        }
-    }
-    Ok(Answer {
-        output: output.finish()?,
-        errors: Vec::new(alloc),
-        status: 0,
-    })
 }
 
 /// Writes the name of a program, and a text after it.

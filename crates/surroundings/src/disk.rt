@@ -1,10 +1,39 @@
 //! The files of a runtime, as an `Office`. No contract can say what a file gives or takes, so these lines are to be read: a
 //! file is opened and stored at the very path that is asked for.
+ghost use Rattle.aout_core.specs.Encoding.{encoding};
+ghost use Rattle.surroundings.specs.Emits.{IsStoredOn};
+
 use crate::office::{Office, Stored};
 use aout_core::{File, Wire, write_file};
 use std::fs;
 use std::io::Write;
 use std::rt::{Files, Runtime};
+
+/// Stores a file on a device, which is flushed. On a fault a prefix of it went out. (own choice)
+pub fn store_on<W: Write>(file: &File, out: &mut Wire<W>) -> Stored
+    ensures { IsStoredOn W.contents result out.old out.new (encoding file.now) }
+{
+    let Ok(()) = write_file(file, out) else {
+        return Stored::Failed;
+    };
+    match out.flush() {
+        Ok(()) => Stored::Kept,
+        Err(_) => Stored::Failed,
+    }
+}
+
+/// Stores a text on a device, which is flushed. On a fault a prefix of it went out. (own choice)
+pub fn store_text_on<W: Write>(text: &[u8], out: &mut Wire<W>) -> Stored
+    ensures { IsStoredOn W.contents result out.old out.new text.now }
+{
+    let Ok(()) = out.put(text) else {
+        return Stored::Failed;
+    };
+    match out.flush() {
+        Ok(()) => Stored::Kept,
+        Err(_) => Stored::Failed,
+    }
+}
 
 /// The files of a runtime.
 #[derive(Drop)]
@@ -26,23 +55,16 @@ impl<H: Runtime> Office for Disk<'_, H> {
     }
 
     fn store(&mut self, path: &str, file: &File) -> Stored {
-        let Ok(device) = fs::create(self.rt, path) else {
-            return Stored::NotCreated;
-        };
-        let mut out = Wire::new(device);
-        if write_file(file, &mut out).is_err() || out.flush().is_err() {
-            return Stored::Failed;
+        match fs::create(self.rt, path) {
+            Ok(device) => store_on(file, &mut Wire::new(device)),
+            Err(_) => Stored::NotCreated,
         }
-        Stored::Kept
     }
 
     fn store_text(&mut self, path: &str, text: &[u8]) -> Stored {
-        let Ok(mut device) = fs::create(self.rt, path) else {
-            return Stored::NotCreated;
-        };
-        if device.write_all(text).is_err() || device.flush().is_err() {
-            return Stored::Failed;
+        match fs::create(self.rt, path) {
+            Ok(device) => store_text_on(text, &mut Wire::new(device)),
+            Err(_) => Stored::NotCreated,
         }
-        Stored::Kept
     }
 }

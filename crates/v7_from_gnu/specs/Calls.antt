@@ -6,7 +6,7 @@ use Rattle.std.specs.Prelude.{ℕ, ◌==◌, ◌&&◌, true, false, not, nat_eq,
 use Rattle.std.specs.Prelude.{◌∷◌, ◌++◌, map, drop, length, Option, Some, None, option_map, codes}
 use Rattle.std.specs.List.{starts_with}
 use Rattle.aout_core.specs.Words.{letter_of}
-use Rattle.aout_core.specs.declared.shown.Shown.{Shown}
+use Rattle.surroundings.specs.declared.shown.Shown.{Shown}
 use Rattle.gnu_objects.specs.declared.options.Locals.{Locals}
 use Rattle.gnu_objects.specs.declared.options.Locals.TheVariants.{KeepAll, KeepNeeded, KeepNone}
 use Rattle.surroundings.specs.Answers.{shown_in}

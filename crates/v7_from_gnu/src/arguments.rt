@@ -3,11 +3,10 @@ ghost use Rattle.std.specs.Prelude.{◌≡◌, ◌++◌, codes, ◌∷◌, [], N
 ghost use Rattle.std.specs.Option.{option_map};
 ghost use Rattle.v7_from_gnu.specs.Calls.{after_slash, call_from, call_of, conversion_of, into_folder, jobs_of, letter_read, letters_read, options_read, unread};
 
-use aout_core::Shown;
 use gnu_objects::{Locals, Options};
 use std::alloc::{AllocError, Global};
 use std::marker::Model;
-use surroundings::shown_in;
+use surroundings::{Shown, shown_in};
 use texts::Text;
 
 /// A file that is to be converted, and the path where its object is to go.

@@ -15,7 +15,7 @@ use Rattle.link_session.specs.Limits.{refusal}
 use Rattle.link_session.specs.Labelled.{Labelled, objects}
 use Rattle.link_session.specs.Sessions.{Adds, IsCause, labelled}
 use Rattle.link_session.specs.Undo.{Kept}
-use Rattle.link_out.proofs.RunLemmas.{limit_is, within_limits}
+use Rattle.link_session.proofs.EditLemmas.{limit_is, within_limits}
 use Rattle.v7tools.specs.declared.fault.CliFault.{CliFault}
 use Rattle.v7tools.specs.declared.fault.CliFault.TheVariants as faults
 use Rattle.link_out.specs.Steps.{unless}

@@ -1,7 +1,7 @@
 -- Histories that grow.
 use Rattle.std.specs.declared.alloc.Global.{Global}
 use Rattle.std.proofs.Common.{◌≡◌, ℕ, List, [], ◌∷◌, ◌++◌, map, Option, Some, None, Result, Ok, Err, refl, sym, ap, ◌∙◌, subst}
-use Rattle.std.proofs.lemmas.List.{append-nil}
+use Rattle.std.proofs.lemmas.List.{append_assoc, append-nil}
 use Rattle.std.specs.Prelude.{IsErrAnd, String, string_bytes}
 use Rattle.v7tools.specs.declared.fault.CliFault.{CliFault}
 use Rattle.std.specs.List.{AllByRecursion}
@@ -24,6 +24,11 @@ all_after P (y ∷ ys) x h p = (h.0, all_after P ys x h.1 p)
 -- none are left
 pub no_more : {A : Type 0} (all before left : List A) → all ≡ before ++ left → left ≡ [] → all ≡ before
 no_more {A} all before left h e = h ∙ ap (λ (l : List A). before ++ l) e ∙ append-nil before
+
+-- a list so far, and what is left after one more of its items
+pub one_more : {A : Type 0} (all before left later : List A) (x : A) → all ≡ before ++ left → left ≡ x ∷ later →
+    all ≡ (before ++ x ∷ []) ++ later
+one_more {A} all before left later x order split = order ∙ ap (λ (l : List A). before ++ l) split ∙ sym (append_assoc before (x ∷ []) later)
 
 module _ {R : Type 0} (remaining : R → Option (List ℕ)) where
   -- one more file is opened

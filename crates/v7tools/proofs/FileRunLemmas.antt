@@ -5,14 +5,13 @@ use Rattle.std.specs.Prelude.{String, string_bytes, IfSome}
 use Rattle.aout_core.specs.Contents.{Contents}
 use Rattle.aout_core.specs.Decoding.{decode}
 use Rattle.aout_core.specs.Strip.{stripped}
-use Rattle.link_out.proofs.RunLemmas.{one_more}
 use Rattle.surroundings.specs.Events.{Event, History, Extends, Opened, opened, stored}
 use Rattle.v7tools.specs.FileRuns.{AreRead, IsStored, IsLoadAt, IsStripping, Loaded, Reads, ReadsNotAll, strips}
 use Rattle.v7tools.specs.declared.fault.CliFault.{CliFault}
 use Rattle.surroundings.specs.declared.office.Stored.{Stored}
 use Rattle.surroundings.specs.declared.office.Stored.TheVariants.{Kept, NotCreated, Failed}
 use Rattle.surroundings.proofs.EventLemmas.{asked_after}
-use Rattle.v7tools.proofs.EventLemmas.{map-append}
+use Rattle.v7tools.proofs.EventLemmas.{map-append, one_more}
 
 read_after : (found : List Opened) (loaded : List Loaded) (known : Option (List ℕ)) (l : Loaded) → AreRead found loaded →
     IfSome known (λ bytes. decode bytes ≡ Ok l.1) → AreRead (found ++ (string_bytes l.0, known) ∷ []) (loaded ++ l ∷ [])

@@ -20,7 +20,7 @@ use Rattle.link_out.specs.function.Link.{Outcome}
 use Rattle.link_out.specs.Outcomes.{IsLinkOf, outcome_of}
 use Rattle.link_out.specs.declared.linked.Linked.{Linked}
 use Rattle.link_out.specs.function.Reports.{line}
-use Rattle.link_out.proofs.RunLemmas.{last_of-put_last, without_last-put_last}
+use Rattle.link_session.proofs.EditLemmas.{last_of-put_last, without_last-put_last}
 use Rattle.v7tools.specs.declared.fault.CliFault.{CliFault}
 use Rattle.v7tools.specs.declared.fault.CliFault.TheVariants as faults
 use Rattle.v7tools.specs.declared.session.commands.Step.{Step}

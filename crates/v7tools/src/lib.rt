@@ -24,7 +24,6 @@
 //! - `words`, `parse`: the arguments of a program, and what they ask for
 //! - `load`: reads the file at a path
 //! - `ld`: links the files that readers give
-//! - `emit`: writes a linked file and its report
 //! - `step`: does what a line of a script asks for, and answers
 //! - `link_answer`: answers to a link of a session
 #![tactic(auto)]
@@ -35,12 +34,12 @@ mod link;
 mod parsing;
 mod program;
 mod session;
+mod setting;
 mod status;
 
 pub use command_words::{BlockWriter, Call, Line};
 pub use fault::CliFault;
 pub use files::loading::load;
-pub use link::emitting::emit;
 pub use link::linking::ld;
 pub use parsing::parse;
 pub use program::{attempt, command, perform};

@@ -7,21 +7,9 @@ use crate::fault::CliFault;
 use command_words::Call;
 use std::alloc::Global;
 
-/// What the words after the program's name ask for:
+/// What the words after the program's name ask for: `command_words::parse` has the rules.
 ///
-/// - `ld [-rsxXnid] [-u NAME]... [-e NAME] [-o FILE] FILE...`, where the output is `a.out` unless `-o` names it. `-s`
-///   wins over `-x`, and that over `-X`. A name is cut at 8 bytes.
-/// - `nm [-gnopru] [FILE...]` and `size [FILE...]`, which take `a.out` if no file is named.
-/// - `strip FILE...`.
-/// - `session [-rsxXnid] [-u NAME]... [-e NAME]`.
-///
-/// A flag may be repeated, but not `-e` and `-o`. The value of an option is in the same argument, or in the next one if
-/// that does not begin with `-`. Options may stand after files, and `--` ends them. A dash alone is a file.
-///
-/// (ld(1), nm(1), size(1), strip(1); the session and the limit are an own choice)
-///
-/// Errors: `Usage`, 1, for all other words, `-r` with `-s`, `-n` or `-i`, `-n` with `-i`, and more than 64 different
-/// names after `-u`; `Memory`, 9, if memory runs out for what the words ask for.
+/// Errors: `Usage`, 1, if they ask for nothing that there is; `Memory`, 9, if memory runs out.
 pub fn parse(alloc: Global, words: Vec<String>) -> Result<Call, CliFault>
     ensures whole { IfOk result IsWhole }
     ensures asked { IfOk result (IsAsked (map string_bytes words.items)) }

@@ -5,9 +5,10 @@ ghost use Rattle.v7tools.specs.CommandRuns.{IsCallRun, Performs, RunsWords};
 
 use crate::fault::CliFault;
 use crate::files::commands::{list_files, size_files, strip_files};
-use crate::link::command::{LinkCall, link_files};
+use crate::link::command::link_files;
 use crate::parsing::parse;
-use crate::session::command::{Setting, answer_script};
+use crate::session::command::answer_script;
+use crate::setting::Setting;
 use crate::status::Status;
 use aout_core::{BufferedWrite, Wire};
 use command_words::{BlockWriter, Call};
@@ -36,13 +37,11 @@ fn run_call<O: Office, R: Read + Drop, W: BufferedWrite>(
             out,
             files,
         } => {
-            let call = LinkCall {
-                options,
-                forced,
-                out,
-                files,
+            let setting = Setting {
+                alloc,
+                options: &options,
             };
-            link_files(alloc, office, call, output)
+            link_files(&setting, office, &forced, files, out, output)
         }
         Call::Nm { options, files } => list_files(alloc, office, options, files, output),
         Call::Size { files } => size_files(alloc, office, files, output),

@@ -1,39 +1,11 @@
-//! Runs of edits, and links of inputs.
+//! Links of inputs.
 use aout_core::Wire;
-use aout_core::samples::{B_O, TestReader};
-use fixtures::{adding, plain};
-use link_out::{Edit, Keep, run};
+use fixtures::plain;
+use fixtures::samples::{B_O, TestReader};
+use link_out::Keep;
 use link_session::Forced;
 use std::alloc::Global;
 use v7tools::ld;
-
-/// So many edits: `b.o` is added twice and withdrawn once, again and again.
-fn edits(alloc: Global, count: u16) -> Option<Vec<Edit>> {
-    let mut edits = Vec::new(alloc);
-    for place in 0..count {
-        let edit = match place % 3 {
-            2 => Edit::Withdraw,
-            _ => adding(alloc, "b.o", &B_O)?,
-        };
-        edits.push(edit).ok()?;
-    }
-    Some(edits)
-}
-
-/// Whether so many edits are replied to, and what they leave is linked: one word of text of each object.
-pub fn runs(alloc: Global, count: u16) -> bool {
-    let Some(edits) = edits(alloc, count) else {
-        return false;
-    };
-    match run(alloc, &Forced::none(), edits, &plain(Keep::All)) {
-        Ok((replies, linked)) => {
-            replies.len() == usize::from(count)
-                && linked.file.text_words().len()
-                    == usize::from((count / 3).wrapping_add(count % 3))
-        }
-        Err(_) => false,
-    }
-}
 
 /// `b.o` so many times.
 fn inputs(alloc: Global, count: u16) -> Option<Vec<(String, Wire<TestReader<'static>>)>> {

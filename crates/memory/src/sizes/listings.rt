@@ -1,7 +1,7 @@
 //! Files whose names are listed.
-use aout_core::samples::{TestReader, TestWriter};
 use aout_core::{File, Wire, read_file};
 use fixtures::names_of;
+use fixtures::samples::{TestReader, TestWriter};
 use std::alloc::Global;
 use symtools::{NmOptions, nm};
 

@@ -1,6 +1,6 @@
 //! Bytes that are put on a wire, and read from one.
 use aout_core::Wire;
-use aout_core::samples::{TestReader, TestWriter};
+use fixtures::samples::{TestReader, TestWriter};
 use std::alloc::Global;
 
 /// Whether these bytes go out, and the latch stays off.

@@ -7,9 +7,10 @@ ghost use Rattle.v7tools.specs.internal.Openings.{IsOpening};
 
 use crate::fault::CliFault;
 use crate::link::linking::ld;
+use crate::setting::Setting;
 use crate::status::Status;
 use aout_core::{BufferedWrite, Wire};
-use link_out::{Linked, Options, Report};
+use link_out::Report;
 use link_session::Forced;
 use std::alloc::Global;
 use surroundings::{Office, Stored};
@@ -61,37 +62,22 @@ fn report_stored<W: BufferedWrite>(
     }
 }
 
-/// What the words of ld ask for.
-#[derive(Drop)]
-pub(crate) struct LinkCall {
-    pub(crate) options: Options,
-    pub(crate) forced: Forced,
-    /// The path of the file that is made.
-    pub(crate) out: String,
-    /// The paths of the inputs.
-    pub(crate) files: Vec<String>,
-}
-
-/// Links the files of the call into its file `out`, and writes the report to `output`.
+/// Links files, after the forced names, into the file at `out`, and writes the report to `output`.
 pub(crate) fn link_files<O: Office, W: BufferedWrite>(
-    alloc: Global,
+    setting: &Setting<'_>,
     office: &mut O,
-    call: LinkCall,
+    forced: &Forced,
+    files: Vec<String>,
+    out: String,
     output: &mut Wire<W>,
 ) -> Result<Status, CliFault>
-    ensures run { IsLinkRun W.contents call.forced call.options call.out
-        (map string_bytes call.files.items)
+    ensures run { IsLinkRun W.contents forced.now setting.now.options.now out
+        (map string_bytes files.items)
         (O.history office.old) (O.history office.new) result output.old output.new }
     ensures passed { IsPassedOn W.waiting output.old → IsPassedOn W.waiting output.new }
 {
-    let LinkCall {
-        options,
-        forced,
-        out,
-        files,
-    } = call;
-    let inputs = open_all(alloc, office, files)?;
-    let linked = ld(alloc, inputs, &forced, &options)?;
+    let inputs = open_all(setting.alloc, office, files)?;
+    let linked = ld(setting.alloc, inputs, forced, setting.options)?;
     let stored = office.store(out.as_str(), &linked.file);
     report_stored(&linked.report, out, stored, output)
 }

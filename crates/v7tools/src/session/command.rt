@@ -15,21 +15,13 @@ use crate::session::commands::{Command, Step};
 use crate::session::link_answers::link_answer;
 use crate::session::script::Script;
 use crate::session::steps::{make_link, step};
+use crate::setting::Setting;
 use crate::status::Status;
 use aout_core::{BufferedWrite, Wire};
 use command_words::Line;
-use link_out::Options;
 use link_session::{Forced, Session};
-use std::alloc::Global;
 use std::io::{Read, Write};
 use surroundings::Office;
-
-/// What stays the same through a session: where its memory comes from, and the options of its links.
-#[derive(Clone, Copy)]
-pub(crate) struct Setting<'a> {
-    pub(crate) alloc: Global,
-    pub(crate) options: &'a Options,
-}
 
 /// Opens the file at a path, on a wire.
 fn open_wire<O: Office>(office: &mut O, path: &str) -> Option<Wire<O::Source>>

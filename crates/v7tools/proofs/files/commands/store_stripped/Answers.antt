@@ -1,7 +1,6 @@
 use Rattle.std.proofs.Common.{rules, ◌≡◌, [], ◌∷◌, ◌++◌, string_bytes, sym, subst}
-use Rattle.link_out.proofs.RunLemmas.{one_more}
 use Rattle.v7tools.specs.FileRuns.{IsStripping}
-use Rattle.v7tools.proofs.EventLemmas.{passed_on}
+use Rattle.v7tools.proofs.EventLemmas.{one_more, passed_on}
 use Rattle.v7tools.proofs.FileRunLemmas.{stops_storing, strip_at, strips_more}
 use Rattle.v7tools.proofs.files.commands.store_stripped.Goals as goal
 

@@ -1,11 +1,10 @@
 use Rattle.std.proofs.Common.{rules, ◌≡◌, [], ◌∷◌, ◌++◌, map, length, Some, None, refl, sym, ap, ◌∙◌, subst, string_bytes}
 use Rattle.std.specs.List.{AllByRecursion}
 use Rattle.std.proofs.lemmas.List.{nil_from_length}
-use Rattle.link_out.proofs.RunLemmas.{one_more}
 use Rattle.surroundings.specs.Events.{Extends, opens}
 use Rattle.v7tools.specs.internal.Openings.{sources, IsWorking}
 use Rattle.surroundings.proofs.EventLemmas.{nothing_asked}
-use Rattle.v7tools.proofs.EventLemmas.{all_after, no_more, opened_at, opens_more, map-append, stops_at}
+use Rattle.v7tools.proofs.EventLemmas.{all_after, no_more, one_more, opened_at, opens_more, map-append, stops_at}
 use Rattle.v7tools.proofs.link.command.open_all.Goals as goal
 
 pub loop-path-init : goal.loop-path-init

@@ -1,0 +1,83 @@
+//! What a program shows in place of its work: the answers to `--help` and `--version`.
+ghost use Rattle.std.specs.Prelude.{◌≡◌, ◌≤◌, map, string_bytes, IfOk};
+ghost use Rattle.surroundings.specs.Answers.{shown_by, shown_in, shows};
+
+use crate::answer::{Answer, Fault, give};
+use crate::outputs::Outputs;
+use crate::standard_error::StandardError;
+use aout_core::Wire;
+use std::alloc::{AllocError, AllocGlobal, Global};
+use std::io;
+use std::rt::Runtime;
+use texts::Text;
+
+/// The version of v7. include/v7.h has the same.
+pub const VERSION: &str = "0.4.0";
+
+/// What a program shows in place of its work. (own choice)
+#[derive(Clone, Copy, Debug, PartialEq, Eq)]
+pub enum Shown {
+    /// How it is called.
+    Help,
+    Version,
+}
+
+/// What an argument asks a program to show of itself: `--help` or `--version`. (own choice)
+pub fn shown_by(word: &str) -> Option<Shown>
+    ensures { result ≡ shown_by word.now }
+{
+    match word {
+        "--help" => Some(Shown::Help),
+        "--version" => Some(Shown::Version),
+        _ => None,
+    }
+}
+
+/// What the first argument of a program asks to be shown. (own choice)
+pub fn shown_in(words: &[String]) -> Option<Shown>
+    ensures { result ≡ shown_in (map string_bytes words.now) }
+{
+    match words {
+        [] => None,
+        [word, ..] => shown_by(word.as_str()),
+    }
+}
+
+/// The answer to an argument that asks a program to show something of itself. (own choice)
+pub fn shown_answer(
+    alloc: Global,
+    program: &str,
+    usage: &str,
+    shown: Shown,
+) -> Result<Answer, AllocError>
+    ensures { IfOk result (λ a. a ≡ shows program.now usage.now shown) }
+{
+    let mut output = Text::new(alloc);
+    match shown {
+        Shown::Help => output.put(usage),
+        Shown::Version => {
+            output.put(program);
+            output.put(" ");
+            output.put(VERSION);
+            output.put("\n");
+        }
+    }
+    Ok(Answer {
+        output: output.finish()?,
+        errors: Vec::new(alloc),
+        status: 0,
+    })
+}
+
+/// Shows on standard output how a program is called, or its name and version, and returns its status: 0, or 2 if standard output
+/// failed or memory ran out. (own choice)
+pub fn show<H: Runtime + AllocGlobal>(rt: &H, program: &str, usage: &str, shown: Shown) -> u8
+    ensures { result ≤ 2 }
+{
+    let mut outputs = Outputs {
+        output: Wire::new(io::writer(rt)),
+        error: Wire::new(StandardError::new(rt)),
+    };
+    let answer = shown_answer(rt.alloc(), program, usage, shown).map_err(Fault::from);
+    give(program, &answer, &mut outputs)
+}

@@ -1,0 +1,10 @@
+//! What stays the same while a call is run.
+use link_out::Options;
+use std::alloc::Global;
+
+/// Where memory comes from, and the options of links.
+#[derive(Clone, Copy)]
+pub(crate) struct Setting<'a> {
+    pub(crate) alloc: Global,
+    pub(crate) options: &'a Options,
+}
