@@ -94,7 +94,8 @@ PLANTED = [
     ("v7/src/main.rt", "    if rt.stderr().is_terminal() {", "    if rt.stdout().is_terminal() {"),
     ("v7/src/main.rt", "InvalidData && rt.stderr().is_terminal()", "InvalidData"),
     ("v7/src/terminal.rt", "            prompts.end(status);\n", ""),
-    ("v7/src/terminal.rt", "            put_hint(rt, &fault);\n", ""),
+    ("v7/src/terminal.rt", "    put_hint(rt, fault);\n", ""),
+    ("v7/src/terminal/lines.rt", "        CliFault::BadFile(_, ReadFault::Device) => return,\n", ""),
     ("v7/src/terminal/pages.rt", "  -d         with -r, lays out commons too\n", ""),
     ("v7/src/terminal/pages.rt", "(Cause::NoTool, \"help\" | \"--help\")", "(Cause::NoTool, \"--help\")"),
     ("v7/src/terminal/lines.rt", "letter == b'o'", "letter != b'o'"),
@@ -275,10 +276,11 @@ def check_random():
 # --- a hint after a fault
 
 def check_hints():
-    """A file that is not an a.out file, and one that is not an object; but not a file that cannot be opened or linked."""
+    """A file that is not an a.out file, and one that is not an object; but not a file that cannot be opened, read or linked."""
     hints = [(["size", "transcript.md"], "v7: transcript.md: bad magic number\n", "v7-explain transcript.md says what this file is\n"),
              (["ld", "-o", "out", "ab.out"], "v7: ab.out: no relocation\n", "v7-explain ab.out says what this file is\n"),
              (["nm", "missing.o"], "v7: missing.o: cannot open\n", ""),
+             (["nm", "/tmp"], "v7: /tmp: read error\n", ""),
              (["ld", "-o", "no/out", "k.o", "l.o"], "v7: no/out: cannot create\n", "")]
     for words, line, hint in hints:
         expect(f"{words}", at_terminal(words), (line + hint, "", 2))

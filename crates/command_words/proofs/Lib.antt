@@ -1,5 +1,4 @@
 pub mod WordsLemmas
-pub mod NoToolLemmas
 pub mod ToolLemmas
 mod WordExamples
 pub mod AskedLemmas

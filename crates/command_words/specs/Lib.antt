@@ -1,8 +1,6 @@
 pub mod LinkWords
 pub mod Tools
 pub mod Calls
-pub mod Reasons
-pub mod ReasonLaws
 pub mod internal
 pub mod Scripts
 pub mod ScriptAnswers

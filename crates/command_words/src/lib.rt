@@ -5,17 +5,13 @@
 mod block_reader;
 mod block_writer;
 mod fault;
-mod laws;
 mod line_reader;
 mod lines;
 mod link_words;
-mod reasons;
 mod words;
 
 pub use block_writer::BlockWriter;
 pub use fault::WordsFault;
-pub use laws::no_tool_law;
 pub use line_reader::{LineReader, Stop};
 pub use lines::Line;
-pub use reasons::{Cause, Reason, Tool, first_reason};
 pub use words::{Call, parse};

@@ -5,17 +5,61 @@ ghost use Rattle.std.specs.Prelude.{◌≤◌};
 mod lines;
 mod pages;
 mod prompts;
+mod reasons;
 
-use aout_core::show;
-use command_words::{Reason, Tool, first_reason};
 use lines::{put_hint, put_reason};
 use pages::{asked_shown, page};
 use prompts::Prompts;
+use reasons::{Tool, first_reason};
 use std::rt::Runtime;
-use v7tools::attempt;
+use std::{env, io};
+use surroundings::{show, words};
+use v7tools::{CliFault, attempt};
 
-/// Runs a command over a script, and returns its status. The line of a fault goes to standard error, and then a hint.
-fn run<H: Runtime + AllocGlobal>(rt: &H, is_typed: bool, words: Vec<String>) -> u8
+/// The arguments once more.
+fn arguments<H: Runtime + AllocGlobal>(rt: &H) -> io::Result<Vec<String>> {
+    Ok(words(rt.alloc(), env::args(rt)?)?)
+}
+
+/// Shows a page of help or the version, if that is what refused arguments ask for; or says that they are refused as
+/// `v7tools::command` does, and then why, and where help is. It returns the status.
+fn refuse<H: Runtime + AllocGlobal>(rt: &H, words: &[String]) -> u8
+    ensures { result ≤ 2 }
+{
+    let tool = words.first().and_then(|name| Tool::named(name.as_str()));
+    let reason = first_reason(words);
+    if let Some(shown) = asked_shown(words, reason) {
+        return show(rt, "v7", page(tool), shown);
+    }
+    let _ = rt.eprint("v7: usage\n");
+    if let Some(reason) = reason {
+        put_reason(rt, tool, words, reason);
+    }
+    2
+}
+
+/// Writes the line of a fault, and a hint after it; a page, if the arguments ask for that. It returns the status.
+fn report<H: Runtime + AllocGlobal>(rt: &H, fault: &CliFault) -> u8
+    ensures { result ≤ 2 }
+{
+    if matches!(fault, CliFault::Usage)
+        && let Ok(words) = arguments(rt)
+    {
+        return refuse(rt, &words);
+    }
+    let _ = eprintln!(rt; "v7: {fault}");
+    put_hint(rt, fault);
+    2
+}
+
+/// Does what the arguments ask for, for a reader at a terminal, and returns the status of the program. It is that of
+/// `v7tools::command`, but 0 if a page of help or the version is asked for, which go to standard output. `is_typed`: standard
+/// input is a terminal too, so a session has a prompt. (own choice)
+pub(crate) fn command_at_terminal<H: Runtime + AllocGlobal>(
+    rt: &H,
+    is_typed: bool,
+    words: Vec<String>,
+) -> u8
     ensures { result ≤ 2 }
 {
     let mut prompts = Prompts::new(rt);
@@ -29,44 +73,6 @@ fn run<H: Runtime + AllocGlobal>(rt: &H, is_typed: bool, words: Vec<String>) -> 
             prompts.end(status);
             status
         }
-        Err(fault) => {
-            let _ = eprintln!(rt; "v7: {fault}");
-            put_hint(rt, &fault);
-            2
-        }
-    }
-}
-
-/// The tool that the first argument names.
-fn tool_of(words: &[String]) -> Option<Tool> {
-    Tool::named(words.first()?.as_str())
-}
-
-/// Refuses arguments as `v7tools::command` does, and then says why, and where help is.
-fn refuse<H: Runtime + AllocGlobal>(rt: &H, words: &[String], reason: Reason) {
-    let tool = tool_of(words);
-    let _ = rt.eprint("v7: usage\n");
-    put_reason(rt, tool, words, reason);
-}
-
-/// Does what the arguments ask for, for a reader at a terminal, and returns the status of the program. It is that of
-/// `v7tools::command`, but 0 if a page of help or the version is asked for, which go to standard output. `is_typed`: standard
-/// input is a terminal too, so a session has a prompt. (own choice)
-pub(crate) fn command_at_terminal<H: Runtime + AllocGlobal>(
-    rt: &H,
-    is_typed: bool,
-    words: Vec<String>,
-) -> u8
-    ensures { result ≤ 2 }
-{
-    let Some(reason) = first_reason(&words) else {
-        return run(rt, is_typed, words);
-    };
-    match asked_shown(&words, reason) {
-        Some(shown) => show(rt, "v7", page(tool_of(&words)), shown),
-        None => {
-            refuse(rt, &words, reason);
-            2
-        }
+        Err(fault) => report(rt, &fault),
     }
 }

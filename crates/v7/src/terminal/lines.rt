@@ -1,6 +1,6 @@
 //! Lines after a fault: why arguments are refused, and what else looks into a file.
+use super::reasons::{Cause, Reason, Tool};
 use aout_core::ReadFault;
-use command_words::{Cause, Reason, Tool};
 use std::io;
 use std::rt::Runtime;
 use v7tools::CliFault;

@@ -1,6 +1,6 @@
 //! Pages of help.
-use aout_core::Shown;
-use command_words::{Cause, Reason, Tool};
+use super::reasons::{Cause, Reason, Tool};
+use surroundings::Shown;
 
 const ALL: &str = "usage: v7 COMMAND [ARGUMENT]...
 
@@ -117,15 +117,12 @@ pub(crate) fn page(tool: Option<Tool>) -> &'static str {
 
 /// What arguments that are refused ask to be shown: no arguments, `help`, `--help` or `--version` in place of a tool's name, or
 /// `--help` after one.
-pub(crate) fn asked_shown(words: &[String], reason: Reason) -> Option<Shown> {
-    let Some(word) = words.get(reason.at) else {
-        return if words.is_empty() {
-            Some(Shown::Help)
-        } else {
-            None
-        };
-    };
-    match (reason.cause, word.as_str()) {
+pub(crate) fn asked_shown(words: &[String], reason: Option<Reason>) -> Option<Shown> {
+    if words.is_empty() {
+        return Some(Shown::Help);
+    }
+    let reason = reason?;
+    match (reason.cause, words.get(reason.at)?.as_str()) {
         (Cause::NoTool, "help" | "--help") => Some(Shown::Help),
         (Cause::NoTool, "--version") => Some(Shown::Version),
         (Cause::NoLongOption, "--help") => Some(Shown::Help),
