@@ -25,6 +25,8 @@ REGISTERS = "r0 r1 r2 r3 r4 r5 sp pc".split()
 # operands, then names: an asterisk is for the letter b of the instruction on bytes, at 0100000 more
 TABLE = """
 -   000241 clc 000242 clv 000244 clz 000250 cln 000261 sec 000262 sev 000264 sez 000270 sen
+-   000243 clc|clv 000245 clc|clz 000246 clv|clz 000247 clc|clv|clz 000251 clc|cln 000252 clv|cln 000253 clc|clv|cln 000254 clz|cln 000255 clc|clz|cln 000256 clv|clz|cln
+-   000260 sec&sev 000263 sec|sev 000265 sec|sez 000266 sev|sez 000267 sec|sev|sez 000271 sec|sen 000272 sev|sen 000273 sec|sev|sen 000274 sez|sen 000275 sec|sez|sen 000276 sev|sez|sen
 -   000000 halt 000001 wait 000002 rti 000003 bpt 000004 iot 000005 reset 000006 rtt 000240 nop 000257 ccc 000277 scc
 -   170000 cfcc 170001 setf 170002 seti 170011 setd 170012 setl
 D   000100 jmp 000300 swab 005000 clr* 005100 com* 005200 inc* 005300 dec* 005400 neg* 005500 adc* 005600 sbc* 005700 tst*

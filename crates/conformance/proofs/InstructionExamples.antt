@@ -113,9 +113,9 @@ no_accumulator_six : line_text 0 (line_at (0o170406 ∷ []) 0) ≡ codes "170406
 unfolding row_of begins digits six_digits
 no_accumulator_six = refl
 
-condition_code : line_text 0 (line_at (0o243 ∷ []) 0) ≡ codes "000243"
+no_instruction : line_text 0 (line_at (0o210 ∷ []) 0) ≡ codes "000210"
 unfolding row_of begins digits six_digits
-condition_code = refl
+no_instruction = refl
 
 cut_off : lines_text 0 (lines (0o12737 ∷ 1 ∷ [])) ≡ codes "012737\nwait\n"
 unfolding row_of begins digits six_digits

@@ -12,6 +12,18 @@ no_operands : lines_text 0 (lines (0o000241 ∷ 0o000242 ∷ 0o000244 ∷ 0o0002
 unfolding row_of begins digits
 no_operands = refl
 
+condition_codes_cleared : lines_text 0
+    (lines (0o000243 ∷ 0o000245 ∷ 0o000246 ∷ 0o000247 ∷ 0o000251 ∷ 0o000252 ∷ 0o000253 ∷ 0o000254 ∷ 0o000255 ∷ 0o000256 ∷ []))
+    ≡ codes "clc|clv\nclc|clz\nclv|clz\nclc|clv|clz\nclc|cln\nclv|cln\nclc|clv|cln\nclz|cln\nclc|clz|cln\nclv|clz|cln\n"
+unfolding row_of begins digits
+condition_codes_cleared = refl
+
+condition_codes_set : lines_text 0
+    (lines (0o000260 ∷ 0o000263 ∷ 0o000265 ∷ 0o000266 ∷ 0o000267 ∷ 0o000271 ∷ 0o000272 ∷ 0o000273 ∷ 0o000274 ∷ 0o000275 ∷ 0o000276 ∷ []))
+    ≡ codes "sec&sev\nsec|sev\nsec|sez\nsev|sez\nsec|sev|sez\nsec|sen\nsev|sen\nsec|sev|sen\nsez|sen\nsec|sez|sen\nsev|sez|sen\n"
+unfolding row_of begins digits
+condition_codes_set = refl
+
 no_operands_of_the_machine : lines_text 0
     (lines (0o000000 ∷ 0o000001 ∷ 0o000002 ∷ 0o000003 ∷ 0o000004 ∷ 0o000005 ∷ 0o000006 ∷ 0o000240 ∷ 0o000257 ∷ 0o000277 ∷ []))
     ≡ codes "halt\nwait\nrti\nbpt\niot\nreset\nrtt\nnop\nccc\nscc\n"

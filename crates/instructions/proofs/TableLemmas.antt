@@ -61,7 +61,7 @@ Each (r ∷ rows) = Sound r × Each rows
 
 each_sound : Each ROWS
 unfolding layout
-each_sound = (record { letter = λ rest. refl; blank = refl; clean = refl; alone = λ e. refl; floating = λ e. cc; accumulator = λ e. cc; ldf = λ e. absurd cc; sys = λ e. cc; found = λ a e. refl }, (record { letter = λ rest. refl; blank = refl; clean = refl; alone = λ e. refl; floating = λ e. cc; accumulator = λ e. cc; ldf = λ e. absurd cc; sys = λ e. cc; found = λ a e. refl }, (record { letter = λ rest. refl; blank = refl; clean = refl; alone = λ e. refl; floating = λ e. cc; accumulator = λ e. cc; ldf = λ e. absurd cc; sys = λ e. cc; found = λ a e. refl }, (record { letter = λ rest. refl; blank = refl; clean = refl; alone = λ e. refl; floating = λ e. cc; accumulator = λ e. cc; ldf = λ e. absurd cc; sys = λ e. cc; found = λ a e. refl }, (record { letter = λ rest. refl; blank = refl; clean = refl; alone = λ e. refl; floating = λ e. cc; accumulator = λ e. cc; ldf = λ e. absurd cc; sys = λ e. cc; found = λ a e. refl }, (record { letter = λ rest. refl; blank = refl; clean = refl; alone = λ e. refl; floating = λ e. cc; accumulator = λ e. cc; ldf = λ e. absurd cc; sys = λ e. cc; found = λ a e. refl }, (record { letter = λ rest. refl; blank = refl; clean = refl; alone = λ e. refl; floating = λ e. cc; accumulator = λ e. cc; ldf = λ e. absurd cc; sys = λ e. cc; found = λ a e. refl }, (record { letter = λ rest. refl; blank = refl; clean = refl; alone = λ e. cc; floating = λ e. cc; accumulator = λ e. cc; ldf = λ e. absurd cc; sys = λ e. cc; found = λ a e. refl }, (record { letter = λ rest. refl; blank = refl; clean = refl; alone = λ e. cc; floating = λ e. cc; accumulator = λ e. cc; ldf = λ e. absurd cc; sys = λ e. cc; found = λ a e. refl }, (record { letter = λ rest. refl; blank = refl; clean = refl; alone = λ e. cc; floating = λ e. cc; accumulator = λ e. cc; ldf = λ e. absurd cc; sys = λ e. cc; found = λ a e. refl }, (record { letter = λ rest. refl; blank = refl; clean = refl; alone = λ e. refl; floating = λ e. cc; accumulator = λ e. cc; ldf = λ e. absurd cc; sys = λ e. cc; found = λ a e. refl }, (record { letter = λ rest. refl; blank = refl; clean = refl; alone = λ e. refl; floating = λ e. cc; accumulator = λ e. cc; ldf = λ e. absurd cc; sys = λ e. cc; found = λ a e. refl }, (record { letter = λ rest. refl; blank = refl; clean = refl; alone = λ e. refl; floating = λ e. cc; accumulator = λ e. cc; ldf = λ e. absurd cc; sys = λ e. cc; found = λ a e. refl }, (record { letter = λ rest. refl; blank = refl; clean = refl; alone = λ e. refl; floating = λ e. cc; accumulator = λ e. cc; ldf = λ e. absurd cc; sys = λ e. cc; found = λ a e. refl }, (record { letter = λ rest. refl; blank = refl; clean = refl; alone = λ e. refl; floating = λ e. cc; accumulator = λ e. cc; ldf = λ e. absurd cc; sys = λ e. cc; found = λ a e. refl }, (record { letter = λ rest. refl; blank = refl; clean = refl; alone = λ e. refl; floating = λ e. cc; accumulator = λ e. cc; ldf = λ e. absurd cc; sys = λ e. cc; found = λ a e. refl }, (record { letter = λ rest. refl; blank = refl; clean = refl; alone = λ e. refl; floating = λ e. cc; accumulator = λ e. cc; ldf = λ e. absurd cc; sys = λ e. cc; found = λ a e. refl }, (record { letter = λ rest. refl; blank = refl; clean = refl; alone = λ e. refl; floating = λ e. cc; accumulator = λ e. cc; ldf = λ e. absurd cc; sys = λ e. cc; found = λ a e. refl }, (record { letter = λ rest. refl; blank = refl; clean = refl; alone = λ e. refl; floating = λ e. cc; accumulator = λ e. cc; ldf = λ e. absurd cc; sys = λ e. cc; found = λ a e. refl }, (record { letter = λ rest. refl; blank = refl; clean = refl; alone = λ e. refl; floating = λ e. cc; accumulator = λ e. cc; ldf = λ e. absurd cc; sys = λ e. cc; found = λ a e. refl }, (record { letter = λ rest. refl; blank = refl; clean = refl; alone = λ e. refl; floating = λ e. cc; accumulator = λ e. cc; ldf = λ e. absurd cc; sys = λ e. cc; found = λ a e. refl }, (record { letter = λ rest. refl; blank = refl; clean = refl; alone = λ e. cc; floating = λ e. cc; accumulator = λ e. cc; ldf = λ e. absurd cc; sys = λ e. cc; found = λ a e. refl }, (record { letter = λ rest. refl; blank = refl; clean = refl; alone = λ e. cc; floating = λ e. cc; accumulator = λ e. cc; ldf = λ e. absurd cc; sys = λ e. cc; found = λ a e. refl }, (record { letter = λ rest. refl; blank = refl; clean = refl; alone = λ e. cc; floating = λ e. cc; accumulator = λ e. cc; ldf = λ e. absurd cc; sys = λ e. cc; found = λ a e. refl }, (record { letter = λ rest. refl; blank = refl; clean = refl; alone = λ e. cc; floating = λ e. cc; accumulator = λ e. cc; ldf = λ e. absurd cc; sys = λ e. cc; found = λ a e. refl }, (record { letter = λ rest. refl; blank = refl; clean = refl; alone = λ e. cc; floating = λ e. cc; accumulator = λ e. cc; ldf = λ e. absurd cc; sys = λ e. cc; found = λ a e. refl }, (record { letter = λ rest. refl; blank = refl; clean = refl; alone = λ e. cc; floating = λ e. cc; accumulator = λ e. cc; ldf = λ e. absurd cc; sys = λ e. cc; found = λ a e. refl }, (record { letter = λ rest. refl; blank = refl; clean = refl; alone = λ e. cc; floating = λ e. cc; accumulator = λ e. cc; ldf = λ e. absurd cc; sys = λ e. cc; found = λ a e. refl }, (record { letter = λ rest. refl; blank = refl; clean = refl; alone = λ e. cc; floating = λ e. cc; accumulator = λ e. cc; ldf = λ e. absurd cc; sys = λ e. cc; found = λ a e. refl }, (record { letter = λ rest. refl; blank = refl; clean = refl; alone = λ e. cc; floating = λ e. cc; accumulator = λ e. cc; ldf = λ e. absurd cc; sys = λ e. cc; found = λ a e. refl }, (record { letter = λ rest. refl; blank = refl; clean = refl; alone = λ e. cc; floating = λ e. cc; accumulator = λ e. cc; ldf = λ e. absurd cc; sys = λ e. cc; found = λ a e. refl }, (record { letter = λ rest. refl; blank = refl; clean = refl; alone = λ e. cc; floating = λ e. cc; accumulator = λ e. cc; ldf = λ e. absurd cc; sys = λ e. cc; found = λ a e. refl }, (record { letter = λ rest. refl; blank = refl; clean = refl; alone = λ e. cc; floating = λ e. cc; accumulator = λ e. cc; ldf = λ e. absurd cc; sys = λ e. cc; found = λ a e. refl }, (record { letter = λ rest. refl; blank = refl; clean = refl; alone = λ e. cc; floating = λ e. cc; accumulator = λ e. cc; ldf = λ e. absurd cc; sys = λ e. cc; found = λ a e. refl }, (record { letter = λ rest. refl; blank = refl; clean = refl; alone = λ e. cc; floating = λ e. cc; accumulator = λ e. cc; ldf = λ e. absurd cc; sys = λ e. cc; found = λ a e. refl }, (record { letter = λ rest. refl; blank = refl; clean = refl; alone = λ e. cc; floating = λ e. cc; accumulator = λ e. cc; ldf = λ e. absurd cc; sys = λ e. cc; found = λ a e. refl }, (record { letter = λ rest. refl; blank = refl; clean = refl; alone = λ e. cc; floating = λ e. cc; accumulator = λ e. cc; ldf = λ e. absurd cc; sys = λ e. cc; found = λ a e. refl }, (record { letter = λ rest. refl; blank = refl; clean = refl; alone = λ e. cc; floating = λ e. cc; accumulator = λ e. cc; ldf = λ e. absurd cc; sys = λ e. cc; found = λ a e. refl }, (record { letter = λ rest. refl; blank = refl; clean = refl; alone = λ e. cc; floating = λ e. cc; accumulator = λ e. cc; ldf = λ e. absurd cc; sys = λ e. cc; found = λ a e. refl }, (record { letter = λ rest. refl; blank = refl; clean = refl; alone = λ e. cc; floating = λ e. cc; accumulator = λ e. cc; ldf = λ e. absurd cc; sys = λ e. cc; found = λ a e. refl }, (record { letter = λ rest. refl; blank = refl; clean = refl; alone = λ e. cc; floating = λ e. cc; accumulator = λ e. cc; ldf = λ e. absurd cc; sys = λ e. cc; found = λ a e. refl }, (record { letter = λ rest. refl; blank = refl; clean = refl; alone = λ e. cc; floating = λ e. cc; accumulator = λ e. cc; ldf = λ e. absurd cc; sys = λ e. cc; found = λ a e. refl }, (record { letter = λ rest. refl; blank = refl; clean = refl; alone = λ e. cc; floating = λ e. cc; accumulator = λ e. cc; ldf = λ e. absurd cc; sys = λ e. cc; found = λ a e. refl }, (record { letter = λ rest. refl; blank = refl; clean = refl; alone = λ e. cc; floating = λ e. cc; accumulator = λ e. cc; ldf = λ e. absurd cc; sys = λ e. cc; found = λ a e. refl }, (record { letter = λ rest. refl; blank = refl; clean = refl; alone = λ e. cc; floating = λ e. cc; accumulator = λ e. cc; ldf = λ e. absurd cc; sys = λ e. cc; found = λ a e. refl }, (record { letter = λ rest. refl; blank = refl; clean = refl; alone = λ e. cc; floating = λ e. cc; accumulator = λ e. cc; ldf = λ e. absurd cc; sys = λ e. cc; found = λ a e. refl }, (record { letter = λ rest. refl; blank = refl; clean = refl; alone = λ e. cc; floating = λ e. cc; accumulator = λ e. cc; ldf = λ e. absurd cc; sys = λ e. cc; found = λ a e. refl }, (record { letter = λ rest. refl; blank = refl; clean = refl; alone = λ e. cc; floating = λ e. cc; accumulator = λ e. cc; ldf = λ e. absurd cc; sys = λ e. cc; found = λ a e. refl }, (record { letter = λ rest. refl; blank = refl; clean = refl; alone = λ e. cc; floating = λ e. cc; accumulator = λ e. cc; ldf = λ e. absurd cc; sys = λ e. cc; found = λ a e. refl }, (record { letter = λ rest. refl; blank = refl; clean = refl; alone = λ e. cc; floating = λ e. cc; accumulator = λ e. cc; ldf = λ e. absurd cc; sys = λ e. cc; found = λ a e. refl }, (record { letter = λ rest. refl; blank = refl; clean = refl; alone = λ e. cc; floating = λ e. cc; accumulator = λ e. cc; ldf = λ e. absurd cc; sys = λ e. cc; found = λ a e. refl }, (record { letter = λ rest. refl; blank = refl; clean = refl; alone = λ e. cc; floating = λ e. cc; accumulator = λ e. cc; ldf = λ e. absurd cc; sys = λ e. cc; found = λ a e. refl }, (record { letter = λ rest. refl; blank = refl; clean = refl; alone = λ e. cc; floating = λ e. cc; accumulator = λ e. cc; ldf = λ e. absurd cc; sys = λ e. cc; found = λ a e. refl }, (record { letter = λ rest. refl; blank = refl; clean = refl; alone = λ e. cc; floating = λ e. cc; accumulator = λ e. cc; ldf = λ e. absurd cc; sys = λ e. cc; found = λ a e. refl }, (record { letter = λ rest. refl; blank = refl; clean = refl; alone = λ e. cc; floating = λ e. cc; accumulator = λ e. cc; ldf = λ e. absurd cc; sys = λ e. cc; found = λ a e. refl }, (record { letter = λ rest. refl; blank = refl; clean = refl; alone = λ e. cc; floating = λ e. cc; accumulator = λ e. cc; ldf = λ e. absurd cc; sys = λ e. cc; found = λ a e. refl }, (record { letter = λ rest. refl; blank = refl; clean = refl; alone = λ e. cc; floating = λ e. cc; accumulator = λ e. cc; ldf = λ e. absurd cc; sys = λ e. cc; found = λ a e. refl }, (record { letter = λ rest. refl; blank = refl; clean = refl; alone = λ e. cc; floating = λ e. cc; accumulator = λ e. cc; ldf = λ e. absurd cc; sys = λ e. cc; found = λ a e. refl }, (record { letter = λ rest. refl; blank = refl; clean = refl; alone = λ e. cc; floating = λ e. cc; accumulator = λ e. cc; ldf = λ e. absurd cc; sys = λ e. cc; found = λ a e. refl }, (record { letter = λ rest. refl; blank = refl; clean = refl; alone = λ e. cc; floating = λ e. cc; accumulator = λ e. cc; ldf = λ e. absurd cc; sys = λ e. cc; found = λ a e. refl }, (record { letter = λ rest. refl; blank = refl; clean = refl; alone = λ e. cc; floating = λ e. cc; accumulator = λ e. cc; ldf = λ e. absurd cc; sys = λ e. cc; found = λ a e. refl }, (record { letter = λ rest. refl; blank = refl; clean = refl; alone = λ e. cc; floating = λ e. cc; accumulator = λ e. cc; ldf = λ e. absurd cc; sys = λ e. cc; found = λ a e. refl }, (record { letter = λ rest. refl; blank = refl; clean = refl; alone = λ e. cc; floating = λ e. cc; accumulator = λ e. cc; ldf = λ e. absurd cc; sys = λ e. cc; found = λ a e. refl }, (record { letter = λ rest. refl; blank = refl; clean = refl; alone = λ e. cc; floating = λ e. cc; accumulator = λ e. cc; ldf = λ e. absurd cc; sys = λ e. cc; found = λ a e. refl }, (record { letter = λ rest. refl; blank = refl; clean = refl; alone = λ e. cc; floating = λ e. cc; accumulator = λ e. cc; ldf = λ e. absurd cc; sys = λ e. cc; found = λ a e. refl }, (record { letter = λ rest. refl; blank = refl; clean = refl; alone = λ e. cc; floating = λ e. cc; accumulator = λ e. cc; ldf = λ e. absurd cc; sys = λ e. cc; found = λ a e. refl }, (record { letter = λ rest. refl; blank = refl; clean = refl; alone = λ e. cc; floating = λ e. cc; accumulator = λ e. cc; ldf = λ e. absurd cc; sys = λ e. cc; found = λ a e. refl }, (record { letter = λ rest. refl; blank = refl; clean = refl; alone = λ e. cc; floating = λ e. cc; accumulator = λ e. cc; ldf = λ e. absurd cc; sys = λ e. cc; found = λ a e. refl }, (record { letter = λ rest. refl; blank = refl; clean = refl; alone = λ e. cc; floating = λ e. cc; accumulator = λ e. cc; ldf = λ e. absurd cc; sys = λ e. cc; found = λ a e. refl }, (record { letter = λ rest. refl; blank = refl; clean = refl; alone = λ e. cc; floating = λ e. cc; accumulator = λ e. cc; ldf = λ e. absurd cc; sys = λ e. cc; found = λ a e. refl }, (record { letter = λ rest. refl; blank = refl; clean = refl; alone = λ e. cc; floating = λ e. cc; accumulator = λ e. cc; ldf = λ e. absurd cc; sys = λ e. cc; found = λ a e. refl }, (record { letter = λ rest. refl; blank = refl; clean = refl; alone = λ e. cc; floating = λ e. cc; accumulator = λ e. cc; ldf = λ e. absurd cc; sys = λ e. cc; found = λ a e. refl }, (record { letter = λ rest. refl; blank = refl; clean = refl; alone = λ e. cc; floating = λ e. cc; accumulator = λ e. cc; ldf = λ e. absurd cc; sys = λ e. cc; found = λ a e. refl }, (record { letter = λ rest. refl; blank = refl; clean = refl; alone = λ e. cc; floating = λ e. cc; accumulator = λ e. cc; ldf = λ e. absurd cc; sys = λ e. cc; found = λ a e. refl }, (record { letter = λ rest. refl; blank = refl; clean = refl; alone = λ e. cc; floating = λ e. cc; accumulator = λ e. cc; ldf = λ e. absurd cc; sys = λ e. cc; found = λ a e. refl }, (record { letter = λ rest. refl; blank = refl; clean = refl; alone = λ e. cc; floating = λ e. cc; accumulator = λ e. cc; ldf = λ e. absurd cc; sys = λ e. cc; found = λ a e. refl }, (record { letter = λ rest. refl; blank = refl; clean = refl; alone = λ e. cc; floating = λ e. cc; accumulator = λ e. cc; ldf = λ e. absurd cc; sys = λ e. cc; found = λ a e. refl }, (record { letter = λ rest. refl; blank = refl; clean = refl; alone = λ e. cc; floating = λ e. cc; accumulator = λ e. cc; ldf = λ e. absurd cc; sys = λ e. cc; found = λ a e. refl }, (record { letter = λ rest. refl; blank = refl; clean = refl; alone = λ e. cc; floating = λ e. cc; accumulator = λ e. cc; ldf = λ e. absurd cc; sys = λ e. cc; found = λ a e. refl }, (record { letter = λ rest. refl; blank = refl; clean = refl; alone = λ e. cc; floating = λ e. cc; accumulator = λ e. cc; ldf = λ e. absurd cc; sys = λ e. cc; found = λ a e. refl }, (record { letter = λ rest. refl; blank = refl; clean = refl; alone = λ e. cc; floating = λ e. cc; accumulator = λ e. cc; ldf = λ e. absurd cc; sys = λ e. cc; found = λ a e. refl }, (record { letter = λ rest. refl; blank = refl; clean = refl; alone = λ e. cc; floating = λ e. cc; accumulator = λ e. cc; ldf = λ e. absurd cc; sys = λ e. cc; found = λ a e. refl }, (record { letter = λ rest. refl; blank = refl; clean = refl; alone = λ e. cc; floating = λ e. cc; accumulator = λ e. cc; ldf = λ e. absurd cc; sys = λ e. cc; found = λ a e. refl }, (record { letter = λ rest. refl; blank = refl; clean = refl; alone = λ e. cc; floating = λ e. cc; accumulator = λ e. cc; ldf = λ e. absurd cc; sys = λ e. cc; found = λ a e. refl }, (record { letter = λ rest. refl; blank = refl; clean = refl; alone = λ e. cc; floating = λ e. cc; accumulator = λ e. cc; ldf = λ e. absurd cc; sys = λ e. cc; found = λ a e. refl }, (record { letter = λ rest. refl; blank = refl; clean = refl; alone = λ e. cc; floating = λ e. cc; accumulator = λ e. cc; ldf = λ e. absurd cc; sys = λ e. cc; found = λ a e. refl }, (record { letter = λ rest. refl; blank = refl; clean = refl; alone = λ e. cc; floating = λ e. cc; accumulator = λ e. cc; ldf = λ e. absurd cc; sys = λ e. cc; found = λ a e. refl }, (record { letter = λ rest. refl; blank = refl; clean = refl; alone = λ e. cc; floating = λ e. cc; accumulator = λ e. cc; ldf = λ e. absurd cc; sys = λ e. cc; found = λ a e. refl }, (record { letter = λ rest. refl; blank = refl; clean = refl; alone = λ e. refl; floating = λ e. cc; accumulator = λ e. cc; ldf = λ e. absurd cc; sys = λ e. cc; found = λ a e. refl }, (record { letter = λ rest. refl; blank = refl; clean = refl; alone = λ e. refl; floating = λ e. cc; accumulator = λ e. cc; ldf = λ e. absurd cc; sys = λ e. cc; found = λ a e. refl }, (record { letter = λ rest. refl; blank = refl; clean = refl; alone = λ e. refl; floating = λ e. cc; accumulator = λ e. cc; ldf = λ e. absurd cc; sys = λ e. cc; found = λ a e. refl }, (record { letter = λ rest. refl; blank = refl; clean = refl; alone = λ e. refl; floating = λ e. cc; accumulator = λ e. cc; ldf = λ e. absurd cc; sys = λ e. cc; found = λ a e. refl }, (record { letter = λ rest. refl; blank = refl; clean = refl; alone = λ e. refl; floating = λ e. cc; accumulator = λ e. cc; ldf = λ e. absurd cc; sys = λ e. cc; found = λ a e. refl }, (record { letter = λ rest. refl; blank = refl; clean = refl; alone = λ e. cc; floating = λ e. cc; accumulator = λ e. cc; ldf = λ e. absurd cc; sys = λ e. cc; found = λ a e. refl }, (record { letter = λ rest. refl; blank = refl; clean = refl; alone = λ e. cc; floating = λ e. cc; accumulator = λ e. cc; ldf = λ e. absurd cc; sys = λ e. cc; found = λ a e. refl }, (record { letter = λ rest. refl; blank = refl; clean = refl; alone = λ e. cc; floating = λ e. cc; accumulator = λ e. cc; ldf = λ e. absurd cc; sys = λ e. cc; found = λ a e. refl }, (record { letter = λ rest. refl; blank = refl; clean = refl; alone = λ e. cc; floating = λ e. cc; accumulator = λ e. cc; ldf = λ e. absurd cc; sys = λ e. cc; found = λ a e. refl }, (record { letter = λ rest. refl; blank = refl; clean = refl; alone = λ e. cc; floating = λ e. cc; accumulator = λ e. cc; ldf = λ e. absurd cc; sys = λ e. cc; found = λ a e. refl }, (record { letter = λ rest. refl; blank = refl; clean = refl; alone = λ e. cc; floating = λ e. cc; accumulator = λ e. cc; ldf = λ e. absurd cc; sys = λ e. cc; found = λ a e. refl }, (record { letter = λ rest. refl; blank = refl; clean = refl; alone = λ e. cc; floating = λ e. cc; accumulator = λ e. cc; ldf = λ e. absurd cc; sys = λ e. cc; found = λ a e. refl }, (record { letter = λ rest. refl; blank = refl; clean = refl; alone = λ e. cc; floating = λ e. cc; accumulator = λ e. cc; ldf = λ e. absurd cc; sys = λ e. cc; found = λ a e. refl }, (record { letter = λ rest. refl; blank = refl; clean = refl; alone = λ e. cc; floating = λ e. cc; accumulator = λ e. cc; ldf = λ e. absurd cc; sys = λ e. cc; found = λ a e. refl }, (record { letter = λ rest. refl; blank = refl; clean = refl; alone = λ e. cc; floating = λ e. cc; accumulator = λ e. cc; ldf = λ e. absurd cc; sys = λ e. cc; found = λ a e. refl }, (record { letter = λ rest. refl; blank = refl; clean = refl; alone = λ e. cc; floating = λ e. refl; accumulator = λ e. cc; ldf = λ e a. refl; sys = λ e. cc; found = λ a e. ap (layout (codes "movf")) e }, (record { letter = λ rest. refl; blank = refl; clean = refl; alone = λ e. cc; floating = λ e. cc; accumulator = λ e. cc; ldf = λ e. absurd cc; sys = λ e. cc; found = λ a e. refl }, (record { letter = λ rest. refl; blank = refl; clean = refl; alone = λ e. cc; floating = λ e. cc; accumulator = λ e. cc; ldf = λ e. absurd cc; sys = λ e. cc; found = λ a e. refl }, (record { letter = λ rest. refl; blank = refl; clean = refl; alone = λ e. cc; floating = λ e. cc; accumulator = λ e. refl; ldf = λ e. absurd cc; sys = λ e. cc; found = λ a e. ap (layout (codes "movf")) e }, (record { letter = λ rest. refl; blank = refl; clean = refl; alone = λ e. cc; floating = λ e. cc; accumulator = λ e. cc; ldf = λ e. absurd cc; sys = λ e. cc; found = λ a e. refl }, (record { letter = λ rest. refl; blank = refl; clean = refl; alone = λ e. cc; floating = λ e. cc; accumulator = λ e. cc; ldf = λ e. absurd cc; sys = λ e. cc; found = λ a e. refl }, (record { letter = λ rest. refl; blank = refl; clean = refl; alone = λ e. cc; floating = λ e. cc; accumulator = λ e. cc; ldf = λ e. absurd cc; sys = λ e. cc; found = λ a e. refl }, (record { letter = λ rest. refl; blank = refl; clean = refl; alone = λ e. cc; floating = λ e. cc; accumulator = λ e. cc; ldf = λ e. absurd cc; sys = λ e. cc; found = λ a e. refl }, (record { letter = λ rest. refl; blank = refl; clean = refl; alone = λ e. cc; floating = λ e. cc; accumulator = λ e. cc; ldf = λ e. absurd cc; sys = λ e. cc; found = λ a e. refl }, (record { letter = λ rest. refl; blank = refl; clean = refl; alone = λ e. cc; floating = λ e. cc; accumulator = λ e. cc; ldf = λ e. absurd cc; sys = λ e. cc; found = λ a e. refl }, (record { letter = λ rest. refl; blank = refl; clean = refl; alone = λ e. cc; floating = λ e. cc; accumulator = λ e. cc; ldf = λ e. absurd cc; sys = λ e. cc; found = λ a e. refl }, tt))))))))))))))))))))))))))))))))))))))))))))))))))))))))))))))))))))))))))))))))))))))))))))))))))))))))))))))))))
+each_sound = (record { letter = λ rest. refl; blank = refl; clean = refl; alone = λ e. refl; floating = λ e. cc; accumulator = λ e. cc; ldf = λ e. absurd cc; sys = λ e. cc; found = λ a e. refl }, (record { letter = λ rest. refl; blank = refl; clean = refl; alone = λ e. refl; floating = λ e. cc; accumulator = λ e. cc; ldf = λ e. absurd cc; sys = λ e. cc; found = λ a e. refl }, (record { letter = λ rest. refl; blank = refl; clean = refl; alone = λ e. refl; floating = λ e. cc; accumulator = λ e. cc; ldf = λ e. absurd cc; sys = λ e. cc; found = λ a e. refl }, (record { letter = λ rest. refl; blank = refl; clean = refl; alone = λ e. refl; floating = λ e. cc; accumulator = λ e. cc; ldf = λ e. absurd cc; sys = λ e. cc; found = λ a e. refl }, (record { letter = λ rest. refl; blank = refl; clean = refl; alone = λ e. refl; floating = λ e. cc; accumulator = λ e. cc; ldf = λ e. absurd cc; sys = λ e. cc; found = λ a e. refl }, (record { letter = λ rest. refl; blank = refl; clean = refl; alone = λ e. refl; floating = λ e. cc; accumulator = λ e. cc; ldf = λ e. absurd cc; sys = λ e. cc; found = λ a e. refl }, (record { letter = λ rest. refl; blank = refl; clean = refl; alone = λ e. refl; floating = λ e. cc; accumulator = λ e. cc; ldf = λ e. absurd cc; sys = λ e. cc; found = λ a e. refl }, (record { letter = λ rest. refl; blank = refl; clean = refl; alone = λ e. cc; floating = λ e. cc; accumulator = λ e. cc; ldf = λ e. absurd cc; sys = λ e. cc; found = λ a e. refl }, (record { letter = λ rest. refl; blank = refl; clean = refl; alone = λ e. cc; floating = λ e. cc; accumulator = λ e. cc; ldf = λ e. absurd cc; sys = λ e. cc; found = λ a e. refl }, (record { letter = λ rest. refl; blank = refl; clean = refl; alone = λ e. cc; floating = λ e. cc; accumulator = λ e. cc; ldf = λ e. absurd cc; sys = λ e. cc; found = λ a e. refl }, (record { letter = λ rest. refl; blank = refl; clean = refl; alone = λ e. refl; floating = λ e. cc; accumulator = λ e. cc; ldf = λ e. absurd cc; sys = λ e. cc; found = λ a e. refl }, (record { letter = λ rest. refl; blank = refl; clean = refl; alone = λ e. refl; floating = λ e. cc; accumulator = λ e. cc; ldf = λ e. absurd cc; sys = λ e. cc; found = λ a e. refl }, (record { letter = λ rest. refl; blank = refl; clean = refl; alone = λ e. refl; floating = λ e. cc; accumulator = λ e. cc; ldf = λ e. absurd cc; sys = λ e. cc; found = λ a e. refl }, (record { letter = λ rest. refl; blank = refl; clean = refl; alone = λ e. refl; floating = λ e. cc; accumulator = λ e. cc; ldf = λ e. absurd cc; sys = λ e. cc; found = λ a e. refl }, (record { letter = λ rest. refl; blank = refl; clean = refl; alone = λ e. refl; floating = λ e. cc; accumulator = λ e. cc; ldf = λ e. absurd cc; sys = λ e. cc; found = λ a e. refl }, (record { letter = λ rest. refl; blank = refl; clean = refl; alone = λ e. refl; floating = λ e. cc; accumulator = λ e. cc; ldf = λ e. absurd cc; sys = λ e. cc; found = λ a e. refl }, (record { letter = λ rest. refl; blank = refl; clean = refl; alone = λ e. refl; floating = λ e. cc; accumulator = λ e. cc; ldf = λ e. absurd cc; sys = λ e. cc; found = λ a e. refl }, (record { letter = λ rest. refl; blank = refl; clean = refl; alone = λ e. refl; floating = λ e. cc; accumulator = λ e. cc; ldf = λ e. absurd cc; sys = λ e. cc; found = λ a e. refl }, (record { letter = λ rest. refl; blank = refl; clean = refl; alone = λ e. refl; floating = λ e. cc; accumulator = λ e. cc; ldf = λ e. absurd cc; sys = λ e. cc; found = λ a e. refl }, (record { letter = λ rest. refl; blank = refl; clean = refl; alone = λ e. refl; floating = λ e. cc; accumulator = λ e. cc; ldf = λ e. absurd cc; sys = λ e. cc; found = λ a e. refl }, (record { letter = λ rest. refl; blank = refl; clean = refl; alone = λ e. refl; floating = λ e. cc; accumulator = λ e. cc; ldf = λ e. absurd cc; sys = λ e. cc; found = λ a e. refl }, (record { letter = λ rest. refl; blank = refl; clean = refl; alone = λ e. refl; floating = λ e. cc; accumulator = λ e. cc; ldf = λ e. absurd cc; sys = λ e. cc; found = λ a e. refl }, (record { letter = λ rest. refl; blank = refl; clean = refl; alone = λ e. refl; floating = λ e. cc; accumulator = λ e. cc; ldf = λ e. absurd cc; sys = λ e. cc; found = λ a e. refl }, (record { letter = λ rest. refl; blank = refl; clean = refl; alone = λ e. refl; floating = λ e. cc; accumulator = λ e. cc; ldf = λ e. absurd cc; sys = λ e. cc; found = λ a e. refl }, (record { letter = λ rest. refl; blank = refl; clean = refl; alone = λ e. refl; floating = λ e. cc; accumulator = λ e. cc; ldf = λ e. absurd cc; sys = λ e. cc; found = λ a e. refl }, (record { letter = λ rest. refl; blank = refl; clean = refl; alone = λ e. refl; floating = λ e. cc; accumulator = λ e. cc; ldf = λ e. absurd cc; sys = λ e. cc; found = λ a e. refl }, (record { letter = λ rest. refl; blank = refl; clean = refl; alone = λ e. refl; floating = λ e. cc; accumulator = λ e. cc; ldf = λ e. absurd cc; sys = λ e. cc; found = λ a e. refl }, (record { letter = λ rest. refl; blank = refl; clean = refl; alone = λ e. refl; floating = λ e. cc; accumulator = λ e. cc; ldf = λ e. absurd cc; sys = λ e. cc; found = λ a e. refl }, (record { letter = λ rest. refl; blank = refl; clean = refl; alone = λ e. refl; floating = λ e. cc; accumulator = λ e. cc; ldf = λ e. absurd cc; sys = λ e. cc; found = λ a e. refl }, (record { letter = λ rest. refl; blank = refl; clean = refl; alone = λ e. refl; floating = λ e. cc; accumulator = λ e. cc; ldf = λ e. absurd cc; sys = λ e. cc; found = λ a e. refl }, (record { letter = λ rest. refl; blank = refl; clean = refl; alone = λ e. refl; floating = λ e. cc; accumulator = λ e. cc; ldf = λ e. absurd cc; sys = λ e. cc; found = λ a e. refl }, (record { letter = λ rest. refl; blank = refl; clean = refl; alone = λ e. refl; floating = λ e. cc; accumulator = λ e. cc; ldf = λ e. absurd cc; sys = λ e. cc; found = λ a e. refl }, (record { letter = λ rest. refl; blank = refl; clean = refl; alone = λ e. refl; floating = λ e. cc; accumulator = λ e. cc; ldf = λ e. absurd cc; sys = λ e. cc; found = λ a e. refl }, (record { letter = λ rest. refl; blank = refl; clean = refl; alone = λ e. refl; floating = λ e. cc; accumulator = λ e. cc; ldf = λ e. absurd cc; sys = λ e. cc; found = λ a e. refl }, (record { letter = λ rest. refl; blank = refl; clean = refl; alone = λ e. refl; floating = λ e. cc; accumulator = λ e. cc; ldf = λ e. absurd cc; sys = λ e. cc; found = λ a e. refl }, (record { letter = λ rest. refl; blank = refl; clean = refl; alone = λ e. refl; floating = λ e. cc; accumulator = λ e. cc; ldf = λ e. absurd cc; sys = λ e. cc; found = λ a e. refl }, (record { letter = λ rest. refl; blank = refl; clean = refl; alone = λ e. refl; floating = λ e. cc; accumulator = λ e. cc; ldf = λ e. absurd cc; sys = λ e. cc; found = λ a e. refl }, (record { letter = λ rest. refl; blank = refl; clean = refl; alone = λ e. refl; floating = λ e. cc; accumulator = λ e. cc; ldf = λ e. absurd cc; sys = λ e. cc; found = λ a e. refl }, (record { letter = λ rest. refl; blank = refl; clean = refl; alone = λ e. refl; floating = λ e. cc; accumulator = λ e. cc; ldf = λ e. absurd cc; sys = λ e. cc; found = λ a e. refl }, (record { letter = λ rest. refl; blank = refl; clean = refl; alone = λ e. refl; floating = λ e. cc; accumulator = λ e. cc; ldf = λ e. absurd cc; sys = λ e. cc; found = λ a e. refl }, (record { letter = λ rest. refl; blank = refl; clean = refl; alone = λ e. refl; floating = λ e. cc; accumulator = λ e. cc; ldf = λ e. absurd cc; sys = λ e. cc; found = λ a e. refl }, (record { letter = λ rest. refl; blank = refl; clean = refl; alone = λ e. refl; floating = λ e. cc; accumulator = λ e. cc; ldf = λ e. absurd cc; sys = λ e. cc; found = λ a e. refl }, (record { letter = λ rest. refl; blank = refl; clean = refl; alone = λ e. cc; floating = λ e. cc; accumulator = λ e. cc; ldf = λ e. absurd cc; sys = λ e. cc; found = λ a e. refl }, (record { letter = λ rest. refl; blank = refl; clean = refl; alone = λ e. cc; floating = λ e. cc; accumulator = λ e. cc; ldf = λ e. absurd cc; sys = λ e. cc; found = λ a e. refl }, (record { letter = λ rest. refl; blank = refl; clean = refl; alone = λ e. cc; floating = λ e. cc; accumulator = λ e. cc; ldf = λ e. absurd cc; sys = λ e. cc; found = λ a e. refl }, (record { letter = λ rest. refl; blank = refl; clean = refl; alone = λ e. cc; floating = λ e. cc; accumulator = λ e. cc; ldf = λ e. absurd cc; sys = λ e. cc; found = λ a e. refl }, (record { letter = λ rest. refl; blank = refl; clean = refl; alone = λ e. cc; floating = λ e. cc; accumulator = λ e. cc; ldf = λ e. absurd cc; sys = λ e. cc; found = λ a e. refl }, (record { letter = λ rest. refl; blank = refl; clean = refl; alone = λ e. cc; floating = λ e. cc; accumulator = λ e. cc; ldf = λ e. absurd cc; sys = λ e. cc; found = λ a e. refl }, (record { letter = λ rest. refl; blank = refl; clean = refl; alone = λ e. cc; floating = λ e. cc; accumulator = λ e. cc; ldf = λ e. absurd cc; sys = λ e. cc; found = λ a e. refl }, (record { letter = λ rest. refl; blank = refl; clean = refl; alone = λ e. cc; floating = λ e. cc; accumulator = λ e. cc; ldf = λ e. absurd cc; sys = λ e. cc; found = λ a e. refl }, (record { letter = λ rest. refl; blank = refl; clean = refl; alone = λ e. cc; floating = λ e. cc; accumulator = λ e. cc; ldf = λ e. absurd cc; sys = λ e. cc; found = λ a e. refl }, (record { letter = λ rest. refl; blank = refl; clean = refl; alone = λ e. cc; floating = λ e. cc; accumulator = λ e. cc; ldf = λ e. absurd cc; sys = λ e. cc; found = λ a e. refl }, (record { letter = λ rest. refl; blank = refl; clean = refl; alone = λ e. cc; floating = λ e. cc; accumulator = λ e. cc; ldf = λ e. absurd cc; sys = λ e. cc; found = λ a e. refl }, (record { letter = λ rest. refl; blank = refl; clean = refl; alone = λ e. cc; floating = λ e. cc; accumulator = λ e. cc; ldf = λ e. absurd cc; sys = λ e. cc; found = λ a e. refl }, (record { letter = λ rest. refl; blank = refl; clean = refl; alone = λ e. cc; floating = λ e. cc; accumulator = λ e. cc; ldf = λ e. absurd cc; sys = λ e. cc; found = λ a e. refl }, (record { letter = λ rest. refl; blank = refl; clean = refl; alone = λ e. cc; floating = λ e. cc; accumulator = λ e. cc; ldf = λ e. absurd cc; sys = λ e. cc; found = λ a e. refl }, (record { letter = λ rest. refl; blank = refl; clean = refl; alone = λ e. cc; floating = λ e. cc; accumulator = λ e. cc; ldf = λ e. absurd cc; sys = λ e. cc; found = λ a e. refl }, (record { letter = λ rest. refl; blank = refl; clean = refl; alone = λ e. cc; floating = λ e. cc; accumulator = λ e. cc; ldf = λ e. absurd cc; sys = λ e. cc; found = λ a e. refl }, (record { letter = λ rest. refl; blank = refl; clean = refl; alone = λ e. cc; floating = λ e. cc; accumulator = λ e. cc; ldf = λ e. absurd cc; sys = λ e. cc; found = λ a e. refl }, (record { letter = λ rest. refl; blank = refl; clean = refl; alone = λ e. cc; floating = λ e. cc; accumulator = λ e. cc; ldf = λ e. absurd cc; sys = λ e. cc; found = λ a e. refl }, (record { letter = λ rest. refl; blank = refl; clean = refl; alone = λ e. cc; floating = λ e. cc; accumulator = λ e. cc; ldf = λ e. absurd cc; sys = λ e. cc; found = λ a e. refl }, (record { letter = λ rest. refl; blank = refl; clean = refl; alone = λ e. cc; floating = λ e. cc; accumulator = λ e. cc; ldf = λ e. absurd cc; sys = λ e. cc; found = λ a e. refl }, (record { letter = λ rest. refl; blank = refl; clean = refl; alone = λ e. cc; floating = λ e. cc; accumulator = λ e. cc; ldf = λ e. absurd cc; sys = λ e. cc; found = λ a e. refl }, (record { letter = λ rest. refl; blank = refl; clean = refl; alone = λ e. cc; floating = λ e. cc; accumulator = λ e. cc; ldf = λ e. absurd cc; sys = λ e. cc; found = λ a e. refl }, (record { letter = λ rest. refl; blank = refl; clean = refl; alone = λ e. cc; floating = λ e. cc; accumulator = λ e. cc; ldf = λ e. absurd cc; sys = λ e. cc; found = λ a e. refl }, (record { letter = λ rest. refl; blank = refl; clean = refl; alone = λ e. cc; floating = λ e. cc; accumulator = λ e. cc; ldf = λ e. absurd cc; sys = λ e. cc; found = λ a e. refl }, (record { letter = λ rest. refl; blank = refl; clean = refl; alone = λ e. cc; floating = λ e. cc; accumulator = λ e. cc; ldf = λ e. absurd cc; sys = λ e. cc; found = λ a e. refl }, (record { letter = λ rest. refl; blank = refl; clean = refl; alone = λ e. cc; floating = λ e. cc; accumulator = λ e. cc; ldf = λ e. absurd cc; sys = λ e. cc; found = λ a e. refl }, (record { letter = λ rest. refl; blank = refl; clean = refl; alone = λ e. cc; floating = λ e. cc; accumulator = λ e. cc; ldf = λ e. absurd cc; sys = λ e. cc; found = λ a e. refl }, (record { letter = λ rest. refl; blank = refl; clean = refl; alone = λ e. cc; floating = λ e. cc; accumulator = λ e. cc; ldf = λ e. absurd cc; sys = λ e. cc; found = λ a e. refl }, (record { letter = λ rest. refl; blank = refl; clean = refl; alone = λ e. cc; floating = λ e. cc; accumulator = λ e. cc; ldf = λ e. absurd cc; sys = λ e. cc; found = λ a e. refl }, (record { letter = λ rest. refl; blank = refl; clean = refl; alone = λ e. cc; floating = λ e. cc; accumulator = λ e. cc; ldf = λ e. absurd cc; sys = λ e. cc; found = λ a e. refl }, (record { letter = λ rest. refl; blank = refl; clean = refl; alone = λ e. cc; floating = λ e. cc; accumulator = λ e. cc; ldf = λ e. absurd cc; sys = λ e. cc; found = λ a e. refl }, (record { letter = λ rest. refl; blank = refl; clean = refl; alone = λ e. cc; floating = λ e. cc; accumulator = λ e. cc; ldf = λ e. absurd cc; sys = λ e. cc; found = λ a e. refl }, (record { letter = λ rest. refl; blank = refl; clean = refl; alone = λ e. cc; floating = λ e. cc; accumulator = λ e. cc; ldf = λ e. absurd cc; sys = λ e. cc; found = λ a e. refl }, (record { letter = λ rest. refl; blank = refl; clean = refl; alone = λ e. cc; floating = λ e. cc; accumulator = λ e. cc; ldf = λ e. absurd cc; sys = λ e. cc; found = λ a e. refl }, (record { letter = λ rest. refl; blank = refl; clean = refl; alone = λ e. cc; floating = λ e. cc; accumulator = λ e. cc; ldf = λ e. absurd cc; sys = λ e. cc; found = λ a e. refl }, (record { letter = λ rest. refl; blank = refl; clean = refl; alone = λ e. cc; floating = λ e. cc; accumulator = λ e. cc; ldf = λ e. absurd cc; sys = λ e. cc; found = λ a e. refl }, (record { letter = λ rest. refl; blank = refl; clean = refl; alone = λ e. cc; floating = λ e. cc; accumulator = λ e. cc; ldf = λ e. absurd cc; sys = λ e. cc; found = λ a e. refl }, (record { letter = λ rest. refl; blank = refl; clean = refl; alone = λ e. cc; floating = λ e. cc; accumulator = λ e. cc; ldf = λ e. absurd cc; sys = λ e. cc; found = λ a e. refl }, (record { letter = λ rest. refl; blank = refl; clean = refl; alone = λ e. cc; floating = λ e. cc; accumulator = λ e. cc; ldf = λ e. absurd cc; sys = λ e. cc; found = λ a e. refl }, (record { letter = λ rest. refl; blank = refl; clean = refl; alone = λ e. cc; floating = λ e. cc; accumulator = λ e. cc; ldf = λ e. absurd cc; sys = λ e. cc; found = λ a e. refl }, (record { letter = λ rest. refl; blank = refl; clean = refl; alone = λ e. cc; floating = λ e. cc; accumulator = λ e. cc; ldf = λ e. absurd cc; sys = λ e. cc; found = λ a e. refl }, (record { letter = λ rest. refl; blank = refl; clean = refl; alone = λ e. cc; floating = λ e. cc; accumulator = λ e. cc; ldf = λ e. absurd cc; sys = λ e. cc; found = λ a e. refl }, (record { letter = λ rest. refl; blank = refl; clean = refl; alone = λ e. cc; floating = λ e. cc; accumulator = λ e. cc; ldf = λ e. absurd cc; sys = λ e. cc; found = λ a e. refl }, (record { letter = λ rest. refl; blank = refl; clean = refl; alone = λ e. cc; floating = λ e. cc; accumulator = λ e. cc; ldf = λ e. absurd cc; sys = λ e. cc; found = λ a e. refl }, (record { letter = λ rest. refl; blank = refl; clean = refl; alone = λ e. cc; floating = λ e. cc; accumulator = λ e. cc; ldf = λ e. absurd cc; sys = λ e. cc; found = λ a e. refl }, (record { letter = λ rest. refl; blank = refl; clean = refl; alone = λ e. cc; floating = λ e. cc; accumulator = λ e. cc; ldf = λ e. absurd cc; sys = λ e. cc; found = λ a e. refl }, (record { letter = λ rest. refl; blank = refl; clean = refl; alone = λ e. cc; floating = λ e. cc; accumulator = λ e. cc; ldf = λ e. absurd cc; sys = λ e. cc; found = λ a e. refl }, (record { letter = λ rest. refl; blank = refl; clean = refl; alone = λ e. cc; floating = λ e. cc; accumulator = λ e. cc; ldf = λ e. absurd cc; sys = λ e. cc; found = λ a e. refl }, (record { letter = λ rest. refl; blank = refl; clean = refl; alone = λ e. cc; floating = λ e. cc; accumulator = λ e. cc; ldf = λ e. absurd cc; sys = λ e. cc; found = λ a e. refl }, (record { letter = λ rest. refl; blank = refl; clean = refl; alone = λ e. cc; floating = λ e. cc; accumulator = λ e. cc; ldf = λ e. absurd cc; sys = λ e. cc; found = λ a e. refl }, (record { letter = λ rest. refl; blank = refl; clean = refl; alone = λ e. cc; floating = λ e. cc; accumulator = λ e. cc; ldf = λ e. absurd cc; sys = λ e. cc; found = λ a e. refl }, (record { letter = λ rest. refl; blank = refl; clean = refl; alone = λ e. cc; floating = λ e. cc; accumulator = λ e. cc; ldf = λ e. absurd cc; sys = λ e. cc; found = λ a e. refl }, (record { letter = λ rest. refl; blank = refl; clean = refl; alone = λ e. cc; floating = λ e. cc; accumulator = λ e. cc; ldf = λ e. absurd cc; sys = λ e. cc; found = λ a e. refl }, (record { letter = λ rest. refl; blank = refl; clean = refl; alone = λ e. cc; floating = λ e. cc; accumulator = λ e. cc; ldf = λ e. absurd cc; sys = λ e. cc; found = λ a e. refl }, (record { letter = λ rest. refl; blank = refl; clean = refl; alone = λ e. cc; floating = λ e. cc; accumulator = λ e. cc; ldf = λ e. absurd cc; sys = λ e. cc; found = λ a e. refl }, (record { letter = λ rest. refl; blank = refl; clean = refl; alone = λ e. cc; floating = λ e. cc; accumulator = λ e. cc; ldf = λ e. absurd cc; sys = λ e. cc; found = λ a e. refl }, (record { letter = λ rest. refl; blank = refl; clean = refl; alone = λ e. cc; floating = λ e. cc; accumulator = λ e. cc; ldf = λ e. absurd cc; sys = λ e. cc; found = λ a e. refl }, (record { letter = λ rest. refl; blank = refl; clean = refl; alone = λ e. cc; floating = λ e. cc; accumulator = λ e. cc; ldf = λ e. absurd cc; sys = λ e. cc; found = λ a e. refl }, (record { letter = λ rest. refl; blank = refl; clean = refl; alone = λ e. cc; floating = λ e. cc; accumulator = λ e. cc; ldf = λ e. absurd cc; sys = λ e. cc; found = λ a e. refl }, (record { letter = λ rest. refl; blank = refl; clean = refl; alone = λ e. cc; floating = λ e. cc; accumulator = λ e. cc; ldf = λ e. absurd cc; sys = λ e. cc; found = λ a e. refl }, (record { letter = λ rest. refl; blank = refl; clean = refl; alone = λ e. cc; floating = λ e. cc; accumulator = λ e. cc; ldf = λ e. absurd cc; sys = λ e. cc; found = λ a e. refl }, (record { letter = λ rest. refl; blank = refl; clean = refl; alone = λ e. cc; floating = λ e. cc; accumulator = λ e. cc; ldf = λ e. absurd cc; sys = λ e. cc; found = λ a e. refl }, (record { letter = λ rest. refl; blank = refl; clean = refl; alone = λ e. cc; floating = λ e. cc; accumulator = λ e. cc; ldf = λ e. absurd cc; sys = λ e. cc; found = λ a e. refl }, (record { letter = λ rest. refl; blank = refl; clean = refl; alone = λ e. cc; floating = λ e. cc; accumulator = λ e. cc; ldf = λ e. absurd cc; sys = λ e. cc; found = λ a e. refl }, (record { letter = λ rest. refl; blank = refl; clean = refl; alone = λ e. cc; floating = λ e. cc; accumulator = λ e. cc; ldf = λ e. absurd cc; sys = λ e. cc; found = λ a e. refl }, (record { letter = λ rest. refl; blank = refl; clean = refl; alone = λ e. cc; floating = λ e. cc; accumulator = λ e. cc; ldf = λ e. absurd cc; sys = λ e. cc; found = λ a e. refl }, (record { letter = λ rest. refl; blank = refl; clean = refl; alone = λ e. cc; floating = λ e. cc; accumulator = λ e. cc; ldf = λ e. absurd cc; sys = λ e. cc; found = λ a e. refl }, (record { letter = λ rest. refl; blank = refl; clean = refl; alone = λ e. refl; floating = λ e. cc; accumulator = λ e. cc; ldf = λ e. absurd cc; sys = λ e. cc; found = λ a e. refl }, (record { letter = λ rest. refl; blank = refl; clean = refl; alone = λ e. refl; floating = λ e. cc; accumulator = λ e. cc; ldf = λ e. absurd cc; sys = λ e. cc; found = λ a e. refl }, (record { letter = λ rest. refl; blank = refl; clean = refl; alone = λ e. refl; floating = λ e. cc; accumulator = λ e. cc; ldf = λ e. absurd cc; sys = λ e. cc; found = λ a e. refl }, (record { letter = λ rest. refl; blank = refl; clean = refl; alone = λ e. refl; floating = λ e. cc; accumulator = λ e. cc; ldf = λ e. absurd cc; sys = λ e. cc; found = λ a e. refl }, (record { letter = λ rest. refl; blank = refl; clean = refl; alone = λ e. refl; floating = λ e. cc; accumulator = λ e. cc; ldf = λ e. absurd cc; sys = λ e. cc; found = λ a e. refl }, (record { letter = λ rest. refl; blank = refl; clean = refl; alone = λ e. cc; floating = λ e. cc; accumulator = λ e. cc; ldf = λ e. absurd cc; sys = λ e. cc; found = λ a e. refl }, (record { letter = λ rest. refl; blank = refl; clean = refl; alone = λ e. cc; floating = λ e. cc; accumulator = λ e. cc; ldf = λ e. absurd cc; sys = λ e. cc; found = λ a e. refl }, (record { letter = λ rest. refl; blank = refl; clean = refl; alone = λ e. cc; floating = λ e. cc; accumulator = λ e. cc; ldf = λ e. absurd cc; sys = λ e. cc; found = λ a e. refl }, (record { letter = λ rest. refl; blank = refl; clean = refl; alone = λ e. cc; floating = λ e. cc; accumulator = λ e. cc; ldf = λ e. absurd cc; sys = λ e. cc; found = λ a e. refl }, (record { letter = λ rest. refl; blank = refl; clean = refl; alone = λ e. cc; floating = λ e. cc; accumulator = λ e. cc; ldf = λ e. absurd cc; sys = λ e. cc; found = λ a e. refl }, (record { letter = λ rest. refl; blank = refl; clean = refl; alone = λ e. cc; floating = λ e. cc; accumulator = λ e. cc; ldf = λ e. absurd cc; sys = λ e. cc; found = λ a e. refl }, (record { letter = λ rest. refl; blank = refl; clean = refl; alone = λ e. cc; floating = λ e. cc; accumulator = λ e. cc; ldf = λ e. absurd cc; sys = λ e. cc; found = λ a e. refl }, (record { letter = λ rest. refl; blank = refl; clean = refl; alone = λ e. cc; floating = λ e. cc; accumulator = λ e. cc; ldf = λ e. absurd cc; sys = λ e. cc; found = λ a e. refl }, (record { letter = λ rest. refl; blank = refl; clean = refl; alone = λ e. cc; floating = λ e. cc; accumulator = λ e. cc; ldf = λ e. absurd cc; sys = λ e. cc; found = λ a e. refl }, (record { letter = λ rest. refl; blank = refl; clean = refl; alone = λ e. cc; floating = λ e. cc; accumulator = λ e. cc; ldf = λ e. absurd cc; sys = λ e. cc; found = λ a e. refl }, (record { letter = λ rest. refl; blank = refl; clean = refl; alone = λ e. cc; floating = λ e. refl; accumulator = λ e. cc; ldf = λ e a. refl; sys = λ e. cc; found = λ a e. ap (layout (codes "movf")) e }, (record { letter = λ rest. refl; blank = refl; clean = refl; alone = λ e. cc; floating = λ e. cc; accumulator = λ e. cc; ldf = λ e. absurd cc; sys = λ e. cc; found = λ a e. refl }, (record { letter = λ rest. refl; blank = refl; clean = refl; alone = λ e. cc; floating = λ e. cc; accumulator = λ e. cc; ldf = λ e. absurd cc; sys = λ e. cc; found = λ a e. refl }, (record { letter = λ rest. refl; blank = refl; clean = refl; alone = λ e. cc; floating = λ e. cc; accumulator = λ e. refl; ldf = λ e. absurd cc; sys = λ e. cc; found = λ a e. ap (layout (codes "movf")) e }, (record { letter = λ rest. refl; blank = refl; clean = refl; alone = λ e. cc; floating = λ e. cc; accumulator = λ e. cc; ldf = λ e. absurd cc; sys = λ e. cc; found = λ a e. refl }, (record { letter = λ rest. refl; blank = refl; clean = refl; alone = λ e. cc; floating = λ e. cc; accumulator = λ e. cc; ldf = λ e. absurd cc; sys = λ e. cc; found = λ a e. refl }, (record { letter = λ rest. refl; blank = refl; clean = refl; alone = λ e. cc; floating = λ e. cc; accumulator = λ e. cc; ldf = λ e. absurd cc; sys = λ e. cc; found = λ a e. refl }, (record { letter = λ rest. refl; blank = refl; clean = refl; alone = λ e. cc; floating = λ e. cc; accumulator = λ e. cc; ldf = λ e. absurd cc; sys = λ e. cc; found = λ a e. refl }, (record { letter = λ rest. refl; blank = refl; clean = refl; alone = λ e. cc; floating = λ e. cc; accumulator = λ e. cc; ldf = λ e. absurd cc; sys = λ e. cc; found = λ a e. refl }, (record { letter = λ rest. refl; blank = refl; clean = refl; alone = λ e. cc; floating = λ e. cc; accumulator = λ e. cc; ldf = λ e. absurd cc; sys = λ e. cc; found = λ a e. refl }, (record { letter = λ rest. refl; blank = refl; clean = refl; alone = λ e. cc; floating = λ e. cc; accumulator = λ e. cc; ldf = λ e. absurd cc; sys = λ e. cc; found = λ a e. refl }, tt)))))))))))))))))))))))))))))))))))))))))))))))))))))))))))))))))))))))))))))))))))))))))))))))))))))))))))))))))))))))))))))))))))))))
 
 sound_at : (p : Row → Bool) (r o : Row) (b : Bool) (rest : Option Row) → Sound r → (rest ≡ Some o → Sound o) →
     cond b (Some r) rest ≡ Some o → Sound o

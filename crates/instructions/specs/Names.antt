@@ -1,7 +1,14 @@
 -- The names of the operations. (as(1); for those that it does not have, the handbook of the PDP-11/70)
+--
+-- Condition codes together are written as as(1) takes them, as `clc|clv`; for 000260, which sets none, `sec&sev` (own choice).
 use Rattle.std.specs.Prelude.{ℕ, List, codes}
 use Rattle.instructions.specs.declared.operation.Operation.{Operation}
 use Rattle.instructions.specs.declared.operation.Operation.TheVariants.{Clc, Clv, Clz, Cln, Sec, Sev, Sez, Sen, Halt}
+use Rattle.instructions.specs.declared.operation.Operation.TheVariants.{ClcClv, ClcClz, ClvClz, ClcClvClz, ClcCln, ClvCln}
+use Rattle.instructions.specs.declared.operation.Operation.TheVariants.{ClcClvCln, ClzCln, ClcClzCln, ClvClzCln}
+use Rattle.instructions.specs.declared.operation.Operation.TheVariants.{SecAndSev, SecSev, SecSez, SevSez, SecSevSez}
+use Rattle.instructions.specs.declared.operation.Operation.TheVariants.{SecSen, SevSen, SecSevSen, SezSen, SecSezSen}
+use Rattle.instructions.specs.declared.operation.Operation.TheVariants.{SevSezSen}
 use Rattle.instructions.specs.declared.operation.Operation.TheVariants.{Wait, Rti, Bpt, Iot, Reset, Rtt, Nop, Ccc, Scc}
 use Rattle.instructions.specs.declared.operation.Operation.TheVariants.{Cfcc, Setf, Seti, Setd, Setl, Jmp, Swab, Clr}
 use Rattle.instructions.specs.declared.operation.Operation.TheVariants.{Clrb, Com, Comb, Inc, Incb, Dec, Decb, Neg}
@@ -25,6 +32,27 @@ name_text Sec = codes "sec"
 name_text Sev = codes "sev"
 name_text Sez = codes "sez"
 name_text Sen = codes "sen"
+name_text ClcClv = codes "clc|clv"
+name_text ClcClz = codes "clc|clz"
+name_text ClvClz = codes "clv|clz"
+name_text ClcClvClz = codes "clc|clv|clz"
+name_text ClcCln = codes "clc|cln"
+name_text ClvCln = codes "clv|cln"
+name_text ClcClvCln = codes "clc|clv|cln"
+name_text ClzCln = codes "clz|cln"
+name_text ClcClzCln = codes "clc|clz|cln"
+name_text ClvClzCln = codes "clv|clz|cln"
+name_text SecAndSev = codes "sec&sev"
+name_text SecSev = codes "sec|sev"
+name_text SecSez = codes "sec|sez"
+name_text SevSez = codes "sev|sez"
+name_text SecSevSez = codes "sec|sev|sez"
+name_text SecSen = codes "sec|sen"
+name_text SevSen = codes "sev|sen"
+name_text SecSevSen = codes "sec|sev|sen"
+name_text SezSen = codes "sez|sen"
+name_text SecSezSen = codes "sec|sez|sen"
+name_text SevSezSen = codes "sev|sez|sen"
 name_text Halt = codes "halt"
 name_text Wait = codes "wait"
 name_text Rti = codes "rti"

@@ -2,12 +2,18 @@
 --
 -- Read each line aloud: the operands in the order of the text, and then, for each instruction, the word whose fields are all 0 and the
 -- operation. Fields has the bits of each operand, Names the name of each operation. The lines are in the order of the assembler's
--- manual. Instructions of other machines of the family are left out (own choice).
+-- manual. What is left out (own choice) are instructions of other machines of the family, as mfpt, csm, tstset, wrtlck, mtps, mfps, fadd
+-- to fdiv and the commercial set, and those for the maintenance of the floating-point processor, 170003 to 170007.
 use Rattle.std.specs.Prelude.{ℕ, Option, Some, None, List, [], ◌∷◌, ◌++◌, map}
 use Rattle.instructions.specs.declared.field.Field.{Field}
 use Rattle.instructions.specs.declared.field.Field.TheVariants as fields
 use Rattle.instructions.specs.declared.operation.Operation.{Operation}
 use Rattle.instructions.specs.declared.operation.Operation.TheVariants.{Clc, Clv, Clz, Cln, Sec, Sev, Sez, Sen, Halt}
+use Rattle.instructions.specs.declared.operation.Operation.TheVariants.{ClcClv, ClcClz, ClvClz, ClcClvClz, ClcCln, ClvCln}
+use Rattle.instructions.specs.declared.operation.Operation.TheVariants.{ClcClvCln, ClzCln, ClcClzCln, ClvClzCln}
+use Rattle.instructions.specs.declared.operation.Operation.TheVariants.{SecAndSev, SecSev, SecSez, SevSez, SecSevSez}
+use Rattle.instructions.specs.declared.operation.Operation.TheVariants.{SecSen, SevSen, SecSevSen, SezSen, SecSezSen}
+use Rattle.instructions.specs.declared.operation.Operation.TheVariants.{SevSezSen}
 use Rattle.instructions.specs.declared.operation.Operation.TheVariants.{Wait, Rti, Bpt, Iot, Reset, Rtt, Nop, Ccc, Scc}
 use Rattle.instructions.specs.declared.operation.Operation.TheVariants.{Cfcc, Setf, Seti, Setd, Setl, Jmp, Swab, Clr}
 use Rattle.instructions.specs.declared.operation.Operation.TheVariants.{Clrb, Com, Comb, Inc, Incb, Dec, Decb, Neg}
@@ -31,6 +37,13 @@ abbrev pub table : List Row
 table =
     rows_with None None ((0o000241, Clc) ∷ (0o000242, Clv) ∷ (0o000244, Clz) ∷ (0o000250, Cln) ∷ (0o000261, Sec) ∷
     (0o000262, Sev) ∷ (0o000264, Sez) ∷ (0o000270, Sen) ∷ [])
+    ++ rows_with None None (
+    (0o000243, ClcClv) ∷ (0o000245, ClcClz) ∷ (0o000246, ClvClz) ∷ (0o000247, ClcClvClz) ∷ (0o000251, ClcCln) ∷
+    (0o000252, ClvCln) ∷ (0o000253, ClcClvCln) ∷ (0o000254, ClzCln) ∷ (0o000255, ClcClzCln) ∷ (0o000256, ClvClzCln) ∷ [])
+    ++ rows_with None None (
+    (0o000260, SecAndSev) ∷ (0o000263, SecSev) ∷ (0o000265, SecSez) ∷ (0o000266, SevSez) ∷ (0o000267, SecSevSez) ∷
+    (0o000271, SecSen) ∷ (0o000272, SevSen) ∷ (0o000273, SecSevSen) ∷ (0o000274, SezSen) ∷ (0o000275, SecSezSen) ∷
+    (0o000276, SevSezSen) ∷ [])
     ++ rows_with None None ((0o000000, Halt) ∷ (0o000001, Wait) ∷ (0o000002, Rti) ∷ (0o000003, Bpt) ∷ (0o000004, Iot) ∷
     (0o000005, Reset) ∷ (0o000006, Rtt) ∷ (0o000240, Nop) ∷ (0o000257, Ccc) ∷ (0o000277, Scc) ∷ [])
     ++ rows_with None None ((0o170000, Cfcc) ∷ (0o170001, Setf) ∷ (0o170002, Seti) ∷ (0o170011, Setd) ∷ (0o170012, Setl) ∷ [])

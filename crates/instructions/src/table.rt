@@ -15,8 +15,8 @@ pub struct Row {
 
 /// All instructions, in the order of their first words; a word is in one row at most. `laws::table_law` compares them with the
 /// manual's table. Of several names that as(1) has for one, `Bcc` includes bec and bhis, `Bcs` bes and blo, and `Mul`, `Div`,
-/// `Ash`, `Ashc` are mpy, dvd, als, alsc. (as(1); instructions of other machines of the family are left out: own choice)
-pub static ROWS: [Row; 114] = [
+/// `Ash`, `Ashc` are mpy, dvd, als, alsc. (as(1); what is left out, as specs/Table has it: own choice)
+pub static ROWS: [Row; 135] = [
     Row {
         operation: Operation::Halt,
         base: 0o000000,
@@ -96,8 +96,32 @@ pub static ROWS: [Row; 114] = [
         second: None,
     },
     Row {
+        operation: Operation::ClcClv,
+        base: 0o000243,
+        first: None,
+        second: None,
+    },
+    Row {
         operation: Operation::Clz,
         base: 0o000244,
+        first: None,
+        second: None,
+    },
+    Row {
+        operation: Operation::ClcClz,
+        base: 0o000245,
+        first: None,
+        second: None,
+    },
+    Row {
+        operation: Operation::ClvClz,
+        base: 0o000246,
+        first: None,
+        second: None,
+    },
+    Row {
+        operation: Operation::ClcClvClz,
+        base: 0o000247,
         first: None,
         second: None,
     },
@@ -108,8 +132,50 @@ pub static ROWS: [Row; 114] = [
         second: None,
     },
     Row {
+        operation: Operation::ClcCln,
+        base: 0o000251,
+        first: None,
+        second: None,
+    },
+    Row {
+        operation: Operation::ClvCln,
+        base: 0o000252,
+        first: None,
+        second: None,
+    },
+    Row {
+        operation: Operation::ClcClvCln,
+        base: 0o000253,
+        first: None,
+        second: None,
+    },
+    Row {
+        operation: Operation::ClzCln,
+        base: 0o000254,
+        first: None,
+        second: None,
+    },
+    Row {
+        operation: Operation::ClcClzCln,
+        base: 0o000255,
+        first: None,
+        second: None,
+    },
+    Row {
+        operation: Operation::ClvClzCln,
+        base: 0o000256,
+        first: None,
+        second: None,
+    },
+    Row {
         operation: Operation::Ccc,
         base: 0o000257,
+        first: None,
+        second: None,
+    },
+    Row {
+        operation: Operation::SecAndSev,
+        base: 0o000260,
         first: None,
         second: None,
     },
@@ -126,14 +192,74 @@ pub static ROWS: [Row; 114] = [
         second: None,
     },
     Row {
+        operation: Operation::SecSev,
+        base: 0o000263,
+        first: None,
+        second: None,
+    },
+    Row {
         operation: Operation::Sez,
         base: 0o000264,
         first: None,
         second: None,
     },
     Row {
+        operation: Operation::SecSez,
+        base: 0o000265,
+        first: None,
+        second: None,
+    },
+    Row {
+        operation: Operation::SevSez,
+        base: 0o000266,
+        first: None,
+        second: None,
+    },
+    Row {
+        operation: Operation::SecSevSez,
+        base: 0o000267,
+        first: None,
+        second: None,
+    },
+    Row {
         operation: Operation::Sen,
         base: 0o000270,
+        first: None,
+        second: None,
+    },
+    Row {
+        operation: Operation::SecSen,
+        base: 0o000271,
+        first: None,
+        second: None,
+    },
+    Row {
+        operation: Operation::SevSen,
+        base: 0o000272,
+        first: None,
+        second: None,
+    },
+    Row {
+        operation: Operation::SecSevSen,
+        base: 0o000273,
+        first: None,
+        second: None,
+    },
+    Row {
+        operation: Operation::SezSen,
+        base: 0o000274,
+        first: None,
+        second: None,
+    },
+    Row {
+        operation: Operation::SecSezSen,
+        base: 0o000275,
+        first: None,
+        second: None,
+    },
+    Row {
+        operation: Operation::SevSezSen,
+        base: 0o000276,
         first: None,
         second: None,
     },

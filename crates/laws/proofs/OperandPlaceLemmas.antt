@@ -47,7 +47,7 @@ use Rattle.instructions.proofs.AlikeLemmas.{get_inside}
 use Rattle.laws.specs.Core.{Space, of_instructions, of_data, IsWordAt}
 use Rattle.laws.specs.CoreLaws.{space_of}
 use Rattle.laws.specs.Operands.{operand, FindsMore, segment_meant, Defines}
-use Rattle.laws.specs.OperandWords.{machine_value, space_used}
+use Rattle.laws.specs.OperandWords.{machine_value, moves_instructions, space_used}
 use Rattle.laws.specs.OperandPlaces.{addressing_of, within_text, kind_meant, IsNamedByte, IsAddress, HasOperand}
 use Rattle.laws.specs.OperandPlaces.{IsOperand, OperandsAreThere, IsDirect, JumpsArrive, PointersToSegments}
 use Rattle.laws.specs.OperandPlaces.{PointersToNames}
@@ -350,9 +350,9 @@ operands_there forced before k after o x good linked i w following here instruct
 -- jumps and calls
 jump_space : (operation : Operation) (a : Addressing) → jumps operation ≡ true → IsDirect a → space_used operation a ≡ of_instructions
 jump_space operation a j (inl e) =
-    ap (λ (b : Addressing). space_used operation b) e ∙ ap (λ (t : Bool). if t then of_instructions else of_data) j
+    ap (λ (b : Addressing). space_used operation b) e ∙ ap (λ (t : Bool). if t || moves_instructions operation then of_instructions else of_data) j
 jump_space operation a j (inr e) =
-    ap (λ (b : Addressing). space_used operation b) e ∙ ap (λ (t : Bool). if t then of_instructions else of_data) j
+    ap (λ (b : Addressing). space_used operation b) e ∙ ap (λ (t : Bool). if t || moves_instructions operation then of_instructions else of_data) j
 
 -- for `instruction_law`: a jump or a call to a name arrives at its definition
 pub jumps_arrive : JumpsArrive

@@ -197,8 +197,8 @@ IsUnrelocated os (of_object number segment n) =
     (k : Contents) → slice_get os number ≡ Some k → is_relocated (slice_get (segment_relocs segment k) (n / 2)) ≡ false
 IsUnrelocated os (of_common name n) = Unit {0}
 
--- what the machine finds by word i of a segment of k, object `number` of the one list, differs by as much as the addresses of what the
--- word refers to
+-- what word i of a segment of k, object `number` of the one list, finds by its pc bit differs by as much as the addresses of what it
+-- refers to
 pub record MovesAsTarget (forced : List (List ℕ)) (os ps : List Contents) (o : Choices) (x y : Outcome) (to : ℕ → ℕ)
     (number : ℕ) (k : Contents) (segment : Segment) (i : ℕ) (r : Reloc) : Type 0 where
   pub target : Target

@@ -3,7 +3,7 @@
 -- The machine takes an operand word by the mode: in 67 and 77 it adds the address after the word; in 27, 37 and as an index it uses the
 -- word as it is. An assembler sets the pc bit of the relocation word in the first case alone. Then what the machine finds in the
 -- program is what it would find in the object, moved as the name or the segment was.
-use Rattle.std.specs.Prelude.{◌≡◌, ◌≢◌, ℕ, ◌+◌, ◌*◌, ◌%◌, Bool, true, false, if◌then◌else◌, List, ◌∷◌, ◌++◌, Some, Ok, slice_get}
+use Rattle.std.specs.Prelude.{◌≡◌, ◌≢◌, ℕ, ◌+◌, ◌*◌, ◌%◌, Bool, true, false, ◌||◌, if◌then◌else◌, List, ◌∷◌, ◌++◌, Some, Ok, slice_get}
 use Rattle.std.specs.List.{AllByRecursion}
 use Rattle.aout_core.specs.declared.symbol.Symbol.{Symbol}
 use Rattle.aout_core.specs.declared.symbol.Segment.{Segment}
@@ -22,6 +22,7 @@ use Rattle.link_out.specs.function.Link.{link}
 use Rattle.link_laws.specs.relation.Relocated.{move_in, entry_of}
 use Rattle.instructions.specs.Modes.{counts_from_pc}
 use Rattle.instructions.specs.declared.operation.Operation.{Operation}
+use Rattle.instructions.specs.declared.operation.Operation.TheVariants.{Mfpi, Mtpi}
 use Rattle.instructions.specs.declared.mode.Addressing.{Addressing}
 use Rattle.instructions.specs.declared.mode.Addressing.TheVariants.{Immediate, Absolute, Relative, RelativeDeferred, Indexed}
 use Rattle.instructions.specs.Instructions.{jumps}
@@ -37,10 +38,17 @@ machine_value Absolute next word = word % 65536
 machine_value Immediate next word = word % 65536
 machine_value Indexed next word = word % 65536
 
+-- the operation moves a word from or to the space of instructions of the processor's previous mode. If both modes are those of a user,
+-- the PDP-11/70 has `mfpi` read the space of data instead
+abbrev pub moves_instructions : Operation → Bool
+moves_instructions Mfpi = true
+moves_instructions Mtpi = true
+moves_instructions _ = false
+
 -- the space in which the machine uses that as an address: of the next instruction, or of an operand or its address
 abbrev pub space_used : Operation → Addressing → Space
-space_used operation Relative = if jumps operation then of_instructions else of_data
-space_used operation Absolute = if jumps operation then of_instructions else of_data
+space_used operation Relative = if jumps operation || moves_instructions operation then of_instructions else of_data
+space_used operation Absolute = if jumps operation || moves_instructions operation then of_instructions else of_data
 space_used operation _ = of_data
 
 -- word i of the text of k, which is w and the operand word of such an operand, gives the machine so much more than it does in k

@@ -1,9 +1,10 @@
--- What an instruction finds by a word of a linked program. (ld(1), the PDP-11's relative and absolute modes)
+-- What a word of a linked program finds, by the pc bit of its relocation word. (ld(1), the PDP-11's relative and absolute modes)
 --
--- A word that is relative to the pc is fetched with the pc after it, so the machine adds the address after the word to it. In
--- the object it finds so many bytes beyond a name or a place there. In the program it finds as many beyond the name's value, or
--- beyond the address that the place has there. A call uses the address that it finds in the space of instructions, and an
--- instruction that fetches or stores uses it in that of data.
+-- If the pc bit is set, the word finds what the machine does that fetches it with the pc after it: the word plus the address after it.
+-- If not, it finds the word itself. In the object that is so many bytes beyond a name or a place there. In the program it is as many
+-- beyond the name's value, or beyond the address that the place has there. An instruction finds the same if the pc bit suits its mode:
+-- OperandWords goes by the mode. A call uses the address in the space of instructions, and an instruction that fetches or stores
+-- uses it in that of data.
 use Rattle.std.specs.Prelude.{◌≡◌, ◌≢◌, ℕ, ◌+◌, ◌*◌, ◌%◌, ◌<◌, Bool, true, false, cond, eqb, List}
 use Rattle.std.specs.Prelude.{[], ◌∷◌, ◌++◌, Option, Some, None, Ok, slice_get}
 use Rattle.std.specs.List.{AllByRecursion}
@@ -27,7 +28,7 @@ use Rattle.link_laws.specs.relation.Relocated.{move_in, entry_of}
 use Rattle.laws.specs.Core.{Space, has_segment, is_in, IsWordAt}
 use Rattle.laws.specs.CoreLaws.{space_of, IsPlace}
 
--- what the machine computes of a word at an address, modulo 65,536
+-- what a word at an address finds, modulo 65,536, if it has the pc bit or not
 abbrev pub operand : Bool → ℕ → ℕ → ℕ
 operand pc address word = plus (cond pc (address + 2) 0) word
 

@@ -37,8 +37,8 @@ pub fn core_law()
     ensures nothing { NothingElse }
 {}
 
-/// What an instruction finds by a word of a linked program: the word, or, if it is relative to the pc, the address after the word
-/// plus the word. Both are modulo 65,536. (ld(1))
+/// What a word of a linked program finds: the word, or, if the pc bit of its relocation word is set, the address after the word plus the
+/// word. Both are modulo 65,536. An instruction finds the same if the pc bit suits its mode: `operand_word_law` goes by the mode. (ld(1))
 ///
 /// - `names`: in a link without `-r` that keeps symbols, a word that refers to a name finds what it finds in its object, plus the
 ///   name's value.
@@ -62,8 +62,8 @@ pub fn operand_law()
 /// - `operands`: by the addressing of the first word, each operand that has a word is the address of the byte to which it refers in
 ///   its object: a byte of a segment of that object, or one so far beyond a name, wherever the name is defined. The pc bit of the
 ///   relocation word has to suit the mode, and is set in modes 67 and 77 alone. A word of these modes that is not relocated counts as
-///   a distance within the text. The byte is loaded in the space in which the machine looks, if that space has its segment: for `jmp`
-///   and `jsr` in modes 37 and 67 the space of instructions, and else that of data. For a name the link has to keep symbols. Without
+///   a distance within the text. The byte is loaded in the space in which the machine looks, if that space has its segment: for `jmp`,
+///   `jsr`, `mfpi` and `mtpi` in modes 37 and 67 the space of instructions, and else that of data. For a name the link has to keep symbols. Without
 ///   `-r` the operand is then so far beyond the value of the name, and if no name is multiply defined, so far beyond its definition.
 /// - `jumps`: so in a link that keeps symbols, and if no name is multiply defined, `jmp` and `jsr` of a name by modes 37 and 67 reach
 ///   its definition in the space of instructions. With split spaces a byte is there only if it is of text.
@@ -181,7 +181,7 @@ pub fn order_law()
 /// - `numbers`: the objects of two orders can be paired by their numbers, so that each pair has two equal objects.
 /// - `same`: compares two links of the same objects in any two orders and any two layouts. Both keep symbols and no relocation, and in
 ///   one of them no name is multiply defined. By any such pairs they have the same places. A place has the same byte in both, unless
-///   its word is relocated. What the machine finds by a relocated word differs as the addresses of what the word refers to: a segment
+///   its word is relocated. What a relocated word finds by its pc bit differs as the addresses of what the word refers to: a segment
 ///   of its object, the definition of a name, a common, the end of a segment if the linker defines the name so, or nothing.
 /// - `referents`: so each word of each object refers to the same. With one layout this is `referents` of `order_law`.
 pub fn isomorphism_law()
