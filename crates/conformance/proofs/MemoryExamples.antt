@@ -1,27 +1,21 @@
 -- Where the definitions of a stage rule out that memory ran out.
-use Rattle.std.proofs.Common.{◌≡◌, ℕ, ◌≤◌, ◌<◌, true, false, List, [], ◌∷◌, ◌++◌, length, Option, Some}
-use Rattle.std.proofs.Common.{None, Err, refl, ap, ◌∙◌, subst, arith, inl, inr}
-use Rattle.std.specs.declared.alloc.Global.{Global}
-use Rattle.std.specs.Prelude.{IsOk, Vec, codes}
+use Rattle.std.proofs.Common.{◌≡◌, ℕ, ◌≤◌, ◌<◌, true, false, List, [], ◌∷◌, length, Some, Err, refl, subst, arith, inl, inr}
+use Rattle.std.specs.Prelude.{IsOk, codes}
 use Rattle.aout_core.specs.declared.file.ReadFault.TheVariants as reads
 use Rattle.aout_core.specs.Contents.{Contents}
 use Rattle.aout_core.specs.Encoding.{encoding}
 use Rattle.aout_core.specs.Reading.{IsReadOf}
+use Rattle.aout_core.specs.Refusals.{refused}
 use Rattle.aout_core.specs.Wires.{Latched}
 use Rattle.link_session.specs.declared.entry.AddFault.TheVariants as adds
-use Rattle.link_session.specs.Edits.{Change, withdrawal, added, last_of, answer_to, withdrawn_answer}
 use Rattle.link_session.specs.Labelled.{Labelled}
 use Rattle.link_session.specs.Limits.{refusal}
 use Rattle.link_session.specs.Sessions.{IsCause, nothing_kept}
-use Rattle.link_session.specs.Undo.{Kept}
 use Rattle.tool_options.specs.declared.options.Layout.TheVariants.{Pure}
 use Rattle.tool_options.specs.Choices.{Choices}
-use Rattle.link_out.specs.declared.edit.Reply.{Reply}
-use Rattle.link_out.specs.declared.edit.RunFault.TheVariants as runs
 use Rattle.link_out.specs.declared.linked.LinkFault.TheVariants as links
 use Rattle.link_out.specs.function.Link.{link}
 use Rattle.link_out.specs.Outcomes.{IsLinkOf}
-use Rattle.link_out.specs.internal.Replies.{IsLinkedWith, StopsAmong}
 use Rattle.v7tools.specs.declared.fault.CliFault.TheVariants as faults
 use Rattle.v7tools.specs.Answers.{Stepped}
 use Rattle.v7tools.specs.LinkAnswers.{Input, IsLinkOver, WantsMemory, runs_out}
@@ -43,7 +37,7 @@ entry o = record { label = path; object = o }
 abbrev short : List ℕ
 short = 7 ∷ 1 ∷ 0 ∷ []
 
-read_too_short : IsReadOf (Err reads.Memory) short → ⊥
+read_too_short : IsReadOf (Err (reads.Memory refused)) short → ⊥
 read_too_short (h, announced) = let long : 16 ≤ 3 = h.long in absurd (omega arith)
 
 wanted_for_short : (forced : List (List ℕ)) (kept : List Labelled) → WantsMemory forced kept path short → ⊥
@@ -62,7 +56,7 @@ wanted_for_large (inl (h, announced)) = let more : 16 < 16 = announced in absurd
 wanted_for_large (inr ok) = absurd (cc)
 
 -- its addition alone
-added_large : IsCause (refusal [] (small ∷ []) (sized 0 0 65534 [])) adds.Memory → ⊥
+added_large : IsCause (refusal [] (small ∷ []) (sized 0 0 65534 [])) (adds.Memory refused) → ⊥
 added_large h = absurd (cc)
 
 -- a step, and a line of a session
@@ -87,11 +81,11 @@ line_at_short (inr (inr e)) = counts answer_length (without_memory []) _ refl e
 abbrev input : List ℕ → Input
 input bytes = record { path = path; known = Some bytes; has_failed = false }
 
-first_short : (o : Choices) → IsLinkOver [] o (input short ∷ []) (Err faults.Memory) → ⊥
+first_short : (o : Choices) → IsLinkOver [] o (input short ∷ []) (Err (faults.Memory refused)) → ⊥
 first_short o (works, wants) = wanted_for_short [] [] wants
 
 first_failed : (o : Choices) →
-    IsLinkOver [] o (record { path = path; known = Some (encoding b_o); has_failed = true } ∷ []) (Err faults.Memory) → ⊥
+    IsLinkOver [] o (record { path = path; known = Some (encoding b_o); has_failed = true } ∷ []) (Err (faults.Memory refused)) → ⊥
 first_failed o (works, wants) = absurd (cc)
 
 -- after an object that was accepted, the stage rules out what the result as a whole can't
@@ -100,24 +94,8 @@ second_short (inl (same, stops)) = absurd (cc)
 second_short (inr (next, takes, inl (same, (works, wants)))) = wanted_for_short [] next wants
 second_short (inr (next, takes, inr (last, taken, more))) = absurd more
 
-second_short_over : (o : Choices) → IsLinkOver [] o (input (encoding b_o) ∷ input short ∷ []) (Err faults.Memory)
+second_short_over : (o : Choices) → IsLinkOver [] o (input (encoding b_o) ∷ input short ∷ []) (Err (faults.Memory refused))
 second_short_over o = (refl, inr refl)
-
--- ---- the edits of a run
-
-withdrawn_as_added : (last : Option Labelled) → withdrawn_answer last ≡ added → ⊥
-withdrawn_as_added None e = absurd (cc)
-withdrawn_as_added (Some e) is = absurd (cc)
-
-run_of_withdrawal : (old new : Kept) → StopsAmong old new (withdrawal ∷ []) → ⊥
-run_of_withdrawal old new h = by_order h.before h.order
-  where
-    by_order : (before : List Change) → withdrawal ∷ [] ≡ before ++ h.change ∷ h.left → ⊥
-    by_order [] e =
-        let is : withdrawal ≡ h.change = cc in
-        withdrawn_as_added (last_of new.entries) (ap (answer_to new.forced new.entries) is ∙ h.accepted)
-    by_order (b ∷ []) e = absurd (cc)
-    by_order (b ∷ (c ∷ cs)) e = absurd (cc)
 
 -- ---- the final link
 
@@ -130,13 +108,10 @@ whole = sized 65534 0 0 [] ∷ []
 whole_refused : link [] whole pure ≡ Err links.DoesNotFit
 whole_refused = refl
 
-linked_whole : IsLinkOf (Err links.Memory) (link [] whole pure) → ⊥
+linked_whole : IsLinkOf (Err (links.Memory refused)) (link [] whole pure) → ⊥
 linked_whole h = let made = subst IsOk whole_refused h in absurd (cc)
 
-run_whole : (replies : Option (Vec Reply Global)) → IsLinkedWith replies (link [] whole pure) (Err runs.Memory) → ⊥
-run_whole replies h = let made = subst IsOk whole_refused h in absurd (cc)
-
-ld_whole : IsFinalLink (link [] whole pure) (Err faults.Memory) → ⊥
+ld_whole : IsFinalLink (link [] whole pure) (Err (faults.Memory refused)) → ⊥
 ld_whole h = let made = subst IsOk whole_refused h in absurd (cc)
 
 step_whole : (kept : List Labelled) → IsLinkBy kept (link [] whole pure) (without_memory kept) → ⊥

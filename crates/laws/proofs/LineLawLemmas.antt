@@ -95,7 +95,7 @@ module _ {W E : Type 0} (out_contents : W → Option (List ℕ)) (error_contents
   stops_first script lines faults.LongLine h = all_first script lines (Some long_line) h
   stops_first script lines faults.ManyLines h = all_first script lines (Some many_lines) h
   stops_first script lines faults.ScriptFailed h = h
-  stops_first script lines faults.Memory h = named_first script lines h
+  stops_first script lines (faults.Memory _) h = named_first script lines h
   stops_first script lines faults.Usage h = absurd h
   stops_first script lines (faults.CannotOpen path) h = absurd h
   stops_first script lines (faults.BadFile path fault) h = absurd h

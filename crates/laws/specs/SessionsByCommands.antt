@@ -117,7 +117,7 @@ IsOpening _ = ⊥
 
 -- memory ran out, or a file could not be opened, or a device failed while it was read
 abbrev pub CannotRead : CliFault → Type 0
-CannotRead faults.Memory = Unit {0}
+CannotRead (faults.Memory _) = Unit {0}
 CannotRead (faults.CannotOpen path) = Unit {0}
 CannotRead (faults.BadFile path Device) = Unit {0}
 CannotRead _ = ⊥
