@@ -49,13 +49,14 @@ def read(path):
 
 
 def imports(text):
-    """Each name that is brought in, with the crate, the folder and the module that it is from."""
+    """Each name that is brought in, with the crate, the folder and the module that it is from, and its name there."""
     for line in text.split("\n"):
         found = IMPORT.match(line)
         if found and found[1] in LIBRARIES:
             crate, folder, module, names, alias = found.groups()
             for name in (names or alias or module.split(".")[-1]).split(","):
-                yield name.split(" as ")[-1].strip(), (crate, folder, module)
+                own, _, other = name.strip().partition(" as ")
+                yield other or own, (crate, folder, module, own)
 
 
 def exported(crate):
@@ -124,7 +125,7 @@ def trusted():
         for word, place, path in promises(crate):
             waiting.append((place, f"{path} cites {word}"))
     while waiting:
-        (crate, folder, module), why = waiting.pop()
+        (crate, folder, module, _), why = waiting.pop()
         if module.startswith("declared"):
             if module.endswith("TheConstants") and "/specs/" in why and (crate, module.split(".")[1]) not in IDS:
                 faults.append(f"{why}, a constant of the code")
@@ -144,7 +145,7 @@ def trusted():
 def other_internals():
     """Imports of the internals of another crate."""
     for path in glob.glob("crates/*/src/**/*.rt", recursive=True) + glob.glob("crates/*/specs/**/*.antt", recursive=True):
-        for name, (crate, folder, module) in imports(read(path)):
+        for name, (crate, folder, module, _) in imports(read(path)):
             if module.split(".")[0] in INTERNAL and path.split("/")[1] != crate:
                 faults.append(f"{path} imports {name}, of the internals of {crate}")
 
@@ -200,7 +201,7 @@ def lines_of_claim(starts):
         places = {own: place for place, (names, _) in enumerate(items) for own in names}
         if name not in places:
             if name in scope and scope[name][1] == "specs":
-                waiting.append((scope[name][0], scope[name][2], name))
+                waiting.append((scope[name][0], *scope[name][2:]))
             continue
         place = places[name]
         if place in reached.setdefault(path, {}):
@@ -210,7 +211,7 @@ def lines_of_claim(starts):
             if word in places and places[word] != place:
                 waiting.append((crate, module, word))
             elif word in scope and scope[word][1] == "specs" and not scope[word][2].startswith("declared"):
-                waiting.append((scope[word][0], scope[word][2], word))
+                waiting.append((scope[word][0], *scope[word][2:]))
     return {path: sum(items.values()) for path, items in reached.items()}
 
 

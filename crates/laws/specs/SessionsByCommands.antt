@@ -138,11 +138,6 @@ module _ {W E : Type 0} (out_contents : W → Option (List ℕ)) (error_contents
 
   -- ---- a session and its lines
 
-  -- a session was run, and ended well
-  pub record Sessions (forced : List (List ℕ)) (o : Choices) (r : Run W E) : Type 0 where
-    pub asks : AsksFor r.words (Session o forced)
-    pub ends : EndsWell out_contents error_contents r
-
   -- a run is that of these lines: each did what a line does on what those before it left, and the run asked of the system and answered
   -- what they did, one after another, and nothing else. The largest of their statuses is its status
   pub record RanLines (forced : List (List ℕ)) (o : Choices) (r : Run W E) (runs : List LineRun) : Type 0 where
@@ -172,7 +167,9 @@ module _ {W E : Type 0} (out_contents : W → Option (List ℕ)) (error_contents
 
   -- each session that ends well is the run of all lines of its script
   abbrev pub LinesLaw : Type 0
-  LinesLaw = (forced : List (List ℕ)) (o : Choices) (r : Run W E) → Sessions forced o r → (runs : List LineRun) × RanLines forced o r runs
+  LinesLaw =
+      (forced : List (List ℕ)) (o : Choices) (r : Run W E) → AsksFor r.words (Session o forced) → EndsWell out_contents error_contents r →
+      (runs : List LineRun) × RanLines forced o r runs
 
   -- ---- a link in a session
 
