@@ -29,7 +29,7 @@ use Rattle.v7tools.specs.CommandRuns.{AsksFor}
 use Rattle.v7tools.specs.declared.fault.CliFault.TheVariants.{NotLinked}
 use Rattle.v7tools.specs.Answers.{Stepped, Verdict, add_step, done, link_step}
 use Rattle.v7tools.specs.FaultTexts.{fault_line}
-use Rattle.v7tools.specs.Inputs.{linked, with_input}
+use Rattle.link_out.specs.Inputs.{linked, with_input}
 use Rattle.v7tools.specs.LineRuns.{IsLineOf, LineRun, status_after}
 use Rattle.v7tools.specs.SessionSteps.{AddsIf}
 use Rattle.link_session.specs.declared.mark.Mark.{Mark}

@@ -33,7 +33,7 @@ use Rattle.v7tools.specs.Answers.{Stepped, link_answer_text, link_status, link_s
 use Rattle.v7tools.specs.Calls.{fault_of_words}
 use Rattle.v7tools.specs.CommandRuns.{Ends, IsCallRun, RunsWords}
 use Rattle.v7tools.specs.FaultTexts.{cli_text, no_memory}
-use Rattle.v7tools.specs.Inputs.{Refusal, linked, not_linked}
+use Rattle.link_out.specs.Inputs.{Refusal, linked, not_linked}
 use Rattle.v7tools.specs.LineRuns.{IsLineOf, LineRun}
 use Rattle.v7tools.specs.LinkAnswers.{IsLinkOfBytes, IsTrueOf, known_inputs, said_by}
 use Rattle.v7tools.specs.LinkRuns.{IsLinkOfFiles, IsLinkRun, Refuses, Reports, ReportsIf, inputs_opened}

@@ -21,7 +21,7 @@ use Rattle.command_words.specs.declared.words.Call.TheVariants.{Session}
 use Rattle.command_words.specs.Scripts.{Asked, to_add, to_withdraw, to_link}
 use Rattle.v7tools.specs.CommandRuns.{AsksFor, Performs}
 use Rattle.v7tools.specs.FaultTexts.{cause_text, fault_line, no_memory}
-use Rattle.v7tools.specs.Inputs.{bad_file}
+use Rattle.link_out.specs.Inputs.{bad_file}
 use Rattle.v7tools.specs.LineRuns.{LineRun}
 use Rattle.v7tools.specs.SessionRuns.{AreFirst, AreLines, Chains, answers_of, events_of, lines_asked, worst}
 use Rattle.v7tools.specs.declared.fault.CliFault.{CliFault}
