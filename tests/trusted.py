@@ -20,6 +20,8 @@ import re
 import sys
 
 PROOFS = "docs/PROOFS.md"
+# the laws that are the theorem: the first claim begins with what they cite
+THEOREM = ("crates/laws/src/commands.rt", ["session_law", "undo_law"])
 # the files that a reader begins with, and the pages that say how many lines they have
 FIRST = ["aout_core/specs/Contents", "link_session/specs/Mentions", "link_laws/specs/relation/LinkedFrom"]
 FIRST_LINES = re.compile(r"(?<=files of `specs/`, )\d+(?= lines)")
@@ -270,6 +272,13 @@ def with_lines(row, crate, lines):
     return re.sub(r"\b([A-Z]\w+) \d+", number, row), named
 
 
+def cited_by_theorem():
+    """The definitions that the laws of the theorem cite."""
+    path, laws = THEOREM
+    words = [re.findall(r"\w+", clauses(item, lambda _, name: name in laws)) for item in pieces(read(path))]
+    return {word for found in words for word in found} & dict(imports(read(path))).keys()
+
+
 def print_lines(title, lines):
     for crate in LIBRARIES:
         files = {path: n for path, n in sorted(lines.items()) if path.startswith(f"crates/{crate}/")}
@@ -283,6 +292,8 @@ def expected():
     """What docs/PROOFS.md and docs/TRUST.md should say: each page with the texts that it has, and those that it should have."""
     all_claims = list(claims())
     theorem = all_claims[0][1]
+    if set(re.findall(r"`(\w+)`", all_claims[0][2].split(" | ")[2])) != cited_by_theorem():
+        faults.append(f"{PROOFS}: the first claim should begin with {', '.join(sorted(cited_by_theorem()))}")
     whole = {path: count(path) for path in trusted()}
     rest = {path: n - theorem.get(path, 0) for path, n in whole.items() if n > theorem.get(path, 0)}
     print_lines("the theorem", theorem)
