@@ -1,20 +1,30 @@
 #!/usr/bin/env python3
-"""Lists the files that a reader has to trust, and fails where a promise leads to another.
+"""Lists the definitions that a reader has to trust, and fails where a promise leads to others.
 
 A promise is the contract of a public function, or what contracts see of a public type. From the definitions that it cites
-this follows the imports. Each file that they lead to has to stand in specs/ of its crate, not in a folder of INTERNAL there,
-and with its lines in the table "What a reader has to trust" of docs/PROOFS.md, which has no other. Nothing in src/ or
-specs/ of a crate may import the internals of another.
+this follows the imports. Each file that they lead to has to be in specs/ of its crate, not in a folder of INTERNAL there.
+Nothing in src/ or specs/ of a crate may import the internals of another.
 
-It also follows single claims, definition by definition: docs/PROOFS.md has a table of them, with how many lines each leads to. The
-function `link` is left out there, since `linking_law` ties it to the relation.
+First come the definitions that the theorem leads to, the first claim of docs/PROOFS.md, definition by definition. The others are
+counted apart. The two tables of "What a reader has to trust" there have these lines by file, and no others; the table of claims has
+how many lines each claim leads to. The function `link` is left out of claims, since `linking_law` ties it to the relation.
 
 The lines that are counted are those of definitions: imports, comments and empty lines are left out.
+
+usage: tests/trusted.py        compares, and lists
+       tests/trusted.py -w     writes the numbers into docs/PROOFS.md and docs/TRUST.md
 """
 import glob
 import os
 import re
 import sys
+
+PROOFS = "docs/PROOFS.md"
+# the laws that are the theorem: the first claim begins with what they cite
+THEOREM = ("crates/laws/src/commands.rt", ["session_law", "undo_law"])
+# the files that a reader begins with, and the pages that say how many lines they have
+FIRST = ["aout_core/specs/Contents", "link_session/specs/Mentions", "link_laws/specs/relation/LinkedFrom"]
+FIRST_LINES = re.compile(r"(?<=files of `specs/`, )\d+(?= lines)")
 
 # folders of what loops and private functions do
 INTERNAL = ["internal"]
@@ -41,13 +51,14 @@ def read(path):
 
 
 def imports(text):
-    """Each name that is brought in, with the crate, the folder and the module that it is from."""
+    """Each name that is brought in, with the crate, the folder and the module that it is from, and its name there."""
     for line in text.split("\n"):
         found = IMPORT.match(line)
         if found and found[1] in LIBRARIES:
             crate, folder, module, names, alias = found.groups()
             for name in (names or alias or module.split(".")[-1]).split(","):
-                yield name.split(" as ")[-1].strip(), (crate, folder, module)
+                own, _, other = name.strip().partition(" as ")
+                yield other or own, (crate, folder, module, own)
 
 
 def exported(crate):
@@ -116,7 +127,7 @@ def trusted():
         for word, place, path in promises(crate):
             waiting.append((place, f"{path} cites {word}"))
     while waiting:
-        (crate, folder, module), why = waiting.pop()
+        (crate, folder, module, _), why = waiting.pop()
         if module.startswith("declared"):
             if module.endswith("TheConstants") and "/specs/" in why and (crate, module.split(".")[1]) not in IDS:
                 faults.append(f"{why}, a constant of the code")
@@ -136,14 +147,18 @@ def trusted():
 def other_internals():
     """Imports of the internals of another crate."""
     for path in glob.glob("crates/*/src/**/*.rt", recursive=True) + glob.glob("crates/*/specs/**/*.antt", recursive=True):
-        for name, (crate, folder, module) in imports(read(path)):
+        for name, (crate, folder, module, _) in imports(read(path)):
             if module.split(".")[0] in INTERNAL and path.split("/")[1] != crate:
                 faults.append(f"{path} imports {name}, of the internals of {crate}")
 
 
+def is_definition(line):
+    return line.strip() and not re.match(r" *--|(?:pub )?use |module ", line)
+
+
 def count(path):
     """How many lines of definitions a file has."""
-    return sum(1 for line in read(path).split("\n") if line.strip() and not re.match(r"(?:pub )?use |--", line))
+    return sum(1 for line in read(path).split("\n") if is_definition(line))
 
 
 def placed(crate, name):
@@ -165,9 +180,9 @@ def definitions(path):
     """The definitions of a file: the names that each gives, and its lines."""
     found, lines = [], []
     for line in read(path).split("\n") + [""]:
-        if line.strip() and not re.match(r"--|(?:pub )?use ", line):
+        if is_definition(line):
             lines.append(line)
-        elif lines:
+        elif lines and not line.strip():
             names = {re.match(r" *(?:(?:abbrev|record|data|def|rec|pub|unfoldable) +)*([^\s({:]+)", lines[0])[1]}
             if re.match(r"(?:pub )?data ", lines[0]):
                 names |= set(re.findall(r"^ +(?:pub )?([\w-]+) :", "\n".join(lines), re.M))
@@ -188,7 +203,7 @@ def lines_of_claim(starts):
         places = {own: place for place, (names, _) in enumerate(items) for own in names}
         if name not in places:
             if name in scope and scope[name][1] == "specs":
-                waiting.append((scope[name][0], scope[name][2], name))
+                waiting.append((scope[name][0], *scope[name][2:]))
             continue
         place = places[name]
         if place in reached.setdefault(path, {}):
@@ -198,13 +213,16 @@ def lines_of_claim(starts):
             if word in places and places[word] != place:
                 waiting.append((crate, module, word))
             elif word in scope and scope[word][1] == "specs" and not scope[word][2].startswith("declared"):
-                waiting.append((scope[word][0], scope[word][2], word))
+                waiting.append((scope[word][0], *scope[word][2:]))
     return {path: sum(items.values()) for path, items in reached.items()}
 
 
-def check_claims():
-    """The table of claims in docs/PROOFS.md: how many lines, and in how many files."""
-    text = read("docs/PROOFS.md").split("## What to trust for each claim")[1].split("\n## ")[0]
+def section(title):
+    return read(PROOFS).split(f"\n## {title}\n")[1].split("\n## ")[0]
+
+
+def named_definitions():
+    """Where each definition is, by its name."""
     where = {}
     for path in glob.glob("crates/*/specs/**/*.antt", recursive=True):
         crate, module = path.split("/")[1], path.split("/specs/")[1][:-5].replace("/", ".")
@@ -212,53 +230,106 @@ def check_claims():
             for names, _ in definitions(path):
                 for name in names:
                     where.setdefault(name, []).append((crate, module, name))
-    rows = re.findall(r"^\| ([^|]+) \| [^|]+ \| ([^|]+) \| (\d+) \| (\d+) \|$", text, re.M)
-    for claim, names, lines, files in rows:
+    return where
+
+
+def claims():
+    """The claims of docs/PROOFS.md: each with the lines that it leads to, by file, and its row."""
+    where = named_definitions()
+    for row in re.findall(r"^\| (?:[^|\n]+ \| ){3}\d+ \| \d+ \|$", section("What to trust for each claim"), re.M):
+        claim, _, names = row.strip("| ").split(" | ")[:3]
         starts = []
-        for name in re.findall(r"`(\w+)`", names):
-            if len(where.get(name, [])) != 1:
-                faults.append(f"docs/PROOFS.md: {claim}: {len(where.get(name, []))} definitions are called {name}")
-            starts += where.get(name, [])
-        found = lines_of_claim(starts)
-        shown = f"{sum(found.values())} lines in {len(found)} files"
-        print(f"{claim}: {shown}")
-        for path in sorted(found):
-            print(f"  {found[path]:4} {path}")
-        if shown != f"{lines} lines in {files} files":
-            faults.append(f"docs/PROOFS.md: {claim}: {shown}")
-    if not rows:
-        faults.append("docs/PROOFS.md has no claims")
+        for name in re.findall(r"`([\w.]+)`", names):
+            crate, name = name.split(".") if "." in name else (None, name)
+            found = [place for place in where.get(name, []) if crate in (None, place[0])]
+            if len(found) != 1:
+                faults.append(f"{PROOFS}: {claim}: {len(found)} definitions are called {name}")
+            starts += found
+        yield claim, lines_of_claim(starts), row
 
 
-def listed():
-    """The files that the table of docs/PROOFS.md names, each with its lines."""
-    text = read("docs/PROOFS.md").split("## What a reader has to trust")[1].split("\n## ")[0]
-    found = {}
-    for crate, row in re.findall(r"^\| `(\w+)` \|(.*)$", text, re.M):
-        for name, lines in re.findall(r"\b([A-Z]\w+) (\d+)", row):
-            found[placed(crate, name)] = int(lines)
-    return found
+def with_numbers(row, found):
+    """A row of the claims with its numbers."""
+    return re.sub(r"\d+ \| \d+ \|$", f"{sum(found.values())} | {len(found)} |", row)
+
+
+def rows_of_files():
+    """The rows of the tables of docs/PROOFS.md that name files: which table, the crate, and the row."""
+    tables = section("What a reader has to trust").split("\n### ")
+    for table, text in enumerate(tables[1:3]):
+        for row in re.findall(r"^\| `\w+` \|.*$", text, re.M):
+            yield table, re.match(r"\| `(\w+)`", row)[1], row
+
+
+def with_lines(row, crate, lines):
+    """A row of files with their numbers, and the files that it names."""
+    named = []
+
+    def number(match):
+        named.append(placed(crate, match[1]))
+        return f"{match[1]} {lines.get(named[-1], 0)}"
+
+    return re.sub(r"\b([A-Z]\w+) \d+", number, row), named
+
+
+def cited_by_theorem():
+    """The definitions that the laws of the theorem cite."""
+    path, laws = THEOREM
+    words = [re.findall(r"\w+", clauses(item, lambda _, name: name in laws)) for item in pieces(read(path))]
+    return {word for found in words for word in found} & dict(imports(read(path))).keys()
+
+
+def print_lines(title, lines):
+    for crate in LIBRARIES:
+        files = {path: n for path, n in sorted(lines.items()) if path.startswith(f"crates/{crate}/")}
+        print(f"{title}, {crate}: {sum(files.values())} lines in {len(files)} files")
+        for path, n in files.items():
+            print(f"  {n:4} {path}")
+    print(f"{title}: {sum(lines.values())} lines in {len(lines)} files")
+
+
+def expected():
+    """What docs/PROOFS.md and docs/TRUST.md should say: each page with the texts that it has, and those that it should have."""
+    all_claims = list(claims())
+    theorem = all_claims[0][1]
+    if set(re.findall(r"`(\w+)`", all_claims[0][2].split(" | ")[2])) != cited_by_theorem():
+        faults.append(f"{PROOFS}: the first claim should begin with {', '.join(sorted(cited_by_theorem()))}")
+    whole = {path: count(path) for path in trusted()}
+    rest = {path: n - theorem.get(path, 0) for path, n in whole.items() if n > theorem.get(path, 0)}
+    print_lines("the theorem", theorem)
+    print_lines("other promises", rest)
+    print(f"in all: {sum(whole.values())} lines in {len(whole)} files")
+    changes = [(PROOFS, row, with_numbers(row, found)) for _, found, row in all_claims]
+    for claim, found, _ in all_claims:
+        print(f"{claim}: {sum(found.values())} lines in {len(found)} files")
+    known = (set(), set())
+    for table, crate, row in rows_of_files():
+        changed, named = with_lines(row, crate, (theorem, rest)[table])
+        known[table].update(named)
+        changes.append((PROOFS, row, changed))
+    for files, lines in zip(known, (theorem, rest)):
+        faults.extend(f"{path}, {lines[path]} lines, is not in its table of {PROOFS}" for path in sorted(lines.keys() - files))
+        faults.extend(f"{path} is in a table of {PROOFS}, and no such promise leads to it" for path in sorted(files - lines.keys()))
+    first = sum(count(f"crates/{name}.antt") for name in FIRST)
+    for page in (PROOFS, "docs/TRUST.md"):
+        said = FIRST_LINES.search(read(page))
+        if not said:
+            faults.append(f"{page} does not say how many lines the first files have")
+        else:
+            changes.append((page, f"files of `specs/`, {said[0]} lines", f"files of `specs/`, {first} lines"))
+    return changes
 
 
 def main():
-    reached = trusted()
     other_internals()
-    total = 0
-    for crate in LIBRARIES:
-        files = sorted(path for path in reached if path.startswith(f"crates/{crate}/"))
-        lines = sum(count(path) for path in files)
-        total += lines
-        print(f"{crate}: {lines} lines in {len(files)} files")
-        for path in files:
-            print(f"  {count(path):4} {path}")
-    print(f"{total} lines in {len(reached)} files")
-    known = listed()
-    for path in sorted(reached):
-        if known.get(path) != count(path):
-            faults.append(f"{path} is not in the table of docs/PROOFS.md, or not with {count(path)} lines")
-    for path in sorted(known.keys() - reached):
-        faults.append(f"{path} is in the table of docs/PROOFS.md, and no promise leads to it")
-    check_claims()
+    changes = expected()
+    for page, old, new in changes:
+        if old != new and sys.argv[1:] == ["-w"]:
+            text = read(page).replace(old, new)
+            with open(page, "w", encoding="utf-8") as file:
+                file.write(text)
+        elif old != new:
+            faults.append(f"{page}: {old} should be {new}")
     for fault in faults:
         print(f"fault: {fault}")
     sys.exit(1 if faults else 0)

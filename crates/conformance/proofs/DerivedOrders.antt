@@ -18,7 +18,7 @@ use Rattle.link_out.specs.function.Link.{link}
 use Rattle.link_out.specs.Runs.{link_after}
 use Rattle.laws.specs.Orders.{additions, AreAdded, OrderAddsAlike, AreAlike, OrderLinksAlike}
 use Rattle.link_out.specs.Steps.{and_then, refused_as, unless}
-use Rattle.v7tools.specs.Inputs.{Cause, Refusal, not_added, not_linked, object_in, kept_with, at_path, with_inputs, linked}
+use Rattle.link_out.specs.Inputs.{Cause, Refusal, not_added, not_linked, object_in, kept_with, at_path, with_inputs, linked}
 use Rattle.conformance.specs.Samples.{e_o}
 
 -- a path and the bytes there

@@ -1,11 +1,11 @@
 -- Where the definitions of a stage rule out that memory ran out.
-use Rattle.std.proofs.Common.{◌≡◌, ℕ, ◌≤◌, ◌<◌, true, false, List, [], ◌∷◌, ◌++◌, length, Option, Some}
-use Rattle.std.proofs.Common.{None, Err, refl, ap, ◌∙◌, subst, arith, inl, inr}
+use Rattle.std.proofs.Common.{◌≡◌, ℕ, ◌≤◌, ◌<◌, true, false, List, [], ◌∷◌, length, Some, Err, refl, subst, arith, inl, inr}
 use Rattle.std.specs.Prelude.{IsOk, codes}
 use Rattle.aout_core.specs.declared.file.ReadFault.TheVariants as reads
 use Rattle.aout_core.specs.Contents.{Contents}
 use Rattle.aout_core.specs.Encoding.{encoding}
 use Rattle.aout_core.specs.Reading.{IsReadOf}
+use Rattle.aout_core.specs.Refusals.{refused}
 use Rattle.aout_core.specs.Wires.{Latched}
 use Rattle.link_session.specs.declared.entry.AddFault.TheVariants as adds
 use Rattle.link_session.specs.Labelled.{Labelled}
@@ -37,7 +37,7 @@ entry o = record { label = path; object = o }
 abbrev short : List ℕ
 short = 7 ∷ 1 ∷ 0 ∷ []
 
-read_too_short : IsReadOf (Err reads.Memory) short → ⊥
+read_too_short : IsReadOf (Err (reads.Memory refused)) short → ⊥
 read_too_short (h, announced) = let long : 16 ≤ 3 = h.long in absurd (omega arith)
 
 wanted_for_short : (forced : List (List ℕ)) (kept : List Labelled) → WantsMemory forced kept path short → ⊥
@@ -56,7 +56,7 @@ wanted_for_large (inl (h, announced)) = let more : 16 < 16 = announced in absurd
 wanted_for_large (inr ok) = absurd (cc)
 
 -- its addition alone
-added_large : IsCause (refusal [] (small ∷ []) (sized 0 0 65534 [])) adds.Memory → ⊥
+added_large : IsCause (refusal [] (small ∷ []) (sized 0 0 65534 [])) (adds.Memory refused) → ⊥
 added_large h = absurd (cc)
 
 -- a step, and a line of a session
@@ -81,11 +81,11 @@ line_at_short (inr (inr e)) = counts answer_length (without_memory []) _ refl e
 abbrev input : List ℕ → Input
 input bytes = record { path = path; known = Some bytes; has_failed = false }
 
-first_short : (o : Choices) → IsLinkOver [] o (input short ∷ []) (Err faults.Memory) → ⊥
+first_short : (o : Choices) → IsLinkOver [] o (input short ∷ []) (Err (faults.Memory refused)) → ⊥
 first_short o (works, wants) = wanted_for_short [] [] wants
 
 first_failed : (o : Choices) →
-    IsLinkOver [] o (record { path = path; known = Some (encoding b_o); has_failed = true } ∷ []) (Err faults.Memory) → ⊥
+    IsLinkOver [] o (record { path = path; known = Some (encoding b_o); has_failed = true } ∷ []) (Err (faults.Memory refused)) → ⊥
 first_failed o (works, wants) = absurd (cc)
 
 -- after an object that was accepted, the stage rules out what the result as a whole can't
@@ -94,7 +94,7 @@ second_short (inl (same, stops)) = absurd (cc)
 second_short (inr (next, takes, inl (same, (works, wants)))) = wanted_for_short [] next wants
 second_short (inr (next, takes, inr (last, taken, more))) = absurd more
 
-second_short_over : (o : Choices) → IsLinkOver [] o (input (encoding b_o) ∷ input short ∷ []) (Err faults.Memory)
+second_short_over : (o : Choices) → IsLinkOver [] o (input (encoding b_o) ∷ input short ∷ []) (Err (faults.Memory refused))
 second_short_over o = (refl, inr refl)
 
 -- ---- the final link
@@ -108,10 +108,10 @@ whole = sized 65534 0 0 [] ∷ []
 whole_refused : link [] whole pure ≡ Err links.DoesNotFit
 whole_refused = refl
 
-linked_whole : IsLinkOf (Err links.Memory) (link [] whole pure) → ⊥
+linked_whole : IsLinkOf (Err (links.Memory refused)) (link [] whole pure) → ⊥
 linked_whole h = let made = subst IsOk whole_refused h in absurd (cc)
 
-ld_whole : IsFinalLink (link [] whole pure) (Err faults.Memory) → ⊥
+ld_whole : IsFinalLink (link [] whole pure) (Err (faults.Memory refused)) → ⊥
 ld_whole h = let made = subst IsOk whole_refused h in absurd (cc)
 
 step_whole : (kept : List Labelled) → IsLinkBy kept (link [] whole pure) (without_memory kept) → ⊥

@@ -148,7 +148,7 @@ IsRefusedAbove last most number forced os o TooManySymbols =
 IsRefusedAbove last most number forced os o SymbolNumber =
     (end : ℕ) × EndsAt forced os o end × (end ≤ last) × (entry_count forced os o ≤ most) × (o.relocatable ≡ true)
     × HasNumberTooLarge number forced os o
-IsRefusedAbove last most number forced os o Memory = ⊥
+IsRefusedAbove last most number forced os o (Memory _) = ⊥
 
 abbrev RefusedAbove : ℕ → ℕ → ℕ → Type 0
 RefusedAbove last most number =
@@ -159,7 +159,7 @@ law_of_refusals : RefusedExactly → RefusedAbove 65535 5461 4095
 law_of_refusals law forced os o DoesNotFit good = law forced os o DoesNotFit good
 law_of_refusals law forced os o TooManySymbols good = law forced os o TooManySymbols good
 law_of_refusals law forced os o SymbolNumber good = law forced os o SymbolNumber good
-law_of_refusals law forced os o Memory good = law forced os o Memory good
+law_of_refusals law forced os o (Memory refused) good = law forced os o (Memory refused) good
 
 -- a common of so many bytes
 abbrev wide : ℕ → Contents

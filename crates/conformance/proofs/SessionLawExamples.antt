@@ -1,6 +1,6 @@
 -- The laws of sessions at a sample, and laws near them that do not hold.
 use Rattle.std.specs.declared.alloc.Global.{Global}
-use Rattle.std.proofs.Common.{◌≡◌, ◌≢◌, ℕ, true, false, List, [], ◌∷◌, ◌++◌, Some, None, refl, sym}
+use Rattle.std.proofs.Common.{◌≡◌, ◌≢◌, ℕ, true, false, List, [], ◌∷◌, ◌++◌, Some, None, Ok, Err, refl, sym}
 use Rattle.std.proofs.Common.{◌∙◌, ap, arith, inl, inr, subst, ◌⊎◌}
 use Rattle.std.proofs.lemmas.List.{append-nil}
 use Rattle.std.proofs.lemmas.Slice.Eq.{bytes_eq-Decides}
@@ -9,8 +9,8 @@ use Rattle.std.specs.Prelude.{String, Vec, bytes_eq, codes, cond, decimal}
 use Rattle.clap.proofs.OnLiterals.{clap_on_literals}
 use Rattle.aout_core.specs.Contents.{Contents}
 use Rattle.aout_core.specs.Encoding.{encoding}
-use Rattle.command_words.specs.declared.words.Call.TheVariants.{Ld}
-use Rattle.command_words.specs.Scripts.{to_add, to_withdraw, to_link}
+use Rattle.command_words.specs.declared.words.Call.TheVariants.{Ld, Session}
+use Rattle.command_words.specs.Scripts.{Asked, Given, to_add, to_withdraw, to_link}
 use Rattle.link_session.specs.declared.cell.Cell.{Cell}
 use Rattle.link_session.specs.Labelled.{Labelled}
 use Rattle.link_session.specs.Marks.{HoldCell}
@@ -19,24 +19,28 @@ use Rattle.link_session.specs.Undo as undo
 use Rattle.link_session.specs.Undo.{AreMarksOf}
 use Rattle.tool_options.specs.Choices.{Choices}
 use Rattle.link_out.specs.declared.linked.Linked.{Linked}
+use Rattle.link_out.specs.declared.linked.LinkFault.TheVariants.{DoesNotFit}
 use Rattle.link_out.specs.Outcomes.{outcome_of as result_of}
 use Rattle.link_out.specs.function.Link.{link}
 use Rattle.link_out.specs.function.Reports.{line}
-use Rattle.surroundings.specs.Events.{Event, Opened, opened, stored}
+use Rattle.surroundings.specs.Events.{Event, Opened, opened, opens, stored}
 use Rattle.surroundings.specs.declared.office.Stored.TheVariants.{Kept}
 use Rattle.v7tools.specs.CommandRuns.{AsksFor}
-use Rattle.v7tools.specs.Answers.{Stepped, Verdict, add_step, done}
-use Rattle.v7tools.specs.Inputs.{linked, with_input}
+use Rattle.v7tools.specs.declared.fault.CliFault.TheVariants.{NotLinked}
+use Rattle.v7tools.specs.Answers.{Stepped, Verdict, add_step, done, link_step}
+use Rattle.v7tools.specs.FaultTexts.{fault_line}
+use Rattle.link_out.specs.Inputs.{linked, with_input}
 use Rattle.v7tools.specs.LineRuns.{IsLineOf, LineRun, status_after}
 use Rattle.v7tools.specs.SessionSteps.{AddsIf}
 use Rattle.link_session.specs.declared.mark.Mark.{Mark}
 use Rattle.v7tools.specs.SessionRuns.{answers_of, events_of, lines_asked, worst}
-use Rattle.laws.specs.Disks.{Disk, Run}
+use Rattle.laws.specs.Disks.{Disk, EndsWell, Run}
 use Rattle.laws.specs.StepsByCommands.{Links}
-use Rattle.laws.specs.SessionsByCommands.{AnsweredLines, AreGivenTheSame, CannotRead, CannotWrite, DoesAsLd, FailsBy, IsGivenTheSame, IsKnown, IsUndisturbed}
-use Rattle.laws.specs.SessionsByCommands.{LeavesNoTrace, LinkLineLaw}
-use Rattle.laws.specs.SessionsByCommands.{LinksLeft, RanLines, UndoLaw, files_left, opened_by}
-use Rattle.conformance.specs.Samples.{b_o, e_o, plain}
+use Rattle.laws.specs.SessionsByCommands.{AnsweredLines, AnswersLaw, AreGivenTheSame, AreThere, CannotRead, CannotWrite, DoesAsLd, FailsBy}
+use Rattle.laws.specs.SessionsByCommands.{IsGivenTheSame, IsKnown, IsRefusedAsLd, IsSameOn, IsThere, IsUndisturbed, LeavesNoTrace, LinesLaw}
+use Rattle.laws.specs.SessionsByCommands.{LinkLineLaw, LinksLeft, RanLines, RefusedLineLaw, SameDiskLaw, UndoLaw, files_left}
+use Rattle.laws.specs.SessionsByCommands.{opened_by}
+use Rattle.conformance.specs.Samples.{_x, b_o, e_o, object, plain, sym as sym_of}
 use Rattle.conformance.proofs.LawExamples.{outcome_of}
 use Rattle.conformance.proofs.NeededPremises.{counts}
 use Rattle.conformance.proofs.StepExamples.{a_path, q_path, rows_read, run_links, run_on, whole_asks, whole_words}
@@ -48,6 +52,9 @@ a = codes "a"
 abbrev b : List ℕ
 b = codes "b"
 
+abbrev c : List ℕ
+c = codes "c"
+
 abbrev p : List ℕ
 p = codes "p"
 
@@ -57,13 +64,21 @@ q = codes "q"
 abbrev x : List ℕ
 x = codes "x"
 
--- ---- a script: one file can't be opened, one is added, one is added twice and withdrawn once, and then there is a link
+-- ---- scripts: one file can't be opened, one is added, one is added twice and withdrawn once, and then there is a link; or one more is
+-- added, with which there is no link
 
 abbrev first : Labelled
 first = record { label = a; object = b_o }
 
 abbrev again : Labelled
 again = record { label = b; object = e_o }
+
+-- its common has 65,535 bytes, which end past the last address
+abbrev w_o : Contents
+w_o = object [] [] [] [] 0 (sym_of _x 0o40 65535 ∷ [])
+
+abbrev large : Labelled
+large = record { label = c; object = w_o }
 
 -- what is kept; no addition overwrites anything
 abbrev kept_of : List Labelled → List (List Mark) → undo.Kept
@@ -80,6 +95,9 @@ two = kept_of (first ∷ again ∷ []) ([] ∷ [] ∷ [])
 
 abbrev three : undo.Kept
 three = kept_of (first ∷ again ∷ again ∷ []) ([] ∷ [] ∷ [] ∷ [])
+
+abbrev four : undo.Kept
+four = kept_of (first ∷ again ∷ large ∷ []) ([] ∷ [] ∷ [] ∷ [])
 
 same_cell : (was is : Cell) → is ≡ was → HoldCell was is []
 same_cell was is e = record { same = λ same. refl; changed = λ other. absurd (other e) }
@@ -110,6 +128,18 @@ second_marks = record {
 
 third_marks : AreMarksOf [] (b_o ∷ e_o ∷ []) e_o []
 third_marks = record {
+  undoes = refl;
+  inside = tt;
+  few = omega arith;
+  difference = record {
+    text = λ i was is h k. same_cell was is (let same : Some was ≡ Some is = sym h ∙ k in cc);
+    «data» = λ i was is h k. absurd (cc);
+    names = λ i name h. absurd (cc);
+  };
+}
+
+large_marks : AreMarksOf [] (b_o ∷ e_o ∷ []) w_o []
+large_marks = record {
   undoes = refl;
   inside = tt;
   few = omega arith;
@@ -161,21 +191,46 @@ link_line = record {
   kept = two;
 }
 
+abbrev no_link_line : LineRun
+no_link_line = record { line = to_link p; events = []; answer = line (codes "does not fit"); status = 1; kept = four }
+
 abbrev before : List LineRun
 before = missing_line ∷ add_line a b_o one ∷ add_line b e_o two ∷ []
 
+abbrev before_link : List LineRun
+before_link = before ++ add_line b e_o three ∷ (withdraw_line ∷ [])
+
 abbrev long_lines : List LineRun
-long_lines = before ++ add_line b e_o three ∷ (withdraw_line ∷ (link_line ∷ []))
+long_lines = before_link ++ link_line ∷ []
+
+abbrev before_no_link : List LineRun
+before_no_link = before_link ++ add_line c w_o four ∷ []
+
+abbrev no_link_lines : List LineRun
+no_link_lines = before_no_link ++ no_link_line ∷ []
 
 abbrev short_lines : List LineRun
 short_lines = before ++ link_line ∷ []
 
+abbrev files : Disk
+files at =
+    cond (bytes_eq at a) (Some (encoding b_o)) (cond (bytes_eq at b) (Some (encoding e_o)) (cond (bytes_eq at c) (Some (encoding w_o)) None))
+
+abbrev text_of : Asked → List ℕ
+text_of (to_add path) = line (codes "add " ++ path)
+text_of (to_link path) = line (codes "link " ++ path)
+text_of to_withdraw = line (codes "withdraw")
+text_of _ = []
+
+abbrev session_words : List (List ℕ)
+session_words = codes "session" ∷ []
+
 -- a session that ran these lines
 abbrev session_of : List LineRun → Run (List ℕ) (List ℕ)
 session_of lines = record {
-  words = codes "session" ∷ [];
-  script = None;
-  disk = λ path. None;
+  words = session_words;
+  script = Some (flat_map text_of (lines_asked lines));
+  disk = files;
   earlier = [];
   events = events_of lines;
   output_before = holding [];
@@ -233,6 +288,20 @@ withdraw_is = record {
   changes = (again, record { forced = refl; entries = refl; marks = []; journal = refl });
 }
 
+large_adds : Adds two four large
+large_adds = record { forced = refl; entries = refl; marks = []; journal = refl; are = large_marks }
+
+large_is : IsLineOf plain two (add_line c w_o four) (to_add c)
+large_is = adds_is c w_o two four (add_step two.entries c (with_input [] two.entries c (encoding w_o))) refl refl refl refl large_adds
+
+no_link_is : IsLineOf plain four no_link_line (to_link p)
+no_link_is = inl (record {
+  did = link_step four.entries (link [] (b_o ∷ e_o ∷ w_o ∷ []) plain);
+  is_link = inl refl;
+  refuses = refl;
+  only_answer = record { events = refl; does = record { answer = refl; status = refl; entries = refl }; same = refl };
+})
+
 link_is : IsLineOf plain two link_line (to_link p)
 link_is = inr (record {
   outcome = result_of made;
@@ -248,7 +317,7 @@ long_ran : RanLines contents contents [] plain (session_of long_lines) long_line
 long_ran = record {
   kept = two;
   chain = (missing_is, (first_is, (second_is, (third_is, (withdraw_is, (link_is, refl))))));
-  lines = tt;
+  lines = refl;
   events = refl;
   answers = refl;
   status = refl;
@@ -258,7 +327,17 @@ short_ran : RanLines contents contents [] plain (session_of short_lines) short_l
 short_ran = record {
   kept = two;
   chain = (missing_is, (first_is, (second_is, (link_is, refl))));
-  lines = tt;
+  lines = refl;
+  events = refl;
+  answers = refl;
+  status = refl;
+}
+
+no_link_ran : RanLines contents contents [] plain (session_of no_link_lines) no_link_lines
+no_link_ran = record {
+  kept = four;
+  chain = (missing_is, (first_is, (second_is, (third_is, (withdraw_is, (large_is, (no_link_is, refl)))))));
+  lines = refl;
   events = refl;
   answers = refl;
   status = refl;
@@ -270,11 +349,46 @@ answered_of : (runs : List LineRun) → RanLines contents contents [] plain (ses
 answered_of runs h = record {
   kept = h.kept;
   chain = h.chain;
-  lines = tt;
+  lines = ([], ap (λ (g : Given). g.lines) h.lines ∙ sym (append-nil (lines_asked runs)));
   further = [];
   events = sym (append-nil (events_of runs));
   part = [];
   answers = sym (append-nil (answers_of runs));
+}
+
+-- `perform` may run it so
+session_asks : AsksFor session_words (Session plain [])
+unfolding clap_on_literals
+session_asks = record {
+  whole = (refl, (omega arith, refl));
+  asked = (refl, rows_read session_words, refl, (refl, refl, refl));
+  dashes = refl;
+}
+
+long_session : EndsWell contents contents (session_of long_lines)
+long_session = record {
+  performs = (
+    Ok 1,
+    inr (record {
+      call = Session plain [];
+      asks = session_asks;
+      run = inr (inl (record {
+        runs = long_lines;
+        kept = two;
+        ran = record {
+          chain = long_ran.chain;
+          asked = refl;
+          answers = refl;
+          working = λ e. e;
+          latched = λ failed. absurd (cc);
+        };
+        ends = (refl, refl);
+      }));
+    }),
+    (refl, refl),
+  );
+  on_disk = (refl, (refl, (refl, tt)));
+  no_fault = omega arith;
 }
 
 -- ---- ld of what is left
@@ -296,43 +410,151 @@ both_asks = record {
   dashes = refl;
 }
 
-abbrev both_files : Disk
-both_files at = cond (bytes_eq at a) (Some (encoding b_o)) (cond (bytes_eq at b) (Some (encoding e_o)) None)
-
 abbrev left : List Opened
 left = (a, Some (encoding b_o)) ∷ (b, Some (encoding e_o)) ∷ []
 
 -- the refused file is not among them, and the one that was added twice is there once
-left_is : files_left (before ++ add_line b e_o three ∷ (withdraw_line ∷ [])) ≡ left
+left_is : files_left before_link ≡ left
 left_is = refl
 
 abbrev ld_run : Run (List ℕ) (List ℕ)
-ld_run = run_of both_words both_files left q_path made
+ld_run = run_of both_words files left q_path made
 
 ld_links : Links contents contents [] plain q (a ∷ b ∷ []) ld_run
 ld_links =
-    links both_words both_files left q_path made [] plain both_paths both_asks (first ∷ again ∷ []) refl (
+    links both_words files left q_path made [] plain both_paths both_asks (first ∷ again ∷ []) refl (
       first ∷ [],
       record { works = refl; object = b_o; is_found = refl; accepts = refl },
       (first ∷ again ∷ [], record { works = refl; object = e_o; is_found = refl; accepts = refl }, refl),
     ) refl refl (refl, (refl, tt))
+
+is_there : (path : List ℕ) (file : Contents) → files path ≡ Some (encoding file) → IsThere files (path, Some (encoding file))
+is_there path file at = record { bytes = encoding file; read = refl; there = at }
 
 ld_left : LinksLeft contents contents [] plain q left ld_run
 ld_left = record {
   asks = ld_links.asks;
   performs = ld_links.ends.performs;
   on_disk = ld_links.ends.on_disk;
-  there = (record { bytes = encoding b_o; read = refl; there = refl }, (record { bytes = encoding e_o; read = refl; there = refl }, tt));
+  there = (is_there a b_o refl, (is_there b e_o refl, tt));
+}
+
+-- ld of what is left before the link that is refused
+
+abbrev c_path : String Global
+c_path = record { bytes = vector c (omega arith); ok = ∣ (c, (refl, as_written 99 (omega arith))) ∣₁ }
+
+abbrev all_paths : Vec (String Global) Global
+all_paths = vector (a_path ∷ b_path ∷ c_path ∷ []) (omega arith)
+
+abbrev all_words : List (List ℕ)
+all_words = codes "ld" ∷ codes "-o" ∷ q ∷ a ∷ b ∷ c ∷ []
+
+all_asks : AsksFor all_words (Ld plain [] q_path all_paths)
+unfolding clap_on_literals
+all_asks = record {
+  whole = (omega arith, refl, (omega arith, refl));
+  asked = (refl, rows_read all_words, refl, (refl, refl, refl, refl));
+  dashes = refl;
+}
+
+abbrev all_left : List Opened
+all_left = files_left before_no_link
+
+abbrev no_ld_run : Run (List ℕ) (List ℕ)
+no_ld_run = record {
+  words = all_words;
+  script = None;
+  disk = files;
+  earlier = [];
+  events = opens all_left;
+  output_before = holding [];
+  output_after = holding [];
+  error_before = holding [];
+  error_after = holding (fault_line (NotLinked DoesNotFit));
+  status = 2;
+}
+
+no_ld_left : LinksLeft contents contents [] plain q all_left no_ld_run
+no_ld_left = record {
+  asks = record { output = q_path; files = all_paths; asks = all_asks; out_path = refl; file_paths = refl };
+  performs = (
+    Err (NotLinked DoesNotFit),
+    inr (record {
+      call = Ld plain [] q_path all_paths;
+      asks = all_asks;
+      run = inr (inr (inl (record {
+        fault = NotLinked DoesNotFit;
+        found = all_left;
+        answer = record {
+          all = refl;
+          link = record {
+            over = inr (record {
+              kept = four.entries;
+              taken = (
+                first ∷ [],
+                record { works = refl; object = b_o; is_found = refl; accepts = refl },
+                (
+                  first ∷ again ∷ [],
+                  record { works = refl; object = e_o; is_found = refl; accepts = refl },
+                  (four.entries, record { works = refl; object = w_o; is_found = refl; accepts = refl }, refl),
+                ),
+              );
+              none = refl;
+            });
+            bytes = refl;
+          };
+        };
+        asked = refl;
+        refuses = record { refusal = refl; silent = refl };
+      })));
+    }),
+    (refl, refl),
+  );
+  on_disk = (refl, (refl, (refl, tt)));
+  there = (is_there a b_o refl, (is_there b e_o refl, (is_there c w_o refl, tt)));
 }
 
 -- ---- the laws here
+
+calm : (answer text : List ℕ) → bytes_eq answer text ≡ false → answer ≢ text
+calm answer text apart e =
+    let same : bytes_eq answer text ≡ true = (bytes_eq-Decides answer text).1 e in
+    let bad : true ≡ false = sym same ∙ apart in cc
+
+-- the session is a run of lines of its script
+lines_of_session : LinesLaw contents contents → (runs : List LineRun) × RanLines contents contents [] plain (session_of long_lines) runs
+lines_of_session law = law [] plain (session_of long_lines) session_asks long_session
+
+lines_answered : AnswersLaw contents contents → (runs : List LineRun) × AnsweredLines contents contents [] plain (session_of long_lines) runs
+lines_answered law = law [] plain (session_of long_lines) session_asks long_session.performs
+
+-- ld is refused as the line was
+refused_as_line : RefusedLineLaw contents contents → IsRefusedAsLd contents contents no_link_line no_ld_run
+refused_as_line law =
+    law [] plain (session_of no_link_lines) no_ld_run before_no_link [] no_link_line p q (answered_of no_link_lines no_link_ran)
+    refl refl (calm _ _ refl) no_ld_left
+
+-- a disk on which the file that was refused is there, and the one that did not fit is not
+abbrev later : Disk
+later at = cond (bytes_eq at x) (Some []) (cond (bytes_eq at a) (Some (encoding b_o)) (cond (bytes_eq at b) (Some (encoding e_o)) None))
+
+there_later : SameDiskLaw contents contents → AreThere later left
+there_later law =
+    law [] plain (session_of long_lines) before_link (link_line ∷ []) later (answered_of long_lines long_ran) long_session.on_disk
+    (same_on a b_o refl refl, (same_on b e_o refl refl, tt))
+  where
+    same_on : (path : List ℕ) (file : Contents) → files path ≡ Some (encoding file) → later path ≡ Some (encoding file) →
+        IsSameOn files later (events_of before_link) (path, Some (encoding file))
+    same_on path file one other =
+        record { bytes = encoding file; first = one; second = other; untouched = (tt, (tt, (tt, (tt, tt)))) }
 
 -- the law of a link gives that ld stores, writes and answers as the line did
 link_of_left : LinkLineLaw contents contents →
     DoesAsLd contents contents p q made.file left link_line ld_run
     ⊎ (FailsBy contents contents CannotRead ld_run ⊎ FailsBy contents contents CannotWrite ld_run)
 link_of_left law =
-    law [] plain (session_of long_lines) ld_run (before ++ add_line b e_o three ∷ (withdraw_line ∷ [])) [] link_line p q made.file
+    law [] plain (session_of long_lines) ld_run before_link [] link_line p q made.file
     (answered_of long_lines long_ran) refl refl ld_left
 
 -- nothing failed here
@@ -345,11 +567,6 @@ has_linked law = by_end (link_of_left law)
     by_end (inl h) = h
     by_end (inr (inl h)) = absurd (counts (λ (n : ℕ). n) 0 2 refl h.0)
     by_end (inr (inr h)) = absurd (counts (λ (n : ℕ). n) 0 2 refl h.0)
-
-calm : (answer text : List ℕ) → bytes_eq answer text ≡ false → answer ≢ text
-calm answer text apart e =
-    let same : bytes_eq answer text ≡ true = (bytes_eq-Decides answer text).1 e in
-    let bad : true ≡ false = sym same ∙ apart in cc
 
 -- a line is given what it is given
 alike : (r : LineRun) → AllByRecursion IsKnown r.events → IsUndisturbed r.line r.answer → IsGivenTheSame r r
@@ -380,10 +597,10 @@ abbrev refused_lines : List LineRun
 refused_lines = missing_line ∷ nothing_line ∷ []
 
 refused_ran : RanLines contents contents [] plain (session_of refused_lines) refused_lines
-refused_ran = record { kept = none; chain = (missing_is, (nothing_is, refl)); lines = tt; events = refl; answers = refl; status = refl }
+refused_ran = record { kept = none; chain = (missing_is, (nothing_is, refl)); lines = refl; events = refl; answers = refl; status = refl }
 
 silent_ran : RanLines contents contents [] plain (session_of []) []
-silent_ran = record { kept = none; chain = refl; lines = tt; events = refl; answers = refl; status = refl }
+silent_ran = record { kept = none; chain = refl; lines = refl; events = refl; answers = refl; status = refl }
 
 undo_of_refused : ((forced : List (List ℕ)) (o : Choices) (long short : Run (List ℕ) (List ℕ)) (before after others : List LineRun)
     (add withdraw : LineRun) (path : List ℕ) →
@@ -440,7 +657,7 @@ back_ran : RanLines contents contents [] plain (session_of back_lines) back_line
 back_ran = record {
   kept = none;
   chain = (first_is, (back_is, (empty_is, refl)));
-  lines = tt;
+  lines = refl;
   events = refl;
   answers = refl;
   status = refl;

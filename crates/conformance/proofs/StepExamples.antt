@@ -25,7 +25,7 @@ use Rattle.command_words.specs.declared.words.Call.TheVariants.{Ld}
 use Rattle.command_words.specs.Tools.{v7_app}
 use Rattle.v7tools.specs.CommandRuns.{AsksFor}
 use Rattle.surroundings.specs.Events.{Opened}
-use Rattle.v7tools.specs.Inputs.{kept_with, linked, object_in}
+use Rattle.link_out.specs.Inputs.{kept_with, linked, object_in}
 use Rattle.v7tools.specs.LinkAnswers.{TakesAll}
 use Rattle.v7tools.specs.LinkRuns.{inputs_opened}
 use Rattle.laws.specs.Disks.{Disk, Run, file_after}

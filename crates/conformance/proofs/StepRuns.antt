@@ -21,7 +21,7 @@ use Rattle.link_out.specs.function.Reports.{report_text, status_of}
 use Rattle.command_words.specs.declared.words.Call.TheVariants.{Ld}
 use Rattle.v7tools.specs.CommandRuns.{AsksFor}
 use Rattle.surroundings.specs.Events.{Event, Opened, opens, paths_of, stored}
-use Rattle.v7tools.specs.Inputs.{linked}
+use Rattle.link_out.specs.Inputs.{linked}
 use Rattle.v7tools.specs.LinkAnswers.{TakesAll, known_inputs}
 use Rattle.v7tools.specs.LinkRuns.{inputs_opened}
 use Rattle.surroundings.specs.declared.office.Stored.TheVariants.{Kept}

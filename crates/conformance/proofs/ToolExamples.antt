@@ -10,7 +10,7 @@ use Rattle.texts.specs.Numbers.{six_digits}
 use Rattle.symtools.specs.NmLists.{nm_text}
 use Rattle.symtools.specs.SizeLines.{size_line, size_text}
 use Rattle.link_out.specs.Steps.{refused_as}
-use Rattle.v7tools.specs.Inputs.{of_input, bad_file, bad_object, linked, not_linked}
+use Rattle.link_out.specs.Inputs.{of_input, bad_file, bad_object, linked, not_linked}
 use Rattle.conformance.specs.Samples.{sym, header, object, L1, a_o, b_o, e_o, s_o, plain_s}
 
 nm_orders : nm_text (record {

@@ -20,7 +20,7 @@ use Rattle.link_session.specs.Labelled.{Labelled, objects}
 use Rattle.link_session.specs.Starts.{total}
 use Rattle.surroundings.specs.Events.{Event, Opened, opens, paths_of}
 use Rattle.link_out.specs.Steps.{unless}
-use Rattle.v7tools.specs.Inputs.{Cause, bad_object, not_added, object_in}
+use Rattle.link_out.specs.Inputs.{Cause, bad_object, not_added, object_in}
 use Rattle.v7tools.specs.LinkAnswers.{TakesAll}
 use Rattle.v7tools.specs.LinkRuns.{inputs_opened}
 use Rattle.laws.specs.Disks.{Disk, IsOn, disk_after, with_file}

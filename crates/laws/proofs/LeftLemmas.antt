@@ -16,7 +16,7 @@ use Rattle.tool_options.specs.Choices.{Choices}
 use Rattle.surroundings.specs.Events.{Event, Opened}
 use Rattle.command_words.specs.Scripts.{Asked, to_add, to_withdraw, for_externals, for_undefined, to_link, for_nothing}
 use Rattle.v7tools.specs.Answers.{Verdict, done, refused, Stepped, add_step, withdraw_step}
-use Rattle.v7tools.specs.Inputs.{Cause, Refusal, not_added, at_path, kept_with, object_in, with_input, with_inputs}
+use Rattle.link_out.specs.Inputs.{Cause, Refusal, not_added, at_path, kept_with, object_in, with_input, with_inputs}
 use Rattle.v7tools.specs.LineRuns.{DoesStep, IsAddOf, IsLineOf, LineRun, OpensOne, status_after}
 use Rattle.v7tools.specs.LinkAnswers.{Input, Takes, TakesAll, known_inputs}
 use Rattle.v7tools.specs.LinkRuns.{inputs_opened}

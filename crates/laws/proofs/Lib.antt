@@ -29,7 +29,6 @@ mod IsomorphismLemmas
 pub mod InstructionPlaceLemmas
 mod OperandWordLemmas
 pub mod OperandPlaceLemmas
-mod ShownInstructionLemmas
 pub mod ReachedInstructionLemmas
 pub mod CallLemmas
 pub mod RunLemmas

@@ -57,16 +57,16 @@ module _ {W E : Type 0} (out_contents : W → Option (List ℕ)) (error_contents
   by_call forced o r status is (Strip files) same run = absurd same
 
   pub lines_law : LinesLaw out_contents error_contents
-  lines_law forced o r h = by_result h.ends.performs.0 h.ends.performs.1 h.ends.performs.2
+  lines_law forced o r asks well = by_result well.performs.0 well.performs.1 well.performs.2
     where
       by_result : (result : Result ℕ CliFault) → RunsWords out_contents r.words r.script (Some r.earlier)
           (Some (r.earlier ++ r.events)) result r.output_before r.output_after →
           Ends error_contents result r.status r.error_before r.error_after → HasRun forced o r
       by_result (Err fault) runs ends =
-          absurd (let small : r.status ≤ 1 = h.ends.no_fault in let two : r.status ≡ 2 = ends.0 in omega arith)
+          absurd (let small : r.status ≤ 1 = well.no_fault in let two : r.status ≡ 2 = ends.0 in omega arith)
       by_result (Ok status) (inl k) ends = absurd (no_fault status _ k.refuses.refusal)
       by_result (Ok status) (inr k) ends =
-          by_call forced o r status ends.0 k.call (same_session r.words forced o h.asks k.call k.asks) k.run
+          by_call forced o r status ends.0 k.call (same_session r.words forced o asks k.call k.asks) k.run
 
   -- ---- whatever ends it
 
@@ -95,7 +95,7 @@ module _ {W E : Type 0} (out_contents : W → Option (List ℕ)) (error_contents
   stops_first script lines faults.LongLine h = all_first script lines (Some long_line) h
   stops_first script lines faults.ManyLines h = all_first script lines (Some many_lines) h
   stops_first script lines faults.ScriptFailed h = h
-  stops_first script lines faults.Memory h = named_first script lines h
+  stops_first script lines (faults.Memory _) h = named_first script lines h
   stops_first script lines faults.Usage h = absurd h
   stops_first script lines (faults.CannotOpen path) h = absurd h
   stops_first script lines (faults.BadFile path fault) h = absurd h

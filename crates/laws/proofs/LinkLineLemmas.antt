@@ -7,6 +7,7 @@ use Rattle.std.specs.Prelude.{IfSome, String, codes, decimal, string_bytes}
 use Rattle.std.specs.List.{AllByRecursion}
 use Rattle.aout_core.specs.declared.file.ReadFault.TheVariants as reads
 use Rattle.aout_core.specs.Contents.{Contents}
+use Rattle.aout_core.specs.Refusals.{refused}
 use Rattle.command_words.specs.declared.words.Call.{Call}
 use Rattle.command_words.specs.declared.words.Call.TheVariants.{Ld, Nm, Size, Strip, Session}
 use Rattle.command_words.specs.Scripts.{Asked, to_link}
@@ -32,7 +33,7 @@ use Rattle.v7tools.specs.Answers.{Stepped, link_answer_text, link_status, link_s
 use Rattle.v7tools.specs.Calls.{fault_of_words}
 use Rattle.v7tools.specs.CommandRuns.{Ends, IsCallRun, RunsWords}
 use Rattle.v7tools.specs.FaultTexts.{cli_text, no_memory}
-use Rattle.v7tools.specs.Inputs.{Refusal, linked, not_linked}
+use Rattle.link_out.specs.Inputs.{Refusal, linked, not_linked}
 use Rattle.v7tools.specs.LineRuns.{IsLineOf, LineRun}
 use Rattle.v7tools.specs.LinkAnswers.{IsLinkOfBytes, IsTrueOf, known_inputs, said_by}
 use Rattle.v7tools.specs.LinkRuns.{IsLinkOfFiles, IsLinkRun, Refuses, Reports, ReportsIf, inputs_opened}
@@ -144,24 +145,24 @@ reason : (cause : LinkFault) (fault : CliFault) →
 reason cause faults.Usage h = absurd h
 reason cause (faults.CannotOpen path) h = absurd h
 reason cause (faults.BadFile path reads.Device) h = inr tt
-reason cause (faults.BadFile path reads.Memory) h = absurd h
+reason cause (faults.BadFile path (reads.Memory _)) h = absurd h
 reason cause (faults.BadFile path reads.ShortHeader) h = absurd (cc)
 reason cause (faults.BadFile path reads.BadMagic) h = absurd (cc)
 reason cause (faults.BadFile path reads.OddSize) h = absurd (cc)
 reason cause (faults.BadFile path reads.Truncated) h = absurd (cc)
 reason cause (faults.BadObject path fault) h = absurd (cc)
-reason cause (faults.NotAdded path adds.Memory) h = absurd h
+reason cause (faults.NotAdded path (adds.Memory _)) h = absurd h
 reason cause (faults.NotAdded path adds.TextFull) h = absurd (cc)
 reason cause (faults.NotAdded path adds.DataFull) h = absurd (cc)
 reason cause (faults.NotAdded path adds.BssFull) h = absurd (cc)
 reason cause (faults.NotAdded path adds.NamesFull) h = absurd (cc)
-reason cause (faults.NotLinked links.Memory) h = absurd h
+reason cause (faults.NotLinked (links.Memory _)) h = absurd h
 reason cause (faults.NotLinked links.DoesNotFit) h = let same : cause ≡ links.DoesNotFit = cc in inl (ap link_text (sym same))
 reason cause (faults.NotLinked links.TooManySymbols) h = let same : cause ≡ links.TooManySymbols = cc in inl (ap link_text (sym same))
 reason cause (faults.NotLinked links.SymbolNumber) h = let same : cause ≡ links.SymbolNumber = cc in inl (ap link_text (sym same))
 reason cause (faults.CannotCreate path) h = absurd h
 reason cause faults.WriteFailed h = absurd h
-reason cause faults.Memory h = inr tt
+reason cause (faults.Memory _) h = inr tt
 reason cause faults.LongLine h = absurd h
 reason cause faults.ManyLines h = absurd h
 reason cause faults.ScriptFailed h = absurd h
@@ -198,7 +199,7 @@ module _ {W E : Type 0} (out_contents : W → Option (List ℕ)) (error_contents
       by_words : (asks : AsksToLink l.words forced o q paths) →
           RunsWords out_contents l.words l.script (Some l.earlier) (Some (l.earlier ++ l.events)) result l.output_before l.output_after → LdRan
       by_words asks (inl h) =
-          let memory : h.fault ≡ faults.Memory =
+          let memory : h.fault ≡ faults.Memory refused =
           h.of_words.1 ∙ ap fault_of_words (h.of_words.2 (Ld o forced asks.output asks.files) asks.asks.whole asks.asks.asked asks.asks.dashes) in
           record {
             result = result;
@@ -276,31 +277,31 @@ module _ {W E : Type 0} (out_contents : W → Option (List ℕ)) (error_contents
     no_reason faults.Usage h = absurd h
     no_reason (faults.CannotOpen path) h = tt
     no_reason (faults.BadFile path reads.Device) h = tt
-    no_reason (faults.BadFile path reads.Memory) h = absurd h
+    no_reason (faults.BadFile path (reads.Memory _)) h = absurd h
     no_reason (faults.BadFile path reads.ShortHeader) h = absurd (cc)
     no_reason (faults.BadFile path reads.BadMagic) h = absurd (cc)
     no_reason (faults.BadFile path reads.OddSize) h = absurd (cc)
     no_reason (faults.BadFile path reads.Truncated) h = absurd (cc)
     no_reason (faults.BadObject path fault) h = absurd (cc)
-    no_reason (faults.NotAdded path adds.Memory) h = absurd h
+    no_reason (faults.NotAdded path (adds.Memory _)) h = absurd h
     no_reason (faults.NotAdded path adds.TextFull) h = absurd (cc)
     no_reason (faults.NotAdded path adds.DataFull) h = absurd (cc)
     no_reason (faults.NotAdded path adds.BssFull) h = absurd (cc)
     no_reason (faults.NotAdded path adds.NamesFull) h = absurd (cc)
-    no_reason (faults.NotLinked links.Memory) h = absurd h
+    no_reason (faults.NotLinked (links.Memory _)) h = absurd h
     no_reason (faults.NotLinked links.DoesNotFit) h = absurd (cc)
     no_reason (faults.NotLinked links.TooManySymbols) h = absurd (cc)
     no_reason (faults.NotLinked links.SymbolNumber) h = absurd (cc)
     no_reason (faults.CannotCreate path) h = absurd h
     no_reason faults.WriteFailed h = absurd h
-    no_reason faults.Memory h = tt
+    no_reason (faults.Memory _) h = tt
     no_reason faults.LongLine h = absurd h
     no_reason faults.ManyLines h = absurd h
     no_reason faults.ScriptFailed h = absurd h
 
     ended_by : (output : String Global) → string_bytes output ≡ q → IsLinkRun out_contents forced o output (paths_of left) (Some l.earlier)
         (Some (l.earlier ++ l.events)) result l.output_before l.output_after → Ended
-    ended_by output at (inl h) = inr (inl (failed CannotRead faults.Memory h.1.refusal tt))
+    ended_by output at (inl h) = inr (inl (failed CannotRead (faults.Memory refused) h.1.refusal tt))
     ended_by output at (inr (inl h)) = inr (inl (failed CannotRead (faults.CannotOpen h.path) h.refuses.refusal tt))
     ended_by output at (inr (inr (inl h))) =
         let events : l.events ≡ opens h.found = events_are l forced o left there on_disk (opens h.found) h.asked in
@@ -350,7 +351,7 @@ module _ {W E : Type 0} (out_contents : W → Option (List ℕ)) (error_contents
     by_ran : (output : String Global) → IsLinkRun out_contents forced o output (paths_of left) (Some l.earlier)
         (Some (l.earlier ++ l.events)) result l.output_before l.output_after → IsRefusedAsLd out_contents error_contents r l
     by_ran output (inl h) =
-        refused_by faults.Memory h.1 (subst (λ (es : List Event). AllByRecursion IsOpening es) (sym (asked [] h.0)) tt) (inr tt)
+        refused_by (faults.Memory refused) h.1 (subst (λ (es : List Event). AllByRecursion IsOpening es) (sym (asked [] h.0)) tt) (inr tt)
     by_ran output (inr (inl h)) =
         refused_by (faults.CannotOpen h.path) h.refuses
         (subst (λ (es : List Event). AllByRecursion IsOpening es) (sym (asked _ h.stops.asked))

@@ -52,7 +52,32 @@ use Rattle.laws.specs.ReachedInstructions.{kind_said, HasOperandSaid, ReachedIns
 use Rattle.laws.proofs.InstructionLemmas.{moves_low}
 use Rattle.laws.proofs.InstructionPlaceLemmas.{instructions_there}
 use Rattle.laws.proofs.OperandPlaceLemmas.{operands_there}
-use Rattle.laws.proofs.ShownInstructionLemmas.{words_from, at_head}
+
+-- the word at a place, and those after it
+words_after : (ws : List ℕ) (i : ℕ) → i < length ws → drop i ws ≡ slice_index ws i ∷ drop (suc i) ws
+words_after [] i h = absurd (omega arith)
+words_after (w ∷ ws) zero h = refl
+words_after (w ∷ ws) (suc i) h = words_after ws i (omega arith)
+
+-- splits the words from a place on into the first and the others
+words_from : (ws : List ℕ) (i : ℕ) → i < length ws → drop i ws ≡ slice_index ws i ∷ drop (i + 1) ws
+words_from ws i h = let e : suc i ≡ i + 1 = omega arith in words_after ws i h ∙ ap (λ (n : ℕ). slice_index ws i ∷ drop n ws) e
+
+head_of : (ws : List ℕ) (i w : ℕ) (more : List ℕ) → drop i ws ≡ w ∷ more →
+    line_of (instruction_of (slice_index ws i)) (slice_index ws i) (drop (suc i) ws) ≡ line_of (instruction_of w) w more
+head_of [] zero w more e = absurd cc
+head_of [] (suc i) w more e = absurd cc
+head_of (v ∷ ws) zero w more e =
+    let same : v ≡ w = cc in
+    let rest : ws ≡ more = cc in
+    (λ j. line_of (instruction_of (same j)) (same j) (rest j))
+head_of (v ∷ ws) (suc i) w more e = head_of ws i w more e
+
+-- so the line there is that of the first word
+at_head : (ws : List ℕ) (i w : ℕ) (more : List ℕ) → drop i ws ≡ w ∷ more → line_at ws i ≡ line_of (instruction_of w) w more
+at_head ws i w more e =
+    let next : i + 1 ≡ suc i = omega arith in
+    ap (λ (n : ℕ). line_of (instruction_of (slice_index ws i)) (slice_index ws i) (drop n ws)) next ∙ head_of ws i w more e
 
 -- the instruction of a system call has no operand word
 

@@ -12,7 +12,8 @@ use Rattle.link_session.proofs.ListLemmas.{all_append}
 use Rattle.surroundings.specs.Events.{Event, Opened, opened, stored, written}
 use Rattle.v7tools.specs.LineRuns.{LineRun}
 use Rattle.v7tools.specs.SessionRuns.{events_of}
-use Rattle.laws.specs.Disks.{Disk, IsOn, bytes_left, disk_after, text_left, with_file}
+use Rattle.aout_core.specs.Encoding.{encoding}
+use Rattle.laws.specs.Disks.{Disk, IsOn, disk_after, text_left, with_file}
 use Rattle.laws.specs.SessionsByCommands.{AreThere, IsSameOn, SameDiskLaw, StoresNot, files_left, left_after, left_by, opened_by}
 
 -- a file that is stored elsewhere changes nothing at a path
@@ -28,7 +29,7 @@ untouched : (disk : Disk) (path : List ℕ) (events : List Event) → AllByRecur
 untouched disk path [] h = refl
 untouched disk path (opened at found ∷ events) h = untouched disk path events h.1
 untouched disk path (stored at file what ∷ events) h =
-    untouched (with_file disk at (bytes_left file what)) path events h.1 ∙ elsewhere disk at path (bytes_left file what) h.0
+    untouched (with_file disk at (text_left (encoding file) what)) path events h.1 ∙ elsewhere disk at path (text_left (encoding file) what) h.0
 untouched disk path (written at text what ∷ events) h =
     untouched (with_file disk at (text_left text what)) path events h.1 ∙ elsewhere disk at path (text_left text what) h.0
 
@@ -37,7 +38,7 @@ later_on : (disk : Disk) (first then : List Event) → IsOn disk (first ++ then)
 later_on disk [] then h = h
 later_on disk (opened path None ∷ events) then h = later_on disk events then h
 later_on disk (opened path (Some known) ∷ events) then h = later_on disk events then h.1
-later_on disk (stored path file what ∷ events) then h = later_on (with_file disk path (bytes_left file what)) events then h
+later_on disk (stored path file what ∷ events) then h = later_on (with_file disk path (text_left (encoding file) what)) events then h
 later_on disk (written path text what ∷ events) then h = later_on (with_file disk path (text_left text what)) events then h
 
 all_but_last : {A : Type 0} (P : A → Type 0) (xs : List A) → AllByRecursion P xs → AllByRecursion P (without_last xs)

@@ -24,7 +24,7 @@ use Rattle.surroundings.specs.Events.{Event, opened, stored}
 use Rattle.v7tools.specs.Answers.{absent, adding, anything_else, listing_externals, listing_undefined, withdrawing}
 use Rattle.v7tools.specs.Answers.{Verdict, done, refused, to_store, Stepped, add_step, link_answer_text, link_status, link_step, step}
 use Rattle.v7tools.specs.Answers.{withdraw_step}
-use Rattle.v7tools.specs.Inputs.{Cause, not_added, kept_with, object_in, with_input}
+use Rattle.link_out.specs.Inputs.{Cause, not_added, kept_with, object_in, with_input}
 use Rattle.v7tools.specs.LineRuns.{DoesStep, IsAddOf, IsLineOf, LineRun, LinksNone, OpensOne, status_after}
 use Rattle.v7tools.specs.SessionRuns.{Chains, answers_of, events_of, lines_asked, worst}
 use Rattle.v7tools.specs.SessionSteps.{AddsIf, IsLinkBy, WithdrawsIf}

@@ -4,7 +4,6 @@
 -- bytes at a path. If each opening gives these bytes, or those that were stored there last, several runs may be taken as one.
 use Rattle.std.specs.Prelude.{◌≡◌, ℕ, ◌≤◌, cond, List, [], ◌∷◌, ◌++◌, Option, Some, None, IfSome, bytes_eq}
 use Rattle.std.specs.Io.KnownBytes.{Appends}
-use Rattle.aout_core.specs.Contents.{Contents}
 use Rattle.aout_core.specs.Encoding.{encoding}
 use Rattle.aout_core.specs.Wires.{Latched}
 use Rattle.v7tools.specs.CommandRuns.{Performs}
@@ -20,10 +19,6 @@ abbrev pub with_file : Disk → List ℕ → Option (List ℕ) → Disk
 with_file disk path bytes at = cond (bytes_eq at path) bytes (disk at)
 
 -- what is known of a path at which a file was to be stored: the bytes, if the file was stored whole
-abbrev pub bytes_left : Contents → Stored → Option (List ℕ)
-bytes_left file Kept = Some (encoding file)
-bytes_left file _ = None
-
 abbrev pub text_left : List ℕ → Stored → Option (List ℕ)
 text_left text Kept = Some text
 text_left text _ = None
@@ -32,7 +27,7 @@ text_left text _ = None
 abbrev pub disk_after : Disk → List Event → Disk
 disk_after disk [] = disk
 disk_after disk (opened path found ∷ events) = disk_after disk events
-disk_after disk (stored path file what ∷ events) = disk_after (with_file disk path (bytes_left file what)) events
+disk_after disk (stored path file what ∷ events) = disk_after (with_file disk path (text_left (encoding file) what)) events
 disk_after disk (written path text what ∷ events) = disk_after (with_file disk path (text_left text what)) events
 
 -- each file that was opened gave the bytes that are known to be at its path
@@ -40,7 +35,7 @@ abbrev pub IsOn : Disk → List Event → Type 0
 IsOn disk [] = Unit {0}
 IsOn disk (opened path None ∷ events) = IsOn disk events
 IsOn disk (opened path (Some known) ∷ events) = IfSome (disk path) (λ bytes. known ≡ Some bytes) × IsOn disk events
-IsOn disk (stored path file what ∷ events) = IsOn (with_file disk path (bytes_left file what)) events
+IsOn disk (stored path file what ∷ events) = IsOn (with_file disk path (text_left (encoding file) what)) events
 IsOn disk (written path text what ∷ events) = IsOn (with_file disk path (text_left text what)) events
 
 -- a run of the program: its arguments and script, the disk before it, what was asked of the system before and by it, standard

@@ -9,7 +9,6 @@ pub mod Frame
 pub mod Instructions
 pub mod OperandWords
 pub mod OperandPlaces
-pub mod ShownInstructions
 pub mod ReachedInstructions
 pub mod Disks
 pub mod StepsByCommands

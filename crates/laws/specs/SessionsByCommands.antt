@@ -21,7 +21,7 @@ use Rattle.command_words.specs.declared.words.Call.TheVariants.{Session}
 use Rattle.command_words.specs.Scripts.{Asked, to_add, to_withdraw, to_link}
 use Rattle.v7tools.specs.CommandRuns.{AsksFor, Performs}
 use Rattle.v7tools.specs.FaultTexts.{cause_text, fault_line, no_memory}
-use Rattle.v7tools.specs.Inputs.{bad_file}
+use Rattle.link_out.specs.Inputs.{bad_file}
 use Rattle.v7tools.specs.LineRuns.{LineRun}
 use Rattle.v7tools.specs.SessionRuns.{AreFirst, AreLines, Chains, answers_of, events_of, lines_asked, worst}
 use Rattle.v7tools.specs.declared.fault.CliFault.{CliFault}
@@ -117,7 +117,7 @@ IsOpening _ = ⊥
 
 -- memory ran out, or a file could not be opened, or a device failed while it was read
 abbrev pub CannotRead : CliFault → Type 0
-CannotRead faults.Memory = Unit {0}
+CannotRead (faults.Memory _) = Unit {0}
 CannotRead (faults.CannotOpen path) = Unit {0}
 CannotRead (faults.BadFile path Device) = Unit {0}
 CannotRead _ = ⊥
@@ -137,11 +137,6 @@ module _ {W E : Type 0} (out_contents : W → Option (List ℕ)) (error_contents
       (record { asked = Some (r.earlier ++ r.events); output = r.output_after; error = r.error_after }) r.status
 
   -- ---- a session and its lines
-
-  -- a session was run, and ended well
-  pub record Sessions (forced : List (List ℕ)) (o : Choices) (r : Run W E) : Type 0 where
-    pub asks : AsksFor r.words (Session o forced)
-    pub ends : EndsWell out_contents error_contents r
 
   -- a run is that of these lines: each did what a line does on what those before it left, and the run asked of the system and answered
   -- what they did, one after another, and nothing else. The largest of their statuses is its status
@@ -172,7 +167,9 @@ module _ {W E : Type 0} (out_contents : W → Option (List ℕ)) (error_contents
 
   -- each session that ends well is the run of all lines of its script
   abbrev pub LinesLaw : Type 0
-  LinesLaw = (forced : List (List ℕ)) (o : Choices) (r : Run W E) → Sessions forced o r → (runs : List LineRun) × RanLines forced o r runs
+  LinesLaw =
+      (forced : List (List ℕ)) (o : Choices) (r : Run W E) → AsksFor r.words (Session o forced) → EndsWell out_contents error_contents r →
+      (runs : List LineRun) × RanLines forced o r runs
 
   -- ---- a link in a session
 

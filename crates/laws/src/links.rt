@@ -4,7 +4,6 @@ ghost use Rattle.laws.specs.Operands.{NamesAreFound, SegmentsAreFound, CallsArri
 ghost use Rattle.laws.specs.Instructions.{InstructionsAreKept, TextsAreKept, InstructionsAreThere};
 ghost use Rattle.laws.specs.OperandWords.{OperandsGiveNames, OperandsGiveSegments};
 ghost use Rattle.laws.specs.OperandPlaces.{OperandsAreThere, JumpsArrive, PointersToSegments, PointersToNames};
-ghost use Rattle.laws.specs.ShownInstructions.{ProgramsShowInstructions};
 ghost use Rattle.laws.specs.ReachedInstructions.{ReachedInstructionsAreKept, SurePlacesBegin};
 ghost use Rattle.laws.specs.Listings.{UndefinedAreListed, UndefinedLines, RowLines, ExternalsAreListed, SizesAreSums};
 ghost use Rattle.laws.specs.Isomorphism.{PlacesAreApart, PlacesAreLoaded, BytesHavePlaces, OrdersAreRenumbered, LinksAreIsomorphic, LinksKeepReferents};
@@ -90,14 +89,6 @@ pub fn instruction_law()
 pub fn reached_instruction_law()
     ensures reached { ReachedInstructionsAreKept }
     ensures sure { SurePlacesBegin }
-{}
-
-/// A disassembly of the program shows, at the place of a word of an object, what a disassembly of the object shows at that word: a line
-/// with the same operation, modes, registers and numbers. The word is not relocated, and the object's text does not end within the
-/// instruction. An operand is that of `instruction_law`, shown by the names that the program has for it. The law is for links without
-/// `-r`, and for the plain decoder, which shows the arguments of `sys` like other words. (own choice)
-pub fn disassembly_law()
-    ensures { ProgramsShowInstructions }
 {}
 
 /// What the machine makes of an operand word of a linked program: in modes 67 and 77 the sum of the word and the address after it, and

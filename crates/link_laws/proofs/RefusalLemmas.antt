@@ -413,7 +413,7 @@ module _ (forced : List (List ℕ)) (os : List Contents) (o : Choices) where
   refused_is good SymbolNumber h =
       λ i. made_by (short_by h.0 h.1 h.2 i) (not_over 5461 (length (table p os))
       (subst (λ (n : ℕ). n ≤ 5461) (sym table_long) h.3) i) (h.4 i && large_back good h.4 h.5 i)
-  refused_is good Memory h = absurd h
+  refused_is good (Memory _) h = absurd h
 
 -- a link is refused with a fault if and only if the relation of refusals holds of it
 pub refused_exactly : (forced : List (List ℕ)) (os : List Contents) (o : Choices) (fault : LinkFault) →

@@ -6,6 +6,7 @@ pub mod Layouts
 pub mod Outcomes
 pub mod Runs
 pub mod Steps
+pub mod Inputs
 pub mod FaultTexts
 pub mod function
 pub mod laws

@@ -19,7 +19,7 @@ use Rattle.link_session.proofs.EditLemmas.{limit_is, within_limits}
 use Rattle.v7tools.specs.declared.fault.CliFault.{CliFault}
 use Rattle.v7tools.specs.declared.fault.CliFault.TheVariants as faults
 use Rattle.link_out.specs.Steps.{unless}
-use Rattle.v7tools.specs.Inputs.{Cause, bad_file, bad_object, not_added, object_in, kept_with, with_input}
+use Rattle.link_out.specs.Inputs.{Cause, bad_file, bad_object, not_added, object_in, kept_with, with_input}
 use Rattle.v7tools.specs.FaultTexts.{fault_of_addition}
 use Rattle.v7tools.specs.Loads.{read_of, IsAtPath}
 use Rattle.v7tools.specs.LinkAnswers.{WantsMemory}

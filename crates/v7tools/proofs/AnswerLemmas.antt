@@ -22,8 +22,8 @@ use Rattle.link_out.specs.Outcomes as outcomes
 use Rattle.v7tools.specs.declared.fault.CliFault.{CliFault}
 use Rattle.v7tools.specs.declared.fault.CliFault.TheVariants as faults
 use Rattle.v7tools.specs.FaultTexts.{fault_at, fault_of_link}
-use Rattle.v7tools.specs.Inputs.{Cause, cannot_open, bad_file, bad_object, not_added, Refusal, of_input, not_linked}
-use Rattle.v7tools.specs.Inputs.{object_in, kept_with, with_input, with_inputs, at_path, linked}
+use Rattle.link_out.specs.Inputs.{Cause, cannot_open, bad_file, bad_object, not_added, Refusal, of_input, not_linked}
+use Rattle.link_out.specs.Inputs.{object_in, kept_with, with_input, with_inputs, at_path, linked}
 use Rattle.v7tools.specs.LinkAnswers.{Input, Said, said_by, refuses, breaks, runs_out, never, Takes, Rejects}
 use Rattle.v7tools.specs.LinkAnswers.{WantsMemory, StopsAt, TakesAll, StopsIn, HasNoLink, MayLackMemory, IsNotLinked}
 use Rattle.v7tools.specs.LinkAnswers.{IsLinkOver, known_inputs, IsTrueOf, IsLinkOfBytes, IsLinkOf}

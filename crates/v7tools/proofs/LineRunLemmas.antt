@@ -16,7 +16,7 @@ use Rattle.v7tools.specs.Answers.{absent, Verdict, done, refused, to_store, Step
 use Rattle.v7tools.specs.Answers.{giving, withdraw_step, link_answer_text, link_status}
 use Rattle.surroundings.specs.Events.{Event, History, Extends, opened, stored}
 use Rattle.v7tools.specs.FaultTexts.{cli_text, fault_of_link}
-use Rattle.v7tools.specs.Inputs.{Cause, kept_with}
+use Rattle.link_out.specs.Inputs.{Cause, kept_with}
 use Rattle.command_words.specs.declared.lines.Line.{Line}
 use Rattle.command_words.specs.declared.lines.Line.TheVariants as lines
 use Rattle.command_words.specs.ScriptAnswers.{asked_by}

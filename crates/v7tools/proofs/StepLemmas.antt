@@ -25,7 +25,7 @@ use Rattle.v7tools.specs.declared.fault.CliFault.{CliFault}
 use Rattle.v7tools.specs.declared.fault.CliFault.TheVariants as faults
 use Rattle.v7tools.specs.declared.session.commands.Step.{Step}
 use Rattle.v7tools.specs.declared.session.commands.Step.TheVariants.{Refused, ToStore}
-use Rattle.v7tools.specs.Inputs.{Cause, cannot_open, bad_file, bad_object, not_added, object_in, kept_with}
+use Rattle.link_out.specs.Inputs.{Cause, cannot_open, bad_file, bad_object, not_added, object_in, kept_with}
 use Rattle.v7tools.specs.FaultTexts.{cause_text, cli_text, fault_at, fault_of_link}
 use Rattle.v7tools.specs.Answers.{done, refused, Stepped, add_step, withdraw_step, link_step}
 use Rattle.v7tools.specs.LinkAnswers.{WantsMemory}

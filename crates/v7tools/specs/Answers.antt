@@ -19,7 +19,7 @@ use Rattle.tool_options.specs.Choices.{Choices}
 use Rattle.link_out.specs.function.Reports.{ReportNames, line, report_text, status_of, undefined_names}
 use Rattle.link_out.specs.function.Link.{Outcome, link}
 use Rattle.symtools.specs.SymbolLines.{symbol_line}
-use Rattle.v7tools.specs.Inputs.{Cause, cannot_open, bad_file, with_input}
+use Rattle.link_out.specs.Inputs.{Cause, cannot_open, bad_file, with_input}
 use Rattle.v7tools.specs.FaultTexts.{cause_text, at_file}
 use Rattle.surroundings.specs.declared.office.Stored.{Stored}
 use Rattle.surroundings.specs.declared.office.Stored.TheVariants.{Kept, NotCreated, Failed}

@@ -15,7 +15,7 @@ use Rattle.link_out.specs.declared.linked.LinkFault.TheVariants as links
 use Rattle.link_out.specs.FaultTexts.{link_text}
 use Rattle.symtools.specs.declared.fault.ToolFault.{ToolFault}
 use Rattle.symtools.specs.declared.fault.ToolFault.TheVariants as tools
-use Rattle.v7tools.specs.Inputs.{Cause, cannot_open, bad_file, bad_object, not_added}
+use Rattle.link_out.specs.Inputs.{Cause, cannot_open, bad_file, bad_object, not_added}
 use Rattle.v7tools.specs.declared.fault.CliFault.{CliFault}
 use Rattle.v7tools.specs.declared.fault.CliFault.TheVariants as faults
 

@@ -1,4 +1,3 @@
-pub mod Inputs
 pub mod FaultTexts
 pub mod Loads
 pub mod Calls

@@ -24,8 +24,8 @@ use Rattle.link_out.specs.declared.linked.LinkFault.TheVariants as links
 use Rattle.tool_options.specs.Choices.{Choices}
 use Rattle.link_out.specs.function.Link.{Outcome, link}
 use Rattle.link_out.specs.Outcomes.{outcome_of}
-use Rattle.v7tools.specs.Inputs.{Cause, bad_file, bad_object, not_added, Refusal, of_input, not_linked}
-use Rattle.v7tools.specs.Inputs.{object_in, kept_with, with_input, linked}
+use Rattle.link_out.specs.Inputs.{Cause, bad_file, bad_object, not_added, Refusal, of_input, not_linked}
+use Rattle.link_out.specs.Inputs.{object_in, kept_with, with_input, linked}
 use Rattle.v7tools.specs.declared.fault.CliFault.{CliFault}
 use Rattle.v7tools.specs.declared.fault.CliFault.TheVariants as faults
 

@@ -19,7 +19,7 @@ use Rattle.v7tools.specs.declared.session.commands.Command.{Command}
 use Rattle.v7tools.specs.declared.session.commands.Command.TheVariants.{Add, Withdraw, Externals, Undefined, Link, Bad}
 use Rattle.v7tools.specs.declared.session.commands.Step.{Step}
 use Rattle.v7tools.specs.declared.session.commands.Step.TheVariants.{Done, Refused, ToStore}
-use Rattle.v7tools.specs.Inputs.{Cause, kept_with}
+use Rattle.link_out.specs.Inputs.{Cause, kept_with}
 use Rattle.v7tools.specs.FaultTexts.{no_memory}
 use Rattle.v7tools.specs.LinkAnswers.{WantsMemory}
 use Rattle.v7tools.specs.Answers.{absent, failing, giving, adding, withdrawing, listing_externals, listing_undefined}

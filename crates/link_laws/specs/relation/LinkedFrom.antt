@@ -35,20 +35,30 @@ pub record HasHeader (o : Choices) (file : Contents) : Type 0 where
 -- the file and the report are what linking these objects gives; the rows are those of the externals, which the table has
 -- after the locals that are kept
 pub record IsLinkedFrom (forced : List (List ℕ)) (os : List Contents) (o : Choices) (x : Outcome) : Type 0 where
+  -- the externals' symbols, one for each name that the objects or -u mention, in order
   pub rows : List Symbol
+  -- the segments have the sizes of the objects' segments together
   pub holds : HoldsObjects x.file os
+  -- magic number, flag and symbol size; the file ends by 65,535 and has at most 5,461 symbols
   pub header : HasHeader o x.file
   pub names : map (λ s. s.name) rows ≡ externals forced os
+  -- each symbol has the type and the value that its definition, its common or its absence gives
   pub are_rows : AreRows x.file.header (total BssSeg os) o (mentions forced os)
       (data_start_in x.file.header + x.file.header.data_size) rows (base_in x.file.header (total BssSeg os) BssSeg)
+  -- the table: the locals that are kept, moved with their segments, and then the externals
   pub table : x.file.symbols ≡ rows_kept o.keep (moved_locals_in x.file.header os o ++ rows)
+  -- each word of text and of data is the object's word, relocated
   pub text : AreRelocated x.file rows os TextSeg
   pub «data» : AreRelocated x.file rows os DataSeg
+  -- relocation words: one for each word with -r, and none without
   pub text_relocs : 2 * length x.file.text_reloc ≡ cond o.relocatable (total TextSeg os) 0
   pub data_relocs : 2 * length x.file.data_reloc ≡ cond o.relocatable (total DataSeg os) 0
+  -- with -r each word still has its relocation word
   pub text_kept : o.relocatable ≡ true → AreKept x.file rows (length (moved_locals_in x.file.header os o)) os TextSeg
   pub data_kept : o.relocatable ≡ true → AreKept x.file rows (length (moved_locals_in x.file.header os o)) os DataSeg
+  -- the entry point
   pub entry : IsEntry rows o.entry x.file.header.entry_point x.report.entry_bad
+  -- the report: multiply defined, reserved and undefined names
   pub report : IsReported forced os o x
 
 -- there is a link if and only if the relation holds

@@ -77,7 +77,7 @@ IsRefused forced os o TooManySymbols = (end : ℕ) × EndsAt forced os o end × 
 IsRefused forced os o SymbolNumber =
     (end : ℕ) × EndsAt forced os o end × (end ≤ 65535) × (entry_count forced os o ≤ 5461) × (o.relocatable ≡ true)
     × HasNumberTooLarge 4095 forced os o
-IsRefused forced os o Memory = ⊥
+IsRefused forced os o (Memory _) = ⊥
 
 -- the function `link` gives a fault if and only if the link is refused for it
 abbrev pub RefusedExactly : Type 0

@@ -21,7 +21,7 @@ use Rattle.link_out.specs.function.Reports.{line}
 use Rattle.v7tools.specs.declared.fault.CliFault.{CliFault}
 use Rattle.v7tools.specs.declared.fault.CliFault.TheVariants as faults
 use Rattle.v7tools.specs.declared.session.commands.Step.{Step}
-use Rattle.v7tools.specs.Inputs.{Cause, bad_file, object_in, kept_with}
+use Rattle.link_out.specs.Inputs.{Cause, bad_file, object_in, kept_with}
 use Rattle.v7tools.specs.FaultTexts.{cli_text, fault_at, fault_of_link}
 use Rattle.v7tools.specs.LinkAnswers.{WantsMemory}
 use Rattle.v7tools.specs.Answers.{failing, giving, Stepped, add_step, withdraw_step, input_from}
