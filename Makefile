@@ -170,9 +170,9 @@ check-wrong-bodies:
 	python3 tests/wrong_bodies.py -c
 	python3 tests/wrong_bodies.py --try
 
-# the calls that may be refused memory, of crates/fixtures, with the first, the second, .. request for memory refused
-memory:
-	sh tests/memory.sh
+# each program and each call of libv7 with its first request for memory refused, with its second, and so on
+memory: build/v7 build/v7-from-gnu build/v7-object build/v7-explain build/v7-lesson lib
+	python3 tests/memory.py build
 
 # the bytes that reading and linking ask for, beside what they need; needs valgrind
 room: build/v7

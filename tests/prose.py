@@ -67,7 +67,6 @@ NOT_IN_CI = {
     "bench": "prints figures, and never fails",
     "instructions": "needs valgrind, and prints figures",
     "room": "needs valgrind, and prints figures",
-    "memory": "takes ten minutes",
     "wrong-bodies": "takes an hour; check-wrong-bodies tries those of the crates that changed",
     "simulate": "needs SIMH's pdp11; check-examples runs the same commands where it is installed",
     "page": "check-page makes the same page",
