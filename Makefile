@@ -11,7 +11,7 @@ endif
 
 # tests/prove.py uses all processors by itself
 .NOTPARALLEL:
-.PHONY: all try demo lib install-lib wheel check-lib dist check-dist test gate recheck wrong-bodies check-wrong-bodies memory room bench instructions simulate \
+.PHONY: all try demo lib install-lib wheel check-lib dist check-dist test gate recheck wrong-bodies check-wrong-bodies memory room bench simulate \
 	lesson page check-page check-manual check-examples check-explain check-cases planted check-model check-streams install clean
 
 all: build/v7 build/v7-from-gnu build/v7-object build/v7-explain build/v7-lesson
@@ -170,28 +170,19 @@ check-wrong-bodies:
 	python3 tests/wrong_bodies.py -c
 	python3 tests/wrong_bodies.py --try
 
-# the calls that may be refused memory, of crates/fixtures, with the first, the second, .. request for memory refused
-memory:
-	sh tests/memory.sh
+# each program and each call of libv7 with its first request for memory refused, with its second, and so on
+memory: build/v7 build/v7-from-gnu build/v7-object build/v7-explain build/v7-lesson lib
+	python3 tests/memory.py build
 
 # the bytes that reading and linking ask for, beside what they need; needs valgrind
 room: build/v7
 	python3 tests/room.py build/v7
 
-# times of the session and of ld on a large input; and where valgrind is installed, the instructions of a heavy link, and how
-# those of each kind of work grow
-bench: build/v7 build/v7-explain build/v7-from-gnu build/v7-object crates/bench/out/bench
-	crates/bench/out/bench full
+# where valgrind is installed, the instructions of a heavy link and of an object that is added and withdrawn, and how those of each kind of
+# work grow
+bench: build/v7 build/v7-explain build/v7-from-gnu build/v7-object
 	python3 tests/heavy.py build/v7
 	python3 tests/scaling.py build/v7 build/v7-explain build/v7-from-gnu build/v7-object
-
-# instructions of adding an object and withdrawing it, on an empty session and on a full one; needs valgrind
-instructions: crates/bench/out/bench
-	sh tests/instructions.sh crates/bench/out/bench
-
-crates/bench/out/bench: $(SOURCES)
-	python3 tests/prove.py bench $@
-	touch $@
 
 # links a program of five files, runs it on SIMH's PDP-11, and compares what it prints
 simulate: build/v7

@@ -154,7 +154,7 @@ FORMS = {
     "same": ["FILE FROM"],
     "unchanged": ["FILE .."],
     "absent": ["FILE .."],
-    "refuse": ["REQUEST FILE", "write more FILE"],
+    "refuse": ["REQUEST FILE", "write more FILE", "memory N"],
     "fail": ["read FILE after N", "write FILE after N"],
     "state": ["", "EDIT .."],
     "status": ["N"],

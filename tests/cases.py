@@ -7,6 +7,7 @@ usage: tests/cases.py [FILE ..]      plays these files, or all of tests/cases
        tests/cases.py -b             plays bad.cases and bad.words: each error must be the one that bad.errors, or the table, has
        tests/cases.py -p             plays all with the programs of a package: skips parts that watch a program, and states
 
+Parts with `refuse memory` are skipped too for a program that tests/compiling.py has made: a script starts it, and it has its own malloc.
 The programs are in build/, or in the folder V7_BUILD. A command has 60 seconds, or V7_SECONDS.
 """
 import collections
@@ -24,7 +25,7 @@ import tempfile
 import bad_words
 from case_files import SAMPLES, contents, make, sample, sample_path
 from case_format import Mistake, cases_in, encoded, read_case
-from watching import NotWatched, Watch
+from watching import NotWatched, Watch, is_memory
 
 TOP = os.path.normpath(os.path.join(os.path.dirname(os.path.abspath(__file__)), ".."))
 # the folder of the programs
@@ -152,19 +153,24 @@ def run(line, words, directory, given=b"", environment=None):
 def planned(item):
     """The plan of a line, in the words of tests/watching.py."""
     if item.word == "refuse":
-        return b"refuse", b" ".join(word.encode() if isinstance(word, str) else word for word in item.arguments)
+        return b"refuse", b" ".join(word if isinstance(word, bytes) else str(word).encode() for word in item.arguments)
     word, name, _, count = item.arguments
     return word.encode(), name, str(count).encode()
 
 
 def watched(step, plans, directory, given):
     """Runs a command that is watched, and returns what came of it and what it asked for."""
+    plans = {item.line: planned(item) for item in plans}
     try:
-        watch = Watch([planned(item) for item in plans])
+        watch = Watch(plans.values())
         came = run(step.line, step.words, directory, given, watch.environment())
-        return came, watch.requests()
-    except NotWatched as reason:
-        raise Mistake(step.line, str(reason)) from None
+        requests = watch.requests()
+    except NotWatched as why:
+        raise Mistake(step.line, str(why)) from None
+    for line, plan in plans.items():
+        if is_memory(plan[1]) and plan[1] not in watch.refused:
+            raise Mistake(line, "the command makes fewer requests for memory")
+    return came, requests
 
 
 def play_step(step, plans, directory):
@@ -267,13 +273,22 @@ def play_part(part, folder):
 
 # --- cases
 
-def reason(part):
-    """Why a part is not played with the programs of a package, or None."""
-    if any(plan.word == "state" for plan in part.plans):
+def is_script(program):
+    path = os.path.join(BUILD, os.fsdecode(program))
+    if not os.path.exists(path):
+        return False
+    with open(path, "rb") as file:
+        return file.read(2) == b"#!"
+
+
+def reason(part, is_packaged):
+    """Why a part is not played with these programs, or None."""
+    if is_packaged and any(plan.word == "state" for plan in part.plans):
         return "states of sessions"
-    if part.plans or any(step.asked for step in part.steps):
+    if is_packaged and (part.plans or any(step.asked for step in part.steps)):
         return "requests that are watched"
-    return None
+    refuses_memory = any(plan.word == "refuse" and plan.arguments[0] == "memory" for plan in part.plans)
+    return "requests for memory" if refuses_memory and any(is_script(step.words[0]) for step in part.steps) else None
 
 
 class Run:
@@ -291,10 +306,12 @@ class Run:
             print(text)
 
     def play(self, case):
-        reasons = [why for why in map(reason, case.parts) if why and self.is_packaged]
+        reasons = []
         for part in case.parts:
-            folder = files_of(part)
-            if not (self.is_packaged and reason(part)):
+            why, folder = reason(part, self.is_packaged), files_of(part)
+            if why:
+                reasons.append(why)
+            else:
                 play_part(part, folder)
         if len(reasons) == len(case.parts):
             self.skipped[reasons[0]] += 1
@@ -330,7 +347,8 @@ class Run:
 
     def summary(self):
         skipped = "".join(f", {count} for {why}" for why, count in sorted(self.skipped.items()))
-        skipped = f"; {self.in_part} of them in part; {sum(self.skipped.values())} skipped{skipped}" if self.is_packaged else ""
+        if self.in_part or self.skipped:
+            skipped = f"; {self.in_part} of them in part; {sum(self.skipped.values())} skipped{skipped}"
         print(f"{self.played} cases played{skipped}; {self.bad} failed")
 
 

@@ -1,6 +1,7 @@
 #!/usr/bin/env python3
 """Makes the objects of a heavy link, and counts by valgrind the instructions of linking them, plain and with -i; with the least time
-of a processor in 60 runs. tests/counting.py says how.
+of a processor in 60 runs. Then counts those of one object more that is added to a session and withdrawn, in a session without objects
+and in one of all these. tests/counting.py says how.
 
 There are 200 objects with 65,000 bytes of text. Each defines 20 names, and 12,869 words refer to names of other objects,
 taken by a sequence of numbers that is the same each time. With -i the objects have 65,000 bytes of data more.
@@ -34,8 +35,8 @@ def share(total, index):
     return total * (index + 1) // OBJECTS - total * index // OBJECTS
 
 
-def object_file(index, others, has_data):
-    """The bytes of one object: words that refer to names, words of its own text, and numbers."""
+def write_object(index, others, has_data):
+    """Writes one object: words that refer to names, words of its own text, and numbers."""
     first = index * NAMES
     places = {first + name: name for name in range(NAMES)}
     symbols = [(name, 0o42, 2 * place) for name, place in places.items()]
@@ -50,24 +51,39 @@ def object_file(index, others, has_data):
     for word in range(len(words), share(WORDS, index)):
         words.append(2 * (word % 100) if word % 3 == 0 else word)
         relocs.append(2 if word % 3 == 0 else 0)
-    data = [7] * (share(WORDS, index) if has_data else 0)
-    header = (0o407, 2 * len(words), 2 * len(data), 0, 12 * len(symbols), 0, 0, 0)
-    body = [*header, *words, *data, *relocs, *[0] * len(data)]
-    table = b"".join(struct.pack("<8sHH", b"n%05d" % name, kind, value) for name, kind, value in symbols)
-    return struct.pack(f"<{len(body)}H", *body) + table
+    write(f"{index:03d}.o", words, [7] * (share(WORDS, index) if has_data else 0), relocs, symbols)
+
+
+def write(path, words, data, relocs, symbols):
+    """Writes an object, whose words of data are numbers."""
+    body = [0o407, 2 * len(words), 2 * len(data), 0, 12 * len(symbols), 0, 0, 0, *words, *data, *relocs, *[0] * len(data)]
+    with open(path, "wb") as file:
+        file.write(struct.pack(f"<{len(body)}H", *body))
+        file.writelines(struct.pack("<8sHH", b"n%05d" % name, kind, value) for name, kind, value in symbols)
 
 
 def measure(program, options, has_data):
     """Links the objects in this folder, and answers what it took."""
     others = numbers()
     for index in range(OBJECTS):
-        with open(f"{index:03d}.o", "wb") as file:
-            file.write(object_file(index, others, has_data))
+        write_object(index, others, has_data)
     command = [program, "ld", *options, "-o", "out", *sorted(glob.glob("*.o"))]
     run, instructions = counted(command)
     if run.returncode != 0:
         sys.exit(f"the link ended with status {run.returncode}: {run.stderr}")
     return f"{instructions} instructions, {milliseconds(command):.2f} ms"
+
+
+def edited(program, path, objects):
+    """The instructions of adding an object to a session of these and withdrawing it: its two lines are repeated 100 and 1,100 times."""
+    counts = []
+    for times in 100, 1100:
+        lines = [*(f"add {name}" for name in objects), *[f"add {path}", "withdraw"] * times]
+        run, instructions = counted([program, "session"], script="".join(f"{line}\n" for line in lines))
+        if run.returncode != 0:
+            sys.exit(f"the session ended with status {run.returncode}: {run.stderr}")
+        counts.append(instructions)
+    return (counts[1] - counts[0]) // 1000
 
 
 def main():
@@ -79,6 +95,12 @@ def main():
         print(f"a link of {OBJECTS} objects with {2 * WORDS} bytes of text and {OBJECTS * NAMES} names:")
         print(f"plain: {measure(program, [], False)}")
         print(f"with -i, and {2 * WORDS} bytes of data more: {measure(program, ['-i'], True)}")
+        objects, first = sorted(glob.glob("*.o")), OBJECTS * NAMES
+        write("waiting", [0] * 162, [], [0o10 + 0o20 * (word % 25) for word in range(100)] + [0] * 62, [(first + name, 0o40, 0) for name in range(25)])
+        write("defining", [], [], [], [(first, 0o41, 7)])
+        for path, what in ("waiting", "162 words, 100 of which wait for 25 names"), ("defining", "one name"):
+            counts = [edited(program, path, session) for session in ([], objects)]
+            print(f"an object of {what}, added and withdrawn: {counts[0]} instructions, and {counts[1]} after these objects")
 
 
 if __name__ == "__main__":

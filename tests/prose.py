@@ -65,9 +65,7 @@ NAME_EXCEPTIONS = [
 # targets of make that a document may show although .ci/run does not run them, and why
 NOT_IN_CI = {
     "bench": "prints figures, and never fails",
-    "instructions": "needs valgrind, and prints figures",
     "room": "needs valgrind, and prints figures",
-    "memory": "takes ten minutes",
     "wrong-bodies": "takes an hour; check-wrong-bodies tries those of the crates that changed",
     "simulate": "needs SIMH's pdp11; check-examples runs the same commands where it is installed",
     "page": "check-page makes the same page",

@@ -1,14 +1,16 @@
 /* Loaded before a program by LD_PRELOAD: lists the files that the program opens, reads, creates and writes, and refuses what is
- * planned. tests/watching.py compiles it, and reads the list; docs/CASES.md has the requests.
+ * planned, requests for memory too. tests/watching.py compiles it, and reads the list; docs/CASES.md has the requests.
  *
- * WATCH_LIST is the path of the list: a line `watched`, and a line for each request. WATCH_PLAN has three lines for each plan:
- * `refuse`, the request, and a line that is not looked at; or `read` or `write`, the name of a file, and after how many bytes that
- * fails. Names are as the program gives them; those of its streams are stdin, stdout and stderr.
+ * WATCH_LIST is the path of the list: a line `watched`, and a line for each request, but for memory only if it is refused. WATCH_PLAN has three lines for each plan: `refuse`, the request, and a
+ * line that is not looked at; or `read` or `write`, the name of a file, and after how many bytes that fails. Names are as the program
+ * gives them; those of its streams are stdin, stdout and stderr.
  */
 #define _GNU_SOURCE
+#include <dlfcn.h>
 #include <errno.h>
 #include <fcntl.h>
 #include <stdarg.h>
+#include <stdio.h>
 #include <stdlib.h>
 #include <string.h>
 #include <sys/syscall.h>
@@ -27,6 +29,9 @@ struct file {
 static struct file files[FILES] = {{.name = "stdin"}, {.name = "stdout"}, {.name = "stderr"}};
 static const char *plan = "";
 static int list = -1;
+/* the requests for memory so far; and the library whose requests alone count, if it is not null */
+static size_t requests;
+static const void *library;
 
 static void say(const char *text, size_t size)
 {
@@ -48,6 +53,7 @@ __attribute__((constructor)) static void begin(void)
     else
         syscall(SYS_close, opened);
     say("watched\n", 8);
+    requests = 0;
 }
 
 /* the next line of the plan, with its length, or null */
@@ -91,6 +97,57 @@ static int ask(const char *word, const char *name)
     if (is_refused)
         errno = EACCES;
     return is_refused;
+}
+
+/* the base of the file that a place of the code is in */
+static const void *base_of(const void *place)
+{
+    Dl_info found;
+    return dladdr(place, &found) ? found.dli_fbase : NULL;
+}
+
+/* counts a request for memory, by the code at a place: whether it is refused */
+static int asks_memory(const void *place)
+{
+    char request[32];
+    if (library ? base_of(place) != library : list < 0)
+        return 0;
+    int size = snprintf(request, sizeof request, "memory %zu", ++requests);
+    if (!planned("refuse", request))
+        return 0;
+    request[size] = '\n';
+    say(request, size + 1);
+    errno = ENOMEM;
+    return 1;
+}
+
+/* From here on another plan counts, for the requests for memory by the library that a place is in: how many it made before. */
+size_t watch_library(const void *place, const char *text)
+{
+    size_t made = requests;
+    library = base_of(place);
+    plan = text;
+    requests = 0;
+    return made;
+}
+
+void *__libc_malloc(size_t);
+void *__libc_calloc(size_t, size_t);
+void *__libc_realloc(void *, size_t);
+
+void *malloc(size_t size)
+{
+    return asks_memory(__builtin_return_address(0)) ? NULL : __libc_malloc(size);
+}
+
+void *calloc(size_t count, size_t size)
+{
+    return asks_memory(__builtin_return_address(0)) ? NULL : __libc_calloc(count, size);
+}
+
+void *realloc(void *old, size_t size)
+{
+    return asks_memory(__builtin_return_address(0)) ? NULL : __libc_realloc(old, size);
 }
 
 /* of so many bytes, how many may be moved after those that were */

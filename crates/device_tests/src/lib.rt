@@ -1,5 +1,4 @@
-//! Tests of what no case can say: devices that fail and how often they are called, texts of faults, calls that may be refused
-//! memory while none is, and the calls below the commands.
+//! Tests of what no case can say: devices that fail and how often they are called, texts of faults, and the calls below the commands.
 #![tactic(auto)]
 
 #[cfg(test)]
@@ -18,8 +17,6 @@ mod links;
 mod listing_texts;
 #[cfg(test)]
 mod lists;
-#[cfg(test)]
-mod memory;
 #[cfg(test)]
 mod memory_office;
 #[cfg(test)]

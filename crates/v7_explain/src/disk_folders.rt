@@ -26,6 +26,14 @@ fn is_taken<H: Files, A: Allocator>(entry: &DirEntry<H, A>) -> bool {
     }
 }
 
+/// Fails if the system's answer is that there is no memory.
+fn check_memory(error: &io::Error) -> Result<(), AllocError> {
+    match error.kind() {
+        ErrorKind::OutOfMemory => Err(AllocError),
+        _ => Ok(()),
+    }
+}
+
 /// Adds an entry of a folder, if it is a file or a folder. One that can't be read, or whose name is not UTF-8, is missing.
 fn take<H: Files + Drop, A: Allocator>(
     alloc: Global,
@@ -41,9 +49,7 @@ fn take<H: Files + Drop, A: Allocator>(
             }
         }
         Err(error) => {
-            if error.kind() == ErrorKind::OutOfMemory {
-                return Err(AllocError);
-            }
+            check_memory(&error)?;
             folder.is_whole = false;
         }
     }
@@ -54,7 +60,11 @@ impl<H: Runtime> Folders for DiskFolders<'_, H> {
     fn names_in(&self, alloc: Global, path: &str) -> Result<Option<Folder>, AllocError> {
         match fs::symlink_metadata(self.rt, path) {
             Ok(about) if about.is_dir() => {}
-            _ => return Ok(None),
+            Ok(_) => return Ok(None),
+            Err(error) => {
+                check_memory(&error)?;
+                return Ok(None);
+            }
         }
         let mut folder = Folder {
             names: Vec::new(alloc),
@@ -66,7 +76,10 @@ impl<H: Runtime> Folders for DiskFolders<'_, H> {
                     take(alloc, &mut folder, entry)?;
                 }
             }
-            Err(_) => folder.is_whole = false,
+            Err(error) => {
+                check_memory(&error)?;
+                folder.is_whole = false;
+            }
         }
         Ok(Some(folder))
     }
