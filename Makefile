@@ -11,7 +11,7 @@ endif
 
 # tests/prove.py uses all processors by itself
 .NOTPARALLEL:
-.PHONY: all try demo lib install-lib wheel check-lib dist check-dist test gate recheck wrong-bodies check-wrong-bodies memory room bench instructions simulate \
+.PHONY: all quick demo lib install-lib wheel check-lib dist check-dist test gate recheck wrong-bodies check-wrong-bodies memory room bench instructions simulate \
 	lesson page check-page check-manual check-examples check-explain check-cases planted check-model check-streams install clean
 
 all: build/v7 build/v7-from-gnu build/v7-object build/v7-explain build/v7-lesson
@@ -25,7 +25,6 @@ build/v7: crates/v7/out/v7
 # tests/prove.py proves a program with the libraries under it, side by side where none waits for another, and builds it. The
 # gate leaves a proved program too, at the same place
 crates/v7/out/v7: $(SOURCES)
-	@echo 'Each function is proved: from nothing 10 minutes, on four cores elsewhere.'
 	python3 tests/prove.py v7 $@
 	touch $@
 
@@ -119,23 +118,16 @@ dist:
 check-dist:
 	sh tests/dist.sh all
 
-# the examples' session by the program as it is compiled before any proof, in a folder that is gone at the end; the answers
-# are compared
-SESSION_FILES := $(foreach file,main.o twice.o count.o,--data $(file)=$(CURDIR)/examples/$(file))
-try:
-	@echo 'The program is compiled and run, and nothing of it is proved: make demo proves it first.'
-	mkdir -p build
-	sed 's|\.\./build/||' examples/session.txt >build/try.txt
-	cd crates/v7 && rt try $(SESSION_FILES) -- session <../../build/try.txt | tee ../../build/try.answers
-	sed 's|\.\./build/||' examples/answers.txt | cmp - build/try.answers
+# all programs, compiled without proof into build/quick, to try them at once
+quick:
+	@python3 tests/compiling.py build/quick
+	@python3 tests/demo.py build/quick/v7
+	@echo 'Nothing of this is proved: make proves it. next: PATH=$$PWD/build/quick:$$PATH, docs/TUTORIAL.md'
 
-# runs a session and compares its answers, links two small objects and compares the program, and shows its 24 bytes
+# proves v7, and shows with it a session and a link of two small objects
 demo: build/v7
-	cd examples && ../build/v7 session <session.txt >../build/answers.txt; test $$? -eq 1
-	cmp examples/answers.txt build/answers.txt
-	cd examples && ../build/v7 ld -s -o ../build/program a.o b.o
-	cmp examples/ab.out build/program
-	od -An -v -tx1 build/program
+	@python3 tests/demo.py build/v7
+	@echo 'Each function of build/v7 is proved. next: make, which proves the other programs; docs/TUTORIAL.md'
 
 # the cases and the tests that are code, by programs that are compiled without any proof: what fails is named, and a pass proves
 # nothing

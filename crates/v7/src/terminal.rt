@@ -2,15 +2,20 @@
 //! Nothing of this is written if standard error is not a terminal.
 ghost use Rattle.std.specs.Prelude.{◌≤◌};
 
+mod answers;
 mod lines;
+mod near;
 mod pages;
 mod prompts;
 
+use answers::{Answer, Answers};
 use aout_core::show;
 use command_words::{Reason, Tool, first_reason};
 use lines::{put_hint, put_reason};
 use pages::{asked_shown, page};
 use prompts::Prompts;
+use std::cell::Cell;
+use std::io;
 use std::rt::Runtime;
 use v7tools::attempt;
 
@@ -18,11 +23,13 @@ use v7tools::attempt;
 fn run<H: Runtime + AllocGlobal>(rt: &H, is_typed: bool, words: Vec<String>) -> u8
     ensures { result ≤ 2 }
 {
-    let mut prompts = Prompts::new(rt);
+    let answer = Cell::new(Answer::NONE);
+    let mut prompts = Prompts::new(rt, &answer);
+    let output = Answers::new(io::writer(rt), &answer);
     let done = if is_typed {
-        attempt(rt, &mut prompts, words)
+        attempt(rt, &mut prompts, output, words)
     } else {
-        attempt(rt, rt.reader(), words)
+        attempt(rt, rt.reader(), output, words)
     };
     match done {
         Ok(status) => {
@@ -40,6 +47,14 @@ fn run<H: Runtime + AllocGlobal>(rt: &H, is_typed: bool, words: Vec<String>) -> 
 /// The tool that the first argument names.
 fn tool_of(words: &[String]) -> Option<Tool> {
     Tool::named(words.first()?.as_str())
+}
+
+/// The tool whose page is asked for: the first argument, or the one after `help`.
+fn page_of(words: &[String]) -> Option<Tool> {
+    match words {
+        [help, named, ..] if help.as_str() == "help" => Tool::named(named.as_str()),
+        _ => tool_of(words),
+    }
 }
 
 /// Refuses arguments as `v7tools::command` does, and then says why, and where help is.
@@ -63,7 +78,7 @@ pub(crate) fn command_at_terminal<H: Runtime + AllocGlobal>(
         return run(rt, is_typed, words);
     };
     match asked_shown(&words, reason) {
-        Some(shown) => show(rt, "v7", page(tool_of(&words)), shown),
+        Some(shown) => show(rt, "v7", page(page_of(&words)), shown),
         None => {
             refuse(rt, &words, reason);
             2
