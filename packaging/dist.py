@@ -367,7 +367,7 @@ def library_files(root):
     for path in glob.glob("examples/*.o"):
         write(f"{to}/{path}", read(path, "rb"))
     module = f"{root}/usr/lib/python3/dist-packages/v7"
-    write(f"{module}/__init__.py", read("examples/python/v7.py", "rb"))
+    write(f"{module}/__init__.py", read("packaging/python/v7.py", "rb"))
     write(f"{module}/py.typed", "")
 
 
