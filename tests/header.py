@@ -14,7 +14,7 @@ import tempfile
 
 TOP = os.path.normpath(os.path.join(os.path.dirname(os.path.abspath(__file__)), ".."))
 HEADER = os.path.join(TOP, "include", "v7.h")
-MODULE = os.path.join(TOP, "examples", "python", "v7.py")
+MODULE = os.path.join(TOP, "packaging", "python", "v7.py")
 RUST = os.path.join(TOP, "packaging", "rust", "v7-sys", "src")
 
 # for the constants of each enum the crate's file and the text of the code that has the number. {Name} is the constant without its
