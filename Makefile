@@ -3,7 +3,7 @@ PREFIX ?= /usr/local
 
 # the kits that the gate has passed with; any: another one too
 KITS ?= rattle-kit-13b rattle-kit-13f
-ifneq ($(filter-out clean install install-lib,$(or $(MAKECMDGOALS),all)),)
+ifneq ($(filter-out clean install install-lib uninstall,$(or $(MAKECMDGOALS),all)),)
 ifneq ($(shell sh tests/kit.sh $(KITS) && echo yes),yes)
 $(error stopped)
 endif
@@ -12,7 +12,7 @@ endif
 # tests/prove.py uses all processors by itself
 .NOTPARALLEL:
 .PHONY: all quick demo lib install-lib wheel check-lib dist check-dist test gate recheck wrong-bodies check-wrong-bodies memory room bench instructions simulate \
-	lesson page check-page check-manual check-examples check-explain check-cases planted check-model check-streams install clean
+	lesson page check-page check-manual check-examples check-explain check-cases planted check-model check-streams check-install install uninstall clean
 
 all: build/v7 build/v7-from-gnu build/v7-object build/v7-explain build/v7-lesson
 
@@ -89,17 +89,20 @@ crates/v7_c/out/libv7_c.a: crates.txt $(shell find $(LIBRARY_CRATES) -name out -
 	touch $@
 
 # the libraries, the header, what pkg-config reads, the manual page, and the documents that the header cites; no program is needed
-LIBRARY_DOCUMENTS := docs/LIBRARY.md docs/LINK.md docs/FORMAT.md docs/OBJECTS.md
+STAGE := build/stage
 install-lib: lib
-	mkdir -p $(DESTDIR)$(LIBDIR)/pkgconfig $(DESTDIR)$(INCLUDEDIR) $(SHARE)/man/man3 $(SHARE)/doc/v7/docs
-	cp build/libv7.a build/$(SOFILE) $(DESTDIR)$(LIBDIR)
-	ln -sf $(SOFILE) $(DESTDIR)$(LIBDIR)/$(SONAME)
-	ln -sf $(SONAME) $(DESTDIR)$(LIBDIR)/libv7.so
-	cp $(LIBRARY_DOCUMENTS) $(SHARE)/doc/v7/docs
-	cp include/v7.h $(DESTDIR)$(INCLUDEDIR)
+	rm -rf $(STAGE)
+	mkdir -p $(STAGE)$(LIBDIR)/pkgconfig $(STAGE)$(INCLUDEDIR) $(STAGE)$(PREFIX)/share/man/man3
+	cp build/libv7.a build/$(SOFILE) $(STAGE)$(LIBDIR)
+	ln -sf $(SOFILE) $(STAGE)$(LIBDIR)/$(SONAME)
+	ln -sf $(SONAME) $(STAGE)$(LIBDIR)/libv7.so
+	cp include/v7.h $(STAGE)$(INCLUDEDIR)
 	sed -e 's|@PREFIX@|$(PREFIX)|' -e 's|@LIBDIR@|$(LIBDIR)|' -e 's|@INCLUDEDIR@|$(INCLUDEDIR)|' -e 's|@VERSION@|$(VERSION)|' \
-		packaging/v7.pc.in >$(DESTDIR)$(LIBDIR)/pkgconfig/v7.pc
-	cp man/*.3 $(SHARE)/man/man3
+		packaging/v7.pc.in >$(STAGE)$(LIBDIR)/pkgconfig/v7.pc
+	cp man/*.3 $(STAGE)$(PREFIX)/share/man/man3
+	python3 packaging/installed.py library $(STAGE)$(PREFIX)/share/doc/v7
+	python3 packaging/installed.py copy $(STAGE) '$(DESTDIR)' $(PREFIX)
+	rm -rf $(STAGE)
 
 # the wheel of Python, with the library inside
 wheel: lib
@@ -228,10 +231,16 @@ crates/lesson/out/lesson: crates.txt $(shell find $(LESSON_CRATES) -name out -pr
 check-manual: check-examples
 	cd man && mandoc -T lint *.1 *.3 *.5 | { ! grep -v 'lacks .* entry, run makewhatis\|referenced manual not found'; }
 
-# the programs with standard streams closed, and with words and files of each kind and number; and what v7 adds at a terminal
+# the programs with standard streams closed, and with words and files of each kind and number; what v7 adds at a terminal; and
+# completion
 check-streams: build/v7 build/v7-from-gnu build/v7-object build/v7-explain build/v7-lesson
 	sh tests/streams.sh
 	python3 tests/terminal.py build/v7
+	python3 tests/completion.py
+
+# installs into a folder with a narrow file mask, looks at what is there, and takes it away
+check-install: build/v7 build/v7-from-gnu build/v7-object build/v7-explain build/v7-lesson
+	python3 tests/installed.py make build
 
 # listings of the examples and of 1,000 made objects are turned back, and so are those of other files; 2,000 damaged listings
 # are tried, notes compared with computed ones, and maps with what v7 says of the links; DAMAGED files are tried besides. Each program
@@ -286,16 +295,15 @@ check-examples: build/v7 build/v7-from-gnu build/v7-object build/v7-explain buil
 		test "$$(build/$$program --version)" = "$$program $(VERSION)" || { echo "$$program --version: not $(VERSION)"; exit 1; }; \
 	done
 
-# the programs, their manual pages, the documents and the examples
-SHARE = $(DESTDIR)$(PREFIX)/share
+# the programs, and what the package v7 has besides; uninstall takes away what install and install-lib have put there
 install: build/v7 build/v7-from-gnu build/v7-object build/v7-explain build/v7-lesson
-	mkdir -p $(DESTDIR)$(PREFIX)/bin $(SHARE)/man/man1 $(SHARE)/man/man5 $(SHARE)/doc/v7 $(SHARE)/v7
-	cp build/v7 build/v7-from-gnu build/v7-object build/v7-explain build/v7-lesson $(DESTDIR)$(PREFIX)/bin
-	cp -R page $(SHARE)/v7
-	cp man/*.1 $(SHARE)/man/man1
-	cp man/*.5 $(SHARE)/man/man5
-	cp -R README.md CHANGES.md CONTRIBUTING.md docs examples $(SHARE)/doc/v7
-	rm $(SHARE)/doc/v7/examples/.gitignore
+	rm -rf $(STAGE)
+	python3 packaging/installed.py put build $(STAGE)$(PREFIX)
+	python3 packaging/installed.py copy $(STAGE) '$(DESTDIR)' $(PREFIX)
+	rm -rf $(STAGE)
+
+uninstall:
+	python3 packaging/installed.py remove '$(DESTDIR)' $(PREFIX)
 
 clean:
 	rm -rf build dist
