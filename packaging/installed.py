@@ -163,7 +163,7 @@ def has_tools():
 def readme(text, there):
     """The README of a release, with its version, and without the rows of files that are not there."""
     text = text.replace("# v7\n", f"# v7 {version()}\n", 1)
-    return re.sub(r"^\| `share/doc/v7/([^`]*)` .*\n", lambda found: found[0] if found[1] in {*there, "examples"} else "", text, flags=re.M)
+    return re.sub(r"^\| `share/doc/v7/([^`]*)` .*\n", lambda found: found[0] if found[1] in {"examples", *there} else "", text, flags=re.M)
 
 
 def documents(to, names, has_html, made=()):
@@ -184,7 +184,7 @@ def documents(to, names, has_html, made=()):
         else:
             text = read(f"{TOP}/{path}")
             if path == README:
-                text = readme(text, shipped.values())
+                text = readme(text, {*shipped.values(), *["README.html"] * has_html})
             text = reflowed(settled(text, path, place, shipped))
             write(f"{to}/{place}", text)
             if has_html:

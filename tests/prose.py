@@ -80,7 +80,8 @@ NOT_IN_CI = {
     "dist": "proves twice",
     "check-dist": "proves twice",
     "planted": "compiles some forty programs",
-    "try": "test does the same and more",
+    "quick": "test compiles the same programs, and demo shows the same",
+    "uninstall": "check-install does the same",
 }
 
 

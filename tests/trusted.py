@@ -29,6 +29,7 @@ LIBRARIES = [
     "command_words", "v7tools", "laws", "gnu_objects", "listings", "instructions", "disassemblies", "findings", "suspicions",
     "explanations", "map_texts", "report_objects", "library_calls", "v7_c", "v7_from_gnu", "v7_object", "v7_explain",
 ]
+FIRST = ["crates/aout_core/specs/Contents.antt", "crates/link_session/specs/Mentions.antt", "crates/link_laws/specs/relation/LinkedFrom.antt"]
 IMPORT = re.compile(
     r"^ *(?:pub )?(?:ghost )?use Rattle\.(\w+)\.(specs|proofs)\.([\w.]+?)(?:\.\{([^}]*)\}|(?: as (\w+))?);?$"
 )
@@ -240,6 +241,14 @@ def listed():
     return found
 
 
+def check_first():
+    """The lines of the files that a reader is to begin with, as two documents have them."""
+    lines = sum(map(count, FIRST))
+    for page, text in ("docs/PROOFS.md", "Read three files first, {} lines"), ("docs/TRUST.md", "files of `specs/`, {} lines"):
+        if text.format(lines) not in read(page):
+            faults.append(f"{page}: the first three files have {lines} lines")
+
+
 def main():
     reached = trusted()
     other_internals()
@@ -259,6 +268,7 @@ def main():
     for path in sorted(known.keys() - reached):
         faults.append(f"{path} is in the table of docs/PROOFS.md, and no promise leads to it")
     check_claims()
+    check_first()
     for fault in faults:
         print(f"fault: {fault}")
     sys.exit(1 if faults else 0)
