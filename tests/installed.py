@@ -1,7 +1,7 @@
 #!/usr/bin/env python3
 """Looks at what is installed: no link of a document or a page is dead, and lines of prose have at most 100 columns.
 
-usage: tests/installed.py look FOLDER      what is below this folder
+usage: tests/installed.py look FOLDER      what is below this folder, or a file
        tests/installed.py make BUILD       installs the programs of BUILD by packaging/installed.py, as `make install` does, into a new
                                            folder, with the mask 077; looks, calls a program as another user, and uninstalls
 
@@ -75,7 +75,7 @@ def wide_in(path):
 
 def look(folder):
     """The faults below a folder, and how many files and links were looked at."""
-    pages = [path for path in glob.glob(f"{folder}/**", recursive=True) if path.endswith((".md", ".html")) and os.path.isfile(path)]
+    pages = [path for path in glob.glob(f"{folder}/**", recursive=True) or [folder] if path.endswith((".md", ".html")) and os.path.isfile(path)]
     faults = [fault for path in pages for fault in dead_in(path)]
     faults += [fault for path in pages if path.endswith(".md") for fault in wide_in(path)]
     return faults, len(pages), sum(len(links_of(path)) for path in pages)
