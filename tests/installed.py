@@ -75,7 +75,8 @@ def wide_in(path):
 
 def look(folder):
     """The faults below a folder, and how many files and links were looked at."""
-    pages = [path for path in glob.glob(f"{folder}/**", recursive=True) or [folder] if path.endswith((".md", ".html")) and os.path.isfile(path)]
+    paths = [folder] if os.path.isfile(folder) else glob.glob(f"{folder}/**", recursive=True)
+    pages = [path for path in paths if path.endswith((".md", ".html")) and os.path.isfile(path)]
     faults = [fault for path in pages for fault in dead_in(path)]
     faults += [fault for path in pages if path.endswith(".md") for fault in wide_in(path)]
     return faults, len(pages), sum(len(links_of(path)) for path in pages)
