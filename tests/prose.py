@@ -80,7 +80,6 @@ NOT_IN_CI = {
     "dist": "proves twice",
     "check-dist": "proves twice",
     "planted": "compiles some forty programs",
-    "quick": "test compiles the same programs, and demo shows the same",
     "uninstall": "check-install does the same",
 }
 
