@@ -135,7 +135,7 @@ PLANTED = [
     ("v7/src/terminal/prompts.rt", "answer.is_addition && ", ""),
     ("v7/src/terminal/prompts.rt", "        self.settle()?;\n", ""),
     ("v7/src/terminal/near.rt", "rest.len() > 1 && ", ""),
-    ("v7/src/terminal.rt", "Tool::named(named.as_str())", "Tool::named(help.as_str())"),
+    ("v7/src/terminal/pages.rt", "Tool::named(named.as_str())", "Tool::named(help.as_str())"),
 ]
 
 failed = []

@@ -12,7 +12,7 @@ use answers::{Answer, Answers};
 use aout_core::show;
 use command_words::{Reason, Tool, first_reason};
 use lines::{put_hint, put_reason};
-use pages::{asked_shown, page};
+use pages::{asked_shown, page_asked};
 use prompts::Prompts;
 use std::cell::Cell;
 use std::io;
@@ -49,14 +49,6 @@ fn tool_of(words: &[String]) -> Option<Tool> {
     Tool::named(words.first()?.as_str())
 }
 
-/// The tool whose page is asked for: the first argument, or the one after `help`.
-fn page_of(words: &[String]) -> Option<Tool> {
-    match words {
-        [help, named, ..] if help.as_str() == "help" => Tool::named(named.as_str()),
-        _ => tool_of(words),
-    }
-}
-
 /// Refuses arguments as `v7tools::command` does, and then says why, and where help is.
 fn refuse<H: Runtime + AllocGlobal>(rt: &H, words: &[String], reason: Reason) {
     let tool = tool_of(words);
@@ -78,7 +70,7 @@ pub(crate) fn command_at_terminal<H: Runtime + AllocGlobal>(
         return run(rt, is_typed, words);
     };
     match asked_shown(&words, reason) {
-        Some(shown) => show(rt, "v7", page(page_of(&words)), shown),
+        Some(shown) => show(rt, "v7", page_asked(&words), shown),
         None => {
             refuse(rt, &words, reason);
             2
