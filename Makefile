@@ -3,7 +3,7 @@ PREFIX ?= /usr/local
 
 # the kits that the gate has passed with; any: another one too
 KITS ?= rattle-kit-13b rattle-kit-13f
-ifneq ($(filter-out clean install install-lib,$(or $(MAKECMDGOALS),all)),)
+ifneq ($(filter-out clean install install-lib uninstall,$(or $(MAKECMDGOALS),all)),)
 ifneq ($(shell sh tests/kit.sh $(KITS) && echo yes),yes)
 $(error stopped)
 endif
@@ -11,8 +11,8 @@ endif
 
 # tests/prove.py uses all processors by itself
 .NOTPARALLEL:
-.PHONY: all try demo lib install-lib wheel check-lib dist check-dist test gate recheck wrong-bodies check-wrong-bodies memory room bench simulate \
-	lesson page check-page check-manual check-examples check-explain check-cases planted check-model check-streams install clean
+.PHONY: all quick demo lib install-lib wheel check-lib dist check-dist test gate recheck wrong-bodies check-wrong-bodies memory room bench simulate \
+	lesson page check-page check-manual check-examples check-explain check-cases planted check-model check-streams check-install install uninstall clean
 
 all: build/v7 build/v7-from-gnu build/v7-object build/v7-explain build/v7-lesson
 
@@ -25,7 +25,6 @@ build/v7: crates/v7/out/v7
 # tests/prove.py proves a program with the libraries under it, side by side where none waits for another, and builds it. The
 # gate leaves a proved program too, at the same place
 crates/v7/out/v7: $(SOURCES)
-	@echo 'Each function is proved: from nothing 10 minutes, on four cores elsewhere.'
 	python3 tests/prove.py v7 $@
 	touch $@
 
@@ -90,17 +89,20 @@ crates/v7_c/out/libv7_c.a: crates.txt $(shell find $(LIBRARY_CRATES) -name out -
 	touch $@
 
 # the libraries, the header, what pkg-config reads, the manual page, and the documents that the header cites; no program is needed
-LIBRARY_DOCUMENTS := docs/LIBRARY.md docs/LINK.md docs/FORMAT.md docs/OBJECTS.md
+STAGE := build/stage
 install-lib: lib
-	mkdir -p $(DESTDIR)$(LIBDIR)/pkgconfig $(DESTDIR)$(INCLUDEDIR) $(SHARE)/man/man3 $(SHARE)/doc/v7/docs
-	cp build/libv7.a build/$(SOFILE) $(DESTDIR)$(LIBDIR)
-	ln -sf $(SOFILE) $(DESTDIR)$(LIBDIR)/$(SONAME)
-	ln -sf $(SONAME) $(DESTDIR)$(LIBDIR)/libv7.so
-	cp $(LIBRARY_DOCUMENTS) $(SHARE)/doc/v7/docs
-	cp include/v7.h $(DESTDIR)$(INCLUDEDIR)
+	rm -rf $(STAGE)
+	mkdir -p $(STAGE)$(LIBDIR)/pkgconfig $(STAGE)$(INCLUDEDIR) $(STAGE)$(PREFIX)/share/man/man3
+	cp build/libv7.a build/$(SOFILE) $(STAGE)$(LIBDIR)
+	ln -sf $(SOFILE) $(STAGE)$(LIBDIR)/$(SONAME)
+	ln -sf $(SONAME) $(STAGE)$(LIBDIR)/libv7.so
+	cp include/v7.h $(STAGE)$(INCLUDEDIR)
 	sed -e 's|@PREFIX@|$(PREFIX)|' -e 's|@LIBDIR@|$(LIBDIR)|' -e 's|@INCLUDEDIR@|$(INCLUDEDIR)|' -e 's|@VERSION@|$(VERSION)|' \
-		packaging/v7.pc.in >$(DESTDIR)$(LIBDIR)/pkgconfig/v7.pc
-	cp man/*.3 $(SHARE)/man/man3
+		packaging/v7.pc.in >$(STAGE)$(LIBDIR)/pkgconfig/v7.pc
+	cp man/*.3 $(STAGE)$(PREFIX)/share/man/man3
+	python3 packaging/installed.py library $(STAGE)$(PREFIX)/share/doc/v7
+	python3 packaging/installed.py copy $(STAGE) '$(DESTDIR)' $(PREFIX)
+	rm -rf $(STAGE)
 
 # the wheel of Python, with the library inside
 wheel: lib
@@ -119,23 +121,16 @@ dist:
 check-dist:
 	sh tests/dist.sh all
 
-# the examples' session by the program as it is compiled before any proof, in a folder that is gone at the end; the answers
-# are compared
-SESSION_FILES := $(foreach file,main.o twice.o count.o,--data $(file)=$(CURDIR)/examples/$(file))
-try:
-	@echo 'The program is compiled and run, and nothing of it is proved: make demo proves it first.'
-	mkdir -p build
-	sed 's|\.\./build/||' examples/session.txt >build/try.txt
-	cd crates/v7 && rt try $(SESSION_FILES) -- session <../../build/try.txt | tee ../../build/try.answers
-	sed 's|\.\./build/||' examples/answers.txt | cmp - build/try.answers
+# all programs, compiled without proof into build/quick, to try them at once
+quick:
+	@python3 tests/compiling.py build/quick
+	@python3 tests/demo.py build/quick/v7
+	@echo 'Nothing of this is proved: make proves it. next: PATH=$$PWD/build/quick:$$PATH, docs/TUTORIAL.md'
 
-# runs a session and compares its answers, links two small objects and compares the program, and shows its 24 bytes
+# proves v7, and shows with it a session and a link of two small objects
 demo: build/v7
-	cd examples && ../build/v7 session <session.txt >../build/answers.txt; test $$? -eq 1
-	cmp examples/answers.txt build/answers.txt
-	cd examples && ../build/v7 ld -s -o ../build/program a.o b.o
-	cmp examples/ab.out build/program
-	od -An -v -tx1 build/program
+	@python3 tests/demo.py build/v7
+	@echo 'Each function of build/v7 is proved. next: make, which proves the other programs; docs/TUTORIAL.md'
 
 # the cases and the tests that are code, by programs that are compiled without any proof: what fails is named, and a pass proves
 # nothing
@@ -227,10 +222,16 @@ crates/lesson/out/lesson: crates.txt $(shell find $(LESSON_CRATES) -name out -pr
 check-manual: check-examples
 	cd man && mandoc -T lint *.1 *.3 *.5 | { ! grep -v 'lacks .* entry, run makewhatis\|referenced manual not found'; }
 
-# the programs with standard streams closed, and with words and files of each kind and number; and what v7 adds at a terminal
+# the programs with standard streams closed, and with words and files of each kind and number; what v7 adds at a terminal; and
+# completion
 check-streams: build/v7 build/v7-from-gnu build/v7-object build/v7-explain build/v7-lesson
 	sh tests/streams.sh
 	python3 tests/terminal.py build/v7
+	python3 tests/completion.py
+
+# installs into a folder with a narrow file mask, looks at what is there, and takes it away
+check-install: build/v7 build/v7-from-gnu build/v7-object build/v7-explain build/v7-lesson
+	python3 tests/installed.py make build
 
 # listings of the examples and of 1,000 made objects are turned back, and so are those of other files; 2,000 damaged listings
 # are tried, notes compared with computed ones, and maps with what v7 says of the links; DAMAGED files are tried besides. Each program
@@ -285,16 +286,15 @@ check-examples: build/v7 build/v7-from-gnu build/v7-object build/v7-explain buil
 		test "$$(build/$$program --version)" = "$$program $(VERSION)" || { echo "$$program --version: not $(VERSION)"; exit 1; }; \
 	done
 
-# the programs, their manual pages, the documents and the examples
-SHARE = $(DESTDIR)$(PREFIX)/share
+# the programs, and what the package v7 has besides; uninstall takes away what install and install-lib have put there
 install: build/v7 build/v7-from-gnu build/v7-object build/v7-explain build/v7-lesson
-	mkdir -p $(DESTDIR)$(PREFIX)/bin $(SHARE)/man/man1 $(SHARE)/man/man5 $(SHARE)/doc/v7 $(SHARE)/v7
-	cp build/v7 build/v7-from-gnu build/v7-object build/v7-explain build/v7-lesson $(DESTDIR)$(PREFIX)/bin
-	cp -R page $(SHARE)/v7
-	cp man/*.1 $(SHARE)/man/man1
-	cp man/*.5 $(SHARE)/man/man5
-	cp -R README.md CHANGES.md CONTRIBUTING.md docs examples $(SHARE)/doc/v7
-	rm $(SHARE)/doc/v7/examples/.gitignore
+	rm -rf $(STAGE)
+	python3 packaging/installed.py put build $(STAGE)$(PREFIX)
+	python3 packaging/installed.py copy $(STAGE) '$(DESTDIR)' $(PREFIX)
+	rm -rf $(STAGE)
+
+uninstall:
+	python3 packaging/installed.py remove '$(DESTDIR)' $(PREFIX)
 
 clean:
 	rm -rf build dist

@@ -21,29 +21,13 @@ import tempfile
 from email.utils import formatdate
 from typing import NamedTuple
 
-TOP = os.path.abspath(os.path.join(os.path.dirname(os.path.abspath(__file__)), ".."))
+sys.path.insert(0, os.path.dirname(os.path.abspath(__file__)))
+import installed  # noqa: E402
+from installed import PROGRAMS, TOP, read, write  # noqa: E402
+
 KEPT = "build/proved"
-# the program that a crate is, and its name in bin
-PROGRAMS = {"v7": "v7", "v7_from_gnu": "v7-from-gnu", "v7_object": "v7-object", "v7_explain": "v7-explain", "lesson": "v7-lesson"}
-# the pages, each with the folder of its objects and its lessons
-PAGES = {"lesson.html": ("examples", ["main.o", "twice.o", "k.o", "l.o", "double.o"]),
-         "program.html": ("examples/total", ["total.o", "say.o", "console.o", "low.o", "limit.o"])}
-DOCUMENTS = ["CHANGES.md", "CONTRIBUTING.md", "docs", "examples"]
-# what libv7-dev has of the documents: what v7.h cites, and what shows how to call the library
-LIBRARY_DOCUMENTS = ["docs/LIBRARY.md", "docs/LINK.md", "docs/FORMAT.md", "docs/OBJECTS.md"]
 LIBDIR = "usr/lib/x86_64-linux-gnu"
 TRIAL = "This is a trial: nothing was checked when these packages were made. Do not publish them.\n"
-
-
-def read(path, mode="r"):
-    with open(path, mode, encoding=None if "b" in mode else "utf-8") as file:
-        return file.read()
-
-
-def write(path, text):
-    os.makedirs(os.path.dirname(path), exist_ok=True)
-    with open(path, "wb") as file:
-        file.write(text.encode() if isinstance(text, str) else text)
 
 
 def run(*words, **how):
@@ -134,12 +118,6 @@ def shared(place):
     return os.path.realpath(f"{place}/library/usr/lib/libv7.so.0")
 
 
-def page(place, folder, files):
-    """The page of some objects in a folder, with its lessons."""
-    return subprocess.run([f"{place}/bin/v7-lesson", "-p", "page", "-q", f"{folder}/lessons.txt", *(f"{folder}/{name}" for name in files)],
-                          stdout=subprocess.PIPE, check=True).stdout
-
-
 # --- what comes with them
 
 def debian(*names):
@@ -172,7 +150,7 @@ def provenance(release, place):
         f"Kit        {release.kit_version}",
         f"Compiler   {first_line('cc', '--version')}",
         f"Linker     {first_line('ld', '--version')}",
-        f"Packages   {debian('libc6-dev', f'gcc-{major()}', 'binutils', 'dpkg')}\n",
+        f"Packages   {debian('libc6-dev', f'gcc-{major()}', 'binutils', 'dpkg', 'cmark-gfm', 'mandoc')}\n",
         "The prover ended with these lines, one for each crate that a program or libv7 contains. `functions` is the number of",
         "functions that were proved, and `sum` the logic:\n",
         *verdicts,
@@ -220,32 +198,17 @@ def licences(release, place):
     ]) + "\n"
 
 
-def documents(release, place, to):
-    """The documents, the pages of lessons and the notices."""
-    for name in DOCUMENTS:
-        if os.path.isdir(name):
-            shutil.copytree(name, f"{to}/{name}", ignore=shutil.ignore_patterns(".gitignore", "__pycache__"))
-        else:
-            write(f"{to}/{name}", read(name, "rb"))
-    write(f"{to}/README.md", read("packaging/README.md").replace("@VERSION@", release.version))
-    for name, (folder, files) in PAGES.items():
-        write(f"{to}/{name}", page(place, folder, files))
-    write(f"{to}/PROVENANCE", provenance(release, place))
-    write(f"{to}/NOTICE", licences(release, place))
-    shutil.copytree(f"{place}/licences", f"{to}/licences")
-
-
 def tree(release, place, root, prefix, libdir):
     """All files of a package below root/prefix."""
-    shutil.copytree(f"{place}/bin", f"{root}{prefix}/bin")
-    shutil.copytree("page", f"{root}{prefix}/share/v7/page")
+    installed.put(f"{place}/bin", f"{root}{prefix}", True, ["PROVENANCE", "NOTICE"])
     shutil.copytree(f"{place}/library/usr/lib", f"{root}{libdir}", symlinks=True)
     shutil.copytree(f"{place}/objects", f"{root}{libdir}/v7")
     shutil.copytree(f"{place}/library/usr/include", f"{root}{prefix}/include")
-    for section in "135":
-        for name in sorted(glob.glob(f"man/*.{section}")):
-            write(f"{root}{prefix}/share/man/man{section}/{os.path.basename(name)}", read(name, "rb"))
-    documents(release, place, f"{root}{prefix}/share/doc/v7")
+    shutil.copytree(f"{place}/library/usr/share/man/man3", f"{root}{prefix}/share/man/man3")
+    doc = f"{root}{prefix}/share/doc/v7"
+    write(f"{doc}/PROVENANCE", provenance(release, place))
+    write(f"{doc}/NOTICE", licences(release, place))
+    shutil.copytree(f"{place}/licences", f"{doc}/licences")
 
 
 def config(path, prefix, libdir):
@@ -360,14 +323,10 @@ def library_files(root):
     doc = f"{root}/usr/share/doc"
     shutil.copytree(f"{doc}/v7/licences", f"{doc}/libv7-0/licences")
     to = f"{doc}/libv7-dev"
-    for path in LIBRARY_DOCUMENTS:
-        write(f"{to}/{path}", read(path, "rb"))
-    for folder in ("c", "cpp", "rust"):
-        shutil.copytree(f"examples/{folder}", f"{to}/examples/{folder}")
-    for path in glob.glob("examples/*.o"):
-        write(f"{to}/{path}", read(path, "rb"))
+    examples = [*(f"examples/{folder}" for folder in ("c", "cpp", "rust")), *sorted(glob.glob("examples/*.o"))]
+    installed.documents(to, [*installed.LIBRARY_DOCUMENTS, *examples], False)
     module = f"{root}/usr/lib/python3/dist-packages/v7"
-    write(f"{module}/__init__.py", read("examples/python/v7.py", "rb"))
+    write(f"{module}/__init__.py", read("packaging/python/v7.py", "rb"))
     write(f"{module}/py.typed", "")
 
 
@@ -454,12 +413,13 @@ def main(words):
         libraries(place)
         top = f"{place}/tar/{release.name}"
         tree(release, place, top, "", "/lib")
-        write(f"{top}/README.md", re.sub(r"\]\(", "](share/doc/v7/", read(f"{top}/share/doc/v7/README.md")))
+        write(f"{top}/README.md", read(f"{top}/share/doc/v7/README.md").replace("](", "](share/doc/v7/"))
         config(f"{place}/tar/{release.name}/lib/pkgconfig/v7.pc", "${pcfiledir}/../..", "${prefix}/lib")
         names = [f"{release.name}.tar.gz"]
         pack(release, f"{place}/tar", f"dist/{names[0]}")
         shutil.rmtree(f"{place}/licences")
         tree(release, place, f"{place}/deb", "/usr", f"/{LIBDIR}")
+        os.renames(f"{place}/deb/usr/share/zsh/site-functions", f"{place}/deb/usr/share/zsh/vendor-completions")
         config(f"{place}/deb/{LIBDIR}/pkgconfig/v7.pc", "/usr", f"/{LIBDIR}")
         names += [*debian_packages(release, place, f"{place}/deb"), wheel(place)]
     write("dist/SHA256SUMS", "".join(f"{digest(f'dist/{name}')}  {name}\n" for name in names))

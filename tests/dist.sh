@@ -131,22 +131,26 @@ readme() {
     echo "README.md: $(wc -l <"$work/readme.sh") lines were run"
 }
 
-# the README of the release: what it links to and the paths that it names are there, and its commands come out as shown
+# the README of the release: the paths that it names are there
 own_readme() {
     page=$debian$share/doc/v7/README.md
     [ -s "$page" ] && ! grep -q '@VERSION@' "$page" || { fail "the release has no README of its own"; return; }
     for path in $(sed -n 's/^| `\([a-z][^`]*\)` .*/\1/p' "$page"); do
         [ -e "$debian${share%/share}/$path" ] || fail "README.md of the release names $path, which is not there"
     done
-    for readme in "$page" "$debian${share%/share}/README.md"; do
-        [ -e "$readme" ] || continue
-        for path in $(grep -o '](\([^)]*\))' "$readme" | tr -d '](\)'); do
-            [ -e "$(dirname "$readme")/$path" ] || fail "README.md of the release links to $path, which is not there"
-        done
-    done
     [ -e "$(dirname "$page")/NOTICE" ] || [ -e "$(dirname "$page")/copyright" ] || fail "there is neither NOTICE nor copyright"
     grep -q '<script' "$(dirname "$page")/lesson.html" || fail "lesson.html is not the page of the lesson"
     echo "README.md of the release: $(grep -c '^|' "$page") rows of paths and links"
+}
+
+# no link of what is installed is dead, and completion is that of the programs
+web() {
+    for folder in "$debian${share%/share}/README.md" "$debian$share/doc/v7" "$debian$share/doc/libv7-dev"; do
+        [ ! -e "$folder" ] || python3 tests/installed.py look "$folder" || fail "a link of the release is dead"
+    done
+    python3 packaging/completion.py "$work/completion" && cmp "$work/completion/v7.bash" "$debian$share/bash-completion/completions/v7-explain" &&
+        find "$debian$share/zsh" -name _v7 -exec cmp "$work/completion/_v7" {} + || fail "the completion is another one"
+    python3 tests/completion.py "$work/completion" || fail "completion fails"
 }
 
 # the processors that both READMEs name: the programs have instructions of x86-64-v2, and none of a later level
@@ -229,9 +233,9 @@ python() {
         python3 examples/python/session.py >"$work/session.txt" || fail "python3-v7 does not do"
     python3 tests/wheel.py "$dist"/*.whl || fail "the wheel is not right"
     python3 -m venv "$work/fresh" && "$work/fresh/bin/pip" install -q --no-index --disable-pip-version-check "$dist"/*.whl &&
-        mkdir "$work/session" && cp examples/python/session.py "$work/session" &&
-        "$work/fresh/bin/python" "$work/session/session.py" | cmp - "$work/session.txt" || fail "the wheel does not do"
-    echo "Python: a session with python3-v7, and with the wheel in a fresh environment"
+        "$work/fresh/bin/python" examples/python/session.py | cmp - "$work/session.txt" &&
+        (cd examples && "$work/fresh/bin/python" python/link.py "$work/linked" main.o twice.o count.o >/dev/null) || fail "the wheel does not do"
+    echo "Python: a session with python3-v7, and the examples with the wheel in a fresh environment"
 }
 
 # lintian finds nothing in a package
@@ -244,6 +248,7 @@ clean() {
 try_all() {
     echo "--- $1"
     own_readme
+    web
     processors
     first_link
     manual

@@ -14,7 +14,7 @@ import tempfile
 
 TOP = os.path.normpath(os.path.join(os.path.dirname(os.path.abspath(__file__)), ".."))
 HEADER = os.path.join(TOP, "include", "v7.h")
-MODULE = os.path.join(TOP, "examples", "python", "v7.py")
+MODULE = os.path.join(TOP, "packaging", "python", "v7.py")
 RUST = os.path.join(TOP, "packaging", "rust", "v7-sys", "src")
 
 # for the constants of each enum the crate's file and the text of the code that has the number. {Name} is the constant without its
@@ -385,11 +385,10 @@ def compare_rust(header, in_c, enums, rust):
 # --- the documents
 
 def compare_documents(header):
-    """The documents that the header cites and that are not installed with it, by make or by a package."""
-    for place, lists in (("Makefile", r"LIBRARY_DOCUMENTS := (.*)"), ("packaging/dist.py", r"LIBRARY_DOCUMENTS = \[(.*)\]")):
-        installed = re.findall(r"docs/\w+\.md", re.search(lists, read(os.path.join(TOP, place)))[1])
-        for cited in sorted(set(re.findall(r"docs/\w+\.md", header)) - set(installed)):
-            yield f"v7.h cites {cited}, which LIBRARY_DOCUMENTS of {place} lacks"
+    """The documents that the header cites and that are not installed with it."""
+    listed = re.search(r"LIBRARY_DOCUMENTS = \[(.*)\]", read(os.path.join(TOP, "packaging", "installed.py")))[1]
+    for cited in sorted(set(re.findall(r"docs/\w+\.md", header)) - set(re.findall(r"docs/\w+\.md", listed))):
+        yield f"v7.h cites {cited}, which LIBRARY_DOCUMENTS of packaging/installed.py lacks"
 
 
 # --- all of it

@@ -1,7 +1,7 @@
 """Makes the objects of the large benchmark by libv7, links them by it and by the program, and compares the files: 200 objects
 that refer to 25 names each, and one that defines all 5,000 names.
 
-usage: PYTHONPATH=examples/python LIBV7=build/libv7.so python3 tests/heavy_library.py build/v7 FOLDER
+usage: PYTHONPATH=packaging/python LIBV7=build/libv7.so python3 tests/heavy_library.py build/v7 FOLDER
 """
 import os
 import subprocess

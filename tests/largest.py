@@ -323,7 +323,7 @@ def mapped(kind):
         check(f"-m {letters}", (status, errors), (int(link is None or bool(link.report)), ""))
         found = maps.parts(text)
         said = f"refused, {fault}" if fault else f"made, with {'something' if link.report else 'nothing'} to report"
-        check(f"-m {letters}", found[""][0], f"Link of {len(files)} objects: {said}")
+        check(f"-m {letters}", found[""][0], f"Link of {len(files)} object{'s' if len(files) > 1 else ''}: {said}")
         check(f"-m {letters}, objects", [line.split()[-1] for line in found["Objects"][1:]], paths)
         names = maps.names_in(found.get("Externals", []))
         check(f"-m {letters}, externals", list(names), [in_listing(name) for name in sorted(together.externals)])

@@ -5,6 +5,7 @@ examples worked out by hand, and random files and words by the decoder of tests/
 usage: python3 tests/library.py V7.H       with the module v7 and the folder tests on the path
 """
 import doctest
+import os
 import random
 import re
 import sys
@@ -24,6 +25,16 @@ def refused(call, *words):
     except ValueError:
         return True
     return False
+
+
+def wrong_types():
+    """Whether each call of tests/wrong_types.py raises a TypeError."""
+    for call in re.findall("^v7.*", read(os.path.join(os.path.dirname(os.path.abspath(__file__)), "wrong_types.py")), re.M):
+        try:
+            eval(call)
+            yield False
+        except TypeError:
+            yield True
 
 
 def read(path):
@@ -234,6 +245,7 @@ def main(header):
         "the constants": [getattr(v7, name) == number for name, number in constants_of(header).items()],
         "the version": [f'#define V7_VERSION "{version}"' in read(header).split("\n") for version in (v7.version(), v7.__version__)],
         "numbers": [*numbers()],
+        "types": [*wrong_types()],
         "blame": [*blames()],
         "parts": [*parts()],
         "replies": [*replies()],

@@ -241,13 +241,13 @@ if command -v python3 >/dev/null; then
     LIBV7=$library
     PYTHONDONTWRITEBYTECODE=1
     export LIBV7 PYTHONDONTWRITEBYTECODE
-    links Python "python3 $top/examples/python/link.py"
-    session Python python3 "$top/examples/python/session.py"
-    PYTHONPATH=$top/examples/python:$top/tests python3 "$top/tests/library.py" "$top/include/v7.h" || fail "Python: a check fails"
-    PYTHONPATH=$top/examples/python python3 "$top/tests/library_programs.py" "$top/build" "$top/examples" "${CHANGED:-40}" ||
+    links Python "env PYTHONPATH=$top/packaging/python python3 $top/examples/python/link.py"
+    session Python env "PYTHONPATH=$top/packaging/python" python3 "$top/examples/python/session.py"
+    PYTHONPATH=$top/packaging/python:$top/tests python3 "$top/tests/library.py" "$top/include/v7.h" || fail "Python: a check fails"
+    PYTHONPATH=$top/packaging/python python3 "$top/tests/library_programs.py" "$top/build" "$top/examples" "${CHANGED:-40}" ||
         fail "a program and the library differ"
-    PYTHONPATH=$top/examples/python:$top/tests python3 "$top/tests/agree_library.py" ${CASES:-500 100 500} || fail "the model differs"
-    PYTHONPATH=$top/examples/python:$top/tests python3 "$top/tests/largest_library.py" || fail "the largest inputs"
+    PYTHONPATH=$top/packaging/python:$top/tests python3 "$top/tests/agree_library.py" ${CASES:-500 100 500} || fail "the model differs"
+    PYTHONPATH=$top/packaging/python:$top/tests python3 "$top/tests/largest_library.py" || fail "the largest inputs"
     # a library with a fault in one field of all records of a map, of findings, or of their objects
     ${OBJCOPY:-objcopy} --redefine-sym v7_map=real_v7_map --redefine-sym v7_run=real_v7_run "$archive" planted.a
     $CC -std=c99 -O2 -Wall -Wextra -Werror -shared -fPIC -o planted.so $compiles "$top/tests/planted_records.c" -Wl,--whole-archive planted.a \
@@ -255,7 +255,7 @@ if command -v python3 >/dev/null; then
     plants=$(grep -o 'FIELD([a-z_]*, [a-z_]*)' "$top/tests/planted_records.c" | sed -n '/(record, name)/d; s/FIELD(\(.*\), \(.*\))/\1.\2/p')
     # whether the model differs from it
     differs() {
-        ! LIBV7=./planted.so PLANT=$1 PYTHONPATH=$top/examples/python:$top/tests python3 "$top/tests/agree_library.py" 60 0 60 >planted.txt 2>&1
+        ! LIBV7=./planted.so PLANT=$1 PYTHONPATH=$top/packaging/python:$top/tests python3 "$top/tests/agree_library.py" 60 0 60 >planted.txt 2>&1
     }
     ! differs nothing || { cat planted.txt; fail "the model differs from the library without a fault in its records"; }
     for plant in $plants; do
@@ -263,18 +263,23 @@ if command -v python3 >/dev/null; then
     done
     echo "a fault in each of $(echo "$plants" | wc -l) fields of the records of maps and findings is found"
     if command -v mypy >/dev/null; then
-        mypy --strict --cache-dir="$room/mypy" "$top/examples/python/v7.py" || fail "Python: mypy does not take the type hints"
+        MYPYPATH=$top/packaging/python mypy --strict --cache-dir="$room/mypy" "$top/packaging/python/v7.py" ||
+            fail "Python: mypy does not take the type hints"
+        MYPYPATH=$top/packaging/python mypy --cache-dir="$room/mypy" "$top"/examples/python/*.py || fail "Python: mypy does not take the examples"
+        ! MYPYPATH=$top/packaging/python mypy --cache-dir="$room/mypy" "$top/tests/wrong_types.py" >wrong.txt &&
+            test "$(grep -c ': error: .* has incompatible type' wrong.txt)" -eq "$(grep -c '^v7' "$top/tests/wrong_types.py")" ||
+            { cat wrong.txt; fail "Python: mypy takes a wrong type"; }
     else
         echo "skipped: mypy is not there"
     fi
     mkdir heavy
-    PYTHONPATH=$top/examples/python python3 "$top/tests/heavy_library.py" "$top/build/v7" heavy || fail "the large benchmark"
+    PYTHONPATH=$top/packaging/python python3 "$top/tests/heavy_library.py" "$top/build/v7" heavy || fail "the large benchmark"
     unset LIBV7
     # the wheel, in an environment that has nothing else
     if python3 -m venv fresh 2>/dev/null; then
         (cd "$top" && python3 packaging/python/backend.py "$room" >/dev/null) || fail "Python: no wheel is made"
         mkdir wheel
-        cp "$top"/examples/python/session.py "$top"/examples/python/link.py wheel
+        cp "$top"/examples/python/*.py wheel
         python3 "$top/tests/wheel.py" v7-*.whl || fail "Python: the wheel is not as an index wants it"
         fresh/bin/pip install -q --no-index --disable-pip-version-check v7-*.whl || fail "Python: the wheel is not installed"
         links "Python, from the wheel" "env -u LD_LIBRARY_PATH fresh/bin/python wheel/link.py"

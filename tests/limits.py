@@ -1,6 +1,8 @@
 #!/usr/bin/env python3
 """Compares the limits that the documents name with the constants of the code that enforce them. Where a constant, or the number in a
-document, is another one, the text of the document is not found. Each limit is changed once to see that this is noticed."""
+document, is another one, the text of the document is not found. Each limit is changed once to see that this is noticed. The version
+of Python in README is the one that the scripts need, as far as words that came with a version show."""
+import glob
 import os
 import re
 import sys
@@ -59,6 +61,10 @@ LIMITS = [
     }),
 ]
 
+# words that came with a version of Python
+NEWER = {9: r"\.remove(?:prefix|suffix)\(|\bmath\.lcm\(|\bast\.unparse\(|[\"\']user[\"\']: |-> (?:list|dict|tuple|set)\[",
+         10: r"^ *match .*:$|\bstrict=|\bpairwise\(|\bbit_count\(", 11: r"\btomllib\b|\bStrEnum\b|\bExceptionGroup\b"}
+
 
 def read(path):
     with open(path, encoding="utf-8") as file:
@@ -76,8 +82,15 @@ def missing(value, texts):
     return [page for page, text in texts.items() if text.format(f"{value:,}") not in read(page)]
 
 
+def wrong_python():
+    """The faults of README's version of Python."""
+    scripts = [path for folder in ("tests", "packaging") for path in glob.glob(f"{folder}/*.py") if path != "tests/limits.py"]
+    newest = max(version for version, words in NEWER.items() if any(re.search(words, read(path), re.M) for path in scripts))
+    return [] if f"Python 3.{newest} or later" in read("README.md") else [f"README.md: the scripts need Python 3.{newest}"]
+
+
 def main():
-    faults = []
+    faults = wrong_python()
     for path, name, texts in LIMITS:
         value = value_of(path, name)
         if value is None:

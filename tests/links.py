@@ -29,9 +29,8 @@ MENTIONS = [
 
 
 def documents():
-    """The documents, without what tests/calling.py writes, and without the README of a release: its links begin in a release, where
-    tests/dist.sh follows them."""
-    return ["README.md", "CHANGES.md", "CONTRIBUTING.md"] + sorted(
+    """The documents, without what tests/calling.py writes."""
+    return ["README.md", "CHANGES.md", "CONTRIBUTING.md", "packaging/README.md"] + sorted(
         glob.glob("docs/**/*.md", recursive=True) + glob.glob("examples/*.md"))
 
 
@@ -196,7 +195,7 @@ def main(words):
         faults += [f"{path}:{number}: {fault}" for number, fault in faults_in(path, text)]
     with open(INDEX, encoding="utf-8") as file:
         indexed = targets(INDEX, file.read())
-    faults += [f"{INDEX}: no link to {path}" for path in documents() if path != INDEX and path not in indexed]
+    faults += [f"{INDEX}: no link to {path}" for path in documents() if path not in (INDEX, "packaging/README.md", *indexed)]
     for fault in faults:
         print(fault)
     print(f"{len(documents())} documents have {count} links")

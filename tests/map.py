@@ -256,9 +256,13 @@ def limits_of(options, paths, linked, end):
     return lines + [limit("symbol number", number, 4095)] * ("-r" in options) + [limit("externals", len(names), 65535)]
 
 
+def counted(paths):
+    return f"{len(paths)} object{'s' if len(paths) > 1 else ''}"
+
+
 def check_head(what, found, paths, report, linked):
     """What becomes of a link that is made: whether there is something to report, the magic number, and the entry point."""
-    lines = [f"Link of {len(paths)} objects: made, with {'something' if report else 'nothing'} to report"]
+    lines = [f"Link of {counted(paths)}: made, with {'something' if report else 'nothing'} to report"]
     lines.append(f"  magic 0{linked.magic:o}, entry point {linked.entry:06o}")
     lines += [f"  entry point not in text: {line.split(':')[0]}" for line in report.split("\n") if line.endswith("Entry point not in text")]
     check(f"{what}: head", found[""], lines)
@@ -381,7 +385,7 @@ def check_random_refused(number):
     status, text, errors = explain(*options, *paths)
     check(f"{what}: status", (status, errors), (1, ""))
     found = parts(text)
-    check(f"{what}: fault", found[""][0].split(" at")[0], f"Link of {len(paths)} objects: refused, {fault}")
+    check(f"{what}: fault", found[""][0].split(" at")[0], f"Link of {counted(paths)}: refused, {fault}")
     names = names_in(found["Externals"])
     check_lists(what, names, objects)
     expected = [line_without_address(objects, name) for name in names]

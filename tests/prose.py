@@ -78,7 +78,7 @@ NOT_IN_CI = {
     "dist": "proves twice",
     "check-dist": "proves twice",
     "planted": "compiles some forty programs",
-    "try": "test does the same and more",
+    "uninstall": "check-install does the same",
 }
 
 

@@ -6,6 +6,9 @@ words of the gate, and the crates above it read its statements and not its proof
 the gate refuses folders with sources that no crate lists. A library is proved again where its sources, or those of one below
 it, have changed. Beside them NAME.verdict has the line by which the prover ends, and NAME.o what a program is linked from: a release
 is made of these.
+
+While it works it prints how many functions are proved of all, and an estimate of the time that is left: at a terminal on one line, and
+elsewhere a line for each crate, and at least one every ten seconds.
 """
 import hashlib
 import os
@@ -15,6 +18,7 @@ import subprocess
 import sys
 import tarfile
 import tempfile
+import threading
 import time
 from concurrent.futures import ThreadPoolExecutor
 
@@ -22,6 +26,8 @@ ROOT = os.path.abspath(os.path.join(os.path.dirname(os.path.abspath(__file__)), 
 KEPT = "build/proved"
 # more jobs of one check seldom help
 MOST_JOBS = 8
+# of a processor for a function, until this run has a rate of its own; and between two lines where no terminal is
+SECONDS_EACH, SECONDS_SILENT = 3, 10
 
 
 def read(path):
@@ -119,6 +125,56 @@ class Kit:
         ]
 
 
+class Progress:
+    """How far a run is, printed while it works."""
+
+    def __init__(self, counts):
+        self.counts, self.total = counts, sum(counts.values())
+        self.done = self.kept = 0
+        self.busy = set()
+        self.begun = self.printed = time.monotonic()
+        self.expected = self.total * SECONDS_EACH / min(os.cpu_count(), MOST_JOBS)
+        self.at_terminal = sys.stdout.isatty()
+        self.lock, self.over = threading.Lock(), threading.Event()
+
+    def text(self):
+        seconds = time.monotonic() - self.begun
+        left = f", about {int(max(0, self.expected - seconds)) // 60 + 1} more" if self.done < self.total and not self.over.is_set() else ""
+        return f"{self.done} of {self.total} functions proved, {int(seconds) // 60} minutes{left}"
+
+    def say(self, line):
+        """Prints a line, at a terminal in place of the one that is overwritten."""
+        print(f"\r{line}\x1b[K" if self.at_terminal else line, flush=True)
+        self.printed = time.monotonic()
+
+    def begin(self, name):
+        with self.lock:
+            self.busy.add(name)
+
+    def end(self, name, is_proved, is_kept=False):
+        """Notes that a crate is proved, or was before this run, or is not; and how long all may take, by what this run has proved."""
+        with self.lock:
+            self.busy.discard(name)
+            self.done += self.counts[name] if is_proved else 0
+            self.kept += self.counts[name] if is_kept else 0
+            each = SECONDS_EACH / min(os.cpu_count(), MOST_JOBS)
+            if self.done - self.kept > self.total // 10:
+                each = (time.monotonic() - self.begun) / (self.done - self.kept)
+            self.expected = each * (self.total - self.kept)
+            if not is_proved or not (self.at_terminal or is_kept):
+                self.say(f"{name}: {'proved' if is_proved else 'not proved'}; {self.text()}")
+
+    def watch(self):
+        """Prints how far the run is until it is over."""
+        while not self.over.wait(1):
+            with self.lock:
+                if self.at_terminal:
+                    print(f"\r{self.text()}: {' '.join(sorted(self.busy))}"[:79], end="\x1b[K", flush=True)
+                elif time.monotonic() - self.printed >= SECONDS_SILENT:
+                    self.say(f"{self.text()}; proving {' '.join(sorted(self.busy))}")
+        self.say(self.text())
+
+
 class Proving:
     """What is proved of crates, lowest first. The last one is built into a file, if a file is given."""
 
@@ -126,6 +182,7 @@ class Proving:
         self.crates, self.kit, self.file = crates, kit, file
         self.top = crates[-1] if file else None
         self.lanes = {}
+        self.progress = Progress({crate.name: crate.functions() for crate in crates})
 
     def stamp(self, crate):
         """What a proof rests on: the kit, the sources of the crate and those of the crates below it."""
@@ -157,7 +214,7 @@ class Proving:
         for words in self.commands(crate):
             ran = subprocess.run(words, **how)
             if ran.returncode:
-                sys.stdout.buffer.write(ran.stdout)
+                self.progress.say(ran.stdout.decode(errors="replace"))
                 return None
             said += ran.stdout.decode(errors="replace").split("\n")
         return next((line for line in said if line.startswith("logic=proved ")), None)
@@ -195,24 +252,28 @@ class Proving:
             return False
         stamp = self.stamp(crate)
         if self.is_kept(crate, stamp):
+            self.progress.end(crate.name, True, True)
             return True
-        print(f"{crate.name}: proving {crate.functions()} functions", flush=True)
-        begun = time.monotonic()
+        self.progress.begin(crate.name)
         verdict = self.run(crate)
-        print(f"{crate.name}: {'proved' if verdict else 'not proved'}, {time.monotonic() - begun:.0f} seconds", flush=True)
+        self.progress.end(crate.name, verdict is not None)
         if verdict:
             self.keep(crate, stamp, verdict)
         return verdict is not None
 
     def whole(self):
         """Proves all, lowest first. Whether all is proved."""
-        below = [it for it in self.crates if it is not self.top]
-        count = sum(it.functions() for it in below)
-        print(f"{len(below)} libraries of {count} functions{f', and then {self.top.name}' if self.top else ''}", flush=True)
-        with ThreadPoolExecutor(len(self.crates)) as pool:
-            for crate in self.crates:
-                self.lanes[crate] = pool.submit(self.prove, crate)
-        return all(lane.result() for lane in self.lanes.values())
+        print(f"{len(self.crates)} crates: {self.progress.text()}", flush=True)
+        watching = threading.Thread(target=self.progress.watch)
+        watching.start()
+        try:
+            with ThreadPoolExecutor(len(self.crates)) as pool:
+                for crate in self.crates:
+                    self.lanes[crate] = pool.submit(self.prove, crate)
+            return all(lane.result() for lane in self.lanes.values())
+        finally:
+            self.progress.over.set()
+            watching.join()
 
 
 def main(name, file):

@@ -1,5 +1,5 @@
 #!/usr/bin/env python3
-"""Plays v7 at a terminal: help, the version, why arguments are refused, and a session with prompt, help and quit. Then it runs the
+"""Plays v7 at a terminal: help, the version, why arguments are refused, and a session with prompt, help, list, hints and quit. Then it runs the
 same commands through pipes, where each byte and status has to be that of the specification.
 
 usage: tests/terminal.py V7
@@ -63,9 +63,12 @@ REASONS = [
     ([b"nm", b"\xe9"], "an argument is not UTF-8"),
 ]
 # arguments that ask for help
-HELP = [([], None), (["help"], None), (["--help"], None)] + [([tool, "--help"], tool) for tool in TOOLS] + [(["ld", "-r", "--help"], "ld")]
+HELP = [([], None), (["help"], None), (["help", "all"], None), (["--help"], None), (["ld", "-r", "--help"], "ld")]
+HELP += [(words, tool) for tool in TOOLS for words in ([tool, "--help"], ["help", tool])]
 
-COMMANDS = "add PATH, withdraw, externals, undefined and link PATH are the commands; quit ends the session\n"
+COMMANDS = """add PATH, withdraw, externals, undefined and link PATH are the commands;
+list shows the objects, help this text, and quit ends the session
+"""
 # what is typed in a session at a terminal, with what is shown after it; lines are typed one by one
 SESSION = [
     ("add main.o", "added main.o\n"),
@@ -75,14 +78,38 @@ SESSION = [
     ("", ""),
     ("  ", ""),
     (" help ", COMMANDS),
-    ("withdrew", "bad command\n"),
-    ("helper", "bad command\n"),
-    ("quit now", "bad command\n"),
+    ("list", "main.o\n"),
     ("add twice.o", "added twice.o\n"),
     ("add " + "x" * 600, "x" * 600 + ": cannot open\n"),
+    (" list ", "main.o\ntwice.o\n"),
     ("link program", "linked program 0\n"),
     ("withdraw", "withdrew twice.o\n"),
+    ("add added", "added: cannot open\n"),
+    ("list", "main.o\n"),
+    ("withdraw", "withdrew main.o\n"),
+    ("withdraw", "nothing to withdraw\n"),
+    ("list", "no object is added\n"),
 ]
+# lines that are not commands, and the hint for each
+HINTS = [
+    ("withdrew", "Do you mean withdraw?"),
+    ("helper", "Do you mean help?"),
+    ("undo", "Do you mean withdraw?"),
+    ("UNDEF", "Do you mean undefined?"),
+    ("Add x", "Commands are in small letters: add x"),
+    ("HELP", "Commands are in small letters: help"),
+    (" add x", "A command begins its line: add x"),
+    ("link", "link needs a path: link PATH"),
+    ("Link ", "link needs a path: link PATH"),
+    ("add\tx", "add has one blank after it: add PATH"),
+    ("withdraw now", "withdraw has nothing after it"),
+    ("quit now", "quit has nothing after it"),
+    ("\x1b[A", "For arrow keys, start the session by rlwrap v7 session"),
+    ("x", "help shows the commands"),
+    ("twice.o", "help shows the commands"),
+]
+SESSION += [(line, f"bad command\n{hint}\n") for line, hint in HINTS]
+OWN = ["help", "?", "list", ""]
 ENDINGS = ["quit", "exit", " quit ", None]
 ONE = "end of the session: 1 command, status 0: each was done, and no link had anything to report\n"
 REFUSED = "a line was refused, or a link had something to report"
@@ -106,6 +133,10 @@ PLANTED = [
     ("v7/src/terminal/prompts.rt", "line.trim_ascii()", "line.trim_ascii_end()"),
     ("v7/src/terminal/prompts.rt", "self.given = self.given.saturating_add(n);", "self.given = self.line.len();"),
     ("v7/src/terminal/prompts.rt", "self.lines.saturating_add(1)", "self.lines"),
+    ("v7/src/terminal/prompts.rt", "answer.is_addition && ", ""),
+    ("v7/src/terminal/prompts.rt", "        self.settle()?;\n", ""),
+    ("v7/src/terminal/near.rt", "rest.len() > 1 && ", ""),
+    ("v7/src/terminal/pages.rt", "Tool::named(named.as_str())", "Tool::named(help.as_str())"),
 ]
 
 failed = []
@@ -312,11 +343,10 @@ def summary(ending, count, status):
 
 def check_session():
     """Each ending; a session without a fault; a session whose streams are not both a terminal."""
-    own = {"help", "?", ""}
-    count = sum(line.strip() not in own for line, _ in SESSION)
+    count = sum(line.strip() not in OWN for line, _ in SESSION)
     for ending in ENDINGS:
         expect(f"{ending}: end", play(SESSION, ending), (summary(ending, count, 1), 1))
-        done = [pair for pair in SESSION[:2] + SESSION[10:11]]
+        done = SESSION[:2] + SESSION[8:9]
         expect(f"{ending}: end without a fault", play(done, ending), (summary(ending, 3, 0), 0))
     expect("one command", play(SESSION[:1], "quit"), (ONE, 0))
     # lines that are typed ahead, and a last one without a newline
@@ -332,7 +362,8 @@ def check_session():
 def check_mixed():
     """A script from a pipe has no prompt; nor has a terminal, if standard error is a pipe."""
     script = "".join(line + "\n" for line, _ in SESSION) + "quit\n"
-    answers = "".join(answer if answer and answer != COMMANDS else "bad command\n" for _, answer in SESSION) + "bad command\n"
+    answers = "".join("bad command\n" if line.strip() in OWN else answer for line, answer in SESSION[:-len(HINTS)])
+    answers += "bad command\n" * (len(HINTS) + 1)
     expect("session: through pipes", through_pipes(["session"], script.encode()), ("", answers, 1))
     terminal = Terminal(["session"], (1, 2))
     terminal.process.stdin.write(script.encode())

@@ -10,7 +10,8 @@ import re
 import subprocess
 import sys
 import tempfile
-from concurrent.futures import ThreadPoolExecutor, as_completed, wait
+import time
+from concurrent.futures import FIRST_COMPLETED, ThreadPoolExecutor, wait
 
 from compiling import CRATES, NotCompiled, compile_program
 
@@ -21,6 +22,7 @@ SECONDS = "1800"
 SIDE_BY_SIDE = 4
 # the cases are played in so many groups
 GROUPS = 4
+SECONDS_SILENT = 10
 
 
 class Failed(Exception):
@@ -127,18 +129,32 @@ def play_share(programs, folder, files):
 class Tally:
     """What has been run, and whether anything failed."""
 
-    def __init__(self):
+    def __init__(self, jobs):
+        self.jobs, self.begun = jobs, time.monotonic()
         self.lines = []
         self.failed = []
+
+    def far(self):
+        return f"{len(self.lines) + len(self.failed)} of {len(self.jobs)}, {time.monotonic() - self.begun:.0f} seconds"
 
     def take(self, name, result):
         try:
             line = result()
             self.lines.append(line)
-            print(line, flush=True)
+            print(f"{self.far()}: {line}", flush=True)
         except Failed as failed:
             self.failed.append(name)
-            print(f"FAILED: {name}\n{str(failed).rstrip()}", flush=True)
+            print(f"{self.far()}: FAILED: {name}\n{str(failed).rstrip()}", flush=True)
+
+    def take_all(self):
+        """Takes each result as it comes. What runs is printed if nothing comes for a while."""
+        left = {*self.jobs}
+        while left:
+            done, left = wait(left, SECONDS_SILENT, FIRST_COMPLETED)
+            for job in done:
+                self.take(self.jobs[job], job.result)
+            if not done:
+                print(f"{self.far()}; now {', '.join(name for job, name in self.jobs.items() if job.running())}", flush=True)
 
     def count(self, pattern):
         found = (re.match(pattern, line) for line in self.lines)
@@ -147,8 +163,8 @@ class Tally:
 
 def main():
     os.chdir(TOP)
-    print("What follows is compiled without proof, so it proves nothing: make gate proves all of it.", flush=True)
-    tally = Tally()
+    print("The programs are compiled, the cases played, the texts compared, and the tests of crates run: some minutes.", flush=True)
+    print("All of this is compiled without proof, so it proves nothing: make gate proves it.", flush=True)
     with tempfile.TemporaryDirectory() as folder, ThreadPoolExecutor(min(SIDE_BY_SIDE, len(os.sched_getaffinity(0)))) as pool:
         # nothing that waits comes before what it waits for
         programs = {pool.submit(compiled, name, folder): f"the program {name}" for name in CRATES}
@@ -159,8 +175,8 @@ def main():
         tests = sorted(crates_with_tests().items(), key=lambda it: -it[1])
         work += [(f"tests of {name}", run_tests, name, count) for name, count in tests]
         jobs = {**programs, **{pool.submit(*rest): name for name, *rest in work}}
-        for job in as_completed(jobs):
-            tally.take(jobs[job], job.result)
+        tally = Tally(jobs)
+        tally.take_all()
     print(f"{tally.count('([0-9]+) cases played')} cases and {tally.count('([0-9]+) tests of ')} tests passed: nothing was proved")
     if tally.failed:
         print(f"{len(tally.failed)} failed: {', '.join(tally.failed)}")

@@ -112,7 +112,7 @@ static void print_segment(const char *label, uint64_t from, uint64_t end)
 
 static void print_head(void)
 {
-    printf("Link of %zu objects: ", object_count);
+    printf("Link of %zu object%s: ", object_count, object_count == 1 ? "" : "s");
     if (map.head.fault) {
         printf("refused, %s", v7_strerror(map.head.fault));
         if (map.head.fault < V7_DOES_NOT_FIT)

@@ -56,7 +56,7 @@ def build_wheel(folder, config_settings=None, metadata_directory=None):
                 f"Requires-Python: {said['requires-python']}\nDescription-Content-Type: text/markdown\n\n")
     tags = "".join(f"Tag: {TAG[:-len(PLATFORMS)]}{platform}\n" for platform in PLATFORMS.split("."))
     files = {
-        "v7/__init__.py": read("examples", "python", "v7.py"),
+        "v7/__init__.py": read("packaging", "python", "v7.py"),
         "v7/libv7.so.0": read(library),
         "v7/py.typed": b"",
         f"{stem}.dist-info/METADATA": metadata.encode() + read("packaging", "python", "README.md"),

@@ -115,8 +115,11 @@ abbrev pub becomes_text : Option Refused → Option Outcome → List ℕ
 becomes_text None outcome = outcome_text outcome
 becomes_text (Some r) outcome = refused_text r
 
+abbrev pub objects_word : ℕ → List ℕ
+objects_word count = if eqb count 1 then codes " object: " else codes " objects: "
+
 unfoldable pub head_text : ℕ → Option Refused → Option Outcome → List ℕ
-head_text count refused outcome = codes "Link of " ++ decimal count ++ codes " objects: " ++ becomes_text refused outcome
+head_text count refused outcome = codes "Link of " ++ decimal count ++ objects_word count ++ becomes_text refused outcome
 
 -- ---- limits
 

@@ -1,7 +1,7 @@
 //! What becomes of the link: a file, or why there is none.
 ghost use Rattle.std.specs.Prelude.{◌≡◌, length};
 ghost use Rattle.texts.specs.Texts.{Puts};
-ghost use Rattle.map_texts.specs.MapTexts.{becomes_text, entry_line, entry_lines, entry_point_text, file_line, first_label, head_text};
+ghost use Rattle.map_texts.specs.MapTexts.{becomes_text, entry_line, entry_lines, entry_point_text, file_line, first_label, head_text, objects_word};
 ghost use Rattle.map_texts.specs.MapTexts.{linked_text, made_line, made_text, magic_text, not_made, outcome_text, refused_text};
 ghost use Rattle.map_texts.specs.MapTexts.{whether_text};
 
@@ -148,6 +148,17 @@ fn put_what_becomes(text: &mut Text, refused: &Option<Refused>, outcome: &Option
     }
 }
 
+/// What follows a number of objects.
+fn objects_word(count: usize) -> &'static str
+    ensures { result.now ≡ objects_word count }
+{
+    if count == 1 {
+        " object: "
+    } else {
+        " objects: "
+    }
+}
+
 /// Adds how many objects there are, and what becomes of the link.
 #[tactic(auto, unfolding(crate::specs::MapTexts::head_text))]
 pub(crate) fn put_head(text: &mut Text, map: &LinkMap, objects: &Objects)
@@ -156,6 +167,6 @@ pub(crate) fn put_head(text: &mut Text, map: &LinkMap, objects: &Objects)
 {
     text.put("Link of ");
     text.put_decimal(map.members.len() as u64);
-    text.put(" objects: ");
+    text.put(objects_word(map.members.len()));
     put_what_becomes(text, &objects.refused, &map.outcome);
 }

@@ -2,15 +2,19 @@
 //! Nothing of this is written if standard error is not a terminal.
 ghost use Rattle.std.specs.Prelude.{◌≤◌};
 
+mod answers;
 mod lines;
+mod near;
 mod pages;
 mod prompts;
 mod reasons;
 
+use answers::{Answer, Answers};
 use lines::{put_hint, put_reason};
-use pages::{asked_shown, page};
+use pages::{asked_shown, page_asked};
 use prompts::Prompts;
 use reasons::{Tool, first_reason};
+use std::cell::Cell;
 use std::rt::Runtime;
 use std::{env, io};
 use surroundings::{show, words};
@@ -29,7 +33,7 @@ fn refuse<H: Runtime + AllocGlobal>(rt: &H, words: &[String]) -> u8
     let tool = words.first().and_then(|name| Tool::named(name.as_str()));
     let reason = first_reason(words);
     if let Some(shown) = asked_shown(words, reason) {
-        return show(rt, "v7", page(tool), shown);
+        return show(rt, "v7", page_asked(words), shown);
     }
     let _ = rt.eprint("v7: usage\n");
     if let Some(reason) = reason {
@@ -62,11 +66,13 @@ pub(crate) fn command_at_terminal<H: Runtime + AllocGlobal>(
 ) -> u8
     ensures { result ≤ 2 }
 {
-    let mut prompts = Prompts::new(rt);
+    let answer = Cell::new(Answer::NONE);
+    let mut prompts = Prompts::new(rt, &answer);
+    let output = Answers::new(io::writer(rt), &answer);
     let done = if is_typed {
-        attempt(rt, &mut prompts, words)
+        attempt(rt, &mut prompts, output, words)
     } else {
-        attempt(rt, rt.reader(), words)
+        attempt(rt, rt.reader(), output, words)
     };
     match done {
         Ok(status) => {

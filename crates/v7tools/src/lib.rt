@@ -19,7 +19,7 @@
 //! Functions:
 //!
 //! - `command`: does what the arguments ask for, with the system's files
-//! - `attempt`: the same, with the lines of a session from any reader, and the fault as a value
+//! - `attempt`: the same, from any reader of a session's lines, to any writer, and the fault as a value
 //! - `perform`: the same over any `Office` and any streams
 //! - `words`, `parse`: the arguments of a program, and what they ask for
 //! - `load`: reads the file at a path

@@ -100,17 +100,18 @@ pub fn perform<O: Office, R: Read + Drop, W: BufferedWrite, E: Write>(
     }
 }
 
-/// Does what `command` does, with the lines of a session from any reader, and returns a fault in place of writing its line.
-/// (own choice)
-pub fn attempt<H: Runtime + AllocGlobal, R: Read + Drop>(
+/// Does what `command` does, with the lines of a session from any reader and standard output on any writer, and returns a fault in
+/// place of writing its line. (own choice)
+pub fn attempt<H: Runtime + AllocGlobal, R: Read + Drop, W: Write + Drop>(
     rt: &H,
     script: R,
+    output: W,
     words: Vec<String>,
 ) -> Result<u8, CliFault>
     ensures { IfOk result (λ status. status ≤ 1) }
 {
     let mut office = Disk::new(rt);
-    let mut output = Wire::new(BlockWriter::new(io::writer(rt)));
+    let mut output = Wire::new(BlockWriter::new(output));
     let status = run_words(rt.alloc(), &mut office, script, &mut output, words)?;
     Ok(status.code())
 }

@@ -104,7 +104,7 @@ The manual is v7-strip(1): man v7-strip
 ";
 
 /// The page of a tool, or of the program.
-pub(crate) fn page(tool: Option<Tool>) -> &'static str {
+fn page(tool: Option<Tool>) -> &'static str {
     match tool {
         None => ALL,
         Some(Tool::Ld) => LD,
@@ -112,6 +112,15 @@ pub(crate) fn page(tool: Option<Tool>) -> &'static str {
         Some(Tool::Session) => SESSION,
         Some(Tool::Size) => SIZE,
         Some(Tool::Strip) => STRIP,
+    }
+}
+
+/// The page that arguments ask for: that of the first one's tool, or of the one after `help`.
+pub(crate) fn page_asked(words: &[String]) -> &'static str {
+    match words {
+        [help, named, ..] if help.as_str() == "help" => page(Tool::named(named.as_str())),
+        [first, ..] => page(Tool::named(first.as_str())),
+        [] => ALL,
     }
 }
 

@@ -1,17 +1,22 @@
 //! The lines of a session as they are typed, with a prompt before each.
 ghost use Rattle.std.specs.Prelude.{◌≤◌};
 
-use std::io;
+use super::answers::Answer;
+use super::near::put_hint;
+use std::cell::Cell;
 use std::io::{BufRead, Input, Read};
 use std::rt::Runtime;
+use std::{io, str};
 
-const HELP: &str =
-    "add PATH, withdraw, externals, undefined and link PATH are the commands; quit ends the session\n";
+const HELP: &str = "add PATH, withdraw, externals, undefined and link PATH are the commands;
+list shows the objects, help this text, and quit ends the session
+";
 
 /// What a line asks for that a session does not know.
 #[derive(Clone, Copy, PartialEq, Eq)]
 enum Typed {
     Help,
+    List,
     Quit,
     Nothing,
     /// The line is for the session.
@@ -23,13 +28,19 @@ fn asked_by(line: &[u8]) -> Typed {
     match line.trim_ascii() {
         b"" => Typed::Nothing,
         b"help" | b"?" => Typed::Help,
+        b"list" => Typed::List,
         b"quit" | b"exit" => Typed::Quit,
         _ => Typed::Line,
     }
 }
 
-/// Standard input as a script. `help` and `?` show a line of help, `quit` and `exit` end the script, and a blank line is passed
-/// over; all other lines are given as they are typed.
+/// Whether the answer to this addition says that the object is added: `added PATH` and a newline.
+fn is_added(path: &[u8], answer: Answer) -> bool {
+    answer.is_addition && answer.bytes == path.len().saturating_add(7)
+}
+
+/// Standard input as a script. `help` and `?` show help, `list` the objects that are added, `quit` and `exit` end the script, and a
+/// blank line is passed over; all other lines are given as they are typed.
 #[derive(Drop)]
 pub(crate) struct Prompts<'a, H: Runtime> {
     rt: &'a H,
@@ -37,22 +48,57 @@ pub(crate) struct Prompts<'a, H: Runtime> {
     /// The line that is being given, and how many of its bytes were.
     line: Vec<u8>,
     given: usize,
+    /// The answer to it, which standard output notes.
+    answer: &'a Cell<Answer>,
+    /// The paths of the objects that are added, each with a newline.
+    added: Vec<u8>,
     lines: u64,
     is_begun: bool,
     is_over: bool,
 }
 
 impl<'a, H: Runtime + AllocGlobal> Prompts<'a, H> {
-    pub(crate) fn new(rt: &'a H) -> Prompts<'a, H> {
+    pub(crate) fn new(rt: &'a H, answer: &'a Cell<Answer>) -> Prompts<'a, H> {
         Prompts {
             rt,
             input: rt.reader(),
             line: Vec::new(rt.alloc()),
             given: 0,
+            answer,
+            added: Vec::new(rt.alloc()),
             lines: 0,
             is_begun: false,
             is_over: false,
         }
+    }
+
+    /// Notes what was done for the line before, and writes a hint if it was not a command.
+    fn settle(&mut self) -> io::Result<()> {
+        let line = self.line.strip_suffix(b"\n").unwrap_or(&self.line);
+        let answer = self.answer.replace(Answer::NONE);
+        if let Some(path) = line.strip_prefix(b"add ") {
+            if is_added(path, answer) {
+                self.added.extend_from_slice(path)?;
+                self.added.push(b'\n')?;
+            }
+        } else if line == b"withdraw".as_slice() {
+            self.added.pop();
+            while !self.added.is_empty() && !self.added.ends_with(b"\n") {
+                self.added.pop();
+            }
+        } else if !line.is_empty() {
+            let _ = put_hint(self.rt, line);
+        }
+        Ok(())
+    }
+
+    /// Shows the objects that are added.
+    fn list(&self) {
+        let _ = match str::from_utf8(&self.added) {
+            Ok("") => self.rt.eprint("no object is added\n"),
+            Ok(paths) => self.rt.eprint(paths),
+            Err(_) => Ok(()),
+        };
     }
 
     /// Reads lines up to one for the session; there is none at the end.
@@ -61,6 +107,7 @@ impl<'a, H: Runtime + AllocGlobal> Prompts<'a, H> {
             self.is_begun = true;
             let _ = self.rt.eprint(HELP);
         }
+        self.settle()?;
         self.given = 0;
         for _ in 0..u64::MAX {
             self.line.clear();
@@ -81,6 +128,7 @@ impl<'a, H: Runtime + AllocGlobal> Prompts<'a, H> {
                 Typed::Help => {
                     let _ = self.rt.eprint(HELP);
                 }
+                Typed::List => self.list(),
                 Typed::Quit => self.is_over = true,
                 Typed::Line => {
                     self.lines = self.lines.saturating_add(1);

@@ -21,7 +21,7 @@
     [{'name': '_count', 'state': 'undefined', 'value': 0}]
 
 Objects and files are bytes; an address in data or bss counts from the front of text. A fault is raised as `Fault`. A number that does
-not fit its place, as 65,536 for a word, is a ValueError. The library is the file that the environment variable LIBV7 names, or
+not fit its place, as 65,536 for a word, is a ValueError, and a wrong type a TypeError. The library is the file that the environment variable LIBV7 names, or
 else the one beside this module, as in the wheel, or else the one that the system's loader finds.
 """
 from __future__ import annotations
@@ -480,8 +480,25 @@ def _number(what: str, number: int) -> ctypes.c_uint32:
     return ctypes.c_uint32(_fitting(what, number, 32))
 
 
+def _bytes(data: bytes) -> bytes:
+    """A copy; what is not bytes is a TypeError."""
+    return memoryview(data).tobytes()
+
+
+def _list(objects: Iterable[bytes]) -> List[bytes]:
+    if isinstance(objects, (bytes, bytearray, memoryview)):
+        raise TypeError(f"a list of objects is required, not '{type(objects).__name__}'")
+    return [*map(_bytes, objects)]
+
+
+def _latin(text: str) -> bytes:
+    if not isinstance(text, str):
+        raise TypeError(f"a str is required, not '{type(text).__name__}'")
+    return text.encode("latin-1")
+
+
 def _slice(data: bytes) -> List[Any]:
-    data = bytes(data)
+    data = _bytes(data)
     return [ctypes.c_char_p(data), ctypes.c_size_t(len(data))]
 
 
@@ -602,7 +619,7 @@ def from_listing(text: str) -> bytes:
     Traceback (most recent call last):
     v7.Fault: not an octal number, line 2, column 8
     """
-    return _given("v7_from_listing", *_slice(text.encode("latin-1")))
+    return _given("v7_from_listing", *_slice(_latin(text)))
 
 
 def from_gnu(data: bytes, options: int = 0) -> bytes:
@@ -635,7 +652,7 @@ def remarks(data: bytes) -> List[Remark]:
 
 
 def _padded(name: str) -> bytes:
-    data = name.encode("latin-1")
+    data = _latin(name)
     if len(data) > 8:
         raise ValueError(f"a name has at most 8 bytes, and not {len(data)}: {name}")
     return data.ljust(8, b"\0")
@@ -654,9 +671,9 @@ class _Run:
 
     def __init__(self, objects: Iterable[bytes], options: int, entry: str, forced: Iterable[str], wants: int, edits: Optional[bytes]) -> None:
         # what the request points to lives as long as this
-        self._parts = [bytes(data) for data in objects]
+        self._parts = _list(objects)
         self._slices = (_Slice * max(len(self._parts), 1))(*(_Slice(data, len(data)) for data in self._parts))
-        self._names = [entry.encode("latin-1"), b"".join(map(_padded, forced)), edits or b""]
+        self._names = [_latin(entry), b"".join(map(_padded, forced)), edits or b""]
         named, names, letters = (_Slice(data, len(data)) for data in self._names)
         mode = _LINK if edits is None else _SESSION
         self._request = _Request(ctypes.sizeof(_Request), mode, _fitting("the options", options, 32), wants, named, names, self._slices, len(self._parts), letters)
@@ -887,7 +904,7 @@ class Session:
         self._replies: List[int] = []
         # the size of the last state that was shown
         self._size = 0
-        self._accept([*objects])
+        self._accept(_list(objects))
 
     def add(self, data: bytes) -> None:
         """Adds an object after those that are there."""

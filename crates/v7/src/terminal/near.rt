@@ -1,0 +1,95 @@
+//! What is nearest to a line that is not a command.
+use std::rt::Runtime;
+use std::{io, str};
+
+/// A command, and whether it takes a path. The last four are the prompt's own.
+const COMMANDS: [(&str, bool); 9] = [
+    ("add", true),
+    ("withdraw", false),
+    ("externals", false),
+    ("undefined", false),
+    ("link", true),
+    ("list", false),
+    ("help", false),
+    ("quit", false),
+    ("exit", false),
+];
+
+/// The length of the first word of a line.
+fn word_length(line: &[u8]) -> usize {
+    match line.iter().position(|byte| byte.is_ascii_whitespace()) {
+        Some(length) => length,
+        None => line.len(),
+    }
+}
+
+/// The first word of a line, and what follows it.
+fn parted(line: &[u8]) -> (&[u8], &[u8]) {
+    match line.split_at_checked(word_length(line)) {
+        Some(parts) => parts,
+        None => (line, b""),
+    }
+}
+
+/// Whether a line is this command.
+fn is_command(line: &[u8], name: &str, takes_path: bool) -> bool {
+    match line.strip_prefix(name.as_bytes()) {
+        Some(rest) if takes_path => rest.len() > 1 && rest.starts_with(b" "),
+        Some(rest) => rest.is_empty(),
+        None => false,
+    }
+}
+
+/// Whether two words begin with the same two letters.
+fn is_near(word: &[u8], name: &str) -> bool {
+    match (word.get(..2), name.as_bytes().get(..2)) {
+        (Some(first), Some(other)) => first.eq_ignore_ascii_case(other),
+        _ => false,
+    }
+}
+
+/// Writes what is wrong with a line that begins with the name of a command, in any letters.
+fn put_form<H: Runtime>(rt: &H, line: &[u8], name: &str, takes_path: bool) -> io::Result<()> {
+    let (word, rest) = parted(line.trim_ascii());
+    let rest = str::from_utf8(rest).unwrap_or("");
+    if takes_path && rest.is_empty() {
+        return eprintln!(rt; "{name} needs a path: {name} PATH");
+    }
+    if word != name.as_bytes() {
+        return eprintln!(rt; "Commands are in small letters: {name}{rest}");
+    }
+    if !line.starts_with(word) {
+        return eprintln!(rt; "A command begins its line: {name}{rest}");
+    }
+    if takes_path {
+        return eprintln!(rt; "{name} has one blank after it: {name} PATH");
+    }
+    eprintln!(rt; "{name} has nothing after it")
+}
+
+/// Writes a hint for a line that is not a command, and nothing for one that is.
+pub(crate) fn put_hint<H: Runtime>(rt: &H, line: &[u8]) -> io::Result<()> {
+    let (word, _) = parted(line.trim_ascii());
+    let mut near = "";
+    for (name, takes_path) in COMMANDS {
+        if is_command(line, name, takes_path) {
+            return Ok(());
+        }
+        if word.eq_ignore_ascii_case(name.as_bytes()) {
+            return put_form(rt, line, name, takes_path);
+        }
+        if is_near(word, name) {
+            near = name;
+        }
+    }
+    if line.contains(&0x1b) {
+        return rt.eprint("For arrow keys, start the session by rlwrap v7 session\n");
+    }
+    if word == b"undo".as_slice() {
+        near = "withdraw";
+    }
+    if near.is_empty() {
+        return rt.eprint("help shows the commands\n");
+    }
+    eprintln!(rt; "Do you mean {near}?")
+}

@@ -1,0 +1,199 @@
+#!/usr/bin/env python3
+"""Makes the completion of bash and of zsh, of what the programs show as help: commands, options with what they mean, and files by kind.
+
+usage: packaging/completion.py FOLDER      writes v7.bash and _v7
+
+The meanings are those of the help of v7, and for the other programs, whose help is a usage, the first sentence of the manual. An option
+that one of the two has, and the other lacks, is an error.
+"""
+import os
+import re
+import sys
+
+TOP = os.path.abspath(os.path.join(os.path.dirname(os.path.abspath(__file__)), ".."))
+# the source of the usage of each program but v7
+USAGES = {"v7-explain": "v7_explain/src/program.rt", "v7-from-gnu": "v7_from_gnu/src/program.rt", "v7-lesson": "lesson/src/arguments.rt",
+          "v7-object": "v7_object/src/program.rt"}
+# options that belong to another one, which the list of the manual leaves out
+BESIDE = {"v7-explain": {"-R": (None, "With -l, looks into folders"), "-y": ("NAME", "With -m, traces a name")}}
+SHOWN = {"--help": (None, "Shows how to call it"), "--version": (None, "Shows the version")}
+# the files that a program takes, and what the values of options are; anything else is a file
+TAKES = {"v7 ld": "*.o", "v7-lesson": "*.o", "v7-object": "*.lst", "v7 session": "none", "v7 help": "none"}
+VALUES = {None: "-", "NAME": "none", "STEP": "none", "FOLDER": "folder", "LISTING": "*.lst"}
+
+
+def read(path):
+    with open(os.path.join(TOP, path), encoding="utf-8") as file:
+        return file.read()
+
+
+def strings(path):
+    """The constants of a source that are texts, by name."""
+    found = re.findall(r'const (\w+): &str =\s*"((?:[^"\\]|\\.)*)";', read(f"crates/{path}"))
+    return {name: text.replace("\\n", "\n") for name, text in found}
+
+
+def plain(line):
+    """A line of the manual without its macros."""
+    if not line.startswith("."):
+        return line
+    words = re.findall(r'"[^"]*"|\S+', line[1:])
+    shown, hyphen = [], ""
+    for word in words[1:] if words[0] != "Fl" else words:
+        if word == "Fl":
+            hyphen = "-"
+        elif word in ("Ar", "Ql", "Pa", "Em", "Xr", "Cm"):
+            hyphen = ""
+        elif re.match(r"[.,;:)]$", word) and shown:
+            shown[-1] += word
+        elif not (words[0] == "Xr" and word.isdigit()):
+            shown.append(hyphen + word.strip('"'))
+    return " ".join(shown)
+
+
+def manual_options(program):
+    """The options of a program in its manual, each with its value and its meaning."""
+    options = {}
+    for heads, text in re.findall(r"^\.It ((?:Fl \w(?: Ar \w+)?(?: , )?)+)\n((?:(?!\.It|\.El).*\n)*)", read(f"man/{program}.1"), re.M):
+        sentence = re.split(r"[;.:](?: |$)", " ".join(map(plain, text.split("\n"))).replace(program, "").strip())[0]
+        for letter, value in re.findall(r"Fl (\w)(?: Ar (\w+))?", heads):
+            options[f"-{letter}"] = value.upper() or None, re.sub(r" +", " ", sentence)
+    return {**options, **BESIDE.get(program, {})}
+
+
+def usage_options(path):
+    """The options of a program in its usage."""
+    usage = next(text for text in strings(path).values() if "--help | --version" in text)
+    letters = re.findall(r"-(\w+)(?![\w-])", re.sub(r"v7-[\w-]+|--\w+", "", usage))
+    return {f"-{letter}" for group in letters for letter in group}
+
+
+def tables():
+    """For each command its options, each with its value and its meaning."""
+    pages = strings("v7/src/terminal/pages.rt")
+    tools = dict(re.findall(r"^  (\w+)  +(\w.*)", pages.pop("ALL"), re.M))
+    found = {"v7": {**{tool: (None, meaning) for tool, meaning in tools.items()}, "help": (None, "shows the help of a command"), **SHOWN},
+             "v7 help": {tool: (None, meaning) for tool, meaning in tools.items()}}
+    for tool in tools:
+        rows = re.findall(r"^  (-\w)(?: ([A-Z]+))?  +(.*)", pages[tool.upper()], re.M)
+        found[f"v7 {tool}"] = {option: (value or None, meaning) for option, value, meaning in rows}
+    found["v7 session"] = {option: row for option, row in found["v7 ld"].items() if option != "-o"}
+    for program, path in USAGES.items():
+        found[program] = manual_options(program)
+        if found[program].keys() != usage_options(path):
+            sys.exit(f"{program}: the manual and the usage differ in {sorted(found[program].keys() ^ usage_options(path))}")
+        found[program].update(SHOWN)
+    for tool in tools:
+        found[f"v7 {tool}"]["--help"] = SHOWN["--help"]
+    return found
+
+
+BASH = """# completion of v7 and the programs beside it in bash, made of their help by packaging/completion.py
+_v7_table() {
+    case $1 in
+%s    esac
+}
+
+# of each row: the option or command, the kind of its value, and what it means, which is shown where the choices are listed
+_v7() {
+    local word=${COMP_WORDS[COMP_CWORD]} before=${COMP_WORDS[COMP_CWORD - 1]} of=${COMP_WORDS[0]##*/} option kind meaning files= value=
+    local -a found=()
+    COMPREPLY=()
+    [[ $of != v7 ]] || ((COMP_CWORD == 1)) || of="v7 ${COMP_WORDS[1]}"
+    while read -r option kind meaning; do
+        case $option in
+        files) files=$kind ;;
+        "$before") [[ $kind == - ]] || value=$kind ;;&
+        "$word"*) found+=("$option  ($meaning)") ;;
+        esac
+    done < <(_v7_table "$of")
+    if [[ -z $value && ($word == -* || $of == v7 || $of == 'v7 help') ]]; then
+        ((${#found[@]} > 1 && COMP_TYPE == 63)) || found=("${found[@]%%%%  (*}")
+        COMPREPLY=("${found[@]}")
+        return
+    fi
+    compopt -o filenames 2>/dev/null
+    case ${value:-$files} in
+    none) ;;
+    folder) mapfile -t COMPREPLY < <(compgen -d -- "$word") ;;
+    file) mapfile -t COMPREPLY < <(compgen -f -- "$word") ;;
+    *) mapfile -t COMPREPLY < <(compgen -f -X "!${value:-$files}" -- "$word"; compgen -d -- "$word") ;;
+    esac
+}
+complete -F _v7 %s
+"""
+ZSH = """#compdef %s
+# completion of v7 and the programs beside it in zsh, made of their help by packaging/completion.py
+local of=$service
+if [[ $of == v7 ]]; then
+    if (( CURRENT == 2 )); then
+        local -a choices=(%s)
+        _describe command choices
+        return
+    fi
+    of="v7 $words[2]"
+    shift words
+    (( CURRENT-- ))
+fi
+case $of in
+%sesac
+"""
+
+
+def quoted(text):
+    return "'" + text.replace("'", "'\\''") + "'"
+
+
+def kind_of(value):
+    return VALUES.get(value, "file")
+
+
+def bash(found):
+    """The completion of bash."""
+    cases = []
+    for command, options in found.items():
+        rows = [f"{option} {kind_of(value)} {meaning}" for option, (value, meaning) in options.items()]
+        rows.append(f"files {TAKES.get(command, 'file')}")
+        cases.append(f"    {quoted(command)}) cat <<'END' ;;\n" + "\n".join(rows) + "\nEND\n")
+    return BASH % ("".join(cases), " ".join(["v7", *USAGES]))
+
+
+def files_of(kind):
+    return {"none": " ", "folder": "_files -/", "file": "_files"}.get(kind, f'_files -g "{kind}"')
+
+
+def zsh(found):
+    """The completion of zsh."""
+    cases = []
+    for command, options in found.items():
+        rows = []
+        for option, (value, meaning) in options.items():
+            said = meaning.replace("]", "\\]").replace(":", "\\:")
+            rows.append(f"{'*' if value == 'NAME' else ''}{option}[{said}]" + (f":{value}:{files_of(kind_of(value))}" if value else ""))
+        if command == "v7 help":
+            rows = [f"1:command:({' '.join(options)})"]
+        elif TAKES.get(command) != "none":
+            rows.append(f"*:FILE:{files_of(TAKES.get(command, 'file'))}")
+        if command != "v7":
+            cases.append(f"{quoted(command)}) _arguments -s {' '.join(map(quoted, rows))} ;;\n")
+    choices = " ".join(quoted(f"{name}:{meaning}") for name, (_, meaning) in found["v7"].items())
+    return ZSH % (" ".join(["v7", *USAGES]), choices, "".join(cases))
+
+
+def texts():
+    """The completion of bash, and that of zsh."""
+    found = tables()
+    return bash(found), zsh(found)
+
+
+def main(folder):
+    os.makedirs(folder, exist_ok=True)
+    for name, text in zip(("v7.bash", "_v7"), texts()):
+        with open(f"{folder}/{name}", "w", encoding="utf-8") as file:
+            file.write(text)
+
+
+if __name__ == "__main__":
+    if len(sys.argv) != 2:
+        sys.exit(__doc__)
+    main(sys.argv[1])

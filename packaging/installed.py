@@ -1,0 +1,273 @@
+#!/usr/bin/env python3
+"""Lays out what is installed: programs, manual, documents, as HTML too, examples, the pages of lessons, and completion; and puts it
+into its place. The packages of a release have the same, by packaging/dist.py.
+
+usage: packaging/installed.py put BUILD FOLDER          what the programs of the folder BUILD come with, below FOLDER
+       packaging/installed.py library FOLDER            the documents of libv7, below FOLDER
+       packaging/installed.py copy STAGE DEST PREFIX    copies what is below STAGE/PREFIX to DEST/PREFIX, and notes it there
+       packaging/installed.py remove DEST PREFIX        takes away what was noted
+
+A link of a document leads to what is installed too, or else is plain text. For HTML it takes cmark-gfm and mandoc.
+"""
+import glob
+import html
+import os
+import re
+import shutil
+import subprocess
+import sys
+
+sys.path.insert(0, os.path.dirname(os.path.abspath(__file__)))
+import completion  # noqa: E402
+
+TOP = completion.TOP
+# the program of each crate
+PROGRAMS = {"v7": "v7", "v7_from_gnu": "v7-from-gnu", "v7_object": "v7-object", "v7_explain": "v7-explain", "lesson": "v7-lesson"}
+# the pages, each with the folder of its objects and its objects
+PAGES = {"lesson.html": ("examples", ["main.o", "twice.o", "k.o", "l.o", "double.o"]),
+         "program.html": ("examples/total", ["total.o", "say.o", "console.o", "low.o", "limit.o"])}
+DOCUMENTS = ["CHANGES.md", "CONTRIBUTING.md", "docs", "examples"]
+# what libv7-dev has of the documents: what v7.h cites, and what shows how to call the library
+LIBRARY_DOCUMENTS = ["docs/LIBRARY.md", "docs/LINK.md", "docs/FORMAT.md", "docs/OBJECTS.md"]
+README = "packaging/README.md"
+NOTED = "share/doc/v7/INSTALLED"
+WIDTH = 100
+LINK = re.compile(r"(!?)\[((?:[^\[\]`]|`[^`]*`)*)\]\(([^)\s#]*)(#[^)\s]*)?\)")
+STYLE = """body { max-width: 100ch; margin: 1em auto; padding: 0 1em; font-family: sans-serif; line-height: 1.4 }
+pre, table { overflow-x: auto; display: block } pre { background: #eee; padding: 0.5em }
+table { border-collapse: collapse } td, th { border: 1px solid #aaa; padding: 0.2em 0.5em; vertical-align: top } img { max-width: 100% }
+"""
+
+
+def read(path, mode="r"):
+    with open(path, mode, encoding=None if "b" in mode else "utf-8") as file:
+        return file.read()
+
+
+def write(path, text):
+    os.makedirs(os.path.dirname(path), exist_ok=True)
+    with open(path, "wb") as file:
+        file.write(text.encode() if isinstance(text, str) else text)
+
+
+def version():
+    return re.search(r'^#define V7_VERSION "(.*)"$', read(f"{TOP}/include/v7.h"), re.M)[1]
+
+
+# --- documents
+
+def prose(text):
+    """The lines of a document, each with whether it is prose: outside of blocks of code."""
+    fenced = False
+    for line in text.split("\n"):
+        mark = line.startswith("```")
+        fenced ^= mark
+        yield line, not (fenced or mark or line.startswith("    "))
+
+
+def settled(text, source, place, shipped):
+    """A document of which each link leads to what is shipped, or is plain text. `shipped` has the place of each path."""
+    def settle(found):
+        mark, shown, target, heading = found.groups()
+        if "://" in target:
+            return found[0]
+        path = os.path.normpath(os.path.join(os.path.dirname(source), target)) if target else source
+        if path not in shipped:
+            return shown
+        to = os.path.relpath(shipped[path], os.path.dirname(place) or ".") if target else ""
+        return f"{mark}[{shown}]({to}{heading or ''})"
+
+    return "\n".join(LINK.sub(settle, line) if is_prose else line for line, is_prose in prose(text))
+
+
+def filled(parts, head):
+    """The lines of a paragraph or an item, of at most WIDTH columns. None but the first begins as an item or a heading does."""
+    words = []
+    for word in " ".join(parts).split():
+        if words and re.match(r"([-+*#>=|]|\d+[.)])", word):
+            words[-1] += " " + word
+        else:
+            words.append(word)
+    lines, line = [], head
+    for word in words:
+        if line.strip() and len(line) + len(word) > WIDTH and line != head:
+            lines.append(line.rstrip())
+            line = " " * len(head)
+        line += word + " "
+    return [*lines, line.rstrip()]
+
+
+def reflowed(text):
+    """A document whose prose has lines of at most WIDTH columns."""
+    lines, parts, head = [], [], ""
+
+    def flush():
+        lines.extend(filled(parts, head) if parts else [])
+        parts.clear()
+
+    for line, is_prose in prose(text):
+        item = re.match(r" *(?:[-*]|\d+\.) ", line)
+        if not is_prose or not line or line.startswith(("#", "|", "!")):
+            flush()
+            lines.append(line)
+        else:
+            if item:
+                flush()
+            if not parts:
+                head = item[0] if item else ""
+            parts.append(line[len(item[0]):] if item else line)
+    flush()
+    return "\n".join(lines)
+
+
+def page_of(text, title, up):
+    """A document as a page: with names for its headings, and links to other pages."""
+    text = "\n".join(LINK.sub(lambda found: re.sub(r"\.md(#[^)]*)?\)$", r".html\1)", found[0]), line) if is_prose else line
+                     for line, is_prose in prose(text))
+    body = subprocess.run(["cmark-gfm", "-e", "table"], input=text, stdout=subprocess.PIPE, check=True, text=True).stdout
+
+    def named(found):
+        name = re.sub(r"[^\w\- ]", "", html.unescape(re.sub(r"<[^>]*>", "", found[2])).lower()).replace(" ", "-")
+        return f'<h{found[1]} id="{name}">{found[2]}</h{found[1]}>'
+
+    body = re.sub(r"<h(\d)>(.*?)</h\1>", named, body)
+    return (f'<!DOCTYPE html>\n<html lang="en">\n<head><meta charset="utf-8"><title>{html.escape(title)}</title>'
+            f'<link rel="stylesheet" href="{up}style.css"></head>\n<body>\n{body}</body>\n</html>\n')
+
+
+def manual_page(path):
+    """A page of the manual as HTML, without links to pages of others."""
+    made = subprocess.run(["mandoc", "-T", "html", "-O", "man=%N.%S.html,style=../style.css", path], stdout=subprocess.PIPE, check=True, text=True)
+    kept = lambda found: found[0] if os.path.exists(f"{TOP}/man/{found[1][:-len('.html')]}") else found[2]
+    return re.sub(r'<a class="Xr" href="([^"]*)">(.*?)</a>', kept, made.stdout)
+
+
+def files_in(names):
+    """The files of these names and folders of the repository."""
+    for name in names:
+        if os.path.isdir(f"{TOP}/{name}"):
+            for path in sorted(glob.glob(f"{TOP}/{name}/**", recursive=True)):
+                if os.path.isfile(path) and "__pycache__" not in path:
+                    yield os.path.relpath(path, TOP)
+        else:
+            yield name
+
+
+def has_tools():
+    found = all(map(shutil.which, ("cmark-gfm", "mandoc")))
+    if not found:
+        print("cmark-gfm or mandoc is not there: no HTML is installed", file=sys.stderr)
+    return found
+
+
+def readme(text, there):
+    """The README of a release, with its version, and without the rows of files that are not there."""
+    text = text.replace("# v7\n", f"# v7 {version()}\n", 1)
+    return re.sub(r"^\| `share/doc/v7/([^`]*)` .*\n", lambda found: found[0] if found[1] in {"examples", *there} else "", text, flags=re.M)
+
+
+def documents(to, names, has_html, made=()):
+    """Documents and examples below a folder. README.md there is that of a release. `made` are the files that are there besides."""
+    shipped = {path: path for path in files_in(names)}
+    if has_html:
+        shipped.update((path, f"{path}.html") for path in files_in(["man"]))
+    shipped.update((path, path) for path in made)
+    if "docs" in names:
+        shipped.update({README: "README.md", "README.md": "README.md"})
+    for path, place in shipped.items():
+        if path in ("README.md", *made):
+            continue
+        if path.startswith("man/"):
+            write(f"{to}/{place}", manual_page(f"{TOP}/{path}"))
+        elif not path.endswith(".md"):
+            write(f"{to}/{place}", read(f"{TOP}/{path}", "rb"))
+        else:
+            text = read(f"{TOP}/{path}")
+            if path == README:
+                text = readme(text, {*shipped.values(), *["README.html"] * has_html})
+            text = reflowed(settled(text, path, place, shipped))
+            write(f"{to}/{place}", text)
+            if has_html:
+                write(f"{to}/{place[:-3]}.html", page_of(text, place[:-3], "../" * place.count("/")))
+    if has_html:
+        write(f"{to}/style.css", STYLE)
+
+
+# --- all that comes with the programs
+
+def lesson(program, folder, files):
+    """The page of some objects in a folder, with its lessons."""
+    words = [program, "-p", "page", "-q", f"{folder}/lessons.txt", *(f"{folder}/{name}" for name in files)]
+    return subprocess.run(words, cwd=TOP, stdout=subprocess.PIPE, check=True).stdout
+
+
+def put(build, to, has_html=None, made=()):
+    """The programs of a folder, and what comes with them, below a folder. `made` are the files that are made besides."""
+    for name in PROGRAMS.values():
+        write(f"{to}/bin/{name}", read(f"{build}/{name}", "rb"))
+    shutil.copytree(f"{TOP}/page", f"{to}/share/v7/page")
+    for path in files_in(["man"]):
+        if not path.endswith(".3"):
+            write(f"{to}/share/man/man{path[-1]}/{os.path.basename(path)}", read(f"{TOP}/{path}", "rb"))
+    documents(f"{to}/share/doc/v7", DOCUMENTS, has_tools() if has_html is None else has_html, [*PAGES, *made])
+    for name, (folder, files) in PAGES.items():
+        write(f"{to}/share/doc/v7/{name}", lesson(os.path.abspath(f"{build}/v7-lesson"), folder, files))
+    bash, zsh = completion.texts()
+    for name in PROGRAMS.values():
+        write(f"{to}/share/bash-completion/completions/{name}", bash)
+    write(f"{to}/share/zsh/site-functions/_v7", zsh)
+
+
+# --- into its place
+
+def copy(stage, dest, prefix):
+    """Copies with modes of its own, whatever the mask is, and notes each file and each folder that was not there."""
+    root = os.path.abspath(dest + prefix)
+    noted = [*read(f"{root}/{NOTED}").split("\n")[:-1]] if os.path.exists(f"{root}/{NOTED}") else []
+
+    def make(folder):
+        if not os.path.isdir(folder):
+            make(os.path.dirname(folder))
+            os.mkdir(folder)
+            os.chmod(folder, 0o755)
+            noted.append(os.path.relpath(folder, root) + "/")
+
+    stage = os.path.abspath(stage)
+    for at, _, files in sorted(os.walk(stage)):
+        for name in sorted(files):
+            place = os.path.abspath(dest + "/" + os.path.relpath(f"{at}/{name}", stage))
+            make(os.path.dirname(place))
+            if os.path.lexists(place):
+                os.remove(place)
+            shutil.copyfile(f"{at}/{name}", place, follow_symlinks=False)
+            if not os.path.islink(place):
+                os.chmod(place, 0o755 if os.path.basename(at) == "bin" else 0o644)
+            noted.append(os.path.relpath(place, root))
+    make(os.path.dirname(f"{root}/{NOTED}"))
+    write(f"{root}/{NOTED}", "".join(f"{path}\n" for path in dict.fromkeys(noted)))
+    os.chmod(f"{root}/{NOTED}", 0o644)
+
+
+def remove(dest, prefix):
+    """Takes away the files that were noted, and the folders that were made for them and are empty now."""
+    root = os.path.abspath(dest + prefix)
+    if not os.path.exists(f"{root}/{NOTED}"):
+        sys.exit(f"{root}/{NOTED} is not there: nothing was installed")
+    noted = read(f"{root}/{NOTED}").split("\n")[:-1]
+    for path in (*noted, NOTED):
+        if not path.endswith("/") and os.path.lexists(f"{root}/{path}"):
+            os.remove(f"{root}/{path}")
+    for path in sorted((os.path.normpath(f"{root}/{path}") for path in noted if path.endswith("/")), key=len, reverse=True):
+        if os.path.isdir(path) and not os.listdir(path):
+            os.rmdir(path)
+
+
+def main(words):
+    kinds = {"put": put, "library": lambda to: documents(to, LIBRARY_DOCUMENTS, False), "copy": copy, "remove": remove}
+    if len(words) < 2 or words[0] not in kinds:
+        sys.exit(__doc__)
+    kinds[words[0]](*words[1:])
+
+
+if __name__ == "__main__":
+    main(sys.argv[1:])
