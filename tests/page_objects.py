@@ -3,8 +3,8 @@
 
 tests/data/page has a program in C of sixteen files: a calculator for a PDP-11 without any library. examples/total has a smaller one.
 Debian's Portable C Compiler (the source package pcc, 1.2.0~DEVEL+20220331, configured with --target=pdp11-unknown-bsd) made the files
-*.s of them; its parts `cpp` and `ccom` are all that is needed, and build in a minute. tests/page_assembler.py makes the objects of
-these, as the assembler of Unix does.
+*.s of them; its parts `cpp` and `ccom` are all that is needed, and build in a minute. examples/asm.py makes the objects of
+these.
 
 usage: tests/page_objects.py            writes the objects beside their sources
        tests/page_objects.py CPP CCOM   compiles the sources first
@@ -17,11 +17,13 @@ import struct
 import subprocess
 import sys
 
-import page_assembler
-
 TEXT, DATA, BSS, EXTERNAL, PC = 0o2, 0o4, 0o6, 0o10, 0o1
 FUNCTIONS = 4
 TESTS = os.path.dirname(os.path.abspath(__file__))
+sys.path.insert(0, os.path.join(TESTS, "..", "examples"))
+
+import asm  # noqa: E402, as it is in examples
+
 PLACE = os.path.join(TESTS, "data", "page")
 FOLDERS = [PLACE, os.path.join(TESTS, "..", "examples", "total")]
 # the files of the program, in the order in which they are linked: a file comes before those that it calls
@@ -31,8 +33,8 @@ FILES = ["main", "command", "line", "token", "number", "parse", "apply", "stack"
 class Maker:
     """An object that is made: words with relocation words, and symbols."""
 
-    def __init__(self, number, size, count):
-        self.random = random.Random(f"object {number} of {count}")
+    def __init__(self, number, size, count, seed):
+        self.random = random.Random(f"object {number} of {count}, {seed}")
         self.number, self.size, self.count = number, size, count
         self.text, self.data, self.symbols, self.numbers, self.starts = [], [], [], {}, []
         self.data_size, self.bss_size = 2 * max(8, size // 6), 2 * max(4, size // 20)
@@ -125,9 +127,9 @@ class Maker:
         return head + b"".join(struct.pack("<H", word) for word, _ in words) + b"".join(struct.pack("<H", bits) for _, bits in words) + table
 
 
-def object_like_c(number, size, count):
-    """The object of this number, of so many words, in a program of so many objects."""
-    return Maker(number, size, count).make()
+def object_like_c(number, size, count, seed=0):
+    """The object of this number, of so many words, in a program of so many objects that are made from a seed."""
+    return Maker(number, size, count, seed).make()
 
 
 def compile_all(folder, cpp, ccom):
@@ -141,7 +143,7 @@ def compile_all(folder, cpp, ccom):
 def object_of_compiled(folder, name):
     """The object that the assembler makes of a file of the compiler."""
     with open(os.path.join(folder, f"{name}.s"), encoding="ascii") as source:
-        return page_assembler.assembled(source.read())
+        return asm.assembled(source.read())
 
 
 def main(words):
