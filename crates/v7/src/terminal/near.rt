@@ -48,6 +48,29 @@ fn is_near(word: &[u8], name: &str) -> bool {
     }
 }
 
+/// The command of this name, in any letters, and whether it takes a path.
+fn named(word: &[u8]) -> Option<(&'static str, bool)> {
+    for (name, takes_path) in COMMANDS {
+        if word.eq_ignore_ascii_case(name.as_bytes()) {
+            return Some((name, takes_path));
+        }
+    }
+    None
+}
+
+/// The command that is meant by a word that is not one.
+fn nearest(word: &[u8]) -> Option<&'static str> {
+    if word == b"undo".as_slice() {
+        return Some("withdraw");
+    }
+    for (name, _) in COMMANDS {
+        if is_near(word, name) {
+            return Some(name);
+        }
+    }
+    None
+}
+
 /// Writes what is wrong with a line that begins with the name of a command, in any letters.
 fn put_form<H: Runtime>(rt: &H, line: &[u8], name: &str, takes_path: bool) -> io::Result<()> {
     let (word, rest) = parted(line.trim_ascii());
@@ -70,26 +93,17 @@ fn put_form<H: Runtime>(rt: &H, line: &[u8], name: &str, takes_path: bool) -> io
 /// Writes a hint for a line that is not a command, and nothing for one that is.
 pub(crate) fn put_hint<H: Runtime>(rt: &H, line: &[u8]) -> io::Result<()> {
     let (word, _) = parted(line.trim_ascii());
-    let mut near = "";
-    for (name, takes_path) in COMMANDS {
+    if let Some((name, takes_path)) = named(word) {
         if is_command(line, name, takes_path) {
             return Ok(());
         }
-        if word.eq_ignore_ascii_case(name.as_bytes()) {
-            return put_form(rt, line, name, takes_path);
-        }
-        if is_near(word, name) {
-            near = name;
-        }
+        return put_form(rt, line, name, takes_path);
     }
     if line.contains(&0x1b) {
         return rt.eprint("For arrow keys, start the session by rlwrap v7 session\n");
     }
-    if word == b"undo".as_slice() {
-        near = "withdraw";
+    match nearest(word) {
+        Some(name) => eprintln!(rt; "Do you mean {name}?"),
+        None => rt.eprint("help shows the commands\n"),
     }
-    if near.is_empty() {
-        return rt.eprint("help shows the commands\n");
-    }
-    eprintln!(rt; "Do you mean {near}?")
 }
