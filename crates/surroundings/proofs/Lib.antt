@@ -1,3 +1,2 @@
 pub mod EventLemmas
-pub mod EmitLemmas
 pub mod ShownLemmas
