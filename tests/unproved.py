@@ -13,7 +13,7 @@ import tempfile
 import time
 from concurrent.futures import FIRST_COMPLETED, ThreadPoolExecutor, wait
 
-from compiling import CRATES, NotCompiled, compile_program
+from compiling import CRATES, SECONDS_SILENT, NotCompiled, compile_program
 
 TOP = os.path.normpath(os.path.join(os.path.dirname(os.path.abspath(__file__)), ".."))
 TEXTS = ["trusted", "edits", "index", "quotes", "layers", "limits", "header", "calling", "prose", "links"]
@@ -22,7 +22,6 @@ SECONDS = "1800"
 SIDE_BY_SIDE = 4
 # the cases are played in so many groups
 GROUPS = 4
-SECONDS_SILENT = 10
 
 
 class Failed(Exception):
