@@ -16,6 +16,8 @@ KNOWN = [
     "crates/aout_core/src/refused.rt: io::ErrorKind::OutOfMemory => Some(Refused { error: AllocError }),",
     "crates/command_words/src/fault.rt: ErrorKind::OutOfMemory => WordsFault::Memory(Refused::from(AllocError)),",
 ]
+# tests make faults of each kind, and devices that fail in each way
+TESTS = ("crates/device_tests/", "crates/fixtures/")
 # the name of a type: what a result, a conversion or an `Option` may hold, what a function takes or returns, whose function is called
 TYPE = re.compile(r"(, |From<|Option<)AllocError>|-> AllocError\b|for AllocError \{|\bfn .*\w: AllocError\b|AllocError::from\b")
 MADE = re.compile(r"\bAllocError\b|\bAllocFailed\s*\{|\b(from|new)\(.*\bOutOfMemory\b|\bunsafe\s*\{|\bunsafe (fn|impl)\b")
@@ -40,8 +42,9 @@ def makes(line, path=""):
 def main():
     wrong = [f"planted and not found: {line}" for line in re.split(r"[|\n]", BAD) if not makes(line)]
     wrong += [f"planted and found: {line}" for line in re.split(r"[|\n]", GOOD) if makes(line)]
-    # samples.rt has devices for tests, which fail in each way
-    for path in sorted(set(glob.glob("crates/*/src/**/*.rt", recursive=True)) - set(glob.glob("crates/*/src/samples.rt"))):
+    for path in sorted(glob.glob("crates/*/src/**/*.rt", recursive=True)):
+        if path.startswith(TESTS):
+            continue
         with open(path, encoding="utf-8") as file:
             wrong += [f"{path}:{number}: {line.strip()}" for number, line in enumerate(file, 1) if makes(line, path)]
     print("\n".join(wrong) or "no line makes the error of a request for memory")
