@@ -140,6 +140,7 @@ test:
 # the gate: what has to be trusted, every proof from nothing, the edits that must fail, the tests, the programs' stored runs
 gate:
 	python3 tests/trusted.py
+	python3 tests/refusals.py
 	python3 tests/edits.py
 	python3 tests/index.py
 	python3 tests/quotes.py

@@ -16,7 +16,7 @@ from concurrent.futures import FIRST_COMPLETED, ThreadPoolExecutor, wait
 from compiling import CRATES, SECONDS_SILENT, NotCompiled, compile_program
 
 TOP = os.path.normpath(os.path.join(os.path.dirname(os.path.abspath(__file__)), ".."))
-TEXTS = ["trusted", "edits", "index", "quotes", "layers", "limits", "header", "calling", "prose", "links"]
+TEXTS = ["trusted", "refusals", "edits", "index", "quotes", "layers", "limits", "header", "calling", "prose", "links"]
 # for a whole run of one crate, on a machine with other work too
 SECONDS = "1800"
 SIDE_BY_SIDE = 4

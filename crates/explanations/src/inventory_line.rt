@@ -91,7 +91,7 @@ fn put_condition_column(text: &mut Text, condition: Condition)
     text.put("  ");
     match condition_text(text.allocator(), condition).finish() {
         Ok(column) => text.put_at_left(17, &column),
-        Err(_) => text.cut(),
+        Err(error) => text.cut(error),
     }
 }
 

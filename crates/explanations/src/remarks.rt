@@ -110,7 +110,7 @@ fn put_made(text: &mut Text, remark: Text)
 {
     match remark.finish() {
         Ok(remark) => put_remark(text, &remark),
-        Err(_) => text.cut(),
+        Err(error) => text.cut(error),
     }
 }
 

@@ -1,8 +1,9 @@
 //! The arguments of the program.
 use crate::steps;
 use anyhow::{Result, anyhow};
+use aout_core::Refused;
+use std::env;
 use surroundings::{Shown, shown_by};
-use std::{env, io};
 
 const USAGE: &str =
     "usage: v7-lesson [-c] [-n STEP] FILE..., or v7-lesson -p FOLDER [-q QUESTIONS] FILE... >PAGE";
@@ -35,9 +36,9 @@ pub(crate) enum Call<'a> {
 pub(crate) fn arguments_given(rt: &HostRuntime) -> Result<Vec<String>> {
     let given = match env::args(rt) {
         Ok(given) => given,
-        Err(error) => match error.kind() {
-            io::ErrorKind::OutOfMemory => return Err(anyhow!("no memory")),
-            _ => return Err(anyhow!("{USAGE}")),
+        Err(error) => match Refused::reported_by(&error) {
+            Some(refused) => return Err(anyhow!("{refused}")),
+            None => return Err(anyhow!("{USAGE}")),
         },
     };
     let mut arguments = Vec::new(rt.alloc());

@@ -19,7 +19,7 @@ pub(crate) fn put_reason<D: Display>(alloc: Global, out: &mut JsonWriter, fault:
             out.put_key("refused");
             out.put_text(reason.as_str());
         }
-        Err(_) => out.cut(),
+        Err(error) => out.cut(error),
     }
 }
 

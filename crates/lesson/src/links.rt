@@ -72,7 +72,7 @@ fn link_of(
     let outcome = finish(alloc, session, options);
     let externals = match &outcome {
         Ok(_) => link_externals(alloc, session, options)?,
-        Err(LinkFault::Memory) => return Err(AllocError),
+        Err(LinkFault::Memory(refused)) => return Err(AllocError::from(*refused)),
         Err(_) => None,
     };
     Ok(Link {

@@ -5,7 +5,7 @@ use std::alloc::{AllocError, Global};
 #[derive(Drop)]
 pub(crate) struct NumberList {
     numbers: Vec<u32>,
-    is_cut: bool,
+    refused: Option<AllocError>,
 }
 
 impl NumberList {
@@ -13,27 +13,28 @@ impl NumberList {
     pub(crate) fn new(alloc: Global) -> NumberList {
         NumberList {
             numbers: Vec::new(alloc),
-            is_cut: false,
+            refused: None,
         }
     }
 
     /// Adds a number.
     pub(crate) fn push(&mut self, number: u32) {
-        if !self.is_cut && self.numbers.push(number).is_err() {
-            self.is_cut = true;
-        }
+        self.push_all(&[number]);
     }
 
     /// Adds numbers.
     pub(crate) fn push_all(&mut self, numbers: &[u32]) {
-        if !self.is_cut && self.numbers.extend_from_slice(numbers).is_err() {
-            self.is_cut = true;
+        if self.refused.is_none() {
+            self.refused = self.numbers.extend_from_slice(numbers).err();
         }
     }
 
     /// The numbers. An error, out of memory, if the list is cut.
     pub(crate) fn finish(self) -> Result<Vec<u32>, AllocError> {
-        let NumberList { numbers, is_cut } = self;
-        if is_cut { Err(AllocError) } else { Ok(numbers) }
+        let NumberList { numbers, refused } = self;
+        match refused {
+            Some(error) => Err(error),
+            None => Ok(numbers),
+        }
     }
 }

@@ -83,7 +83,7 @@ fn put_bytes_of(alloc: Global, out: &mut JsonWriter, words: &[u16]) {
     }
     match bytes.finish() {
         Ok(bytes) => out.put_bytes(b"", &bytes),
-        Err(_) => out.cut(),
+        Err(error) => out.cut(error),
     }
 }
 

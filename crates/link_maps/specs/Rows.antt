@@ -5,6 +5,7 @@ use Rattle.aout_core.specs.declared.reloc.Reloc.{Reloc}
 use Rattle.aout_core.specs.declared.reloc.Kind.{Kind}
 use Rattle.aout_core.specs.declared.reloc.Kind.TheVariants.{External}
 use Rattle.aout_core.specs.Contents.{Contents}
+use Rattle.aout_core.specs.Refusals.{refused}
 use Rattle.aout_core.specs.WellFormed.{kind_of, symbol_number}
 use Rattle.link_session.specs.Labelled.{objects}
 use Rattle.tool_options.specs.NameLists.{is_among}
@@ -23,7 +24,7 @@ use Rattle.link_maps.specs.declared.outcome.Outcome.{Outcome}
 pub record IsOutcome (o : Outcome) (k : Kept) (choices : Choices) : Type 0 where
   pub bases : o.bases ≡ (plan_of k choices).at
   pub made : IsLinkOf o.linked (link k.forced (objects k.entries) choices)
-  pub no_memory : o.linked ≢ Err Memory
+  pub no_memory : o.linked ≢ Err (Memory refused)
   pub rows : IfSome o.externals (λ rows. rows.items ≡ external_rows (plan_of k choices))
   pub none : IsNone o.externals ↔ (65535 < (plan_of k choices).at.bss_end)
 

@@ -71,10 +71,10 @@ fn add(
     let Err(refused) = session.add(label, object) else {
         return Ok(None);
     };
-    if matches!(refused.cause, AddFault::Memory) {
-        return Err(AllocError);
+    match refused.cause {
+        AddFault::Memory(refused) => Err(AllocError::from(refused)),
+        cause => refused_with(alloc, cause, refused.label, refused.object),
     }
-    refused_with(alloc, refused.cause, refused.label, refused.object)
 }
 
 /// Appends an object to those that are left.
@@ -94,13 +94,10 @@ impl Objects {
         ensures refused { IfOk result (λ objects. objects.refused ≡ None) }
         ensures none { forced.now ≡ [] → IsOk result }
     {
-        match Session::with_forced(alloc, forced) {
-            Ok(session) => Ok(Objects {
-                session,
-                refused: None,
-            }),
-            Err(_) => Err(AllocError),
-        }
+        Ok(Objects {
+            session: Session::with_forced(alloc, forced)?,
+            refused: None,
+        })
     }
 
     /// Takes the next object. After one that the session refuses, all are left.

@@ -1,5 +1,6 @@
 //! What becomes of a link: its file and its report, or why it is refused; and the rows of its externals.
 ghost use Rattle.std.specs.Prelude.{◌≡◌, ◌≢◌, Err, bytes_eq, position, IfOk};
+ghost use Rattle.aout_core.specs.Refusals.{refused};
 ghost use Rattle.link_session.specs.Labelled.{objects};
 ghost use Rattle.link_session.specs.Mentions.{externals};
 ghost use Rattle.tool_options.specs.Choices.{Choices};
@@ -33,11 +34,11 @@ fn link_of(
 ) -> Result<Result<Linked, LinkFault>, AllocError>
     ensures link { IfOk result (λ linked.
         IsLinkOf linked (link session.now.forced (objects session.now.entries) options.now)) }
-    ensures no_memory { IfOk result (λ linked. linked ≢ Err Memory) }
+    ensures no_memory { IfOk result (λ linked. linked ≢ Err (Memory refused)) }
 {
     match finish(alloc, session, options) {
         Ok(linked) => Ok(Ok(linked)),
-        Err(LinkFault::Memory) => Err(AllocError),
+        Err(LinkFault::Memory(refused)) => Err(AllocError::from(refused)),
         Err(fault) => Ok(Err(fault)),
     }
 }

@@ -48,7 +48,7 @@ lines_on n d next text line others more is rest found =
 pub lines_stop : (n : ℕ) (d : Draft) (text line : List ℕ) (found : Result Draft Fault) (e : ListingFault) →
     0 < length text → line ≡ first_line text →
     Stops e (in_line n line (row_read d (row_of line))) → lines_read n d (lines_in text) ≡ found → Stops e found
-lines_stop n d text line found Memory more is stops all = tt
+lines_stop n d text line found (Memory _) more is stops all = tt
 lines_stop n d text line found (Wrong fault) more is stops all =
     sym all ∙ lines_from n d text more
     ∙ ap (λ (x : Result Draft Fault). x >>= (λ e. lines_read (n + 1) e (lines_in (other_lines text))))
@@ -64,7 +64,7 @@ pub says_file : (d : Draft) (found : Result Draft Fault) → found ≡ Ok d → 
 says_file d found h = ap file_of h
 
 pub says_fault : (e : ListingFault) (found : Result Draft Fault) → Stops e found → Says (Err e) (file_of found)
-says_fault Memory found h = tt
+says_fault (Memory _) found h = tt
 says_fault (Wrong fault) found h = ap file_of h
 
 -- the listing of a file is read as that file
@@ -77,7 +77,7 @@ never a f found ha hf = absurd (cc)
 pub says_gives : (result : Result Contents ListingFault) (text : List ℕ) (x : Remarks) (c : Contents) →
     Says result (read text) → AreRemarks x → IsSound c → text ≡ listing x c → Gives result c
 says_gives (Ok file) text x c said are sound is = same_file file c (read text) said (ap read is ∙ listing_read x c are sound)
-says_gives (Err Memory) text x c said are sound is = refl
+says_gives (Err (Memory _)) text x c said are sound is = refl
 says_gives (Err (Wrong fault)) text x c said are sound is =
     absurd (never c fault (read text) (ap read is ∙ listing_read x c are sound) said)
 

@@ -1,6 +1,7 @@
 -- What `read_listing` returns: the file that a listing describes, unless memory runs out. (own choice)
 use Rattle.std.specs.Prelude.{◌≡◌, Result, Ok, Err}
 use Rattle.aout_core.specs.Contents.{Contents}
+use Rattle.aout_core.specs.Refusals.{refused}
 use Rattle.listings.specs.declared.fault.Fault.{Fault}
 use Rattle.listings.specs.declared.fault.ListingFault.{ListingFault}
 use Rattle.listings.specs.declared.fault.ListingFault.TheVariants.{Memory, Wrong}
@@ -8,10 +9,10 @@ use Rattle.listings.specs.declared.fault.ListingFault.TheVariants.{Memory, Wrong
 -- the file of a listing or its first mistake; or memory ran out, which does not follow from the text
 abbrev pub Says : Result Contents ListingFault → Result Contents Fault → Type 0
 Says (Ok file) found = found ≡ Ok file
-Says (Err Memory) found = Unit {0}
+Says (Err (Memory _)) found = Unit {0}
 Says (Err (Wrong fault)) found = found ≡ Err fault
 
 -- this file, unless memory ran out
 abbrev pub Gives : Result Contents ListingFault → Contents → Type 0
 Gives (Ok file) c = file ≡ c
-Gives (Err e) c = e ≡ Memory
+Gives (Err e) c = e ≡ Memory refused

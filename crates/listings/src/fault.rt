@@ -1,7 +1,9 @@
 //! Why a listing was not read, and where.
 ghost use Rattle.std.specs.Prelude.{◌≡◌};
+ghost use Rattle.aout_core.specs.Refusals.{refused};
 ghost use Rattle.listings.specs.declared.fault.RowFault.TheVariants.{Memory};
 
+use aout_core::Refused;
 use std::alloc::{AllocError, AllocFailed};
 use thiserror::Error;
 
@@ -66,6 +68,7 @@ pub enum Reason {
 
 impl Reason {
     ghost use Rattle.std.specs.Prelude.{◌≡◌};
+    ghost use Rattle.aout_core.specs.Refusals.{refused};
     ghost use Rattle.listings.specs.ReasonTexts.{reason_text};
 
     /// What is said of the line. (own choice)
@@ -104,7 +107,7 @@ pub struct Fault {
 #[derive(Clone, Copy, Debug, PartialEq, Eq)]
 pub enum ListingFault {
     /// Memory ran out for the file.
-    Memory,
+    Memory(Refused),
     /// The first mistake.
     Wrong(Fault),
 }
@@ -112,23 +115,23 @@ pub enum ListingFault {
 /// Why a row was not read.
 #[derive(Clone, Copy, Debug, PartialEq, Eq)]
 pub(crate) enum RowFault {
-    Memory,
+    Memory(Refused),
     /// The number of the column, from 0.
     Wrong(usize, Reason),
 }
 
 impl From<AllocError> for RowFault {
-    ghost from_gives = { λ _ fault. fault ≡ Memory };
+    ghost from_gives = { λ _ fault. fault ≡ Memory refused };
 
-    fn from(_error: AllocError) -> RowFault {
-        RowFault::Memory
+    fn from(error: AllocError) -> RowFault {
+        RowFault::Memory(Refused::from(error))
     }
 }
 
 impl<T: Drop> From<AllocFailed<T>> for RowFault {
-    ghost from_gives = { λ _ fault. fault ≡ Memory };
+    ghost from_gives = { λ _ fault. fault ≡ Memory refused };
 
-    fn from(_error: AllocFailed<T>) -> RowFault {
-        RowFault::Memory
+    fn from(error: AllocFailed<T>) -> RowFault {
+        RowFault::Memory(Refused::from(error))
     }
 }

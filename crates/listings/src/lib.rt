@@ -1,10 +1,10 @@
 //! Writes an a.out file as a listing, which people can read and change, and makes the file of a listing.
 //!
 //! ```rust
-//! let Ok(text) = write_listing(alloc, file, &Nothing) else {
-//!     return Err(ListingFault::Memory);
-//! };
-//! read_listing(alloc, &text)
+//! match write_listing(alloc, file, &Nothing) {
+//!     Ok(text) => read_listing(alloc, &text),
+//!     Err(error) => Err(ListingFault::Memory(Refused::from(error))),
+//! }
 //! ```
 //!
 //! Types:

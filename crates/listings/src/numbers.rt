@@ -1,5 +1,6 @@
 //! The numbers and names of columns.
 ghost use Rattle.std.specs.Prelude.{◌≡◌, ◌≢◌, ℕ, List, [], ◌∷◌, IfOk, IfErr};
+ghost use Rattle.aout_core.specs.Refusals.{refused};
 ghost use Rattle.listings.specs.declared.fault.RowFault.TheVariants.{Memory};
 ghost use Rattle.listings.specs.Octal.{number};
 ghost use Rattle.listings.specs.Names.{bytes_from, name_of};
@@ -14,7 +15,7 @@ use texts::is_printable;
 /// The number in a column.
 pub(crate) fn number_at(place: usize, column: &[u8]) -> Result<u16, RowFault>
     ensures found { Found (λ n. n) result (in_column place (number column.now)) }
-    ensures no_memory { IfErr result (λ fault. fault ≢ Memory) }
+    ensures no_memory { IfErr result (λ fault. fault ≢ Memory refused) }
 {
     if column.is_empty() {
         return Err(RowFault::Wrong(place, Reason::Missing));

@@ -1,6 +1,7 @@
 //! Reads the listing of a file.
 ghost use Rattle.std.specs.Prelude.{◌≡◌, IfOk, IfErr};
 ghost use Rattle.aout_core.specs.Contents.{Contents, IsSound};
+ghost use Rattle.aout_core.specs.Refusals.{refused};
 ghost use Rattle.listings.specs.declared.fault.ListingFault.TheVariants.{Memory};
 ghost use Rattle.listings.specs.Columns.{row_of};
 ghost use Rattle.texts.specs.Lines.{lines_in};
@@ -32,11 +33,11 @@ fn read_line(
     ensures goes { Goes (draft_of draft.new) result
         (in_line number line.now (row_read (draft_of draft.old) (row_of line.now))) }
     ensures memory { IfErr result (λ fault.
-        fault ≡ Memory → IsEntry (draft_of draft.old) (row_of line.now)) }
+        fault ≡ Memory refused → IsEntry (draft_of draft.old) (row_of line.now)) }
 {
     match read_row(alloc, draft, line) {
         Ok(()) => Ok(()),
-        Err(RowFault::Memory) => Err(ListingFault::Memory),
+        Err(RowFault::Memory(refused)) => Err(ListingFault::Memory(refused)),
         Err(RowFault::Wrong(place, reason)) => Err(ListingFault::Wrong(Fault {
             line: number,
             column: column_place(place, line),
@@ -52,7 +53,7 @@ fn read_lines(alloc: Global, draft: &mut FileDraft, text: &[u8]) -> Result<(), L
         (lines_read 1 (draft_of draft.old) (lines_in text.now)) }
     ensures whole { IfOk result (λ u. IsDraft (draft_of draft.new)) }
     ensures memory { IfErr result (λ fault.
-        fault ≡ Memory → MayRunOutInLines (draft_of draft.old) (lines_in text.now)) }
+        fault ≡ Memory refused → MayRunOutInLines (draft_of draft.old) (lines_in text.now)) }
 {
     let mut rest = text;
     let mut number = 1usize;
@@ -102,7 +103,7 @@ fn finish(draft: FileDraft) -> File
 
 fn read_all(alloc: Global, text: &[u8]) -> Result<File, ListingFault>
     ensures says { Says result (read text.now) }
-    ensures memory { IfErr result (λ fault. fault ≡ Memory → ListingMayRunOut text.now) }
+    ensures memory { IfErr result (λ fault. fault ≡ Memory refused → ListingMayRunOut text.now) }
 {
     let mut draft = FileDraft::new(alloc);
     read_lines(alloc, &mut draft, text)?;
@@ -115,7 +116,7 @@ fn read_all(alloc: Global, text: &[u8]) -> Result<File, ListingFault>
 /// Errors: `Wrong` with the first mistake of the listing; `Memory` if memory runs out for a word or a symbol.
 pub fn read_listing(alloc: Global, text: &[u8]) -> Result<File, ListingFault>
     ensures says { Says result (read text.now) }
-    ensures memory { IfErr result (λ fault. fault ≡ Memory → ListingMayRunOut text.now) }
+    ensures memory { IfErr result (λ fault. fault ≡ Memory refused → ListingMayRunOut text.now) }
     ensures again { (x : Remarks) (c : Contents) → AreRemarks x → IsSound c → text.now ≡ listing x c
         → Gives result c }
 {

@@ -8,6 +8,7 @@ ghost use Rattle.listings.specs.declared.fault.Section.TheVariants.{InHeader};
 ghost use Rattle.listings.specs.declared.fault.Word.TheVariants.{Bss, Magic, Flag};
 ghost use Rattle.listings.specs.Octal.{number};
 ghost use Rattle.aout_core.specs.Addresses.{data_start};
+ghost use Rattle.aout_core.specs.Refusals.{refused};
 ghost use Rattle.listings.specs.Reading.{in_column, relocs_of, with_word, word_entry, symbol_entry, entry_in, is_word, word_in, rank, opened, named_by, named, is_label, row_read};
 ghost use Rattle.listings.specs.MemoryWanted.{IsEntry};
 ghost use Rattle.listings.specs.internal.DraftParts.{segment_of, draft_of};
@@ -24,7 +25,7 @@ use std::alloc::Global;
 /// A relocation word, if the file has relocation.
 fn reloc_of(flag: u16, third: &[u8]) -> Result<Option<Reloc>, RowFault>
     ensures found { Found (λ r. option_to_list r) result (relocs_of flag third.now) }
-    ensures no_memory { IfErr result (λ fault. fault ≢ Memory) }
+    ensures no_memory { IfErr result (λ fault. fault ≢ Memory refused) }
 {
     if flag == 0 {
         Ok(Some(Reloc(number_at(2, third)?)))
@@ -98,7 +99,7 @@ fn entry_in(alloc: Global, draft: &mut FileDraft, columns: Columns) -> Result<()
     requires { IsDraft (draft_of draft.old) }
     ensures left { Leaves (draft_of draft.new) result
         (entry_in draft.old.section (draft_of draft.old) (row_in columns.entry)) }
-    ensures memory { IfErr result (λ fault. fault ≡ Memory → draft.old.section ≢ InHeader) }
+    ensures memory { IfErr result (λ fault. fault ≡ Memory refused → draft.old.section ≢ InHeader) }
 {
     match draft.section {
         Section::InHeader => Err(RowFault::Wrong(0, Reason::NoSection)),
@@ -163,7 +164,7 @@ fn rank(section: Section) -> u8
 /// Opens a section.
 fn open(draft: &mut FileDraft, section: Section) -> Result<(), RowFault>
     ensures left { Leaves (draft_of draft.new) result (opened section (draft_of draft.old)) }
-    ensures no_memory { IfErr result (λ fault. fault ≢ Memory) }
+    ensures no_memory { IfErr result (λ fault. fault ≢ Memory refused) }
 {
     if rank(draft.section) >= rank(section) {
         return Err(RowFault::Wrong(0, Reason::OutOfOrder));
@@ -176,7 +177,7 @@ fn open(draft: &mut FileDraft, section: Section) -> Result<(), RowFault>
 fn take_bss(draft: &mut FileDraft, second: &[u8]) -> Result<(), RowFault>
     ensures left { Leaves (draft_of draft.new) result
         (named_by Bss (draft_of draft.old) (in_column 1 (number second.now))) }
-    ensures no_memory { IfErr result (λ fault. fault ≢ Memory) }
+    ensures no_memory { IfErr result (λ fault. fault ≢ Memory refused) }
 {
     let size = number_at(1, second)?;
     if size % 2 != 0 {
@@ -190,7 +191,7 @@ fn take_bss(draft: &mut FileDraft, second: &[u8]) -> Result<(), RowFault>
 fn take_magic(draft: &mut FileDraft, second: &[u8]) -> Result<(), RowFault>
     ensures left { Leaves (draft_of draft.new) result
         (named_by Magic (draft_of draft.old) (in_column 1 (number second.now))) }
-    ensures no_memory { IfErr result (λ fault. fault ≢ Memory) }
+    ensures no_memory { IfErr result (λ fault. fault ≢ Memory refused) }
 {
     if draft.section != Section::InHeader {
         return Err(RowFault::Wrong(0, Reason::TooLate));
@@ -207,7 +208,7 @@ fn take_magic(draft: &mut FileDraft, second: &[u8]) -> Result<(), RowFault>
 fn take_flag(draft: &mut FileDraft, second: &[u8]) -> Result<(), RowFault>
     ensures left { Leaves (draft_of draft.new) result
         (named_by Flag (draft_of draft.old) (in_column 1 (number second.now))) }
-    ensures no_memory { IfErr result (λ fault. fault ≢ Memory) }
+    ensures no_memory { IfErr result (λ fault. fault ≢ Memory refused) }
 {
     if draft.section != Section::InHeader {
         return Err(RowFault::Wrong(0, Reason::TooLate));
@@ -220,7 +221,7 @@ fn take_flag(draft: &mut FileDraft, second: &[u8]) -> Result<(), RowFault>
 fn take_word(draft: &mut FileDraft, word: Word, second: &[u8]) -> Result<(), RowFault>
     ensures left { Leaves (draft_of draft.new) result
         (named_by word (draft_of draft.old) (in_column 1 (number second.now))) }
-    ensures no_memory { IfErr result (λ fault. fault ≢ Memory) }
+    ensures no_memory { IfErr result (λ fault. fault ≢ Memory refused) }
 {
     match word {
         Word::Text => open(draft, Section::InText),
@@ -245,7 +246,7 @@ fn take_word(draft: &mut FileDraft, word: Word, second: &[u8]) -> Result<(), Row
 fn named(draft: &mut FileDraft, columns: Columns) -> Result<(), RowFault>
     ensures left { Leaves (draft_of draft.new) result
         (named (draft_of draft.old) (row_in columns.entry)) }
-    ensures no_memory { IfErr result (λ fault. fault ≢ Memory) }
+    ensures no_memory { IfErr result (λ fault. fault ≢ Memory refused) }
 {
     if draft.section == Section::InSymbols {
         return Err(RowFault::Wrong(0, Reason::AfterTable));
@@ -267,7 +268,7 @@ pub(crate) fn read_row(alloc: Global, draft: &mut FileDraft, line: &[u8]) -> Res
     ensures left { Leaves (draft_of draft.new) result
         (row_read (draft_of draft.old) (row_of line.now)) }
     ensures memory { IfErr result (λ fault.
-        fault ≡ Memory → IsEntry (draft_of draft.old) (row_of line.now)) }
+        fault ≡ Memory refused → IsEntry (draft_of draft.old) (row_of line.now)) }
 {
     let columns = columns_of(line);
     let Some(&byte) = columns.first.first() else {

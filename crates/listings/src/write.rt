@@ -149,8 +149,9 @@ fn put_symbol<R: Remark>(remarks: &R, text: &mut Text, number: u16, symbol: &Sym
     ensures { Puts text.old text.new
         (symbol_line (R.said remarks.now) number symbol.now ++ 10 ∷ []) }
 {
-    let Ok(name) = printable(text.allocator(), &symbol.name) else {
-        return text.cut();
+    let name = match printable(text.allocator(), &symbol.name) {
+        Ok(name) => name,
+        Err(error) => return text.cut(error),
     };
     let mut buffer = OctalBuffer::new();
     let digits = buffer.format(u64::from(symbol.type_bits));

@@ -177,6 +177,6 @@ pub(crate) fn put_largest(text: &mut Text, members: &[Member])
     text.put("\nLargest objects\n     text    data     bss     all  symbols\n");
     match largest_objects(text.allocator(), members) {
         Ok(sizes) => put_sizes(text, members, &sizes),
-        Err(_) => text.cut(),
+        Err(error) => text.cut(error),
     }
 }

@@ -49,7 +49,7 @@ fn put_limits_of(text: &mut Text, map: &LinkMap, objects: &Objects, options: &Op
 {
     match limits_of(text.allocator(), map, objects, options) {
         Ok(limits) => put_limits(text, &limits),
-        Err(_) => text.cut(),
+        Err(error) => text.cut(error),
     }
 }
 

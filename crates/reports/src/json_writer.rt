@@ -115,10 +115,10 @@ impl JsonWriter {
     }
 
     /// Cuts the text: memory ran out for something that belongs into it.
-    pub fn cut(&mut self)
+    pub fn cut(&mut self, refused: AllocError)
         ensures { self.new.is_cut ≡ true }
     {
-        self.text.cut();
+        self.text.cut(refused);
     }
 
     /// Begins a list.

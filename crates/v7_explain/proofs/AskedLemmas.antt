@@ -5,6 +5,7 @@ use Rattle.std.proofs.lemmas.List.{take_all}
 use Rattle.std.specs.Prelude.{Result, Err, String, bytes_eq, codes, string_bytes, if◌then◌else◌}
 use Rattle.std.specs.declared.alloc.Global.{Global}
 use Rattle.aout_core.specs.Names.{before_nul}
+use Rattle.aout_core.specs.Refusals.{refused}
 use Rattle.surroundings.specs.Answer.{Answer}
 use Rattle.surroundings.specs.Answers.{AnswersOr, says_usage}
 use Rattle.surroundings.specs.Events.{History}
@@ -46,7 +47,7 @@ module _ (folders : Option Folders) (old new : History) (result : Result Answer 
   either_call false x y p q = q
 
   -- memory runs out for the names
-  pub names_out : (names words : List (List ℕ)) → new ≡ old → result ≡ Err faults.Memory →
+  pub names_out : (names words : List (List ℕ)) → new ≡ old → result ≡ Err (faults.Memory refused) →
       IsCall folders (mapping_after names words) old new result
   names_out names [] same memory = inl (same, memory)
   names_out names (word ∷ []) same memory =

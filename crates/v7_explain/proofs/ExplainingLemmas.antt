@@ -3,6 +3,7 @@ use Rattle.std.proofs.Common.{◌≡◌, ℕ, ◌<◌, ◌+◌, List, ◌∷◌,
 use Rattle.std.proofs.Common.{◌∙◌, subst, inl, inr, arith}
 use Rattle.std.specs.Prelude.{Result, Ok, Err, String}
 use Rattle.std.specs.declared.alloc.Global.{Global}
+use Rattle.aout_core.specs.Refusals.{refused}
 use Rattle.surroundings.specs.Answer.{Answer}
 use Rattle.surroundings.specs.Events.{History}
 use Rattle.surroundings.specs.declared.answer.Fault.{Fault}
@@ -18,12 +19,12 @@ use Rattle.v7_explain.specs.declared.explaining.Mode.{Mode}
 
 -- it is read, and there is no memory for what is said of it
 pub explains_out : (mode : Mode) (old new : History) (path bytes : List ℕ) (result : Result Answer Fault) →
-    ReadsAt old new path bytes → result ≡ Err faults.Memory → Explains mode old new path result
+    ReadsAt old new path bytes → result ≡ Err (faults.Memory refused) → Explains mode old new path result
 explains_out mode old new path bytes result reads memory = (said_of mode path bytes, inl (bytes, reads, refl), inr memory)
 
 -- it is not read, and there is no memory for its line
 pub explains_unread : (mode : Mode) (old new : History) (path : List ℕ) (fault : Fault) →
-    EndsReading program old new path fault → Explains mode old new path (Err faults.Memory)
+    EndsReading program old new path fault → Explains mode old new path (Err (faults.Memory refused))
 explains_unread mode old new path fault (found, grows, answered) =
     (failed_at program path (unread_text found), inr (found, grows, refl), inr refl)
 
@@ -64,9 +65,9 @@ explaining_ends mode old mid new said left later all path fault inv e (more, say
 -- one is explained, and there is no memory to add that
 pub explaining_stops : (mode : Mode) (old mid new : History) (said more : Answer) (left later all : List (List ℕ)) (path : List ℕ) →
     GoesOn mode old mid said left all → left ≡ path ∷ later → Explains mode mid new path (Ok more) →
-    IsExplaining mode old new nothing_said all (Err faults.Memory)
+    IsExplaining mode old new nothing_said all (Err (faults.Memory refused))
 explaining_stops mode old mid new said more left later all path inv e (one, says, answers) =
-    inv new (Err faults.Memory) (subst (λ paths. IsExplaining mode mid new said paths (Err faults.Memory)) (sym e)
+    inv new (Err (faults.Memory refused)) (subst (λ paths. IsExplaining mode mid new said paths (Err (faults.Memory refused))) (sym e)
     (one, new, says, inl (refl, refl)))
 
 -- one is explained, and that is added

@@ -4,6 +4,7 @@ use Rattle.std.proofs.Common.{◌⊎◌, subst, inl, inr, arith}
 use Rattle.std.proofs.lemmas.Bool.Decides.{nat_tests}
 use Rattle.std.specs.Prelude.{Result, Ok, Err, IfSome, String, Vec, is_some, not}
 use Rattle.std.specs.declared.alloc.Global.{Global}
+use Rattle.aout_core.specs.Refusals.{refused}
 use Rattle.command_words.specs.Calls.{AsksForNone, IsAsked, IsWhole, dashes_in, files_of}
 use Rattle.command_words.specs.declared.fault.WordsFault.TheVariants.{Usage}
 use Rattle.command_words.specs.declared.words.Call.{Call}
@@ -47,10 +48,10 @@ keeps_split old new x taken forced h =
 
 -- ---- the status
 
-status_of_link : (made : Result Linked LinkFault) (x : Result Outcome LinkFault) → IsLinkOf made x → made ≢ Err Memory →
+status_of_link : (made : Result Linked LinkFault) (x : Result Outcome LinkFault) → IsLinkOf made x → made ≢ Err (Memory refused) →
     status_made made ≡ status_linked x
 status_of_link (Ok linked) x h whole = ap status_linked (sym h)
-status_of_link (Err Memory) x h whole = absurd (whole refl)
+status_of_link (Err (Memory _)) x h whole = absurd (whole refl)
 status_of_link (Err DoesNotFit) x h whole = ap status_linked (sym h)
 status_of_link (Err TooManySymbols) x h whole = ap status_linked (sym h)
 status_of_link (Err SymbolNumber) x h whole = ap status_linked (sym h)
@@ -79,10 +80,10 @@ pub map_ends : (asked forced : List (List ℕ)) (choices : Choices) (paths : Lis
     (result : Result Answer Fault) → o.session ≡ nothing_kept forced → o.refused ≡ None →
     IsTaking old new (taken_of o nothing_said) paths (taken_by n (Err fault)) → result ≡ Err fault →
     IsMapping asked forced choices paths old new result
-map_ends asked forced choices paths old new o n fault result session refused takes is =
+map_ends asked forced choices paths old new o n fault result session none takes is =
     let taking : IsTaking old new nothing_taken paths (Err fault) =
-    subst (λ t. IsTaking old new t paths (Err fault)) (begins forced o session refused) takes in
-    let memory : fault ≡ faults.Memory = taking_memory old new nothing_taken paths fault taking in
+    subst (λ t. IsTaking old new t paths (Err fault)) (begins forced o session none) takes in
+    let memory : fault ≡ faults.Memory refused = taking_memory old new nothing_taken paths fault taking in
     inl (
       subst (λ f. IsTaking old new nothing_taken paths (Err f)) memory taking,
       is ∙ ap (λ (f : Fault). let ended : Result Answer Fault = Err f in ended) memory,
@@ -120,7 +121,7 @@ maps_by asked forced choices paths old new o n said result session refused takes
 pub map_out : (asked forced : List (List ℕ)) (choices : Choices) (paths : List (List ℕ)) (old new : History) (o n : Objects) (said : Answer)
     (result : Result Answer Fault) → o.session ≡ nothing_kept forced → o.refused ≡ None →
     IsTaking old new (taken_of o nothing_said) paths (taken_by n (Ok said)) →
-    said.status ≡ 0 → result ≡ Err faults.Memory → IsMapping asked forced choices paths old new result
+    said.status ≡ 0 → result ≡ Err (faults.Memory refused) → IsMapping asked forced choices paths old new result
 map_out asked forced choices paths old new o n said result session refused takes status memory =
     maps_by asked forced choices paths old new o n said result session refused takes status (inl memory)
 
@@ -169,7 +170,7 @@ map_made asked forced choices paths old new o n said a session refused takes sta
 
 -- memory runs out for them
 pub map_call_out : (names words : List (List ℕ)) (old new : History) (result : Result Answer Fault) →
-    new ≡ old → result ≡ Err faults.Memory →
+    new ≡ old → result ≡ Err (faults.Memory refused) →
     IsMapCall names words old new result
 map_call_out names words old new result same memory = inl (same, memory)
 
@@ -183,7 +184,7 @@ map_call_none names words all old new result same none still answers =
 pub map_call_made : (names words all : List (List ℕ)) (call : Call) (old new : History) (result : Result Answer Fault) →
     all ≡ link_words words →
     IsWhole call → IsAsked all call → dashes_in all ≡ dashes_in (files_of call) →
-    ((new ≡ old) × (result ≡ Err faults.Memory)) ⊎ MapsCall names call old new result → IsMapCall names words old new result
+    ((new ≡ old) × (result ≡ Err (faults.Memory refused))) ⊎ MapsCall names call old new result → IsMapCall names words old new result
 map_call_made names words all call old new result same whole asked dashes maps =
     inr (inr (
       call,

@@ -2,6 +2,7 @@
 use Rattle.std.proofs.Common.{◌≡◌, ℕ, List, [], ◌∷◌, ◌++◌, refl, sym, ap, ◌∙◌, subst, inl, inr}
 use Rattle.std.specs.Prelude.{IsOk, Result, Ok, Err, OnOk}
 use Rattle.aout_core.specs.Contents.{Contents}
+use Rattle.aout_core.specs.Refusals.{refused}
 use Rattle.link_session.specs.Labelled.{Labelled}
 use Rattle.surroundings.specs.Answer.{Answer}
 use Rattle.surroundings.specs.Answers.{Faults, failed_at}
@@ -32,14 +33,14 @@ taking_more old mid next start taken left later all path found inv e takes new r
 -- memory runs out after one
 pub taking_ends : (old mid new : History) (start taken : Taken) (left later all : List (List ℕ)) (path : List ℕ)
     (found : Result Contents Answer) →
-    GoesOn old mid start taken left all → left ≡ path ∷ later → TakesAt mid new path found → IsTaking old new start all (Err faults.Memory)
+    GoesOn old mid start taken left all → left ≡ path ∷ later → TakesAt mid new path found → IsTaking old new start all (Err (faults.Memory refused))
 taking_ends old mid new start taken left later all path found inv e takes =
-    inv new (Err faults.Memory) (subst (λ paths. IsTaking mid new taken paths (Err faults.Memory)) (sym e)
+    inv new (Err (faults.Memory refused)) (subst (λ paths. IsTaking mid new taken paths (Err (faults.Memory refused))) (sym e)
     (found, new, takes, inl (refl, refl)))
 
 -- memory ran out, if taking ended
 pub taking_memory : (old new : History) (taken : Taken) (paths : List (List ℕ)) (fault : Fault) →
-    IsTaking old new taken paths (Err fault) → fault ≡ faults.Memory
+    IsTaking old new taken paths (Err fault) → fault ≡ faults.Memory refused
 taking_memory old new taken [] fault (same, ended) = absurd (cc)
 taking_memory old new taken (path ∷ paths) fault (found, between, takes, inl (same, ended)) = cc
 taking_memory old new taken (path ∷ paths) fault (found, between, takes, inr h) =
@@ -77,7 +78,7 @@ takes_none old new path bytes seen objects fault result same reads faulty is =
 
 -- there is no memory for its object
 pub takes_out : (old new : History) (path bytes : List ℕ) (before after : List Labelled) (result : Result (Unit {0}) Fault) →
-    ReadsAt old new path bytes → result ≡ Err faults.Memory → TakesOne old new path before after result
+    ReadsAt old new path bytes → result ≡ Err (faults.Memory refused) → TakesOne old new path before after result
 takes_out old new path bytes before after result reads memory = (object_in path bytes, inl (bytes, reads, refl), inr memory)
 
 -- its object is taken
@@ -129,6 +130,6 @@ taking_next E old mid next start taken after left later all path (Err error) inv
 
 pub taking_out : (E : Type 0) → (old mid new : History) (start taken after : Taken) (left later all : List (List ℕ)) (path : List ℕ)
     (result : Result (Unit {0}) E) → GoesOn old mid start taken left all → left ≡ path ∷ later →
-    TakesNext {E = E} mid new taken path after result → IsTaking old new start all (Err faults.Memory)
+    TakesNext {E = E} mid new taken path after result → IsTaking old new start all (Err (faults.Memory refused))
 taking_out E old mid new start taken after left later all path result inv e (found, takes, same) =
     taking_ends old mid new start taken left later all path found inv e takes

@@ -9,6 +9,7 @@ use Rattle.aout_core.specs.WellFormed.{first_object_fault}
 use Rattle.aout_core.specs.declared.file.ReadFault.{ReadFault}
 use Rattle.aout_core.specs.declared.object.ObjectFault.{ObjectFault}
 use Rattle.aout_core.specs.FaultTexts.{object_text, read_text}
+use Rattle.aout_core.specs.Refusals.{refused}
 use Rattle.command_words.specs.Calls.{AsksForNone, IsAsked, IsWhole, dashes_in, files_of}
 use Rattle.command_words.specs.declared.fault.WordsFault.TheVariants.{Usage}
 use Rattle.command_words.specs.declared.words.Call.{Call}
@@ -71,7 +72,7 @@ abbrev pub IsTaking : History → History → Taken → List (List ℕ) → Resu
 IsTaking old new taken [] result = (new ≡ old) × (result ≡ Ok taken)
 IsTaking old new taken (path ∷ paths) result =
     (found : Result Contents Answer) × (between : History) × TakesAt old between path found
-    × (((new ≡ between) × (result ≡ Err faults.Memory)) ⊎ IsTaking between new (with_found taken path found) paths result)
+    × (((new ≡ between) × (result ≡ Err (faults.Memory refused))) ⊎ IsTaking between new (with_found taken path found) paths result)
 
 -- ---- the map
 
@@ -113,7 +114,7 @@ answer_of asked choices o m status =
 -- that is the answer; or memory ran out for it
 abbrev pub IsMap : List (List ℕ) → List (List ℕ) → Choices → List Labelled → Result Answer Fault → Type 0
 IsMap asked forced choices xs result =
-    (result ≡ Err faults.Memory)
+    (result ≡ Err (faults.Memory refused))
     ⊎ ((o : Objects) × (m : LinkMap) × AreTaken forced xs o × IsMapOf o forced choices m
     × (result ≡ Ok (answer_of asked choices o m (map_status forced choices (split forced xs)))))
 
@@ -127,7 +128,7 @@ nothing_taken = record { objects = []; said = nothing_said }
 
 abbrev pub IsMapping : List (List ℕ) → List (List ℕ) → Choices → List (List ℕ) → History → History → Result Answer Fault → Type 0
 IsMapping asked forced choices paths old new result =
-    (IsTaking old new nothing_taken paths (Err faults.Memory) × (result ≡ Err faults.Memory))
+    (IsTaking old new nothing_taken paths (Err (faults.Memory refused)) × (result ≡ Err (faults.Memory refused)))
     ⊎ ((taken : Taken) × IsTaking old new nothing_taken paths (Ok taken) × MapsTaken asked forced choices result taken)
 
 -- the files of a call of ld are mapped
@@ -141,7 +142,7 @@ link_words words = codes "ld" ∷ words
 -- the arguments after the names are those of ld: memory runs out for them, or they ask for no call, or for one that is mapped
 abbrev pub IsMapCall : List (List ℕ) → List (List ℕ) → History → History → Result Answer Fault → Type 0
 IsMapCall asked words old new result =
-    ((new ≡ old) × (result ≡ Err faults.Memory))
+    ((new ≡ old) × (result ≡ Err (faults.Memory refused)))
     ⊎ (AsksForNone (link_words words) Usage × (new ≡ old) × AnswersOr result (says_usage usage))
     ⊎ ((call : Call) × IsWhole call × IsAsked (link_words words) call × (dashes_in (link_words words) ≡ dashes_in (files_of call))
-    × (((new ≡ old) × (result ≡ Err faults.Memory)) ⊎ MapsCall asked call old new result))
+    × (((new ≡ old) × (result ≡ Err (faults.Memory refused))) ⊎ MapsCall asked call old new result))

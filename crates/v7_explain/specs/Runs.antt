@@ -6,6 +6,7 @@ use Rattle.std.specs.Prelude.{◌≡◌, ◌⊎◌, ℕ, Bool, true, false, not,
 use Rattle.std.specs.Prelude.{List, [], ◌∷◌, ◌++◌, take, Option, Some, None, Result, Ok, Err}
 use Rattle.std.specs.List.{starts_with}
 use Rattle.aout_core.specs.Names.{before_nul}
+use Rattle.aout_core.specs.Refusals.{refused}
 use Rattle.surroundings.specs.Answer.{Answer}
 use Rattle.surroundings.specs.Answers.{AnswersOr, AnswersStored, Checks, IsPerformed, IsShownOr}
 use Rattle.surroundings.specs.Answers.{failed_at, only_errors, says_usage, shown_in}
@@ -50,14 +51,14 @@ abbrev pub IsExplaining : Mode → History → History → Answer → List (List
 IsExplaining mode old new said [] result = (new ≡ old) × AnswersOr result said
 IsExplaining mode old new said (path ∷ paths) result =
     (more : Answer) × (between : History) × SaysAt mode old between path more
-    × (((new ≡ between) × (result ≡ Err faults.Memory)) ⊎ IsExplaining mode between new (joined said more) paths result)
+    × (((new ≡ between) × (result ≡ Err (faults.Memory refused))) ⊎ IsExplaining mode between new (joined said more) paths result)
 
 -- ---- folders
 
 -- the files of a walk are found before the first is opened, and then a line of an inventory is said of each; or memory runs out
 abbrev pub IsWalk : Option Folders → History → History → List (List ℕ) → Result Answer Fault → Type 0
 IsWalk folders old new paths result =
-    ((new ≡ old) × (result ≡ Err faults.Memory))
+    ((new ≡ old) × (result ≡ Err (faults.Memory refused)))
     ⊎ ((found : List (List ℕ)) × AreWalked folders paths found × IsExplaining Inventory old new nothing_said found result)
 
 -- ---- a listing that is stored
@@ -77,7 +78,7 @@ IsStoring to said old new result =
 -- the bytes of a file are listed, and the listing is stored; or memory ran out before
 abbrev pub AfterReading : List ℕ → List ℕ → List ℕ → History → History → Result Answer Fault → Type 0
 AfterReading to path bytes old new result =
-    ((new ≡ old) × (result ≡ Err faults.Memory)) ⊎ IsStoring to (listed true path bytes) old new result
+    ((new ≡ old) × (result ≡ Err (faults.Memory refused))) ⊎ IsStoring to (listed true path bytes) old new result
 
 abbrev pub ReadsAndStores : List ℕ → List ℕ → History → History → Result Answer Fault → Type 0
 ReadsAndStores to path old new result =

@@ -7,10 +7,8 @@ ghost use Rattle.texts.specs.Texts.{Puts};
 ghost use Rattle.surroundings.specs.Answers.{only_errors};
 ghost use Rattle.v7_explain.specs.Files.{checked, checked_as, gnu_line, line_if, line_of, refused_lines, status_of};
 
-use crate::source::{
-    GNU_NOTE, Source, decoded, likeness_of, put_front, put_reports, put_text_line,
-};
-use aout_core::{File, Header, ObjectFault, ReadFault, object_fault};
+use crate::source::{GNU_NOTE, Source, likeness_of, put_front, put_reports, put_text_line};
+use aout_core::{File, Header, ObjectFault, ReadFault, decode_file, object_fault};
 use disassemblies::Sweep;
 use findings::{Finding, is_damaged, is_of_gnu, put_kind, wrong_bytes, wrong_words};
 use std::alloc::{AllocError, Global};
@@ -105,7 +103,7 @@ pub(crate) fn check(alloc: Global, source: Source<'_>) -> Result<Answer, AllocEr
     ensures { IfOk result (λ answer.
         answer ≡ checked source.entry.path.now source.entry.bytes.now) }
 {
-    match decoded(alloc, source.bytes)? {
+    match decode_file(alloc, source.bytes)? {
         Ok(file) => check_file(alloc, source.path, &file),
         Err(fault) => check_refused(alloc, source, fault),
     }

@@ -1,9 +1,10 @@
 //! The folders of a runtime. No contract can say what a folder has, so these lines are to be read: the names are those of the files and
 //! folders at the very path that is asked for. Links, and what is neither a file nor a folder, are left out.
 use crate::folders::{Folder, Folders};
+use aout_core::Refused;
 use std::alloc::{AllocError, Allocator, Global};
 use std::fs::{self, DirEntry};
-use std::io::{self, ErrorKind};
+use std::io;
 use std::rt::{Files, Runtime};
 
 /// The folders of a runtime.
@@ -28,9 +29,9 @@ fn is_taken<H: Files, A: Allocator>(entry: &DirEntry<H, A>) -> bool {
 
 /// Fails if the system's answer is that there is no memory.
 fn check_memory(error: &io::Error) -> Result<(), AllocError> {
-    match error.kind() {
-        ErrorKind::OutOfMemory => Err(AllocError),
-        _ => Ok(()),
+    match Refused::reported_by(error) {
+        Some(refused) => Err(AllocError::from(refused)),
+        None => Ok(()),
     }
 }
 

@@ -77,7 +77,7 @@ fn explain_at<O: Office>(
             Ok(explain(alloc, mode, source)?)
         }
         Err(Fault::Answered(answer)) => Ok(answer),
-        Err(Fault::Memory) => Err(Fault::Memory),
+        Err(Fault::Memory(refused)) => Err(Fault::Memory(refused)),
     }
 }
 
@@ -97,9 +97,7 @@ pub(crate) fn explain_each<O: Office>(
             Ok(more) => more,
             Err(fault) => return Err(fault),
         };
-        if join(&mut said, &more).is_err() {
-            return Err(Fault::Memory);
-        }
+        join(&mut said, &more)?;
     }
     Ok(said)
 }
@@ -114,8 +112,6 @@ pub(crate) fn explain_walked<O: Office, F: Folders>(
     ensures { IsWalk (F.folders folders.now) (O.history office.old) (O.history office.new)
         (map string_bytes paths.now) result }
 {
-    match walk_all(alloc, folders, paths) {
-        Ok(found) => explain_each(alloc, office, Mode::Inventory, &found),
-        Err(_) => Err(Fault::Memory),
-    }
+    let found = walk_all(alloc, folders, paths)?;
+    explain_each(alloc, office, Mode::Inventory, &found)
 }

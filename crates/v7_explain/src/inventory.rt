@@ -5,8 +5,8 @@ ghost use Rattle.explanations.specs.Inventories.{file_row, refused_row};
 ghost use Rattle.findings.specs.Wrong.{wrong_bytes, wrong_in};
 ghost use Rattle.v7_explain.specs.Files.{inventoried, row_said};
 
-use crate::source::{Source, decoded};
-use aout_core::{File, ReadFault, object_fault};
+use crate::source::Source;
+use aout_core::{File, ReadFault, decode_file, object_fault};
 use explanations::{InventoryRow, file_row, put_row, refused_row};
 use findings::{wrong_bytes, wrong_in};
 use std::alloc::{AllocError, Global};
@@ -48,7 +48,7 @@ pub(crate) fn take_inventory(alloc: Global, source: Source<'_>) -> Result<Answer
     ensures { IfOk result (λ answer.
         answer ≡ inventoried source.entry.path.now source.entry.bytes.now) }
 {
-    let row = match decoded(alloc, source.bytes)? {
+    let row = match decode_file(alloc, source.bytes)? {
         Ok(file) => row_of_file(alloc, source.bytes, &file)?,
         Err(fault) => row_of_bytes(alloc, source.bytes, fault)?,
     };

@@ -7,9 +7,9 @@ ghost use Rattle.v7_explain.specs.Files.{list_findings, list_notes, listed, list
 ghost use Rattle.v7_explain.specs.internal.Notes.{HasNotes};
 
 use crate::source::{
-    Source, decoded, explain_refused, front_notes, put_found, put_gnu_note, reported, status_in,
+    Source, explain_refused, front_notes, put_found, put_gnu_note, reported, status_in,
 };
-use aout_core::{File, ObjectFault, object_fault};
+use aout_core::{File, ObjectFault, decode_file, object_fault};
 use disassemblies::Sweep;
 use explanations::write_explained;
 use findings::{Finding, Notes, odd_of, put_header, wrong_in};
@@ -60,9 +60,8 @@ fn listing_with(
     ensures text { IfOk result (λ text.
         text.items ≡ listing_with sweep.now notes.now.lines findings.now.lines) }
 {
-    if notes.is_cut() || findings.is_cut() {
-        return Err(AllocError);
-    }
+    notes.whole()?;
+    findings.whole()?;
     write_explained(alloc, sweep, notes, findings)
 }
 
@@ -97,7 +96,7 @@ pub(crate) fn list(
     ensures { IfOk result (λ answer.
         answer ≡ listed is_reported source.entry.path.now source.entry.bytes.now) }
 {
-    match decoded(alloc, source.bytes)? {
+    match decode_file(alloc, source.bytes)? {
         Ok(file) => list_file(alloc, source, is_reported, &file),
         Err(fault) => explain_refused(alloc, source, is_reported, fault),
     }

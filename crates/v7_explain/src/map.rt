@@ -1,5 +1,6 @@
 //! The map of a link, made or refused.
 ghost use Rattle.std.specs.Prelude.{◌≡◌, ◌⊎◌, List, ℕ, Option, IfOk, Err, map, string_bytes};
+ghost use Rattle.aout_core.specs.Refusals.{refused};
 ghost use Rattle.map_texts.specs.MapTexts.{absent_names};
 ghost use Rattle.surroundings.specs.declared.answer.Fault.TheVariants.{Memory};
 ghost use Rattle.v7_explain.specs.Maps.{IsMapCall, IsMapping, MapsCall, link_words, status_with, text_asked};
@@ -90,7 +91,7 @@ fn map_link<O: Office>(
     options: &Options,
     files: &[String],
 ) -> Result<Answer, Fault>
-    ensures { ((O.history office.new ≡ O.history office.old) × (result ≡ Err Memory))
+    ensures { ((O.history office.new ≡ O.history office.old) × (result ≡ Err (Memory refused)))
         ⊎ IsMapping asked.now forced.now options.now (map string_bytes files.now)
         (O.history office.old) (O.history office.new) result }
 {
@@ -122,7 +123,7 @@ fn map_call<O: Office>(
     asked: &[Name],
     call: &Call,
 ) -> Result<Answer, Fault>
-    ensures { ((O.history office.new ≡ O.history office.old) × (result ≡ Err Memory))
+    ensures { ((O.history office.new ≡ O.history office.old) × (result ≡ Err (Memory refused)))
         ⊎ MapsCall asked.now call.now (O.history office.old) (O.history office.new) result }
 {
     match call {
@@ -150,7 +151,7 @@ fn map_words<O: Office>(
     match parse(alloc, link_words(alloc, words)?) {
         Ok(call) => map_call(alloc, office, asked, &call),
         Err(WordsFault::Usage) => Ok(usage_answer(alloc, USAGE)?),
-        Err(WordsFault::Memory) => Err(Fault::Memory),
+        Err(WordsFault::Memory(refused)) => Err(Fault::Memory(refused)),
     }
 }
 

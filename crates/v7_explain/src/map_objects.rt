@@ -1,6 +1,7 @@
 //! The objects of a link, from their files.
 ghost use Rattle.std.specs.Prelude.{◌≡◌, ◌≢◌, IfErr, IfOk, Err, Ok, map, string_bytes};
 ghost use Rattle.aout_core.specs.FaultTexts.{object_text, read_text};
+ghost use Rattle.aout_core.specs.Refusals.{refused};
 ghost use Rattle.link_maps.specs.Members.{all_of};
 ghost use Rattle.surroundings.specs.Answers.{Faults};
 ghost use Rattle.surroundings.specs.declared.answer.Fault.TheVariants.{Memory};
@@ -12,8 +13,8 @@ ghost use Rattle.v7_explain.specs.internal.Takes.{KeepsSplit, TakesNext, TakesOn
 
 use crate::explaining::{join, nothing_said};
 use crate::program::NAME;
-use crate::source::{decoded, put_front, put_text_line};
-use aout_core::{Object, ObjectFault, ReadFault};
+use crate::source::{put_front, put_text_line};
+use aout_core::{Object, ObjectFault, ReadFault, decode_file};
 use link_maps::Objects;
 use std::alloc::{AllocError, Global};
 use surroundings::{Answer, Fault, Office, error_answer, put_object_fault, read_whole};
@@ -52,7 +53,7 @@ fn object_in(alloc: Global, path: &str, bytes: &[u8]) -> Result<Object, Fault>
     ensures ok { IfOk result (λ object. object_in path.now bytes.now ≡ Ok object) }
     ensures err { IfErr result (λ fault. Faults (object_in path.now bytes.now) fault) }
 {
-    let file = match decoded(alloc, bytes)? {
+    let file = match decode_file(alloc, bytes)? {
         Ok(file) => file,
         Err(fault) => return Err(Fault::Answered(not_read(alloc, path, fault)?)),
     };
@@ -72,7 +73,7 @@ fn take_at<O: Office>(
     ensures taken { TakesOne (O.history office.old) (O.history office.new) path.now
         (all_of objects.old) (all_of objects.new) result }
     ensures forced { objects.new.session.forced ≡ objects.old.session.forced }
-    ensures split { result ≢ Err Memory → KeepsSplit objects.old → KeepsSplit objects.new }
+    ensures split { result ≢ Err (Memory refused) → KeepsSplit objects.old → KeepsSplit objects.new }
 {
     let bytes = read_whole(alloc, office, NAME, path)?;
     let object = object_in(alloc, path, &bytes)?;
@@ -97,7 +98,7 @@ fn take_next<O: Office>(
     match take_at(alloc, office, objects, path) {
         Ok(()) => Ok(()),
         Err(Fault::Answered(more)) => join(said, &more),
-        Err(Fault::Memory) => Err(AllocError),
+        Err(Fault::Memory(refused)) => Err(AllocError::from(refused)),
     }
 }
 
@@ -116,9 +117,7 @@ pub(crate) fn take_objects<O: Office>(
 {
     let mut said = nothing_said(alloc);
     for path in paths {
-        if take_next(alloc, office, objects, &mut said, path.as_str()).is_err() {
-            return Err(Fault::Memory);
-        }
+        take_next(alloc, office, objects, &mut said, path.as_str())?;
     }
     Ok(said)
 }

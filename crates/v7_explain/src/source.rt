@@ -1,6 +1,5 @@
 //! A file that is explained, and what is said of it whatever becomes of it.
-ghost use Rattle.std.specs.Prelude.{◌≡◌, ◌∷◌, [], false, length, option_map, IfOk, OnOk, Ok};
-ghost use Rattle.aout_core.specs.Decoding.{decode};
+ghost use Rattle.std.specs.Prelude.{◌≡◌, ◌∷◌, [], false, length, option_map, IfOk, OnOk};
 ghost use Rattle.findings.specs.Found.{all_found};
 ghost use Rattle.findings.specs.Notes.{AddsNotes, finding_text};
 ghost use Rattle.findings.specs.Kinds.{kind_text};
@@ -13,7 +12,7 @@ ghost use Rattle.v7_explain.specs.Files.{status_in, title};
 ghost use Rattle.v7_explain.specs.internal.Notes.{HasNotes};
 
 use crate::program::NAME;
-use aout_core::{File, Header, ObjectFault, ReadFault, Wire, read_file};
+use aout_core::{Header, ObjectFault, ReadFault};
 use explanations::put_lines;
 use findings::{
     Finding, Notes, header_of, is_damaged, is_of_gnu, likeness, put_finding_text, put_findings,
@@ -33,17 +32,6 @@ pub(crate) const GNU_NOTE: &str =
 pub(crate) struct Source<'a> {
     pub(crate) path: &'a str,
     pub(crate) bytes: &'a [u8],
-}
-
-/// The file that bytes begin with, or why they begin with none. No device can fail here: there are only bytes.
-pub(crate) fn decoded(alloc: Global, bytes: &[u8]) -> Result<Result<File, ReadFault>, AllocError>
-    ensures { IfOk result (λ read. read ≡ decode bytes.now) }
-{
-    match read_file(alloc, &mut Wire::new(bytes)) {
-        Ok(file) => Ok(Ok(file)),
-        Err(ReadFault::Memory | ReadFault::Device) => Err(AllocError),
-        Err(fault) => Ok(Err(fault)),
-    }
 }
 
 /// The status of a file.
@@ -225,9 +213,7 @@ fn lines_of(alloc: Global, notes: &Notes) -> Result<Vec<u8>, AllocError>
     ensures { IfOk result (λ lines.
         (notes.now.is_cut ≡ false) × (lines.items ≡ lines_of notes.now.lines)) }
 {
-    if notes.is_cut() {
-        return Err(AllocError);
-    }
+    notes.whole()?;
     let mut lines = Text::new(alloc);
     put_lines(&mut lines, notes);
     lines.finish()

@@ -6,8 +6,8 @@ ghost use Rattle.texts.specs.Texts.{Puts, nothing_written};
 ghost use Rattle.v7_explain.specs.Files.{body_of, found_notes, lines_of, viewed, viewed_as};
 ghost use Rattle.v7_explain.specs.internal.Notes.{HasNotes};
 
-use crate::source::{Source, decoded, explain_refused, front_notes, put_found, status_in};
-use aout_core::{File, object_fault};
+use crate::source::{Source, explain_refused, front_notes, put_found, status_in};
+use aout_core::{File, decode_file, object_fault};
 use disassemblies::put_disassembly;
 use explanations::{Base, put_dump, put_lines};
 use findings::{Finding, Notes, wrong_in};
@@ -70,9 +70,8 @@ fn show_file(
     let wrong = wrong_in(alloc, file, refused)?;
     let notes = front_notes(alloc, source, file.header(), refused);
     let findings = wrong_notes(alloc, &wrong);
-    if notes.is_cut() || findings.is_cut() {
-        return Err(AllocError);
-    }
+    notes.whole()?;
+    findings.whole()?;
     Ok(Answer {
         output: body(alloc, view, file, &notes, &findings).finish()?,
         errors: Vec::new(alloc),
@@ -85,7 +84,7 @@ pub(crate) fn show(alloc: Global, source: Source<'_>, view: View) -> Result<Answ
     ensures { IfOk result (λ answer.
         answer ≡ viewed view source.entry.path.now source.entry.bytes.now) }
 {
-    match decoded(alloc, source.bytes)? {
+    match decode_file(alloc, source.bytes)? {
         Ok(file) => show_file(alloc, source, view, &file),
         Err(fault) => explain_refused(alloc, source, false, fault),
     }

@@ -3,15 +3,15 @@ use Rattle.std.proofs.Common.{◌≡◌, ◌≢◌, ℕ, Bool, List, [], ◌∷�
 use Rattle.std.specs.Prelude.{IfErr, IfOk, Result, Ok, Err}
 use Rattle.gnu_objects.specs.Converted.{converted}
 use Rattle.aout_core.specs.Contents.{Contents}
+use Rattle.aout_core.specs.Refusals.{refused}
 use Rattle.gnu_objects.specs.declared.options.Options.{Options}
 use Rattle.gnu_objects.specs.declared.refusal.Refusal.{Refusal}
 use Rattle.gnu_objects.specs.declared.refusal.Refusal.TheVariants as refusals
 use Rattle.surroundings.specs.Answers.{Faults}
 use Rattle.surroundings.specs.declared.answer.Fault.{Fault}
 use Rattle.v7_from_gnu.specs.Converting.{and_then, converted_from, outcome, target_of, target_with, with_names}
-use Rattle.v7_from_gnu.specs.Jobs.{Source}
+use Rattle.v7_from_gnu.specs.Jobs.{Source, Target}
 use Rattle.v7_from_gnu.specs.Plans.{Plan}
-use Rattle.v7_from_gnu.specs.declared.converting.Target.{Target}
 use Rattle.v7_from_gnu.specs.internal.Lists.{RefusedAs}
 use Rattle.v7_from_gnu.proofs.StepLemmas.{step_ends, step_fails}
 
@@ -26,26 +26,26 @@ abbrev pub refuses : Refusal → Result Contents Refusal
 refuses refusal = Err refusal
 
 abbrev refusal_in : Result Contents Refusal → Refusal
-refusal_in (Ok x) = refusals.Memory
+refusal_in (Ok x) = refusals.Memory refused
 refusal_in (Err refusal) = refusal
 
 err_of : (r s : Refusal) → refuses r ≡ refuses s → r ≡ s
 err_of r s e = ap refusal_in e
 
 refused_with : (source : Source) (found : Result Contents Refusal) (refusal : Refusal) (fault : Fault) →
-    (refuses refusal ≢ refuses refusals.Memory → refuses refusal ≡ found) → RefusedAs source refusal fault →
+    (refuses refusal ≢ refuses (refusals.Memory refused) → refuses refusal ≡ found) → RefusedAs source refusal fault →
     Faults (target_with source found) fault
 refused_with source found refusal fault gives (inl memory) = step_ends (target_with source found) fault memory
 refused_with source found refusal fault gives (inr (other, tells)) =
-    subst (λ r. Faults (target_with source r) fault) (gives (λ e. other (err_of refusal refusals.Memory e))) tells
+    subst (λ r. Faults (target_with source r) fault) (gives (λ e. other (err_of refusal (refusals.Memory refused) e))) tells
 
 -- the fault of a refusal is that of the file
 pub refused_faults : (options : Options) (source : Source) (bytes : List ℕ) (refusal : Refusal) (fault : Fault) →
-    bytes ≡ source.bytes → (refuses refusal ≢ refuses refusals.Memory → refuses refusal ≡ converted options bytes) →
+    bytes ≡ source.bytes → (refuses refusal ≢ refuses (refusals.Memory refused) → refuses refusal ≡ converted options bytes) →
     RefusedAs source refusal fault → Faults (target_of options source) fault
-refused_faults options source bytes refusal fault same gives refused =
+refused_faults options source bytes refusal fault same gives tells =
     refused_with source (converted options source.bytes) refusal fault
-    (subst (λ (b : List ℕ). refuses refusal ≢ refuses refusals.Memory → refuses refusal ≡ converted options b) same gives) refused
+    (subst (λ (b : List ℕ). refuses refusal ≢ refuses (refusals.Memory refused) → refuses refusal ≡ converted options b) same gives) tells
 
 -- what is done with the objects is what is done with the files
 pub plan_ok : (options : Options) (is_quiet : Bool) (sources : List Source) (targets : List Target)

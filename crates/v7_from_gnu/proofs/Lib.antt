@@ -3,3 +3,5 @@ pub mod ReadingLemmas
 pub mod ConvertingLemmas
 pub mod StoringLemmas
 pub mod CallLemmas
+pub mod SlashLemmas
+pub mod ClashLemmas

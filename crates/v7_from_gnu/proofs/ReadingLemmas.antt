@@ -1,6 +1,7 @@
 -- Files that are read one after another, from what comes of those that are left.
 use Rattle.std.proofs.Common.{◌≡◌, ℕ, List, [], ◌∷◌, ◌++◌, Some, refl, sym, subst, inl, inr}
 use Rattle.std.specs.Prelude.{Result, Err}
+use Rattle.aout_core.specs.Refusals.{refused}
 use Rattle.surroundings.specs.Events.{History}
 use Rattle.surroundings.specs.Sources.{EndsReading, ReadsAt}
 use Rattle.surroundings.specs.declared.answer.Fault.{Fault}
@@ -24,9 +25,9 @@ reading_ends old mid new read all left later job fault inv e h =
 
 -- one is read, and there is no memory for it
 pub reading_stops : (old mid new : History) (read : List Source) (all left later : List Job) (job : Job) (bytes : List ℕ) →
-    GoesOn old mid read left all → left ≡ job ∷ later → ReadsAt mid new job.from bytes → IsReading old new [] all (Err Memory)
+    GoesOn old mid read left all → left ≡ job ∷ later → ReadsAt mid new job.from bytes → IsReading old new [] all (Err (Memory refused))
 reading_stops old mid new read all left later job bytes inv e h =
-    reading_ends old mid new read all left later job Memory inv e (Some h.0, h.1, inr refl)
+    reading_ends old mid new read all left later job (Memory refused) inv e (Some h.0, h.1, inr refl)
 
 -- one more is read
 pub reading_more : (old mid next : History) (read more : List Source) (all left later : List Job) (job : Job)

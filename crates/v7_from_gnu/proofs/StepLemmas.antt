@@ -1,6 +1,7 @@
 -- What is passed on from one check, or from one step, to the next.
 use Rattle.std.proofs.Common.{◌≡◌, Option, Some, None, refl, inr}
 use Rattle.std.specs.Prelude.{Result, Ok, Err}
+use Rattle.aout_core.specs.Refusals.{refused}
 use Rattle.surroundings.specs.Answer.{Answer}
 use Rattle.surroundings.specs.Answers.{Checks, Faults}
 use Rattle.surroundings.specs.declared.answer.Fault.{Fault}
@@ -17,7 +18,7 @@ check_fails None (Some a) fault h = inr h
 check_fails (Some a) later fault h = h
 
 -- memory runs out for a check
-pub check_ends : (found : Option Answer) (fault : Fault) → fault ≡ Memory → Checks found (Err fault)
+pub check_ends : (found : Option Answer) (fault : Fault) → fault ≡ Memory refused → Checks found (Err fault)
 check_ends None fault h = h
 check_ends (Some a) fault h = inr h
 
@@ -29,7 +30,7 @@ check_passes (Some a) later h = absurd (cc)
 -- ---- steps
 
 -- memory runs out for a step
-pub step_ends : {A : Type 0} (r : Result A Answer) (fault : Fault) → fault ≡ Memory → Faults r fault
+pub step_ends : {A : Type 0} (r : Result A Answer) (fault : Fault) → fault ≡ Memory refused → Faults r fault
 step_ends (Ok x) fault h = h
 step_ends (Err a) fault h = inr h
 

@@ -9,7 +9,7 @@ use Rattle.surroundings.specs.declared.answer.Fault.{Fault}
 use Rattle.surroundings.specs.declared.office.Stored.{Stored}
 use Rattle.surroundings.specs.Answers.{AnswersOr}
 use Rattle.v7_from_gnu.specs.Runs.{IsStoring, not_stored, unless_said}
-use Rattle.v7_from_gnu.specs.declared.converting.Target.{Target}
+use Rattle.v7_from_gnu.specs.Jobs.{Target}
 
 -- one is stored
 pub stores_one : (remarks : List ℕ) (old between new : History) (t : Target) (ts : List Target) (what : Stored)

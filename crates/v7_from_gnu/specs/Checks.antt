@@ -6,9 +6,8 @@ use Rattle.gnu_objects.specs.declared.clash.Clash.{Clash}
 use Rattle.surroundings.specs.Answer.{Answer}
 use Rattle.surroundings.specs.Answers.{failed_at, only_errors}
 use Rattle.surroundings.specs.Paths.{is_among, plain}
-use Rattle.v7_from_gnu.specs.Jobs.{Job}
+use Rattle.v7_from_gnu.specs.Jobs.{Job, Target}
 use Rattle.v7_from_gnu.specs.Lines.{clash_line, program}
-use Rattle.v7_from_gnu.specs.declared.converting.Target.{Target}
 
 -- the first of two answers, if there is one
 abbrev pub first_of : Option Answer → Option Answer → Option Answer

@@ -10,10 +10,9 @@ use Rattle.gnu_objects.specs.declared.refusal.Refusal.{Refusal}
 use Rattle.surroundings.specs.Answer.{Answer}
 use Rattle.surroundings.specs.Answers.{only_errors}
 use Rattle.v7_from_gnu.specs.Checks.{clash_from}
-use Rattle.v7_from_gnu.specs.Jobs.{Source}
+use Rattle.v7_from_gnu.specs.Jobs.{Source, Target}
 use Rattle.v7_from_gnu.specs.Lines.{refusal_line, remark_line}
 use Rattle.v7_from_gnu.specs.Plans.{Plan}
-use Rattle.v7_from_gnu.specs.declared.converting.Target.{Target}
 
 abbrev pub and_then : {A B : Type 0} → Result A Answer → (A → Result B Answer) → Result B Answer
 and_then (Err answer) next = Err answer

@@ -1,5 +1,6 @@
 -- What is to be converted: the options and the paths of a call, and the files that were read. (own choice)
 use Rattle.std.specs.Prelude.{ℕ, Bool, List}
+use Rattle.aout_core.specs.Contents.{Contents}
 use Rattle.gnu_objects.specs.declared.options.Options.{Options}
 
 -- the path of a file, and that of its object
@@ -18,3 +19,8 @@ pub record Source : Type 0 where
   pub from : List ℕ
   pub to : List ℕ
   pub bytes : List ℕ
+
+-- a file that was read, and the object that it becomes
+pub record Target : Type 0 where
+  pub source : Source
+  pub object : Contents

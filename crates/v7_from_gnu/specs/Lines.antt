@@ -76,7 +76,7 @@ refusal_text (AlikeNames n m) = alike_text n m
 refusal_text (StabWord n) = number_text (codes "word ") n (codes " refers to a symbol for a debugger")
 refusal_text (LocalWord n m) = number_text (codes "word ") n (codes " refers to a local that is dropped")
 refusal_text (BadWord fault) = object_text fault
-refusal_text Memory = codes "no memory"
+refusal_text (Memory _) = codes "no memory"
 
 -- the symbols of a refusal with their whole names
 abbrev pub refusal_names : List ℕ → Refusal → List ℕ

@@ -3,6 +3,7 @@
 -- Paths are checked before a file is opened. All files are read before one is converted, and all are converted before one is stored. So
 -- nothing is stored if one is refused. If memory runs out, that is the answer; it does so after a file was stored only if one was not.
 use Rattle.std.specs.Prelude.{◌≡◌, ◌⊎◌, ℕ, List, [], ◌∷◌, ◌++◌, Option, Some, None, Result, Ok, Err}
+use Rattle.aout_core.specs.Refusals.{refused}
 use Rattle.surroundings.specs.Answer.{Answer}
 use Rattle.surroundings.specs.Answers.{AnswersOr, Checks, Faults, IsPerformed, fault_line, only_errors, says_usage, shows}
 use Rattle.surroundings.specs.Events.{History, Extends, Surroundings, stored}
@@ -13,13 +14,12 @@ use Rattle.surroundings.specs.declared.office.Stored.{Stored}
 use Rattle.v7_from_gnu.specs.Calls.{call_of}
 use Rattle.v7_from_gnu.specs.Checks.{path_answer}
 use Rattle.v7_from_gnu.specs.Converting.{outcome}
-use Rattle.v7_from_gnu.specs.Jobs.{Conversion, Source}
+use Rattle.v7_from_gnu.specs.Jobs.{Conversion, Source, Target}
 use Rattle.v7_from_gnu.specs.Lines.{program, usage}
 use Rattle.v7_from_gnu.specs.Plans.{Plan}
 use Rattle.v7_from_gnu.specs.Readings.{IsReading}
 use Rattle.v7_from_gnu.specs.declared.arguments.Call.{Call}
 use Rattle.v7_from_gnu.specs.declared.arguments.Call.TheVariants.{Show, Convert}
-use Rattle.v7_from_gnu.specs.declared.converting.Target.{Target}
 
 -- ---- storing
 
@@ -41,7 +41,7 @@ IsStoring remarks old new (t ∷ ts) result =
 
 -- or there was no memory for the answer before one was stored
 abbrev pub Stores : Plan → History → History → Result Answer Fault → Type 0
-Stores plan old new result = ((new ≡ old) × (result ≡ Err faults.Memory)) ⊎ IsStoring plan.remarks old new plan.targets result
+Stores plan old new result = ((new ≡ old) × (result ≡ Err (faults.Memory refused))) ⊎ IsStoring plan.remarks old new plan.targets result
 
 -- ---- a conversion
 
@@ -78,7 +78,7 @@ IsCall (Some call) old new result = IsDone call old new result
 
 -- or there was no memory for the arguments
 abbrev pub IsAnswer : List (List ℕ) → History → History → Result Answer Fault → Type 0
-IsAnswer words old new result = ((new ≡ old) × (result ≡ Err faults.Memory)) ⊎ IsCall (call_of words) old new result
+IsAnswer words old new result = ((new ≡ old) × (result ≡ Err (faults.Memory refused))) ⊎ IsCall (call_of words) old new result
 
 -- what the arguments ask for is done, and its answer is written
 abbrev pub PerformsFromGnu : {W E : Type 0} → (W → Option (List ℕ)) → (E → Option (List ℕ)) → List (List ℕ) →

@@ -7,7 +7,6 @@ use gnu_objects::{Locals, Options};
 use std::alloc::{AllocError, Global};
 use std::marker::Model;
 use surroundings::{Shown, shown_in};
-use texts::Text;
 
 /// A file that is to be converted, and the path where its object is to go.
 #[derive(Drop)]
@@ -119,30 +118,24 @@ fn with_options(before: Letters, word: &[u8]) -> Option<Letters>
 }
 
 /// What follows the last slash of a path, or all of it.
-fn after_slash(path: &[u8]) -> &[u8]
+fn after_slash(path: &str) -> &str
     ensures { result.now ≡ after_slash path.now }
 {
     let mut name = path;
-    for (index, byte) in path.iter().enumerate() {
-        if *byte == b'/' {
-            name = &path[index + 1..];
-        }
+    while let Some((_, rest)) = name.split_once('/') {
+        name = rest;
     }
     name
 }
 
-/// The path of a name in a folder. The end of a path after a slash is text, so only memory can be missing.
-fn path_in(alloc: Global, folder: &str, name: &[u8]) -> Result<String, AllocError>
+/// The path of a name in a folder.
+fn path_in(alloc: Global, folder: &str, name: &str) -> Result<String, AllocError>
     ensures { IfOk result (λ path. string_bytes path ≡ folder.now ++ codes "/" ++ name.now) }
 {
-    let mut path = Text::new(alloc);
-    path.put(folder);
-    path.put("/");
-    path.put_bytes(name);
-    match String::from_utf8(path.finish()?) {
-        Ok(path) => Ok(path),
-        Err(_) => Err(AllocError),
-    }
+    let mut path = String::from_str(alloc, folder)?;
+    path.push_str("/")?;
+    path.push_str(name)?;
+    Ok(path)
 }
 
 /// The conversion of a file to one of the same name in a folder.
@@ -151,7 +144,7 @@ fn into_folder(alloc: Global, folder: &str, path: &str) -> Result<Job, AllocErro
 {
     Ok(Job {
         from: String::from_str(alloc, path)?,
-        to: path_in(alloc, folder, after_slash(path.as_bytes()))?,
+        to: path_in(alloc, folder, after_slash(path))?,
     })
 }
 

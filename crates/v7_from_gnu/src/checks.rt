@@ -11,7 +11,7 @@ use crate::arguments::Job;
 use crate::converting::Target;
 use crate::lines::put_clash;
 use crate::program::NAME;
-use gnu_objects::{Clash, Together};
+use gnu_objects::{Clash, Refusal, Together};
 use std::alloc::{AllocError, Global};
 use surroundings::{Fault, PlainPaths, error_answer, fault_at};
 use texts::Text;
@@ -90,16 +90,14 @@ fn put_beside<'a>(
         (clash_among (bytes_of before.now) target.now.source.bytes)) result }
     ensures added { IfOk result (λ _. together.new ≡ together.old ++ target.now.source.bytes ∷ []) }
 {
-    let Ok(found) = together.add(alloc, &target.source.bytes) else {
-        return Err(Fault::Memory);
+    let found = match together.add(alloc, target.bytes()) {
+        Ok(found) => found,
+        Err(Refusal::Memory(refused)) => return Err(Fault::Memory(refused)),
+        Err(_) => unreachable!(),
     };
-    let Some((number, clash)) = found else {
-        return Ok(());
-    };
-    match before.get(number) {
-        Some(first) => Err(clashing(alloc, first, target, clash)?),
-        // it is the number of one of them
-        None => Err(Fault::Memory),
+    match found {
+        Some((number, clash)) => Err(clashing(alloc, &before[number], target, clash)?),
+        None => Ok(()),
     }
 }
 

@@ -1,7 +1,8 @@
 //! Conversions of files that were read. Nothing is written before all are converted.
-ghost use Rattle.std.specs.Prelude.{◌≡◌, [], IfErr, IfOk, Ok};
+ghost use Rattle.std.specs.Prelude.{◌≡◌, [], IfErr, IfOk, None, Ok, OnOk};
 ghost use Rattle.std.specs.List.{flat_map};
 ghost use Rattle.gnu_objects.specs.Converted.{converted};
+ghost use Rattle.gnu_objects.specs.GnuRefusals.{sizes_refusal};
 ghost use Rattle.surroundings.specs.Answers.{Faults};
 ghost use Rattle.texts.specs.Texts.{Puts};
 ghost use Rattle.v7_from_gnu.specs.Converting.{all_remarks, converted_from, outcome, refusal_answer, remark_lines, remarks_of, target_of, with_names};
@@ -21,11 +22,36 @@ use std::marker::Model;
 use surroundings::{Answer, Fault, Office, error_answer};
 use texts::Text;
 
-/// A file that was read, and the object that it becomes.
+/// A file that was read, and the object that it becomes. So neither its header nor its sizes nor its strings are refused.
 #[derive(Drop)]
 pub(crate) struct Target {
     pub(crate) source: Source,
     pub(crate) object: Object,
+}
+
+impl Model for Target {
+    ghost use Rattle.std.specs.Prelude.{◌≡◌, None};
+    ghost use Rattle.gnu_objects.specs.GnuRefusals.{sizes_refusal};
+    ghost use Rattle.v7_from_gnu.specs.Jobs as spec;
+
+    ghost Value = { spec.Target };
+
+    ghost view = { λ t. record { source = t.source; object = t.object } };
+
+    ghost invariant = { λ t. sizes_refusal t.source.bytes ≡ None };
+}
+
+impl Target {
+    ghost use Rattle.std.specs.Prelude.{◌≡◌, None};
+    ghost use Rattle.gnu_objects.specs.GnuRefusals.{sizes_refusal};
+
+    /// The bytes of the file.
+    pub(crate) fn bytes(&self) -> &[u8]
+        ensures value { result.now ≡ self.now.source.bytes }
+        ensures whole { sizes_refusal result.now ≡ None }
+    {
+        &self.source.bytes
+    }
 }
 
 /// What is done once all files are converted: what is reported of names, and the objects.
@@ -56,12 +82,12 @@ fn refusal_answer(alloc: Global, source: &Source, refusal: Refusal) -> Result<An
 fn refused(alloc: Global, source: &Source, refusal: Refusal) -> Fault
     ensures { RefusedAs source.now refusal result }
 {
-    if refusal == Refusal::Memory {
-        return Fault::Memory;
+    if let Refusal::Memory(refused) = refusal {
+        return Fault::Memory(refused);
     }
     match refusal_answer(alloc, source, refusal) {
         Ok(answer) => Fault::Answered(answer),
-        Err(_) => Fault::Memory,
+        Err(error) => Fault::from(error),
     }
 }
 
@@ -69,6 +95,7 @@ fn refused(alloc: Global, source: &Source, refusal: Refusal) -> Fault
 fn object_of(alloc: Global, options: Options, source: &Source) -> Result<Object, Fault>
     ensures ok { IfOk result (λ object. converted options source.now.bytes ≡ Ok object) }
     ensures err { IfErr result (λ fault. Faults (target_of options source.now) fault) }
+    ensures sizes { OnOk result (sizes_refusal source.now.bytes ≡ None) }
 {
     match convert(alloc, &source.bytes, options) {
         Ok(object) => Ok(object),
@@ -113,12 +140,13 @@ fn put_list(text: &mut Text, source: &Source, list: &[Remark])
 }
 
 /// Puts what becomes of the names of a file.
-fn put_remarks(text: &mut Text, locals: Locals, source: &Source)
-    ensures { Puts text.old text.new (remark_lines locals source.now) }
+fn put_remarks(text: &mut Text, locals: Locals, target: &Target)
+    ensures { Puts text.old text.new (remark_lines locals target.now.source) }
 {
-    match remarks(text.allocator(), &source.bytes, locals) {
-        Ok(list) => put_list(text, source, &list),
-        Err(_) => text.cut(),
+    match remarks(text.allocator(), target.bytes(), locals) {
+        Ok(list) => put_list(text, &target.source, &list),
+        Err(Refusal::Memory(refused)) => text.cut(AllocError::from(refused)),
+        Err(_) => unreachable!(),
     }
 }
 
@@ -127,7 +155,7 @@ fn put_all_remarks(text: &mut Text, locals: Locals, targets: &[Target])
     ensures { Puts text.old text.new (remarks_of locals targets.now) }
 {
     for target in targets {
-        put_remarks(text, locals, &target.source);
+        put_remarks(text, locals, target);
     }
 }
 
@@ -160,7 +188,7 @@ fn with_names(
     match check_names(alloc, &targets) {
         Ok(()) => match all_remarks(alloc, is_quiet, options.locals, &targets) {
             Ok(remarks) => Ok(Plan { remarks, targets }),
-            Err(_) => Err(Fault::Memory),
+            Err(error) => Err(Fault::from(error)),
         },
         Err(fault) => Err(fault),
     }

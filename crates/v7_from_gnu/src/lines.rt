@@ -119,7 +119,7 @@ fn put_reason(line: &mut Text, refusal: Refusal)
             " refers to a local that is dropped",
         ),
         Refusal::BadWord(fault) => put_object_fault(line, fault),
-        Refusal::Memory => line.put("no memory"),
+        Refusal::Memory(_) => line.put("no memory"),
     }
 }
 

@@ -42,9 +42,7 @@ pub(crate) fn read_all<O: Office>(
             Ok(bytes) => bytes,
             Err(fault) => return Err(fault),
         };
-        if sources.push(Source { from, to, bytes }).is_err() {
-            return Err(Fault::Memory);
-        }
+        sources.push(Source { from, to, bytes })?;
     }
     Ok(sources)
 }

@@ -37,7 +37,7 @@ fn not_stored(alloc: Global, remarks: &[u8], path: &str, why: &str) -> Result<An
 {
     match error_answer(alloc, not_stored_lines(alloc, remarks, path, why), 2) {
         Ok(answer) => Ok(answer),
-        Err(_) => Err(Fault::Memory),
+        Err(error) => Err(Fault::from(error)),
     }
 }
 

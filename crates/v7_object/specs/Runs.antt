@@ -5,6 +5,7 @@
 use Rattle.std.specs.Prelude.{◌≡◌, ◌⊎◌, ℕ, nat_eq, if◌then◌else◌, List, [], ◌∷◌, Option, Some, None, Result, Ok, Err, codes}
 use Rattle.std.specs.List.{starts_with}
 use Rattle.aout_core.specs.Contents.{Contents}
+use Rattle.aout_core.specs.Refusals.{refused}
 use Rattle.listings.specs.Reading.{read}
 use Rattle.listings.specs.declared.fault.Fault.{Fault as Mistake}
 use Rattle.surroundings.specs.Answer.{Answer}
@@ -43,7 +44,7 @@ file_of path (Err mistake) = Err (only_errors (mistake_line path mistake) 1)
 -- a file is stored, or it can't be; or there was no memory for the answer before
 abbrev pub IsStoring : List ℕ → Contents → History → History → Result Answer Fault → Type 0
 IsStoring to file old new result =
-    ((new ≡ old) × (result ≡ Err faults.Memory))
+    ((new ≡ old) × (result ≡ Err (faults.Memory refused)))
     ⊎ ((what : Stored) × Extends old new (stored to file what ∷ []) × AnswersStored program to (only_errors [] 0) (stored_text what) result)
 
 -- the bytes of a listing are read as a file, which is stored; or there is a mistake

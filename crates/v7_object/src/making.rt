@@ -32,7 +32,7 @@ fn file_in(alloc: Global, path: &str, text: &[u8]) -> Result<File, Fault>
     match read_listing(alloc, text) {
         Ok(file) => Ok(file),
         Err(ListingFault::Wrong(fault)) => Err(Fault::Answered(mistaken(alloc, path, fault)?)),
-        Err(ListingFault::Memory) => Err(Fault::Memory),
+        Err(ListingFault::Memory(refused)) => Err(Fault::Memory(refused)),
     }
 }
 

@@ -5,7 +5,7 @@ use Rattle.listings.specs.declared.fault.RowFault.TheVariants.{Memory, Wrong}
 use Rattle.listings.specs.Reading.{Mistake}
 
 abbrev pub Fails : {Y : Type 0} → RowFault → Result Y Mistake → Type 0
-Fails Memory found = Unit {0}
+Fails (Memory _) found = Unit {0}
 Fails (Wrong k reason) found = found ≡ Err (k, reason)
 
 -- the value that was returned, seen by view

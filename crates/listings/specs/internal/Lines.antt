@@ -6,7 +6,7 @@ use Rattle.listings.specs.declared.fault.ListingFault.TheVariants.{Memory, Wrong
 use Rattle.listings.specs.Drafts.{Draft}
 
 abbrev pub Stops : ListingFault → Result Draft Fault → Type 0
-Stops Memory found = Unit {0}
+Stops (Memory _) found = Unit {0}
 Stops (Wrong fault) found = found ≡ Err fault
 
 abbrev pub Goes : {X : Type 0} → Draft → Result X ListingFault → Result Draft Fault → Type 0

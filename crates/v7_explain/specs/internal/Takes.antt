@@ -1,6 +1,7 @@
 -- Objects that are taken one after another.
 use Rattle.std.specs.Prelude.{◌≡◌, ◌⊎◌, ℕ, Bool, false, bytes_eq, codes, List, [], ◌∷◌, ◌++◌, Option, Some, None, Result, Ok, Err, IfOk}
 use Rattle.aout_core.specs.Contents.{Contents}
+use Rattle.aout_core.specs.Refusals.{refused}
 use Rattle.link_maps.specs.Maps.{IsMapOf}
 use Rattle.link_maps.specs.Members.{all_of}
 use Rattle.link_maps.specs.Taking.{split, split_of}
@@ -35,7 +36,7 @@ Adds path before after (Err answer) result = (result ≡ Err (Answered answer)) 
 
 abbrev pub TakesOne : History → History → List ℕ → List Labelled → List Labelled → Result (Unit {0}) Fault → Type 0
 TakesOne old new path before after result =
-    (found : Result Contents Answer) × TakesAt old new path found × (Adds path before after found result ⊎ (result ≡ Err Memory))
+    (found : Result Contents Answer) × TakesAt old new path found × (Adds path before after found result ⊎ (result ≡ Err (Memory refused)))
 
 -- a file is taken, or what is said of it is added to what was said
 abbrev pub TakesNext : {E : Type 0} → History → History → Taken → List ℕ → Taken → Result (Unit {0}) E → Type 0

@@ -1,6 +1,7 @@
 -- What private functions return.
 use Rattle.std.specs.declared.alloc.Global.{Global}
 use Rattle.std.specs.Prelude.{◌≡◌, ◌≢◌, ◌⊎◌, ℕ, List, map, Result, Ok, Err, Vec}
+use Rattle.aout_core.specs.Refusals.{refused}
 use Rattle.gnu_objects.specs.declared.refusal.Refusal.{Refusal}
 use Rattle.gnu_objects.specs.declared.refusal.Refusal.TheVariants as refusals
 use Rattle.surroundings.specs.Answers.{HasAnswer}
@@ -21,4 +22,4 @@ plain_inputs jobs = map plain (map (λ (job : Job). job.from) jobs)
 
 -- a file is refused, or memory ran out
 abbrev pub RefusedAs : Source → Refusal → Fault → Type 0
-RefusedAs source refusal fault = (fault ≡ Memory) ⊎ ((refusal ≢ refusals.Memory) × HasAnswer fault (refusal_answer source refusal))
+RefusedAs source refusal fault = (fault ≡ Memory refused) ⊎ ((refusal ≢ refusals.Memory refused) × HasAnswer fault (refusal_answer source refusal))

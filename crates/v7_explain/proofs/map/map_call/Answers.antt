@@ -1,5 +1,6 @@
 use Rattle.std.proofs.Common.{rules, ◌≡◌, ◌⊎◌, ap, inl, inr, map, refl, string_bytes, subst, sym}
 use Rattle.std.specs.Prelude.{Err}
+use Rattle.aout_core.specs.Refusals.{refused}
 use Rattle.surroundings.specs.declared.answer.Fault.TheVariants.{Memory}
 use Rattle.v7_explain.specs.Maps.{IsMapping, MapsCall}
 use Rattle.v7_explain.proofs.MapLemmas.{answered, maps_other}
@@ -12,9 +13,9 @@ returns-in-Ld g c =
     let forced = c.in-Ld.forced in
     let options = c.in-Ld.options in
     let same : c.deref.result.now ≡ c.in-Ld.files.items = search rules in
-    subst (λ call. ((new ≡ old) × (c.map_link.result ≡ Err Memory)) ⊎ MapsCall c.args.asked.now call old new c.map_link.result)
+    subst (λ call. ((new ≡ old) × (c.map_link.result ≡ Err (Memory refused))) ⊎ MapsCall c.args.asked.now call old new c.map_link.result)
     (sym c.in-Ld.is)
-    (subst (λ files. ((new ≡ old) × (c.map_link.result ≡ Err Memory))
+    (subst (λ files. ((new ≡ old) × (c.map_link.result ≡ Err (Memory refused)))
     ⊎ IsMapping c.args.asked.now forced options (map string_bytes files) old new c.map_link.result) same c.map_link.ensures)
 
 pub returns-in_ok-usage_answer-in_default : goal.returns-in_ok-usage_answer-in_default

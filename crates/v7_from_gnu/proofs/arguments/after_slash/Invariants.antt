@@ -1,7 +1,10 @@
-use Rattle.std.proofs.Common.{◌≡◌, drop}
-use Rattle.v7_from_gnu.specs.Calls.{after_slash, after_slash_or}
+use Rattle.std.proofs.Common.{◌≡◌, length, IsUtf8}
+use Rattle.v7_from_gnu.specs.Calls.{after_slash}
 use Rattle.v7_from_gnu.proofs.arguments.after_slash.Given as goal
 
--- what follows the last slash is in the bytes that are left, or it was found
-abbrev pub invariant-loop-index : goal.invariant-loop-index
-invariant-loop-index l = after_slash l.fn.path ≡ after_slash_or l.name (drop l.index l.path)
+-- what follows the last slash is the same for what is left
+abbrev pub invariant-loop : goal.invariant-loop
+invariant-loop l = (after_slash l.fn.path ≡ after_slash l.name) × IsUtf8 l.name
+
+abbrev pub decreases-loop : goal.decreases-loop
+decreases-loop l = length l.name

@@ -1,7 +1,11 @@
-use Rattle.std.proofs.Common.{rules, ◌≡◌, [], ◌∷◌, ◌++◌, subst}
+use Rattle.std.proofs.Common.{rules, ◌≡◌, [], ◌∷◌, ◌++◌, subst, sym}
+use Rattle.std.specs.Prelude.{Err}
+use Rattle.aout_core.specs.Refusals.{refused}
 use Rattle.surroundings.specs.Sources.{EndsReading, ReadsAt}
 use Rattle.v7_from_gnu.specs.Lines.{program}
-use Rattle.v7_from_gnu.specs.Readings.{source_of}
+use Rattle.surroundings.specs.declared.answer.Fault.TheVariants.{Memory}
+use Rattle.v7_from_gnu.specs.Readings.{IsReading, source_of}
+use Rattle.v7_from_gnu.specs.internal.Lists.{listed}
 use Rattle.v7_from_gnu.proofs.ReadingLemmas.{reading_ends, reading_more, reading_stops}
 use Rattle.v7_from_gnu.proofs.reading.read_all.Goals as goal
 
@@ -16,15 +20,17 @@ returns-in-Err g c =
     c.loop-job.invariant c.in-Some.ensures.steps.0
     (subst (λ path. EndsReading program mid new path c.in-Err.fault) same c.in-Err.ensures.err)
 
-pub returns-then-is_err : goal.returns-then-is_err
-returns-then-is_err g c =
+pub returns-in_err-push : goal.returns-in_err-push
+returns-in_err-push g c =
+    let memory : c.from_residual.result ≡ Err (Memory refused) = search rules in
     let old = g.O.Office.history c.args.office.now in
     let mid = g.O.Office.history c.loop-job.office in
     let new = g.O.Office.history c.read_whole.new.office in
     let same : c.as_str.result.now ≡ c.in-Some.job.from = search rules in
-    reading_stops old mid new c.loop-job.sources.items c.args.jobs.items c.loop-job.job-iterator.rest.items
+    subst (λ r. IsReading old new [] c.args.jobs.items (listed r)) (sym memory)
+    (reading_stops old mid new c.loop-job.sources.items c.args.jobs.items c.loop-job.job-iterator.rest.items
     c.next.new.self.rest.items c.in-Some.job c.in-Ok.bytes.items
-    c.loop-job.invariant c.in-Some.ensures.steps.0 (subst (λ path. ReadsAt mid new path c.in-Ok.bytes.items) same c.in-Ok.ensures.ok)
+    c.loop-job.invariant c.in-Some.ensures.steps.0 (subst (λ path. ReadsAt mid new path c.in-Ok.bytes.items) same c.in-Ok.ensures.ok))
 
 pub loop-job-preserved : goal.loop-job-preserved
 loop-job-preserved g c =
