@@ -39,6 +39,17 @@ fn is_added(path: &[u8], answer: Answer) -> bool {
     answer.is_addition && answer.bytes == path.len().saturating_add(7)
 }
 
+/// How many bytes paths have without the last one; each ends with a newline.
+fn length_without_last(paths: &[u8]) -> usize {
+    let Some(last) = paths.strip_suffix(b"\n") else {
+        return 0;
+    };
+    match last.iter().rposition(|byte| *byte == b'\n') {
+        Some(before) => before.saturating_add(1),
+        None => 0,
+    }
+}
+
 /// Standard input as a script. `help` and `?` show help, `list` the objects that are added, `quit` and `exit` end the script, and a
 /// blank line is passed over; all other lines are given as they are typed.
 #[derive(Drop)]
@@ -82,10 +93,8 @@ impl<'a, H: Runtime + AllocGlobal> Prompts<'a, H> {
                 self.added.push(b'\n')?;
             }
         } else if line == b"withdraw".as_slice() {
-            self.added.pop();
-            while !self.added.is_empty() && !self.added.ends_with(b"\n") {
-                self.added.pop();
-            }
+            let length = length_without_last(&self.added);
+            self.added.truncate(length);
         } else if !line.is_empty() {
             let _ = put_hint(self.rt, line);
         }
