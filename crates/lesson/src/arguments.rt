@@ -1,8 +1,8 @@
 //! The arguments of the program.
 use crate::steps;
 use anyhow::{Result, anyhow};
-use surroundings::{Shown, shown_by};
 use std::{env, io};
+use surroundings::{Shown, shown_by};
 
 const USAGE: &str =
     "usage: v7-lesson [-c] [-n STEP] FILE..., or v7-lesson -p FOLDER [-q QUESTIONS] FILE... >PAGE";

@@ -28,12 +28,12 @@ mod symbols;
 mod walk;
 
 use anyhow::{Error, Result};
-use surroundings::show;
 use arguments::{Call, SYNOPSIS, arguments_given, called};
 use link_session::Session;
 use page::write_page;
 use std::process::ExitCode;
 use steps::play;
+use surroundings::show;
 
 /// Does what the arguments ask for, and returns the status.
 fn run(rt: &HostRuntime, session: &mut Session) -> Result<u8> {
