@@ -6,8 +6,8 @@ usage: tests/planted.py [BUG ..]    tries the bugs of all rows, or these; an err
        tests/planted.py -a BUG ..   plays all cases with each bug, and prints those that fail
        tests/planted.py -c          looks only whether each edit fits the code, and the table the edits and the cases
 
-A bug CRATE/NAME is an edit of the crate that the prover refuses, in its must-fail/ or wrong-bodies/. Any other is an edit of
-tests/planted/, with the path from the top. The rows of tests/largest.py and tests/largest_library.py count as cases. The bug is made
+A bug CRATE/NAME is an edit of the crate that the prover refuses, as tests/edits.py finds it. Any other is an edit of tests/planted/, with
+the path from the top. The rows of tests/largest.py and tests/largest_library.py count as cases. The bug is made
 in a copy of the sources, and programs are compiled there with no proof: those that use its crate, one after another, as long as a case
 that the row names does not fail. The other programs are those without a bug. libv7 counts as a program.
 """
@@ -20,6 +20,7 @@ import sys
 import tempfile
 from concurrent.futures import ThreadPoolExecutor
 
+import edits
 import largest
 from compiling import CRATES, NotCompiled, compile_library, compile_program, uses_of
 
@@ -53,34 +54,21 @@ def rows():
     return [(row[1], re.findall(r"`([^`]+)`", row[2])) for row in found if row]
 
 
-def edit_of(bug):
-    """The file of a bug's edit, and the folder that the paths in it begin at."""
+def changed(bug):
+    """The files that a bug changes, by path, with its edit made."""
     crate, _, name = bug.rpartition("/")
-    if not crate:
-        return os.path.join(TOP, "tests", "planted", name + ".edit"), ""
-    found = glob.glob(os.path.join(TOP, "crates", crate, "*", name + ".edit"))
+    if crate:
+        found = [body.text for body in edits.edits_of(crate) if body.name == name]
+    else:
+        found = [edits.read(f"tests/planted/{name}.edit")]
     if len(found) != 1:
         raise Fault(f"crates/{crate} has {len(found)} edits {name}")
-    return found[0], os.path.join("crates", crate)
-
-
-def changed(bug):
-    """The files that a bug changes, by path, with its edit made: pairs of an old text, which is there once, and a new one."""
-    edit, start = edit_of(bug)
-    with open(edit, encoding="utf-8") as lines:
-        words = [line.rstrip("\n").split(": ", 1) for line in lines if re.match("(file|old|new): ", line)]
-    files = {}
-    while words:
-        key, text = words.pop(0)
-        if key == "file":
-            path = os.path.join(start, text)
-            with open(os.path.join(TOP, path), encoding="utf-8") as source:
-                files[path] = source.read()
-            continue
-        if key != "old" or not words or words[0][0] != "new" or files[path].count(text) != 1:
-            raise Fault(f"the old text is there {files[path].count(text)} times")
-        files[path] = files[path].replace(text, words.pop(0)[1])
-    return files
+    start = f"crates/{crate}" if crate else "."
+    try:
+        files = edits.changed(edits.pairs(found[0]), start)
+    except edits.Misfit as misfit:
+        raise Fault(str(misfit)) from None
+    return {os.path.normpath(f"{start}/{path}"): text for path, text in files.items()}
 
 
 def below(crate, uses):

@@ -8,7 +8,7 @@ usage: tests/wrong_bodies.py [-j N] [CRATE ..]   tries all edits of these crates
                                                  error if the file does not tell which those are
        tests/wrong_bodies.py [-j N] --try        tries this script: tests/wrong_bodies_tried.py
 
-A wrong body is an edit in must-fail/ or wrong-bodies/ of a crate: tests/edits.py has its form. A copy has at most one edit for
+A wrong body is an edit in must-fail/ or in the file wrong-bodies of a crate: tests/edits.py has its form. A copy has at most one edit for
 each function. It is checked once, by the kit's `rattle`, with the libraries below it as tests/prove.py proves them and keeps
 them, and over what `rt check` of the crate left, or else its earlier copies. For each edit, the script then reads whether the
 prover refuses the function itself. If it only says that the function calls another one that is not proved, the edit goes into a later
@@ -128,11 +128,11 @@ def changed_lines(text, old, new):
 class Edit:
     """A wrong body, with the function that it changes. None: it changes something else, and is tried alone."""
 
-    def __init__(self, folder, path):
-        self.folder, self.name = folder, os.path.splitext(os.path.basename(path))[0]
+    def __init__(self, folder, body):
+        self.folder, self.name = folder, body.name
         self.waited, self.function, self.alone = False, None, False
         try:
-            self.changes = edits.pairs(path)
+            self.changes = edits.pairs(body.text)
             self.misfit = ""
             edits.changed(self.changes, folder)
             self.function = self.found()
@@ -272,7 +272,7 @@ class Trial:
     def __init__(self, crate, kit, slots, only):
         self.crate, self.kit, self.slots = crate, kit, slots
         self.folder = f"crates/{crate.name}"
-        found = [Edit(self.folder, path) for path in edits.edits_of(crate.name)]
+        found = [Edit(self.folder, body) for body in edits.edits_of(crate.name)]
         self.kept = None
         self.edits = [it for it in found if not only or {crate.name, f"{crate.name}/{it.name}"} & only]
         self.results, self.apart, self.copies, self.seconds = {}, set(), 0, 0
@@ -452,10 +452,9 @@ def digest(crate):
     """The digest of the code and the definitions of a crate, without comments and wherever lines are broken, and of its edits."""
     whole = hashlib.sha256()
     paths = [f"{at}/{file}" for part in ("src", "specs") for at, _, files in os.walk(f"crates/{crate}/{part}") for file in files]
-    texts = [(os.path.relpath(path, f"crates/{crate}"), path) for path in paths]
-    texts += [(f"edits/{os.path.basename(path)}", path) for path in edits.edits_of(crate)]
-    for name, path in sorted(texts):
-        text = edits.read(path)
+    texts = [(os.path.relpath(path, f"crates/{crate}"), edits.read(path)) for path in paths]
+    texts += [(f"edits/{body.name}", body.text) for body in edits.edits_of(crate)]
+    for name, text in sorted(texts):
         if name.endswith(".rt"):
             text = on_one_blank(text)
         elif name.endswith(".antt"):
@@ -559,7 +558,7 @@ def changed_alone(jobs):
 
 def named(names, jobs):
     """Tries the edits of crates, or those that are named CRATE/EDIT. The status to end with."""
-    known = {f"{crate}/{os.path.basename(path)[:-len('.edit')]}" for crate in with_edits() for path in edits.edits_of(crate)}
+    known = {f"{crate}/{body.name}" for crate in with_edits() for body in edits.edits_of(crate)}
     strange = set(names) - known - set(with_edits())
     if strange:
         print(f"no crate with edits, or no edit: {' '.join(sorted(strange))}", file=sys.stderr)

@@ -119,10 +119,11 @@ SOURCES = [
 
 
 def write():
-    """Writes the crate with its edits."""
-    files = dict(FILES)
-    for name, (file, old, new, _) in EDITS.items():
-        files[f"crates/tried/must-fail/{name}.edit"] = f"file: {file}\nold: {old}\nnew: {new}\n"
+    """Writes the crate with its edits, the first of them in must-fail/."""
+    files, first = dict(FILES), next(iter(EDITS))
+    records = {name: f"file: {file}\nold: {old}\nnew: {new}\n" for name, (file, old, new, _) in EDITS.items()}
+    files[f"crates/tried/must-fail/{first}.edit"] = records.pop(first)
+    files["crates/tried/wrong-bodies"] = "\n".join(f"name: {name}\ndoes: it is tried.\n{text}" for name, text in records.items())
     os.mkdir("tests")
     for path, text in files.items():
         os.makedirs(os.path.dirname(path) or ".", exist_ok=True)

@@ -7,7 +7,7 @@ use crate::parts::{put_name_meant, target_number};
 use crate::shapes::{put_labels, put_operands, put_texts};
 use crate::sources::put_sources;
 use crate::symbols::put_lines;
-use anyhow::Result;
+use anyhow::{Result, anyhow};
 use aout_core::{File, Kind, Reloc, Segment, Symbol};
 use link_session::{AddFault, Session, Starts, Target};
 use reports::JsonWriter;
@@ -42,12 +42,15 @@ pub(crate) struct Given {
 }
 
 impl Given {
-    /// Adds the object to a session, and returns why it is refused, if it is.
+    /// Adds the object to a session, and returns why it is refused, if it is. A lack of memory is an error.
     pub(crate) fn add_to(&self, alloc: Global, session: &mut Session) -> Result<Option<AddFault>> {
         let object = object_in(alloc, self.path.as_str(), &self.bytes)?;
         match session.add(self.path.clone()?, object) {
             Ok(()) => Ok(None),
-            Err(refused) => Ok(Some(refused.cause)),
+            Err(refused) => match refused.cause {
+                AddFault::Memory(_) => Err(anyhow!("no memory")),
+                cause => Ok(Some(cause)),
+            },
         }
     }
 
@@ -200,8 +203,7 @@ fn put_file(
     put_labels(out, given, file.symbols());
     put_texts(alloc, out, file)?;
     out.put_key("symbols");
-    put_lines(alloc, out, file.symbols());
-    Ok(())
+    put_lines(alloc, out, file.symbols())
 }
 
 /// Adds an object as it is given.
