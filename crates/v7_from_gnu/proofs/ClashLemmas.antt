@@ -1,7 +1,10 @@
 -- The number of the file that another one clashes with.
-use Rattle.std.proofs.Common.{◌≡◌, ℕ, ◌+◌, ◌<◌, Unit, List, [], ◌∷◌, length, Option, Some, None, arith}
+use Rattle.std.proofs.Common.{◌≡◌, ℕ, ◌+◌, ◌<◌, List, [], ◌∷◌, length, Option, Some, None, refl, subst, arith}
+use Rattle.std.proofs.lemmas.List.{length-map}
 use Rattle.gnu_objects.specs.Clashes.{clash_among, clash_among_from, clash_in, first_clash, found_first}
 use Rattle.gnu_objects.specs.declared.clash.Clash.{Clash}
+use Rattle.v7_from_gnu.specs.Checks.{bytes_of}
+use Rattle.v7_from_gnu.specs.Jobs.{Target}
 
 abbrev IsBelow : ℕ → Option (ℕ × Clash) → Type 0
 IsBelow n None = Unit {0}
@@ -19,6 +22,10 @@ among_below k n (f ∷ files) bytes size =
     (among_below (k + 1) n files bytes (omega arith))
 
 -- it is the number of one of them
-pub clash_within : (files : List (List ℕ)) (bytes : List ℕ) (number : ℕ) (clash : Clash) →
-    clash_among files bytes ≡ Some (number, clash) → number < length files
-clash_within files bytes number clash is = rw is at (among_below 0 (length files) files bytes (omega arith))
+pub clash_within : (before : List Target) (bytes : List ℕ) (number : ℕ) (clash : Clash) →
+    clash_among (bytes_of before) bytes ≡ Some (number, clash) → number < length before
+clash_within before bytes number clash is =
+    let n = length (bytes_of before) in
+    let below : number < n = subst (IsBelow n) is (among_below 0 n (bytes_of before) bytes refl) in
+    let same : n ≡ length before = length-map before (λ (t : Target). t.source.bytes) in
+    omega arith

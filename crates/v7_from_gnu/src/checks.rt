@@ -95,9 +95,12 @@ fn put_beside<'a>(
         Err(Refusal::Memory(refused)) => return Err(Fault::Memory(refused)),
         Err(_) => unreachable!(),
     };
-    match found {
-        Some((number, clash)) => Err(clashing(alloc, &before[number], target, clash)?),
-        None => Ok(()),
+    let Some((number, clash)) = found else {
+        return Ok(());
+    };
+    match before.get(number) {
+        Some(first) => Err(clashing(alloc, first, target, clash)?),
+        None => unreachable!(),
     }
 }
 
