@@ -18,7 +18,8 @@ import time
 import terminal
 
 TOP = terminal.TOP
-SECONDS = 10
+# zsh loads its completion, which takes a while on a machine with other work
+SECONDS = 60
 # what is typed, and what bash offers; ? before it asks for the list, as two tabs do
 WANTED = [
     ("v7 ", ["ld", "nm", "session", "size", "strip", "help", "--help", "--version"]),
@@ -80,37 +81,34 @@ def check_bash(file):
     return count
 
 
-def zsh(folder, typed):
-    """What zsh shows after what is typed and two tabs."""
+def zsh(folder, typed, wanted):
+    """Which of the patterns that are wanted zsh does not show after what is typed and two tabs."""
     process, master = pty.fork()
     if process == 0:
         os.environ.update(TERM="dumb", PS1="> ", COLUMNS="200")
         os.execvp("zsh", ["zsh", "-f", "-i"])
     os.write(master, f"stty cols 200; fpath=({folder} $fpath); autoload -U compinit; compinit -D -u; print READ''Y\n".encode())
-    came, until = b"", time.monotonic() + SECONDS
-    sent = False
-    while time.monotonic() < until and select.select([master], [], [], until - time.monotonic())[0]:
+    came, is_sent, left, until = b"", False, wanted, time.monotonic() + SECONDS
+    while left and time.monotonic() < until and select.select([master], [], [], 1 + until - time.monotonic())[0]:
         came += os.read(master, 65536)
-        if not sent and b"READY" in came.replace(b"READ''Y", b""):
-            came, sent, until = b"", True, time.monotonic() + 3
+        if not is_sent and b"READY" in came:
+            came, is_sent = b"", True
             os.write(master, typed.encode() + b"\t\t")
+        shown = re.sub(r"\x1b\[[0-9;?]*\w", "", came.decode("utf-8", "replace"))
+        left = [pattern for pattern in left if not re.search(pattern, shown, re.M)]
     os.write(master, b"\3exit\n")
     os.close(master)
     os.waitpid(process, 0)
-    return re.sub(r"\x1b\[[0-9;?]*\w", "", came.decode("utf-8", "replace"))
+    return left
 
 
 def check_zsh(folder):
-    shown = zsh(folder, "v7 ld -")
-    for option in options_of("v7-ld"):
-        terminal.holds(f"zsh: v7 ld {option}", re.search(rf"^(-. +)?{option} +(-. +)?-- \w", shown, re.M))
-    shown = zsh(folder, "v7-explain -")
-    for option in options_of("v7-explain") | BESIDE["v7-explain"]:
-        terminal.holds(f"zsh: v7-explain {option}", re.search(rf"^(-. +)?{option} +(-. +)?-- \w", shown, re.M))
-    shown = zsh(folder, "v7 ")
-    terminal.holds("zsh: v7", all(re.search(rf"^{tool} +-- \w", shown, re.M) for tool in terminal.TOOLS))
-    shown = zsh(folder, "v7 ld ma")
-    terminal.holds("zsh: v7 ld ma", "v7 ld main.o" in shown)
+    def explained(names):
+        return [rf"^(-. +)?{name} +(-. +)?-- \w" for name in sorted(names)]
+
+    for typed, wanted in (("v7 ld -", explained(options_of("v7-ld"))), ("v7 ", explained(terminal.TOOLS)), ("v7 ld ma", ["v7 ld main.o"]),
+                          ("v7-explain -", explained(options_of("v7-explain") | BESIDE["v7-explain"]))):
+        terminal.expect(f"zsh: {typed}: not shown", zsh(folder, typed, wanted), [])
 
 
 def main(words):
