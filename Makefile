@@ -12,7 +12,7 @@ endif
 # tests/prove.py uses all processors by itself
 .NOTPARALLEL:
 .PHONY: all quick demo lib install-lib wheel check-lib dist check-dist test gate recheck wrong-bodies check-wrong-bodies memory room bench simulate \
-	lesson page check-page check-manual check-examples check-explain check-cases planted check-model check-streams check-install install uninstall clean
+	lesson page check-page check-page-data check-manual check-examples check-explain check-cases planted check-model check-streams check-install install uninstall clean
 
 all: build/v7 build/v7-from-gnu build/v7-object build/v7-explain build/v7-lesson
 
@@ -180,12 +180,15 @@ bench: build/v7 build/v7-explain build/v7-from-gnu build/v7-object
 	python3 tests/heavy.py build/v7
 	python3 tests/scaling.py build/v7 build/v7-explain build/v7-from-gnu build/v7-object
 
-# links a program of five files, runs it on SIMH's PDP-11, and compares what it prints
+# links a program of five files, and the one of the lesson "Find the fault", whose first _twice is another one; runs both on SIMH's
+# PDP-11, and compares what they print
 simulate: build/v7
-	cd examples && ../build/v7 ld -e _start -o ../build/doubled main.o twice.o count.o print.o start.o
-	sh examples/simulate.sh build/doubled >build/doubled.txt
-	cat build/doubled.txt
-	echo '21 doubled is 42' | cmp - build/doubled.txt
+	for twice in twice.o 'double.o twice.o'; do \
+		(cd examples && ../build/v7 ld -e _start -o ../build/doubled main.o $$twice count.o print.o start.o || test $$? -eq 1) || exit 1; \
+		sh examples/simulate.sh build/doubled >build/doubled.txt || exit 1; \
+		cat build/doubled.txt; \
+		echo '21 doubled is 42' | cmp - build/doubled.txt || exit 1; \
+	done
 
 # adds the objects FILES to a session one by one and takes them out again, and shows each state; docs/teaching/LESSON.md
 lesson: build/v7-lesson
@@ -202,11 +205,15 @@ page: build/v7-lesson
 	mv build/lesson.new build/lesson.html
 	$(if $(FILES),,build/v7-lesson -p page -q $(PROGRAM)/lessons.txt $(PROGRAM_FILES) >build/program.new && mv build/program.new build/program.html)
 
+# compares what the data of pages hold, and the answers of their lessons, with what v7-lesson, v7 ld and v7 nm print; no browser is needed
+check-page-data: build/v7 build/v7-lesson build/v7-explain
+	python3 tests/page_data.py build/v7-lesson build/v7 build/v7-explain page examples/lessons.txt $(PAGE_FILES)
+
 # opens the page in Chromium, goes through all its states, and compares them with what v7-lesson, v7 ld and v7 nm print; measures
 # its stage with sixteen objects, looks at its layout in many sizes, in Firefox too, takes its lessons by keys, and compares
 # docs/pictures with it. It needs Debian's chromium, chromium-driver and
 # python3-selenium, and firefox-esr for Firefox
-check-page: build/v7 build/v7-lesson build/v7-explain
+check-page: check-page-data
 	python3 tests/page.py build/v7-lesson build/v7 build/v7-explain page examples/lessons.txt $(PAGE_FILES)
 
 build/v7-lesson: crates/lesson/out/lesson
@@ -283,6 +290,7 @@ check-examples: build/v7 build/v7-from-gnu build/v7-object build/v7-explain buil
 	cmp crates/v7_object/data/main.lst examples/main.lst
 	sh tests/manual.sh
 	python3 tests/statuses.py build/v7-from-gnu build/v7-lesson
+	python3 tests/assembler.py build/v7-from-gnu
 	for program in v7-from-gnu v7-object v7-explain v7-lesson; do \
 		test "$$(build/$$program --version)" = "$$program $(VERSION)" || { echo "$$program --version: not $(VERSION)"; exit 1; }; \
 	done

@@ -22,18 +22,16 @@ function rowOrder() {
     return order;
 }
 
-// the row of a word, or the fold that has it
-function rowAt(place, part, index, id) {
-    const fold = byId(id) ? null : shownFolds.find((one) => one.place === place && one.part === part && one.start <= index && index < one.end);
+// the row of a word, or the fold that has it in the whole image
+function rowAt(place, part, id) {
+    const fold = byId(id) ? null : shownFolds.find((one) => one.place === place && one.part === part);
     return byId(fold ? fold.id : id);
 }
 
 // the row of a place, or the fold that has it
 function rowOfPlace(state, id) {
-    if (!id || byId(id) || !isWordKey(id)) return byId(id);
-    const [part, offset] = id.split("-");
-    const word = wordAt(state, part, Number(offset));
-    return word && rowAt(word.place, part, word.index, id);
+    const word = byId(id) ? null : wordOf(state, id);
+    return word ? rowAt(word.place, word.part, id) : byId(id);
 }
 
 // the id of the place that is chosen: that of the word, or of the definition of the name
@@ -50,8 +48,7 @@ function chosenPlace(state) {
 // the name that the choice is about: itself, or that for which the chosen word waits
 function chosenName(state) {
     if (chosen.startsWith("name ")) return chosen.slice(5);
-    if (!isWordKey(chosen)) return "";
-    const word = wordAt(state, chosen.split("-")[0], Number(chosen.split("-")[1]));
+    const word = wordOf(state, chosen);
     return word && word.kind < 0 ? word.name : "";
 }
 
@@ -85,7 +82,7 @@ function bundles(state, references) {
     const order = rowOrder();
     const found = { arrows: new Map(), chains: new Map() };
     for (const one of references) {
-        const [row, target] = [rowAt(one.place, one.part, one.index, one.id), rowOfPlace(state, one.to)];
+        const [row, target] = [rowAt(one.place, one.part, one.id), rowOfPlace(state, one.to)];
         const isLine = !one.to && one.name && view.layout < 0;
         if (!row || !(target || isLine)) continue;
         const [all, key] = isLine ? [found.chains, one.name] : [found.arrows, target];
@@ -113,23 +110,35 @@ function giveLanes(all, limit) {
 // where a row is in the image, in pixels
 function boxOf(row, frame) {
     const box = row.getBoundingClientRect();
-    return { left: box.left - frame.left, right: box.right - frame.left, middle: (box.top + box.bottom) / 2 - frame.top };
+    return { left: box.left - frame.left, right: box.right - frame.left, top: box.top - frame.top, bottom: box.bottom - frame.top, middle: (box.top + box.bottom) / 2 - frame.top };
+}
+
+function arrowElement(row, target, line, head) {
+    const isOld = ["bound", "put-back"].some((change) => row.classList.contains(change));
+    const group = svg("g", { class: isOld || chosen ? "arrow strong" : "arrow" }, svg("path", { class: "line", d: line }), svg("path", { class: "head", d: head }));
+    group.dataset.from = row.id;
+    group.dataset.to = target.id;
+    return group;
+}
+
+// the arrow of a cell at the left: down between the cells
+function arrowDown(row, target, from, to, size) {
+    const [x, y] = [from.right + size.gap, to.middle + (to.middle > from.middle ? -1 : 1) * (to.bottom - to.top) / 2];
+    const by = y > from.middle ? -size.head : size.head;
+    return arrowElement(row, target, `M ${from.right} ${from.middle} H ${x} V ${y + by}`, `M ${x} ${y} l ${-size.head / 2} ${by} h ${size.head} z`);
 }
 
 function arrow(row, target, lane, box, size) {
     const [from, to] = [box(row), box(target)];
     const apart = row === target ? ITSELF : APART;
+    if (from.right < to.right - 2 * size.head && row.closest(".cells")) return arrowDown(row, target, from, to, size);
     const [y1, y2] = [from.middle - apart, to.middle + apart];
     const x = from.right + size.head + size.gap * lane;
     const bend = Math.min(size.gap, Math.abs(y2 - y1) / 2) * Math.sign(y2 - y1);
     const turn = Math.min(size.gap, x - from.right);
     const line = `M ${from.right} ${y1} H ${x - turn} Q ${x} ${y1} ${x} ${y1 + bend} V ${y2 - bend} Q ${x} ${y2} ${x - turn} ${y2} H ${to.right + size.head - 3}`;
     const head = `M ${to.right} ${y2} l ${size.head} ${-size.head / 2} v ${size.head} z`;
-    const isOld = ["bound", "put-back"].some((change) => row.classList.contains(change));
-    const group = svg("g", { class: isOld || chosen ? "arrow strong" : "arrow" }, svg("path", { class: "line", d: line }), svg("path", { class: "head", d: head }));
-    group.dataset.from = row.id;
-    group.dataset.to = target.id;
-    return group;
+    return arrowElement(row, target, line, head);
 }
 
 function chainLine(bundle, box, size) {
@@ -150,27 +159,6 @@ function sizes() {
     return { gap, head: 0.7 * rem, dot: 0.75 * rem };
 }
 
-// the word whose distance is drawn: the chosen one, or the first that was bound
-function distanceWord() {
-    const row = chosen ? byId(chosen) : byId("image").querySelector(".word.bound");
-    const word = row && shownWords.get(row.id);
-    return word && word.pc && word.kind > 0 && view.layout < 0 ? word : null;
-}
-
-// a bracket from the place after a word to the place that it refers to, with the distance that the word holds
-function bracket(state, box, size) {
-    const word = distanceWord();
-    const [next, target] = word ? [byId(wordKey(word.part, word.offset + 2)), rowOfPlace(state, word.to)] : [];
-    if (!next || !target || !shownWords.has(target.id)) return [];
-    const [from, to] = [box(next), box(target)];
-    const x = from.left - size.dot - size.gap * (CHAIN_LANES + 1);
-    const text = svg("text", { x: x - 3, y: (from.middle + to.middle) / 2 + 4, "text-anchor": "end" }, shown(word.value));
-    const group = svg("g", { class: "bracket" }, svg("path", { class: "line", d: `M ${x + 6} ${from.middle} H ${x} V ${to.middle} H ${x + 6}` }), text);
-    group.dataset.from = next.id;
-    group.dataset.to = target.id;
-    return [group];
-}
-
 // on purpose there moves: an object that is added, from its card to each of its segments
 function showMoves() {
     const number = view.list[view.list.length - 1];
@@ -179,7 +167,7 @@ function showMoves() {
     const from = card.getBoundingClientRect();
     for (const part of PARTS) {
         const owner = byId(`${part}-of-${number}`);
-        if (!owner || !owner.animate || sideOf(owner, seenPart()) !== 0) continue;
+        if (!owner || !owner.animate) continue;
         const to = owner.getBoundingClientRect();
         const flying = make("div", "flying", owner.textContent);
         flying.style.cssText = `left: ${to.left}px; top: ${to.top}px`;
@@ -198,7 +186,7 @@ const sizeText = ({ width, height }) => `${width} ${height}`;
 function chooseDrawn(state) {
     const references = wantedReferences(state);
     const { arrows, chains } = bundles(state, references);
-    const kept = { arrows: giveLanes(arrows, ARROW_LANES), chains: giveLanes(chains.filter((chain) => chain.rows.length > 1), CHAIN_LANES) };
+    const kept = { arrows: giveLanes(arrows, ARROW_LANES), chains: giveLanes(chains.filter((chain) => chain.rows.length > 1 && !chain.rows[0].closest(".cells")), CHAIN_LANES) };
     const count = (all) => all.reduce((sum, bundle) => sum + bundle.count, 0);
     drawn = { ...kept, left: count(arrows) - count(kept.arrows), references };
 }
@@ -210,11 +198,8 @@ function draw() {
     const box = (row) => boxes.get(row) ?? boxes.set(row, boxOf(row, frame)).get(row);
     const lines = drawn.arrows.flatMap(({ rows, key, lane }) => rows.map((row) => arrow(row, key, lane, box, size)));
     const chains = drawn.chains.map((chain) => chainLine(chain, box, size));
-    const distance = innerWidth < 1280 ? [] : bracket(stateNow(), box, size);
-    const measured = measureEnds(stateNow());
-    byId("drawing").replaceChildren(...lines, ...chains, ...distance);
+    byId("drawing").replaceChildren(...lines, ...chains);
     drawnSize = sizeText(frame);
-    showEnds(stateNow(), measured);
 }
 
 // draws again when the layout changes: by size, zoom, fonts, and on paper
@@ -224,5 +209,4 @@ function watchLayout() {
     }).observe(byId("image"));
     document.fonts.ready.then(draw);
     for (const name of ["resize", "beforeprint", "afterprint"]) window.addEventListener(name, draw);
-    byId("stage").addEventListener("scroll", () => requestAnimationFrame(() => showEnds()), { passive: true });
 }

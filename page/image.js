@@ -1,80 +1,21 @@
-// Puts the merged image on the page. Long segments are folded by their functions; an instruction and its operands stay together,
-// and what has changed or is chosen is not folded.
+// Puts the merged image on the page: the scene of the step or of the choice, or the whole image in its order, in which large
+// objects are folded.
 "use strict";
 
-// a segment of so few words is never folded; a function of so few is unfolded as a whole
+// an object of so few words is open beside the image at first; an image of so few words is never folded
 const FEW = 24;
-const WHOLE = 16;
-const PIECE = 64;
-// how many places a segment without words shows, if nothing refers to more
-const SPOTS = 32;
-// the words that were unfolded, for each segment of an object
-const opened = new Map();
-const openKey = (object, part) => `${object} ${part}`;
+const SMALL = 300;
+// an image of more words is not shown as a whole unless it is wanted
+const MOST = 64;
+// the objects that were unfolded, and whether the whole image is wanted: null, if it is shown where it fits on the stage
+const opened = new Set();
+let isWhole = null;
 
-// the words that have a row, by the ids of these, and the folds that are shown
-const shownWords = new Map();
+// the folds of objects that are shown
 let shownFolds = [];
 
-// adds the words of the unit of a word
-function addUnit(indices, units, index) {
-    if (index < 0 || index >= units.length) return;
-    for (let at = units[index]; at < units.length && units[at] === units[index]; at++) indices.add(at);
-}
-
-// adds the words of a function that are shown, as some of them must be
-function addPiece(indices, units, piece, must) {
-    if (piece.end - piece.start <= WHOLE) for (let index = piece.start; index < piece.end; index++) indices.add(index);
-    else addUnit(indices, units, piece.start);
-    for (const index of must) {
-        addUnit(indices, units, index);
-        addUnit(indices, units, units[index] - 1);
-        let next = index + 1;
-        while (next < units.length && units[next] !== next) next += 1;
-        addUnit(indices, units, next);
-    }
-}
-
-// the words of a segment of an object that are shown although they are many
-function wanted(object, part, front, must) {
-    const indices = new Set();
-    const inside = [];
-    for (const key of must) {
-        const index = (Number(key.slice(part.length + 1)) - front) / 2;
-        if (key.startsWith(`${part}-`) && index >= 0 && index < object[part].length) inside.push(index);
-    }
-    for (const piece of object.pieces[part]) {
-        const own = inside.filter((index) => index >= piece.start && index < piece.end);
-        if (own.length > 0 || piece.end - piece.start < 3) addPiece(indices, object.units[part], piece, own);
-    }
-    for (const index of opened.get(openKey(object.number, part)) ?? []) addUnit(indices, object.units[part], index);
-    return indices;
-}
-
-// the words of a segment of an object, as runs of a function that are shown or folded
-function runsOf(object, part, front, must) {
-    const count = object[part].length;
-    const indices = count > FEW ? wanted(object, part, front, must) : null;
-    const runs = [];
-    for (const piece of object.pieces[part]) {
-        for (let index = piece.start; index < piece.end; index++) {
-            const isShown = !indices || indices.has(index);
-            const last = runs[runs.length - 1];
-            if (last && last.piece === piece && last.isShown === isShown) last.end = index + 1;
-            else runs.push({ isShown, piece, start: index, end: index + 1 });
-        }
-    }
-    for (const run of runs) if (run.end - run.start < 3) run.isShown = true;
-    return runs;
-}
-
-// opens a fold: all of a function, unless it is very long
-function unfold(object, part, start, end) {
-    const key = openKey(object, part);
-    if (!opened.has(key)) opened.set(key, new Set());
-    const last = end - start <= 2 * PIECE ? end : start + PIECE;
-    for (let index = start; index < last; index++) opened.get(key).add(index);
-}
+const isWordKey = (key) => /^(text|data)-\d+$/.test(key);
+const wordOf = (state, key) => (isWordKey(key) ? wordAt(state, key.split("-")[0], Number(key.split("-")[1])) : null);
 
 // ---- labels
 // the names at the words, by the place of the object, the segment and the index; one that counts for nothing is told apart
@@ -93,24 +34,33 @@ function labelsOf(state) {
 }
 
 // the size of a segment in bytes
-function sizeOf(state, segment) {
-    return segment === "bss" ? state.sizes[2] : 2 * (state.sizes[PARTS.indexOf(segment)] ?? 0);
-}
+const sizeOf = (state, segment) => (segment === "bss" ? state.sizes[2] : 2 * (state.sizes[PARTS.indexOf(segment)] ?? 0));
 
 // ---- rows
-function foldRow(context, place, part, run) {
-    const object = context.full.list[place];
-    const front = context.full.fronts[place][PARTS.indexOf(part)];
-    const isWhole = run.start === run.piece.start && run.end === run.piece.end;
-    const name = isWhole && run.piece.names.length > 0 ? `${run.piece.names.join(", ")}: ` : "";
-    const text = `${run.end - run.start} ${name ? "" : "more "}words, ${shown(front + 2 * run.start)} to ${shown(front + 2 * run.end - 2)}`;
-    const key = `fold ${object} ${part} ${run.start} ${run.end}`;
-    const id = `fold-${object}-${part}-${run.start}`;
-    shownFolds.push({ place, part, start: run.start, end: run.end, id });
-    const count = context.references.filter((one) => one.place === place && one.part === part && one.index >= run.start && one.index < run.end).length;
-    const parts = [["span", "label", name], text, ...(count > 0 ? [["b", "count", `${counted(count, "reference")}`]] : []), ["span", "open", "show"]];
+// the row of a word, in a state or cut off by its withdrawal
+function plainRow(context, key) {
+    const { state, full } = context;
+    const isCut = !wordOf(state, key);
+    const word = { ...wordOf(isCut ? full : state, key), isCut };
+    return wordRow(isCut ? full : state, word, context.labels, changeOf(context, word));
+}
+
+// what the last step did to a word
+function changeOf({ changed, isNew }, word) {
+    if (word.isCut) return "cut off";
+    return changed.get(wordKey(word.part, word.offset)) ?? (isNew(word.place) ? "new" : "");
+}
+
+// the fold of an object, in the whole image one for each segment
+function foldRow(context, place, part) {
+    const object = DATA.objects[context.full.list[place]];
+    const count = part ? object[part].length : object.text.length + object.data.length;
+    const id = part ? `fold-${object.number}-${part}` : `fold-${object.number}`;
+    shownFolds.push({ place, part, id });
     const cut = place >= context.state.list.length;
-    return rowOf(id, "fold", key, parts, cut ? "cut off" : context.isNew(place) ? "new" : "");
+    const parts = part ? [] : [["span", "badge", String(object.number + 1)], label(object.number)];
+    const row = rowOf(id, "fold", `fold object ${object.number}`, [...parts, part ? counted(count, "word") : String(count), ...(part ? [["span", "open", "show"]] : [])], cut ? "cut off" : context.isNew(place) ? "new" : "");
+    return withAttributes(row, { "aria-label": `${label(object.number)}, ${counted(count, "word")}, show in the whole image`, title: part ? "" : `${counted(count, "word")}: show in the whole image` });
 }
 
 // a segment's part of the image, with its title: in a link from one address to another
@@ -131,21 +81,10 @@ function ownerOf(object, part) {
 }
 
 function objectRows(context, place, part) {
-    const { state, full } = context;
-    const [object, isCut] = [DATA.objects[full.list[place]], place >= state.list.length];
-    const front = full.fronts[place][PARTS.indexOf(part)];
-    const rows = [ownerOf(object.number, part)];
-    for (const run of runsOf(object, part, front, context.must)) {
-        if (!run.isShown) rows.push(foldRow(context, place, part, run));
-        for (let index = run.start; run.isShown && index < run.end; index++) {
-            const word = { ...imageWord(isCut ? full : state, place, part, index), isCut };
-            const key = wordKey(part, word.offset);
-            if (!isCut) shownWords.set(key, word);
-            const change = isCut ? "cut off" : context.changed.get(key) ?? (context.isNew(place) ? "new" : "");
-            rows.push(wordRow(isCut ? full : state, word, context.labels, change));
-        }
-    }
-    return rows;
+    const object = DATA.objects[context.full.list[place]];
+    const front = context.full.fronts[place][PARTS.indexOf(part)];
+    if (!context.open.has(place)) return [ownerOf(object.number, part), foldRow(context, place, part)];
+    return [ownerOf(object.number, part), ...object[part].map((_, index) => plainRow(context, wordKey(part, front + 2 * index)))];
 }
 
 // ---- places that are no words
@@ -177,7 +116,7 @@ function namesIn(state, kind, bases) {
 function roomRows(context, kind, base) {
     const labels = namesIn(context.state, kind, context.bases);
     const used = [...context.spots.keys()].filter((id) => id.startsWith(`${kind}-`) && /^\w+-\d+$/.test(id));
-    const ids = new Set([...labels.keys(), ...(used.length <= SPOTS ? used : used.filter((id) => context.must.has(id)))]);
+    const ids = new Set([...labels.keys(), ...used]);
     const inOrder = [...ids].sort((a, b) => a.split("-")[1] - b.split("-")[1]);
     return inOrder.map((id) => spotRow(id, column(base + Number(id.split("-")[1])), labels.get(id) ?? [], "empty", ""));
 }
@@ -196,28 +135,6 @@ function edgeRows(context, segment, isBefore) {
     return rows;
 }
 
-// ---- what must be shown
-const isWordKey = (key) => /^(text|data)-\d+$/.test(key);
-
-// adds a word, and what it refers to
-function addWord(must, state, key) {
-    if (!isWordKey(key)) return;
-    const word = wordAt(state, key.split("-")[0], Number(key.split("-")[1]));
-    must.add(key);
-    if (word?.to) must.add(word.to);
-}
-
-// the words that have to be shown: those that changed, what is chosen, and what they refer to. A withdrawal shows the same as the
-// addition that it takes back
-function mustShow(state, changed) {
-    const must = new Set();
-    for (const key of changed.keys()) addWord(must, isLinked(state) ? state : stateShown(), key);
-    addWord(must, state, chosen);
-    const place = chosenPlace(state);
-    if (place) must.add(place);
-    return must;
-}
-
 // the rows of a segment with words
 function partRows(context, part) {
     const rows = context.full.list.flatMap((object, place) => (countOf(object, part) > 0 ? objectRows(context, place, part) : []));
@@ -233,17 +150,26 @@ function roomGroup(context, name, kind, bounds, isLink) {
 function imageContext(state, changed) {
     const full = isLinked(state) ? state : stateShown();
     return {
-        state, full, changed, must: mustShow(state, changed), labels: labelsOf(full), spots: spotsOf(full), references: chosenReferences(state),
+        state, full, changed, labels: labelsOf(full), spots: spotsOf(full),
         bases: isLinked(state) ? state.links[view.layout].bases : null, isNew: (place) => view.gone < 0 && place === state.list.length - 1,
     };
 }
 
-function showImage(state, changed) {
-    const context = imageContext(state, changed);
-    const { full, bases } = context;
+const wordsIn = (full) => full.sizes[0] + full.sizes[1];
+
+// the objects that are not folded in the whole image: all, if they are small, or those with what changed or is chosen
+function openPlaces({ full, changed }) {
+    const places = full.list.map((_, place) => place);
+    if (wordsIn(full) <= SMALL) return new Set(places);
+    const keys = [...changed.keys(), chosen, chosenPlace(full)];
+    const must = new Set(keys.map((key) => wordOf(full, key)).filter(Boolean).flatMap((word) => [word.place, wordOf(full, word.to)?.place]));
+    return new Set(places.filter((place) => must.has(place) || opened.has(full.list[place])));
+}
+
+function wholeGroups(context) {
+    const { state, full, bases } = context;
     const groups = [];
-    shownWords.clear();
-    shownFolds = [];
+    context.open = openPlaces(context);
     for (const part of PARTS.filter((part) => sizeOf(full, part) > 0)) {
         groups.push(groupElement(part, sizeOf(state, part), bases && (part === "text" ? [0, bases[0]] : bases.slice(1, 3)), partRows(context, part)));
     }
@@ -251,8 +177,27 @@ function showImage(state, changed) {
     if (full.sizes[2] > 0) groups.push(roomGroup(context, "bss", "bss", bases ? bases.slice(3, 5) : [0, full.sizes[2]], bases !== null));
     const outside = [...context.spots].filter(([id]) => id.startsWith("outside-"));
     if (outside.length > 0) groups.push(groupElement("outside", null, null, outside.map(([id, number]) => spotRow(id, column(number), [], "outside the program"))));
-    setChildren(byId("image"), groups);
-    byId("image").hidden = full.list.length === 0;
-    byId("image").classList.toggle("linked", bases !== null);
-    byId("fold").setAttribute("aria-disabled", String(opened.size === 0));
+    return groups;
+}
+
+// puts the whole image on the stage, and says whether it fits
+function showWhole(context) {
+    sceneOf = "";
+    byId("image").classList.remove("scene");
+    setChildren(byId("image"), wholeGroups(context));
+    return byId("image").offsetHeight <= byId("stage").clientHeight;
+}
+
+function showImage(state, changed) {
+    const context = imageContext(state, changed);
+    shownFolds = [];
+    byId("image").hidden = context.full.list.length === 0;
+    byId("image").classList.toggle("linked", context.bases !== null);
+    const isThere = isWhole !== false && (isWhole || wordsIn(context.full) <= MOST) && showWhole(context);
+    const whole = isWhole ?? isThere;
+    byId("whole").setAttribute("aria-pressed", String(whole));
+    if (whole) return;
+    shownFolds = [];
+    byId("image").classList.add("scene");
+    showScene(context);
 }

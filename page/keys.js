@@ -2,10 +2,10 @@
 "use strict";
 
 const KEYS = new Map([["w", "withdraw"], ["arrowleft", "back"], ["arrowright", "forth"], ["a", "addresses"], ["d", "decimal"], ["f", "flick"], ["m", "maps"],
-    ["l", "presenter"], ["g", "go"], ["b", "return"]]);
+    ["l", "presenter"], ["o", "whole"]]);
 [..."pnir"].forEach((key, i) => KEYS.set(key, `layout${i}`));
 // the keys that leave the state as it is, and act under an open question too
-const QUIET = new Set(["d", "l", "g", "b"]);
+const QUIET = new Set(["d", "l", "o"]);
 const LISTS = ["image", "names", "marks"];
 
 // for each list the row that keys move from
@@ -35,15 +35,6 @@ function moveTo(list, row) {
     if (key.startsWith("fold ")) setActive();
     else choose(key, list !== "image");
     if (byId(active[list])) bring(byId(active[list]));
-}
-
-// opens a fold, and makes its first word active
-function openFold(key) {
-    const [, object, part, start, end] = key.split(" ");
-    unfold(Number(object), part, Number(start), Number(end));
-    const place = view.list.indexOf(Number(object));
-    active.image = wordKey(part, stateNow().fronts[place][PARTS.indexOf(part)] + 2 * Number(start));
-    showChosen(true, () => byId(active.image));
 }
 
 // what Enter and a click do with a row
@@ -98,13 +89,11 @@ function switchPlace() {
 // what a key does under a question: a digit chooses, or begins a number
 function questionKey(event, key) {
     if (byId("number") && /^[0-9]$/.test(key)) byId("number").focus();
-    else if (byId("number") && key === "n" && byId("choice1")) {
-        byId("choice1").click();
-        byId("next").focus();
-    }
-    else if (/^[1-9]$/.test(key) && byId(`choice${key}`)) {
+    else {
+        const choice = byId(byId("number") && key === "n" ? "choice1" : `choice${key}`);
+        if (!choice) return;
         event.preventDefault();
-        byId(`choice${key}`).click();
+        choice.click();
         byId("next").focus();
     }
 }
@@ -143,17 +132,23 @@ function switchKeys() {
 
 // the buttons of the bar; one that is disabled does nothing
 function watchBar() {
-    const other = () => (view.layout < 0 ? 0 : -1);
     const acts = {
         withdraw, back: () => history.back(), forth: () => history.forward(), keys: switchKeys, guides: () => closeGuide(true),
-        addresses: () => show({ ...view, layout: other() }), decimal: () => show({ ...view, decimal: !view.decimal }),
-        fold: () => { opened.clear(); showChosen(true); }, flick, presenter: switchPresenter,
+        addresses: () => show({ ...view, layout: view.layout < 0 ? 0 : -1 }), decimal: () => show({ ...view, decimal: !view.decimal }),
+        whole: switchWhole, flick, presenter: switchPresenter,
         maps: () => { areMapsShown = !areMapsShown; showMaps(stateNow()); draw(); },
     };
     LAYOUTS.forEach((_, i) => { acts[`layout${i}`] = () => show({ ...view, layout: i }); });
     for (const [id, act] of Object.entries(acts)) {
         byId(id).addEventListener("click", () => { if (byId(id).getAttribute("aria-disabled") !== "true") act(); });
     }
+}
+
+// the whole image in its order, or the scene of the step
+function switchWhole() {
+    isWhole = byId("whole").getAttribute("aria-pressed") !== "true";
+    opened.clear();
+    showChosen(true, firstChanged);
 }
 
 // large words for a projector, without the legend

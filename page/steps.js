@@ -39,22 +39,25 @@ function stepText() {
 }
 
 function showBar() {
-    const isOff = { withdraw: view.list.length === 0, back: at === 0, forth: at === last, flick: view.gone < 0 && view.list.length === 0 };
+    const isOff = { decimal: view.guide > 0, withdraw: view.list.length === 0, back: at === 0, forth: at === last, flick: view.gone < 0 && view.list.length === 0 };
     for (const [id, off] of Object.entries(isOff)) byId(id).setAttribute("aria-disabled", String(off));
     byId("addresses").setAttribute("aria-pressed", String(view.layout >= 0));
     LAYOUTS.forEach((_, i) => byId(`layout${i}`).setAttribute("aria-pressed", String(view.layout === i)));
-    byId("decimal").setAttribute("aria-pressed", String(view.decimal));
+    byId("decimal").setAttribute("aria-pressed", String(isDecimal()));
     byId("flick").setAttribute("aria-pressed", String(view.gone >= 0));
     byId("flick").firstChild.textContent = view.gone >= 0 ? "After " : "Before ";
     setText(byId("image-title"), view.layout < 0 ? "Merged image" : `Addresses, ld ${view.layout > 0 ? LAYOUTS[view.layout] : "with no option"}`);
 }
+
+// whether the segments of a word and of what it refers to have places beside each other: they are one, or a link has placed both
+const isDistance = (word) => SEGMENTS[word.kind] === word.part || view.layout >= 0;
 
 // why a word changed in the last step
 function markText(state, mark) {
     const { part, offset, name, bound } = mark;
     const [word, where] = [wordAt(state, part, offset), `The word at ${part} ${shown(offset)}`];
     if (view.gone >= 0) return `${where} waits for ${name} again, so ${shown(bound)} was subtracted from it: ${markSum(mark, true)}.`;
-    const distance = word.pc && word.kind === 1 ? `, the distance from ${shown(offset + 2)} to ${shown(word.meant)}` : "";
+    const distance = word.pc && isDistance(word) ? `, the distance from ${shown(offset + 2)} to ${shown(word.meant)}` : "";
     return `${where} waited for ${name}. This is at ${shown(bound)} now, so the linker added it: ${markSum(mark, false)}${distance}.`;
 }
 
@@ -94,14 +97,13 @@ function chosenText(state) {
         const known = namesOf(state).find(({ name }) => chosen === `name ${name}`);
         return known ? `${known.name} is ${stateText(known.kind, known.number)}. ${counted(drawn.references.length, "word")} refer${drawn.references.length === 1 ? "s" : ""} to it.` : "";
     }
-    if (!isWordKey(chosen)) return "";
-    const word = wordAt(state, chosen.split("-")[0], Number(chosen.split("-")[1]));
+    const word = wordOf(state, chosen);
     if (!word) return "";
     const where = `The word at ${word.part} ${shown(word.offset)}`;
     if (word.kind < 0) return `${where} waits for ${nameText(word)}, which no object has defined.`;
     if (word.kind === 0 && !word.pc) return `${where} refers to nothing: it stays as it is.`;
     const name = word.own.kind < 0 ? `${nameText(word.own)}, ` : "";
-    return `${where} refers to ${name}${targetText(word)}${placeText(word, sizeOf(state, SEGMENTS[word.kind]))}${word.pc ? ", and holds the distance to it from the place after the word" : ""}.`;
+    return `${where} refers to ${name}${targetText(word)}${placeText(word, sizeOf(state, SEGMENTS[word.kind]))}${!word.pc ? "" : isDistance(word) ? ", and holds the distance to it from the place after the word" : ". The distance comes with a link, which places the segments"}.`;
 }
 
 // for how many names how many words wait
@@ -133,31 +135,51 @@ function bring(row) {
 function showChosen(isAnew, lead = () => null) {
     const state = stateNow();
     const changed = changesOf(view);
-    if (isAnew || [...mustShow(state, changed)].some((key) => isWordKey(key) && !byId(key)) || shownFolds.length > 0) showImage(state, changed);
+    if (isAnew || !isShown(state)) showImage(state, changed);
     chooseDrawn(state);
     showNotes(state);
     const selected = document.querySelectorAll(`[aria-selected=true], [data-key="${CSS.escape(chosen)}"]`);
     for (const row of selected) row.setAttribute("aria-selected", String(row.dataset.key === chosen));
     setActive();
-    showStrip(state);
     bring(lead());
     draw();
 }
 
+// whether what is chosen, and what it refers to, have rows; without a choice the step is shown
+function isShown(state) {
+    if (!chosen) return sceneOf === "";
+    const place = chosenPlace(state);
+    if (!place) return sceneOf === chosen || !byId("image").classList.contains("scene");
+    const to = wordOf(state, place)?.to;
+    return Boolean(byId(place)) && (!to || Boolean(byId(to)) || isAsked());
+}
+
+// another step has no groups unfolded
+let stepBefore = "";
+function forget() {
+    const now = [...view.list, ...(view.gone >= 0 ? [view.gone] : [])].join();
+    if (now === stepBefore) return;
+    if (opened.size > 0) isWhole = null;
+    openGroups.clear();
+    opened.clear();
+    stepBefore = now;
+}
+
 // the first row that the last step changed
-const firstChanged = () => byId("image").querySelector(".word.bound, .word.put-back") ?? byId("image").querySelector(".word.new, .fold.new, .word.cut-off, .fold.cut-off");
+const firstChanged = () => byId("image").querySelector(":scope.scene .word, :scope.scene .fold") ?? byId("image").querySelector(".word.bound, .word.put-back") ?? byId("image").querySelector(".word.new, .word.cut-off") ?? byId("image").querySelector(".fold.new, .fold.cut-off");
 
 function showAll() {
     const state = stateNow();
     const changed = changesOf(view);
     const focus = document.activeElement;
     chosen = "";
-    origin = "";
+    forget();
     clearFound();
     setText(byId("status"), [stepText(), verdict()].filter(Boolean).join(". "));
     showBar();
     showGuide();
     document.body.classList.toggle("guided", view.guide >= 0);
+    document.body.classList.toggle("stepped", view.list.length > 1 || view.gone >= 0);
     showCards();
     showNames(state, changed);
     showMarks();
@@ -242,7 +264,6 @@ function begin() {
     fold();
     watchKeys();
     watchFind();
-    watchEnds();
     watchTabs();
     showAll();
     if (wide.matches) for (const object of DATA.objects) if (object.text.length + object.data.length <= FEW) byId("cards").children[object.number].querySelector("details").open = true;

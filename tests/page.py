@@ -9,25 +9,22 @@ usage: tests/page.py [-p|-s|-r] LESSON V7 EXPLAIN PAGE QUESTIONS FILE...     PAG
        -p plants faults alone, -s measures the stage alone, and -r looks at the rest
 """
 import os
+import random
 import re
 import statistics
-import struct
-import subprocess
 import sys
 import tempfile
 import traceback
 from itertools import permutations
 
+import page_data
 import page_pictures
 from page_browser import Chromium, Firefox, Keys, firefox
+from page_data import LAYOUTS, Tools, faults, made_objects, object_of, program_files, program_in_c, same, sixteen_objects, words_of
 from page_layout import look_everywhere, look_in_firefox
-from page_lessons import bad_questions, lesson_answers, remarks, states_in
-from page_objects import FILES as COMPILED, PLACE, object_like_c, object_of_compiled
 from page_planted import plant_all
-from page_stage import SIZES, UNFOLD, first, response as click_times, stage
+from page_stage import SIZES, WHOLE, first, response as click_times, stage
 from page_use import use_all
-
-LAYOUTS = {"plain": [], "-n": ["-n"], "-i": ["-i"], "-r": ["-r"]}
 
 # what the page shows, as lines of text; a word is its segment and the texts of its parts
 READ = """
@@ -49,80 +46,15 @@ return {
     hash: location.hash, focus: document.activeElement.id };
 """
 
-faults = []
-compared = 0
-
-
-def same(what, shown, wanted):
-    global compared
-    compared += 1
-    if shown != wanted:
-        faults.append(f"{what}\n  the page: {shown}\n  wanted:   {wanted}")
-
-
-def words_of(line):
-    return " ".join(line.split())
-
-
-class Tools:
-    """The programs that the page is compared with."""
-
-    def __init__(self, lesson, v7, explain, page, room):
-        self.lesson, self.v7, self.explain, self.page, self.room = (os.path.abspath(path) for path in (lesson, v7, explain, page, room))
-
-    def page_of(self, files, name="lesson.html", questions=""):
-        path = os.path.join(self.room, name)
-        with open(path, "wb") as out:
-            subprocess.run([self.lesson, "-p", self.page, *(["-q", questions] if questions else []), *files], stdout=out, check=True)
-        return path
-
-    def step(self, number, files):
-        """The lines of a step, after the first."""
-        if not files:
-            return ["nothing"]
-        done = subprocess.run([self.lesson, "-n", str(number), *files], capture_output=True, text=True, check=True)
-        return [words_of(line) for line in done.stdout.splitlines()[1:]]
-
-    def listing(self, file):
-        """A file as v7-explain lists it."""
-        return subprocess.run([self.explain, file], capture_output=True, text=True).stdout
-
-    def calls(self, files):
-        """The places of the calls that the map of a link lists: it has those of their operands, one word after them."""
-        done = subprocess.run([self.explain, "-m", *files], capture_output=True, text=True)
-        return [int(offset, 8) - 2 for offset in re.findall(r"text ([0-7]{6}) .*: jsr pc,", done.stdout)]
-
-    def uses(self, files):
-        """For each name how many words refer to it, by the map of a link."""
-        done = subprocess.run([self.explain, "-m", *files], capture_output=True, text=True)
-        uses, name = {}, ""
-        for line in done.stdout.partition("\nExternals\n")[2].splitlines():
-            found = re.match(r"[0-7 ]{6} [A-Za-z] (\S+)$", line)
-            name = found[1] if found else name
-            used = re.match(r"    (?:used in    )? +\S+ \((\d+)\)$", line) if "common in" not in line else None
-            uses[name] = uses.get(name, 0) + (int(used[1]) if used else 0)
-        return uses
-
-    def link(self, options, files):
-        """The words and the header of a link, its table as `nm -p` has it, its report; or why it is refused."""
-        out = os.path.join(self.room, "linked")
-        done = subprocess.run([self.v7, "ld", *options, "-o", out, *files], capture_output=True, text=True)
-        if done.returncode == 2:
-            return {"refused": done.stderr.strip().split(": ", 1)[1]}
-        with open(out, "rb") as file:
-            data = file.read()
-        header = struct.unpack_from("<8H", data)
-        text = struct.unpack_from(f"<{header[1] // 2}H", data, 16)
-        words = struct.unpack_from(f"<{header[2] // 2}H", data, 16 + header[1])
-        table = subprocess.run([self.v7, "nm", "-p", out], capture_output=True, text=True, check=True).stdout
-        report = done.stdout or "nothing to report\n"
-        return {"header": header, "segments": {"text": text, "data": words}, "table": table, "report": report}
-
-
 class Page(Chromium):
     """The page in Chromium; at the end it has made no errors and loaded no files."""
 
+    # the whole image is shown before it is read
+    shows_all = True
+
     def read(self):
+        if self.shows_all:
+            self.run(WHOLE)
         return self.run(READ)
 
     def quit(self):
@@ -239,7 +171,6 @@ def program(tools, files):
         here = files[:number]
         what = " ".join(os.path.basename(file) for file in here)
         page.type(str(number))
-        page.run(UNFOLD)
         compare_state(tools, page, what, number, here)
         compare_addresses(tools, page, what, here)
     page.quit()
@@ -298,40 +229,6 @@ def by_keyboard(tools, page, files):
     compare_state(tools, page, "1, and arrows", 2, [files[1], files[0]])
 
 
-def scripts(folder):
-    """The scripts are short, and so are their functions."""
-    total = 0
-    for name in sorted(os.listdir(folder)):
-        if name.endswith(".js"):
-            with open(os.path.join(folder, name), encoding="utf-8") as file:
-                lines = file.read().splitlines()
-            total += len(lines)
-            starts = [i for i, line in enumerate(lines) if re.match(r"function |const \w+ = \(.*=> \{$", line)]
-            long = [lines[start] for start in starts if lines[start:].index("}" if lines[start].startswith("function") else "};") >= 39]
-            same(f"long functions of {name}", (long, len(starts) > 0), ([], True))
-    same("lines of scripts", (total <= 2400, total > 0), (True, True))
-
-
-def counts(tools, files):
-    """How many lists a page has, and how many bytes."""
-    for count, lists in ((1, 1), (2, 4), (4, 64), (5, 325), (6, 6)):
-        given = [files[number % len(files)] for number in range(count)]
-        data, size = states_in(tools.page_of(given, "counted.html"))
-        reached = [tuple(state["list"]) for state in data["states"] if state["list"]]
-        orders = [order for n in range(1, count + 1) for order in permutations(range(count), n)]
-        if count > 5:
-            orders = [tuple(range(n)) for n in range(1, count + 1)]
-        same(f"lists of {count} objects", (len(reached), sorted(reached)), (lists, sorted(orders)))
-        same(f"bytes of {count} objects", size <= 5_000_000, True)
-
-
-def object_of(words, symbols):
-    """An object of text words with their relocation words and of symbols."""
-    text = struct.pack(f"<{len(words)}H", *(word for word, _ in words)) + struct.pack(f"<{len(words)}H", *(bits for _, bits in words))
-    table = b"".join(struct.pack("<8sHH", name.encode(), kind, value) for name, kind, value in symbols)
-    return struct.pack("<8H", 0o407, 2 * len(words), 0, 0, len(table), 0, 0, 0) + text + table
-
-
 def large(tools, files):
     """Objects of thousands of words: the page has the words that changed, and folds others."""
     words = [(number % 1000, 0o10 if number % 1500 == 700 else 0) for number in range(6000)]
@@ -346,7 +243,7 @@ def large(tools, files):
     same("bytes of large objects", os.path.getsize(path) <= 5_000_000, True)
     page = Page(path)
     page.type("1", "5")
-    shown = page.read()
+    shown = page.run(READ)
     same("what changed", sorted(word["number"] for word in shown["words"] if word["tag"] == "bound"), [1400, 4400, 7400, 10400])
     same("words that are not folded", 4 < len(shown["words"]) < 100, True)
     page.quit()
@@ -375,11 +272,7 @@ def response(page):
 
 def five_of_500(tools):
     """Each word of five objects of 500 words can be reached, in the image and in each link; what changed is never folded."""
-    given = []
-    for number in range(5):
-        given.append(os.path.join(tools.room, f"five{number}.o"))
-        with open(given[-1], "wb") as out:
-            out.write(object_like_c(number, 500, 5))
+    given = made_objects(tools, 5, 500)
     path = tools.page_of(given, "five.html")
     same("bytes of five objects of 500 words", os.path.getsize(path) <= 5_000_000, True)
     page = Page(path)
@@ -388,12 +281,13 @@ def five_of_500(tools):
         page.open(f"#objects={order}")
         marks = [mark.split() for mark in page.read()["marks"]]
         changed = {(part[0], part[1]) for part in marks if part[0] in ("text", "data") and part[2] == "was"}
-        bound = {(word["segment"], word["offset"]) for word in page.read()["words"] if word["tag"] == "bound"}
-        same(f"{order}: what changed is not folded", bound, changed)
-        before = len(page.read()["words"])
-        page.run("document.querySelector('.fold').click()")
-        same(f"{order}: a click on a fold shows more words", 0 < len(page.read()["words"]) - before <= 128, True)
-        same(f"{order}: folds that are left", page.run(UNFOLD), 0)
+        page.open(f"#objects={order}")
+        bound = {(word["segment"], word["offset"].split()[-1]) for word in page.run(READ)["words"] if word["tag"] == "bound"}
+        counted = page.run("return [...document.querySelectorAll('.more-line')].reduce((sum, row) => sum + Number(row.textContent.match(/and (\\d+) other/)?.[1] ?? 0), 0)")
+        same(f"{order}: what changed is shown, or counted", (bound <= changed, len(bound) + counted), (True, len(changed)))
+        page.run("document.querySelector('#rest .fold').click()")
+        same(f"{order}: a click on a fold shows the words of its object", len(page.run(READ)["words"]) >= 500, True)
+        same(f"{order}: folds that are left", page.run(WHOLE), 0)
         shown = compare_state(tools, page, f"five objects, {order}", len(here), here)
         same(f"{order}: words", len(shown["words"]), 500 * len(here))
         compare_addresses(tools, page, f"five objects, {order}", here)
@@ -402,56 +296,26 @@ def five_of_500(tools):
     return path
 
 
-def refusals(tools, files):
-    """Bad files: the fault's own text, no page, status 2."""
-    cut = os.path.join(tools.room, "cut.o")
-    with open(files[0], "rb") as source, open(cut, "wb") as out:
-        out.write(source.read()[:-5])
-    for path, text in ((cut, "truncated"), (os.path.join(tools.room, "nothing.o"), "cannot open"), (tools.lesson, "bad magic number")):
-        done = subprocess.run([tools.lesson, "-p", tools.page, files[0], path], capture_output=True, text=True)
-        same(f"{path}", (done.returncode, done.stdout, done.stderr), (2, "", f"v7-lesson: {path}: {text}\n"))
-    for words in ([], ["-p"], ["-p", tools.page], ["-p", tools.page, "-q", files[0]], ["-n", files[0]], ["-n", "0", files[0]], ["-n", "3", files[0]],
-                  ["-x", files[0]]):
-        done = subprocess.run([tools.lesson, *words], capture_output=True, text=True)
-        same(f"v7-lesson {words}", (done.returncode, done.stdout, done.stderr[:11]), (2, "", "v7-lesson: "))
-
-
 def full(tools, files):
-    """An object is refused, and a link, each with the text that the programs have."""
-    path = os.path.join(tools.room, "full.o")
-    with open(path, "wb") as out:
-        out.write(object_of([(0, 0)] * 32_767, []))
-    data, _ = states_in(tools.page_of([path, files[0]], "full.html"))
-    refused = [(state["list"], state["object"], state["refused"]) for state in data["states"] if "refused" in state]
-    same("refused", refused, [([0], [1], "text full"), ([1], [0], "text full")])
-    page = Page(tools.page_of([path, files[3]], "full.html"))
+    """A link of a full segment is refused, with the text that the programs have."""
+    page = Page(tools.page_of([page_data.full(tools, files), files[3]], "full.html"))
+    page.shows_all = False
     page.type("1", "2")
-    compare_addresses(tools, page, "full.o l.o", [path, files[3]])
+    compare_addresses(tools, page, "full.o l.o", [os.path.join(tools.room, "full.o"), files[3]])
     page.quit()
 
 
-def same_objects(folder):
-    """The objects of a folder are what the assembler makes of the compiler's files beside them."""
-    names = [name[:-2] for name in sorted(os.listdir(folder)) if name.endswith(".s")]
-    for name in names:
-        with open(os.path.join(folder, f"{name}.o"), "rb") as stored:
-            same(f"{folder}/{name}.o", stored.read() == object_of_compiled(folder, name), True)
-    same(f"objects of {folder}", len(names) > 0, True)
-
-
-def sixteen_objects():
-    """The paths of the sixteen objects of tests/data/page."""
-    same_objects(PLACE)
-    return [os.path.join(PLACE, f"{name}.o") for name in COMPILED]
-
-
 def stages(tools, default, files, compiled, many):
-    """The stage of three pages, in both browsers."""
-    given = program_in_c(files)
-    pages = ((default, files, "the default page"), (tools.page_of(given, "stage.html"), given, "a program in C"), (compiled, many, "sixteen objects"))
+    """The stage of four pages, in both browsers. Of all steps that bind words nine of ten are whole in view."""
+    given, seed = program_in_c(files), random.randrange(10_000)
+    made = made_objects(tools, 8, 60, seed)
+    pages = ((default, files, "the default page"), (tools.page_of(given, "stage.html"), given, "a program in C"), (compiled, many, "sixteen objects"),
+             (tools.page_of(made, "made.html"), made, f"eight objects of seed {seed}"))
     page = Page()
-    for path, given, what in pages:
-        stage(tools, page, path, given, LAYOUTS, same, what)
+    counts = [stage(tools, page, path, given, LAYOUTS, same, what) for path, given, what in pages]
+    steps, whole = (sum(both) for both in zip(*counts))
+    print(f"{whole} of {steps} steps are whole in view at 1366 x 768", flush=True)
+    same("steps whole in view, nine of ten", 10 * whole >= 9 * steps, True)
     page.load(compiled)
     click_times(page, first(len(many)))
     page.quit()
@@ -507,17 +371,7 @@ def compare_states(tools, files, default):
     program(tools, program_files(files))
     large(tools, files)
     full(tools, files)
-    print(f"{compared} things of states were compared", flush=True)
-
-
-def program_files(files):
-    """Five objects of one program."""
-    return [os.path.join(os.path.dirname(files[0]), name) for name in ("start.o", "print.o", "main.o", "twice.o", "count.o")]
-
-
-def program_in_c(files):
-    """The objects of a program in C, with one that has a fault."""
-    return [os.path.join(os.path.dirname(files[0]), "total", name) for name in ("total.o", "say.o", "console.o", "low.o", "limit.o")]
+    print(f"{page_data.compared} things of states were compared", flush=True)
 
 
 def check(tools, only, questions, files):
@@ -526,7 +380,6 @@ def check(tools, only, questions, files):
     many = sixteen_objects()
     compiled = tools.page_of(many, "sixteen.html")
     print(f"bytes of sixteen objects: {os.path.getsize(compiled)}")
-    same("bytes of sixteen objects", os.path.getsize(compiled) <= 1_000_000, True)
     if only in ("", "-p"):
         planted(tools, default, questions, files, compiled, many)
     if only in ("", "-s"):
@@ -536,19 +389,11 @@ def check(tools, only, questions, files):
 
 
 def check_rest(tools, default, files, compiled):
-    """The scripts, files that are refused, the page's use, all states, and the layout."""
-    scripts(tools.page)
-    refusals(tools, files)
-    bad_questions(tools, files, same)
-    counts(tools, files)
-    lesson_answers(tools, default, files, LAYOUTS, same)
+    """The page's use, all states, and the layout."""
     given = program_in_c(files)
-    same_objects(os.path.dirname(given[0]))
     program_page = tools.page_of(given, "course.html", os.path.join(os.path.dirname(given[0]), "lessons.txt"))
-    lesson_answers(tools, program_page, given, LAYOUTS, same, 2, 6)
-    remarks(tools, program_page, given, same)
     page = Page(default)
-    use_all(page, default, program_page, compiled, same)
+    use_all(tools, page, default, program_page, compiled, [(default, files), (program_page, given), (compiled, sixteen_objects())], same)
     page.quit()
     compare_states(tools, files, default)
     layouts(tools, default, program_files(files), five_of_500(tools), compiled)
@@ -563,7 +408,7 @@ def main():
         except (Exception, KeyboardInterrupt) as error:  # the faults that were found are printed all the same
             faults.append(f"{type(error).__name__}: {error}")
             traceback.print_exc()
-    print(f"{compared} things were compared")
+    print(f"{page_data.compared} things were compared")
     for fault in faults[:20]:
         print(fault)
     return 1 if faults else 0

@@ -50,10 +50,12 @@ if (seen(image)) for (const arrow of document.querySelectorAll("g.arrow")) {
     const [start, tip, end] = [spot(line, 0), spot(head, 0), spot(line, line.getTotalLength())];
     const name = `the arrow ${arrow.dataset.from} to ${arrow.dataset.to}`;
     if (!near(start.y, middle(from)) || !near(start.x, from.right)) fault(`${name} starts at ${start.x},${start.y} and not at ${from.right},${middle(from)}`);
-    if (!near(tip.y, middle(to)) || !near(tip.x, to.right) || !near(end.y, middle(to))) fault(`${name} ends at ${tip.x},${tip.y} and not at ${to.right},${middle(to)}`);
+    const isDown = !/Q/.test(line.getAttribute("d"));
+    const edge = tip.y < middle(to) ? to.top : to.bottom;
+    if (isDown ? !near(tip.y, edge) || !near(tip.x, end.x) || tip.x < from.right || tip.x > to.right : !near(tip.y, middle(to)) || !near(tip.x, to.right) || !near(end.y, middle(to))) fault(`${name} ends at ${tip.x},${tip.y} and not at ${to.right},${middle(to)}`);
     crosses(line, name);
     crosses(head, name);
-    lanes.add(Math.round(Number(line.getAttribute("d").match(/Q ([\d.]+)/)[1])));
+    if (!isDown) lanes.add(Math.round(Number(line.getAttribute("d").match(/Q ([\d.]+)/)[1])));
 }
 if (lanes.size > 8) fault(`${lanes.size} lanes`);
 for (const chain of document.querySelectorAll("g.chain")) {
@@ -76,7 +78,7 @@ const FRAMES = ".word, .fold, .name, .mark, .card, button, .segment > h3, .owner
 for (const frame of document.querySelectorAll(FRAMES)) {
     if (!seen(frame)) continue;
     const outer = frame.getBoundingClientRect();
-    if (frame.closest(".adds, .strip, .maps, #stubs")) continue;
+    if (frame.closest(".adds, .maps")) continue;
     const column = (frame.closest(".stage, main, .side, .known, header") ?? document.body).getBoundingClientRect();
     if (outer.right > column.right + 1) fault(`${frame.id || frame.className} is wider than its column`);
     for (const { box, text } of textBoxes(frame)) {
@@ -105,6 +107,15 @@ const badges = [...document.querySelectorAll(".page .tag, .page .badge, .page kb
 counts.badges = badges.length;
 apart(badges.map((badge) => ({ box: badge.getBoundingClientRect(), text: badge.textContent })), "the badges");
 for (const row of document.querySelectorAll(".word, .name, .card .head, .mark")) if (seen(row)) apart(textBoxes(row), "the texts");
+// nothing that can be pressed is covered
+for (const button of document.querySelectorAll("button, summary, input")) {
+    const box = button.getBoundingClientRect();
+    const [x, y] = [(box.left + box.right) / 2, (box.top + box.bottom) / 2];
+    if (!seen(button) || isClipped(button) || button.closest(".adds") || x < 0 || y < 0 || x > innerWidth || y > innerHeight) continue;
+    counts.pressed = (counts.pressed ?? 0) + 1;
+    const above = document.elementFromPoint(x, y);
+    if (!above || !(button.contains(above) || above.contains(button) && !above.matches("#main, .page, body"))) fault(`${button.textContent.trim() || button.id} is covered by ${above?.id || above?.className}`);
+}
 const root = document.documentElement;
 if (root.scrollWidth > root.clientWidth + 1) fault(`the page is ${root.scrollWidth} wide, and the window ${root.clientWidth}`);
 const main = document.getElementById("main");

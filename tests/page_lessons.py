@@ -16,6 +16,7 @@ def states_in(path):
 QUESTIONS = [
     ("ask Which?", 1, "no lesson has begun"),
     ("lesson One\nadd nothing.o", 2, "no step adds nothing.o"),
+    ("lesson One\nadd in.o", 2, "no step adds in.o"),
     ("lesson One\nadd main.o\nadd main.o", 3, "no step adds main.o"),
     ("lesson One\n\nwithdraw", 3, "there is nothing to withdraw"),
     ("lesson One\nlink -s", 2, "there is no link -s"),
@@ -54,6 +55,28 @@ def bad_questions(tools, files, same):
             out.write(text + "\n")
         done = subprocess.run([tools.lesson, "-p", tools.page, "-q", path, *files], capture_output=True, text=True)
         same(f"questions: {text}", (done.returncode, done.stdout, done.stderr), (2, "", f"v7-lesson: {path}: line {line}: {fault}\n"))
+
+
+# a file of questions that has to be accepted: objects that come again, and texts that could end the script of the page
+ACCEPTED = """lesson </script><b>
+add main.o
+withdraw
+add main.o
+say <!-- </script> -->
+lesson Two
+add main.o
+ask name Which?
+name _count
+"""
+
+
+def questions_of_all_kinds(tools, files, same):
+    """A withdrawn object can come again, a lesson begins with no object, and a text is data, whatever it has."""
+    path = os.path.join(tools.room, "accepted.txt")
+    with open(path, "w", encoding="ascii") as out:
+        out.write(ACCEPTED)
+    data, _ = states_in(tools.page_of(files, "accepted.html", path))
+    same("a text that could end the script", [line[1] for line in data["lessons"] if "script" in str(line)], ["</script><b>", "<!-- </script> -->"])
 
 
 def changed_by(states, here, word, rest):

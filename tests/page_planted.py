@@ -8,14 +8,17 @@ import tempfile
 import page_pictures
 from page_layout import look
 from page_lessons import lesson_answers
-from page_stage import VIEW, choices, compare_ends, compare_given, first, moved
+from page_stage import STEP, VIEW, choices, compare_ends, compare_given, first, moved
 from page_use import old_browser
 
 # scripts that plant a fault into the page that is shown, and the measure that has to find it
 STAGE = {
     "an arrow one row off": ("ends", "const original = idOfPlace; idOfPlace = (number) => original(Math.floor(number / WORD) === 1 ? number + 2 : number);"),
     "an arrow to the title of its segment": ("ends", "idOfPlace = ((real) => (number) => real(number).replace(/^data-\\d+$/, 'data'))(idOfPlace);"),
-    "a name dropped": ("view", "document.querySelector('.word.bound .bound-name').remove();"),
+    "an instruction dropped": ("view", "document.querySelector('.word.bound .instruction').remove();"),
+    "a name dropped": ("view", "document.querySelector('.place-line .label').remove();"),
+    "a word left out of its group": ("step", "groupsOf = ((real) => (state, keys) => real(state, keys.slice(1)))(groupsOf); showChosen(true);"),
+    "a count that is one less": ("step", "counted = ((real) => (number, what) => real(what === 'other word' ? number - 1 : number, what))(counted); showChosen(true);"),
     "an old value dropped": ("view", "document.querySelector('.word.bound .was').remove();"),
     "the sentence dropped": ("view", "document.getElementById('note').textContent = '';"),
     "a reference left out": ("choice", "chosenReferences = ((real) => (state) => real(state).slice(1))(chosenReferences);"),
@@ -59,6 +62,9 @@ def on_stage(tools, page, files, layouts, kind, script):
         compare_ends(tools, page, files, layouts, found.same, 5)
     elif kind == "view":
         found.same("in view", [name for name, is_seen in page.run(VIEW).items() if name != "count" and not is_seen], [])
+    elif kind == "step":
+        seen = page.run(STEP)
+        found.same("words in view, or counted", seen["there"] + seen["more"], seen["words"])
     elif kind == "given":
         compare_given(page, files, found.same)
     elif kind == "choice":

@@ -37,10 +37,10 @@ allReferences(state).forEach((one, i) => {
     if (!arrow) return found.push([one.id, "", ""]);
     const row = document.getElementById(arrow.dataset.to);
     const head = arrow.querySelector(".head").getBoundingClientRect(), box = row.getBoundingClientRect();
-    const middle = (head.top + head.bottom) / 2;
-    const isAt = middle > box.top && middle < box.bottom;
+    const [middle, near] = [(head.top + head.bottom) / 2, (one, other) => Math.abs(one - other) <= 2];
+    const isAt = (middle > box.top && middle < box.bottom) || (head.right <= box.right + 2 && (near(head.bottom, box.top) || near(head.top, box.bottom)));
     const fold = row.classList.contains("fold");
-    found.push([one.id, isAt ? row.id : `not at ${row.id}`, fold ? "fold" : row.querySelector(".offset")?.textContent ?? "no row"]);
+    found.push([one.id, isAt ? row.id : `not at ${row.id}`, fold ? "fold" : row.querySelector(".offset")?.textContent.replace(/^[a-z]+ /, "") ?? "no row"]);
 });
 choose("", false);
 return found;
@@ -117,16 +117,12 @@ def compare_ends(tools, page, files, layouts, same, step=1):
     return counts
 
 
-# opens all folds, by pieces, as clicks on them do
-UNFOLD = """
-for (let count = 0; count < 50 && document.querySelector(".fold"); count++) {
-    for (const fold of document.querySelectorAll(".fold")) {
-        const [, object, part, start, end] = fold.dataset.key.split(" ");
-        unfold(Number(object), part, Number(start), Number(end));
-    }
-    showChosen(true);
-}
-return document.querySelectorAll(".fold").length;
+# shows the whole image with each object unfolded, as key o and clicks on all folds do
+WHOLE = """
+isWhole = true;
+for (const object of view.list) opened.add(object);
+showChosen(true);
+return document.querySelectorAll("#image .fold").length;
 """
 GIVEN = """
 const text = (row, name) => row.querySelector(`.${name}`)?.textContent ?? "";
@@ -152,7 +148,7 @@ def words_of_files(files):
 
 def compare_given(page, files, same):
     """A word that refers to a segment has the number that it has in its object too, if that is another one."""
-    page.run(UNFOLD)
+    page.run(WHOLE)
     of_files, shown = words_of_files(files), page.run(GIVEN)
     for word, value, said in shown:
         name, given, is_segment = of_files[word]
@@ -165,7 +161,7 @@ def compare_given(page, files, same):
 PLACES = r"""
 const places = {};
 for (const row of document.querySelectorAll("#image .word, #image .fold, #image .owner, #image h3, #names .name, button")) {
-    if (!row.checkVisibility() || row.closest("#stubs, #guide")) continue;
+    if (!row.checkVisibility() || row.closest("#guide")) continue;
     const box = row.getBoundingClientRect();
     const key = row.id || (row.closest(".segment") ?? row.parentElement).id + " " + (row.dataset.key ?? [...row.parentElement.children].indexOf(row));
     places[key] = [Math.round(10 * box.left) / 10, Math.round(10 * box.top) / 10];
@@ -222,18 +218,26 @@ const note = document.getElementById("note");
 const row = document.querySelector(".word.bound, .word.put-back"), name = document.querySelector(".name.changed, .name.put-back");
 // whether a row shows the instruction that its word belongs to, if it belongs to one
 const showsInstruction = (one) => {
-    const word = wordAt(stateNow(), one.id.split("-")[0], Number(one.id.split("-")[1]));
+    const word = wordOf(stateNow(), one.id);
     const object = DATA.objects[stateNow().list[word.place]];
     const start = word.part === "text" ? object.units.text[word.index] : -1;
-    return start < 0 || !object.instructions.text[start] || Boolean(byId(wordKey("text", word.offset - 2 * (word.index - start)))?.querySelector(".instruction"));
+    const first = byId(wordKey("text", word.offset - 2 * (word.index - start)));
+    return start < 0 || !object.instructions.text[start] || [one, first].some((row) => row?.querySelector(".instruction")?.textContent === object.instructions.text[start]);
+};
+// whether a row has the name for which its word waited, and what the word was; the row of the place has the name too, if it is a word
+const isNamed = (row) => {
+    const [word, names] = [wordOf(stateNow(), row.id), [...row.querySelectorAll(".instruction, .bound-name, .target")].map((part) => part.textContent).join(" ")];
+    const labels = byId(word.to)?.matches(".place-line") && word.own.meant === 0 ? [...byId(word.to).querySelectorAll(".label")].map((part) => part.textContent) : [`${word.own.name}:`];
+    return names.includes(word.own.name) && labels.includes(`${word.own.name}:`) && Boolean(row.querySelector(".was"));
 };
 const changedRows = [...document.querySelectorAll(".word.bound, .word.put-back")];
 return {
     sentence: note.textContent.length > 20 && seen(note, document.body) && note.scrollHeight <= note.clientHeight + 1,
+    status: document.getElementById("status").textContent.length > 5 && seen(document.getElementById("status"), document.body),
     row: !row || seen(row, document.getElementById("stage")),
     name: !name || seen(name, document.getElementById("known")),
     unit: changedRows.every(showsInstruction),
-    bound: changedRows.every((row) => (row.matches(".put-back") || row.querySelector(".bound-name")) && row.querySelector(".was")), count: changedRows.length };
+    bound: changedRows.every(isNamed), count: changedRows.length };
 """
 
 
@@ -256,63 +260,118 @@ def in_view(page, count, sizes, same, what):
     return changed
 
 
+# ---- scenes
+# what is whole in view: of a step its changed words, those that its groups count besides, and its arrows; of a choice its arrow; of a
+# question the right words
+SEEN = r"""
+const stage = document.getElementById("stage").getBoundingClientRect();
+const seen = (row) => {
+    const box = row?.getBoundingClientRect();
+    return Boolean(box) && box.height > 0 && box.top >= stage.top - 2 && box.bottom <= Math.min(stage.bottom, innerHeight) + 2;
+};
+const arrowOf = (key) => document.querySelector(`g.arrow[data-from="${key}"]`);
+const isWholeArrow = (key) => {
+    const to = wordOf(stateNow(), key)?.to;
+    return Boolean(to) && arrowOf(key)?.dataset.to === to && seen(byId(key)) && seen(byId(to));
+};
+const more = [...document.querySelectorAll("#image .more-line")].filter(seen).reduce((sum, row) => sum + Number(row.textContent.match(/and (\d+) other/)?.[1] ?? 0), 0);
+"""
+STEP = SEEN + r"""
+const changed = [...changesOf(view)].filter(([key, how]) => isWordKey(key) && how !== "new").map(([key]) => key);
+const lead = changed.filter((key) => wordOf(stateNow(), key)?.to);
+return { words: changed.length, there: changed.filter((key) => seen(byId(key))).length, more, leading: lead.length, whole: lead.filter(isWholeArrow).length,
+    drawn: document.querySelectorAll("g.arrow").length, cut: [...document.querySelectorAll("g.arrow")].filter((arrow) => ![arrow.dataset.from, arrow.dataset.to].every((id) => seen(byId(id)))).length };
+"""
+CHOSEN = SEEN + r"""
+const keys = allReferences(stateNow()).filter((one) => one.to).map(({ id }) => id);
+const some = keys.filter((_, i) => i % Math.ceil(keys.length / 60) === 0);
+return some.map((key) => {
+    choose(key, true);
+    const isThere = isWholeArrow(key);
+    choose("", false);
+    return isThere ? "" : key;
+});
+"""
+ASKED = SEEN + r"""
+const wait = nextStep();
+if (!wait?.ask || !["word", "changes"].includes(wait.kind)) return null;
+return wait.answers.filter((key) => !seen(byId(key))).length <= more ? [] : wait.answers;
+"""
+
+
+def scenes(page, path, count, same, what):
+    """At 1366 x 768: of the choices in each state nine of ten are whole in view; each changed word is in view, or counted in its group; the
+    right words of each question are on the stage. Returns how many steps bind words, and how many of them are whole in view."""
+    page.load(path)
+    page.size(1366, 768)
+    steps, whole, chosen, wholly = 0, 0, 0, 0
+    for number in range(1, count + 1):
+        page.open("#" + first(number))
+        page.settle()
+        seen = page.run(STEP)
+        if seen["words"]:
+            same(f"{what}, step {number}: changed words in view, or counted", seen["there"] + seen["more"], seen["words"])
+        same(f"{what}, step {number}: arrows with an end out of view", seen["cut"], 0)
+        if seen["leading"]:
+            steps, whole = steps + 1, whole + (seen["whole"] == seen["leading"] and seen["there"] == seen["words"])
+        missing = page.run(CHOSEN)
+        chosen, wholly = chosen + len(missing), wholly + missing.count("")
+    asked = 0
+    for guide in range(1, page.run("return GUIDES.length")):
+        for done in range(page.run("return GUIDES[arguments[0]].steps.length - 1", guide)):
+            page.run("goTo(arguments[0], arguments[1])", guide, done)
+            page.settle()
+            out = page.run(ASKED)
+            asked += out is not None
+            same(f"{what}, question {done + 1} of lesson {guide}: right words that are not on the stage", out or [], [])
+    same(f"{what}: choices whole in view, nine of ten", (10 * wholly >= 9 * chosen, chosen > 0), (True, True))
+    same(f"{what}: steps that bind", steps > 0, True)
+    print(f"whole in view at 1366 x 768, {what}: {whole} of {steps} steps, {wholly} of {chosen} choices; {asked} questions have their right words there", flush=True)
+    return steps, whole
+
+
 # ---- choices
-CHOICE = r"""
+CHOICE = SEEN + r"""
 const [key] = arguments;
 choose(key, true);
-const stage = document.getElementById("stage").getBoundingClientRect();
-const seen = (row) => { const box = row.getBoundingClientRect(); return (box.top + box.bottom) / 2 >= stage.top && (box.top + box.bottom) / 2 <= stage.bottom; };
-const go = document.getElementById("go");
-const line = document.getElementById("ends-text");
-const right = stage.left + document.getElementById("stage").clientWidth;
-const stubs = [...document.querySelectorAll("#stubs button")].filter((stub) => {
-    const box = stub.getBoundingClientRect();
-    return box.width >= 30 && box.left >= stage.left - 1 && box.right <= right + 1;
-});
-const faults = [];
-let ends = 0;
-for (const { key: target, rows } of drawn.arrows) for (const row of rows) {
-    const [from, to] = [seen(row), seen(target)];
-    if (!from && !to) continue;
-    ends += 1;
-    const isLine = go.dataset.to === target.id || go.dataset.to === row.id;
-    const isStub = stubs.some((stub) => stub.dataset.at === (from ? row.id : target.id));
-    if (!(from && to) && !isLine && !isStub) faults.push(`${row.id} to ${target.id}: the other end is off the screen`);
-}
-const folded = [...document.querySelectorAll("#image .fold .count")].reduce((sum, count) => sum + parseInt(count.textContent), 0);
-const rows = new Set([...drawn.arrows, ...drawn.chains].flatMap((bundle) => bundle.rows).filter((row) => !row.classList.contains("fold")));
-const waiting = drawn.references.filter((one) => !one.to && !rows.has(document.getElementById(one.id)) && document.getElementById(one.id)).length;
-const shown = new Set(drawn.arrows.flatMap((bundle) => bundle.rows));
-const nowhere = drawn.references.filter((one) => one.to && !shown.has(rowAt(one.place, one.part, one.index, one.id))).length;
-return { faults, ends, all: drawn.references.length, counted: rows.size + folded + waiting, nowhere, said: line.textContent };
+const arrows = drawn.arrows.flatMap(({ key: target, rows }) => rows.map((row) => [row, target]));
+const faults = arrows.filter((ends) => byId("image").matches(".scene") && !ends.every(seen)).map(([row, target]) => `${row.id} to ${target.id}: an end is out of view`);
+const without = drawn.references.filter((one) => !byId(one.id));
+const groups = new Set(drawn.references.map((one) => byId(one.id)?.closest(".group")));
+const left = without.length === 0 ? 0 : [...groups].reduce((sum, group) => sum + Number(group?.querySelector(".more-line")?.textContent.match(/and (\d+) other/)?.[1] ?? 0), 0);
+const shown = new Set(arrows.map(([row]) => row));
+const nowhere = drawn.references.filter((one) => one.to && byId(one.id) && !shown.has(byId(one.id))).length;
+const counted = drawn.references.filter((one) => byId(one.id)).length + left;
+return { faults, ends: arrows.length, all: drawn.references.length, counted, nowhere, said: document.getElementById("note").textContent };
 """
 
 
 def choices(page, same, what, keys, uses):
-    """Of each choice both ends of an arrow are seen, or the end that is not is named beside the other; all references are counted, and
-    they are no fewer than those of the map."""
+    """Of each choice both ends of each arrow are seen; all references have a row or are counted, and they are no fewer than those of
+    the map."""
     ends = 0
     for key in keys:
         seen = page.run(CHOICE, key)
         ends += seen["ends"]
         same(f"{what}: {key}", (seen["faults"][:2], seen["nowhere"], seen["counted"]), ([], 0, seen["all"]))
         if key.startswith("name "):
-            same(f"{what}: {key} in words", re.match(r"\d+", seen["said"])[0], str(seen["all"]))
+            same(f"{what}: {key} in words", re.search(r"(\d+) words? refer", seen["said"])[1], str(seen["all"]))
             same(f"{what}: {key} has as many references as in the map", seen["all"] >= uses.get(key[5:], 0), True)
     return ends
 
 
-def look_around(page, same):
-    """"go there" leads to the other end, and "back" to where it was."""
-    page.run("choose(arguments[0], true)", page.run("return allReferences(stateNow()).filter((one) => one.to)[0].id"))
-    start = page.run("return document.getElementById('stage').scrollTop")
-    to = page.run("return document.getElementById('go').dataset.to")
-    page.type("g")
-    page.settle()
-    same("go there", page.run("const b = document.getElementById(arguments[0]).getBoundingClientRect(), s = document.getElementById('stage').getBoundingClientRect(); return b.top >= s.top - 1 && b.bottom <= s.bottom + 1", to), True)
-    page.type("b")
-    page.settle()
-    same("back", abs(page.run("return document.getElementById('stage').scrollTop") - start) < 500, True)
+def whole_and_back(page, same):
+    """Key o shows the whole image with the choice, and the scene again; Escape leads back to the step."""
+    word = page.run("return allReferences(stateNow()).filter((one) => one.to)[0].id")
+    page.run("document.activeElement.blur(); choose('', false)")
+    step = page.run("return [...document.querySelectorAll('#image .word')].map((row) => row.id).join()")
+    page.run("choose(arguments[0], true)", word)
+    pressed = page.run("return document.getElementById('whole').getAttribute('aria-pressed')")
+    for wanted in ("true", "false") if pressed == "false" else ("false", "true"):
+        page.type("o")
+        same(f"key o: {wanted}", page.run("return [byId('whole').getAttribute('aria-pressed'), String(!byId('image').matches('.scene')), chosen, Boolean(byId(chosen))]"), [wanted, wanted, word, True])
+    page.type(Keys.ESCAPE)
+    same("Escape", page.run("return [chosen, [...document.querySelectorAll('#image .word')].map((row) => row.id).join()]"), ["", step])
 
 
 # the search, and the places of what it finds
@@ -393,9 +452,11 @@ def stage(tools, page, path, files, layouts, same, what, sizes=SIZES):
         page.size(width, height, scale)
         page.open("#" + first(len(files)))
         counts["arrows of choices"] += choices(page, same, f"{what}, {width} wide", page.run(CHOOSE_FROM, 20), uses)
-        look_around(page, same)
+        whole_and_back(page, same)
+    whole = scenes(page, path, len(files), same, what) if page.counts_processor else (0, 0)
     page.size(1366, 768)
     page.open("#" + first(len(files)))
     counts["found calls"], counts["calls in the map"] = search(tools, page, same, files)
     same("nothing was measured of", [name for name, count in counts.items() if count == 0], [])
     print(f"on the stage, {what}, {page.name}: " + ", ".join(f"{count} {name}" for name, count in counts.items()) + f", in {time.monotonic() - began:.0f} s", flush=True)
+    return whole

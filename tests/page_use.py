@@ -287,6 +287,56 @@ def lessons(page, default, program, same):
     same("Back in a lesson", page.run("return [view.list, document.querySelector('#guide .ask').textContent.slice(0, 10)]"), [[0], "Why is the"])
 
 
+# the wrong answers of the open question, each with the reason that the page gives, and the list that is there
+WRONG_ANSWERS = """
+const wait = nextStep();
+if (!wait?.ask) return [];
+const wrong = choicesOf(wait).filter((one) => !one.isRight);
+const known = namesOf(stateNow()).find(({ name }) => name === wait.name);
+const numbers = { value: [wait.before, wait.number + 2], where: [known?.number ?? 2, (wait.number ?? 0) + 2, 0] }[wait.kind] ?? [];
+for (const number of new Set(numbers)) if (number !== wait.number) wrong.push({ text: octal(number), number, isRight: false });
+return wrong.map((given) => [wait.kind, wait.act?.[0] ?? "", given.text, reasonOf(given, wait), view.list, known ? [known.kind, known.number] : null, wait.before ?? null]);
+"""
+
+
+def reason_wanted(kind, act, text, lines, known, before):
+    """How the reason of a wrong answer begins, or what it has, by what `v7-lesson` says of the state."""
+    if kind in ("word", "changes") and text != "no word":
+        line = next(line for line in lines if line.startswith(text + " "))
+        waits = re.search(r"waits for (\S+)", line)
+        if kind == "changes" and act == "withdraw" and not waits:
+            return "The addition of "
+        return f"It waits for {waits[1]}" if waits else "It is a number" if "a number" in line and " pc " not in line else "refers to "
+    if kind == "changes":
+        return "will change"
+    if kind == "name":
+        return f"{text} is "
+    if kind == "value" and int(text, 8) == before:
+        return "That is what the word is now"
+    if kind == "where" and known and act == "link" and text.isdigit() and int(text, 8) == known[1] and known[0] in ("text", "data", "bss"):
+        return f"That is its offset in {known[0]}"
+    return ""
+
+
+def reasons(tools, page, paths, same):
+    """Each wrong answer has a reason, which follows from the state; each question has a choice that is wrong."""
+    count = 0
+    for path, files in paths:
+        page.load(path)
+        for guide in range(1, page.run("return GUIDES.length")):
+            for done in range(page.run("return GUIDES[arguments[0]].steps.length - 1", guide)):
+                page.run("goTo(arguments[0], arguments[1])", guide, done)
+                wrong = page.run(WRONG_ANSWERS)
+                same(f"lesson {guide}, question {done + 1}: a wrong answer", not page.run("return isAsked()") or len(wrong) > 0, True)
+                for kind, act, text, reason, here, known, before in wrong:
+                    lines = tools.step(len(here), [files[number] for number in here])
+                    wanted = reason_wanted(kind, act, text, lines, known, before)
+                    same(f"lesson {guide}, question {done + 1}, {text}: {reason}", (len(reason) > 15, wanted in reason, "undefined" in reason and kind != "name"), (True, True, False))
+                    count += 1
+    print(f"{count} wrong answers have a reason", flush=True)
+    same("wrong answers", count >= 97, True)
+
+
 NUMBERS = {"12": 10, "10.": 10, "0xa": 10, "0x0A": 10, "9": 9, "-2": 65534, "177776": 65534, "0o12": 10, "x": None, "1g": None}
 
 
@@ -296,6 +346,10 @@ def numbers(page, default, same):
     for text, number in NUMBERS.items():
         seen = page.run("const number = numberOf(arguments[0]); return Number.isNaN(number) ? null : number", text)
         same(f"the number {text}", seen, number)
+    page.open("#objects=1,2&numbers=decimal")
+    same("numbers of a page in decimal", page.run("return ['016', '16', '16.'].map(numberOf)"), [14, 16, 16])
+    page.open("#objects=1&numbers=decimal&lesson=1&done=1")
+    same("a lesson is in octal", page.run("return [byId('decimal').getAttribute('aria-disabled'), document.querySelector('#image .offset').textContent, numberOf('16')]"), ["true", "000000", 14])
 
 
 def leads(page, default, same):
@@ -323,7 +377,7 @@ def leads(page, default, same):
     for number in (2, 3, 4):
         seen = page.run("const button = document.querySelector('#adds button:not([aria-disabled=true])'), box = button.getBoundingClientRect(); button.click(); return box.top >= 0 && box.bottom <= innerHeight")
         same(f"on a phone the buttons stay, {number}", (seen, page.run("return view.list.length")), (True, number))
-        same(f"on a phone the image is seen, {number}", page.run("const box = document.querySelector('.word.new').getBoundingClientRect(); return box.top < innerHeight && box.bottom > 0"), True)
+        same(f"on a phone the image is seen, {number}", page.run("const box = document.querySelector('.word.new, .word.bound').getBoundingClientRect(); return box.top < innerHeight && box.bottom > 0"), True)
     page.size(1366, 768)
     page.open("#objects=1,2,3,4")
     fill = page.run("const row = document.querySelector('.word').getBoundingClientRect(), main = document.getElementById('main').getBoundingClientRect(); return row.width / main.width")
@@ -429,6 +483,11 @@ def paper(page, default, same):
     asked = page.run("return GUIDES[2].steps.filter((step) => step.ask).map((step) => step.ask)")
     same("the handout is printed", page.run("return [window.printed, document.body.classList.contains('handout'), view.guide, view.done]"), [True, False, 2, 0])
     same("questions on paper", [ask for ask in asked for text in texts if ask not in text], [])
+    page.click("handout")
+    first, last = page.run("const parts = [...document.querySelectorAll('#paper > *')]; const asked = parts.filter((part) => part.querySelector('.ask'));"
+                           "return [asked[0].querySelector('.ask').textContent.slice(0, 3), asked.map((part) => part.nextElementSibling?.tagName ?? '')]")
+    same("the first question on paper, and what follows a question", (first, "TABLE" in last), ("1. ", False))
+    same("pc and places on paper", page.run("return [...document.querySelectorAll('#paper tr')].map((row) => row.textContent)")[1], "text000002177774pcwaits for _count")
     same("answers on paper", ("Answer: text 000006" in texts[1], "Answer: text 000006" in texts[0]), (True, False))
 
 
@@ -443,7 +502,22 @@ def motion(page, default, same):
     page.media("")
 
 
-def use_all(page, default, program, compiled, same):
+def distances(page, program, same):
+    """A distance is one within a segment, or in a link; elsewhere the page says that a link makes it."""
+    page.load(program)
+    page.size(1366, 768)
+    page.open("#objects=1,2,3,5")
+    words = page.run("return allReferences(stateNow()).filter((one) => one.to).map((one) => [one.id, wordOf(stateNow(), one.id)]).filter(([, word]) => word.pc).map(([id, word]) => [id, SEGMENTS[word.kind] === word.part])")
+    for word, is_one in words:
+        for key, isTold in (("a", True), ("a", is_one)):
+            page.type(key)
+            page.run("choose(arguments[0], true)", word)
+            said = page.run("return chosenText(stateNow())")
+            same(f"the distance of {word}: {said}", ("holds the distance" in said, "comes with a link" in said), (isTold, not isTold))
+    same("words with and without a distance", {is_one for _, is_one in words}, {True, False})
+
+
+def use_all(tools, page, default, program, compiled, pages, same):
     first_view(page, same)
     roles(page, same)
     stops(page, compiled, same)
@@ -459,3 +533,5 @@ def use_all(page, default, program, compiled, same):
     paper(page, default, same)
     motion(page, default, same)
     old_browser(page, default, same)
+    distances(page, program, same)
+    reasons(tools, page, pages, same)

@@ -19,7 +19,7 @@ static SCRIPTS: [&str; 12] = [
     "image.js",
     "layout.js",
     "drawing.js",
-    "ends.js",
+    "scene.js",
     "search.js",
     "maps.js",
     "lesson.js",
