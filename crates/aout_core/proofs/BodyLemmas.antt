@@ -1,8 +1,8 @@
 -- The bytes after a header, cut into the parts of a file.
 use Rattle.std.proofs.Common.{zero, suc, ◌*◌, length-append, take_at, ◌≡◌, ℕ, ◌+◌, ◌/◌, ◌%◌, ◌≤◌, List}
 use Rattle.std.proofs.Common.{[], ◌∷◌, ◌++◌, take, drop, length, refl, sym, ◌∙◌, ap, arith, length-drop}
-use Rattle.std.proofs.Common.{drop-drop, drop_at, ◌&&◌, eqb, eqb-true}
-use Rattle.std.proofs.lemmas.List.{take-append-le, drop-append-le}
+use Rattle.std.proofs.Common.{append_assoc, drop-drop, drop_at, ◌&&◌, eqb, eqb-true}
+use Rattle.std.proofs.lemmas.List.{take-append-drop, take-append-le, drop-append-le}
 use Rattle.std.proofs.lemmas.Bool.{and_parts}
 use Rattle.std.specs.Prelude.{IsTrue}
 use Rattle.aout_core.specs.declared.header.Header.{Header}
@@ -218,3 +218,22 @@ rows_are_body h text words first second table c sizes rows =
       λ start rest long. made ∙ contents_in-cut h start (all_rows text words first second table) rest text words first
           second table long whole (rows_cut h text words first second table t d f s),
     )
+
+-- bytes that were split at a place
+pub split_there : (n : ℕ) (bytes front back : List ℕ) → front ≡ take n bytes → back ≡ drop n bytes → bytes ≡ front ++ back
+split_there n bytes front back f b = sym ((λ i. f i ++ b i) ∙ take-append-drop n bytes)
+
+joined : (one two rest later bytes : List ℕ) → bytes ≡ one ++ later → later ≡ two ++ rest → bytes ≡ (one ++ two) ++ rest
+joined one two rest later bytes e h = e ∙ ap (λ l. one ++ l) h ∙ sym (append_assoc one two rest)
+
+-- the same for a whole file that was split into its parts
+pub rows_are_file : (h : Header) (bytes start body text r1 words r2 first r3 second r4 table rest : List ℕ) (c : Contents) →
+    IsTrue (has_whole_sizes h) → AreRows h text words first second table c → length start ≡ 16 → bytes ≡ start ++ body →
+    body ≡ text ++ r1 → r1 ≡ words ++ r2 → r2 ≡ first ++ r3 → r3 ≡ second ++ r4 → r4 ≡ table ++ rest → c ≡ contents_in h bytes
+rows_are_file h bytes start body text r1 words r2 first r3 second r4 table rest c sizes rows long e0 e1 e2 e3 e4 e5 =
+    let from_second = joined second table rest r4 r3 e4 e5 in
+    let from_first = joined first (second ++ table) rest r3 r2 e3 from_second in
+    let from_words = joined words (first ++ (second ++ table)) rest r2 r1 e2 from_first in
+    let whole = joined text (words ++ (first ++ (second ++ table))) rest r1 body e1 from_words in
+    let (size, encoded) = rows_are_body h text words first second table c sizes rows in
+    encoded start rest long ∙ ap (contents_in h) (sym (e0 ∙ ap (λ l. start ++ l) whole))

@@ -68,11 +68,18 @@ truncated bytes rest h b good lt =
     let short : nat_lt (length bytes) (file_length h) ≡ true = lt-ltb _ _ (omega (arith, length-begins bytes rest h b)) in
     decode_by bytes rest h b ∙ rw (has_sixteen bytes rest h b, good.magic, good.sizes, short) refl
 
+pub decoded : (bytes : List ℕ) (h : Header) → header_in bytes ≡ h → 16 ≤ length bytes → IsFileHeader h →
+    file_length h ≤ length bytes → decode bytes ≡ Ok (contents_in h bytes)
+decoded bytes h header long good whole =
+    let some : nat_lt (length bytes) 16 ≡ false = le-ltb _ _ long in
+    let all : nat_lt (length bytes) (file_length h) ≡ false = le-ltb _ _ whole in
+    ap (λ (x : Header). decode_with x bytes) header ∙ rw (some, good.magic, good.sizes, all) refl
+
 whole_file : (bytes rest : List ℕ) (h : Header) → Begins bytes rest h → IsFileHeader h →
     file_length h ≤ 16 + length rest → decode bytes ≡ Ok (contents_in h bytes)
 whole_file bytes rest h b good le =
-    let long : nat_lt (length bytes) (file_length h) ≡ false = le-ltb _ _ (omega (arith, length-begins bytes rest h b)) in
-    decode_by bytes rest h b ∙ rw (has_sixteen bytes rest h b, good.magic, good.sizes, long) refl
+    let size = length-begins bytes rest h b in
+    decoded bytes h b.encoded (omega arith) good (omega arith)
 
 -- the end came early: these were all the bytes
 early_end : (bytes : List ℕ) (left : Option (List ℕ)) (before size : ℕ) → EndsEarly (Some bytes) left before size →

@@ -140,7 +140,7 @@ fn fill_items<T: Item>(bytes: &[u8], items: &mut [T])
 }
 
 /// Appends the first `count` items that the bytes encode. There is room for them.
-fn read_items<T: Item>(bytes: &[u8], count: usize, items: &mut Vec<T>)
+pub(crate) fn read_items<T: Item>(bytes: &[u8], count: usize, items: &mut Vec<T>)
     requires within { T.WIDTH * count ≤ length bytes.now }
     requires reserved { vec_len items.old + count ≤ vec_capacity items.old }
     ensures items { items.new.items ≡ items.old.items ++ row_in T.item_in T.WIDTH count bytes.now }

@@ -27,6 +27,7 @@
 //! Functions:
 //!
 //! - `read_file`, `read_object`: reads a file, or an object, from a wire
+//! - `decode_file`: the file that bytes begin with
 //! - `write_file`: writes a file to a wire
 //! - `strip_file`: the file without symbols and relocation
 //! - `is_magic`, `has_whole_sizes`: whether a file may begin with a word, and whether a header has whole sizes
@@ -76,7 +77,7 @@ pub use name::Name;
 pub use object::{Object, ObjectFault, object_fault};
 pub use object_reader::{NoObject, read_object};
 pub use part::Part;
-pub use reader::read_file;
+pub use reader::{decode_file, read_file};
 pub use refused::Refused;
 pub use reloc::{Kind, Reloc};
 pub use shown::{Shown, VERSION, show, shown_by};

@@ -1,15 +1,16 @@
 //! Reading a file.
-ghost use Rattle.std.specs.Prelude.{◌≡◌, ◌↔◌, ◌<◌, false, IfOk, IfErr, OnErr, IfSome, IsTrue};
+ghost use Rattle.std.specs.Prelude.{◌≡◌, ◌↔◌, ◌+◌, ◌<◌, ◌≤◌, false, length, IfOk, IfErr, IsOk, OnErr, IfSome, IsTrue};
 ghost use Rattle.aout_core.specs.Contents.{has_whole_sizes};
 ghost use Rattle.aout_core.specs.Parts.{contents_of};
 ghost use Rattle.aout_core.specs.Encoding.{file_length};
+ghost use Rattle.aout_core.specs.Decoding.{contents_in, decode, header_in};
 ghost use Rattle.aout_core.specs.internal.ReadParts.{HasNoItems, HasCapacity, IsBodyRead, IsHeaderRead, TakesBody};
 ghost use Rattle.aout_core.specs.Reading.{IsFileHeader, IsReadOf, LeavesAfter};
 
 use crate::file::{File, Parts, ReadFault, has_whole_sizes, is_magic};
 use crate::header::Header;
 use crate::incoming::Incoming;
-use crate::item::take_items;
+use crate::item::{read_items, take_items};
 use crate::wire::Wire;
 use std::alloc::{AllocError, Global};
 use std::io::Read;
@@ -130,4 +131,54 @@ pub fn read_file<R: Read>(alloc: Global, wire: &mut Wire<R>) -> Result<File, Rea
 {
     let header = read_header(wire)?;
     read_body(alloc, header, wire)
+}
+
+/// Fills the lists of the parts, in their order, from the bytes of a whole file.
+fn fill_lists(parts: &mut Parts, bytes: &[u8])
+    requires reserved { HasCapacity parts.old.header parts.old }
+    requires sizes { IsTrue (has_whole_sizes parts.old.header) }
+    requires whole { file_length parts.old.header ≤ length bytes.now }
+    ensures { contents_of parts.new ≡ contents_in parts.old.header bytes.now }
+{
+    let header = parts.header;
+    let text_reloc = header.with_relocation(header.text_size) as usize;
+    let data_reloc = header.with_relocation(header.data_size) as usize;
+    let (_, rest) = bytes.split_at(16);
+    let (text, rest) = rest.split_at(header.text_size as usize);
+    let (data, rest) = rest.split_at(header.data_size as usize);
+    let (first, rest) = rest.split_at(text_reloc);
+    let (second, rest) = rest.split_at(data_reloc);
+    let (table, _) = rest.split_at(header.symbol_size as usize);
+    read_items(text, header.text_size as usize / 2, &mut parts.text_words);
+    read_items(data, header.data_size as usize / 2, &mut parts.data_words);
+    read_items(first, text_reloc / 2, &mut parts.text_reloc);
+    read_items(second, data_reloc / 2, &mut parts.data_reloc);
+    read_items(table, header.symbol_size as usize / 12, &mut parts.symbols);
+}
+
+/// The file that bytes begin with, or why they begin with none: as `read_file` reads them from a device that does not fail.
+/// (a.out(5); the refusals: own choice)
+///
+/// Errors: `AllocError` if memory runs out for what a whole file has after its header.
+#[tactic(auto, using(crate::proofs::DecodingLemmas::contents_in_fits))]
+pub fn decode_file(alloc: Global, bytes: &[u8]) -> Result<Result<File, ReadFault>, AllocError>
+    ensures decodes { IfOk result (λ read. read ≡ decode bytes.now) }
+    ensures memory { OnErr result (IsOk (decode bytes.now) × (16 < file_length (header_in bytes.now))) }
+{
+    let Some(start) = bytes.first_chunk::<16>() else {
+        return Ok(Err(ReadFault::ShortHeader));
+    };
+    let header = Header::read(start);
+    if !is_magic(header.magic) {
+        return Ok(Err(ReadFault::BadMagic));
+    }
+    if !has_whole_sizes(&header) {
+        return Ok(Err(ReadFault::OddSize));
+    }
+    if bytes.len() < 16 + header.body_size() {
+        return Ok(Err(ReadFault::Truncated));
+    }
+    let mut parts = parts_with_capacity(alloc, header)?;
+    fill_lists(&mut parts, bytes);
+    Ok(Ok(File::from_parts(parts)))
 }

@@ -13,8 +13,8 @@ pub struct Refused {
 }
 
 impl Refused {
-    /// The refusal that an error of a reader tells, if it tells one. (own choice)
-    pub(crate) fn told_by(error: &io::Error) -> Option<Refused> {
+    /// The refusal that an error of the kind `OutOfMemory` reports. (own choice)
+    pub fn reported_by(error: &io::Error) -> Option<Refused> {
         match error.kind() {
             io::ErrorKind::OutOfMemory => Some(Refused { error: AllocError }),
             _ => None,

@@ -32,7 +32,7 @@ pub fn read_bytes<R: Read>(alloc: Global, source: &mut R) -> Result<Vec<u8>, Fil
     let mut bytes = Vec::new(alloc);
     match source.read_to_end(&mut bytes) {
         Ok(_) => Ok(bytes),
-        Err(error) => match Refused::told_by(&error) {
+        Err(error) => match Refused::reported_by(&error) {
             Some(refused) => Err(FileFault::Memory(refused)),
             None => Err(FileFault::Failed),
         },

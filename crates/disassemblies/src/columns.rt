@@ -193,7 +193,7 @@ pub fn put_disassembly(text: &mut Text, decoder: Decoder, file: &File)
 {
     match NamedFile::new(text.allocator(), file) {
         Ok(named) => put_rows(text, decoder, &named, file),
-        Err(_) => text.cut(),
+        Err(error) => text.cut(error),
     }
 }
 

@@ -80,15 +80,16 @@ pub struct Finding {
 #[derive(Drop)]
 pub struct Findings {
     list: Vec<Finding>,
-    is_cut: bool,
+    refused: Option<AllocError>,
 }
 
 impl Model for Findings {
+    ghost use Rattle.std.specs.Option.{is_some};
     ghost use Rattle.findings.specs.Found.{Collected, all_found};
 
     ghost Value = { Collected };
 
-    ghost view = { λ f. record { found = all_found f.list.items; is_cut = f.is_cut } };
+    ghost view = { λ f. record { found = all_found f.list.items; is_cut = is_some f.refused } };
 }
 
 impl Findings {
@@ -103,7 +104,7 @@ impl Findings {
     {
         Findings {
             list: Vec::new(alloc),
-            is_cut: false,
+            refused: None,
         }
     }
 
@@ -124,20 +125,20 @@ impl Findings {
         ensures { self.new.is_cut ≡ false → (self.old.is_cut ≡ false) × (text.is_cut ≡ false)
             × (self.new.found ≡ self.old.found ++ found_if true place kind text.bytes) }
     {
-        let Ok(text) = text.finish() else {
-            self.is_cut = true;
-            return;
+        let text = match text.finish() {
+            Ok(text) => text,
+            Err(error) => return self.cut(error),
         };
-        if self.list.push(Finding { place, kind, text }).is_err() {
-            self.is_cut = true;
+        if let Err(error) = self.list.push(Finding { place, kind, text }) {
+            self.cut(AllocError::from(error));
         }
     }
 
     /// Cuts the findings: memory ran out for something that one needs.
-    pub fn cut(&mut self)
+    pub fn cut(&mut self, refused: AllocError)
         ensures { self.new.is_cut ≡ true }
     {
-        self.is_cut = true;
+        self.refused = Some(refused);
     }
 
     /// The findings. An error, out of memory, if they are cut.
@@ -145,8 +146,11 @@ impl Findings {
         ensures { IfOk result (λ list.
             (self.is_cut ≡ false) × (all_found list.items ≡ self.found)) }
     {
-        let Findings { list, is_cut } = self;
-        if is_cut { Err(AllocError) } else { Ok(list) }
+        let Findings { list, refused } = self;
+        match refused {
+            Some(error) => Err(error),
+            None => Ok(list),
+        }
     }
 }
 

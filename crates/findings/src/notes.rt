@@ -2,7 +2,7 @@
 ghost use Rattle.std.specs.Prelude.{◌≡◌, ◌∷◌, []};
 ghost use Rattle.findings.specs.Notes.{note_text, AddsNotes};
 
-use std::alloc::Global;
+use std::alloc::{AllocError, Global};
 use std::marker::Model;
 use texts::Text;
 
@@ -10,20 +10,21 @@ use texts::Text;
 #[derive(Drop)]
 pub struct Notes {
     list: Vec<Vec<u8>>,
-    is_cut: bool,
+    refused: Option<AllocError>,
 }
 
 impl Model for Notes {
     ghost use Rattle.std.specs.Prelude.{map};
+    ghost use Rattle.std.specs.Option.{is_some};
     ghost use Rattle.findings.specs.Notes.{Noted};
 
     ghost Value = { Noted };
 
-    ghost view = { λ n. record { lines = map (λ v. v.items) n.list.items; is_cut = n.is_cut } };
+    ghost view = { λ n. record { lines = map (λ v. v.items) n.list.items; is_cut = is_some n.refused } };
 }
 
 impl Notes {
-    ghost use Rattle.std.specs.Prelude.{◌≡◌, ◌++◌, ◌∷◌, [], false, true, map, codes};
+    ghost use Rattle.std.specs.Prelude.{◌≡◌, ◌↔◌, ◌++◌, ◌∷◌, [], false, true, map, codes, IsErr, IsTrue};
     ghost use Rattle.findings.specs.Found.{Holds};
     ghost use Rattle.findings.specs.Notes.{note_text, AddsNotes};
 
@@ -34,7 +35,7 @@ impl Notes {
     {
         Notes {
             list: Vec::new(alloc),
-            is_cut: false,
+            refused: None,
         }
     }
 
@@ -52,12 +53,15 @@ impl Notes {
         ensures { self.new.is_cut ≡ false → (self.old.is_cut ≡ false) × (note.is_cut ≡ false)
             × (self.new.lines ≡ self.old.lines ++ note.bytes ∷ []) }
     {
-        let Ok(line) = note.finish() else {
-            self.is_cut = true;
-            return;
+        let line = match note.finish() {
+            Ok(line) => line,
+            Err(error) => {
+                self.refused = Some(error);
+                return;
+            }
         };
-        if self.list.push(line).is_err() {
-            self.is_cut = true;
+        if let Err(error) = self.list.push(line) {
+            self.refused = Some(AllocError::from(error));
         }
     }
 
@@ -70,11 +74,14 @@ impl Notes {
         self.add(text);
     }
 
-    /// Whether memory ran out.
-    pub fn is_cut(&self) -> bool
-        ensures { result ≡ self.now.is_cut }
+    /// An error if they are cut: out of memory.
+    pub fn whole(&self) -> Result<(), AllocError>
+        ensures { IsErr result ↔ IsTrue self.now.is_cut }
     {
-        self.is_cut
+        match self.refused {
+            Some(error) => Err(error),
+            None => Ok(()),
+        }
     }
 
     /// The notes so far.

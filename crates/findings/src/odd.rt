@@ -395,10 +395,10 @@ fn find_symbols(findings: &mut Findings, source: &Source<'_>)
     let mut seen = BTreeMap::new(findings.allocator());
     let symbols = source.file.symbols();
     for (number, symbol) in symbols.iter().enumerate() {
-        let Ok(first) = first_alike(&mut seen, symbol.name, number) else {
-            return findings.cut();
-        };
-        find_symbol(findings, source, number, first, symbol);
+        match first_alike(&mut seen, symbol.name, number) {
+            Ok(first) => find_symbol(findings, source, number, first, symbol),
+            Err(error) => return findings.cut(error),
+        }
     }
 }
 

@@ -167,7 +167,7 @@ pub fn is_of_gnu(alloc: Global, bytes: &[u8], is_odd: bool) -> Result<bool, Allo
     };
     match convert(alloc, bytes, options) {
         Ok(_) => Ok(true),
-        Err(Refusal::Memory) => Err(AllocError),
+        Err(Refusal::Memory(refused)) => Err(AllocError::from(refused)),
         Err(refusal) => Ok(is_of_gnu_refused(refusal, is_odd)),
     }
 }

@@ -51,7 +51,7 @@ place_with size h (AlikeNames n m) = symbol_place h m
 place_with size h (StabWord n) = word_place h n
 place_with size h (LocalWord n m) = word_place h n
 place_with size h (BadWord fault) = fault_place h fault
-place_with size h Memory = 0
+place_with size h (Memory _) = 0
 
 abbrev pub place_of : List ℕ → Refusal → ℕ
 place_of bytes refusal =

@@ -3,6 +3,7 @@ ghost use Rattle.std.specs.Prelude.{◌≡◌, ◌≢◌, ◌+◌, ◌*◌, ◌/
 ghost use Rattle.aout_core.specs.Contents.{Fits};
 ghost use Rattle.aout_core.specs.Parts.{contents_of};
 ghost use Rattle.aout_core.specs.Encoding.{file_length};
+ghost use Rattle.aout_core.specs.Refusals.{refused};
 ghost use Rattle.gnu_objects.specs.GnuForm.{symbols_of, relocation_of};
 ghost use Rattle.gnu_objects.specs.Staying.{count};
 ghost use Rattle.gnu_objects.specs.GnuRefusals.{first_alike, sizes_refusal, table_refusal};
@@ -118,7 +119,7 @@ fn object_with(
     requires flags { length tables.now.flags.now ≡ length tables.now.symbols.now }
     requires alike { tables.now.alike
         ≡ first_alike tables.now.strings.now 0 tables.now.symbols.now }
-    ensures value { result ≢ Err Refusal.Memory → result ≡ converted_by drops bytes.now header.now
+    ensures value { result ≢ Err (Refusal.Memory refused) → result ≡ converted_by drops bytes.now header.now
         tables.now.strings.now tables.now.symbols.now tables.now.words.now tables.now.flags.now }
     ensures refused { IfSome (table_refusal drops header.now tables.now.strings.now
         tables.now.symbols.now tables.now.words.now tables.now.flags.now) (λ refusal.
@@ -145,7 +146,7 @@ fn convert_rows(
     requires symbols { length symbols.now < 2 ^ 16 }
     requires words { length words.now ≡ header.now.text_size / 2 + header.now.data_size / 2 }
     requires few { length words.now ≤ 2 ^ 16 }
-    ensures { result ≢ Err Refusal.Memory
+    ensures { result ≢ Err (Refusal.Memory refused)
         → result ≡ converted_with options bytes.now header.now strings.now symbols.now words.now }
 {
     let flags = staying(alloc, options.locals, strings, symbols, words)?;
@@ -168,7 +169,7 @@ fn convert_with(
     strings: &[u8],
 ) -> Result<Object, Refusal>
     requires { IsObjectHeader (length bytes.now) header.now }
-    ensures { result ≢ Err Refusal.Memory → result ≡ converted_with options bytes.now header.now
+    ensures { result ≢ Err (Refusal.Memory refused) → result ≡ converted_with options bytes.now header.now
         strings.now (symbols_of bytes.now header.now) (relocation_of bytes.now header.now) }
 {
     let symbols = symbols_of(alloc, bytes, header)?;
@@ -186,7 +187,7 @@ fn convert_with(
 /// 12, for the first two externals. For the first bad word: `StabWord`, 13, or `LocalWord`, 14, and then `BadWord`, 15, as
 /// `Object::from_file` says. `Memory`, 16, comes if memory runs out, but never in place of the first five.
 pub fn convert(alloc: Global, bytes: &[u8], options: Options) -> Result<Object, Refusal>
-    ensures value { result ≢ Err Refusal.Memory → result ≡ converted options bytes.now }
+    ensures value { result ≢ Err (Refusal.Memory refused) → result ≡ converted options bytes.now }
     ensures refused { IfSome (sizes_refusal bytes.now) (λ refusal. result ≡ Err refusal) }
 {
     let header = whole_header(bytes)?;

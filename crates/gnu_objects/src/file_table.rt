@@ -1,6 +1,7 @@
 //! Files whose symbols are read.
 ghost use Rattle.std.specs.Prelude.{◌≡◌, ◌<◌, ◌^◌, IfOk, IfErr, IfSome, Err, None, length, take};
 ghost use Rattle.aout_core.specs.Decoding.{header_in};
+ghost use Rattle.aout_core.specs.Refusals.{refused};
 ghost use Rattle.gnu_objects.specs.declared.refusal.Refusal.TheVariants.{Memory};
 ghost use Rattle.gnu_objects.specs.GnuForm.{strings_of, symbols_of};
 ghost use Rattle.gnu_objects.specs.GnuRefusals.{sizes_refusal};
@@ -36,7 +37,7 @@ impl<'a> FileTable<'a> {
         ensures value { IfOk result (λ file. file ≡ bytes.now) }
         ensures refused { IfSome (sizes_refusal bytes.now) (λ refusal. result ≡ Err refusal) }
         ensures memory { sizes_refusal bytes.now ≡ None
-            → IfErr result (λ refusal. refusal ≡ Memory) }
+            → IfErr result (λ refusal. refusal ≡ Memory refused) }
     {
         let header = whole_header(bytes)?;
         Ok(FileTable {

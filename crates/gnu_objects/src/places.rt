@@ -55,7 +55,7 @@ pub fn place_of(bytes: &[u8], refusal: Refusal) -> usize
     let header = header_of(bytes);
     match refusal {
         Refusal::ShortHeader | Refusal::Truncated => bytes.len(),
-        Refusal::BadMagic(_) | Refusal::Memory => 0,
+        Refusal::BadMagic(_) | Refusal::Memory(_) => 0,
         Refusal::OddSize(size) => size_place(size),
         Refusal::BadStrings => strings_at(&header),
         Refusal::Overlay(n)

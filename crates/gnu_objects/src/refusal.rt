@@ -1,8 +1,9 @@
 //! Why an object in GNU's form is refused.
 ghost use Rattle.std.specs.Prelude.{◌≡◌};
+ghost use Rattle.aout_core.specs.Refusals.{refused};
 ghost use Rattle.gnu_objects.specs.declared.refusal.Refusal.TheVariants.{Memory};
 
-use aout_core::ObjectFault;
+use aout_core::{ObjectFault, Refused};
 use std::alloc::{AllocError, AllocFailed};
 use thiserror::Error;
 
@@ -70,21 +71,21 @@ pub enum Refusal {
     BadWord(ObjectFault),
     /// 16: memory runs out for what is converted.
     #[error("no memory")]
-    Memory,
+    Memory(Refused),
 }
 
 impl From<AllocError> for Refusal {
-    ghost from_gives = { λ _ refusal. refusal ≡ Memory };
+    ghost from_gives = { λ _ refusal. refusal ≡ Memory refused };
 
-    fn from(_error: AllocError) -> Refusal {
-        Refusal::Memory
+    fn from(error: AllocError) -> Refusal {
+        Refusal::Memory(Refused::from(error))
     }
 }
 
 impl<T: Drop> From<AllocFailed<T>> for Refusal {
-    ghost from_gives = { λ _ refusal. refusal ≡ Memory };
+    ghost from_gives = { λ _ refusal. refusal ≡ Memory refused };
 
-    fn from(_error: AllocFailed<T>) -> Refusal {
-        Refusal::Memory
+    fn from(error: AllocFailed<T>) -> Refusal {
+        Refusal::Memory(Refused::from(error))
     }
 }

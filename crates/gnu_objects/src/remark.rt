@@ -1,6 +1,7 @@
 //! What there is to say of names that are cut, and of locals that go because of their names.
 ghost use Rattle.std.specs.Prelude.{◌≡◌, ◌++◌, ◌<◌, ◌^◌, false, IfOk, IfErr, IfSome, OnOk, Err, None, length};
 ghost use Rattle.std.specs.Option.{option_to_list};
+ghost use Rattle.aout_core.specs.Refusals.{refused};
 ghost use Rattle.gnu_objects.specs.declared.refusal.Refusal.TheVariants.{Memory};
 ghost use Rattle.gnu_objects.specs.GnuRefusals.{sizes_refusal};
 ghost use Rattle.gnu_objects.specs.Remarks.{cut_remark, dropped_remark, remark_of, remarks_of, remarks};
@@ -101,7 +102,7 @@ fn remarks_of(
 pub fn remarks(alloc: Global, bytes: &[u8], locals: Locals) -> Result<Vec<Remark>, Refusal>
     ensures value { IfOk result (λ v. v.items ≡ remarks locals bytes.now) }
     ensures refused { IfSome (sizes_refusal bytes.now) (λ refusal. result ≡ Err refusal) }
-    ensures memory { sizes_refusal bytes.now ≡ None → IfErr result (λ refusal. refusal ≡ Memory) }
+    ensures memory { sizes_refusal bytes.now ≡ None → IfErr result (λ refusal. refusal ≡ Memory refused) }
 {
     let header = whole_header(bytes)?;
     let symbols = symbols_of(alloc, bytes, &header)?;

@@ -2,6 +2,7 @@
 ghost use Rattle.std.specs.Prelude.{◌≡◌, ◌&&◌, ◌++◌, ◌∷◌, [], true, IfOk, IfErr, IfSome, IfNone, OnOk, OnErr, Err, None, take};
 ghost use Rattle.std.specs.List.{list_any};
 ghost use Rattle.aout_core.specs.Decoding.{header_in};
+ghost use Rattle.aout_core.specs.Refusals.{refused};
 ghost use Rattle.gnu_objects.specs.declared.refusal.Refusal.TheVariants.{Memory};
 ghost use Rattle.gnu_objects.specs.GnuForm.{strings_of, symbols_of};
 ghost use Rattle.gnu_objects.specs.GnuRefusals.{sizes_refusal};
@@ -90,7 +91,7 @@ impl<'a> Together<'a> {
         ensures clashed { IfOk result (λ found. IfSome found (λ _. self.new ≡ self.old)) }
         ensures refused { IfSome (sizes_refusal bytes.now) (λ refusal. result ≡ Err refusal) }
         ensures memory { sizes_refusal bytes.now ≡ None
-            → IfErr result (λ refusal. refusal ≡ Memory) }
+            → IfErr result (λ refusal. refusal ≡ Memory refused) }
         ensures kept { OnErr result (self.new ≡ self.old) }
     {
         let file = FileTable::read(alloc, bytes)?;

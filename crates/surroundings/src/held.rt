@@ -1,4 +1,5 @@
 //! Standard streams that are closed.
+use aout_core::Refused;
 use std::fs::File;
 use std::os::fd::AsRawFd;
 use std::{fs, io};
@@ -24,10 +25,10 @@ pub fn end(rt: &HostRuntime, program: &str, usage: &str, ended: io::Result<u8>) 
         Ok(status) => return status,
         Err(error) => error,
     };
-    let _ = match error.kind() {
-        io::ErrorKind::OutOfMemory => eprintln!(rt; "{program}: no memory"),
-        io::ErrorKind::InvalidData => rt.eprint(usage),
-        _ => eprintln!(rt; "{program}: /: cannot open"),
+    let _ = match Refused::reported_by(&error) {
+        Some(refused) => eprintln!(rt; "{program}: {refused}"),
+        None if error.kind() == io::ErrorKind::InvalidData => rt.eprint(usage),
+        None => eprintln!(rt; "{program}: /: cannot open"),
     };
     2
 }
