@@ -641,10 +641,6 @@ def _padded(name: str) -> bytes:
     return data.ljust(8, b"\0")
 
 
-def _forced(names: Iterable[str]) -> List[Any]:
-    return _slice(b"".join(map(_padded, names)))
-
-
 def _array(kind: Any, items: Sequence[Any]) -> List[Any]:
     return [(kind * max(len(items), 1))(*items), ctypes.c_size_t(len(items))]
 
@@ -704,6 +700,11 @@ class _Run:
         if given.fault:
             raise Fault(given)
         return _map(status, given)
+
+    def shown(self, form: int, guess: int) -> bytes:
+        """What the session shows in this form, which may have so many bytes. Raises a fault."""
+        count = len(self._names[2])
+        return _given("v7_state", ctypes.c_uint32(form), ctypes.byref(self._request), _room(count), ctypes.c_size_t(count), guess=guess)
 
     def program(self) -> Program:
         return Program(self.status, self.file, self.report)
@@ -945,15 +946,7 @@ class Session:
     def _status(self, status: int) -> int:
         return max(status, int(any(self._replies)))
 
-    def _edits(self) -> List[Any]:
-        return [*_slice(b"a" * len(self._kept)), *_slice(b"".join(self._kept))]
-
-    def _room(self) -> List[Any]:
-        """A room for the replies to the additions, which are all made."""
-        return [_room(len(self._kept)), ctypes.c_size_t(len(self._kept))]
-
     def _shown(self, form: int) -> str:
-        words = [ctypes.c_uint32(form), *_forced(self.forced), *self._edits(), *self._room()]
-        state = _given("v7_state", *words, guess=self._size)
+        state = self._run(0, 0).shown(form, self._size)
         self._size = len(state)
         return state.decode("latin-1")

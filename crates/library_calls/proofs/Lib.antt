@@ -1,10 +1,9 @@
-pub mod TakingLemmas
+pub mod ForcedNameLemmas
 pub mod EachLemmas
 pub mod EditLemmas
 pub mod StateLemmas
 pub mod MapLemmas
 pub mod MemoryLemmas
-pub mod RunLemmas
 pub mod NextLemmas
 pub mod NumberLemmas
 pub mod ListingLemmas

@@ -102,7 +102,7 @@ pub fn take_apart(alloc: Global, bytes: &[u8]) -> Result<PartLists, Cause>
     ensures memory { IfErr result (λ cause.
         cause ≡ Memory → HasBody bytes.now ⊎ IsOk (parts_in bytes.now)) }
 {
-    let (object, _) = first_object(alloc, bytes)?;
+    let object = first_object(alloc, bytes)?;
     Ok(parts_of(alloc, object.file())?)
 }
 
@@ -115,7 +115,7 @@ pub fn read_apart(alloc: Global, bytes: &[u8]) -> Result<FileLists, Cause>
     ensures err { IfErr result (λ cause. cause ≢ Memory → whole_in bytes.now ≡ Err cause) }
     ensures memory { IfErr result (λ cause. cause ≡ Memory → IsOk (whole_in bytes.now)) }
 {
-    let (file, _) = first_file(alloc, bytes)?;
+    let file = first_file(alloc, bytes)?;
     Ok(FileLists {
         header: *file.header(),
         parts: parts_of(alloc, &file)?,

@@ -31,7 +31,7 @@ pub fn disassemble(alloc: Global, bytes: &[u8]) -> Result<Vec<u8>, Cause>
     ensures err { IfErr result (λ cause. cause ≢ Memory → disassembled_in bytes.now ≡ Err cause) }
     ensures memory { IfErr result (λ cause. cause ≡ Memory → IsOk (disassembled_in bytes.now)) }
 {
-    let (file, _) = first_file(alloc, bytes)?;
+    let file = first_file(alloc, bytes)?;
     Ok(disassembly_of(alloc, &file)?)
 }
 

@@ -24,7 +24,7 @@ pub fn check(alloc: Global, bytes: &[u8]) -> Result<usize, Cause>
     ensures err { IfErr result (λ cause. cause ≢ Memory → checked_in bytes.now ≡ Err cause) }
     ensures memory { IfErr result (λ cause. cause ≡ Memory → HasBody bytes.now) }
 {
-    let (object, _) = first_object(alloc, bytes)?;
+    let object = first_object(alloc, bytes)?;
     Ok(file_length(object.file().header()))
 }
 
@@ -47,7 +47,7 @@ pub fn strip(alloc: Global, bytes: &[u8]) -> Result<Vec<u8>, Cause>
     ensures err { IfErr result (λ cause. cause ≢ Memory → stripped_in bytes.now ≡ Err cause) }
     ensures memory { IfErr result (λ cause. cause ≡ Memory → IsOk (stripped_in bytes.now)) }
 {
-    let (file, _) = first_file(alloc, bytes)?;
+    let file = first_file(alloc, bytes)?;
     bytes_of(alloc, &strip_file(file))
 }
 
@@ -69,7 +69,7 @@ pub fn show_sizes(alloc: Global, bytes: &[u8]) -> Result<Vec<u8>, Cause>
     ensures err { IfErr result (λ cause. cause ≢ Memory → sizes_in bytes.now ≡ Err cause) }
     ensures memory { IfErr result (λ cause. cause ≡ Memory → IsOk (sizes_in bytes.now)) }
 {
-    let (file, _) = first_file(alloc, bytes)?;
+    let file = first_file(alloc, bytes)?;
     sizes_of(alloc, file)
 }
 
@@ -94,6 +94,6 @@ pub fn list_symbols(alloc: Global, options: u32, bytes: &[u8]) -> Result<Vec<u8>
     ensures memory { IfErr result (λ cause. cause ≡ Memory → IsOk (names_in options bytes.now)) }
 {
     let choices = nm_options(options)?;
-    let (file, _) = first_file(alloc, bytes)?;
+    let file = first_file(alloc, bytes)?;
     names_of(alloc, choices, file)
 }

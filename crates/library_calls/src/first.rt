@@ -3,7 +3,7 @@ ghost use Rattle.std.specs.Prelude.{◌≡◌, ◌≢◌, ℕ, List, Ok, Err, If
 ghost use Rattle.aout_core.specs.Contents.{has_whole_sizes, is_magic};
 ghost use Rattle.aout_core.specs.Decoding.{contents_in, decode, header_in};
 ghost use Rattle.aout_core.specs.Encoding.{file_length};
-ghost use Rattle.library_calls.specs.FileAnswers.{after_file, file_in, object_in, object_of};
+ghost use Rattle.library_calls.specs.FileAnswers.{file_in, object_in, object_of};
 ghost use Rattle.library_calls.specs.MemoryWanted.{HasBody};
 ghost use Rattle.library_calls.specs.declared.cause.Cause.TheVariants.{Memory};
 
@@ -60,21 +60,17 @@ fn header_alone(alloc: Global, header: Header) -> File
     })
 }
 
-/// The file that the bytes begin with, and the bytes after it. Memory is requested only for what a whole file has after
-/// its header.
-pub(crate) fn first_file(alloc: Global, bytes: &[u8]) -> Result<(File, &[u8]), Cause>
-    ensures file { IfOk result (λ read. decode bytes.now ≡ Ok read.0) }
-    ensures after { IfOk result (λ read. read.1.now ≡ after_file bytes.now) }
+/// The file that the bytes begin with. Memory is requested only for what a whole file has after its header.
+pub(crate) fn first_file(alloc: Global, bytes: &[u8]) -> Result<File, Cause>
+    ensures file { IfOk result (λ file. decode bytes.now ≡ Ok file) }
     ensures err { IfErr result (λ cause. cause ≢ Memory → file_in bytes.now ≡ Err cause) }
     ensures memory { IfErr result (λ cause. cause ≡ Memory → HasBody bytes.now) }
 {
     let header = whole_header(bytes)?;
     if file_length(&header) == 16 {
-        return Ok((header_alone(alloc, header), &bytes[16..]));
+        return Ok(header_alone(alloc, header));
     }
-    let mut wire = Wire::new(bytes);
-    let file = read_file(alloc, &mut wire)?;
-    Ok((file, wire.into_inner()))
+    Ok(read_file(alloc, &mut Wire::new(bytes))?)
 }
 
 /// The file as an object.
@@ -89,13 +85,11 @@ pub(crate) fn object_of(file: File) -> Result<Object, Cause>
     }
 }
 
-/// The object that the bytes begin with, and the bytes after it.
-pub(crate) fn first_object(alloc: Global, bytes: &[u8]) -> Result<(Object, &[u8]), Cause>
-    ensures object { IfOk result (λ read. object_in bytes.now ≡ Ok read.0) }
-    ensures after { IfOk result (λ read. read.1.now ≡ after_file bytes.now) }
+/// The object that the bytes begin with.
+pub(crate) fn first_object(alloc: Global, bytes: &[u8]) -> Result<Object, Cause>
+    ensures object { IfOk result (λ object. object_in bytes.now ≡ Ok object) }
     ensures err { IfErr result (λ cause. cause ≢ Memory → object_in bytes.now ≡ Err cause) }
     ensures memory { IfErr result (λ cause. cause ≡ Memory → HasBody bytes.now) }
 {
-    let (file, after) = first_file(alloc, bytes)?;
-    Ok((object_of(file)?, after))
+    object_of(first_file(alloc, bytes)?)
 }

@@ -42,7 +42,7 @@ pub fn list_file(alloc: Global, bytes: &[u8]) -> Result<Vec<u8>, Cause>
     ensures err { IfErr result (λ cause. cause ≢ Memory → listed_in bytes.now ≡ Err cause) }
     ensures memory { IfErr result (λ cause. cause ≡ Memory → IsOk (listed_in bytes.now)) }
 {
-    let (file, _) = first_file(alloc, bytes)?;
+    let file = first_file(alloc, bytes)?;
     Ok(listing_of(alloc, &file)?)
 }
 

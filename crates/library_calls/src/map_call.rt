@@ -9,9 +9,8 @@ ghost use Rattle.library_calls.specs.declared.cause.Cause.TheVariants.{Memory};
 
 use crate::cause::{Cause, Refusal};
 use crate::first::first_object;
-use crate::link_call::LinkRequest;
 use crate::parts::ObjectBytes;
-use crate::requests::{forced_names, tool_options};
+use crate::requests::{LinkRequest, forced_names, tool_options};
 use link_maps::{LinkMap, MapRecords, Objects, Outcome, map_of, padded, records_of};
 use link_out::{Bases, Linked, Options};
 use link_session::Forced;
@@ -59,7 +58,7 @@ fn take_read(alloc: Global, all: &mut Objects, bytes: &[u8]) -> Result<(), Cause
     ensures memory { IfErr result (λ cause. cause ≡ Memory
         → HasBody bytes.now ⊎ IsOk (with_read (objects (all_of all.old)) bytes.now)) }
 {
-    let (object, _) = first_object(alloc, bytes)?;
+    let object = first_object(alloc, bytes)?;
     all.take(alloc, String::new(alloc), object)?;
     Ok(())
 }
@@ -179,7 +178,7 @@ fn map_objects(
 /// The map of the link of the object that each of the parts begins with, in their order. A link that is refused has one too. (own
 /// choice)
 ///
-/// Errors: those of `link_each` but for 31 to 43, which are in the map.
+/// Errors: those of `run_link` but for 31 to 43, which are in the map.
 pub fn map_link(
     alloc: Global,
     request: &LinkRequest<'_>,

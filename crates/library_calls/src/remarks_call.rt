@@ -163,7 +163,7 @@ pub fn remarks_of(alloc: Global, bytes: &[u8]) -> Result<Remarks, Cause>
     ensures err { IfErr result (λ cause. cause ≡ Memory) }
 {
     match first_file(alloc, bytes) {
-        Ok((file, _)) => Ok(file_remarks(alloc, bytes, &file)?),
+        Ok(file) => Ok(file_remarks(alloc, bytes, &file)?),
         Err(Cause::BadFile(fault)) => {
             let wrong = wrong_bytes(alloc, bytes, fault)?;
             Ok(remarks_by(alloc, wrong, Vec::new(alloc))?)

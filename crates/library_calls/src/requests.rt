@@ -10,6 +10,17 @@ use link_session::Forced;
 use symtools::NmOptions;
 use tool_options::{Flags, Options};
 
+/// What is asked of a link. (ld(1); the bits: own choice)
+#[derive(Clone, Copy)]
+pub struct LinkRequest<'a> {
+    /// The options, a bit each: 1 for `-r`, 2 `-s`, 4 `-x`, 8 `-X`, 16 `-n`, 32 `-i`, 64 `-d`.
+    pub options: u32,
+    /// The name of the entry point, at most 8 bytes; none if it is empty.
+    pub entry: &'a [u8],
+    /// The forced names, 8 bytes each, filled up with NULs.
+    pub forced: &'a [u8],
+}
+
 /// Whether the bit of value `place` is 1.
 pub(crate) fn has_bit(bits: u32, place: u32) -> bool
     requires { 0 < place }

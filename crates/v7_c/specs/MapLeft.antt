@@ -140,8 +140,12 @@ map_left (Ok m) l =
     if is_short m.records l then answered 2 60 0 0 (counts_of m.records) l
     else answered (map_status m.head) 0 0 0 (counts_of m.records) (filled m l)
 
+-- a struct of this size has what every answer fills: all but the buffers
+abbrev pub is_answered : ℕ → Bool
+is_answered size = nat_le 128 size
+
 -- a status, and a struct before and after the call
 pub record LeavesMap (q : Request) (old new : MapAnswer) (status : ℕ) : Type 0 where
   pub answer : Result Mapped Refusal
   pub given : IsMapGiven q old.size answer
-  pub is : left_in status new ≡ map_left answer (left_in 0 old)
+  pub is : left_in status new ≡ (if is_answered old.size then map_left answer (left_in 0 old) else left_in 2 old)
