@@ -4,6 +4,7 @@ use Rattle.std.proofs.Common.{get_or, add-one, map, eqb, if◌then◌else◌, If
 use Rattle.std.proofs.Common.{ap, ◌∙◌, subst, inl, inr, arith, drop-cons}
 use Rattle.std.specs.Prelude.{IfErr, IsOk}
 use Rattle.std.proofs.lemmas.Bool.{ne_eqb}
+use Rattle.aout_core.specs.Refusals.{refused}
 use Rattle.link_session.specs.Edits.{Change, answers, answers_from, survivors, survivors_from}
 use Rattle.link_session.specs.Labelled.{objects}
 use Rattle.link_session.specs.Sessions.{nothing_kept}
@@ -121,14 +122,14 @@ module _ (is_placed : Bool) (forced : List (List ℕ)) (o : Choices) (cs : List 
   run_ok (Err cause) is edits h = tt
 
   pub run_err : (r : Result RunResult Cause) → begun ≡ nothing_kept forced → AreEdited begun k cs numbers →
-      IfErr r (λ cause. cause ≢ Memory → objects_run is_placed k.forced o numbers (objects k.entries) ≡ Err cause) →
-      IfErr r (λ cause. cause ≢ Memory → changes_run is_placed forced o cs ≡ Err cause)
+      IfErr r (λ cause. cause ≢ Memory refused → objects_run is_placed k.forced o numbers (objects k.entries) ≡ Err cause) →
+      IfErr r (λ cause. cause ≢ Memory refused → changes_run is_placed forced o cs ≡ Err cause)
   run_err (Ok given) is edits h = tt
   run_err (Err cause) is edits h = λ other. sym (run_is is edits) ∙ h other
 
   pub run_memory : (r : Result RunResult Cause) → begun ≡ nothing_kept forced → AreEdited begun k cs numbers →
-      IfErr r (λ cause. cause ≡ Memory → IsOk (link k.forced (objects k.entries) o)) →
-      IfErr r (λ cause. cause ≡ Memory → MayRunOutInRun forced o cs)
+      IfErr r (λ cause. cause ≡ Memory refused → IsOk (link k.forced (objects k.entries) o)) →
+      IfErr r (λ cause. cause ≡ Memory refused → MayRunOutInRun forced o cs)
   run_memory (Ok given) is edits h = tt
   run_memory (Err cause) is edits h = λ memory.
       inr (inr (subst IsOk (λ i. link (same_names is edits i) (objects (same_objects is edits i)) o) (h memory)))

@@ -1,6 +1,7 @@
 -- Where memory may run out, stage by stage.
 use Rattle.std.proofs.Common.{◌≡◌, ℕ, List, [], Result, Ok, Err, refl, sym, ap, ◌∙◌, subst, inl, inr}
 use Rattle.std.specs.Prelude.{IfErr, IsOk, IsOkAnd}
+use Rattle.aout_core.specs.Refusals.{refused}
 use Rattle.link_session.specs.Edits.{Change}
 use Rattle.link_session.specs.Labelled.{objects}
 use Rattle.link_session.specs.Sessions.{nothing_kept}
@@ -29,7 +30,7 @@ there_is_one (Err fault) x h = absurd (cc)
 
 -- memory may run out for what is made of a link
 pub memory_after_link : {A : Type 0} (given : Result A Cause) (r : Result Outcome LinkFault) (x : Outcome) →
-    refused_as NotLinked r ≡ Ok x → IfErr given (λ cause. cause ≡ Memory → IsOk r)
+    refused_as NotLinked r ≡ Ok x → IfErr given (λ cause. cause ≡ Memory refused → IsOk r)
 memory_after_link (Ok a) r x h = tt
 memory_after_link (Err cause) r x h = λ memory. there_is_one r x h
 

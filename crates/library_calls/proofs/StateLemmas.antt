@@ -2,6 +2,7 @@
 use Rattle.std.proofs.Common.{◌≡◌, ◌≢◌, ℕ, Result, Ok, List, [], ◌∷◌, ◌++◌, map, length, append_assoc}
 use Rattle.std.proofs.Common.{append-nil, arith, refl, sym, ap, ◌∙◌, subst, Option, Some, None, String, string_bytes}
 use Rattle.std.specs.declared.alloc.Global.{Global}
+use Rattle.aout_core.specs.Refusals.{refused}
 use Rattle.aout_core.specs.Contents.{Contents}
 use Rattle.link_session.specs.declared.entry.AddFault.{AddFault}
 use Rattle.link_session.specs.declared.entry.AddFault.TheVariants.{Memory}
@@ -33,13 +34,13 @@ added_edit old new label o fits h none = record {
   reply = ap (λ r. reply_number (answer_by r)) (sym fits);
 }
 
-limit_is : (r : Option AddFault) (cause : AddFault) → IsCause r cause → (cause ≡ Memory → ⊥) → r ≡ Some cause
+limit_is : (r : Option AddFault) (cause : AddFault) → IsCause r cause → (cause ≡ Memory refused → ⊥) → r ≡ Some cause
 limit_is None cause h other = absurd (other h)
 limit_is (Some limit) cause h other = ap Some (sym h)
 
 -- an object passes a limit, for another cause than memory
 pub refused_edit : (old new : Kept) (o : Contents) (cause : AddFault) (n : ℕ) →
-    IsCause (refusal old.forced (objects old.entries) o) cause → (cause ≡ Memory → ⊥) → new ≡ old → n ≡ number_of (NotAdded cause) →
+    IsCause (refusal old.forced (objects old.entries) o) cause → (cause ≡ Memory refused → ⊥) → new ≡ old → n ≡ number_of (NotAdded cause) →
     IsEdited old new (addition (record { label = []; object = o })) n
 refused_edit old new o cause n h other same is =
     let limit : refusal old.forced (objects old.entries) o ≡ Some cause = limit_is (refusal old.forced (objects old.entries) o) cause h other in

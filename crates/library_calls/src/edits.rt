@@ -1,5 +1,6 @@
 //! Edits of a session: read from letters and objects, and made one by one.
 ghost use Rattle.std.specs.Prelude.{◌≡◌, ◌≢◌, [], map, Ok, Err, IfOk, IfErr, OnErr};
+ghost use Rattle.aout_core.specs.Refusals.{refused};
 ghost use Rattle.link_session.specs.Edits.{addition, withdrawal};
 ghost use Rattle.link_session.specs.Sessions.{labelled};
 ghost use Rattle.library_calls.specs.LinkAnswers.{each_of};
@@ -53,8 +54,8 @@ fn parts_after<'a, 'b>(letter: u8, parts: &'a [ObjectBytes<'b>]) -> &'a [ObjectB
 /// The edit that a letter asks for, with the object that the bytes begin with.
 fn edit_in(alloc: Global, letter: u8, bytes: &[u8]) -> Result<Edit, Cause>
     ensures ok { IfOk result (λ edit. change_in letter bytes.now ≡ Ok (change_of edit)) }
-    ensures err { IfErr result (λ cause. cause ≢ Memory → change_in letter bytes.now ≡ Err cause) }
-    ensures memory { IfErr result (λ cause. cause ≡ Memory → (letter ≡ 97) × HasBody bytes.now) }
+    ensures err { IfErr result (λ cause. cause ≢ Memory refused → change_in letter bytes.now ≡ Err cause) }
+    ensures memory { IfErr result (λ cause. cause ≡ Memory refused → (letter ≡ 97) × HasBody bytes.now) }
 {
     match letter {
         b'a' => Ok(Edit::Add(first_object(alloc, bytes)?)),
@@ -72,15 +73,15 @@ fn take_edit(
 ) -> Result<(), Cause>
     ensures ok { IfOk result (λ _. with_edit letter bytes.now (map change_of edits.old.items)
         ≡ Ok (map change_of edits.new.items)) }
-    ensures err { IfErr result (λ cause. cause ≢ Memory
+    ensures err { IfErr result (λ cause. cause ≢ Memory refused
         → with_edit letter bytes.now (map change_of edits.old.items) ≡ Err cause) }
-    ensures memory { IfErr result (λ cause. cause ≡ Memory → MayRunOutForEdit letter bytes.now) }
+    ensures memory { IfErr result (λ cause. cause ≡ Memory refused → MayRunOutForEdit letter bytes.now) }
 {
     let edit = edit_in(alloc, letter, bytes)?;
-    if edits.push(edit).is_err() {
-        return Err(Cause::Memory);
+    match edits.push(edit) {
+        Ok(()) => Ok(()),
+        Err(error) => Err(Cause::from(AllocError::from(error))),
     }
-    Ok(())
 }
 
 /// The edits of the letters, each addition with the object that the next of the parts begins with.
@@ -92,9 +93,9 @@ pub(crate) fn read_edits(
     ensures ok { IfOk result (λ edits.
         changes_in letters.now (each_of parts.now) ≡ Ok (map change_of edits.items)) }
     ensures err { IfErr result (λ r.
-        r.cause ≢ Memory → changes_in letters.now (each_of parts.now) ≡ Err r) }
+        r.cause ≢ Memory refused → changes_in letters.now (each_of parts.now) ≡ Err r) }
     ensures memory { IfErr result (λ r.
-        r.cause ≡ Memory → MayRunOutInEdits 0 letters.now (each_of parts.now) r.place) }
+        r.cause ≡ Memory refused → MayRunOutInEdits 0 letters.now (each_of parts.now) r.place) }
 {
     let mut edits = Vec::new(alloc);
     let mut rest = parts;
@@ -118,7 +119,7 @@ fn add_or_refuse(alloc: Global, session: &mut Session, object: Object) -> Result
         return Ok(0);
     };
     match refused.cause {
-        AddFault::Memory => Err(AllocError),
+        AddFault::Memory(refused) => Err(AllocError::from(refused)),
         limit => Ok(addition_number(limit)),
     }
 }

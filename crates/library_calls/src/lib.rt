@@ -61,6 +61,7 @@ mod requests;
 mod run_call;
 mod state_call;
 mod taking;
+mod written;
 
 pub use apart::{read_apart, take_apart};
 pub use cause::{Cause, LongPart, Refusal};

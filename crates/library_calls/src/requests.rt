@@ -1,5 +1,6 @@
 //! What is asked of a link.
 ghost use Rattle.std.specs.Prelude.{◌≡◌, ◌≢◌, ◌<◌, IfErr};
+ghost use Rattle.aout_core.specs.Refusals.{refused};
 ghost use Rattle.library_calls.specs.FileAnswers.{has_bit, nm_options_in};
 ghost use Rattle.library_calls.specs.LinkRequests.{choices_in, entry_of, flags_in, forced_in};
 ghost use Rattle.library_calls.specs.declared.cause.Cause.TheVariants.{Memory};
@@ -74,7 +75,7 @@ pub(crate) fn tool_options(bits: u32, entry_name: &[u8]) -> Result<Options, Caus
 /// The forced names, of eight bytes each.
 pub(crate) fn forced_names(bytes: &[u8]) -> Result<Forced, Refusal>
     ensures value { result ≡ forced_in bytes.now }
-    ensures memory { IfErr result (λ r. r.cause ≢ Memory) }
+    ensures memory { IfErr result (λ r. r.cause ≢ Memory refused) }
 {
     if bytes.len() % 8 != 0 {
         return Err(Refusal {

@@ -1,10 +1,10 @@
 //! A link or a session of objects whose bytes are apart, with its report as lines and as a list.
 ghost use Rattle.std.specs.Prelude.{◌≡◌, ◌≢◌, map, Ok, Err, IsOk, IfOk, IfErr};
+ghost use Rattle.aout_core.specs.Refusals.{refused};
 ghost use Rattle.link_session.specs.Labelled.{objects};
 ghost use Rattle.link_out.specs.Outcomes.{outcome_of, report_names};
 ghost use Rattle.link_out.specs.Steps.{refused_as};
 ghost use Rattle.link_out.specs.function.Link.{link};
-ghost use Rattle.link_out.specs.function.Reports.{report_text};
 ghost use Rattle.library_calls.specs.LinkAnswers.{each_of};
 ghost use Rattle.library_calls.specs.MemoryWanted.{LinkMayRunOut, MayRunOutInLink, MayRunOutInRun, SessionMayRunOut};
 ghost use Rattle.library_calls.specs.RunAnswers.{changes_run, link_run, objects_run, parts_run, places_if, results_of, run_output, session_run};
@@ -13,12 +13,11 @@ ghost use Rattle.library_calls.specs.declared.cause.Cause.TheVariants.{Memory, N
 
 use crate::cause::{Cause, Refusal};
 use crate::edits::{Edit, make_edits, read_edits, session_status};
-use crate::file_calls::bytes_of;
 use crate::parts::ObjectBytes;
-use crate::reported::{ReportedName, all_findings};
+use crate::reported::{ReportedName, all_findings, lines_of};
 use crate::requests::{LinkRequest, forced_names, tool_options};
 use crate::taking::take_each;
-use aout_core::Wire;
+use crate::written::bytes_of;
 use link_out::{Linked, Options, Report, finish};
 use link_session::{Forced, Session};
 use report_objects::{FindingPlace, places_of};
@@ -46,22 +45,12 @@ fn link_kept(alloc: Global, session: &Session, options: &Options) -> Result<Link
     ensures ok { IfOk result (λ linked.
         refused_as NotLinked (link session.now.forced (objects session.now.entries) options.now)
         ≡ Ok (outcome_of linked)) }
-    ensures err { IfErr result (λ cause. cause ≢ Memory → refused_as NotLinked
+    ensures err { IfErr result (λ cause. cause ≢ Memory refused → refused_as NotLinked
         (link session.now.forced (objects session.now.entries) options.now) ≡ Err cause) }
-    ensures memory { IfErr result (λ cause. cause ≡ Memory
+    ensures memory { IfErr result (λ cause. cause ≡ Memory refused
         → IsOk (link session.now.forced (objects session.now.entries) options.now)) }
 {
     Ok(finish(alloc, session, options)?)
-}
-
-/// The lines of a report.
-fn lines_of(alloc: Global, report: &Report) -> Result<Vec<u8>, Cause>
-    ensures ok { IfOk result (λ lines. lines.items ≡ report_text (report_names report.now)) }
-    ensures err { IfErr result (λ cause. cause ≡ Memory) }
-{
-    let mut lines = Wire::new(Vec::new(alloc));
-    report.write(&mut lines)?;
-    Ok(lines.into_inner())
 }
 
 /// The objects of what is reported, if they are asked for.
@@ -88,10 +77,9 @@ fn result_of(
     session: Session,
     linked: &Linked,
     replies: Vec<u8>,
-) -> Result<RunResult, Cause>
-    ensures ok { IfOk result (λ given. results_of given ≡ run_output is_placed session.forced
+) -> Result<RunResult, AllocError>
+    ensures { IfOk result (λ given. results_of given ≡ run_output is_placed session.forced
         (objects session.entries) replies.items (outcome_of linked.now)) }
-    ensures err { IfErr result (λ cause. cause ≡ Memory) }
 {
     let file = bytes_of(alloc, &linked.file)?;
     let report = lines_of(alloc, &linked.report)?;
@@ -117,13 +105,13 @@ fn run_kept(
 ) -> Result<RunResult, Cause>
     ensures ok { IfOk result (λ given. objects_run is_placed session.forced options.now replies.items
         (objects session.entries) ≡ Ok (results_of given)) }
-    ensures err { IfErr result (λ cause. cause ≢ Memory → objects_run is_placed session.forced
+    ensures err { IfErr result (λ cause. cause ≢ Memory refused → objects_run is_placed session.forced
         options.now replies.items (objects session.entries) ≡ Err cause) }
-    ensures memory { IfErr result (λ cause. cause ≡ Memory
+    ensures memory { IfErr result (λ cause. cause ≡ Memory refused
         → IsOk (link session.forced (objects session.entries) options.now)) }
 {
     let linked = link_kept(alloc, &session, options)?;
-    result_of(alloc, is_placed, session, &linked, replies)
+    Ok(result_of(alloc, is_placed, session, &linked, replies)?)
 }
 
 /// Links the object that each of the parts begins with.
@@ -137,9 +125,9 @@ fn run_parts(
 ) -> Result<RunResult, Refusal>
     ensures ok { IfOk result (λ given.
         parts_run is_placed forced.now options.now (each_of parts.now) ≡ Ok (results_of given)) }
-    ensures err { IfErr result (λ r. r.cause ≢ Memory
+    ensures err { IfErr result (λ r. r.cause ≢ Memory refused
         → parts_run is_placed forced.now options.now (each_of parts.now) ≡ Err r) }
-    ensures memory { IfErr result (λ r. r.cause ≡ Memory
+    ensures memory { IfErr result (λ r. r.cause ≡ Memory refused
         → MayRunOutInLink forced.now options.now (each_of parts.now) r.place) }
 {
     let mut session = Session::with_forced(alloc, forced)?;
@@ -169,9 +157,9 @@ pub fn run_link(
 ) -> Result<RunResult, Refusal>
     ensures ok { IfOk result (λ given. link_run is_placed request.now.options request.now.entry.now
         request.now.forced.now (each_of parts.now) ≡ Ok (results_of given)) }
-    ensures err { IfErr result (λ r. r.cause ≢ Memory → link_run is_placed request.now.options
+    ensures err { IfErr result (λ r. r.cause ≢ Memory refused → link_run is_placed request.now.options
         request.now.entry.now request.now.forced.now (each_of parts.now) ≡ Err r) }
-    ensures memory { IfErr result (λ r. r.cause ≡ Memory → LinkMayRunOut request.now.options
+    ensures memory { IfErr result (λ r. r.cause ≡ Memory refused → LinkMayRunOut request.now.options
         request.now.entry.now request.now.forced.now (each_of parts.now) r.place) }
 {
     let options = tool_options(request.options, request.entry)?;
@@ -189,9 +177,9 @@ fn run_changes(
 ) -> Result<RunResult, Cause>
     ensures ok { IfOk result (λ given. changes_run is_placed forced.now options.now
         (map change_of edits.items) ≡ Ok (results_of given)) }
-    ensures err { IfErr result (λ cause. cause ≢ Memory
+    ensures err { IfErr result (λ cause. cause ≢ Memory refused
         → changes_run is_placed forced.now options.now (map change_of edits.items) ≡ Err cause) }
-    ensures memory { IfErr result (λ cause. cause ≡ Memory
+    ensures memory { IfErr result (λ cause. cause ≡ Memory refused
         → MayRunOutInRun forced.now options.now (map change_of edits.items)) }
 {
     let mut session = Session::with_forced(alloc, forced)?;
@@ -221,9 +209,9 @@ pub fn run_session(
     ensures ok { IfOk result (λ given. session_run is_placed request.now.options
         request.now.entry.now request.now.forced.now letters.now (each_of parts.now)
         ≡ Ok (results_of given)) }
-    ensures err { IfErr result (λ r. r.cause ≢ Memory → session_run is_placed request.now.options
+    ensures err { IfErr result (λ r. r.cause ≢ Memory refused → session_run is_placed request.now.options
         request.now.entry.now request.now.forced.now letters.now (each_of parts.now) ≡ Err r) }
-    ensures memory { IfErr result (λ r. r.cause ≡ Memory → SessionMayRunOut request.now.options
+    ensures memory { IfErr result (λ r. r.cause ≡ Memory refused → SessionMayRunOut request.now.options
         request.now.entry.now request.now.forced.now letters.now (each_of parts.now) r.place) }
 {
     let options = tool_options(request.options, request.entry)?;

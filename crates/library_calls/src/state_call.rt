@@ -1,5 +1,6 @@
 //! What a session of objects that come as bytes shows, by its edits.
 ghost use Rattle.std.specs.Prelude.{◌≡◌, ◌≢◌, [], map, Ok, Err, IfOk, IfErr};
+ghost use Rattle.aout_core.specs.Refusals.{refused};
 ghost use Rattle.library_calls.specs.LinkAnswers.{each_of};
 ghost use Rattle.library_calls.specs.MemoryWanted.{StateMayRunOut};
 ghost use Rattle.library_calls.specs.StateAnswers.{asked_in, form_in, states_of, IsShown, Shows};
@@ -47,7 +48,7 @@ fn form_in(form: u32) -> Result<Form, Cause>
 /// The state of a session, in this form.
 fn encoded(alloc: Global, session: &Session, form: Form) -> Result<Vec<u8>, Cause>
     ensures ok { IfOk result (λ state. ShowsFrom form session.now state.items) }
-    ensures err { IfErr result (λ cause. cause ≡ Memory) }
+    ensures err { IfErr result (λ cause. cause ≡ Memory refused) }
 {
     Ok(match form {
         Form::Lines => state_lines(alloc, session)?,
@@ -65,7 +66,7 @@ fn edit_and_show(
     ensures ok { IfOk result (λ shown. session.old.entries ≡ [] → Shows
         (record { form = form; forced = session.old.forced; changes = map change_of edits.items })
         (states_of shown)) }
-    ensures err { IfErr result (λ cause. cause ≡ Memory) }
+    ensures err { IfErr result (λ cause. cause ≡ Memory refused) }
 {
     let replies = make_edits(alloc, session, edits)?;
     let state = encoded(alloc, session, form)?;
@@ -98,9 +99,9 @@ pub fn show_session(
     ensures ok { IfOk result (λ shown.
         IsShown (asked_in form forced.now letters.now (each_of parts.now)) (Ok (states_of shown))) }
     ensures err { IfErr result (λ r.
-        r.cause ≢ Memory → asked_in form forced.now letters.now (each_of parts.now) ≡ Err r) }
+        r.cause ≢ Memory refused → asked_in form forced.now letters.now (each_of parts.now) ≡ Err r) }
     ensures memory { IfErr result (λ r.
-        r.cause ≡ Memory → StateMayRunOut form forced.now letters.now (each_of parts.now) r.place) }
+        r.cause ≡ Memory refused → StateMayRunOut form forced.now letters.now (each_of parts.now) r.place) }
 {
     let form = form_in(form)?;
     let forced = forced_names(forced)?;

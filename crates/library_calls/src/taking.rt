@@ -1,5 +1,6 @@
 //! Objects taken into a session from their bytes.
 ghost use Rattle.std.specs.Prelude.{◌≡◌, ◌≢◌, None, Ok, Err, IfOk, IfErr, OnErr};
+ghost use Rattle.aout_core.specs.Refusals.{refused};
 ghost use Rattle.link_session.specs.Labelled.{objects};
 ghost use Rattle.link_session.specs.Limits.{refusal};
 ghost use Rattle.library_calls.specs.LinkAnswers.{each_of, with_each, with_first, with_object};
@@ -18,9 +19,9 @@ fn add(alloc: Global, session: &mut Session, object: Object) -> Result<(), Cause
     ensures forced { session.new.forced ≡ session.old.forced }
     ensures ok { IfOk result (λ _. with_object session.old.forced
         (objects session.old.entries) object ≡ Ok (objects session.new.entries)) }
-    ensures err { IfErr result (λ cause. cause ≢ Memory
+    ensures err { IfErr result (λ cause. cause ≢ Memory refused
         → with_object session.old.forced (objects session.old.entries) object ≡ Err cause) }
-    ensures memory { IfErr result (λ cause. cause ≡ Memory
+    ensures memory { IfErr result (λ cause. cause ≡ Memory refused
         → refusal session.old.forced (objects session.old.entries) object ≡ None) }
     ensures unchanged { OnErr result (session.new ≡ session.old) }
 {
@@ -35,9 +36,9 @@ fn take_first(alloc: Global, session: &mut Session, bytes: &[u8]) -> Result<(), 
     ensures forced { session.new.forced ≡ session.old.forced }
     ensures ok { IfOk result (λ _. with_first session.old.forced
         (objects session.old.entries) bytes.now ≡ Ok (objects session.new.entries)) }
-    ensures err { IfErr result (λ cause. cause ≢ Memory
+    ensures err { IfErr result (λ cause. cause ≢ Memory refused
         → with_first session.old.forced (objects session.old.entries) bytes.now ≡ Err cause) }
-    ensures memory { IfErr result (λ cause. cause ≡ Memory
+    ensures memory { IfErr result (λ cause. cause ≡ Memory refused
         → MayRunOutForObject session.old.forced (objects session.old.entries) bytes.now) }
     ensures unchanged { OnErr result (session.new ≡ session.old) }
 {
@@ -54,9 +55,9 @@ pub(crate) fn take_each(
     ensures forced { session.new.forced ≡ session.old.forced }
     ensures ok { IfOk result (λ _. with_each session.old.forced (objects session.old.entries)
         (each_of parts.now) ≡ Ok (objects session.new.entries)) }
-    ensures err { IfErr result (λ r. r.cause ≢ Memory
+    ensures err { IfErr result (λ r. r.cause ≢ Memory refused
         → with_each session.old.forced (objects session.old.entries) (each_of parts.now) ≡ Err r) }
-    ensures memory { IfErr result (λ r. r.cause ≡ Memory → MayRunOutInEach session.old.forced
+    ensures memory { IfErr result (λ r. r.cause ≡ Memory refused → MayRunOutInEach session.old.forced
         (objects session.old.entries) (each_of parts.now) r.place) }
 {
     for part in parts {

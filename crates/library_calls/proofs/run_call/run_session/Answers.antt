@@ -1,4 +1,5 @@
 use Rattle.std.proofs.Common.{◌≡◌, map, rules, sym}
+use Rattle.aout_core.specs.Refusals.{refused}
 use Rattle.library_calls.specs.internal.Edited.{change_of}
 use Rattle.library_calls.specs.declared.cause.Cause.TheVariants.{Memory}
 use Rattle.library_calls.specs.LinkAnswers.{each_of}
@@ -9,7 +10,7 @@ use Rattle.library_calls.proofs.run_call.run_session.Goals as goal
 pub returns-in_err-run_changes-clause-memory : goal.returns-in_err-run_changes-clause-memory
 returns-in_err-run_changes-clause-memory c =
     let request = c.args.request.now in
-    let stage : c.in_err-run_changes.field-0.0 ≡ Memory →
+    let stage : c.in_err-run_changes.field-0.0 ≡ Memory refused →
     SessionMayRunOut request.options request.entry.now request.forced.now c.args.letters.now (each_of c.args.parts.now) 0 =
     λ memory.
     run_without_memory request.options request.entry.now request.forced.now c.args.letters.now
