@@ -419,11 +419,11 @@ struct v7_result {
 };
 
 /* Does what REQUEST asks for. File, replies and what is wanted of the report are all written, or none is. `replies` gets a byte for each
- * edit: V7_DONE, V7_NOTHING if there was nothing to withdraw, or 31 to 34 if the object was not added. Faults, the first that applies:
- * V7_NO_OPTION, also for a mode or a want that this library does not know, and for a struct that is too short for them; 2 to 5; for a
- * link, for each object in turn 11 to 34; for a session, for each edit in turn V7_NO_EDIT, 11 to 14 (also if there is no further object),
- * and 21 to 24; then 41 to 43. V7_NO_MEMORY comes as described above, and V7_NO_ROOM last. A result that ends before `file` gets no
- * fault either: it stays as it was, and the status is 2. */
+ * edit: V7_DONE, V7_NOTHING if there was nothing to withdraw, or 31 to 34 if the object was not added. The first fault that applies is
+ * given. V7_NO_OPTION also stands for a mode or a want that this library does not know, and for a struct that is too short for them. Then
+ * come 2 to 5. In a link 11 to 34 follow for each object in turn, and in a session V7_NO_EDIT, 11 to 14 (also if there is no further
+ * object) and 21 to 24 for each edit in turn. Then 41 to 43 come, V7_NO_MEMORY as described above, and V7_NO_ROOM last. A result that
+ * ends before `file` stays as it was, and the status is 2. */
 uint32_t v7_run(const struct v7_request *request, struct v7_result *result);
 
 /* The map of a link, as `v7-explain -m` shows it; v7-explain(1) describes it. Objects, names and uses are numbered from 0. */
@@ -533,7 +533,7 @@ uint32_t v7_map(const struct v7_request *request, struct v7_map *map);
  * JSON has all numbers in decimal; a byte of a name that does not print, a quote and a backslash are \u00xx there. v7(3) lists
  * the members of the JSON object. REPLIES are those of v7_run; `report_size` is how many there are. The status is 1 if an edit
  * was not made. State and replies are both written, or neither is. Faults, the first that applies: V7_NO_OPTION for FORM, another
- * mode, or a struct that is too short; 4 and 5; then for each edit in turn those of v7_run. V7_NO_MEMORY comes as described above, and
+ * mode, or a struct that is too short, 4 and 5, then for each edit in turn those of v7_run. V7_NO_MEMORY comes as described above, and
  * V7_NO_ROOM last. */
 enum v7_form { V7_LINES = 0, V7_JSON = 1 };
 uint32_t v7_state(uint32_t form, const struct v7_request *request, unsigned char *replies, size_t replies_size, unsigned char *room,

@@ -657,7 +657,7 @@ class _Run:
         mode = _LINK if edits is None else _SESSION
         self._request = _Request(ctypes.sizeof(_Request), mode, _fitting("the options", options, 32), wants, named, names, self._slices, len(self._parts), letters)
         self._result = _Result(size=ctypes.sizeof(_Result))
-        self.status, self.file, self.report = 2, b"", ""
+        self.status, self.file, self.report, self.replies = 2, b"", "", b""
         self.findings: List[Any] = []
         self.places: List[Any] = []
 
@@ -682,6 +682,7 @@ class _Run:
             result.places, result.place_room = places, result.place_count
             self.call()
             self.file, self.report = bytes(file.raw[: result.file_size]), report.raw[: result.report_size].decode("latin-1")
+            self.replies = bytes(replies.raw[: result.reply_count])
             self.findings, self.places = findings[: result.finding_count], places[: result.place_count]
         if result.fault:
             raise self.fault()

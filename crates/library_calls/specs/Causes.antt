@@ -1,6 +1,6 @@
 -- Why a call has no answer, by the faults of the libraries below, and its number. (own choice)
 --
--- That memory ran out is one cause, of a request that was refused. Bytes are no device, so that reading them does not fail.
+-- That memory ran out is one cause, of a request that was refused. A device is never read, so its fault never comes.
 use Rattle.std.specs.Prelude.{ℕ, nat_lt, if◌then◌else◌, Result}
 use Rattle.aout_core.specs.declared.file.ReadFault.TheVariants as reads
 use Rattle.aout_core.specs.declared.object.ObjectFault.{ObjectFault}

@@ -140,8 +140,8 @@ fn read_number(fault: ReadFault) -> u32
         ReadFault::ShortHeader => 11,
         ReadFault::BadMagic => 12,
         ReadFault::OddSize => 13,
-        // bytes are no device, which could fail
-        ReadFault::Truncated | ReadFault::Device => 14,
+        // a device is never read
+        ReadFault::Device | ReadFault::Truncated => 14,
         ReadFault::Memory(_) => 50,
     }
 }

@@ -6,7 +6,7 @@
 //!     entry: b"",
 //!     forced: b"",
 //! };
-//! run_link(alloc, &request, false, parts)
+//! run_link(alloc, &request, false, objects)
 //! ```
 //!
 //! Types:

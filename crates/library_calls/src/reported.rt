@@ -1,9 +1,8 @@
 //! The report of a link, as a list and as lines.
-ghost use Rattle.std.specs.Prelude.{◌≡◌, ◌++◌, map, IfOk};
+ghost use Rattle.std.specs.Prelude.{◌≡◌, ◌++◌, codes, map, IfOk};
 ghost use Rattle.std.specs.List.{flat_map};
 ghost use Rattle.link_out.specs.Outcomes.{report_names};
-ghost use Rattle.link_out.specs.function.Reports.{entry_lines, report_text, undefined_lines};
-ghost use Rattle.link_out.specs.internal.ReportParts.{multiple_lines};
+ghost use Rattle.link_out.specs.function.Reports.{entry_lines, line, report_text, undefined_lines};
 ghost use Rattle.texts.specs.Texts.{Puts};
 ghost use Rattle.library_calls.specs.LinkAnswers.{all_findings, entry_findings, finding_of};
 
@@ -75,8 +74,8 @@ fn put_names(text: &mut Text, names: &[Name], end: &str)
 }
 
 fn put_multiples(text: &mut Text, report: &Report)
-    ensures { Puts text.old text.new
-        (multiple_lines (report.now.multiples.items ++ report.now.reserved.items)) }
+    ensures { Puts text.old text.new (flat_map (λ n. line (n ++ codes ": Multiply defined"))
+        (report.now.multiples.items ++ report.now.reserved.items)) }
 {
     put_names(text, &report.multiples, ": Multiply defined\n");
     put_names(text, &report.reserved, ": Multiply defined\n");

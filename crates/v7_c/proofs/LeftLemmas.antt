@@ -3,6 +3,7 @@ use Rattle.std.proofs.Common.{◌≡◌, ◌≢◌, ℕ, Bool, true, false, cond
 use Rattle.std.proofs.Common.{Err, IfOk, IfErr, inl, inr, refl, sym, ap, subst, ◌∙◌, arith}
 use Rattle.std.specs.Prelude.{◌⊎◌, IsErr, IsErrAnd, IsOk, MatchResult, Vec}
 use Rattle.std.specs.declared.alloc.Global.{Global}
+use Rattle.aout_core.specs.Refusals as memory
 use Rattle.aout_core.specs.declared.object.ObjectFault.{ObjectFault}
 use Rattle.aout_core.specs.declared.object.ObjectFault.TheVariants as objects
 use Rattle.library_calls.specs.declared.cause.Cause.{Cause}
@@ -54,7 +55,7 @@ no_gnu_word (refusals.AlikeNames n m) h = let e : 87 ≡ 50 = h in absurd (omega
 no_gnu_word (refusals.StabWord n) h = let e : 88 ≡ 50 = h in absurd (omega (arith, e))
 no_gnu_word (refusals.LocalWord n m) h = let e : 89 ≡ 50 = h in absurd (omega (arith, e))
 no_gnu_word (refusals.BadWord fault) h = no_object_word fault h
-no_gnu_word refusals.Memory h = refl
+no_gnu_word (refusals.Memory _) h = refl
 
 -- a cause of the number of no memory lies in no word
 no_word : (cause : Cause) → number_of cause ≡ 50 → word_of cause ≡ 0
@@ -71,7 +72,7 @@ no_word (NotAdded fault) h = refl
 no_word (NotLinked fault) h = refl
 no_word (BadListing fault) h = absurd (not_memory_reason fault.reason h)
 no_word (NotConverted refusal) h = no_gnu_word refusal h
-no_word Memory h = refl
+no_word (Memory _) h = refl
 
 abbrev answer_with : ℕ → ℕ → ℕ → Answer
 answer_with fault place word = record { fault = fault; word = word; place = place; size = 0; report_size = 0 }
@@ -101,7 +102,7 @@ module _ {A : Type 0} (status : ℕ) (answer : Answer) (old new : List ℕ) (rep
 module _ (status : ℕ) (answer : Answer) (old new report_old report_new : List ℕ) where
   -- what is left of a session that the library shows
   pub leaves_state : (asked : Result Asked Refusal) (r : Result Shown Refusal) → IfOk r (λ shown. IsShown asked (Ok (states_of shown))) →
-      IfErr r (λ refusal. (refusal.cause ≡ Memory → ⊥) → asked ≡ Err refusal) →
+      IfErr r (λ refusal. (refusal.cause ≡ Memory memory.refused → ⊥) → asked ≡ Err refusal) →
       both_left status answer new report_new ≡ state_left (states_or r) old report_old → (answer.fault ≡ 50 → ⊥) →
       LeavesState asked old report_old (both_left status answer new report_new)
   leaves_state asked (Ok shown) ok err is other = record { output = Ok (states_of shown); shown = ok; is = is }
@@ -128,7 +129,7 @@ module _ (status : ℕ) (answer : Answer) (counts : Counts) (text_old text_new d
 
   pub apart_memory : (r : Result PartLists Cause) → parts_left status answer counts text_new data_new symbols_new
       ≡ apart_left (pieces_or r) text_old data_old symbols_old → answer.fault ≡ 50 →
-      parts_left status answer counts text_new data_new symbols_new ≡ apart_left (Err Memory) text_old data_old symbols_old
+      parts_left status answer counts text_new data_new symbols_new ≡ apart_left (Err (Memory memory.refused)) text_old data_old symbols_old
   apart_memory (Ok p) is h = absurd (parts_given (pieces_in p) is h)
   apart_memory (Err cause) is h =
       is
@@ -139,7 +140,7 @@ module _ (status : ℕ) (answer : Answer) (counts : Counts) (text_old text_new d
       file_left header (parts_left status answer counts text_new data_new symbols_new)
       ≡ read_left (wholes_or r) text_old data_old symbols_old → answer.fault ≡ 50 →
       file_left header (parts_left status answer counts text_new data_new symbols_new)
-      ≡ read_left (Err Memory) text_old data_old symbols_old
+      ≡ read_left (Err (Memory memory.refused)) text_old data_old symbols_old
   read_memory header (Ok f) is h = absurd (parts_given (pieces_in f.parts) (ap (λ (l : FileLeft). l.parts) is) h)
   read_memory header (Err cause) is h =
       is
@@ -148,7 +149,7 @@ module _ (status : ℕ) (answer : Answer) (counts : Counts) (text_old text_new d
 
 -- ---- a fault of the number of no memory
 
-is_memory_or : (cause : Cause) → (cause ≡ Memory) ⊎ (cause ≢ Memory)
+is_memory_or : (cause : Cause) → (cause ≡ Memory memory.refused) ⊎ (cause ≢ Memory memory.refused)
 is_memory_or NoOption = inr (λ e. absurd (cc))
 is_memory_or Excluded = inr (λ e. absurd (cc))
 is_memory_or LongName = inr (λ e. absurd (cc))
@@ -162,28 +163,28 @@ is_memory_or (NotAdded fault) = inr (λ e. absurd (cc))
 is_memory_or (NotLinked fault) = inr (λ e. absurd (cc))
 is_memory_or (BadListing fault) = inr (λ e. absurd (cc))
 is_memory_or (NotConverted refusal) = inr (λ e. absurd (cc))
-is_memory_or Memory = inl refl
+is_memory_or (Memory _) = inl refl
 
 module _ {A B X : Type 0} (answer : Result A Cause) where
   -- what is refused under it is refused for memory
-  pub is_memory : (r : Result B Cause) → CauseIsNotMemory answer → IfErr r (λ cause. cause ≢ Memory → answer ≡ Err cause) →
-      IfErr r (λ cause. cause ≡ Memory → X) → IsErrAnd r (λ cause. number_of cause ≡ 50) → X
+  pub is_memory : (r : Result B Cause) → CauseIsNotMemory answer → IfErr r (λ cause. cause ≢ Memory memory.refused → answer ≡ Err cause) →
+      IfErr r (λ cause. cause ≡ Memory memory.refused → X) → IsErrAnd r (λ cause. number_of cause ≡ 50) → X
   is_memory (Ok x) not_memory err memory h = absurd h
   is_memory (Err cause) not_memory err memory h = by (is_memory_or cause)
     where
-      by : ((cause ≡ Memory) ⊎ (cause ≢ Memory)) → X
+      by : ((cause ≡ Memory memory.refused) ⊎ (cause ≢ Memory memory.refused)) → X
       by (inl e) = memory e
       by (inr n) = absurd (subst (λ (r : Result A Cause). CauseIsNotMemory r) (err n) not_memory h)
 
 module _ {A B : Type 0} (X : ℕ → Type 0) (answer : Result A Refusal) where
   pub is_memory_at : (r : Result B Refusal) → IsNotMemory answer →
-      IfErr r (λ refusal. refusal.cause ≢ Memory → answer ≡ Err refusal) →
-      IfErr r (λ refusal. refusal.cause ≡ Memory → X refusal.place) →
+      IfErr r (λ refusal. refusal.cause ≢ Memory memory.refused → answer ≡ Err refusal) →
+      IfErr r (λ refusal. refusal.cause ≡ Memory memory.refused → X refusal.place) →
       (place : ℕ) → IsErrAnd r (λ refusal. (number_of refusal.cause ≡ 50) × (place ≡ refusal.place)) → X place
   is_memory_at (Ok x) not_memory err memory place h = absurd h
   is_memory_at (Err refusal) not_memory err memory place h = by (is_memory_or refusal.cause)
     where
-      by : ((refusal.cause ≡ Memory) ⊎ (refusal.cause ≢ Memory)) → X place
+      by : ((refusal.cause ≡ Memory memory.refused) ⊎ (refusal.cause ≢ Memory memory.refused)) → X place
       by (inl e) = subst X (sym h.1) (memory e)
       by (inr n) = absurd (subst (λ (r : Result A Refusal). IsNotMemory r) (err n) not_memory h.0)
 
@@ -257,13 +258,13 @@ module _ (status : ℕ) (answer : Answer) (old new report_old report_new : List 
 module _ (status : ℕ) (answer : Answer) (old new : List ℕ) (records_old records_new : List RemarkRecord) where
   -- remarks are given, or memory ran out
   pub remarks_value : (x : Output RemarkRecord) (r : Result Remarks Cause) → IfOk r (λ m. remarks_in m ≡ x) →
-      IfErr r (λ cause. cause ≡ Memory) →
+      IfErr r (λ cause. cause ≡ Memory memory.refused) →
       both_left status answer new records_new ≡ output_left (remarks_or r) old records_old → (answer.fault ≡ 50 → ⊥) →
       both_left status answer new records_new ≡ output_left (Ok x) old records_old
   remarks_value x (Ok m) ok err is other = is ∙ ap (λ (y : Output RemarkRecord). output_left (Ok y) old records_old) ok
   remarks_value x (Err cause) ok err is other = absurd (other (ap (λ (l : BothLeft RemarkRecord). l.answer.fault) is ∙ ap number_of err))
 
-  pub remarks_memory : (r : Result Remarks Cause) → IfErr r (λ cause. cause ≡ Memory) →
+  pub remarks_memory : (r : Result Remarks Cause) → IfErr r (λ cause. cause ≡ Memory memory.refused) →
       both_left status answer new records_new ≡ output_left (remarks_or r) old records_old → answer.fault ≡ 50 →
       both_left status answer new records_new ≡ no_output 0 old records_old
   remarks_memory (Ok m) err is h =
@@ -290,7 +291,7 @@ module _ (status : ℕ) (answer : Answer) (counts : Counts) (text_old text_new d
 -- memory ran out for an object that is made of parts
 pub made_memory : (p : Pieces) (status : ℕ) (answer : Answer) (old new : List ℕ) (r : Result (Vec ℕ Global) Cause) →
     left status answer new ≡ left_by (items_of r) old →
-    IfErr r (λ cause. cause ≢ Memory → made_of p ≡ Err cause) → IfErr r (λ cause. cause ≡ Memory → IsOk (file_for p)) →
+    IfErr r (λ cause. cause ≢ Memory memory.refused → made_of p ≡ Err cause) → IfErr r (λ cause. cause ≡ Memory memory.refused → IsOk (file_for p)) →
     answer.fault ≡ 50 → IsOk (file_for p)
 made_memory p status answer old new r is err memory fault =
     is_memory (made_of p) r (not_memory_made p) err memory (bytes_fault status answer old new r is fault)

@@ -4,6 +4,7 @@
 -- that are needed. A refusal is a number, with the place of what is refused.
 use Rattle.std.specs.declared.alloc.Global.{Global}
 use Rattle.std.specs.Prelude.{◌≡◌, ℕ, ◌||◌, nat_lt, if◌then◌else◌, List, [], ◌++◌, drop, length, Vec, Result, Ok, Err}
+use Rattle.aout_core.specs.Refusals as memory
 use Rattle.aout_core.specs.declared.header.Header.{Header}
 use Rattle.library_calls.specs.declared.cause.Cause.{Cause}
 use Rattle.library_calls.specs.declared.cause.Cause.TheVariants.{Memory}
@@ -62,7 +63,7 @@ counted_by (Ok count) = left 0 (given 0 count 0) []
 
 -- what is left by a call for which memory ran out
 abbrev pub no_bytes : List ℕ → Left
-no_bytes buffer = left_by (Err Memory) buffer
+no_bytes buffer = left_by (Err (Memory memory.refused)) buffer
 
 -- the same of a call whose refusals have places
 abbrev pub left_at : Result (List ℕ) Refusal → List ℕ → Left
@@ -71,7 +72,7 @@ left_at (Ok bytes) buffer = left_by (Ok bytes) buffer
 
 -- what it leaves if memory ran out, at this place
 abbrev pub no_bytes_at : ℕ → List ℕ → Left
-no_bytes_at place buffer = left_at (Err (record { cause = Memory; place = place })) buffer
+no_bytes_at place buffer = left_at (Err (record { cause = Memory memory.refused; place = place })) buffer
 
 -- the same with a second buffer, for records
 pub record BothLeft (A : Type 0) : Type 0 where
@@ -93,7 +94,7 @@ output_left (Ok x) buffer records =
 
 -- what it leaves if memory ran out, at the edit of this number
 abbrev pub no_output : {A : Type 0} → ℕ → List ℕ → List A → BothLeft A
-no_output place buffer records = output_left (Err (record { cause = Memory; place = place })) buffer records
+no_output place buffer records = output_left (Err (record { cause = Memory memory.refused; place = place })) buffer records
 
 -- what is left by a call that shows a session: the state and the replies, or neither
 abbrev pub output_of_state : Result StateOutput Refusal → Result (Output ℕ) Refusal

@@ -5,6 +5,7 @@
 -- are; one that lacks a field which every answer fills stays as it is.
 use Rattle.std.specs.Prelude.{◌≡◌, ◌≢◌, ◌⊎◌, ℕ, Bool, true, ◌||◌, ◌&&◌, not, eqb, nat_lt, nat_le}
 use Rattle.std.specs.Prelude.{if◌then◌else◌, List, [], length, Result, Ok, Err}
+use Rattle.aout_core.specs.Refusals.{refused}
 use Rattle.library_calls.specs.declared.cause.Cause.TheVariants.{Memory, NoOption}
 use Rattle.library_calls.specs.declared.cause.Refusal.{Refusal}
 use Rattle.library_calls.specs.declared.reported.ReportedName.{ReportedName}
@@ -54,7 +55,7 @@ RunMayRunOut q size place =
 -- an answer is what the library gives, or that memory ran out at a place at which it may
 abbrev pub IsAnswer : Request → ℕ → Result RunOutput Refusal → Type 0
 IsAnswer q size (Ok x) = run_in q size ≡ Ok x
-IsAnswer q size (Err r) = (r.cause ≢ Memory → run_in q size ≡ Err r) × (r.cause ≡ Memory → RunMayRunOut q size r.place)
+IsAnswer q size (Err r) = (r.cause ≢ Memory refused → run_in q size ≡ Err r) × (r.cause ≡ Memory refused → RunMayRunOut q size r.place)
 
 abbrev pub results_or : Result RunResult Refusal → Result RunOutput Refusal
 results_or (Ok given) = Ok (results_of given)

@@ -10,6 +10,7 @@ mod run;
 mod state;
 
 ghost use Rattle.std.specs.Prelude.{◌≡◌, ◌≢◌, ◌⊎◌, [], Ok, Err, IsOk};
+ghost use Rattle.aout_core.specs.Refusals.{refused};
 ghost use Rattle.disassemblies.specs.Columns.{plain_disassembly};
 ghost use Rattle.library_calls.specs.declared.cause.Cause.TheVariants.{Memory};
 ghost use Rattle.library_calls.specs.FileAnswers.{checked_in, disassembled_in, names_in, sizes_in, stripped_in};
@@ -259,7 +260,7 @@ pub extern "C" fn v7_take_apart(
         → parts_left result answer.new counts.new text.new data_words.new symbols.new
         ≡ apart_left (parts_in bytes.now) text.old data_words.old symbols.old }
     ensures memory { answer.new.fault ≡ 50 → parts_left result answer.new counts.new text.new
-        data_words.new symbols.new ≡ apart_left (Err Memory) text.old data_words.old symbols.old }
+        data_words.new symbols.new ≡ apart_left (Err (Memory refused)) text.old data_words.old symbols.old }
     ensures ran_out { answer.new.fault ≡ 50 → HasBody bytes.now ⊎ IsOk (parts_in bytes.now) }
 {
     let parts = library_calls::take_apart(alloc, bytes);
@@ -285,7 +286,7 @@ pub extern "C" fn v7_read(
         ≡ read_left (whole_in bytes.now) text.old data_words.old symbols.old }
     ensures memory { answer.new.fault ≡ 50 → file_left header.new
         (parts_left result answer.new counts.new text.new data_words.new symbols.new)
-        ≡ read_left (Err Memory) text.old data_words.old symbols.old }
+        ≡ read_left (Err (Memory refused)) text.old data_words.old symbols.old }
     ensures ran_out { answer.new.fault ≡ 50 → IsOk (whole_in bytes.now) }
 {
     let file = library_calls::read_apart(alloc, bytes);

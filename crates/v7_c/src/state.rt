@@ -1,5 +1,6 @@
 //! What a session shows, for the request of `v7_run`.
 ghost use Rattle.std.specs.Prelude.{◌≡◌, ◌≢◌, Ok, Err, IfOk, IfErr};
+ghost use Rattle.aout_core.specs.Refusals.{refused};
 ghost use Rattle.library_calls.specs.StateAnswers.{IsShown, states_of};
 ghost use Rattle.library_calls.specs.declared.cause.Cause.TheVariants.{Memory};
 ghost use Rattle.v7_c.specs.StateLeft.{StateOfRequestMayRunOut, asked_by};
@@ -15,9 +16,9 @@ pub(crate) fn state_for(
     request: &Request<'_>,
 ) -> Result<Shown, Refusal>
     ensures ok { IfOk result (λ shown. IsShown (asked_by form request.now) (Ok (states_of shown))) }
-    ensures err { IfErr result (λ r. r.cause ≢ Memory → asked_by form request.now ≡ Err r) }
+    ensures err { IfErr result (λ r. r.cause ≢ Memory refused → asked_by form request.now ≡ Err r) }
     ensures memory { IfErr result (λ r.
-        r.cause ≡ Memory → StateOfRequestMayRunOut form request.now r.place) }
+        r.cause ≡ Memory refused → StateOfRequestMayRunOut form request.now r.place) }
 {
     if request.size < REQUEST || request.mode != 1 {
         return Err(Refusal {
