@@ -133,4 +133,3 @@ module _ (is_placed : Bool) (forced : List (List ℕ)) (o : Choices) (cs : List 
   run_memory (Ok given) is edits h = tt
   run_memory (Err cause) is edits h = λ memory.
       inr (inr (subst IsOk (λ i. link (same_names is edits i) (objects (same_objects is edits i)) o) (h memory)))
-

@@ -65,12 +65,7 @@ fn edit_in(alloc: Global, letter: u8, bytes: &[u8]) -> Result<Edit, Cause>
 }
 
 /// Appends the edit that a letter asks for.
-fn take_edit(
-    alloc: Global,
-    edits: &mut Vec<Edit>,
-    letter: u8,
-    bytes: &[u8],
-) -> Result<(), Cause>
+fn take_edit(alloc: Global, edits: &mut Vec<Edit>, letter: u8, bytes: &[u8]) -> Result<(), Cause>
     ensures ok { IfOk result (λ _. with_edit letter bytes.now (map change_of edits.old.items)
         ≡ Ok (map change_of edits.new.items)) }
     ensures err { IfErr result (λ cause. cause ≢ Memory refused

@@ -9,10 +9,7 @@ use library_calls::{LinkRequest, ObjectBytes, Refusal, RunResult, run_link};
 use std::alloc::Global;
 
 /// The link of the objects that these begin with, without symbols: `ld -s`.
-pub(crate) fn bare_program(
-    alloc: Global,
-    objects: &[ObjectBytes<'_>],
-) -> Result<RunResult, Refusal>
+pub(crate) fn bare_program(alloc: Global, objects: &[ObjectBytes<'_>]) -> Result<RunResult, Refusal>
     ensures ok { IfOk result (λ given.
         link_run false 2 [] [] (each_of objects.now) ≡ Ok (results_of given)) }
     ensures err { IfErr result (λ r.

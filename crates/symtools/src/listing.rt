@@ -89,11 +89,7 @@ fn put_lines<W: Write>(
 /// The symbols of a table that the options ask for, in the order that they ask for. (nm(1))
 ///
 /// Errors: `AllocError` if memory runs out for them.
-pub fn shown(
-    alloc: Global,
-    table: &[Symbol],
-    options: NmOptions,
-) -> Result<Vec<Symbol>, AllocError>
+pub fn shown(alloc: Global, table: &[Symbol], options: NmOptions) -> Result<Vec<Symbol>, AllocError>
     ensures ok { IfOk result (λ list.
         list.items ≡ arranged options (filter (is_shown options) table.now)) }
     ensures shows { OnErr result (filter (is_shown options) table.now ≢ []) }

@@ -10,11 +10,7 @@ use library_calls::{Cause, Refusal, Shown, show_session};
 use std::alloc::Global;
 
 /// What the session shows that is asked for.
-pub(crate) fn state_for(
-    alloc: Global,
-    form: u32,
-    request: &Request<'_>,
-) -> Result<Shown, Refusal>
+pub(crate) fn state_for(alloc: Global, form: u32, request: &Request<'_>) -> Result<Shown, Refusal>
     ensures ok { IfOk result (λ shown. IsShown (asked_by form request.now) (Ok (states_of shown))) }
     ensures err { IfErr result (λ r. r.cause ≢ Memory refused → asked_by form request.now ≡ Err r) }
     ensures memory { IfErr result (λ r.
@@ -26,11 +22,5 @@ pub(crate) fn state_for(
             place: 0,
         });
     }
-    show_session(
-        alloc,
-        form,
-        request.forced,
-        request.edits,
-        request.objects,
-    )
+    show_session(alloc, form, request.forced, request.edits, request.objects)
 }
