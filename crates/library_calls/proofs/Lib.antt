@@ -1,3 +1,5 @@
+pub mod FileLemmas
+pub mod ReportTextLemmas
 pub mod ForcedNameLemmas
 pub mod EachLemmas
 pub mod EditLemmas

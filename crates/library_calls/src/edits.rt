@@ -96,7 +96,7 @@ pub(crate) fn read_edits(
     let mut rest = parts;
     for (place, letter) in letters.iter().enumerate() {
         match take_edit(alloc, &mut edits, *letter, first_part(rest)) {
-            Ok(()) => rest = parts_after(*letter, rest),
+            Ok(_) => rest = parts_after(*letter, rest),
             Err(cause) => return Err(Refusal { cause, place }),
         }
     }

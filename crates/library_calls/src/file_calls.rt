@@ -1,8 +1,9 @@
 //! What is said of one file that comes as bytes.
-ghost use Rattle.std.specs.Prelude.{◌≡◌, ◌≢◌, Ok, Err, IsOk, IfOk, IfErr};
+ghost use Rattle.std.specs.Prelude.{◌≡◌, ◌≢◌, ◌++◌, ◌∷◌, [], Ok, Err, IsOk, IfOk, IfErr};
 ghost use Rattle.std.specs.List.{flat_map};
 ghost use Rattle.aout_core.specs.Refusals.{refused};
 ghost use Rattle.symtools.specs.NmLists.{shown};
+ghost use Rattle.symtools.specs.SizeLines.{size_line};
 ghost use Rattle.symtools.specs.SymbolLines.{symbol_line};
 ghost use Rattle.texts.specs.Texts.{Puts};
 ghost use Rattle.library_calls.specs.FileAnswers.{checked_in, names_in, sizes_in, stripped_in};
@@ -13,7 +14,7 @@ use crate::cause::Cause;
 use crate::first::{file_length, first_file, first_object};
 use crate::requests::nm_options;
 use crate::written::bytes_of;
-use aout_core::{File, Symbol, strip_file};
+use aout_core::{File, Header, Symbol, strip_file};
 use std::alloc::{AllocError, Global};
 use symtools::{NmOptions, line_of, shown, size_line};
 use texts::Text;
@@ -45,16 +46,26 @@ pub fn strip(alloc: Global, bytes: &[u8]) -> Result<Vec<u8>, Cause>
     Ok(bytes_of(alloc, &strip_file(file))?)
 }
 
+/// The line of size for a file with this header.
+fn sizes_of(alloc: Global, header: &Header) -> Result<Vec<u8>, AllocError>
+    ensures { IfOk result (λ text. text.items ≡ size_line header.now ++ 10 ∷ []) }
+{
+    let mut text = Text::new(alloc);
+    text.put_bytes(size_line(header).as_bytes());
+    text.finish()
+}
+
 /// The line of size, without a path, of the file that the bytes begin with. (size(1))
 ///
 /// Errors: `BadFile`, 11 to 14, if the bytes do not begin with a file; else `Memory`, 50, if memory runs out.
+#[tactic(auto, using(crate::proofs::FileLemmas::sizes_shown))]
 pub fn show_sizes(alloc: Global, bytes: &[u8]) -> Result<Vec<u8>, Cause>
     ensures ok { IfOk result (λ text. sizes_in bytes.now ≡ Ok text.items) }
     ensures err { IfErr result (λ cause. cause ≢ Memory refused → sizes_in bytes.now ≡ Err cause) }
     ensures memory { IfErr result (λ cause. cause ≡ Memory refused → IsOk (sizes_in bytes.now)) }
 {
     let file = first_file(alloc, bytes)?;
-    Ok(size_line(file.header()).as_bytes().to_vec(alloc)?)
+    Ok(sizes_of(alloc, file.header())?)
 }
 
 /// Puts the line of each symbol.
@@ -81,6 +92,7 @@ fn names_of(alloc: Global, options: NmOptions, file: &File) -> Result<Vec<u8>, A
 ///
 /// Errors, the first that applies: `NoOption`, 1, if a bit is not an option; `BadFile`, 11 to 14, if the bytes do not
 /// begin with a file; `Memory`, 50, if memory runs out.
+#[tactic(auto, using(crate::proofs::FileLemmas::names_listed))]
 pub fn list_symbols(alloc: Global, options: u32, bytes: &[u8]) -> Result<Vec<u8>, Cause>
     ensures ok { IfOk result (λ text. names_in options bytes.now ≡ Ok text.items) }
     ensures err { IfErr result (λ cause. cause ≢ Memory refused → names_in options bytes.now ≡ Err cause) }

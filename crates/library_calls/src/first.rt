@@ -20,6 +20,7 @@ pub(crate) fn file_length(header: &Header) -> usize
 }
 
 /// The file that the bytes begin with. Memory is requested only for what a whole file has after its header.
+#[tactic(auto, using(crate::proofs::FileLemmas::has_body))]
 pub(crate) fn first_file(alloc: Global, bytes: &[u8]) -> Result<File, Cause>
     ensures file { IfOk result (λ file. decode bytes.now ≡ Ok file) }
     ensures err { IfErr result (λ cause. cause ≢ Memory refused → file_in bytes.now ≡ Err cause) }

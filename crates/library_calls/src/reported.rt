@@ -73,6 +73,7 @@ fn put_names(text: &mut Text, names: &[Name], end: &str)
     }
 }
 
+#[tactic(auto, using(crate::proofs::ReportTextLemmas::by_part))]
 fn put_multiples(text: &mut Text, report: &Report)
     ensures { Puts text.old text.new (flat_map (λ n. line (n ++ codes ": Multiply defined"))
         (report.now.multiples.items ++ report.now.reserved.items)) }
@@ -81,6 +82,7 @@ fn put_multiples(text: &mut Text, report: &Report)
     put_names(text, &report.reserved, ": Multiply defined\n");
 }
 
+#[tactic(auto, using(crate::proofs::ReportTextLemmas::by_part))]
 fn put_entry(text: &mut Text, entry: &Option<Name>)
     ensures { Puts text.old text.new (entry_lines entry.now) }
 {
@@ -90,6 +92,7 @@ fn put_entry(text: &mut Text, entry: &Option<Name>)
     }
 }
 
+#[tactic(auto, using(crate::proofs::ReportTextLemmas::by_part))]
 fn put_undefined(text: &mut Text, names: &[Name])
     ensures { Puts text.old text.new (undefined_lines names.now) }
 {

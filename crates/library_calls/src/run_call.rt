@@ -77,9 +77,10 @@ fn result_of(
     session: Session,
     linked: &Linked,
     replies: Vec<u8>,
-) -> Result<RunResult, AllocError>
-    ensures { IfOk result (λ given. results_of given ≡ run_output is_placed session.forced
+) -> Result<RunResult, Cause>
+    ensures ok { IfOk result (λ given. results_of given ≡ run_output is_placed session.forced
         (objects session.entries) replies.items (outcome_of linked.now)) }
+    ensures err { IfErr result (λ cause. cause ≡ Memory refused) }
 {
     let file = bytes_of(alloc, &linked.file)?;
     let report = lines_of(alloc, &linked.report)?;
@@ -111,7 +112,7 @@ fn run_kept(
         → IsOk (link session.forced (objects session.entries) options.now)) }
 {
     let linked = link_kept(alloc, &session, options)?;
-    Ok(result_of(alloc, is_placed, session, &linked, replies)?)
+    result_of(alloc, is_placed, session, &linked, replies)
 }
 
 /// Links the object that each of the parts begins with.

@@ -62,7 +62,7 @@ pub(crate) fn take_each(
 {
     for part in parts {
         match take_first(alloc, session, part.bytes) {
-            Ok(()) => {}
+            Ok(_) => {}
             Err(cause) => {
                 let place = session.entries().len();
                 return Err(Refusal { cause, place });
