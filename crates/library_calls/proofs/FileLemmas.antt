@@ -1,6 +1,6 @@
 -- The file that bytes begin with, and its lines.
 use Rattle.std.proofs.Common.{◌≡◌, ℕ, ◌<◌, Bool, true, false, if◌then◌else◌, nat_lt, List, [], ◌∷◌, ◌++◌, append-nil}
-use Rattle.std.proofs.Common.{Result, Ok, Err, ap, sym, ◌∙◌}
+use Rattle.std.proofs.Common.{Result, Ok, Err, refl, ap, sym, ◌∙◌}
 use Rattle.std.specs.Prelude.{IsOk}
 use Rattle.std.specs.List.{flat_map}
 use Rattle.aout_core.specs.Contents.{Contents}
@@ -18,8 +18,8 @@ use Rattle.library_calls.specs.FileAnswers.{file_in, names_in, nm_options_in, nm
 use Rattle.library_calls.specs.MemoryWanted.{HasBody}
 
 is_whole : (r : Result Contents ReadFault) → IsOk r → IsOk (refused_as BadFile r)
-is_whole (Ok c) h = h
-is_whole (Err fault) h = absurd (h)
+is_whole (Ok c) h = refl
+is_whole (Err fault) h = absurd (cc)
 
 pub has_body : (bytes : List ℕ) → IsOk (decode bytes) → 16 < file_length (header_in bytes) → HasBody bytes
 has_body bytes whole more = record { whole = is_whole (decode bytes) whole; more = more }
