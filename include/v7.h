@@ -3,8 +3,7 @@
  * /usr/share/doc/libv7-dev. The header needs C99, or C++98 with <stdint.h>.
  *
  * Each call takes bytes and gives bytes, and keeps nothing for the next call. An object or a file is the bytes of an a.out
- * file; a list of objects is their bytes one after another, since the header of each says how long it is. v7_run, v7_map, v7_link_list
- * and v7_link_findings take the bytes of each object separately.
+ * file. v7_run, v7_map and v7_state take a list of objects, the bytes of each separately.
  *
  * Sizes are in bytes. A call takes memory from malloc and gives it back before it returns. Calls share nothing, so threads may
  * make them at once.
@@ -22,7 +21,7 @@
  *
  * V7_NO_MEMORY comes only at a stage at which nothing is refused. A call takes memory after it has accepted the options, the
  * form, the names and the sizes of parts, and for a file only if it is whole. So V7_NO_MEMORY never comes in place of 1 to 6, of 11
- * to 14 for a file, or of 7 and 11 to 14 for the first edit. Before v7_link reads an object it enters the forced names: if there are
+ * to 14 for a file, or of 7 and 11 to 14 for the first edit. Before a link reads an object it enters the forced names: if there are
  * none, V7_NO_MEMORY does not come in place of 11 to 14 for the first object either. Once an object or an edit is accepted, memory may
  * run out there, and V7_NO_MEMORY may come in place of any later fault: the answer does not say which request failed.
  */
@@ -225,13 +224,12 @@ struct v7_answer {
                          * the first part that is too long, of enum v7_part. 61 to 75: the column, or 0xffffffff if it is larger.
                          * v7_from_gnu: with V7_BAD_MAGIC the word that is there, with V7_ODD_SIZE the part, with
                          * V7_TOO_MANY_SYMBOLS how many symbols stay, and with 82 to 89 as described there. Otherwise 0 */
-    size_t place;       /* a number, counted from 0. For the faults 11 to 34 of a link it is that of the object, for 7 to 24 of
-                         * v7_session and v7_state that of the edit, and for V7_MANY_NAMES that of the name. For 61 to 75 it is the
-                         * line, counted from 1. For v7_from_gnu it is the byte of the file. For V7_NO_MEMORY it is that of an object
-                         * or edit which the call reached, or 0. Otherwise 0 */
+    size_t place;       /* a number, counted from 0. For the faults 11 to 34 of a link it is that of the object, for 7 to 24 of a
+                         * session that of the edit, and for V7_MANY_NAMES that of the name. For 61 to 75 it is the line, counted
+                         * from 1. For v7_from_gnu it is the byte of the file. For V7_NO_MEMORY it is that of an object or edit
+                         * which the call reached, or 0. Otherwise 0 */
     size_t size;        /* the size of the result; 0 for v7_take_apart and v7_read */
-    size_t report_size; /* for v7_link, v7_link_list and v7_session the size of the report, for v7_link_findings the number of
-                         * findings, for v7_state the number of replies, for v7_remarks the number of remarks; otherwise 0 */
+    size_t report_size; /* for v7_state the number of replies, for v7_remarks the number of remarks; otherwise 0 */
 };
 
 /* The part of an object that is too long. */
@@ -339,12 +337,12 @@ struct v7_remark {
 uint32_t v7_remarks(const unsigned char *bytes, size_t size, unsigned char *texts, size_t text_room, struct v7_remark *remarks,
                     size_t remark_room, struct v7_answer *answer);
 
-/* Links OBJECTS in their order, as `v7 ld` does: the linked file goes to ROOM, and the lines of the report to REPORT. Both are
- * written or neither. ENTRY is the name of the entry point, at most 8 bytes, or of size 0 if there is none. FORCED are
- * names that are mentioned before all objects, 8 bytes each, filled up with NULs. Without objects the program is empty. Bytes
- * after an object are the next object: if a file has other bytes after its end, pass only as many as v7_check gives. Faults, the
- * first that applies: 1 to 5, then for each object in turn 11 to 34, then 41 to 43. V7_NO_MEMORY comes as described above, and
- * V7_NO_ROOM last. */
+/* v7_run links objects, as `v7 ld` does, or makes the edits of a session first. It takes the bytes of each object separately, and what
+ * follows an object in its bytes is not looked at, so an object that is cut short is refused itself. Request and result begin with their
+ * sizes: set these to `sizeof`, and set all fields; what is 0 asks for nothing. A later library may know longer structs. This one takes
+ * shorter ones too, and does not touch what they lack: for a link whose report is wanted as lines alone, the request may end after
+ * `object_count`, and the result after `report_room`. Without V7_PLACES the result may end after `reply_room`. The size of a buffer is
+ * counted in what it holds: bytes, findings, replies or places. */
 enum v7_link_option {
     V7_RELOCATABLE = 1,   /* -r: keeps relocation, so that the result is an object */
     V7_STRIP = 2,         /* -s: keeps no symbols; wins over the next two */
@@ -354,64 +352,32 @@ enum v7_link_option {
     V7_SPLIT = 32,        /* -i: text and data both begin at 0 */
     V7_FORCE_COMMONS = 64 /* -d: lays commons out with V7_RELOCATABLE too */
 };
-uint32_t v7_link(uint32_t options, const unsigned char *entry, size_t entry_size, const unsigned char *forced, size_t forced_size,
-                 const unsigned char *objects, size_t objects_size, unsigned char *room, size_t room_size, unsigned char *report,
-                 size_t report_size, struct v7_answer *answer);
-
-/* Links objects as v7_link does, with the bytes of each object separately. What follows an object in its bytes is not looked at, as in
- * `v7 ld`. So an object that is cut short is refused itself; in a list of bytes the next object would be taken for its end. `place`
- * is the number of the object in OBJECTS. The faults are those of v7_link. */
 struct v7_slice {
     const unsigned char *bytes;
     size_t size;
 };
-uint32_t v7_link_list(uint32_t options, const unsigned char *entry, size_t entry_size, const unsigned char *forced, size_t forced_size,
-                      const struct v7_slice *objects, size_t object_count, unsigned char *room, size_t room_size,
-                      unsigned char *report, size_t report_size, struct v7_answer *answer);
-
-/* Links objects as v7_link_list does, and gives the report as a list: FINDINGS gets each name that is reported, and why, in the order
- * of the report's lines. FINDING_ROOM is counted in findings. The faults are those of v7_link. */
+/* Each edit is a letter: V7_ADD adds the next of the objects after those that are kept, and V7_WITHDRAW withdraws the last object that
+ * is kept. Objects after the last that is added are not looked at, so the first N edits with the same objects give the session as it
+ * was after N edits. An edit that was not made leaves the session as it was, and the status is 1. */
+enum v7_edit { V7_ADD = 'a', V7_WITHDRAW = 'w' };
+enum v7_mode {
+    V7_LINK = 0,   /* link all objects: `edits` are not read, and there are no replies */
+    V7_SESSION = 1 /* add and withdraw by the edits, and link what is left */
+};
+enum v7_want {
+    V7_REPORT = 1,   /* the report as lines */
+    V7_FINDINGS = 2, /* the report as a list */
+    V7_PLACES = 4    /* the objects of each finding, in the same order */
+};
 enum v7_finding_kind {
     V7_MULTIPLY_DEFINED = 1,  /* a further definition of the name differs from the first; once for each that does */
     V7_RESERVED_NAME = 2,     /* the name is _etext, _edata or _end, and an object defines it or makes it a common */
     V7_ENTRY_NOT_IN_TEXT = 3, /* the name is that of the entry point, and it is not in text */
     V7_UNDEFINED_NAME = 4     /* nothing defines the name; this is not reported with V7_RELOCATABLE */
 };
-struct v7_finding {
+struct v7_finding { /* a name that is reported, in the order of the report's lines */
     unsigned char name[8]; /* filled up with NULs */
     uint32_t kind;         /* of enum v7_finding_kind */
-};
-uint32_t v7_link_findings(uint32_t options, const unsigned char *entry, size_t entry_size, const unsigned char *forced,
-                          size_t forced_size, const struct v7_slice *objects, size_t object_count, unsigned char *room,
-                          size_t room_size, struct v7_finding *findings, size_t finding_room, struct v7_answer *answer);
-
-/* Runs EDITS, and links what is left, as v7_link does. Each edit is a letter: V7_ADD adds the next of OBJECTS after those that
- * are kept, and V7_WITHDRAW withdraws the last object that is kept. Bytes after the last object that is added are not looked
- * at, so the first N edits with the same objects give the session as it was after N edits. REPLIES gets a byte for each edit:
- * V7_DONE, V7_NOTHING if there was nothing to withdraw, or 31 to 34 if the object was not added. An edit that was not
- * made leaves the session as it was, and the status is 1. REPLIES, file and report are all written, or none is; REPLIES needs
- * as many bytes as there are edits. Faults, the first that applies: 1 to 5 as for v7_link, then for each edit in turn
- * V7_NO_EDIT, 11 to 14 (also if there is no further object), and 21 to 24, then 41 to 43. V7_NO_MEMORY comes as described above, and
- * V7_NO_ROOM last. */
-enum v7_edit { V7_ADD = 'a', V7_WITHDRAW = 'w' };
-uint32_t v7_session(uint32_t options, const unsigned char *entry, size_t entry_size, const unsigned char *forced, size_t forced_size,
-                    const unsigned char *edits, size_t edit_count, const unsigned char *objects, size_t objects_size,
-                    unsigned char *replies, size_t replies_size, unsigned char *room, size_t room_size, unsigned char *report,
-                    size_t report_size, struct v7_answer *answer);
-
-/* v7_run is one call for a link and for a session. It takes the bytes of each object separately, so an object that is cut short is
- * refused itself. Request and result begin with their sizes: set these to `sizeof`, and set all fields; what is 0 asks for nothing.
- * A later library may know longer structs. This one takes shorter ones too, and does not touch what they lack: for a link whose
- * report is wanted as lines alone, the request may end after `object_count`, and the result after `report_room`. Without V7_PLACES the
- * result may end after `reply_room`. The size of a buffer is counted in what it holds: bytes, findings, replies or places. */
-enum v7_mode {
-    V7_LINK = 0,   /* link all objects, as v7_link_list does: `edits` are not read, and there are no replies */
-    V7_SESSION = 1 /* add and withdraw by the edits, and link what is left, as v7_session does: V7_ADD adds the next of the objects */
-};
-enum v7_want {
-    V7_REPORT = 1,   /* the report as lines */
-    V7_FINDINGS = 2, /* the report as a list */
-    V7_PLACES = 4    /* the objects of each finding, in the same order */
 };
 /* The objects of a finding, by their numbers; SIZE_MAX if there is none. In a link these are the numbers in `objects`. In a session they
  * count the objects that are kept, in their order. */
@@ -424,9 +390,9 @@ struct v7_request {
     uint32_t mode;    /* of enum v7_mode */
     uint32_t options; /* bits of enum v7_link_option */
     uint32_t wants;   /* bits of enum v7_want: buffers for what is not wanted are left alone, and its size is 0 */
-    struct v7_slice entry;
-    struct v7_slice forced;
-    const struct v7_slice *objects;
+    struct v7_slice entry;  /* the name of the entry point, at most 8 bytes, or of size 0 if there is none */
+    struct v7_slice forced; /* names that are mentioned before all objects, 8 bytes each, filled up with NULs */
+    const struct v7_slice *objects; /* without objects the program is empty */
     size_t object_count;
     struct v7_slice edits;
 };
@@ -452,9 +418,12 @@ struct v7_result {
     size_t place_room;
 };
 
-/* Does what REQUEST asks for. File, replies and what is wanted of the report are all written, or none is. The status and the faults
- * are those of v7_link_list and v7_session. V7_NO_OPTION also stands for a mode or a want that this library does not know, and for
- * a struct that is too short for them. */
+/* Does what REQUEST asks for. File, replies and what is wanted of the report are all written, or none is. `replies` gets a byte for each
+ * edit: V7_DONE, V7_NOTHING if there was nothing to withdraw, or 31 to 34 if the object was not added. The first fault that applies is
+ * given. V7_NO_OPTION also stands for a mode or a want that this library does not know, and for a struct that is too short for them. Then
+ * come 2 to 5. In a link 11 to 34 follow for each object in turn, and in a session V7_NO_EDIT, 11 to 14 (also if there is no further
+ * object) and 21 to 24 for each edit in turn. Then 41 to 43 come, V7_NO_MEMORY as described above, and V7_NO_ROOM last. A result that
+ * ends before `file` stays as it was, and the status is 2. */
 uint32_t v7_run(const struct v7_request *request, struct v7_result *result);
 
 /* The map of a link, as `v7-explain -m` shows it; v7-explain(1) describes it. Objects, names and uses are numbered from 0. */
@@ -548,11 +517,13 @@ struct v7_map {
 };
 
 /* Gives the map of the link that REQUEST asks for; its mode is V7_LINK, and what it wants is not looked at. All objects are read first.
- * Then a link that is refused has a map too, and the status is 1. Faults: those of v7_link_list but for 31 to 43, which are in the
- * map. V7_NO_OPTION also stands for another mode, and for a struct that is too short. */
+ * Then a link that is refused has a map too, and the status is 1. Faults: those of a link by v7_run but for 31 to 43, which are in the
+ * map. V7_NO_OPTION also stands for another mode, and for a struct that is too short. A map that ends before `objects` stays as it was,
+ * and the status is 2. */
 uint32_t v7_map(const struct v7_request *request, struct v7_map *map);
 
-/* Runs EDITS as v7_session does, and writes what the session then shows, without a link. ROOM gets it as lines, each with its
+/* Makes the edits of REQUEST as v7_run does, and writes what the session then shows, without a link; its mode is V7_SESSION, and its
+ * options, its entry point and what it wants are not looked at. ROOM gets it as lines, each with its
  * newline, or as one JSON object. It has the words of the merged text and data, each with its offset in bytes, its value and
  * what it refers to or waits for. It has the size of bss in bytes, the external names with what is known of each, and the names
  * that are multiply defined. And it has the marks of the last object that is kept: what its addition overwrote, in order, and
@@ -560,13 +531,13 @@ uint32_t v7_map(const struct v7_request *request, struct v7_map *map);
  * its first mark has what was known of it before the addition, and each later one what the change before it led to. Lines have
  * offsets and values in octal and sizes in decimal; a byte of a name that does not print, a blank and a backslash are \ooo there.
  * JSON has all numbers in decimal; a byte of a name that does not print, a quote and a backslash are \u00xx there. v7(3) lists
- * the members of the JSON object. REPLIES are those of v7_session; `report_size` is how many there are. The status is 1 if an
- * edit was not made. State and replies are both written, or neither is. Faults, the first that applies: V7_NO_OPTION for FORM,
- * 4 and 5, then for each edit in turn those of v7_session. V7_NO_MEMORY comes as described above, and V7_NO_ROOM last. */
+ * the members of the JSON object. REPLIES are those of v7_run; `report_size` is how many there are. The status is 1 if an edit
+ * was not made. State and replies are both written, or neither is. Faults, the first that applies: V7_NO_OPTION for FORM, another
+ * mode, or a struct that is too short, 4 and 5, then for each edit in turn those of v7_run. V7_NO_MEMORY comes as described above, and
+ * V7_NO_ROOM last. */
 enum v7_form { V7_LINES = 0, V7_JSON = 1 };
-uint32_t v7_state(uint32_t form, const unsigned char *forced, size_t forced_size, const unsigned char *edits, size_t edit_count,
-                  const unsigned char *objects, size_t objects_size, unsigned char *replies, size_t replies_size,
-                  unsigned char *room, size_t room_size, struct v7_answer *answer);
+uint32_t v7_state(uint32_t form, const struct v7_request *request, unsigned char *replies, size_t replies_size, unsigned char *room,
+                  size_t room_size, struct v7_answer *answer);
 
 /* A relocation word is one of these kinds, or V7_REFERS_TO(N); and V7_FROM_PC more if the word is relative to the pc.
  *

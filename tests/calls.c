@@ -9,7 +9,7 @@ enum { GUARD = 16, FILLER = 0xa5 };
 
 static const char *const names[CALLS] = {
     "v7_check", "v7_strip", "v7_nm", "v7_size", "v7_disassemble", "v7_list", "v7_read", "v7_take_apart", "v7_disassemble_words",
-    "v7_from_listing", "v7_from_gnu", "v7_remarks", "v7_make", "v7_link", "v7_link_list", "v7_link_findings", "v7_session", "v7_state"};
+    "v7_from_listing", "v7_from_gnu", "v7_remarks", "v7_make", "v7_run", "v7_run for findings", "v7_run for a session", "v7_state"};
 
 /* rooms, aligned for words, symbols, findings and remarks */
 static union {
@@ -105,10 +105,59 @@ static uint32_t call_with_bytes(const struct request *r)
     }
 }
 
+/* what v7_run or v7_state is asked for: the entry point but for v7_state, forced names, the edits of a session, and objects */
+static struct v7_request asked(const struct request *r)
+{
+    const struct span *in = r->in;
+    struct v7_request asked = {.size = sizeof asked, .options = r->option, .wants = r->call == FINDINGS ? V7_FINDINGS : V7_REPORT};
+
+    if (r->call != STATE) {
+        asked.entry = (struct v7_slice){in->at, in->size};
+        in++;
+    }
+    asked.forced = (struct v7_slice){in->at, in->size};
+    in++;
+    if (r->call == SESSION || r->call == STATE) {
+        asked.mode = V7_SESSION;
+        asked.edits = (struct v7_slice){in->at, in->size};
+        in++;
+    }
+    asked.objects = in->at;
+    asked.object_count = in->size;
+    return asked;
+}
+
+/* v7_run, with its result as an answer */
+static uint32_t run(const struct request *r)
+{
+    const struct v7_request request = asked(r);
+    const struct space *room = r->room + (r->call == SESSION);
+    struct v7_result result = {.size = sizeof result, .file = room[0].at, .file_room = room[0].size};
+    uint32_t status;
+
+    if (r->call == FINDINGS) {
+        result.findings = room[1].at;
+        result.finding_room = room[1].size;
+    } else {
+        result.report = room[1].at;
+        result.report_room = room[1].size;
+    }
+    if (r->call == SESSION) {
+        result.replies = r->room[0].at;
+        result.reply_room = r->room[0].size;
+    }
+    status = v7_run(&request, &result);
+    answer = (struct v7_answer){result.fault, result.word, result.place, result.file_size, r->call == FINDINGS ? result.finding_count : result.report_size};
+    if (result.reply_count != (result.fault == 0 || result.fault == V7_NO_ROOM ? request.edits.size : 0))
+        answer.word = 0xffffffff;
+    return status;
+}
+
 static uint32_t call(const struct request *r)
 {
     const struct span *in = r->in;
     const struct space *room = r->room;
+    struct v7_request request;
 
     switch (r->call) {
     case DISASSEMBLE_WORDS:
@@ -117,21 +166,12 @@ static uint32_t call(const struct request *r)
         return v7_make(in[0].at, in[0].size, in[1].at, in[1].size, r->option, in[2].at, in[2].size, room[0].at,
                        room[0].size, &answer);
     case LINK:
-        return v7_link(r->option, in[0].at, in[0].size, in[1].at, in[1].size, in[2].at, in[2].size, room[0].at,
-                       room[0].size, room[1].at, room[1].size, &answer);
-    case LINK_LIST:
-        return v7_link_list(r->option, in[0].at, in[0].size, in[1].at, in[1].size, in[2].at, in[2].size, room[0].at,
-                            room[0].size, room[1].at, room[1].size, &answer);
-    case LINK_FINDINGS:
-        return v7_link_findings(r->option, in[0].at, in[0].size, in[1].at, in[1].size, in[2].at, in[2].size, room[0].at,
-                                room[0].size, room[1].at, room[1].size, &answer);
+    case FINDINGS:
     case SESSION:
-        return v7_session(r->option, in[0].at, in[0].size, in[1].at, in[1].size, in[2].at, in[2].size, in[3].at,
-                          in[3].size, room[0].at, room[0].size, room[1].at, room[1].size, room[2].at, room[2].size,
-                          &answer);
+        return run(r);
     case STATE:
-        return v7_state(r->option, in[0].at, in[0].size, in[1].at, in[1].size, in[2].at, in[2].size, room[0].at,
-                        room[0].size, room[1].at, room[1].size, &answer);
+        request = asked(r);
+        return v7_state(r->option, &request, room[0].at, room[0].size, room[1].at, room[1].size, &answer);
     default:
         return call_with_bytes(r);
     }
@@ -144,7 +184,7 @@ static size_t unit(enum call kind, int i)
         return i < 2 ? sizeof(struct v7_word) : sizeof(struct v7_symbol);
     if (kind == REMARKS && i == 1)
         return sizeof(struct v7_remark);
-    return kind == LINK_FINDINGS && i == 1 ? sizeof(struct v7_finding) : 1;
+    return kind == FINDINGS && i == 1 ? sizeof(struct v7_finding) : 1;
 }
 
 /* the bytes of a room, and those after it that have to stay as they are */
@@ -245,7 +285,7 @@ void expect_fault_without_memory(const char *what, const struct request *r, uint
     W(0407), W(4), W(0), W(0), W(12), W(0), W(0), W(0), W(0240), W(0207), W(0), W(0), NAME('_', 'f'), W(042), W(2)
 
 const unsigned char object[56] = {OBJECT};
-static const unsigned char more[] = {OBJECT, 1, 2, 3, 4, 5}, both[] = {OBJECT, DEFINITION};
+static const unsigned char more[] = {OBJECT, 1, 2, 3, 4, 5};
 static const unsigned char stripped[] = {W(0407), W(6), W(2), W(4), W(0), W(0), W(0), W(1), CONTENTS};
 static const unsigned char linked[] = {W(0407), W(10), W(2), W(4), W(24), W(8), W(0), W(1),
                                        W(04767), W(4), W(0207), W(0240), W(0207), W(7),
@@ -262,7 +302,7 @@ static const char state[] = "  text 000000  004767     a number\n"
                             "  mark _f was undefined\n"
                             "  mark text 000002 was 177774 pc  waits for _f\n";
 static const unsigned char definition[] = {DEFINITION};
-static const struct v7_slice apart[] = {{more, sizeof more}, {definition, sizeof definition}};
+static const struct v7_slice both[] = {{more, sizeof more}, {definition, sizeof definition}};
 static const struct v7_finding findings[] = {{"_x", V7_UNDEFINED_NAME}};
 static const struct v7_word text[] = {{04767, 0}, {0177774, 011}, {0207, 0}}, data[] = {{7, 0}};
 static const struct v7_symbol symbols[] = {{"_f", 040, 0}, {"L1", 02, 0}};
@@ -316,11 +356,10 @@ const struct request good[CALLS] = {
     {FROM_GNU, V7_DROP_DEBUGGER, {BYTES(gnu_object)}, {SPACE(0, 56)}},
     {REMARKS, 0, {BYTES(more)}, {SPACE(0, sizeof remark_text - 1), SPACE(1, 1)}},
     {MAKE, 4, {LIST(text), LIST(data), LIST(symbols)}, {SPACE(0, 56)}},
-    {LINK, V7_NOT_L, {STRING("_f"), FORCED, BYTES(both)}, {SPACE(0, 52), SPACE(1, 14)}},
-    {LINK_LIST, V7_NOT_L, {STRING("_f"), FORCED, LIST(apart)}, {SPACE(0, 52), SPACE(1, 14)}},
-    {LINK_FINDINGS, V7_NOT_L, {STRING("_f"), FORCED, LIST(apart)}, {SPACE(0, 52), SPACE(1, 1)}},
-    {SESSION, V7_NOT_L, {STRING("_f"), FORCED, STRING("waa"), BYTES(both)}, {SPACE(0, 3), SPACE(1, 52), SPACE(2, 14)}},
-    {STATE, V7_LINES, {FORCED, STRING("waa"), BYTES(both)}, {SPACE(0, 3), SPACE(1, sizeof state - 1)}},
+    {LINK, V7_NOT_L, {STRING("_f"), FORCED, LIST(both)}, {SPACE(0, 52), SPACE(1, 14)}},
+    {FINDINGS, V7_NOT_L, {STRING("_f"), FORCED, LIST(both)}, {SPACE(0, 52), SPACE(1, 1)}},
+    {SESSION, V7_NOT_L, {STRING("_f"), FORCED, STRING("waa"), LIST(both)}, {SPACE(0, 3), SPACE(1, 52), SPACE(2, 14)}},
+    {STATE, V7_LINES, {FORCED, STRING("waa"), LIST(both)}, {SPACE(0, 3), SPACE(1, sizeof state - 1)}},
 };
 static const struct wanted given[CALLS] = {
     {0, {0, 0, 0, 56, 0}, {0}, {{0}}, {0}},
@@ -336,7 +375,6 @@ static const struct wanted given[CALLS] = {
     {0, {0, 0, 0, 56, 0}, {0}, {BYTES(object)}, {0}},
     {0, {0, 0, 0, sizeof remark_text - 1, 1}, {0}, {STRING(remark_text), {remarks, sizeof remarks}}, {0}},
     {0, {0, 0, 0, 56, 0}, {0}, {BYTES(object)}, {0}},
-    {1, {0, 0, 0, 52, 14}, {0}, {BYTES(linked), REPORT}, {0}},
     {1, {0, 0, 0, 52, 14}, {0}, {BYTES(linked), REPORT}, {0}},
     {1, {0, 0, 0, 52, 1}, {0}, {BYTES(linked), BYTES(findings)}, {0}},
     {1, {0, 0, 0, 52, 14}, {0}, {REPLIES, BYTES(linked), REPORT}, {0}},
@@ -368,7 +406,7 @@ static void check_rooms(enum call kind)
  * is that of an object or an edit, or 0. */
 static void check_memory(enum call kind)
 {
-    static const size_t last_place[CALLS] = {[LINK] = 1, [LINK_LIST] = 1, [LINK_FINDINGS] = 1, [SESSION] = 2, [STATE] = 2};
+    static const size_t last_place[CALLS] = {[LINK] = 1, [FINDINGS] = 1, [SESSION] = 2, [STATE] = 2};
     const struct request *r = &good[kind];
     size_t all = (status_of(r), requests), n;
 
@@ -430,15 +468,13 @@ static void exchange_rooms(enum call kind, int count)
 static void check_exchanged(void)
 {
     exchange_spans(MAKE, 2);
-    exchange_spans(LINK, 3);
-    exchange_spans(LINK_LIST, 2);
-    exchange_spans(LINK_FINDINGS, 2);
-    exchange_spans(SESSION, 4);
-    exchange_spans(STATE, 3);
+    exchange_spans(LINK, 2);
+    exchange_spans(FINDINGS, 2);
+    exchange_spans(SESSION, 3);
+    exchange_spans(STATE, 2);
     exchange_rooms(READ, 2);
     exchange_rooms(TAKE_APART, 2);
     exchange_rooms(LINK, 2);
-    exchange_rooms(LINK_LIST, 2);
     exchange_rooms(SESSION, 3);
     exchange_rooms(STATE, 2);
 }

@@ -19,8 +19,7 @@ enum call {
     REMARKS,
     MAKE,
     LINK,
-    LINK_LIST,
-    LINK_FINDINGS,
+    FINDINGS,
     SESSION,
     STATE,
     CALLS
@@ -40,8 +39,8 @@ struct space {
 };
 
 /* A call: OPTIONS, FORM, BSS or ADDRESS, what it reads and its rooms, each in the order of the parameters. Sizes are those of the
- * call: of v7_make, v7_take_apart, v7_read and v7_disassemble_words numbers of words and symbols, of v7_link_list and
- * v7_link_findings numbers of objects and findings. */
+ * call: of v7_make, v7_take_apart, v7_read and v7_disassemble_words numbers of words and symbols, of v7_run and v7_state numbers of
+ * objects and findings. LINK, FINDINGS and SESSION are calls of v7_run: a link with its report as lines or as a list, and a session. */
 struct request {
     enum call call;
     uint32_t option;

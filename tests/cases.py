@@ -213,17 +213,18 @@ def cannot_be_made(item, word):
 
 
 def shown_after(item, names, edits, files):
-    """What `library_uses` prints of a session after these edits. It finds the objects by their lengths, one after another."""
+    """What `library_uses` prints of a session after these edits."""
     for word in edits:
         if word != b"-" and not (word[:1] == b"+" and is_whole(files.get(word[1:], b""))):
             raise cannot_be_made(item, word)
-    objects = b"".join(files[word[1:]] for word in edits if word != b"-")
+    objects = [files[word[1:]] for word in edits if word != b"-"]
     letters = b"".join(b"w" if word == b"-" else b"a" for word in edits)
     with tempfile.TemporaryDirectory() as directory:
-        for name, data in ("forced", b"".join(name[:8].ljust(8, b"\0") for name in names)), ("objects", objects):
-            with open(os.path.join(directory, name), "wb") as file:
+        for name, data in enumerate([b"".join(name[:8].ljust(8, b"\0") for name in names), *objects]):
+            with open(os.path.join(directory, str(name)), "wb") as file:
                 file.write(data)
-        return run(item.line, [b"library_uses", b"state", b"forced", letters, b"objects"], directory)
+        paths = [b"%d" % number for number in range(1, len(objects) + 1)]
+        return run(item.line, [b"library_uses", b"state", b"0", letters, *paths], directory)
 
 
 def play_state(item, files):

@@ -87,8 +87,7 @@ static void check_all_asked(void)
     for (n = 0; n < sizeof asked / sizeof *asked; n++) {
         check_asked(&asked[n], FOR_NM, NM);
         check_asked(&asked[n], FOR_LINK, LINK);
-        check_asked(&asked[n], FOR_LINK, LINK_LIST);
-        check_asked(&asked[n], FOR_LINK, LINK_FINDINGS);
+        check_asked(&asked[n], FOR_LINK, FINDINGS);
         check_asked(&asked[n], FOR_SESSION, SESSION);
         check_asked(&asked[n], FOR_STATE, STATE);
     }
@@ -147,27 +146,21 @@ static void check_file(const struct damage *d, enum call kind)
         expect_fault_without_memory("a file without memory", &r, d->fault, d->word, 0);
 }
 
-/* A damaged object, the first of a list, without forced names. */
-static void check_first(const struct damage *d, enum call kind, int list)
+/* A damaged object that the first edit adds, without forced names; and one after an object that is taken, where the edits are w, a and
+ * a. The objects are the last span. */
+static void check_edits(const struct damage *d, enum call kind, int last)
 {
+    const struct v7_slice list[] = {{object, sizeof object}, {objects, d->size}};
     struct request r = good[kind];
 
-    r.in[kind == STATE ? 0 : 1] = nothing;
-    if (kind != LINK)
-        r.in[list - 1] = (struct span){letters.at, 1};
-    r.in[list] = (struct span){objects, d->size};
-    expect_fault("the first object", &r, d->fault, d->word, 0);
+    r.in[last] = (struct span){list, 2};
+    expect_fault("an edit", &r, d->fault, d->word, 2);
+    r.in[last - 2] = nothing;
+    r.in[last - 1] = (struct span){letters.at, 1};
+    r.in[last] = (struct span){list + 1, 1};
+    expect_fault("the first edit", &r, d->fault, d->word, 0);
     if (d->fault <= V7_TRUNCATED)
-        expect_fault_without_memory("the first object without memory", &r, d->fault, d->word, 0);
-}
-
-/* A damaged object after one that is taken. */
-static void check_list(const struct damage *d, enum call kind, int list, size_t place)
-{
-    struct request r = good[kind];
-
-    r.in[list] = (struct span){objects, sizeof object + d->size};
-    expect_fault("a list of objects", &r, d->fault, d->word, place);
+        expect_fault_without_memory("the first edit without memory", &r, d->fault, d->word, 0);
 }
 
 /* A damaged object among others, each with its bytes apart: it is blamed itself, even where an object follows that would be taken for
@@ -213,17 +206,10 @@ static void check_damages(void)
         for (kind = CHECK; kind <= TAKE_APART; kind++)
             check_file(d, (enum call)kind);
         check_remarks(d);
-        check_slices(d, LINK_LIST);
-        check_slices(d, LINK_FINDINGS);
-        check_first(d, LINK, 2);
-        check_first(d, SESSION, 3);
-        check_first(d, STATE, 2);
-        memcpy(objects, object, sizeof object);
-        put_damaged(d, objects + sizeof object);
-        check_list(d, LINK, 2, 1);
-        /* the edits are w, a and a */
-        check_list(d, SESSION, 3, 2);
-        check_list(d, STATE, 2, 2);
+        check_slices(d, LINK);
+        check_slices(d, FINDINGS);
+        check_edits(d, SESSION, 3);
+        check_edits(d, STATE, 2);
     }
 }
 
@@ -338,12 +324,10 @@ static void check_replies(struct request *r, int edits, size_t n, uint32_t fault
 static void check_limit(const struct limit *l)
 {
     size_t size, n = put_objects(l, &size);
-    const struct span list = {objects, size};
     struct v7_slice slices[16];
-    struct request apart = {LINK_LIST, l->option, {nothing, nothing, {slices, n}}, {good[LINK].room[0], good[LINK].room[1]}};
-    struct request link = {LINK, l->option, {nothing, nothing, list}, {good[LINK].room[0], good[LINK].room[1]}};
+    struct request link = {LINK, l->option, {nothing, nothing, {slices, n}}, {good[LINK].room[0], good[LINK].room[1]}};
     struct request session = good[SESSION], state = good[STATE];
-    const struct span in[4] = {nothing, nothing, {letters.at, n}, list};
+    const struct span in[4] = {nothing, nothing, {letters.at, n}, {slices, n}};
 
     memcpy(session.in, in, sizeof in);
     memcpy(state.in, in + 1, 3 * sizeof *in);
@@ -351,16 +335,14 @@ static void check_limit(const struct limit *l)
     put_slices(slices, n, size);
     if (l->fault >= V7_DOES_NOT_FIT) {
         expect_fault("a limit of links", &link, l->fault, 0, 0);
-        expect_fault("a limit of links", &apart, l->fault, 0, 0);
-        apart.call = LINK_FINDINGS;
-        expect_fault("a limit of links", &apart, l->fault, 0, 0);
+        link.call = FINDINGS;
+        expect_fault("a limit of links", &link, l->fault, 0, 0);
         expect_fault("a limit of links", &session, l->fault, 0, 0);
         return;
     }
     expect_fault("a limit of objects", &link, l->fault, 0, n - 1);
-    expect_fault("a limit of objects", &apart, l->fault, 0, n - 1);
-    apart.call = LINK_FINDINGS;
-    expect_fault("a limit of objects", &apart, l->fault, 0, n - 1);
+    link.call = FINDINGS;
+    expect_fault("a limit of objects", &link, l->fault, 0, n - 1);
     /* what is kept can be linked: without its names, and with its text in a space of its own */
     session.option = V7_STRIP | V7_SPLIT;
     check_replies(&session, 2, n, l->fault);
@@ -377,7 +359,7 @@ static void check_findings(void)
                                               {"_nowhere", V7_ENTRY_NOT_IN_TEXT}, {"_g", V7_UNDEFINED_NAME}};
     static const unsigned char file[20] = {7, 1, 4, 0, 0, 0, 0, 0, 0, 0, 0, 0, 0, 0, 1, 0, 0240, 0, 0207, 0};
     const struct v7_slice both[] = {{objects, 16 + 8 + 12}, {objects + 36, 16 + 36}};
-    struct request r = {LINK_FINDINGS, V7_STRIP, {{"_nowhere", 8}, nothing, {both, 2}}, {good[LINK].room[0], good[LINK].room[1]}};
+    struct request r = {FINDINGS, V7_STRIP, {{"_nowhere", 8}, nothing, {both, 2}}, {good[LINK].room[0], good[LINK].room[1]}};
     const struct wanted w = {1, {0, 0, 0, sizeof file, 4}, {0}, {{file, sizeof file}, {found, sizeof found}}, {0}};
 
     v7_make(text, 2, NULL, 0, 0, first, 1, objects, 36, &answer);
@@ -596,7 +578,6 @@ static void check_null(void)
     const struct request session = {SESSION, 0, {{NULL, 0}, {NULL, 0}, {NULL, 0}, {NULL, 0}}, {{NULL, 0}, room, {NULL, 0}}};
     const struct request make = {MAKE, 0, {{NULL, 0}, {NULL, 0}, {NULL, 0}}, {room}};
     const struct v7_slice none[] = {{NULL, 0}};
-    struct request list = {LINK_LIST, 0, {{NULL, 0}, {NULL, 0}, {NULL, 0}}, {room, {NULL, 0}}};
     const struct request check = {CHECK, 0, {{NULL, 0}}, {{0}}};
     const struct request no_words = {DISASSEMBLE_WORDS, 0, {{NULL, 0}}, {{NULL, 0}}};
     const struct wanted no_lines = {0, {0, 0, 0, 0, 0}, {0}, {{NULL, 0}}, {0}};
@@ -605,13 +586,12 @@ static void check_null(void)
     expect("null parts", &make, &header);
     put_word(bytes + 14, 1);
     expect("null pointers", &link, &header);
-    expect("null pointers", &list, &header);
-    list.in[2] = (struct span){none, 1};
-    expect_fault("a null slice", &list, V7_SHORT_HEADER, 0, 0);
-    list.call = LINK_FINDINGS;
-    expect_fault("a null slice", &list, V7_SHORT_HEADER, 0, 0);
-    list.in[2] = (struct span){NULL, 0};
-    expect("null pointers", &list, &header);
+    link.in[2] = (struct span){none, 1};
+    expect_fault("a null slice", &link, V7_SHORT_HEADER, 0, 0);
+    link.call = FINDINGS;
+    expect_fault("a null slice", &link, V7_SHORT_HEADER, 0, 0);
+    link.in[2] = (struct span){NULL, 0};
+    expect("null pointers", &link, &header);
     expect("null pointers", &session, &session_header);
     expect_fault("null bytes", &check, V7_SHORT_HEADER, 0, 0);
     expect("null words", &no_words, &no_lines);

@@ -24,10 +24,10 @@ CODE = {
     "v7_part": ("library_calls/src/cause.rt", r"LongPart::{Name} => (\d+),", 1),
     "v7_nm_option": ("library_calls/src/requests.rt", r"\b{name}: has_bit\(bits, (\d+)\)", 1),
     "v7_link_option": ("library_calls/src/requests.rt", r"\b{name}: has_bit\(bits, (\d+)\)", 1),
-    "v7_reply": ("library_calls/src/edits.rt", r"Reply::{Name} => (\d+),", 1),
+    "v7_reply": ("library_calls/src/edits.rt", r"None => (\d+),", 1),
     "v7_form": ("library_calls/src/state_call.rt", r"(\d+) => Ok\(Form::{Name}\)", 1),
-    "v7_edit": ("library_calls/src/edits.rt", r"(b'\w') => Ok\(\(Edit::{Name},", 1),
-    "v7_finding_kind": ("library_calls/src/findings_call.rt", r"named\(alloc, (\d+), &report\.{name}", 1),
+    "v7_edit": ("library_calls/src/edits.rt", r"(b'\w') => Ok\(Edit::{Name}\),", 1),
+    "v7_finding_kind": ("library_calls/src/reported.rt", r"named\(alloc, (\d+), &report\.{name}", 1),
     "v7_remark_kind": ("library_calls/src/remarks_call.rt", r"FindingKind::{Name} => (\d+),", 1),
     "v7_relocation": ("aout_core/src/reloc.rt", r"(\d+) => Some\(Kind::{Name}\)", 2),
     "v7_segment": ("aout_core/src/symbol.rt", r"Segment::{Name} => (\d+),", 1),
@@ -35,7 +35,7 @@ CODE = {
 # those whose name or place is another
 OTHERS = {
     "V7_NO_FAULT": ("v7_c/src/buffers.rt", r"Answer::given\((0), ", 1),
-    "V7_NO_MEMORY": ("library_calls/src/cause.rt", r"Cause::Memory => (\d+),", 1),
+    "V7_NO_MEMORY": ("library_calls/src/cause.rt", r"Cause::Memory\(_\) => (\d+),", 1),
     "V7_NO_ROOM": ("v7_c/src/buffers.rt", r"const NO_ROOM: u32 = (\d+);", 1),
     "V7_ODD_SIZE": ("library_calls/src/cause.rt", r"(?:ReadFault|Refusal)::OddSize(?:\(\w+\))? => (\d+),", 1),
     "V7_TOO_MANY_SYMBOLS": ("library_calls/src/cause.rt", r"(?:LinkFault|Refusal)::TooManySymbols(?:\(\w+\))? => (\d+),", 1),
@@ -46,12 +46,12 @@ OTHERS = {
     "V7_DROP_UNUSED": ("library_calls/src/gnu_call.rt", r"has_bit\(bits, (\d+)\) \{\s*Locals::KeepNeeded", 1),
     "V7_DROP_LOCALS": ("library_calls/src/gnu_call.rt", r"has_bit\(bits, (\d+)\) \{\s*Locals::KeepNone", 1),
     "V7_FORCE_COMMONS": ("library_calls/src/requests.rt", r"\bcommons: has_bit\(bits, (\d+)\)", 1),
-    "V7_DONE": ("library_calls/src/edits.rt", r"Reply::Added \| Reply::Withdrew\(_\) => (\d+),", 1),
-    "V7_ADD": ("library_calls/src/edits.rt", r"(b'\w') => \{\s*let \(object, after\)", 1),
-    "V7_MULTIPLY_DEFINED": ("library_calls/src/findings_call.rt", r"named\(alloc, (\d+), &report\.multiples", 1),
-    "V7_RESERVED_NAME": ("library_calls/src/findings_call.rt", r"named\(alloc, (\d+), &report\.reserved", 1),
-    "V7_ENTRY_NOT_IN_TEXT": ("library_calls/src/findings_call.rt", r"named\(alloc, (\d+), &\[\*name\]\)", 1),
-    "V7_UNDEFINED_NAME": ("library_calls/src/findings_call.rt", r"named\(alloc, (\d+), &report\.undefined", 1),
+    "V7_DONE": ("library_calls/src/edits.rt", r"Some\(_\) => (\d+),", 1),
+    "V7_ADD": ("library_calls/src/edits.rt", r"(b'\w') => Ok\(Edit::Add\(", 1),
+    "V7_MULTIPLY_DEFINED": ("library_calls/src/reported.rt", r"named\(alloc, (\d+), &report\.multiples", 1),
+    "V7_RESERVED_NAME": ("library_calls/src/reported.rt", r"named\(alloc, (\d+), &report\.reserved", 1),
+    "V7_ENTRY_NOT_IN_TEXT": ("library_calls/src/reported.rt", r"named\(alloc, (\d+), &\[\*name\]\)", 1),
+    "V7_UNDEFINED_NAME": ("library_calls/src/reported.rt", r"named\(alloc, (\d+), &report\.undefined", 1),
     "V7_NUMBER": ("aout_core/src/reloc.rt", r"(\d+) => Some\(Kind::Absolute\)", 2),
     "V7_FROM_PC": ("aout_core/src/reloc.rt", r"self\.0 & (\d+) == 1", 1),
     "V7_EXTERNAL": ("aout_core/src/symbol.rt", r"self\.type_bits / (0o\d+) % 2", 1),
@@ -236,8 +236,10 @@ def with_fields(structs, texts, names):
         for field, kind in structs[struct].items():
             inner = re.search(r"struct (\w+)", kind)
             if inner and inner[1] not in names and field in fields:
-                names[inner[1]] = re.sub(r"<.*|[\]>].*", "", re.sub(r"^&('\w+ )?(mut )?\[?", "", fields[field]))
-                waiting.append(inner[1])
+                name = re.sub(r"<.*|[\]>].*", "", re.sub(r"^&('\w+ )?(mut )?\[?", "", fields[field]))
+                if fields_in_code(texts, name):
+                    names[inner[1]] = name
+                    waiting.append(inner[1])
     return names
 
 

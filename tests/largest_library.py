@@ -85,39 +85,19 @@ def bad(kind):
             check("the fault", (fault.fault, fault.word), (wanted, 0))
 
 
-def rooms(call, *words, kind=ctypes.c_char):
-    """The status, the file and the report of a call, which is made twice: for the sizes of both, and for both."""
-    answer, size, count = v7._Answer(), 0, 0
-    for _ in range(2):
-        file, report = v7._room(size), (kind * max(count, 1))()
-        status = call(*words, file, ctypes.c_size_t(size), report, ctypes.c_size_t(count), ctypes.byref(answer))
-        size, count = answer.size, answer.report_size
-    if answer.fault:
-        raise v7.Fault(answer)
-    return status, file.raw[:size], report[:count]
-
-
 def linked(kind):
     """The links of each call are those of the model."""
     objects = list(encoded(kind).values())
     merged = largest.merged(objects)
-    joined, apart = v7._slice(b"".join(objects)), v7._array(v7._Slice, [v7._Slice(data, len(data)) for data in objects])
     for letters in "", "r", "i", "s":
-        words = [ctypes.c_uint32(agree_library.options_of(model.Arguments(set(letters), {}, []))), *v7._slice(b""), *v7._slice(b"")]
-        calls = {
-            "v7_link": lambda: rooms(v7._LIBRARY.v7_link, *words, *joined),
-            "v7_link_list": lambda: rooms(v7._LIBRARY.v7_link_list, *words, *apart),
-            "link": lambda: v7.link(objects, words[0].value),
-            "v7_link_findings": lambda: rooms(v7._LIBRARY.v7_link_findings, *words, *apart, kind=v7._Finding),
-            "link_findings": lambda: v7.link_findings(objects, words[0].value),
-        }
-        for name, call in calls.items():
-            check(f"{name} {letters}", given(call), wanted(merged, letters))
-        found = v7.link_map(objects, words[0].value)
+        options = agree_library.options_of(model.Arguments(set(letters), {}, []))
+        for call in v7.link, v7.link_findings:
+            check(f"{call.__name__} {letters}", given(lambda: call(objects, options)), wanted(merged, letters))
+        found = v7.link_map(objects, options)
         expected = wanted(merged, letters)
         check(f"link_map {letters}", (v7.FAULTS[found.fault] if found.fault else found.status, len(found.objects)),
               (expected if found.fault else expected[0], len(objects)))
-        check(f"link_places {letters}", placed(objects, words[0].value), expected if isinstance(expected, str) else expected[2:])
+        check(f"link_places {letters}", placed(objects, options), expected if isinstance(expected, str) else expected[2:])
     if len(merged.externals) < largest.NAMES:
         names = [f"_f{number}" for number in range(model.FORCED_LIMIT)]
         with_names = model.Merged(merged.objects, [name.encode() for name in names])
@@ -142,10 +122,7 @@ def given(call):
         return v7.FAULTS[fault.fault]
     if isinstance(report, v7.Findings):
         return status, file, len(report.multiples), len(report.undefined)
-    if isinstance(report, list):
-        return status, file, *(sum(row.kind == kind for row in report) for kind in (1, 4))
-    lines = report.decode() if isinstance(report, bytes) else report
-    return status, file, lines.count(": Multiply defined\n"), len(lines.partition("Undefined:\n")[2].split())
+    return status, file, report.count(": Multiply defined\n"), len(report.partition("Undefined:\n")[2].split())
 
 
 def wanted(merged, letters):
@@ -162,15 +139,10 @@ def edited(kind):
     """All objects are added and withdrawn, until there is nothing to withdraw; and all are added."""
     objects = list(encoded(kind).values())
     edits = b"a" * len(objects) + b"w" * (len(objects) + 1)
-    replies = v7._room(len(edits))
-    none = [ctypes.c_uint32(0), *v7._slice(b""), *v7._slice(b"")]
-    last = [*v7._slice(b"".join(objects)), replies, ctypes.c_size_t(len(edits))]
-    status, file, report = rooms(v7._LIBRARY.v7_session, *none, *v7._slice(edits), *last)
-    check("what is left", (status, file, report), (1, wanted(largest.merged([]), "")[1], b""))
-    check("replies", replies.raw, bytes(len(edits) - 1) + bytes([v7.Session.NOTHING]))
     run = v7._Run(objects, 0, "", (), v7._REPORT, edits).finish()
-    check("what v7_run leaves", (run.status, run.file, run.report), (1, file, ""))
-    there = given(lambda: rooms(v7._LIBRARY.v7_session, *none, *v7._slice(edits[:len(objects)]), *last))
+    check("what is left", (run.status, run.file, run.report), (1, wanted(largest.merged([]), "")[1], ""))
+    check("replies", run.replies, bytes(len(edits) - 1) + bytes([v7.Session.NOTHING]))
+    there = given(lambda: v7._Run(objects, 0, "", (), v7._REPORT, edits[:len(objects)]).finish().program())
     check("what is there", there, wanted(largest.merged(objects), ""))
 
 
@@ -202,9 +174,9 @@ TABLE = [
     ("v7_remarks", remarked, [*ALONE, *OTHER_FILES]),
     ("v7_from_gnu", converted, [*GNU_FILES]),
     ("v7_read, v7_check, v7_take_apart, v7_make", taken_apart, ALONE),
-    ("v7_check, v7_take_apart, v7_link_list", bad, [kind for kind in KINDS if kind.startswith("bad")]),
-    ("v7_link, v7_link_list, v7_link_findings, v7_run", linked, GOOD),
-    ("v7_session, v7_run", edited, GOOD),
+    ("v7_check, v7_take_apart, v7_run", bad, [kind for kind in KINDS if kind.startswith("bad")]),
+    ("v7_run, v7_map", linked, GOOD),
+    ("v7_run of edits", edited, GOOD),
     ("v7_state, v7_run", known, GOOD),
     ("v7_disassemble_words", words_shown, [largest.WORDS, 100000]),
 ]

@@ -1,5 +1,6 @@
 /* v7_map and v7_run with a fault in a field of their records, beside the real ones under other names: PLANT=map_name.value changes the
- * first byte of the value of every name of a map. tests/library.sh makes a library of it. */
+ * first byte of the value of every name of a map. PLANT=short_map and PLANT=short_result write all of a struct that has fewer fields.
+ * tests/library.sh makes libraries of it. */
 #include <stddef.h>
 #include <stdlib.h>
 #include <string.h>
@@ -43,11 +44,20 @@ static void plant(const struct field *field, void *records, size_t count, size_t
             ++((unsigned char *)records)[i * size + field->at];
 }
 
+static int is_planted(const char *name)
+{
+    const char *plant = getenv("PLANT");
+
+    return plant && strcmp(plant, name) == 0;
+}
+
 uint32_t v7_map(const struct v7_request *request, struct v7_map *map)
 {
     uint32_t status = real_v7_map(request, map);
 
-    if (map->fault)
+    if (is_planted("short_map"))
+        map->limit_count = 0;
+    if (map->size < sizeof *map || map->fault)
         return status;
     plant(heads, &map->head, 1, sizeof map->head);
     plant(objects, map->objects, map->object_count, sizeof *map->objects);
@@ -61,7 +71,9 @@ uint32_t v7_run(const struct v7_request *request, struct v7_result *result)
 {
     uint32_t status = real_v7_run(request, result);
 
-    if (result->fault)
+    if (is_planted("short_result"))
+        result->report_size = 0;
+    if (result->size < sizeof *result || result->fault)
         return status;
     plant(findings, result->findings, result->finding_count, sizeof *result->findings);
     plant(places, result->places, result->place_count, sizeof *result->places);

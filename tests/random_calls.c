@@ -1,14 +1,17 @@
-/* Random calls of v7_link_list, always the same, compared with v7_link: it links the bytes of the objects one after another, up to the
- * first that v7_check refuses, and that one last. The answer, the file and the report must be equal. Each buffer ends at a page that
- * may not be touched, or begins after one. What a call reads may not be written, and nothing is written beside a result. Each call is made
- * once more with each of its requests for memory refused, and all later ones. The findings of v7_link_findings, as lines, must be the
- * report. Of the first object v7_disassemble and v7_list must refuse what v7_strip refuses. v7_disassemble gives for the stripped file
- * what v7_disassemble_words gives for its words, and v7_from_listing of the listing the file again, in such buffers and with memory
- * refused. tests/library.sh compiles it as it does
- * tests/faults.c, and runs it.
+/* Random links by v7_run, always the same, compared with the same links in large buffers. The answer, the file and the report must be
+ * equal, and the first object that v7_check refuses is the one that the link refuses. Each buffer ends at a page that may not be touched,
+ * or begins after one; so do request and result. What a call reads may not be written, and nothing is written beside a result. Each call
+ * is made once more with each of its requests for memory refused, and all later ones. The findings, as lines, must be the report. Request,
+ * result and map are tried in each size that they may have, each right before such a page: what a struct lacks is not touched, and one
+ * that lacks what every answer fills stays as it was.
+ *
+ * Of the first object v7_disassemble and v7_list must refuse what v7_strip refuses. v7_disassemble gives for the stripped file what
+ * v7_disassemble_words gives for its words, and v7_from_listing of the listing the file again, in such buffers and with memory refused.
+ * tests/library.sh compiles it as it does tests/faults.c, and runs it; with a library that writes past a short struct it has to fail.
  *
  * usage: random_calls NUMBER */
 #define _DEFAULT_SOURCE
+#include <stddef.h>
 #include <stdio.h>
 #include <stdlib.h>
 #include <string.h>
@@ -70,7 +73,7 @@ struct buffer {
     size_t size;
 };
 
-static struct buffer inputs[PARTS + 3], file, report, words;
+static struct buffer inputs[PARTS + 4], file, report, words, found, answers;
 static unsigned char filled[SPACE];
 
 static void make_buffer(struct buffer *b)
@@ -93,7 +96,7 @@ static void protect(int how)
 {
     int i;
 
-    for (i = 0; i < PARTS + 3; i++)
+    for (i = 0; i < PARTS + 4; i++)
         if (mprotect(inputs[i].pages, SPACE, how))
             exit(2);
 }
@@ -150,30 +153,65 @@ static struct v7_slice slices[PARTS];
 static size_t count;
 static unsigned options;
 
-static uint32_t link_slices(struct v7_answer *answer)
+/* what the slices are asked for, in the pages of a request */
+static struct v7_request *asked(uint32_t wants, size_t size)
 {
-    return v7_link_list(options, inputs[PARTS].at, inputs[PARTS].size, inputs[PARTS + 1].at, inputs[PARTS + 1].size,
-                        (const struct v7_slice *)inputs[PARTS + 2].at, count, file.at, file.size, report.at, report.size, answer);
+    struct v7_request request = {size, V7_LINK, options, wants, {inputs[PARTS].at, inputs[PARTS].size}, {inputs[PARTS + 1].at, inputs[PARTS + 1].size},
+                                 (const struct v7_slice *)inputs[PARTS + 2].at, count, {0, 0}};
+
+    mprotect(inputs[PARTS + 3].pages, SPACE, PROT_READ | PROT_WRITE);
+    place(&inputs[PARTS + 3], (size + 7) / 8 * 8, 1);
+    memcpy(inputs[PARTS + 3].at, &request, size);
+    mprotect(inputs[PARTS + 3].pages, SPACE, PROT_READ);
+    return (struct v7_request *)inputs[PARTS + 3].at;
 }
 
-/* the same by v7_link, from the bytes of the objects one after another */
-static uint32_t link_joined(unsigned char *room, unsigned char *lines, struct v7_answer *answer)
+/* the link of the slices into the buffers, by a result of this size */
+static uint32_t link_slices(uint32_t wants, size_t size, struct v7_result *to)
 {
-    static unsigned char joined[PARTS * 1024];
-    struct v7_answer checked = {0, 0, 0, 0, 0};
-    size_t size = 0, i;
+    struct v7_result result = {size, 0, 0, 0, 0, 0, file.at, file.size, report.at, report.size, 0, 0, (struct v7_finding *)found.at,
+                               found.size / sizeof(struct v7_finding), NULL, 0, 0, NULL, 0};
+    uint32_t status;
 
-    for (i = 0; i < count && checked.fault == 0; i++) {
-        v7_check(slices[i].bytes, slices[i].size, &checked);
-        if (checked.fault != 0)
-            checked.size = slices[i].size;
-        memcpy(joined + size, slices[i].bytes, checked.size);
-        size += checked.size;
-        if (checked.size == 0)
-            joined[size++] = 0;
+    place(&answers, size, 1);
+    memcpy(answers.at, &result, size);
+    status = v7_run(asked(wants, sizeof(struct v7_request)), (struct v7_result *)answers.at);
+    memcpy(to, &result, sizeof result);
+    memcpy(to, answers.at, size);
+    return status;
+}
+
+/* the same of copies, into large buffers: with the report in both forms */
+static uint32_t link_copies(unsigned char *room, unsigned char *lines, struct v7_finding *findings, struct v7_result *result)
+{
+    static unsigned char copies[PARTS][SPACE], names[2][SPACE];
+    struct v7_slice objects[PARTS];
+    struct v7_request request = {sizeof request, V7_LINK, options, V7_REPORT | V7_FINDINGS, {names[0], inputs[PARTS].size}, {names[1], inputs[PARTS + 1].size},
+                                 objects, count, {0, 0}};
+    struct v7_result given = {sizeof given, 0, 0, 0, 0, 0, room, SPACE, lines, SPACE, 0, 0, findings, SPACE, NULL, 0, 0, NULL, 0};
+    uint32_t status;
+    size_t i;
+
+    for (i = 0; i < count; i++) {
+        memcpy(copies[i], slices[i].bytes, slices[i].size);
+        objects[i] = (struct v7_slice){copies[i], slices[i].size};
     }
-    return v7_link(options, inputs[PARTS].at, inputs[PARTS].size, inputs[PARTS + 1].at, inputs[PARTS + 1].size, joined, size, room,
-                   SPACE, lines, SPACE, answer);
+    for (i = 0; i < 2; i++)
+        memcpy(names[i], inputs[PARTS + i].at, inputs[PARTS + i].size);
+    status = v7_run(&request, &given);
+    *result = given;
+    return status;
+}
+
+/* the object that v7_check refuses first, and why; 0 if it refuses none */
+static uint32_t refused_first(size_t *place)
+{
+    struct v7_answer checked = {0, 0, 0, 0, 0};
+
+    for (*place = 0; *place < count; ++*place)
+        if (v7_check(slices[*place].bytes, slices[*place].size, &checked) != 0)
+            break;
+    return checked.fault;
 }
 
 /* fills a buffer of this size, and all that is beside it */
@@ -213,27 +251,34 @@ static void put_call(void)
     protect(PROT_READ);
 }
 
+/* whether the results say the same but for what their buffers have */
+static int is_alike(const struct v7_result *a, const struct v7_result *b, uint32_t fault)
+{
+    return a->fault == fault && a->word == b->word && a->place == b->place && a->file_size == b->file_size && a->report_size == b->report_size;
+}
+
 /* whether the call answers this and writes this into rooms of these sizes, and nothing else */
-static int is_right(uint32_t status, const struct v7_answer *wanted, const unsigned char *room, const unsigned char *lines, size_t size,
+static int is_right(uint32_t status, const struct v7_result *wanted, const unsigned char *room, const unsigned char *lines, size_t size,
                     size_t report_size)
 {
-    struct v7_answer answer;
-    int is_short = wanted->fault == 0 && (size < wanted->size || report_size < wanted->report_size);
+    struct v7_result result;
+    int is_short = wanted->fault == 0 && (size < wanted->file_size || report_size < wanted->report_size);
     int is_given = wanted->fault == 0 && !is_short;
 
     fill(&file, size);
     fill(&report, report_size);
-    if (link_slices(&answer) != (is_short ? 2 : status) || answer.fault != (is_short ? (uint32_t)V7_NO_ROOM : wanted->fault))
+    fill(&found, 0);
+    if (link_slices(V7_REPORT, sizeof result, &result) != (is_short ? 2 : status))
         return 0;
-    return answer.word == wanted->word && answer.place == wanted->place && answer.size == wanted->size &&
-           answer.report_size == wanted->report_size && held == 0 && has_alone(&file, room, is_given ? answer.size : 0) &&
-           has_alone(&report, lines, is_given ? answer.report_size : 0);
+    return is_alike(&result, wanted, is_short ? (uint32_t)V7_NO_ROOM : wanted->fault) && held == 0 &&
+           has_alone(&file, room, is_given ? result.file_size : 0) && has_alone(&report, lines, is_given ? result.report_size : 0) &&
+           has_alone(&found, filled, 0);
 }
 
 /* whether the call, with its requests for memory refused from each on, answers so, keeps no memory and writes nothing */
 static int is_refused(size_t all)
 {
-    struct v7_answer answer;
+    struct v7_result result;
     uint32_t status;
     size_t n;
 
@@ -242,12 +287,104 @@ static int is_refused(size_t all)
     for (n = 1; n <= all; n++) {
         requests = 0;
         refused_from = n;
-        status = link_slices(&answer);
+        status = link_slices(V7_REPORT, sizeof result, &result);
         refused_from = (size_t)-1;
-        if (status != 2 || answer.fault != V7_NO_MEMORY || answer.place >= count + (count == 0) || held != 0)
+        if (status != 2 || result.fault != V7_NO_MEMORY || result.place >= count + (count == 0) || held != 0)
             return 0;
     }
     return has_alone(&file, filled, 0) && has_alone(&report, filled, 0);
+}
+
+/* ---- structs of each size, right before a page that may not be touched */
+
+enum {
+    RESULT_ANSWERED = offsetof(struct v7_result, file),
+    RESULT_LINKED = offsetof(struct v7_result, finding_count),
+    REQUEST_LINKED = offsetof(struct v7_request, edits),
+    MAP_ANSWERED = offsetof(struct v7_map, objects)
+};
+
+/* a struct of this size, filled up but for its size, that ends at the page, or before it for its alignment */
+static void *put_struct(size_t size)
+{
+    fill(&answers, 0);
+    place(&answers, (size + 7) / 8 * 8, 1);
+    memcpy(answers.at, &size, sizeof size);
+    return answers.at;
+}
+
+/* whether nothing of the struct was written after so many bytes */
+static int is_left(size_t from)
+{
+    return memcmp(answers.at + from, filled, answers.size - from) == 0;
+}
+
+static int takes_short_results(uint32_t status)
+{
+    struct v7_result *result;
+    size_t size;
+
+    for (size = sizeof size; size <= sizeof *result; size++) {
+        struct v7_result all = {size, 0, 0, 0, 0, 0, file.at, file.size, report.at, report.size, 0, 0, NULL, 0, NULL, 0, 0, NULL, 0};
+        int is_answered = size >= RESULT_ANSWERED, is_linked = size >= RESULT_LINKED;
+
+        result = put_struct(size);
+        if (is_linked)
+            memcpy(result, &all, size);
+        if (v7_run(asked(V7_REPORT, sizeof(struct v7_request)), result) != (is_linked ? status : 2) || result->size != size ||
+            !is_left(is_linked ? answers.size : is_answered ? RESULT_ANSWERED : sizeof size) || (is_answered && !is_linked && result->fault != V7_NO_OPTION))
+            return 0;
+        result = put_struct(size);
+        if (is_linked)
+            memcpy(result, &all, size);
+        if (size < sizeof *result && (v7_run(asked(V7_PLACES, sizeof(struct v7_request)), result) != 2 || (is_answered && result->fault != V7_NO_OPTION)))
+            return 0;
+    }
+    return 1;
+}
+
+static int takes_short_requests(uint32_t status)
+{
+    struct v7_result result;
+    struct v7_answer answer;
+    struct v7_map *map;
+    size_t size;
+
+    for (size = sizeof size; size <= sizeof(struct v7_request); size++) {
+        int is_linked = size >= REQUEST_LINKED;
+
+        result = (struct v7_result){sizeof result, 0, 0, 0, 0, 0, file.at, file.size, report.at, report.size, 0, 0, NULL, 0, NULL, 0, 0, NULL, 0};
+        if (v7_run(asked(V7_REPORT, size), &result) != (is_linked ? status : 2) || (!is_linked && result.fault != V7_NO_OPTION))
+            return 0;
+        map = put_struct(sizeof *map);
+        memset(&map->fault, 0, sizeof *map - sizeof size);
+        if (!is_linked && (v7_map(asked(0, size), map) != 2 || map->fault != V7_NO_OPTION))
+            return 0;
+        if (size < sizeof(struct v7_request) && (v7_state(V7_LINES, asked(0, size), NULL, 0, NULL, 0, &answer) != 2 || answer.fault != V7_NO_OPTION))
+            return 0;
+    }
+    return 1;
+}
+
+static int takes_short_maps(void)
+{
+    struct v7_map *map;
+    size_t size;
+
+    for (size = sizeof size; size < sizeof *map; size++) {
+        map = put_struct(size);
+        if (v7_map(asked(0, sizeof(struct v7_request)), map) != 2 || map->size != size || !is_left(size >= MAP_ANSWERED ? MAP_ANSWERED : sizeof size) ||
+            (size >= MAP_ANSWERED && map->fault != V7_NO_OPTION))
+            return 0;
+    }
+    return 1;
+}
+
+static int takes_short_structs(uint32_t status, const struct v7_result *wanted)
+{
+    fill(&file, wanted->file_size);
+    fill(&report, wanted->report_size);
+    return takes_short_results(status) && takes_short_requests(status) && takes_short_maps();
 }
 
 /* the lines of a report, by its findings; returns how many bytes they take */
@@ -268,32 +405,23 @@ static size_t put_lines(const struct v7_finding *findings, size_t number, char *
     return size;
 }
 
-static uint32_t find(struct v7_answer *answer, size_t number)
-{
-    fill(&report, number * sizeof(struct v7_finding));
-    return v7_link_findings(options, inputs[PARTS].at, inputs[PARTS].size, inputs[PARTS + 1].at, inputs[PARTS + 1].size,
-                            (const struct v7_slice *)inputs[PARTS + 2].at, count, file.at, file.size,
-                            (struct v7_finding *)report.at, number, answer);
-}
-
-/* whether v7_link_findings answers this and gives the same file and report; the first call asks for the number of findings */
-static int finds(uint32_t status, const struct v7_answer *wanted, const unsigned char *room, const unsigned char *lines)
+/* whether the findings alone are these, and as lines the report; a result that ends before their objects has them too */
+static int finds(uint32_t status, const struct v7_result *wanted, const unsigned char *room, const unsigned char *lines, const struct v7_finding *findings)
 {
     static char text[SPACE];
-    struct v7_answer answer;
-    uint32_t first, found;
+    struct v7_result result;
+    size_t size = wanted->finding_count * sizeof *findings;
 
-    fill(&file, wanted->size);
-    first = find(&answer, 0);
-    if (wanted->fault != 0 || answer.report_size == 0)
-        return first == status && answer.fault == wanted->fault && answer.word == wanted->word && answer.place == wanted->place &&
-               answer.size == wanted->size && wanted->report_size == 0 && has_alone(&file, room, answer.size);
-    if (first != 2 || answer.fault != V7_NO_ROOM || answer.size != wanted->size || !has_alone(&file, room, 0))
+    fill(&file, wanted->file_size);
+    fill(&report, 0);
+    fill(&found, size);
+    if (link_slices(V7_FINDINGS, below(2) ? sizeof result : offsetof(struct v7_result, place_count), &result) != status || result.fault != wanted->fault ||
+        result.place != wanted->place || result.report_size != 0 || result.finding_count != wanted->finding_count || !has_alone(&report, filled, 0))
         return 0;
-    found = find(&answer, answer.report_size);
-    return found == status && answer.fault == 0 && has_alone(&file, room, wanted->size) && has_alone(&report, report.at, report.size) &&
-           put_lines((const struct v7_finding *)report.at, answer.report_size, text) == wanted->report_size &&
-           memcmp(text, lines, wanted->report_size) == 0;
+    if (wanted->fault != 0)
+        return has_alone(&file, filled, 0) && has_alone(&found, filled, 0);
+    return has_alone(&file, room, wanted->file_size) && has_alone(&found, (const unsigned char *)findings, size) &&
+           put_lines(findings, wanted->finding_count, text) == wanted->report_size && memcmp(text, lines, wanted->report_size) == 0;
 }
 
 /* ---- instructions: those of a file, or with an address those of words; and listings */
@@ -394,25 +522,38 @@ static int is_listed(const struct buffer *b)
 int main(int argc, char **argv)
 {
     static unsigned char room[SPACE], lines[SPACE];
+    static struct v7_finding findings[SPACE];
     long calls = argc > 1 ? atol(argv[1]) : 1000, n, linked = 0, refused = 0;
-    struct v7_answer wanted;
-    uint32_t status;
+    struct v7_result wanted;
+    uint32_t status, fault;
+    size_t first;
     int i;
 
-    for (i = 0; i < PARTS + 3; i++)
+    for (i = 0; i < PARTS + 4; i++)
         make_buffer(&inputs[i]);
     make_buffer(&file);
     make_buffer(&report);
+    make_buffer(&found);
+    make_buffer(&answers);
     make_buffer(&words);
     memset(filled, FILLER, SPACE);
     for (n = 0; n < calls; n++) {
         put_call();
-        status = link_joined(room, lines, &wanted);
+        status = link_copies(room, lines, findings, &wanted);
         linked += status != 2;
         requests = 0;
-        if (!is_right(status, &wanted, room, lines, wanted.size, wanted.report_size) || !is_refused(requests) ||
-            !is_right(status, &wanted, room, lines, below(200), below(30)) || !finds(status, &wanted, room, lines)) {
-            printf("call %ld: another answer than that of v7_link: fault %u\n", n, (unsigned)wanted.fault);
+        if (!is_right(status, &wanted, room, lines, wanted.file_size, wanted.report_size) || !is_refused(requests) ||
+            !is_right(status, &wanted, room, lines, below(200), below(30)) || !finds(status, &wanted, room, lines, findings)) {
+            printf("call %ld: another answer than that of large buffers: fault %u\n", n, (unsigned)wanted.fault);
+            return 1;
+        }
+        fault = refused_first(&first);
+        if (wanted.fault == 0 ? fault != 0 : wanted.fault >= V7_SHORT_HEADER && wanted.fault <= V7_BAD_SYMBOL_NUMBER && (fault != wanted.fault || first != wanted.place)) {
+            printf("call %ld: another object than v7_check refuses\n", n);
+            return 1;
+        }
+        if (n % 16 == 0 && !takes_short_structs(status, &wanted)) {
+            printf("call %ld: a short struct is not taken as it should be\n", n);
             return 1;
         }
         if (count > 0 && !is_disassembled(&inputs[0])) {

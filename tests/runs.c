@@ -1,8 +1,8 @@
-/* v7_run and v7_map beside the other calls: for random lists of objects, some of them cut or with bytes after them, v7_run must give
- * what v7_link_list and v7_link_findings give, and for random edits what v7_session gives, with the same fault, place and word. The
- * objects of findings are those that v7_map has for their names. A caller whose structs are shorter, with nothing readable after them,
- * gets the same link and the same list. Buffers for what is not wanted, and all buffers after a fault, stay as they were. A map has the
- * fault of the link in it, or as its own.
+/* v7_run and v7_map beside each other: for random lists of objects, some of them cut or with bytes after them, v7_run must give the same
+ * whatever is wanted of the report, and after random edits what it gives for a link of the objects that are left. The objects of findings
+ * are those that v7_map has for their names. A caller whose structs are shorter, with nothing readable after them, gets the same link
+ * and the same list. Buffers for what is not wanted, and all buffers after a fault, stay as they were. A map has the fault of the link in
+ * it, or as its own.
  *
  * usage: runs COUNT OBJECT...       the objects that the lists are made of */
 #define _DEFAULT_SOURCE
@@ -108,11 +108,6 @@ static int is_clean(const struct given *g)
            is_filled(g->places, there * g->result.place_count * sizeof *g->places, sizeof g->places);
 }
 
-static int same_answer(const struct v7_result *r, const struct v7_answer *a)
-{
-    return r->fault == a->fault && r->word == a->word && r->place == a->place && r->file_size == a->size;
-}
-
 /* a copy at the end of a page, after which nothing can be read */
 static void *at_the_end(const void *what, size_t size, size_t page)
 {
@@ -216,7 +211,7 @@ static void try_places(const struct given *got, const struct v7_map *map, unsign
     }
 }
 
-/* the map of the link: its faults are those of v7_link_list, of which some are in the map. All records are written, or none */
+/* the map of the link: its faults are those of v7_run, of which some are in the map. All records are written, or none */
 static void try_map(struct v7_request *request, unsigned number)
 {
     static struct given got;
@@ -276,24 +271,11 @@ static void try_map(struct v7_request *request, unsigned number)
 static void try_link(struct v7_request *request, unsigned number)
 {
     static struct given got, plain;
-    struct v7_answer answer;
-    static unsigned char file[ROOM], report[ROOM];
-    static struct v7_finding findings[FEW];
-    uint32_t status;
 
     request->mode = V7_LINK;
     request->wants = V7_REPORT | V7_FINDINGS | V7_PLACES;
     ask(&got, request, ROOM);
-    status = v7_link_list(request->options, request->entry.bytes, request->entry.size, request->forced.bytes, request->forced.size,
-                          request->objects, request->object_count, file, ROOM, report, ROOM, &answer);
-    check(status == got.status && same_answer(&got.result, &answer) && got.result.report_size == answer.report_size && is_clean(&got) &&
-              (answer.fault || (memcmp(file, got.file, answer.size) == 0 && memcmp(report, got.report, answer.report_size) == 0)),
-          "another link than v7_link_list", number);
-    v7_link_findings(request->options, request->entry.bytes, request->entry.size, request->forced.bytes, request->forced.size,
-                     request->objects, request->object_count, file, ROOM, findings, FEW, &answer);
-    check(same_answer(&got.result, &answer) && got.result.finding_count == answer.report_size && got.result.reply_count == 0 &&
-              (answer.fault || memcmp(findings, got.findings, answer.report_size * sizeof *findings) == 0),
-          "other findings than v7_link_findings", number);
+    check(is_clean(&got) && got.result.reply_count == 0, "more than a link", number);
     request->wants = V7_FINDINGS;
     ask(&plain, request, ROOM);
     check(plain.result.place_count == 0 && is_filled(plain.places, 0, sizeof plain.places) && memcmp(plain.findings, got.findings, sizeof got.findings) == 0,
@@ -301,7 +283,8 @@ static void try_link(struct v7_request *request, unsigned number)
     try_list(request, &plain, number);
     request->wants = V7_REPORT;
     ask(&plain, request, ROOM);
-    check(plain.result.finding_count == 0 && is_filled(plain.findings, 0, sizeof plain.findings) && memcmp(plain.file, got.file, ROOM) == 0,
+    check(plain.result.finding_count == 0 && is_filled(plain.findings, 0, sizeof plain.findings) && memcmp(plain.file, got.file, ROOM) == 0 &&
+              memcmp(plain.report, got.report, ROOM) == 0 && memcmp(&plain.result.fault, &got.result.fault, offsetof(struct v7_result, file) - offsetof(struct v7_result, fault)) == 0,
           "findings that are not wanted", number);
     try_short(request, &plain, number);
     if (got.result.fault == 0) {
@@ -314,43 +297,54 @@ static void try_link(struct v7_request *request, unsigned number)
     check(plain.status == 2 && plain.result.fault == V7_NO_OPTION && plain.result.file_size == 0 && is_clean(&plain), "an unknown want", number);
 }
 
-static void try_session(struct v7_request *request, size_t cut, unsigned number)
+static void try_session(const struct v7_request *request, unsigned number)
 {
-    static struct given got;
-    static unsigned char joined[OBJECTS * ROOM], file[ROOM], report[ROOM], replies[FEW], edits[EDITS];
+    static struct given got, left;
+    struct v7_slice kept[EDITS];
+    struct v7_request session = *request, link = *request;
+    unsigned char edits[EDITS], replies[EDITS];
+    size_t added = 0, count = below(EDITS + 1), i;
+    uint32_t fault = 0;
     struct v7_answer answer;
-    size_t size = 0, added = 0, edit, count = below(EDITS + 1), i;
-    uint32_t status;
 
+    session.mode = V7_SESSION;
+    session.wants = link.wants = V7_REPORT | V7_FINDINGS | V7_PLACES;
+    session.edits.bytes = edits;
+    session.edits.size = count;
+    link.mode = V7_LINK;
+    link.objects = kept;
+    link.object_count = 0;
     for (i = 0; i < count; i++)
-        added += (edits[i] = below(3) ? V7_ADD : V7_WITHDRAW) == V7_ADD;
-    request->mode = V7_SESSION;
-    request->wants = V7_REPORT | V7_FINDINGS | V7_PLACES;
-    request->edits.bytes = edits;
-    request->edits.size = count;
-    ask(&got, request, ROOM);
+        edits[i] = below(3) ? V7_ADD : V7_WITHDRAW;
+    for (i = 0; i < count && fault == 0; i++) {
+        replies[i] = edits[i] == V7_WITHDRAW && link.object_count == 0 ? V7_NOTHING : V7_DONE;
+        if (edits[i] == V7_WITHDRAW) {
+            link.object_count -= link.object_count > 0;
+        } else if (added == request->object_count) {
+            fault = V7_SHORT_HEADER;
+        } else {
+            kept[link.object_count++] = request->objects[added];
+            v7_check(request->objects[added].bytes, request->objects[added].size, &answer);
+            added++;
+            fault = answer.fault;
+        }
+    }
+    ask(&got, &session, ROOM);
     check(is_clean(&got), "a buffer is written beyond its end", number);
-    if (cut < added && cut < request->object_count) {
-        /* the edit that adds the object which is cut */
-        for (edit = 0, i = 0; edits[edit] != V7_ADD || i < cut; edit++)
-            i += edits[edit] == V7_ADD;
-        check(got.status == 2 && (got.result.fault == V7_TRUNCATED || got.result.fault == V7_SHORT_HEADER) && got.result.place == edit,
-              "a cut object is not refused in a session", number);
+    if (fault) {
+        check(got.status == 2 && got.result.fault == fault && got.result.place == i - 1, "an object is not refused in a session", number);
         return;
     }
-    for (i = 0; i < request->object_count && i < cut; i++) {
-        if (v7_check(request->objects[i].bytes, request->objects[i].size, &answer) != 0)
-            break;
-        memcpy(joined + size, request->objects[i].bytes, answer.size);
-        size += answer.size;
-    }
-    status = v7_session(request->options, request->entry.bytes, request->entry.size, request->forced.bytes, request->forced.size, edits, count,
-                        joined, size, replies, FEW, file, ROOM, report, ROOM, &answer);
-    check(status == got.status && same_answer(&got.result, &answer) && got.result.report_size == answer.report_size &&
-              (answer.fault || (got.result.reply_count == count && memcmp(file, got.file, answer.size) == 0 &&
-                                memcmp(report, got.report, answer.report_size) == 0 && memcmp(replies, got.replies, count) == 0)),
-          "another session than v7_session", number);
-    check(got.result.place_count == got.result.finding_count, "as many objects as findings in a session", number);
+    ask(&left, &link, ROOM);
+    for (i = 0; i < count && replies[i] == V7_DONE; i++)
+        ;
+    check(got.status == (i < count && left.status == 0 ? 1 : left.status) &&
+              memcmp(&got.result.fault, &left.result.fault, offsetof(struct v7_result, file) - offsetof(struct v7_result, fault)) == 0 &&
+              memcmp(got.file, left.file, ROOM) == 0 && memcmp(got.report, left.report, ROOM) == 0 &&
+              got.result.finding_count == left.result.finding_count && memcmp(got.findings, left.findings, sizeof got.findings) == 0 &&
+              got.result.place_count == left.result.place_count && memcmp(got.places, left.places, sizeof got.places) == 0 &&
+              (got.result.fault || (got.result.reply_count == count && memcmp(got.replies, replies, count) == 0)),
+          "another session than the link of what is left", number);
 }
 
 int main(int argc, char **argv)
@@ -381,12 +375,10 @@ int main(int argc, char **argv)
         cut = below(2) ? below(OBJECTS) : OBJECTS;
         if (cut < request.object_count)
             objects[cut].size -= 2 * (1 + below(3));
-        else
-            cut = OBJECTS;
         try_link(&request, number);
         try_map(&request, number);
         if (request.options < 128 && request.options != (V7_RELOCATABLE | V7_STRIP))
-            try_session(&request, cut, number);
+            try_session(&request, number);
     }
     printf("%u runs, %u differ\n", number, failures);
     return failures != 0;

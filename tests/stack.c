@@ -17,7 +17,6 @@ static struct v7_finding_place places[SYMBOLS];
 static unsigned char *objects, *room, *more, *replies, edits[COUNT];
 static size_t objects_size, count;
 static unsigned calls, results;
-static const unsigned char none[1];
 
 static void called(uint32_t status, const struct v7_answer *answer)
 {
@@ -27,10 +26,16 @@ static void called(uint32_t status, const struct v7_answer *answer)
         exit(3);
 }
 
-/* the call by request and result */
-static void run(uint32_t mode, uint32_t options)
+static struct v7_request asked(uint32_t mode, uint32_t options)
 {
     struct v7_request request = {sizeof request, mode, options, V7_REPORT | V7_FINDINGS | V7_PLACES, {0, 0}, {0, 0}, slices, count, {edits, count}};
+
+    return request;
+}
+
+static void run(uint32_t mode, uint32_t options)
+{
+    struct v7_request request = asked(mode, options);
     struct v7_result result = {sizeof result, 0, 0, 0, 0, 0, room, ROOM, more, ROOM, 0, 0, findings, SYMBOLS, replies, COUNT, 0, places, SYMBOLS};
     uint32_t status = v7_run(&request, &result);
     struct v7_answer answer = {result.fault, result.word, result.place, 0, 0};
@@ -41,7 +46,7 @@ static void run(uint32_t mode, uint32_t options)
 /* the map, by two calls: for how many records there are, and for them */
 static void show_map(uint32_t options)
 {
-    struct v7_request request = {sizeof request, V7_LINK, options, 0, {0, 0}, {0, 0}, slices, count, {0, 0}};
+    struct v7_request request = asked(V7_LINK, options);
     struct v7_map map;
     struct v7_answer answer = {0, 0, 0, 0, 0};
     uint32_t status;
@@ -67,6 +72,7 @@ static void *call_all(void *unused)
     struct v7_answer answer;
     struct v7_counts counts;
     struct v7_header header;
+    struct v7_request request = asked(V7_SESSION, 0);
     uint32_t option;
 
     called(v7_check(objects, objects_size, &answer), &answer);
@@ -84,16 +90,12 @@ static void *call_all(void *unused)
     results++;
     called(v7_disassemble_words(0, (const uint16_t *)objects, objects_size / 2, room, ROOM, &answer), &answer);
     for (option = 0; option < 128; option = 2 * option + (option == 0)) {
-        called(v7_link(option, none, 0, none, 0, objects, objects_size, room, ROOM, more, ROOM, &answer), &answer);
-        called(v7_link_list(option, none, 0, none, 0, slices, count, room, ROOM, more, ROOM, &answer), &answer);
-        called(v7_link_findings(option, none, 0, none, 0, slices, count, room, ROOM, findings, SYMBOLS, &answer), &answer);
-        called(v7_session(option, none, 0, none, 0, edits, count, objects, objects_size, replies, COUNT, room, ROOM, more, ROOM, &answer), &answer);
         run(V7_LINK, option);
         run(V7_SESSION, option);
         show_map(option);
     }
-    called(v7_state(V7_LINES, none, 0, edits, count, objects, objects_size, replies, COUNT, room, ROOM, &answer), &answer);
-    called(v7_state(V7_JSON, none, 0, edits, count, objects, objects_size, replies, COUNT, room, ROOM, &answer), &answer);
+    called(v7_state(V7_LINES, &request, replies, COUNT, room, ROOM, &answer), &answer);
+    called(v7_state(V7_JSON, &request, replies, COUNT, room, ROOM, &answer), &answer);
     called(v7_read(objects, objects_size, &header, text, WORDS, data, WORDS, symbols, SYMBOLS, &counts, &answer), &answer);
     called(v7_take_apart(objects, objects_size, text, WORDS, data, WORDS, symbols, SYMBOLS, &counts, &answer), &answer);
     called(v7_make(text, counts.text, data, counts.data, counts.bss, symbols, counts.symbols, room, ROOM, &answer), &answer);

@@ -1,40 +1,53 @@
 /* Links objects by libv7: link OUT OBJECT... does what v7 ld -o OUT OBJECT... does, with fewer words for its faults. */
 #include <stdio.h>
 #include <stdlib.h>
-#include <string.h>
 
 #include "v7.h"
 
-static unsigned char *objects;
-static size_t objects_size;
-
-/* Appends the bytes of a file to the objects, and shows its sizes. */
-static int read_object(const char *path)
+/* Reads the bytes of a file, and shows its sizes. */
+static int read_object(const char *path, struct v7_slice *object)
 {
-    unsigned char *grown, line[128];
+    unsigned char *bytes = NULL, *grown, line[128];
     struct v7_answer answer;
-    size_t begin = objects_size, n;
+    size_t size = 0, n;
     FILE *file = fopen(path, "rb");
 
     if (!file)
         return 0;
     do {
-        if (!(grown = realloc(objects, objects_size + 4096)))
+        if (!(grown = realloc(bytes, size + 4096)))
             return 0;
-        objects = grown;
-        n = fread(objects + objects_size, 1, 4096, file);
-        objects_size += n;
+        bytes = grown;
+        n = fread(bytes + size, 1, 4096, file);
+        size += n;
     } while (n > 0);
     fclose(file);
-    if (v7_size(objects + begin, objects_size - begin, line, sizeof line, &answer) == 0)
+    if (v7_size(bytes, size, line, sizeof line, &answer) == 0)
         printf("%s: %.*s", path, (int)answer.size, (char *)line);
+    object->bytes = bytes;
+    object->size = size;
     return 1;
+}
+
+/* Links the objects into buffers of the sizes that the first call asks for. */
+static uint32_t link_objects(const struct v7_slice *objects, size_t count, struct v7_result *result)
+{
+    struct v7_request request = {.size = sizeof request, .mode = V7_LINK, .wants = V7_REPORT, .objects = objects, .object_count = count};
+    uint32_t status = v7_run(&request, result);
+
+    if (result->fault != V7_NO_ROOM)
+        return status;
+    result->file_room = result->file_size;
+    result->report_room = result->report_size;
+    result->file = malloc(result->file_room + 1);
+    result->report = malloc(result->report_room + 1);
+    return result->file && result->report ? v7_run(&request, result) : 2;
 }
 
 int main(int argc, char **argv)
 {
-    unsigned char none[1], *room, *report;
-    struct v7_answer answer;
+    struct v7_result result = {.size = sizeof result};
+    struct v7_slice *objects;
     uint32_t status;
     FILE *out;
     int i;
@@ -43,30 +56,29 @@ int main(int argc, char **argv)
         fprintf(stderr, "usage: link OUT OBJECT...\n");
         return 2;
     }
+    if (!(objects = malloc((size_t)argc * sizeof *objects)))
+        return 2;
     for (i = 2; i < argc; i++)
-        if (!read_object(argv[i])) {
+        if (!read_object(argv[i], &objects[i - 2])) {
             perror(argv[i]);
             return 2;
         }
-    /* without room the answer says how much is wanted */
-    status = v7_link(0, none, 0, none, 0, objects, objects_size, none, 0, none, 0, &answer);
-    if (answer.fault != V7_NO_ROOM) {
-        fprintf(stderr, "object %zu: %s, word %u\n", answer.place, v7_strerror(answer.fault), (unsigned)answer.word);
-        free(objects);
+    status = link_objects(objects, (size_t)argc - 2, &result);
+    for (i = 2; i < argc; i++)
+        free((void *)objects[i - 2].bytes);
+    free(objects);
+    if (result.fault) {
+        fprintf(stderr, "object %zu: %s, word %u\n", result.place, v7_strerror(result.fault), (unsigned)result.word);
         return (int)status;
     }
-    room = malloc(answer.size + 1);
-    report = malloc(answer.report_size + 1);
-    if (!room || !report || !(out = fopen(argv[1], "wb"))) {
+    if (!(out = fopen(argv[1], "wb"))) {
         perror(argv[1]);
         return 2;
     }
-    status = v7_link(0, none, 0, none, 0, objects, objects_size, room, answer.size, report, answer.report_size, &answer);
-    fwrite(room, 1, answer.size, out);
+    fwrite(result.file, 1, result.file_size, out);
     fclose(out);
-    fwrite(report, 1, answer.report_size, stdout);
-    free(room);
-    free(report);
-    free(objects);
+    fwrite(result.report, 1, result.report_size, stdout);
+    free(result.file);
+    free(result.report);
     return (int)status;
 }

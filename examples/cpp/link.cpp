@@ -32,10 +32,21 @@ static bool read_object(const char *path, Bytes &bytes)
 }
 
 // links into buffers of the sizes that they have
-static uint32_t link_into(const std::vector<v7_slice> &objects, Bytes &file, Bytes &report, v7_answer &answer)
+static uint32_t link_into(const std::vector<v7_slice> &objects, Bytes &file, Bytes &report, v7_result &result)
 {
-    return v7_link_list(0, NULL, 0, NULL, 0, &objects[0], objects.size(), begin_of(file), file.size(), begin_of(report),
-                        report.size(), &answer);
+    v7_request request = v7_request();
+    request.size = sizeof request;
+    request.mode = V7_LINK;
+    request.wants = V7_REPORT;
+    request.objects = &objects[0];
+    request.object_count = objects.size();
+    result = v7_result();
+    result.size = sizeof result;
+    result.file = begin_of(file);
+    result.file_room = file.size();
+    result.report = begin_of(report);
+    result.report_room = report.size();
+    return v7_run(&request, &result);
 }
 
 int main(int argc, char **argv)
@@ -51,15 +62,15 @@ int main(int argc, char **argv)
         objects[i].size = read[i].size();
     }
     Bytes file, report;
-    v7_answer answer;
-    uint32_t status = link_into(objects, file, report, answer);
-    if (answer.fault == V7_NO_ROOM) {
-        file.resize(answer.size);
-        report.resize(answer.report_size);
-        status = link_into(objects, file, report, answer);
+    v7_result result;
+    uint32_t status = link_into(objects, file, report, result);
+    if (result.fault == V7_NO_ROOM) {
+        file.resize(result.file_size);
+        report.resize(result.report_size);
+        status = link_into(objects, file, report, result);
     }
-    if (answer.fault != V7_NO_FAULT) {
-        std::cerr << "object " << answer.place << ": " << v7_strerror(answer.fault) << ", word " << answer.word << "\n";
+    if (result.fault != V7_NO_FAULT) {
+        std::cerr << "object " << result.place << ": " << v7_strerror(result.fault) << ", word " << result.word << "\n";
         return static_cast<int>(status);
     }
     std::ofstream(argv[1], std::ios::binary)

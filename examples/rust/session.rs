@@ -1,7 +1,9 @@
 //! Makes two objects, links them, adds and withdraws, and compares, by libv7.
 //!
 //! `rustc -O -L FOLDER -l v7 session.rs` compiles it, with the folder that has libv7.
+use std::mem::size_of;
 use std::process;
+use std::ptr::null_mut;
 
 /// `struct v7_answer` of v7.h.
 #[repr(C)]
@@ -22,6 +24,51 @@ struct Word(u16, u16);
 #[repr(C)]
 struct Symbol([u8; 8], u16, u16);
 
+/// `struct v7_slice`: bytes, by a pointer and a size.
+#[repr(C)]
+struct Slice(*const u8, usize);
+
+impl Slice {
+    fn of(bytes: &[u8]) -> Slice {
+        Slice(bytes.as_ptr(), bytes.len())
+    }
+}
+
+/// `struct v7_request`
+#[repr(C)]
+struct Request {
+    size: usize,
+    mode: u32,
+    options: u32,
+    wants: u32,
+    entry: Slice,
+    forced: Slice,
+    objects: *const Slice,
+    object_count: usize,
+    edits: Slice,
+}
+
+/// A buffer: a pointer, and the size of what it points to.
+#[repr(C)]
+struct Buffer(*mut u8, usize);
+
+/// `struct v7_result`, up to the replies.
+#[repr(C)]
+struct Result {
+    size: usize,
+    fault: u32,
+    word: u32,
+    place: usize,
+    file_size: usize,
+    report_size: usize,
+    file: Buffer,
+    report: Buffer,
+    finding_count: usize,
+    reply_count: usize,
+    findings: Buffer,
+    replies: Buffer,
+}
+
 extern "C" {
     fn v7_make(
         text: *const Word,
@@ -35,25 +82,11 @@ extern "C" {
         room_size: usize,
         answer: *mut Answer,
     ) -> u32;
-    fn v7_session(
-        options: u32,
-        entry: *const u8,
-        entry_size: usize,
-        forced: *const u8,
-        forced_size: usize,
-        edits: *const u8,
-        edit_count: usize,
-        objects: *const u8,
-        objects_size: usize,
-        replies: *mut u8,
-        replies_size: usize,
-        room: *mut u8,
-        room_size: usize,
-        report: *mut u8,
-        report_size: usize,
-        answer: *mut Answer,
-    ) -> u32;
+    fn v7_run(request: *const Request, result: *mut Result) -> u32;
 }
+
+const SESSION: u32 = 1;
+const REPORT: u32 = 1;
 
 /// The object of these parts.
 fn make(text: &[Word], data: &[Word], symbols: &[Symbol]) -> Vec<u8> {
@@ -83,34 +116,40 @@ fn make(text: &[Word], data: &[Word], symbols: &[Symbol]) -> Vec<u8> {
 #[derive(Debug, PartialEq)]
 struct Ran(u32, Vec<u8>, Vec<u8>, String);
 
-fn run(edits: &str, objects: &[u8]) -> Ran {
-    let (mut replies, mut room, mut report) = (vec![0; edits.len()], vec![0; 256], vec![0; 256]);
-    let mut answer = Answer::default();
-    // the slices live until the call returns, and none of their pointers is null
-    let status = unsafe {
-        v7_session(
-            0,
-            [].as_ptr(),
-            0,
-            [].as_ptr(),
-            0,
-            edits.as_ptr(),
-            edits.len(),
-            objects.as_ptr(),
-            objects.len(),
-            replies.as_mut_ptr(),
-            replies.len(),
-            room.as_mut_ptr(),
-            room.len(),
-            report.as_mut_ptr(),
-            report.len(),
-            &mut answer,
-        )
+fn run(edits: &str, objects: &[&[u8]]) -> Ran {
+    let (mut replies, mut file, mut report) = (vec![0; edits.len()], vec![0; 256], vec![0; 256]);
+    let objects: Vec<Slice> = objects.iter().map(|object| Slice::of(object)).collect();
+    let request = Request {
+        size: size_of::<Request>(),
+        mode: SESSION,
+        options: 0,
+        wants: REPORT,
+        entry: Slice::of(&[]),
+        forced: Slice::of(&[]),
+        objects: objects.as_ptr(),
+        object_count: objects.len(),
+        edits: Slice::of(edits.as_bytes()),
     };
-    assert_eq!(answer.fault, 0, "at edit {}, word {}", answer.place, answer.word);
-    room.truncate(answer.size);
-    report.truncate(answer.report_size);
-    Ran(status, replies, room, String::from_utf8_lossy(&report).into_owned())
+    let mut result = Result {
+        size: size_of::<Result>(),
+        fault: 0,
+        word: 0,
+        place: 0,
+        file_size: 0,
+        report_size: 0,
+        file: Buffer(file.as_mut_ptr(), file.len()),
+        report: Buffer(report.as_mut_ptr(), report.len()),
+        finding_count: 0,
+        reply_count: 0,
+        findings: Buffer(null_mut(), 0),
+        replies: Buffer(replies.as_mut_ptr(), replies.len()),
+    };
+    // what the pointers point to lives until the call returns
+    let status = unsafe { v7_run(&request, &mut result) };
+    assert_eq!(result.fault, 0, "at edit {}, word {}", result.place, result.word);
+    file.truncate(result.file_size);
+    report.truncate(result.report_size);
+    Ran(status, replies, file, String::from_utf8_lossy(&report).into_owned())
 }
 
 fn name(text: &str) -> [u8; 8] {
@@ -128,9 +167,9 @@ fn main() {
     let half_text = [Word(0o006200, 0), Word(0o000207, 0)];
     let second = make(&half_text, &[Word(0, 0o2)], &[Symbol(name("_half"), 0o42, 0)]);
 
-    let both = run("aa", &[first.as_slice(), &second].concat());
-    let alone = run("a", &first);
-    let session = run("aaw", &[first.as_slice(), &second].concat());
+    let both = run("aa", &[&first, &second]);
+    let alone = run("a", &[&first]);
+    let session = run("aaw", &[&first, &second]);
     let is_same = both.0 == 0
         && both.3.is_empty()
         && alone == Ran(1, vec![0], alone.2.clone(), "Undefined:\n_half\n".to_string())

@@ -658,10 +658,6 @@ def _padded(name: str) -> bytes:
     return data.ljust(8, b"\0")
 
 
-def _forced(names: Iterable[str]) -> List[Any]:
-    return _slice(b"".join(map(_padded, names)))
-
-
 def _array(kind: Any, items: Sequence[Any]) -> List[Any]:
     return [(kind * max(len(items), 1))(*items), ctypes.c_size_t(len(items))]
 
@@ -678,7 +674,7 @@ class _Run:
         mode = _LINK if edits is None else _SESSION
         self._request = _Request(ctypes.sizeof(_Request), mode, _fitting("the options", options, 32), wants, named, names, self._slices, len(self._parts), letters)
         self._result = _Result(size=ctypes.sizeof(_Result))
-        self.status, self.file, self.report = 2, b"", ""
+        self.status, self.file, self.report, self.replies = 2, b"", "", b""
         self.findings: List[Any] = []
         self.places: List[Any] = []
 
@@ -703,6 +699,7 @@ class _Run:
             result.places, result.place_room = places, result.place_count
             self.call()
             self.file, self.report = bytes(file.raw[: result.file_size]), report.raw[: result.report_size].decode("latin-1")
+            self.replies = bytes(replies.raw[: result.reply_count])
             self.findings, self.places = findings[: result.finding_count], places[: result.place_count]
         if result.fault:
             raise self.fault()
@@ -721,6 +718,11 @@ class _Run:
         if given.fault:
             raise Fault(given)
         return _map(status, given)
+
+    def shown(self, form: int, guess: int) -> bytes:
+        """What the session shows in this form, which may have so many bytes. Raises a fault."""
+        count = len(self._names[2])
+        return _given("v7_state", ctypes.c_uint32(form), ctypes.byref(self._request), _room(count), ctypes.c_size_t(count), guess=guess)
 
     def program(self) -> Program:
         return Program(self.status, self.file, self.report)
@@ -962,15 +964,7 @@ class Session:
     def _status(self, status: int) -> int:
         return max(status, int(any(self._replies)))
 
-    def _edits(self) -> List[Any]:
-        return [*_slice(b"a" * len(self._kept)), *_slice(b"".join(self._kept))]
-
-    def _room(self) -> List[Any]:
-        """A room for the replies to the additions, which are all made."""
-        return [_room(len(self._kept)), ctypes.c_size_t(len(self._kept))]
-
     def _shown(self, form: int) -> str:
-        words = [ctypes.c_uint32(form), *_forced(self.forced), *self._edits(), *self._room()]
-        state = _given("v7_state", *words, guess=self._size)
+        state = self._run(0, 0).shown(form, self._size)
         self._size = len(state)
         return state.decode("latin-1")

@@ -47,10 +47,10 @@ too_much_bss ok = absurd (cc)
 
 -- ---- links
 
-options_before_objects : (entry forced objects : List ℕ) (place : ℕ) → LinkMayRunOut 128 entry forced objects place → ⊥
+options_before_objects : (entry forced : List ℕ) (objects : List (List ℕ)) (place : ℕ) → LinkMayRunOut 128 entry forced objects place → ⊥
 options_before_objects entry forced objects place h = h
 
-three_bytes_linked : (place : ℕ) → LinkMayRunOut 0 [] [] three_bytes place → ⊥
+three_bytes_linked : (place : ℕ) → LinkMayRunOut 0 [] [] (three_bytes ∷ []) place → ⊥
 three_bytes_linked place (inl (first, inl some)) = absurd (some refl)
 three_bytes_linked place (inl (first, inr ok)) = absurd (cc)
 three_bytes_linked place (inr (inl (first, inl body))) = no_body_in_three_bytes body
@@ -58,7 +58,7 @@ three_bytes_linked place (inr (inl (first, inr ok))) = absurd (cc)
 three_bytes_linked place (inr (inr h)) = h
 
 -- with one object, none of number 1 is reached
-no_object_at_one : LinkMayRunOut 0 [] [] header_alone 1 → ⊥
+no_object_at_one : LinkMayRunOut 0 [] [] (header_alone ∷ []) 1 → ⊥
 no_object_at_one (inl (first, rest)) = let e : 1 ≡ 0 = first in absurd (omega (arith, e))
 no_object_at_one (inr (inl (first, rest))) = let e : 1 ≡ 0 = first in absurd (omega (arith, e))
 no_object_at_one (inr (inr h)) = h
@@ -78,7 +78,7 @@ edits_before_link place (inl (inl (first, inr ok))) = absurd (cc)
 edits_before_link place (inl (inr (ok, h))) = h
 edits_before_link place (inr (first, h)) = h
 
-form_before_edits : (forced letters objects : List ℕ) (place : ℕ) → StateMayRunOut 2 forced letters objects place → ⊥
+form_before_edits : (forced letters : List ℕ) (objects : List (List ℕ)) (place : ℕ) → StateMayRunOut 2 forced letters objects place → ⊥
 form_before_edits forced letters objects place (form, names, rest) = absurd (cc)
 
 -- ---- objects in GNU's form

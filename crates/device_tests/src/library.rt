@@ -4,11 +4,11 @@ use fixtures::samples::{A_O, B_O, C_O, D_O, G_O};
 use fixtures::{TWO_OBJECTS, UNDEFINED, sized};
 use library_calls::{
     Cause, LinkRequest, LongPart, ObjectBytes, ObjectParts, ObjectWord, Refusal, ReportedName,
-    Shown, check, disassemble, disassemble_words, from_gnu, from_listing, link, link_each,
-    link_findings, list_file, list_symbols, make, read_apart, remarks_of, run_session,
-    show_session, show_sizes, strip, take_apart,
+    Shown, check, disassemble, disassemble_words, from_gnu, from_listing, list_file, list_symbols,
+    make, read_apart, remarks_of, run_link, run_session, show_session, show_sizes, strip,
+    take_apart,
 };
-use std::alloc::{AllocError, Global};
+use std::alloc::Global;
 use std::test::Fail;
 
 /// With no symbols.
@@ -18,11 +18,9 @@ const STRIPPED: LinkRequest<'static> = LinkRequest {
     forced: &[],
 };
 
-/// Two objects, one after the other.
-fn both(alloc: Global, first: &[u8], second: &[u8]) -> Result<Vec<u8>, AllocError> {
-    let mut objects = first.to_vec(alloc)?;
-    objects.extend_from_slice(second)?;
-    Ok(objects)
+/// The bytes of two objects.
+fn both<'a>(two: (&'a [u8], &'a [u8])) -> [ObjectBytes<'a>; 2] {
+    [ObjectBytes { bytes: two.0 }, ObjectBytes { bytes: two.1 }]
 }
 
 /// Whether these bytes were given.
@@ -182,15 +180,13 @@ fn files_read(rt: HostRuntime) {
 
 /// Whether the link of two objects with these options is this file with this report.
 fn links(alloc: Global, options: u32, two: (&[u8], &[u8]), file: &[u8], report: &str) -> bool {
-    let Ok(objects) = both(alloc, two.0, two.1) else {
-        return false;
-    };
     let request = LinkRequest {
         options,
         ..STRIPPED
     };
-    link(alloc, &request, &objects).is_ok_and(|given| {
+    run_link(alloc, &request, false, &both(two)).is_ok_and(|given| {
         given.status == u8::from(!report.is_empty())
+            && given.replies.is_empty()
             && given.file.as_slice() == file
             && given.report.as_slice() == report.as_bytes()
     })
@@ -204,49 +200,31 @@ fn objects_linked(rt: HostRuntime) {
 }
 
 /// Why there is no link of two objects.
-fn refusal(
-    alloc: Global,
-    request: &LinkRequest<'_>,
-    first: &[u8],
-    second: &[u8],
-) -> Option<Refusal> {
-    let objects = both(alloc, first, second).ok()?;
-    link(alloc, request, &objects).err()
+fn refusal(alloc: Global, request: &LinkRequest<'_>, two: (&[u8], &[u8])) -> Option<Refusal> {
+    run_link(alloc, request, false, &both(two)).err()
 }
 
 #[test]
 fn requests_refused(rt: HostRuntime) {
     let alloc = rt.alloc();
+    let two: (&[u8], &[u8]) = (&A_O, &B_O);
     let split = LinkRequest {
         options: 48,
         entry: b"_too_long",
         ..STRIPPED
     };
     let cause = Cause::Excluded;
-    assert!(rt; refusal(alloc, &split, &A_O, &B_O) == Some(Refusal { cause, place: 0 }));
+    assert!(rt; refusal(alloc, &split, two) == Some(Refusal { cause, place: 0 }));
     let cut = LinkRequest {
         forced: b"_f",
         ..STRIPPED
     };
     let cause = Cause::CutNames;
-    assert!(rt; refusal(alloc, &cut, &A_O, &B_O) == Some(Refusal { cause, place: 0 }));
+    assert!(rt; refusal(alloc, &cut, two) == Some(Refusal { cause, place: 0 }));
     let cause = Cause::BadFile(ReadFault::Truncated);
-    assert!(rt; refusal(alloc, &STRIPPED, &A_O, &C_O[..47]) == Some(Refusal { cause, place: 1 }));
-}
-
-#[test]
-fn objects_apart_linked(rt: HostRuntime) {
-    let alloc = rt.alloc();
-    let whole = [ObjectBytes { bytes: &A_O }, ObjectBytes { bytes: &B_O }];
-    let given = link_each(alloc, &STRIPPED, &whole);
-    assert!(rt; given.is_ok_and(|given| given.file.as_slice() == TWO_OBJECTS.as_slice()));
+    assert!(rt; refusal(alloc, &STRIPPED, (&A_O, &C_O[..47])) == Some(Refusal { cause, place: 1 }));
     // the bytes of the second object are not taken for the end of the first
-    let cut = [
-        ObjectBytes { bytes: &C_O[..47] },
-        ObjectBytes { bytes: &G_O },
-    ];
-    let cause = Cause::BadFile(ReadFault::Truncated);
-    assert!(rt; link_each(alloc, &STRIPPED, &cut).err() == Some(Refusal { cause, place: 0 }));
+    assert!(rt; refusal(alloc, &STRIPPED, (&C_O[..47], &G_O)) == Some(Refusal { cause, place: 0 }));
 }
 
 fn finding(name: &[u8; 8], kind: u32) -> ReportedName {
@@ -255,7 +233,6 @@ fn finding(name: &[u8; 8], kind: u32) -> ReportedName {
 
 #[test]
 fn findings_listed(rt: HostRuntime) {
-    let objects = [ObjectBytes { bytes: &C_O }, ObjectBytes { bytes: &G_O }];
     let request = LinkRequest {
         options: 0,
         entry: b"_start_x",
@@ -266,7 +243,7 @@ fn findings_listed(rt: HostRuntime) {
         finding(b"_f\0\0\0\0\0\0", 4),
         finding(b"_g\0\0\0\0\0\0", 4),
     ];
-    let given = link_findings(rt.alloc(), &request, &objects);
+    let given = run_link(rt.alloc(), &request, false, &both((&C_O, &G_O)));
     assert!(rt;
         given.is_ok_and(|given| given.status == 1
             && given.file.as_slice() == UNDEFINED.as_slice()
@@ -276,13 +253,10 @@ fn findings_listed(rt: HostRuntime) {
 
 /// What the edits with two objects give: the replies, the status and the file.
 fn runs(alloc: Global, edits: &[u8], two: (&[u8], &[u8]), want: (&[u8], u8, &[u8])) -> bool {
-    let Ok(objects) = both(alloc, two.0, two.1) else {
-        return false;
-    };
-    run_session(alloc, &STRIPPED, edits, &objects).is_ok_and(|ran| {
-        ran.replies.as_slice() == want.0
-            && ran.program.status == want.1
-            && ran.program.file.as_slice() == want.2
+    run_session(alloc, &STRIPPED, false, edits, &both(two)).is_ok_and(|given| {
+        given.replies.as_slice() == want.0
+            && given.status == want.1
+            && given.file.as_slice() == want.2
     })
 }
 
@@ -316,11 +290,7 @@ const BOTH: &str =
 
 /// What is shown after the edits with `c.o` and `d.o`.
 fn shown(alloc: Global, form: u32, forced: &[u8], edits: &[u8]) -> Result<Shown, Refusal> {
-    let Ok(objects) = both(alloc, &C_O, &D_O) else {
-        let cause = Cause::Memory;
-        return Err(Refusal { cause, place: 0 });
-    };
-    show_session(alloc, form, forced, edits, &objects)
+    show_session(alloc, form, forced, edits, &both((&C_O, &D_O)))
 }
 
 /// Whether the edits have these replies, and this state as JSON.
@@ -355,7 +325,8 @@ fn states_refused(rt: HostRuntime) {
 /// Whether the state of 65,534 bytes of text has this size, and ends with this.
 fn ends(alloc: Global, form: u32, size: usize, end: &str) -> Result<bool, Fail> {
     let large = sized(alloc, 65_534)?;
-    Ok(show_session(alloc, form, b"", b"a", &large).is_ok_and(|shown| {
+    let objects = [ObjectBytes { bytes: &large }];
+    Ok(show_session(alloc, form, b"", b"a", &objects).is_ok_and(|shown| {
         shown.state.len() == size && shown.state.as_slice().ends_with(end.as_bytes())
     }))
 }

@@ -203,7 +203,8 @@ fn put_file(
     put_labels(out, given, file.symbols());
     put_texts(alloc, out, file)?;
     out.put_key("symbols");
-    put_lines(alloc, out, file.symbols())
+    put_lines(out, file.symbols());
+    Ok(())
 }
 
 /// Adds an object as it is given.

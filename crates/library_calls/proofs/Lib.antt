@@ -1,10 +1,11 @@
-pub mod TakingLemmas
+pub mod FileLemmas
+pub mod ReportTextLemmas
+pub mod ForcedNameLemmas
 pub mod EachLemmas
 pub mod EditLemmas
 pub mod StateLemmas
 pub mod MapLemmas
 pub mod MemoryLemmas
-pub mod RunLemmas
 pub mod NextLemmas
 pub mod NumberLemmas
 pub mod ListingLemmas

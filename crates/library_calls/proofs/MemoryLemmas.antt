@@ -1,6 +1,7 @@
 -- Where memory may run out, stage by stage.
 use Rattle.std.proofs.Common.{◌≡◌, ℕ, List, [], Result, Ok, Err, refl, sym, ap, ◌∙◌, subst, inl, inr}
 use Rattle.std.specs.Prelude.{IfErr, IsOk, IsOkAnd}
+use Rattle.aout_core.specs.Refusals.{refused}
 use Rattle.link_session.specs.Edits.{Change}
 use Rattle.link_session.specs.Labelled.{objects}
 use Rattle.link_session.specs.Sessions.{nothing_kept}
@@ -14,9 +15,9 @@ use Rattle.library_calls.specs.declared.cause.Cause.{Cause}
 use Rattle.library_calls.specs.declared.cause.Cause.TheVariants.{Memory, NotLinked}
 use Rattle.library_calls.specs.declared.cause.Refusal.{Refusal}
 use Rattle.library_calls.specs.Causes.{at}
-use Rattle.library_calls.specs.LinkAnswers.{with_each, with_objects}
+use Rattle.library_calls.specs.LinkAnswers.{with_each}
 use Rattle.library_calls.specs.LinkRequests.{choices_in, forced_in}
-use Rattle.library_calls.specs.MemoryWanted.{MayRunOutInLink, MayRunOutInLinkOfEach, MayRunOutInRun, MayRunOutInSession, SessionMayRunOut}
+use Rattle.library_calls.specs.MemoryWanted.{MayRunOutInLink, MayRunOutInRun, MayRunOutInSession, SessionMayRunOut}
 use Rattle.library_calls.specs.SessionAnswers.{changes_in}
 
 is_linked : (r : Result Outcome LinkFault) → IsOk r → IsOk (at 0 (refused_as NotLinked r))
@@ -29,29 +30,14 @@ there_is_one (Err fault) x h = absurd (cc)
 
 -- memory may run out for what is made of a link
 pub memory_after_link : {A : Type 0} (given : Result A Cause) (r : Result Outcome LinkFault) (x : Outcome) →
-    refused_as NotLinked r ≡ Ok x → IfErr given (λ cause. cause ≡ Memory → IsOk r)
+    refused_as NotLinked r ≡ Ok x → IfErr given (λ cause. cause ≡ Memory refused → IsOk r)
 memory_after_link (Ok a) r x h = tt
 memory_after_link (Err cause) r x h = λ memory. there_is_one r x h
 
 -- memory may run out for the link of all objects
-pub link_without_memory : (forced : List (List ℕ)) (o : Choices) (bytes : List ℕ) (begun k : Kept) →
-    begun ≡ nothing_kept forced → with_objects begun.forced (objects begun.entries) bytes ≡ Ok (objects k.entries) →
-    k.forced ≡ begun.forced → IsOk (link k.forced (objects k.entries) o) → MayRunOutInLink forced o bytes 0
-link_without_memory forced o bytes begun k is all same linked =
-    let taken : with_objects forced [] bytes ≡ Ok (objects k.entries) =
-    ap (λ (x : Kept). with_objects x.forced (objects x.entries) bytes) (sym is) ∙ all in
-    let first : k.forced ≡ forced = same ∙ ap (λ (x : Kept). x.forced) is in
-    inl (
-      refl,
-      inr (subst (λ (r : Result (List _) _). IsOk (and_then r (λ os. at 0 (refused_as NotLinked (link forced os o))))) (sym taken)
-          (is_linked (link forced (objects k.entries) o)
-          (subst (λ (f : List (List ℕ)). IsOk (link f (objects k.entries) o)) first linked))),
-    )
-
--- the same of objects whose bytes are apart
 pub each_without_memory : (forced : List (List ℕ)) (o : Choices) (parts : List (List ℕ)) (begun k : Kept) →
     begun ≡ nothing_kept forced → with_each begun.forced (objects begun.entries) parts ≡ Ok (objects k.entries) →
-    k.forced ≡ begun.forced → IsOk (link k.forced (objects k.entries) o) → MayRunOutInLinkOfEach forced o parts 0
+    k.forced ≡ begun.forced → IsOk (link k.forced (objects k.entries) o) → MayRunOutInLink forced o parts 0
 each_without_memory forced o parts begun k is all same linked =
     let taken : with_each forced [] parts ≡ Ok (objects k.entries) =
     ap (λ (x : Kept). with_each x.forced (objects x.entries) parts) (sym is) ∙ all in
@@ -64,11 +50,11 @@ each_without_memory forced o parts begun k is all same linked =
     )
 
 -- memory may run out for what all edits do
-pub run_without_memory : (bits : ℕ) (entry bytes letters objects : List ℕ) (o : Choices) (forced : List (List ℕ))
-    (cs : List Change) → choices_in bits entry ≡ Ok o → forced_in bytes ≡ Ok forced → changes_in letters objects ≡ Ok cs →
-    MayRunOutInRun forced o cs → SessionMayRunOut bits entry bytes letters objects 0
-run_without_memory bits entry bytes letters objects o forced cs first second third h =
+pub run_without_memory : (bits : ℕ) (entry bytes letters : List ℕ) (parts : List (List ℕ)) (o : Choices)
+    (forced : List (List ℕ)) (cs : List Change) → choices_in bits entry ≡ Ok o → forced_in bytes ≡ Ok forced →
+    changes_in letters parts ≡ Ok cs → MayRunOutInRun forced o cs → SessionMayRunOut bits entry bytes letters parts 0
+run_without_memory bits entry bytes letters parts o forced cs first second third h =
     subst (λ (r : Result Choices Cause).
-    IsOkAnd r (λ x. IsOkAnd (forced_in bytes) (λ names. MayRunOutInSession names x letters objects 0))) (sym first)
-    (subst (λ (r : Result (List (List ℕ)) Refusal). IsOkAnd r (λ names. MayRunOutInSession names o letters objects 0)) (sym second)
+    IsOkAnd r (λ x. IsOkAnd (forced_in bytes) (λ names. MayRunOutInSession names x letters parts 0))) (sym first)
+    (subst (λ (r : Result (List (List ℕ)) Refusal). IsOkAnd r (λ names. MayRunOutInSession names o letters parts 0)) (sym second)
     (inr (refl, subst (λ (r : Result (List Change) Refusal). IsOkAnd r (MayRunOutInRun forced o)) (sym third) h)))

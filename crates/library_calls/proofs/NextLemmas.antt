@@ -3,7 +3,7 @@ use Rattle.std.proofs.Common.{◌≡◌, ℕ, List, [], ◌∷◌, length, drop,
 use Rattle.std.proofs.lemmas.Bool.{ne_eqb}
 use Rattle.library_calls.specs.declared.parts.ObjectBytes.{ObjectBytes}
 use Rattle.library_calls.specs.LinkAnswers.{each_of}
-use Rattle.library_calls.specs.RunAnswers.{first_part, parts_after}
+use Rattle.library_calls.specs.SessionAnswers.{first_part, parts_after}
 
 abbrev bytes_of : Option ObjectBytes → List ℕ
 bytes_of None = []

@@ -1,25 +1,82 @@
 -- Edits that are made one by one, and what a session shows after them.
 use Rattle.std.proofs.Common.{◌≡◌, ◌≢◌, ℕ, Result, Ok, List, [], ◌∷◌, ◌++◌, map, length, append_assoc}
-use Rattle.std.proofs.Common.{append-nil, arith, sym, ap, ◌∙◌, subst}
-use Rattle.link_session.specs.Edits.{Change, answers_from, survivors_from}
+use Rattle.std.proofs.Common.{append-nil, arith, refl, sym, ap, ◌∙◌, subst, Option, Some, None, String, string_bytes}
+use Rattle.std.specs.declared.alloc.Global.{Global}
+use Rattle.aout_core.specs.Refusals.{refused}
+use Rattle.aout_core.specs.Contents.{Contents}
+use Rattle.link_session.specs.declared.entry.AddFault.{AddFault}
+use Rattle.link_session.specs.declared.entry.AddFault.TheVariants.{Memory}
+use Rattle.link_session.specs.Edits.{Change, addition, withdrawal, answer_by, answers_from, kept_unless, last_of, survivors_from}
+use Rattle.link_session.specs.Edits.{withdrawn_answer, without_last}
 use Rattle.link_session.specs.Labelled.{Labelled, objects}
+use Rattle.link_session.specs.Limits.{refusal}
+use Rattle.link_session.specs.Sessions.{Adds, IsCause, Withdraws, labelled}
 use Rattle.link_session.specs.Undo.{Kept, IsJournal}
-use Rattle.link_out.specs.declared.edit.Edit.{Edit}
-use Rattle.link_out.specs.declared.edit.Reply.{Reply}
-use Rattle.link_out.specs.Runs.{IsDone, answer_of, change_of}
 use Rattle.link_out.specs.Steps.{and_then}
 use Rattle.library_calls.specs.declared.state_call.Form.{Form}
+use Rattle.library_calls.specs.declared.edits.Edit.{Edit}
+use Rattle.library_calls.specs.declared.cause.Cause.TheVariants.{NotAdded}
 use Rattle.library_calls.specs.declared.cause.Refusal.{Refusal}
-use Rattle.library_calls.specs.Causes.{at}
+use Rattle.library_calls.specs.Causes.{at, number_of}
 use Rattle.library_calls.specs.LinkRequests.{forced_in}
 use Rattle.library_calls.specs.SessionAnswers.{changes_in, reply_number, session_status}
 use Rattle.library_calls.specs.StateAnswers.{Asked, IsShown, Shows, StateOutput, asked_in, form_in, encoded_in}
-use Rattle.library_calls.specs.internal.Edited.{AreEdited, IsEdited, ShowsFrom}
+use Rattle.library_calls.specs.internal.Edited.{AreEdited, IsEdited, ShowsFrom, change_of}
 
--- an edit that has a reply, with the number of that reply
-pub numbered : (old new : Kept) (change : Change) (reply : Reply) (n : ℕ) → IsDone old new change reply →
-    n ≡ reply_number (answer_of reply) → IsEdited old new change n
-numbered old new change reply n done is = record { forced = done.forced; kept = done.kept; reply = is ∙ ap reply_number done.answer }
+-- an object was added
+pub added_edit : (old new : Kept) (label : String Global) (o : Contents) → refusal old.forced (objects old.entries) o ≡ None →
+    Adds old new (labelled label o) → string_bytes label ≡ [] → IsEdited old new (addition (record { label = []; object = o })) 0
+added_edit old new label o fits h none = record {
+  forced = h.forced;
+  kept =
+      h.entries ∙ ap (λ r. kept_unless r old.entries (labelled label o)) (sym fits)
+      ∙ ap (λ l. kept_unless (refusal old.forced (objects old.entries) o) old.entries (record { label = l; object = o })) none;
+  reply = ap (λ r. reply_number (answer_by r)) (sym fits);
+}
+
+limit_is : (r : Option AddFault) (cause : AddFault) → IsCause r cause → (cause ≡ Memory refused → ⊥) → r ≡ Some cause
+limit_is None cause h other = absurd (other h)
+limit_is (Some limit) cause h other = ap Some (sym h)
+
+-- an object passes a limit, for another cause than memory
+pub refused_edit : (old new : Kept) (o : Contents) (cause : AddFault) (n : ℕ) →
+    IsCause (refusal old.forced (objects old.entries) o) cause → (cause ≡ Memory refused → ⊥) → new ≡ old → n ≡ number_of (NotAdded cause) →
+    IsEdited old new (addition (record { label = []; object = o })) n
+refused_edit old new o cause n h other same is =
+    let limit : refusal old.forced (objects old.entries) o ≡ Some cause = limit_is (refusal old.forced (objects old.entries) o) cause h other in
+    record {
+      forced = ap (λ (k : Kept). k.forced) same;
+      kept = ap (λ (k : Kept). k.entries) same ∙ ap (λ r. kept_unless r old.entries (record { label = []; object = o })) (sym limit);
+      reply = is ∙ ap (λ r. reply_number (answer_by r)) (sym limit);
+    }
+
+last_of-put_last : (es : List Labelled) (e : Labelled) → last_of (es ++ e ∷ []) ≡ Some e
+last_of-put_last [] e = refl
+last_of-put_last (d ∷ []) e = refl
+last_of-put_last (d ∷ (c ∷ es)) e = last_of-put_last (c ∷ es) e
+
+without_last-put_last : (es : List Labelled) (e : Labelled) → without_last (es ++ e ∷ []) ≡ es
+without_last-put_last [] e = refl
+without_last-put_last (d ∷ []) e = refl
+without_last-put_last (d ∷ (c ∷ es)) e = ap (λ fs. d ∷ fs) (without_last-put_last (c ∷ es) e)
+
+-- the last object was taken away
+pub withdrew_edit : (old new : Kept) (e : Labelled) → Withdraws old new e → IsEdited old new withdrawal 0
+withdrew_edit old new e h = record {
+  forced = h.forced;
+  kept = sym (without_last-put_last new.entries e) ∙ ap without_last (sym h.entries);
+  reply = ap (λ x. reply_number (withdrawn_answer x)) (sym (last_of-put_last new.entries e) ∙ ap last_of (sym h.entries));
+}
+
+-- nothing was kept
+pub nothing_edit : (old new : Kept) → old.entries ≡ [] → new ≡ old → IsEdited old new withdrawal 35
+nothing_edit old new none same = record {
+  forced = ap (λ (k : Kept). k.forced) same;
+  kept = ap (λ (k : Kept). k.entries) same ∙ none ∙ ap without_last (sym none);
+  reply = ap (λ es. reply_number (withdrawn_answer (last_of es))) (sym none);
+}
+
+pub ruleset by_edit = (added_edit, refused_edit, withdrew_edit, nothing_edit)
 
 -- edits were made, with those that are left; the numbers reply to those that were made
 pub record AreBegun (old now : Kept) (all left : List Change) (numbers : List ℕ) : Type 0 where
@@ -79,20 +136,20 @@ shown_after form old new changes numbers state status none edited shows is =
 abbrev pub asked : Form → List (List ℕ) → List Change → Asked
 asked form forced changes = record { form = form; forced = forced; changes = changes }
 
-module _ (number : ℕ) (bytes letters objects : List ℕ) where
+module _ (number : ℕ) (bytes letters : List ℕ) (parts : List (List ℕ)) where
   -- nothing that is asked for is refused
   all_asked : (form : Form) (forced : List (List ℕ)) (changes : List Change) → form_in number ≡ Ok form →
-      forced_in bytes ≡ Ok forced → changes_in letters objects ≡ Ok changes →
-      asked_in number bytes letters objects ≡ Ok (asked form forced changes)
+      forced_in bytes ≡ Ok forced → changes_in letters parts ≡ Ok changes →
+      asked_in number bytes letters parts ≡ Ok (asked form forced changes)
   all_asked form forced changes first second third =
       ap (λ r. and_then (at 0 r)
-      (λ f. and_then (forced_in bytes) (λ names. and_then (changes_in letters objects) (λ cs. Ok (asked f names cs))))) first
-      ∙ ap (λ r. and_then r (λ names. and_then (changes_in letters objects) (λ cs. Ok (asked form names cs)))) second
+      (λ f. and_then (forced_in bytes) (λ names. and_then (changes_in letters parts) (λ cs. Ok (asked f names cs))))) first
+      ∙ ap (λ r. and_then r (λ names. and_then (changes_in letters parts) (λ cs. Ok (asked form names cs)))) second
       ∙ ap (λ r. and_then r (λ cs. Ok (asked form forced cs))) third
 
   -- and all of it is shown
   pub all_shown : (form : Form) (forced : List (List ℕ)) (changes : List Change) (output : StateOutput) →
-      form_in number ≡ Ok form → forced_in bytes ≡ Ok forced → changes_in letters objects ≡ Ok changes →
-      Shows (asked form forced changes) output → IsShown (asked_in number bytes letters objects) (Ok output)
+      form_in number ≡ Ok form → forced_in bytes ≡ Ok forced → changes_in letters parts ≡ Ok changes →
+      Shows (asked form forced changes) output → IsShown (asked_in number bytes letters parts) (Ok output)
   all_shown form forced changes output first second third shows =
       subst (λ (r : Result Asked Refusal). IsShown r (Ok output)) (sym (all_asked form forced changes first second third)) shows

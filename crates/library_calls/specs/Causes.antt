@@ -1,8 +1,7 @@
 -- Why a call has no answer, by the faults of the libraries below, and its number. (own choice)
 --
--- That memory ran out is one cause. A reader of bytes in memory, and a writer to a list, fail for no other reason.
+-- That memory ran out is one cause, of a request that was refused. A device is never read, so its fault never comes.
 use Rattle.std.specs.Prelude.{ℕ, nat_lt, if◌then◌else◌, Result}
-use Rattle.aout_core.specs.declared.file.ReadFault.{ReadFault}
 use Rattle.aout_core.specs.declared.file.ReadFault.TheVariants as reads
 use Rattle.aout_core.specs.declared.object.ObjectFault.{ObjectFault}
 use Rattle.aout_core.specs.declared.object.ObjectFault.TheVariants as objects
@@ -25,17 +24,12 @@ use Rattle.library_calls.specs.declared.cause.Cause.TheVariants.{NotLinked, BadL
 use Rattle.library_calls.specs.declared.cause.LongPart.TheVariants as parts
 use Rattle.library_calls.specs.declared.cause.Refusal.{Refusal}
 
-abbrev pub cause_of_read : ReadFault → Cause
-cause_of_read reads.Memory = Memory
-cause_of_read reads.Device = Memory
-cause_of_read fault = BadFile fault
-
 abbrev pub cause_of_addition : AddFault → Cause
-cause_of_addition adds.Memory = Memory
+cause_of_addition (adds.Memory refused) = Memory refused
 cause_of_addition fault = NotAdded fault
 
 abbrev pub cause_of_link : LinkFault → Cause
-cause_of_link links.Memory = Memory
+cause_of_link (links.Memory refused) = Memory refused
 cause_of_link fault = NotLinked fault
 
 -- a mistake of a listing, at its line
@@ -73,7 +67,7 @@ gnu_number (refusals.OddSize size) = 13
 gnu_number refusals.Truncated = 14
 gnu_number (refusals.BadWord fault) = object_number fault
 gnu_number (refusals.TooManySymbols count) = 42
-gnu_number refusals.Memory = 50
+gnu_number (refusals.Memory refused) = 50
 gnu_number refusals.BadStrings = 81
 gnu_number (refusals.Overlay n) = 82
 gnu_number (refusals.BadPlace n) = 83
@@ -96,21 +90,21 @@ number_of (BadFile reads.ShortHeader) = 11
 number_of (BadFile reads.BadMagic) = 12
 number_of (BadFile reads.OddSize) = 13
 number_of (BadFile reads.Truncated) = 14
-number_of (BadFile reads.Memory) = 50
-number_of (BadFile reads.Device) = 50
+number_of (BadFile (reads.Memory refused)) = 50
+number_of (BadFile reads.Device) = 14
 number_of (BadObject fault) = object_number fault
 number_of (NotAdded adds.TextFull) = 31
 number_of (NotAdded adds.DataFull) = 32
 number_of (NotAdded adds.BssFull) = 33
 number_of (NotAdded adds.NamesFull) = 34
-number_of (NotAdded adds.Memory) = 50
+number_of (NotAdded (adds.Memory refused)) = 50
 number_of (NotLinked links.DoesNotFit) = 41
 number_of (NotLinked links.TooManySymbols) = 42
 number_of (NotLinked links.SymbolNumber) = 43
-number_of (NotLinked links.Memory) = 50
+number_of (NotLinked (links.Memory refused)) = 50
 number_of (BadListing fault) = reason_number fault.reason
 number_of (NotConverted refusal) = gnu_number refusal
-number_of Memory = 50
+number_of (Memory refused) = 50
 
 -- 2^32 - 1 for all columns that are further
 abbrev pub column_word : ℕ → ℕ

@@ -1,9 +1,9 @@
 -- What a call answers for one file, by its bytes. (strip(1), nm(1), size(1); instructions and the refusals: own choice)
 --
 -- The file is the one that the bytes begin with; what follows it is ignored.
-use Rattle.std.specs.Prelude.{ℕ, ◌%◌, ◌/◌, Bool, false, eqb, nat_lt, if◌then◌else◌, List, [], ◌∷◌, drop, Result, Ok, Err}
+use Rattle.std.specs.Prelude.{ℕ, ◌%◌, ◌/◌, Bool, false, eqb, nat_lt, if◌then◌else◌, List, [], ◌∷◌, Result, Ok, Err}
 use Rattle.aout_core.specs.Contents.{Contents}
-use Rattle.aout_core.specs.Decoding.{header_in, decode}
+use Rattle.aout_core.specs.Decoding.{decode}
 use Rattle.aout_core.specs.Encoding.{file_length, encoding}
 use Rattle.aout_core.specs.Strip.{stripped}
 use Rattle.aout_core.specs.WellFormed.{first_object_fault}
@@ -19,10 +19,6 @@ use Rattle.library_calls.specs.declared.cause.Cause.TheVariants.{NoOption, BadFi
 -- the file that the bytes begin with
 abbrev pub file_in : List ℕ → Result Contents Cause
 file_in bytes = refused_as BadFile (decode bytes)
-
--- the bytes after the file that they begin with
-abbrev pub after_file : List ℕ → List ℕ
-after_file bytes = drop (file_length (header_in bytes)) bytes
 
 abbrev pub object_of : Contents → Result Contents Cause
 object_of c = unless BadObject (first_object_fault c) c

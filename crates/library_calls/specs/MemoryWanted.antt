@@ -2,18 +2,19 @@
 --
 -- A call works in stages, and each lacks memory only if nothing is refused up to there. The answer does not reveal which request
 -- failed. So once an object or an edit is accepted, memory may have run out there, whatever is refused later.
-use Rattle.std.specs.Prelude.{◌≡◌, ◌≢◌, ◌⊎◌, ℕ, zero, suc, ◌+◌, ◌<◌, List, [], ◌∷◌, length, Result, IsOk, IsOkAnd}
+use Rattle.std.specs.Prelude.{◌≡◌, ◌≢◌, ◌⊎◌, ℕ, ◌+◌, ◌<◌, List, [], ◌∷◌, length, Result, IsOk, IsOkAnd}
 use Rattle.aout_core.specs.Contents.{Contents}
 use Rattle.aout_core.specs.Decoding.{header_in}
 use Rattle.aout_core.specs.Encoding.{file_length}
-use Rattle.link_session.specs.Edits.{Change}
+use Rattle.link_session.specs.Edits.{Change, survivors}
+use Rattle.link_session.specs.Labelled.{objects}
 use Rattle.tool_options.specs.Choices.{Choices}
-use Rattle.link_out.specs.Runs.{link_after}
+use Rattle.link_out.specs.function.Link.{link}
 use Rattle.library_calls.specs.declared.cause.Cause.{Cause}
-use Rattle.library_calls.specs.FileAnswers.{after_file, file_in}
-use Rattle.library_calls.specs.LinkAnswers.{linked_each, linked_in, with_first}
+use Rattle.library_calls.specs.FileAnswers.{file_in}
+use Rattle.library_calls.specs.LinkAnswers.{linked_each, with_first}
 use Rattle.library_calls.specs.LinkRequests.{choices_in, forced_in}
-use Rattle.library_calls.specs.SessionAnswers.{after_edit, change_in, changes_in}
+use Rattle.library_calls.specs.SessionAnswers.{change_in, changes_in, first_part, parts_after}
 use Rattle.library_calls.specs.StateAnswers.{form_in}
 
 -- the bytes begin with a whole file, and it has more than its header: it is read before its words are checked
@@ -27,29 +28,7 @@ pub record HasBody (bytes : List ℕ) : Type 0 where
 abbrev pub MayRunOutForObject : List (List ℕ) → List Contents → List ℕ → Type 0
 MayRunOutForObject forced os bytes = HasBody bytes ⊎ IsOk (with_first forced os bytes)
 
--- memory may run out for the object of this number, which is one of at most so many that the bytes hold; those before it are
--- accepted
-abbrev pub MayRunOutInMost : ℕ → List (List ℕ) → List Contents → List ℕ → ℕ → Type 0
-MayRunOutInMost zero forced os bytes place = ⊥
-MayRunOutInMost (suc n) forced os [] place = ⊥
-MayRunOutInMost (suc n) forced os (b ∷ bs) place =
-    ((place ≡ length os) × MayRunOutForObject forced os (b ∷ bs))
-    ⊎ IsOkAnd (with_first forced os (b ∷ bs)) (λ more. MayRunOutInMost n forced more (after_file (b ∷ bs)) place)
-
-abbrev pub MayRunOutInObjects : List (List ℕ) → List Contents → List ℕ → ℕ → Type 0
-MayRunOutInObjects forced os bytes place = MayRunOutInMost (length bytes) forced os bytes place
-
--- memory may run out for forced names, for an object, or for the link, if there is one
-abbrev pub MayRunOutInLink : List (List ℕ) → Choices → List ℕ → ℕ → Type 0
-MayRunOutInLink forced o bytes place =
-    ((place ≡ 0) × ((forced ≢ []) ⊎ IsOk (linked_in forced o bytes))) ⊎ MayRunOutInObjects forced [] bytes place
-
--- not before the options and the forced names are accepted
-abbrev pub LinkMayRunOut : ℕ → List ℕ → List ℕ → List ℕ → ℕ → Type 0
-LinkMayRunOut bits entry forced bytes place =
-    IsOkAnd (choices_in bits entry) (λ o. IsOkAnd (forced_in forced) (λ names. MayRunOutInLink names o bytes place))
-
--- the same of objects whose bytes are apart, by what takes one after others
+-- memory may run out for the object of this number, by what takes one after others; those before it are accepted
 abbrev pub MayRunOutInEachOf : (List Contents → List ℕ → Result (List Contents) Cause) → List Contents → List (List ℕ) → ℕ → Type 0
 MayRunOutInEachOf with_one os [] place = ⊥
 MayRunOutInEachOf with_one os (bytes ∷ rest) place =
@@ -59,13 +38,15 @@ MayRunOutInEachOf with_one os (bytes ∷ rest) place =
 abbrev pub MayRunOutInEach : List (List ℕ) → List Contents → List (List ℕ) → ℕ → Type 0
 MayRunOutInEach forced os parts place = MayRunOutInEachOf (with_first forced) os parts place
 
-abbrev pub MayRunOutInLinkOfEach : List (List ℕ) → Choices → List (List ℕ) → ℕ → Type 0
-MayRunOutInLinkOfEach forced o parts place =
+-- memory may run out for forced names, for an object, or for the link, if there is one
+abbrev pub MayRunOutInLink : List (List ℕ) → Choices → List (List ℕ) → ℕ → Type 0
+MayRunOutInLink forced o parts place =
     ((place ≡ 0) × ((forced ≢ []) ⊎ IsOk (linked_each forced o parts))) ⊎ MayRunOutInEach forced [] parts place
 
-abbrev pub LinkOfEachMayRunOut : ℕ → List ℕ → List ℕ → List (List ℕ) → ℕ → Type 0
-LinkOfEachMayRunOut bits entry forced parts place =
-    IsOkAnd (choices_in bits entry) (λ o. IsOkAnd (forced_in forced) (λ names. MayRunOutInLinkOfEach names o parts place))
+-- not before the options and the forced names are accepted
+abbrev pub LinkMayRunOut : ℕ → List ℕ → List ℕ → List (List ℕ) → ℕ → Type 0
+LinkMayRunOut bits entry forced parts place =
+    IsOkAnd (choices_in bits entry) (λ o. IsOkAnd (forced_in forced) (λ names. MayRunOutInLink names o parts place))
 
 -- ---- edits of a session
 
@@ -73,33 +54,29 @@ LinkOfEachMayRunOut bits entry forced parts place =
 abbrev pub MayRunOutForEdit : ℕ → List ℕ → Type 0
 MayRunOutForEdit letter bytes = ((letter ≡ 97) × HasBody bytes) ⊎ IsOk (change_in letter bytes)
 
--- memory may run out for the edit of number `place`, if the first of these has this number; those before it are read. The objects
--- are given in some form S, as in SessionAnswers
-abbrev pub MayRunOutInEditsOf : {S : Type 0} → (S → List ℕ) → (ℕ → S → S) → ℕ → List ℕ → S → ℕ → Type 0
-MayRunOutInEditsOf first after number [] rest place = ⊥
-MayRunOutInEditsOf first after number (letter ∷ letters) rest place =
-    ((place ≡ number) × MayRunOutForEdit letter (first rest))
-    ⊎ (IsOk (change_in letter (first rest)) × MayRunOutInEditsOf first after (number + 1) letters (after letter rest) place)
-
--- the same of objects whose bytes are one after another
-abbrev pub MayRunOutInEdits : ℕ → List ℕ → List ℕ → ℕ → Type 0
-MayRunOutInEdits number letters bytes place = MayRunOutInEditsOf (λ (rest : List ℕ). rest) after_edit number letters bytes place
+-- memory may run out for the edit of number `place`, if the first of these has this number; those before it are read
+abbrev pub MayRunOutInEdits : ℕ → List ℕ → List (List ℕ) → ℕ → Type 0
+MayRunOutInEdits number [] parts place = ⊥
+MayRunOutInEdits number (letter ∷ letters) parts place =
+    ((place ≡ number) × MayRunOutForEdit letter (first_part parts))
+    ⊎ (IsOk (change_in letter (first_part parts)) × MayRunOutInEdits (number + 1) letters (parts_after letter parts) place)
 
 -- memory may run out for forced names, for a change, or for the link of what is left, if there is one
 abbrev pub MayRunOutInRun : List (List ℕ) → Choices → List Change → Type 0
-MayRunOutInRun forced o changes = (forced ≢ []) ⊎ ((changes ≢ []) ⊎ IsOk (link_after forced changes o))
+MayRunOutInRun forced o changes = (forced ≢ []) ⊎ ((changes ≢ []) ⊎ IsOk (link forced (objects (survivors forced changes)) o))
 
-abbrev pub MayRunOutInSession : List (List ℕ) → Choices → List ℕ → List ℕ → ℕ → Type 0
-MayRunOutInSession forced o letters bytes place =
-    MayRunOutInEdits 0 letters bytes place ⊎ ((place ≡ 0) × IsOkAnd (changes_in letters bytes) (MayRunOutInRun forced o))
+-- memory may run out for an edit; or for forced names, for a change, or for the link, once all edits are read
+abbrev pub MayRunOutInSession : List (List ℕ) → Choices → List ℕ → List (List ℕ) → ℕ → Type 0
+MayRunOutInSession forced o letters parts place =
+    MayRunOutInEdits 0 letters parts place ⊎ ((place ≡ 0) × IsOkAnd (changes_in letters parts) (MayRunOutInRun forced o))
 
 -- not before the options and the forced names are accepted
-abbrev pub SessionMayRunOut : ℕ → List ℕ → List ℕ → List ℕ → List ℕ → ℕ → Type 0
-SessionMayRunOut bits entry forced letters bytes place =
-    IsOkAnd (choices_in bits entry) (λ o. IsOkAnd (forced_in forced) (λ names. MayRunOutInSession names o letters bytes place))
+abbrev pub SessionMayRunOut : ℕ → List ℕ → List ℕ → List ℕ → List (List ℕ) → ℕ → Type 0
+SessionMayRunOut bits entry forced letters parts place =
+    IsOkAnd (choices_in bits entry) (λ o. IsOkAnd (forced_in forced) (λ names. MayRunOutInSession names o letters parts place))
 
 -- a state has to be written even if there is no edit
-abbrev pub StateMayRunOut : ℕ → List ℕ → List ℕ → List ℕ → ℕ → Type 0
-StateMayRunOut form forced letters bytes place =
+abbrev pub StateMayRunOut : ℕ → List ℕ → List ℕ → List (List ℕ) → ℕ → Type 0
+StateMayRunOut form forced letters parts place =
     IsOk (form_in form) × IsOk (forced_in forced)
-    × (MayRunOutInEdits 0 letters bytes place ⊎ ((place ≡ 0) × IsOk (changes_in letters bytes)))
+    × (MayRunOutInEdits 0 letters parts place ⊎ ((place ≡ 0) × IsOk (changes_in letters parts)))

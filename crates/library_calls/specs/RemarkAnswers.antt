@@ -13,7 +13,6 @@ use Rattle.findings.specs.Wrong.{wrong_bytes, wrong_in}
 use Rattle.findings.specs.declared.finding.FindingKind.{FindingKind}
 use Rattle.findings.specs.declared.finding.FindingKind.TheVariants as kinds
 use Rattle.suspicions.specs.Suspicions.{suspicions}
-use Rattle.library_calls.specs.LinkAnswers.{Output}
 use Rattle.library_calls.specs.declared.remarks_call.RemarkRecord.{RemarkRecord}
 use Rattle.library_calls.specs.declared.remarks_call.Remarks.{Remarks}
 
@@ -66,6 +65,12 @@ abbrev pub odd_by : List ℕ → Result Contents ReadFault → List Found
 odd_by bytes (Err fault) = []
 odd_by bytes (Ok c) = odd bytes c ++ suspicions c
 
+-- a status, bytes, and a list of records
+pub record Output (A : Type 0) : Type 0 where
+  pub status : ℕ
+  pub bytes : List ℕ
+  pub records : List A
+
 -- 1 if something is wrong
 abbrev pub status_by : List Found → ℕ
 status_by [] = 0
@@ -74,8 +79,8 @@ status_by (f ∷ fs) = 1
 abbrev pub remarked_by : List Found → List Found → Output RemarkRecord
 remarked_by wrong odd = record {
   status = status_by wrong;
-  file = texts_of (wrong ++ odd);
-  report = records_from 0 (wrong ++ odd);
+  bytes = texts_of (wrong ++ odd);
+  records = records_from 0 (wrong ++ odd);
 }
 
 -- what is wrong in the bytes, and then what is odd in the file that they begin with
@@ -83,4 +88,4 @@ abbrev pub remarked_in : List ℕ → Output RemarkRecord
 remarked_in bytes = remarked_by (wrong_by bytes (decode bytes)) (odd_by bytes (decode bytes))
 
 abbrev pub remarks_in : Remarks → Output RemarkRecord
-remarks_in x = record { status = x.status; file = x.texts.items; report = x.records.items }
+remarks_in x = record { status = x.status; bytes = x.texts.items; records = x.records.items }

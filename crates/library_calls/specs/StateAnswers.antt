@@ -37,10 +37,10 @@ pub record Asked : Type 0 where
   pub changes : List Change
 
 -- the form, then the forced names, then the edits: the first refusal, or all of them
-abbrev pub asked_in : ℕ → List ℕ → List ℕ → List ℕ → Result Asked Refusal
-asked_in form forced letters bytes =
+abbrev pub asked_in : ℕ → List ℕ → List ℕ → List (List ℕ) → Result Asked Refusal
+asked_in form forced letters parts =
     and_then (at 0 (form_in form)) (λ f. and_then (forced_in forced)
-    (λ names. and_then (changes_in letters bytes) (λ cs. Ok (record { form = f; forced = names; changes = cs }))))
+    (λ names. and_then (changes_in letters parts) (λ cs. Ok (record { form = f; forced = names; changes = cs }))))
 
 -- what is shown: the status, the replies to the edits, and the state
 pub record StateOutput : Type 0 where

@@ -1,5 +1,6 @@
 //! Objects and other files taken apart.
 ghost use Rattle.std.specs.Prelude.{◌≡◌, ◌≢◌, ◌⊎◌, map, Ok, Err, IsOk, IfOk, IfErr};
+ghost use Rattle.aout_core.specs.Refusals.{refused};
 ghost use Rattle.library_calls.specs.MemoryWanted.{HasBody};
 ghost use Rattle.library_calls.specs.ObjectParts.{parts_in, pieces_in, pieces_of, row_of, whole_in, whole_of, words_alone, words_of, words_with};
 ghost use Rattle.library_calls.specs.declared.cause.Cause.TheVariants.{Memory};
@@ -98,11 +99,11 @@ fn parts_of(alloc: Global, file: &File) -> Result<PartLists, AllocError>
 /// `Memory`, 50, if memory runs out for a whole file that has more than its header, or for the parts of an object.
 pub fn take_apart(alloc: Global, bytes: &[u8]) -> Result<PartLists, Cause>
     ensures ok { IfOk result (λ parts. parts_in bytes.now ≡ Ok (pieces_in parts)) }
-    ensures err { IfErr result (λ cause. cause ≢ Memory → parts_in bytes.now ≡ Err cause) }
+    ensures err { IfErr result (λ cause. cause ≢ Memory refused → parts_in bytes.now ≡ Err cause) }
     ensures memory { IfErr result (λ cause.
-        cause ≡ Memory → HasBody bytes.now ⊎ IsOk (parts_in bytes.now)) }
+        cause ≡ Memory refused → HasBody bytes.now ⊎ IsOk (parts_in bytes.now)) }
 {
-    let (object, _) = first_object(alloc, bytes)?;
+    let object = first_object(alloc, bytes)?;
     Ok(parts_of(alloc, object.file())?)
 }
 
@@ -112,10 +113,10 @@ pub fn take_apart(alloc: Global, bytes: &[u8]) -> Result<PartLists, Cause>
 /// Errors: `BadFile`, 11 to 14, if the bytes do not begin with a file; else `Memory`, 50, if memory runs out.
 pub fn read_apart(alloc: Global, bytes: &[u8]) -> Result<FileLists, Cause>
     ensures ok { IfOk result (λ file. whole_in bytes.now ≡ Ok (whole_of file)) }
-    ensures err { IfErr result (λ cause. cause ≢ Memory → whole_in bytes.now ≡ Err cause) }
-    ensures memory { IfErr result (λ cause. cause ≡ Memory → IsOk (whole_in bytes.now)) }
+    ensures err { IfErr result (λ cause. cause ≢ Memory refused → whole_in bytes.now ≡ Err cause) }
+    ensures memory { IfErr result (λ cause. cause ≡ Memory refused → IsOk (whole_in bytes.now)) }
 {
-    let (file, _) = first_file(alloc, bytes)?;
+    let file = first_file(alloc, bytes)?;
     Ok(FileLists {
         header: *file.header(),
         parts: parts_of(alloc, &file)?,

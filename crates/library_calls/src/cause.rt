@@ -1,15 +1,15 @@
 //! Why a call has no answer.
 ghost use Rattle.std.specs.Prelude.{◌≡◌};
-ghost use Rattle.library_calls.specs.Causes.{cause_of_addition, cause_of_link, cause_of_read, column_word, gnu_number, gnu_word, number_of, object_word, reason_number, size_number, word_of};
+ghost use Rattle.aout_core.specs.Refusals.{refused};
+ghost use Rattle.library_calls.specs.Causes.{cause_of_addition, cause_of_link, column_word, gnu_number, gnu_word, number_of, object_word, reason_number, size_number, word_of};
 ghost use Rattle.library_calls.specs.declared.cause.Cause.TheVariants.{Memory};
 
-use aout_core::{DeviceFault, ObjectFault, ReadFault};
+use aout_core::{ObjectFault, ReadFault, Refused};
 use gnu_objects::Size;
 use link_out::LinkFault;
 use link_session::AddFault;
 use listings::{Fault, Reason};
 use std::alloc::AllocError;
-use symtools::ToolFault;
 
 /// A part of an object. (a.out(5))
 #[derive(Clone, Copy, Debug, PartialEq, Eq)]
@@ -54,7 +54,7 @@ pub enum Cause {
     /// 11 to 14, 21 to 24, 42 and 81 to 89: an object in GNU's form is refused.
     NotConverted(gnu_objects::Refusal),
     /// 50: memory ran out.
-    Memory,
+    Memory(Refused),
 }
 
 /// Why a call has no answer, and where. (own choice)
@@ -67,26 +67,12 @@ pub struct Refusal {
     pub place: usize,
 }
 
-impl From<ReadFault> for Cause {
-    ghost from_gives = { λ fault cause. cause ≡ cause_of_read fault };
-
-    fn from(fault: ReadFault) -> Cause {
-        match fault {
-            ReadFault::Memory | ReadFault::Device => Cause::Memory,
-            ReadFault::ShortHeader
-            | ReadFault::BadMagic
-            | ReadFault::OddSize
-            | ReadFault::Truncated => Cause::BadFile(fault),
-        }
-    }
-}
-
 impl From<AddFault> for Cause {
     ghost from_gives = { λ fault cause. cause ≡ cause_of_addition fault };
 
     fn from(fault: AddFault) -> Cause {
         match fault {
-            AddFault::Memory => Cause::Memory,
+            AddFault::Memory(refused) => Cause::Memory(refused),
             AddFault::TextFull | AddFault::DataFull | AddFault::BssFull | AddFault::NamesFull => {
                 Cause::NotAdded(fault)
             }
@@ -99,7 +85,7 @@ impl From<LinkFault> for Cause {
 
     fn from(fault: LinkFault) -> Cause {
         match fault {
-            LinkFault::Memory => Cause::Memory,
+            LinkFault::Memory(refused) => Cause::Memory(refused),
             LinkFault::DoesNotFit | LinkFault::TooManySymbols | LinkFault::SymbolNumber => {
                 Cause::NotLinked(fault)
             }
@@ -107,36 +93,19 @@ impl From<LinkFault> for Cause {
     }
 }
 
-// what is written to lies in memory, so that a fault of it is that memory ran out
-impl From<DeviceFault> for Cause {
-    ghost from_gives = { λ _ cause. cause ≡ Memory };
-
-    fn from(_fault: DeviceFault) -> Cause {
-        Cause::Memory
-    }
-}
-
-impl From<ToolFault> for Cause {
-    ghost from_gives = { λ _ cause. cause ≡ Memory };
-
-    fn from(_fault: ToolFault) -> Cause {
-        Cause::Memory
-    }
-}
-
 impl From<AllocError> for Cause {
-    ghost from_gives = { λ _ cause. cause ≡ Memory };
+    ghost from_gives = { λ _ cause. cause ≡ Memory refused };
 
-    fn from(_error: AllocError) -> Cause {
-        Cause::Memory
+    fn from(error: AllocError) -> Cause {
+        Cause::Memory(Refused::from(error))
     }
 }
 
-impl From<link_session::Memory> for Cause {
-    ghost from_gives = { λ _ cause. cause ≡ Memory };
+impl From<Refused> for Cause {
+    ghost from_gives = { λ _ cause. cause ≡ Memory refused };
 
-    fn from(_error: link_session::Memory) -> Cause {
-        Cause::Memory
+    fn from(refused: Refused) -> Cause {
+        Cause::Memory(refused)
     }
 }
 
@@ -149,21 +118,18 @@ impl From<Cause> for Refusal {
 }
 
 impl From<AllocError> for Refusal {
-    ghost from_gives = { λ _ refusal. refusal ≡ record { cause = Memory; place = 0 } };
+    ghost from_gives = { λ _ refusal. refusal ≡ record { cause = Memory refused; place = 0 } };
 
     fn from(error: AllocError) -> Refusal {
         Refusal::from(Cause::from(error))
     }
 }
 
-impl From<link_session::Memory> for Refusal {
-    ghost from_gives = { λ _ refusal. refusal ≡ record { cause = Memory; place = 0 } };
+impl From<Refused> for Refusal {
+    ghost from_gives = { λ _ refusal. refusal ≡ record { cause = Memory refused; place = 0 } };
 
-    fn from(_error: link_session::Memory) -> Refusal {
-        Refusal {
-            cause: Cause::Memory,
-            place: 0,
-        }
+    fn from(refused: Refused) -> Refusal {
+        Refusal::from(Cause::Memory(refused))
     }
 }
 
@@ -174,8 +140,9 @@ fn read_number(fault: ReadFault) -> u32
         ReadFault::ShortHeader => 11,
         ReadFault::BadMagic => 12,
         ReadFault::OddSize => 13,
-        ReadFault::Truncated => 14,
-        ReadFault::Memory | ReadFault::Device => 50,
+        // a device is never read
+        ReadFault::Device | ReadFault::Truncated => 14,
+        ReadFault::Memory(_) => 50,
     }
 }
 
@@ -199,7 +166,7 @@ pub(crate) fn addition_number(fault: AddFault) -> u8
         AddFault::DataFull => 32,
         AddFault::BssFull => 33,
         AddFault::NamesFull => 34,
-        AddFault::Memory => 50,
+        AddFault::Memory(_) => 50,
     }
 }
 
@@ -210,7 +177,7 @@ fn link_number(fault: LinkFault) -> u32
         LinkFault::DoesNotFit => 41,
         LinkFault::TooManySymbols => 42,
         LinkFault::SymbolNumber => 43,
-        LinkFault::Memory => 50,
+        LinkFault::Memory(_) => 50,
     }
 }
 
@@ -246,7 +213,7 @@ fn gnu_number(refusal: gnu_objects::Refusal) -> u32
         gnu_objects::Refusal::Truncated => 14,
         gnu_objects::Refusal::BadWord(fault) => object_number(fault),
         gnu_objects::Refusal::TooManySymbols(_) => 42,
-        gnu_objects::Refusal::Memory => 50,
+        gnu_objects::Refusal::Memory(_) => 50,
         gnu_objects::Refusal::BadStrings => 81,
         gnu_objects::Refusal::Overlay(_) => 82,
         gnu_objects::Refusal::BadPlace(_) => 83,
@@ -323,7 +290,7 @@ fn gnu_word(refusal: gnu_objects::Refusal) -> u32
         gnu_objects::Refusal::ShortHeader
         | gnu_objects::Refusal::Truncated
         | gnu_objects::Refusal::BadStrings
-        | gnu_objects::Refusal::Memory => 0,
+        | gnu_objects::Refusal::Memory(_) => 0,
     }
 }
 
@@ -346,7 +313,7 @@ impl Cause {
             Cause::NotLinked(fault) => link_number(fault),
             Cause::BadListing(fault) => reason_number(fault.reason),
             Cause::NotConverted(refusal) => gnu_number(refusal),
-            Cause::Memory => 50,
+            Cause::Memory(_) => 50,
         }
     }
 

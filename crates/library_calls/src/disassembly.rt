@@ -1,5 +1,6 @@
 //! Words as instructions: those of the text of a file, and words alone.
 ghost use Rattle.std.specs.Prelude.{◌≡◌, ◌≢◌, [], Ok, Err, IsErr, IsOk, IfOk, IfErr};
+ghost use Rattle.aout_core.specs.Refusals.{refused};
 ghost use Rattle.instructions.specs.declared.unix.Decoder.TheVariants.{Pdp11};
 ghost use Rattle.disassemblies.specs.Columns.{disassembly, plain_disassembly};
 ghost use Rattle.library_calls.specs.FileAnswers.{disassembled_in};
@@ -28,10 +29,10 @@ fn disassembly_of(alloc: Global, file: &File) -> Result<Vec<u8>, AllocError>
 /// Errors: `BadFile`, 11 to 14, if the bytes do not begin with a file; else `Memory`, 50, if memory runs out.
 pub fn disassemble(alloc: Global, bytes: &[u8]) -> Result<Vec<u8>, Cause>
     ensures ok { IfOk result (λ text. disassembled_in bytes.now ≡ Ok text.items) }
-    ensures err { IfErr result (λ cause. cause ≢ Memory → disassembled_in bytes.now ≡ Err cause) }
-    ensures memory { IfErr result (λ cause. cause ≡ Memory → IsOk (disassembled_in bytes.now)) }
+    ensures err { IfErr result (λ cause. cause ≢ Memory refused → disassembled_in bytes.now ≡ Err cause) }
+    ensures memory { IfErr result (λ cause. cause ≡ Memory refused → IsOk (disassembled_in bytes.now)) }
 {
-    let (file, _) = first_file(alloc, bytes)?;
+    let file = first_file(alloc, bytes)?;
     Ok(disassembly_of(alloc, &file)?)
 }
 
@@ -41,7 +42,7 @@ pub fn disassemble(alloc: Global, bytes: &[u8]) -> Result<Vec<u8>, Cause>
 /// An error: `Memory`, 50, if there are words and memory runs out.
 pub fn disassemble_words(alloc: Global, address: u16, words: &[u16]) -> Result<Vec<u8>, Cause>
     ensures ok { IfOk result (λ text. text.items ≡ plain_disassembly address words.now) }
-    ensures err { IfErr result (λ cause. cause ≡ Memory) }
+    ensures err { IfErr result (λ cause. cause ≡ Memory refused) }
     ensures memory { IsErr result → words.now ≢ [] }
 {
     let mut text = Text::new(alloc);

@@ -1,8 +1,11 @@
 //! What is said of one file that comes as bytes.
-ghost use Rattle.std.specs.Prelude.{◌≡◌, ◌≢◌, [], ◌∷◌, Ok, Err, IsOk, IfOk, IfErr};
-ghost use Rattle.aout_core.specs.Encoding.{encoding};
-ghost use Rattle.symtools.specs.NmLists.{nm_text};
-ghost use Rattle.symtools.specs.SizeLines.{size_text};
+ghost use Rattle.std.specs.Prelude.{◌≡◌, ◌≢◌, ◌++◌, ◌∷◌, [], Ok, Err, IsOk, IfOk, IfErr};
+ghost use Rattle.std.specs.List.{flat_map};
+ghost use Rattle.aout_core.specs.Refusals.{refused};
+ghost use Rattle.symtools.specs.NmLists.{shown};
+ghost use Rattle.symtools.specs.SizeLines.{size_line};
+ghost use Rattle.symtools.specs.SymbolLines.{symbol_line};
+ghost use Rattle.texts.specs.Texts.{Puts};
 ghost use Rattle.library_calls.specs.FileAnswers.{checked_in, names_in, sizes_in, stripped_in};
 ghost use Rattle.library_calls.specs.MemoryWanted.{HasBody};
 ghost use Rattle.library_calls.specs.declared.cause.Cause.TheVariants.{Memory};
@@ -10,9 +13,11 @@ ghost use Rattle.library_calls.specs.declared.cause.Cause.TheVariants.{Memory};
 use crate::cause::Cause;
 use crate::first::{file_length, first_file, first_object};
 use crate::requests::nm_options;
-use aout_core::{File, Wire, strip_file, write_file};
-use std::alloc::Global;
-use symtools::{NmOptions, nm, size};
+use crate::written::bytes_of;
+use aout_core::{File, Header, Symbol, strip_file};
+use std::alloc::{AllocError, Global};
+use symtools::{NmOptions, line_of, shown, size_line};
+use texts::Text;
 
 /// Checks that the bytes begin with an object, and returns how many bytes it takes. What is after it is not looked at.
 /// (a.out(5))
@@ -21,21 +26,11 @@ use symtools::{NmOptions, nm, size};
 /// `Memory`, 50, if memory runs out for a whole file that has more than its header.
 pub fn check(alloc: Global, bytes: &[u8]) -> Result<usize, Cause>
     ensures ok { IfOk result (λ count. checked_in bytes.now ≡ Ok count) }
-    ensures err { IfErr result (λ cause. cause ≢ Memory → checked_in bytes.now ≡ Err cause) }
-    ensures memory { IfErr result (λ cause. cause ≡ Memory → HasBody bytes.now) }
+    ensures err { IfErr result (λ cause. cause ≢ Memory refused → checked_in bytes.now ≡ Err cause) }
+    ensures memory { IfErr result (λ cause. cause ≡ Memory refused → HasBody bytes.now) }
 {
-    let (object, _) = first_object(alloc, bytes)?;
+    let object = first_object(alloc, bytes)?;
     Ok(file_length(object.file().header()))
-}
-
-/// The bytes of a file.
-pub(crate) fn bytes_of(alloc: Global, file: &File) -> Result<Vec<u8>, Cause>
-    ensures ok { IfOk result (λ written. written.items ≡ encoding file.now) }
-    ensures err { IfErr result (λ cause. cause ≡ Memory) }
-{
-    let mut out = Wire::new(Vec::new(alloc));
-    write_file(file, &mut out)?;
-    Ok(out.into_inner())
 }
 
 /// The bytes of the file that the bytes begin with, without relocation and symbols. What is after it is not looked at.
@@ -44,43 +39,52 @@ pub(crate) fn bytes_of(alloc: Global, file: &File) -> Result<Vec<u8>, Cause>
 /// Errors: `BadFile`, 11 to 14, if the bytes do not begin with a file; else `Memory`, 50, if memory runs out.
 pub fn strip(alloc: Global, bytes: &[u8]) -> Result<Vec<u8>, Cause>
     ensures ok { IfOk result (λ written. stripped_in bytes.now ≡ Ok written.items) }
-    ensures err { IfErr result (λ cause. cause ≢ Memory → stripped_in bytes.now ≡ Err cause) }
-    ensures memory { IfErr result (λ cause. cause ≡ Memory → IsOk (stripped_in bytes.now)) }
+    ensures err { IfErr result (λ cause. cause ≢ Memory refused → stripped_in bytes.now ≡ Err cause) }
+    ensures memory { IfErr result (λ cause. cause ≡ Memory refused → IsOk (stripped_in bytes.now)) }
 {
-    let (file, _) = first_file(alloc, bytes)?;
-    bytes_of(alloc, &strip_file(file))
+    let file = first_file(alloc, bytes)?;
+    Ok(bytes_of(alloc, &strip_file(file))?)
 }
 
-/// The line of size for a file without a path.
-fn sizes_of(alloc: Global, file: File) -> Result<Vec<u8>, Cause>
-    ensures ok { IfOk result (λ text. text.items ≡ size_text (([], file) ∷ [])) }
-    ensures err { IfErr result (λ cause. cause ≡ Memory) }
+/// The line of size for a file with this header.
+fn sizes_of(alloc: Global, header: &Header) -> Result<Vec<u8>, AllocError>
+    ensures { IfOk result (λ text. text.items ≡ size_line header.now ++ 10 ∷ []) }
 {
-    let mut out = Wire::new(Vec::new(alloc));
-    size(&[(String::new(alloc), file)], &mut out)?;
-    Ok(out.into_inner())
+    let mut text = Text::new(alloc);
+    text.put_bytes(size_line(header).as_bytes());
+    text.finish()
 }
 
 /// The line of size, without a path, of the file that the bytes begin with. (size(1))
 ///
 /// Errors: `BadFile`, 11 to 14, if the bytes do not begin with a file; else `Memory`, 50, if memory runs out.
+#[tactic(auto, using(crate::proofs::FileLemmas::sizes_shown))]
 pub fn show_sizes(alloc: Global, bytes: &[u8]) -> Result<Vec<u8>, Cause>
     ensures ok { IfOk result (λ text. sizes_in bytes.now ≡ Ok text.items) }
-    ensures err { IfErr result (λ cause. cause ≢ Memory → sizes_in bytes.now ≡ Err cause) }
-    ensures memory { IfErr result (λ cause. cause ≡ Memory → IsOk (sizes_in bytes.now)) }
+    ensures err { IfErr result (λ cause. cause ≢ Memory refused → sizes_in bytes.now ≡ Err cause) }
+    ensures memory { IfErr result (λ cause. cause ≡ Memory refused → IsOk (sizes_in bytes.now)) }
 {
-    let (file, _) = first_file(alloc, bytes)?;
-    sizes_of(alloc, file)
+    let file = first_file(alloc, bytes)?;
+    Ok(sizes_of(alloc, file.header())?)
+}
+
+/// Puts the line of each symbol.
+fn put_lines(text: &mut Text, symbols: &[Symbol])
+    ensures { Puts text.old text.new (flat_map symbol_line symbols.now) }
+{
+    for symbol in symbols {
+        text.put_bytes(line_of(symbol).as_bytes());
+    }
 }
 
 /// The lines of nm for a file without a path.
-fn names_of(alloc: Global, options: NmOptions, file: File) -> Result<Vec<u8>, Cause>
-    ensures ok { IfOk result (λ text. text.items ≡ nm_text options (([], file) ∷ [])) }
-    ensures err { IfErr result (λ cause. cause ≡ Memory) }
+fn names_of(alloc: Global, options: NmOptions, file: &File) -> Result<Vec<u8>, AllocError>
+    ensures { IfOk result (λ text. text.items ≡ flat_map symbol_line (shown options file.now)) }
 {
-    let mut out = Wire::new(Vec::new(alloc));
-    nm(alloc, &[(String::new(alloc), file)], options, &mut out)?;
-    Ok(out.into_inner())
+    let symbols = shown(alloc, file.symbols(), options)?;
+    let mut text = Text::new(alloc);
+    put_lines(&mut text, &symbols);
+    text.finish()
 }
 
 /// The lines of nm, without a path, of the file that the bytes begin with. The options are bits: 1 for `-g`, 2 `-n`,
@@ -88,12 +92,13 @@ fn names_of(alloc: Global, options: NmOptions, file: File) -> Result<Vec<u8>, Ca
 ///
 /// Errors, the first that applies: `NoOption`, 1, if a bit is not an option; `BadFile`, 11 to 14, if the bytes do not
 /// begin with a file; `Memory`, 50, if memory runs out.
+#[tactic(auto, using(crate::proofs::FileLemmas::names_listed))]
 pub fn list_symbols(alloc: Global, options: u32, bytes: &[u8]) -> Result<Vec<u8>, Cause>
     ensures ok { IfOk result (λ text. names_in options bytes.now ≡ Ok text.items) }
-    ensures err { IfErr result (λ cause. cause ≢ Memory → names_in options bytes.now ≡ Err cause) }
-    ensures memory { IfErr result (λ cause. cause ≡ Memory → IsOk (names_in options bytes.now)) }
+    ensures err { IfErr result (λ cause. cause ≢ Memory refused → names_in options bytes.now ≡ Err cause) }
+    ensures memory { IfErr result (λ cause. cause ≡ Memory refused → IsOk (names_in options bytes.now)) }
 {
     let choices = nm_options(options)?;
-    let (file, _) = first_file(alloc, bytes)?;
-    names_of(alloc, choices, file)
+    let file = first_file(alloc, bytes)?;
+    Ok(names_of(alloc, choices, &file)?)
 }

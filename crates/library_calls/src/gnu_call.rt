@@ -1,5 +1,6 @@
 //! Objects in GNU's form.
 ghost use Rattle.std.specs.Prelude.{◌≡◌, ◌≢◌, Ok, Err, IfOk, IfErr};
+ghost use Rattle.aout_core.specs.Refusals.{refused};
 ghost use Rattle.gnu_objects.specs.Converted.{converted};
 ghost use Rattle.gnu_objects.specs.GnuRefusals.{sizes_refusal};
 ghost use Rattle.link_out.specs.Steps.{refused_as};
@@ -7,8 +8,8 @@ ghost use Rattle.library_calls.specs.GnuAnswers.{ConversionMayRunOut, conversion
 ghost use Rattle.library_calls.specs.declared.cause.Cause.TheVariants.{Memory};
 
 use crate::cause::{Cause, Refusal};
-use crate::file_calls::bytes_of;
 use crate::requests::has_bit;
+use crate::written::bytes_of;
 use aout_core::Object;
 use gnu_objects::{Locals, Options, convert, place_of};
 use std::alloc::Global;
@@ -42,14 +43,14 @@ fn conversion_in(bits: u32) -> Result<Options, Cause>
 /// The object that one in GNU's form becomes.
 fn convert_at(alloc: Global, options: Options, bytes: &[u8]) -> Result<Object, Refusal>
     ensures ok { IfOk result (λ object. converted options bytes.now ≡ Ok object) }
-    ensures err { IfErr result (λ r. r.cause ≢ Memory
+    ensures err { IfErr result (λ r. r.cause ≢ Memory refused
         → refused_as (refused_in bytes.now) (converted options bytes.now) ≡ Err r) }
     ensures memory { IfErr result (λ r.
-        r.cause ≡ Memory → (r.place ≡ 0) × (sizes_refusal bytes.now ≡ None)) }
+        r.cause ≡ Memory refused → (r.place ≡ 0) × (sizes_refusal bytes.now ≡ None)) }
 {
     match convert(alloc, bytes, options) {
         Ok(object) => Ok(object),
-        Err(gnu_objects::Refusal::Memory) => Err(Refusal::from(Cause::Memory)),
+        Err(gnu_objects::Refusal::Memory(refused)) => Err(Refusal::from(refused)),
         Err(refusal) => Err(Refusal {
             cause: Cause::NotConverted(refusal),
             place: place_of(bytes, refusal),
@@ -65,9 +66,9 @@ fn convert_at(alloc: Global, options: Options, bytes: &[u8]) -> Result<Object, R
 /// 87 for two names, and 88, 89 and 21 to 24 for a word. `Memory`, 50, comes if memory runs out, but never in place of 1, 11 to 14 and 81.
 pub fn from_gnu(alloc: Global, options: u32, bytes: &[u8]) -> Result<Vec<u8>, Refusal>
     ensures ok { IfOk result (λ written. converted_in options bytes.now ≡ Ok written.items) }
-    ensures err { IfErr result (λ r. r.cause ≢ Memory → converted_in options bytes.now ≡ Err r) }
+    ensures err { IfErr result (λ r. r.cause ≢ Memory refused → converted_in options bytes.now ≡ Err r) }
     ensures memory { IfErr result (λ r.
-        r.cause ≡ Memory → ConversionMayRunOut options bytes.now r.place) }
+        r.cause ≡ Memory refused → ConversionMayRunOut options bytes.now r.place) }
 {
     let choices = conversion_in(options)?;
     let object = convert_at(alloc, choices, bytes)?;

@@ -6,20 +6,18 @@
 //!     entry: b"",
 //!     forced: b"",
 //! };
-//! link(alloc, &request, objects)
+//! run_link(alloc, &request, false, objects)
 //! ```
 //!
 //! Types:
 //!
 //! - `LinkRequest`: options, entry point and forced names of a link
-//! - `Program`: a linked file, its report and the status
-//! - `Found`, `ReportedName`: a linked file with its report as a list, and a name that is reported
-//! - `ObjectBytes`: the bytes of an object that is given apart
-//! - `RunResult`: what a link or a session of objects apart gives, its report as lines and as a list
-//! - `FindingPlace`: the objects of a name that is reported
+//! - `ObjectBytes`: bytes that begin with an object
+//! - `RunResult`: what a link or a session gives, its report as lines and as a list
+//! - `ReportedName`, `FindingPlace`: a name that is reported, and its objects
 //! - `Mapped`, `MapHead`: the map of a link, and what becomes of it
 //! - `MapRecords`, `ObjectRecord`, `NameRecord`, `UseRecord`, `LimitRecord`: the records of a map
-//! - `Ran`, `Shown`, `Form`: what a session gives, the state that it shows, and in which form
+//! - `Shown`, `Form`: the state that a session shows, and in which form
 //! - `ObjectParts`, `PartLists`: the parts that an object is made of, and those that one is taken apart into
 //! - `FileLists`: the parts of any file
 //! - `ObjectWord`, `SymbolRow`: a word with its relocation word, and a symbol, of these parts
@@ -29,11 +27,9 @@
 //!
 //! Functions:
 //!
-//! - `link`, `link_each`: link objects, given one after another or apart
-//! - `link_findings`: links objects given apart, with the report as a list of names
-//! - `run_link`: links objects given apart, with the report in both forms
-//! - `run_session`, `run_session_of_parts`: make edits, and link what they leave
-//! - `map_link`: gives the map of a link of objects given apart
+//! - `run_link`: links objects
+//! - `run_session`: makes edits, and links what they leave
+//! - `map_link`: gives the map of a link
 //! - `show_session`: makes edits, and shows the state that they leave
 //! - `make`, `take_apart`: an object of its parts, and the parts of an object
 //! - `read_apart`: the parts of any file
@@ -45,37 +41,33 @@
 //! - `from_gnu`: the object that one in GNU's form becomes
 //! - `remarks_of`: what is wrong and odd in a file
 //!
-//! Nothing is kept between two calls. Objects are bytes, one after another: the header of each gives its length.
+//! Nothing is kept between two calls. An object is the bytes that begin with it: its header gives its length.
 #![tactic(auto)]
 
 mod apart;
 mod cause;
 mod disassembly;
 mod edits;
-mod edits_apart;
 mod file_calls;
-mod findings_call;
 mod first;
 mod gnu_call;
-mod link_call;
 mod listing_calls;
 mod make_call;
 mod map_call;
 mod parts;
 mod remarks_call;
+mod reported;
 mod requests;
 mod run_call;
-mod session_call;
 mod state_call;
 mod taking;
+mod written;
 
 pub use apart::{read_apart, take_apart};
 pub use cause::{Cause, LongPart, Refusal};
 pub use disassembly::{disassemble, disassemble_words};
 pub use file_calls::{check, list_symbols, show_sizes, strip};
-pub use findings_call::{Found, ReportedName, link_findings};
 pub use gnu_call::from_gnu;
-pub use link_call::{LinkRequest, Program, link, link_each};
 pub use link_maps::{LimitRecord, MapRecords, NameRecord, ObjectRecord, UseRecord};
 pub use listing_calls::{from_listing, list_file};
 pub use make_call::make;
@@ -83,6 +75,7 @@ pub use map_call::{MapHead, Mapped, map_link};
 pub use parts::{FileLists, ObjectBytes, ObjectParts, ObjectWord, PartLists, SymbolRow};
 pub use remarks_call::{RemarkRecord, Remarks, remarks_of};
 pub use report_objects::FindingPlace;
-pub use run_call::{RunResult, run_link, run_session_of_parts};
-pub use session_call::{Ran, run_session};
+pub use reported::ReportedName;
+pub use requests::LinkRequest;
+pub use run_call::{RunResult, run_link, run_session};
 pub use state_call::{Form, Shown, show_session};

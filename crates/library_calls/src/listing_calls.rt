@@ -1,5 +1,6 @@
 //! Listings: that of a file, and the file of one.
 ghost use Rattle.std.specs.Prelude.{◌≡◌, ◌≢◌, Ok, Err, IsOk, IfOk, IfErr};
+ghost use Rattle.aout_core.specs.Refusals.{refused};
 ghost use Rattle.link_out.specs.Steps.{refused_as};
 ghost use Rattle.listings.specs.MemoryWanted.{ListingMayRunOut};
 ghost use Rattle.listings.specs.Reading.{read};
@@ -8,8 +9,8 @@ ghost use Rattle.library_calls.specs.ListingAnswers.{DescribedMayRunOut, describ
 ghost use Rattle.library_calls.specs.declared.cause.Cause.TheVariants.{Memory};
 
 use crate::cause::{Cause, Refusal};
-use crate::file_calls::bytes_of;
 use crate::first::first_file;
+use crate::written::bytes_of;
 use aout_core::File;
 use disassemblies::Sweep;
 use explanations::write_explained;
@@ -39,10 +40,10 @@ fn listing_of(alloc: Global, file: &File) -> Result<Vec<u8>, AllocError>
 /// Errors: `BadFile`, 11 to 14, if the bytes do not begin with a file; else `Memory`, 50, if memory runs out.
 pub fn list_file(alloc: Global, bytes: &[u8]) -> Result<Vec<u8>, Cause>
     ensures ok { IfOk result (λ text. listed_in bytes.now ≡ Ok text.items) }
-    ensures err { IfErr result (λ cause. cause ≢ Memory → listed_in bytes.now ≡ Err cause) }
-    ensures memory { IfErr result (λ cause. cause ≡ Memory → IsOk (listed_in bytes.now)) }
+    ensures err { IfErr result (λ cause. cause ≢ Memory refused → listed_in bytes.now ≡ Err cause) }
+    ensures memory { IfErr result (λ cause. cause ≡ Memory refused → IsOk (listed_in bytes.now)) }
 {
-    let (file, _) = first_file(alloc, bytes)?;
+    let file = first_file(alloc, bytes)?;
     Ok(listing_of(alloc, &file)?)
 }
 
@@ -50,13 +51,13 @@ pub fn list_file(alloc: Global, bytes: &[u8]) -> Result<Vec<u8>, Cause>
 fn file_described(alloc: Global, text: &[u8]) -> Result<File, Refusal>
     ensures ok { IfOk result (λ file. refused_as mistake_of (read text.now) ≡ Ok file) }
     ensures err { IfErr result (λ r.
-        r.cause ≢ Memory → refused_as mistake_of (read text.now) ≡ Err r) }
+        r.cause ≢ Memory refused → refused_as mistake_of (read text.now) ≡ Err r) }
     ensures memory { IfErr result (λ r.
-        r.cause ≡ Memory → (r.place ≡ 0) × ListingMayRunOut text.now) }
+        r.cause ≡ Memory refused → (r.place ≡ 0) × ListingMayRunOut text.now) }
 {
     match read_listing(alloc, text) {
         Ok(file) => Ok(file),
-        Err(ListingFault::Memory) => Err(Refusal::from(Cause::Memory)),
+        Err(ListingFault::Memory(refused)) => Err(Refusal::from(refused)),
         Err(ListingFault::Wrong(fault)) => Err(Refusal {
             cause: Cause::BadListing(fault),
             place: fault.line,
@@ -70,8 +71,8 @@ fn file_described(alloc: Global, text: &[u8]) -> Result<File, Refusal>
 /// symbol or the file.
 pub fn from_listing(alloc: Global, text: &[u8]) -> Result<Vec<u8>, Refusal>
     ensures ok { IfOk result (λ written. described_in text.now ≡ Ok written.items) }
-    ensures err { IfErr result (λ r. r.cause ≢ Memory → described_in text.now ≡ Err r) }
-    ensures memory { IfErr result (λ r. r.cause ≡ Memory → DescribedMayRunOut text.now r.place) }
+    ensures err { IfErr result (λ r. r.cause ≢ Memory refused → described_in text.now ≡ Err r) }
+    ensures memory { IfErr result (λ r. r.cause ≡ Memory refused → DescribedMayRunOut text.now r.place) }
 {
     let file = file_described(alloc, text)?;
     Ok(bytes_of(alloc, &file)?)

@@ -1,13 +1,14 @@
 //! Objects made of their parts.
 ghost use Rattle.std.specs.Prelude.{◌≡◌, ◌≢◌, ◌%◌, map, Ok, Err, IsOk, IfOk, IfErr};
+ghost use Rattle.aout_core.specs.Refusals.{refused};
 ghost use Rattle.aout_core.specs.Parts.{contents_of};
 ghost use Rattle.library_calls.specs.ObjectParts.{contents_for, file_for, header_for, header_of, made_of, pieces, reloc_of, symbol_of};
 ghost use Rattle.library_calls.specs.declared.cause.Cause.TheVariants.{Memory};
 
 use crate::cause::{Cause, LongPart};
-use crate::file_calls::bytes_of;
 use crate::first::object_of;
 use crate::parts::{ObjectParts, ObjectWord, SymbolRow};
+use crate::written::bytes_of;
 use aout_core::{File, Header, Name, Parts, ReadFault, Reloc, Symbol};
 use std::alloc::{AllocError, Global};
 
@@ -99,10 +100,10 @@ fn file_for(alloc: Global, parts: &ObjectParts<'_>) -> Result<File, Cause>
     ensures ok { IfOk result (λ file.
         file_for (pieces parts.now.text.now parts.now.data.now parts.now.bss parts.now.symbols.now)
         ≡ Ok file) }
-    ensures err { IfErr result (λ cause. cause ≢ Memory → file_for
+    ensures err { IfErr result (λ cause. cause ≢ Memory refused → file_for
         (pieces parts.now.text.now parts.now.data.now parts.now.bss parts.now.symbols.now)
         ≡ Err cause) }
-    ensures memory { IfErr result (λ cause. cause ≡ Memory → IsOk (file_for
+    ensures memory { IfErr result (λ cause. cause ≡ Memory refused → IsOk (file_for
         (pieces parts.now.text.now parts.now.data.now parts.now.bss parts.now.symbols.now))) }
 {
     let header = header_for(parts)?;
@@ -124,13 +125,13 @@ pub fn make(alloc: Global, parts: &ObjectParts<'_>) -> Result<Vec<u8>, Cause>
     ensures ok { IfOk result (λ written.
         made_of (pieces parts.now.text.now parts.now.data.now parts.now.bss parts.now.symbols.now)
         ≡ Ok written.items) }
-    ensures err { IfErr result (λ cause. cause ≢ Memory
+    ensures err { IfErr result (λ cause. cause ≢ Memory refused
         → made_of (pieces parts.now.text.now parts.now.data.now parts.now.bss parts.now.symbols.now)
         ≡ Err cause) }
-    ensures memory { IfErr result (λ cause. cause ≡ Memory → IsOk (file_for
+    ensures memory { IfErr result (λ cause. cause ≡ Memory refused → IsOk (file_for
         (pieces parts.now.text.now parts.now.data.now parts.now.bss parts.now.symbols.now))) }
 {
     let file = file_for(alloc, parts)?;
     let object = object_of(file)?;
-    bytes_of(alloc, object.file())
+    Ok(bytes_of(alloc, object.file())?)
 }

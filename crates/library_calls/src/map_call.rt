@@ -1,5 +1,6 @@
 //! The map of a link of objects whose bytes are apart, as records.
 ghost use Rattle.std.specs.Prelude.{◌≡◌, ◌≢◌, ◌⊎◌, ℕ, List, length, Ok, Err, IfOk, IfErr, IsOk};
+ghost use Rattle.aout_core.specs.Refusals.{refused};
 ghost use Rattle.link_session.specs.Labelled.{objects};
 ghost use Rattle.link_maps.specs.Members.{all_of, cause_of};
 ghost use Rattle.library_calls.specs.LinkAnswers.{each_of};
@@ -9,9 +10,8 @@ ghost use Rattle.library_calls.specs.declared.cause.Cause.TheVariants.{Memory};
 
 use crate::cause::{Cause, Refusal};
 use crate::first::first_object;
-use crate::link_call::LinkRequest;
 use crate::parts::ObjectBytes;
-use crate::requests::{forced_names, tool_options};
+use crate::requests::{LinkRequest, forced_names, tool_options};
 use link_maps::{LinkMap, MapRecords, Objects, Outcome, map_of, padded, records_of};
 use link_out::{Bases, Linked, Options};
 use link_session::Forced;
@@ -55,11 +55,11 @@ fn take_read(alloc: Global, all: &mut Objects, bytes: &[u8]) -> Result<(), Cause
     ensures taken { IfOk result (λ _. (forced : List (List ℕ)) → AreTaken forced
         (objects (all_of all.old)) all.old → AreTaken forced (objects (all_of all.new)) all.new) }
     ensures err { IfErr result (λ cause.
-        cause ≢ Memory → with_read (objects (all_of all.old)) bytes.now ≡ Err cause) }
-    ensures memory { IfErr result (λ cause. cause ≡ Memory
+        cause ≢ Memory refused → with_read (objects (all_of all.old)) bytes.now ≡ Err cause) }
+    ensures memory { IfErr result (λ cause. cause ≡ Memory refused
         → HasBody bytes.now ⊎ IsOk (with_read (objects (all_of all.old)) bytes.now)) }
 {
-    let (object, _) = first_object(alloc, bytes)?;
+    let object = first_object(alloc, bytes)?;
     all.take(alloc, String::new(alloc), object)?;
     Ok(())
 }
@@ -69,9 +69,9 @@ fn objects_of(alloc: Global, parts: &[ObjectBytes<'_>], forced: &Forced) -> Resu
     ensures read { IfOk result (λ all.
         objects_each (each_of parts.now) ≡ Ok (objects (all_of all))) }
     ensures taken { IfOk result (λ all. AreTaken forced.now (objects (all_of all)) all) }
-    ensures err { IfErr result (λ r. r.cause ≢ Memory → objects_each (each_of parts.now) ≡ Err r) }
+    ensures err { IfErr result (λ r. r.cause ≢ Memory refused → objects_each (each_of parts.now) ≡ Err r) }
     ensures memory { IfErr result (λ r.
-        r.cause ≡ Memory → MayRunOutInMap forced.now (each_of parts.now) r.place) }
+        r.cause ≡ Memory refused → MayRunOutInMap forced.now (each_of parts.now) r.place) }
 {
     let mut all = Objects::new(alloc, forced)?;
     for (place, part) in parts.iter().enumerate() {
@@ -179,7 +179,7 @@ fn map_objects(
 /// The map of the link of the object that each of the parts begins with, in their order. A link that is refused has one too. (own
 /// choice)
 ///
-/// Errors: those of `link_each` but for 31 to 43, which are in the map.
+/// Errors: those of `run_link` but for 31 to 43, which are in the map.
 pub fn map_link(
     alloc: Global,
     request: &LinkRequest<'_>,
@@ -187,9 +187,9 @@ pub fn map_link(
 ) -> Result<Mapped, Refusal>
     ensures ok { IfOk result (λ m. IsMapAnswer (map_asked request.now.options request.now.entry.now
         request.now.forced.now (each_of parts.now)) m) }
-    ensures err { IfErr result (λ r. r.cause ≢ Memory → map_asked request.now.options
+    ensures err { IfErr result (λ r. r.cause ≢ Memory refused → map_asked request.now.options
         request.now.entry.now request.now.forced.now (each_of parts.now) ≡ Err r) }
-    ensures memory { IfErr result (λ r. r.cause ≡ Memory → MapMayRunOut request.now.options
+    ensures memory { IfErr result (λ r. r.cause ≡ Memory refused → MapMayRunOut request.now.options
         request.now.entry.now request.now.forced.now (each_of parts.now) r.place) }
 {
     let options = tool_options(request.options, request.entry)?;

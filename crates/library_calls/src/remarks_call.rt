@@ -1,5 +1,6 @@
 //! What is wrong and odd in a file, as records.
 ghost use Rattle.std.specs.Prelude.{◌≡◌, ◌++◌, ◌∷◌, [], IfOk, IfErr};
+ghost use Rattle.aout_core.specs.Refusals.{refused};
 ghost use Rattle.aout_core.specs.WellFormed.{first_object_fault};
 ghost use Rattle.findings.specs.Found.{all_found, found_in};
 ghost use Rattle.findings.specs.Odd.{odd};
@@ -9,8 +10,7 @@ ghost use Rattle.library_calls.specs.RemarkAnswers.{kind_number, records_from, r
 ghost use Rattle.library_calls.specs.declared.cause.Cause.TheVariants.{Memory};
 
 use crate::cause::Cause;
-use crate::first::first_file;
-use aout_core::{File, object_fault};
+use aout_core::{File, decode_file, object_fault};
 use disassemblies::Sweep;
 use findings::{Finding, FindingKind, odd_of, wrong_bytes, wrong_in};
 use std::alloc::{AllocError, Global};
@@ -160,14 +160,13 @@ fn file_remarks(alloc: Global, bytes: &[u8], file: &File) -> Result<Remarks, All
 /// An error: `Memory`, 50, if memory runs out.
 pub fn remarks_of(alloc: Global, bytes: &[u8]) -> Result<Remarks, Cause>
     ensures ok { IfOk result (λ x. remarks_in x ≡ remarked_in bytes.now) }
-    ensures err { IfErr result (λ cause. cause ≡ Memory) }
+    ensures err { IfErr result (λ cause. cause ≡ Memory refused) }
 {
-    match first_file(alloc, bytes) {
-        Ok((file, _)) => Ok(file_remarks(alloc, bytes, &file)?),
-        Err(Cause::BadFile(fault)) => {
+    match decode_file(alloc, bytes)? {
+        Ok(file) => Ok(file_remarks(alloc, bytes, &file)?),
+        Err(fault) => {
             let wrong = wrong_bytes(alloc, bytes, fault)?;
             Ok(remarks_by(alloc, wrong, Vec::new(alloc))?)
         }
-        Err(_) => Err(Cause::Memory),
     }
 }

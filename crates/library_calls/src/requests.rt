@@ -1,5 +1,6 @@
 //! What is asked of a link.
 ghost use Rattle.std.specs.Prelude.{◌≡◌, ◌≢◌, ◌<◌, IfErr};
+ghost use Rattle.aout_core.specs.Refusals.{refused};
 ghost use Rattle.library_calls.specs.FileAnswers.{has_bit, nm_options_in};
 ghost use Rattle.library_calls.specs.LinkRequests.{choices_in, entry_of, flags_in, forced_in};
 ghost use Rattle.library_calls.specs.declared.cause.Cause.TheVariants.{Memory};
@@ -9,6 +10,17 @@ use aout_core::Name;
 use link_session::Forced;
 use symtools::NmOptions;
 use tool_options::{Flags, Options};
+
+/// What is asked of a link. (ld(1); the bits: own choice)
+#[derive(Clone, Copy)]
+pub struct LinkRequest<'a> {
+    /// The options, a bit each: 1 for `-r`, 2 `-s`, 4 `-x`, 8 `-X`, 16 `-n`, 32 `-i`, 64 `-d`.
+    pub options: u32,
+    /// The name of the entry point, at most 8 bytes; none if it is empty.
+    pub entry: &'a [u8],
+    /// The forced names, 8 bytes each, filled up with NULs.
+    pub forced: &'a [u8],
+}
 
 /// Whether the bit of value `place` is 1.
 pub(crate) fn has_bit(bits: u32, place: u32) -> bool
@@ -63,7 +75,7 @@ pub(crate) fn tool_options(bits: u32, entry_name: &[u8]) -> Result<Options, Caus
 /// The forced names, of eight bytes each.
 pub(crate) fn forced_names(bytes: &[u8]) -> Result<Forced, Refusal>
     ensures value { result ≡ forced_in bytes.now }
-    ensures memory { IfErr result (λ r. r.cause ≢ Memory) }
+    ensures memory { IfErr result (λ r. r.cause ≢ Memory refused) }
 {
     if bytes.len() % 8 != 0 {
         return Err(Refusal {

@@ -1,24 +1,24 @@
-//! A link or a session in one call, of objects whose bytes are apart, with its report as lines and as a list.
+//! A link or a session of objects whose bytes are apart, with its report as lines and as a list.
 ghost use Rattle.std.specs.Prelude.{◌≡◌, ◌≢◌, map, Ok, Err, IsOk, IfOk, IfErr};
+ghost use Rattle.aout_core.specs.Refusals.{refused};
 ghost use Rattle.link_session.specs.Labelled.{objects};
 ghost use Rattle.link_out.specs.Outcomes.{outcome_of, report_names};
-ghost use Rattle.link_out.specs.Runs.{change_of};
+ghost use Rattle.link_out.specs.Steps.{refused_as};
 ghost use Rattle.link_out.specs.function.Link.{link};
 ghost use Rattle.library_calls.specs.LinkAnswers.{each_of};
-ghost use Rattle.library_calls.specs.MemoryWanted.{LinkOfEachMayRunOut, MayRunOutInLinkOfEach, MayRunOutInRun};
-ghost use Rattle.library_calls.specs.RunAnswers.{SessionOfPartsMayRunOut, changes_run, link_run, parts_run, places_if, results_of, run_output, session_run};
-ghost use Rattle.library_calls.specs.internal.Edited.{edited_run};
-ghost use Rattle.library_calls.specs.declared.cause.Cause.TheVariants.{Memory};
+ghost use Rattle.library_calls.specs.MemoryWanted.{LinkMayRunOut, MayRunOutInLink, MayRunOutInRun, SessionMayRunOut};
+ghost use Rattle.library_calls.specs.RunAnswers.{changes_run, link_run, objects_run, parts_run, places_if, results_of, run_output, session_run};
+ghost use Rattle.library_calls.specs.internal.Edited.{change_of};
+ghost use Rattle.library_calls.specs.declared.cause.Cause.TheVariants.{Memory, NotLinked};
 
 use crate::cause::{Cause, Refusal};
-use crate::edits::{make_edits, session_status};
-use crate::edits_apart::read_edits_apart;
-use crate::findings_call::{ReportedName, all_findings};
-use crate::link_call::{LinkRequest, Program, link_kept, program_of};
+use crate::edits::{Edit, make_edits, read_edits, session_status};
 use crate::parts::ObjectBytes;
-use crate::requests::{forced_names, tool_options};
+use crate::reported::{ReportedName, all_findings, lines_of};
+use crate::requests::{LinkRequest, forced_names, tool_options};
 use crate::taking::take_each;
-use link_out::{Edit, Linked, Options, Report};
+use crate::written::bytes_of;
+use link_out::{Linked, Options, Report, finish};
 use link_session::{Forced, Session};
 use report_objects::{FindingPlace, places_of};
 use std::alloc::{AllocError, Global};
@@ -38,6 +38,19 @@ pub struct RunResult {
     pub findings: Vec<ReportedName>,
     /// The objects of what is reported, by their numbers among those that are linked; empty if they are not asked for.
     pub places: Vec<FindingPlace>,
+}
+
+/// The link of the objects in a session.
+fn link_kept(alloc: Global, session: &Session, options: &Options) -> Result<Linked, Cause>
+    ensures ok { IfOk result (λ linked.
+        refused_as NotLinked (link session.now.forced (objects session.now.entries) options.now)
+        ≡ Ok (outcome_of linked)) }
+    ensures err { IfErr result (λ cause. cause ≢ Memory refused → refused_as NotLinked
+        (link session.now.forced (objects session.now.entries) options.now) ≡ Err cause) }
+    ensures memory { IfErr result (λ cause. cause ≡ Memory refused
+        → IsOk (link session.now.forced (objects session.now.entries) options.now)) }
+{
+    Ok(finish(alloc, session, options)?)
 }
 
 /// The objects of what is reported, if they are asked for.
@@ -67,17 +80,14 @@ fn result_of(
 ) -> Result<RunResult, Cause>
     ensures ok { IfOk result (λ given. results_of given ≡ run_output is_placed session.forced
         (objects session.entries) replies.items (outcome_of linked.now)) }
-    ensures err { IfErr result (λ cause. cause ≡ Memory) }
+    ensures err { IfErr result (λ cause. cause ≡ Memory refused) }
 {
-    let Program {
-        status,
-        file,
-        report,
-    } = program_of(alloc, linked)?;
+    let file = bytes_of(alloc, &linked.file)?;
+    let report = lines_of(alloc, &linked.report)?;
     let findings = all_findings(alloc, &linked.report)?;
     let places = places_if(alloc, is_placed, session, &linked.report)?;
     Ok(RunResult {
-        status: session_status(&replies, status),
+        status: session_status(&replies, linked.report.status()),
         replies,
         file,
         report,
@@ -94,11 +104,11 @@ fn run_kept(
     replies: Vec<u8>,
     options: &Options,
 ) -> Result<RunResult, Cause>
-    ensures ok { IfOk result (λ given.
-        edited_run is_placed session options.now replies.items ≡ Ok (results_of given)) }
-    ensures err { IfErr result (λ cause. cause ≢ Memory
-        → edited_run is_placed session options.now replies.items ≡ Err cause) }
-    ensures memory { IfErr result (λ cause. cause ≡ Memory
+    ensures ok { IfOk result (λ given. objects_run is_placed session.forced options.now replies.items
+        (objects session.entries) ≡ Ok (results_of given)) }
+    ensures err { IfErr result (λ cause. cause ≢ Memory refused → objects_run is_placed session.forced
+        options.now replies.items (objects session.entries) ≡ Err cause) }
+    ensures memory { IfErr result (λ cause. cause ≡ Memory refused
         → IsOk (link session.forced (objects session.entries) options.now)) }
 {
     let linked = link_kept(alloc, &session, options)?;
@@ -116,20 +126,30 @@ fn run_parts(
 ) -> Result<RunResult, Refusal>
     ensures ok { IfOk result (λ given.
         parts_run is_placed forced.now options.now (each_of parts.now) ≡ Ok (results_of given)) }
-    ensures err { IfErr result (λ r. r.cause ≢ Memory
+    ensures err { IfErr result (λ r. r.cause ≢ Memory refused
         → parts_run is_placed forced.now options.now (each_of parts.now) ≡ Err r) }
-    ensures memory { IfErr result (λ r. r.cause ≡ Memory
-        → MayRunOutInLinkOfEach forced.now options.now (each_of parts.now) r.place) }
+    ensures memory { IfErr result (λ r. r.cause ≡ Memory refused
+        → MayRunOutInLink forced.now options.now (each_of parts.now) r.place) }
 {
     let mut session = Session::with_forced(alloc, forced)?;
     take_each(alloc, &mut session, parts)?;
     Ok(run_kept(alloc, is_placed, session, Vec::new(alloc), options)?)
 }
 
-/// Links as `link_each` does, and returns the report in both forms, with the objects of what is reported if they are asked for. There are
-/// no replies. (ld(1))
+/// Links the object that each of the parts begins with, in their order, and returns the report in both forms, with the objects of
+/// what is reported if they are asked for. Each is read, checked and added before the next one is read, and a refusal ends the
+/// link. The bytes after an object in its part are not looked at, so an object that is cut short is refused itself, as in ld. Without
+/// parts there are no objects. There are no replies. (ld(1))
 ///
-/// Errors: those of `link_each`.
+/// Errors, the first that applies:
+///
+/// - `NoOption`, 1, `Excluded`, 2, and `LongName`, 3, if the options or the name of the entry point are wrong;
+/// - `CutNames`, 4, and `ManyNames`, 5, if the forced names are wrong;
+/// - for the first object that is not taken, with the number of its part: `BadFile`, 11 to 14, if it is not a file; `BadObject`, 21
+///   to 24, if it is not an object; `NotAdded`, 31 to 34, if it passes a limit;
+/// - `NotLinked`, 41 to 43, if all objects are taken and there is no link of them.
+///
+/// `Memory`, 50, if memory runs out for forced names, for a whole file, for an object that is accepted, or for a link.
 pub fn run_link(
     alloc: Global,
     request: &LinkRequest<'_>,
@@ -138,9 +158,9 @@ pub fn run_link(
 ) -> Result<RunResult, Refusal>
     ensures ok { IfOk result (λ given. link_run is_placed request.now.options request.now.entry.now
         request.now.forced.now (each_of parts.now) ≡ Ok (results_of given)) }
-    ensures err { IfErr result (λ r. r.cause ≢ Memory → link_run is_placed request.now.options
+    ensures err { IfErr result (λ r. r.cause ≢ Memory refused → link_run is_placed request.now.options
         request.now.entry.now request.now.forced.now (each_of parts.now) ≡ Err r) }
-    ensures memory { IfErr result (λ r. r.cause ≡ Memory → LinkOfEachMayRunOut request.now.options
+    ensures memory { IfErr result (λ r. r.cause ≡ Memory refused → LinkMayRunOut request.now.options
         request.now.entry.now request.now.forced.now (each_of parts.now) r.place) }
 {
     let options = tool_options(request.options, request.entry)?;
@@ -158,9 +178,9 @@ fn run_changes(
 ) -> Result<RunResult, Cause>
     ensures ok { IfOk result (λ given. changes_run is_placed forced.now options.now
         (map change_of edits.items) ≡ Ok (results_of given)) }
-    ensures err { IfErr result (λ cause. cause ≢ Memory
+    ensures err { IfErr result (λ cause. cause ≢ Memory refused
         → changes_run is_placed forced.now options.now (map change_of edits.items) ≡ Err cause) }
-    ensures memory { IfErr result (λ cause. cause ≡ Memory
+    ensures memory { IfErr result (λ cause. cause ≡ Memory refused
         → MayRunOutInRun forced.now options.now (map change_of edits.items)) }
 {
     let mut session = Session::with_forced(alloc, forced)?;
@@ -168,12 +188,19 @@ fn run_changes(
     run_kept(alloc, is_placed, session, replies, options)
 }
 
-/// Adds and withdraws objects, and links what is left, as `run_session` does, with the report as `run_link` returns it. `a` adds the object that the next of the parts begins
-/// with. The bytes after it in its part are not looked at, so an object that is cut short is refused itself. (ld(1); edits: own
-/// choice)
+/// Adds and withdraws objects, and links what is left, with the report as `run_link` returns it. An edit is a letter: `a` adds the
+/// object that the next of the parts begins with after those that are kept; `w` withdraws the last that is kept. All edits are read
+/// before the first is made. The bytes after an object in its part are not looked at. (ld(1); edits: own choice)
 ///
-/// Errors: those of `run_session`.
-pub fn run_session_of_parts(
+/// Errors, the first that applies:
+///
+/// - 1 to 3, `CutNames`, 4, and `ManyNames`, 5, as `run_link`;
+/// - for the first edit that can't be read, with its number: `NoEdit`, 7, if it is another letter; `BadFile`, 11 to 14, if
+///   its object is not a file or there is no further part; `BadObject`, 21 to 24, if that is not an object;
+/// - `NotLinked`, 41 to 43, if all edits are read and there is no link of what they leave.
+///
+/// `Memory`, 50, if memory runs out for a whole file, for an edit that is accepted, for forced names, or for a link.
+pub fn run_session(
     alloc: Global,
     request: &LinkRequest<'_>,
     is_placed: bool,
@@ -183,14 +210,13 @@ pub fn run_session_of_parts(
     ensures ok { IfOk result (λ given. session_run is_placed request.now.options
         request.now.entry.now request.now.forced.now letters.now (each_of parts.now)
         ≡ Ok (results_of given)) }
-    ensures err { IfErr result (λ r. r.cause ≢ Memory → session_run is_placed request.now.options
+    ensures err { IfErr result (λ r. r.cause ≢ Memory refused → session_run is_placed request.now.options
         request.now.entry.now request.now.forced.now letters.now (each_of parts.now) ≡ Err r) }
-    ensures memory { IfErr result (λ r. r.cause ≡ Memory
-        → SessionOfPartsMayRunOut request.now.options request.now.entry.now request.now.forced.now
-        letters.now (each_of parts.now) r.place) }
+    ensures memory { IfErr result (λ r. r.cause ≡ Memory refused → SessionMayRunOut request.now.options
+        request.now.entry.now request.now.forced.now letters.now (each_of parts.now) r.place) }
 {
     let options = tool_options(request.options, request.entry)?;
     let forced = forced_names(request.forced)?;
-    let edits = read_edits_apart(alloc, letters, parts)?;
+    let edits = read_edits(alloc, letters, parts)?;
     Ok(run_changes(alloc, is_placed, edits, &forced, &options)?)
 }

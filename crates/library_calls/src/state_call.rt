@@ -1,15 +1,16 @@
 //! What a session of objects that come as bytes shows, by its edits.
 ghost use Rattle.std.specs.Prelude.{◌≡◌, ◌≢◌, [], map, Ok, Err, IfOk, IfErr};
-ghost use Rattle.link_out.specs.Runs.{change_of};
+ghost use Rattle.aout_core.specs.Refusals.{refused};
+ghost use Rattle.library_calls.specs.LinkAnswers.{each_of};
 ghost use Rattle.library_calls.specs.MemoryWanted.{StateMayRunOut};
 ghost use Rattle.library_calls.specs.StateAnswers.{asked_in, form_in, states_of, IsShown, Shows};
-ghost use Rattle.library_calls.specs.internal.Edited.{ShowsFrom};
+ghost use Rattle.library_calls.specs.internal.Edited.{ShowsFrom, change_of};
 ghost use Rattle.library_calls.specs.declared.cause.Cause.TheVariants.{Memory};
 
 use crate::cause::{Cause, Refusal};
-use crate::edits::{make_edits, read_edits, session_status};
+use crate::edits::{Edit, make_edits, read_edits, session_status};
+use crate::parts::ObjectBytes;
 use crate::requests::forced_names;
-use link_out::Edit;
 use link_session::Session;
 use reports::{state_json, state_lines};
 use std::alloc::Global;
@@ -28,7 +29,7 @@ pub enum Form {
 pub struct Shown {
     /// 1 if an edit was not made, else 0.
     pub status: u8,
-    /// A number for each edit, as in `Ran`.
+    /// A number for each edit, as in `RunResult`.
     pub replies: Vec<u8>,
     /// The state, as lines or as JSON.
     pub state: Vec<u8>,
@@ -47,7 +48,7 @@ fn form_in(form: u32) -> Result<Form, Cause>
 /// The state of a session, in this form.
 fn encoded(alloc: Global, session: &Session, form: Form) -> Result<Vec<u8>, Cause>
     ensures ok { IfOk result (λ state. ShowsFrom form session.now state.items) }
-    ensures err { IfErr result (λ cause. cause ≡ Memory) }
+    ensures err { IfErr result (λ cause. cause ≡ Memory refused) }
 {
     Ok(match form {
         Form::Lines => state_lines(alloc, session)?,
@@ -65,7 +66,7 @@ fn edit_and_show(
     ensures ok { IfOk result (λ shown. session.old.entries ≡ [] → Shows
         (record { form = form; forced = session.old.forced; changes = map change_of edits.items })
         (states_of shown)) }
-    ensures err { IfErr result (λ cause. cause ≡ Memory) }
+    ensures err { IfErr result (λ cause. cause ≡ Memory refused) }
 {
     let replies = make_edits(alloc, session, edits)?;
     let state = encoded(alloc, session, form)?;
@@ -83,7 +84,7 @@ fn edit_and_show(
 /// Errors, the first that applies:
 ///
 /// - `NoOption`, 1, if the form is another number;
-/// - `CutNames`, 4, and `ManyNames`, 5, as `link`;
+/// - `CutNames`, 4, and `ManyNames`, 5, as `run_link`;
 /// - for the first edit that can't be read, with its number: `NoEdit`, 7, `BadFile`, 11 to 14, or `BadObject`, 21 to 24, as
 ///   `run_session`.
 ///
@@ -93,18 +94,18 @@ pub fn show_session(
     form: u32,
     forced: &[u8],
     letters: &[u8],
-    objects: &[u8],
+    parts: &[ObjectBytes<'_>],
 ) -> Result<Shown, Refusal>
     ensures ok { IfOk result (λ shown.
-        IsShown (asked_in form forced.now letters.now objects.now) (Ok (states_of shown))) }
+        IsShown (asked_in form forced.now letters.now (each_of parts.now)) (Ok (states_of shown))) }
     ensures err { IfErr result (λ r.
-        r.cause ≢ Memory → asked_in form forced.now letters.now objects.now ≡ Err r) }
+        r.cause ≢ Memory refused → asked_in form forced.now letters.now (each_of parts.now) ≡ Err r) }
     ensures memory { IfErr result (λ r.
-        r.cause ≡ Memory → StateMayRunOut form forced.now letters.now objects.now r.place) }
+        r.cause ≡ Memory refused → StateMayRunOut form forced.now letters.now (each_of parts.now) r.place) }
 {
     let form = form_in(form)?;
     let forced = forced_names(forced)?;
-    let edits = read_edits(alloc, letters, objects)?;
+    let edits = read_edits(alloc, letters, parts)?;
     let mut session = Session::with_forced(alloc, &forced)?;
     Ok(edit_and_show(alloc, &mut session, edits, form)?)
 }

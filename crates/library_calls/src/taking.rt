@@ -1,10 +1,10 @@
 //! Objects taken into a session from their bytes.
 ghost use Rattle.std.specs.Prelude.{◌≡◌, ◌≢◌, None, Ok, Err, IfOk, IfErr, OnErr};
+ghost use Rattle.aout_core.specs.Refusals.{refused};
 ghost use Rattle.link_session.specs.Labelled.{objects};
 ghost use Rattle.link_session.specs.Limits.{refusal};
-ghost use Rattle.library_calls.specs.FileAnswers.{after_file};
-ghost use Rattle.library_calls.specs.LinkAnswers.{each_of, with_each, with_first, with_object, with_objects};
-ghost use Rattle.library_calls.specs.MemoryWanted.{MayRunOutForObject, MayRunOutInEach, MayRunOutInObjects};
+ghost use Rattle.library_calls.specs.LinkAnswers.{each_of, with_each, with_first, with_object};
+ghost use Rattle.library_calls.specs.MemoryWanted.{MayRunOutForObject, MayRunOutInEach};
 ghost use Rattle.library_calls.specs.declared.cause.Cause.TheVariants.{Memory};
 
 use crate::cause::{Cause, Refusal};
@@ -19,9 +19,9 @@ fn add(alloc: Global, session: &mut Session, object: Object) -> Result<(), Cause
     ensures forced { session.new.forced ≡ session.old.forced }
     ensures ok { IfOk result (λ _. with_object session.old.forced
         (objects session.old.entries) object ≡ Ok (objects session.new.entries)) }
-    ensures err { IfErr result (λ cause. cause ≢ Memory
+    ensures err { IfErr result (λ cause. cause ≢ Memory refused
         → with_object session.old.forced (objects session.old.entries) object ≡ Err cause) }
-    ensures memory { IfErr result (λ cause. cause ≡ Memory
+    ensures memory { IfErr result (λ cause. cause ≡ Memory refused
         → refusal session.old.forced (objects session.old.entries) object ≡ None) }
     ensures unchanged { OnErr result (session.new ≡ session.old) }
 {
@@ -31,51 +31,19 @@ fn add(alloc: Global, session: &mut Session, object: Object) -> Result<(), Cause
     }
 }
 
-/// Adds the object that the bytes begin with, and returns the bytes after it.
-fn take_first<'a>(alloc: Global, session: &mut Session, bytes: &'a [u8]) -> Result<&'a [u8], Cause>
+/// Adds the object that the bytes begin with.
+fn take_first(alloc: Global, session: &mut Session, bytes: &[u8]) -> Result<(), Cause>
     ensures forced { session.new.forced ≡ session.old.forced }
     ensures ok { IfOk result (λ _. with_first session.old.forced
         (objects session.old.entries) bytes.now ≡ Ok (objects session.new.entries)) }
-    ensures after { IfOk result (λ after. after.now ≡ after_file bytes.now) }
-    ensures err { IfErr result (λ cause. cause ≢ Memory
+    ensures err { IfErr result (λ cause. cause ≢ Memory refused
         → with_first session.old.forced (objects session.old.entries) bytes.now ≡ Err cause) }
-    ensures memory { IfErr result (λ cause. cause ≡ Memory
+    ensures memory { IfErr result (λ cause. cause ≡ Memory refused
         → MayRunOutForObject session.old.forced (objects session.old.entries) bytes.now) }
     ensures unchanged { OnErr result (session.new ≡ session.old) }
 {
-    let (object, after) = first_object(alloc, bytes)?;
-    add(alloc, session, object)?;
-    Ok(after)
-}
-
-/// Adds the objects of the bytes, one after another, up to the first that is not taken.
-pub(crate) fn take_objects(
-    alloc: Global,
-    session: &mut Session,
-    bytes: &[u8],
-) -> Result<(), Refusal>
-    ensures forced { session.new.forced ≡ session.old.forced }
-    ensures ok { IfOk result (λ _. with_objects session.old.forced
-        (objects session.old.entries) bytes.now ≡ Ok (objects session.new.entries)) }
-    ensures err { IfErr result (λ r. r.cause ≢ Memory
-        → with_objects session.old.forced (objects session.old.entries) bytes.now ≡ Err r) }
-    ensures memory { IfErr result (λ r. r.cause ≡ Memory
-        → MayRunOutInObjects session.old.forced (objects session.old.entries) bytes.now r.place) }
-{
-    let mut rest = bytes;
-    for _ in 0..bytes.len() {
-        if rest.is_empty() {
-            break;
-        }
-        match take_first(alloc, session, rest) {
-            Ok(after) => rest = after,
-            Err(cause) => {
-                let place = session.entries().len();
-                return Err(Refusal { cause, place });
-            }
-        }
-    }
-    Ok(())
+    let object = first_object(alloc, bytes)?;
+    add(alloc, session, object)
 }
 
 /// Adds the object that each of the parts begins with, in their order, up to the first that is not taken.
@@ -87,9 +55,9 @@ pub(crate) fn take_each(
     ensures forced { session.new.forced ≡ session.old.forced }
     ensures ok { IfOk result (λ _. with_each session.old.forced (objects session.old.entries)
         (each_of parts.now) ≡ Ok (objects session.new.entries)) }
-    ensures err { IfErr result (λ r. r.cause ≢ Memory
+    ensures err { IfErr result (λ r. r.cause ≢ Memory refused
         → with_each session.old.forced (objects session.old.entries) (each_of parts.now) ≡ Err r) }
-    ensures memory { IfErr result (λ r. r.cause ≡ Memory → MayRunOutInEach session.old.forced
+    ensures memory { IfErr result (λ r. r.cause ≡ Memory refused → MayRunOutInEach session.old.forced
         (objects session.old.entries) (each_of parts.now) r.place) }
 {
     for part in parts {

@@ -1,6 +1,6 @@
 //! A use of each library, which the library's CALLING.md quotes, and a run of all of them. With the words `state FORCED EDITS
-//! OBJECTS` it shows a session as `v7_state` of libv7 does, for the cases of docs/CASES.md: the forced names and the objects are
-//! those of the files, and the edits are letters.
+//! OBJECT..` it shows a session as `v7_state` of libv7 does, for the cases of docs/CASES.md: the forced names and each object are
+//! those of a file, and the edits are letters.
 #![tactic(auto)]
 
 mod bytes;
@@ -25,7 +25,7 @@ use conversion::converted_object;
 use disassembly::disassembled;
 use externals::externals_and_sizes;
 use gnu_objects::{Locals, Options};
-use library_calls::show_session;
+use library_calls::{ObjectBytes, show_session};
 use line::put_first;
 use link_session::{Session, Starts};
 use listed::read_back;
@@ -42,6 +42,24 @@ fn bytes_at(rt: &HostRuntime, path: &str) -> Result<Vec<u8>> {
         Ok(bytes) => Ok(bytes),
         Err(fault) => Err(anyhow!("{path}: {fault}")),
     }
+}
+
+/// The bytes of each of the files.
+fn all_bytes(rt: &HostRuntime, paths: &[String]) -> Result<Vec<Vec<u8>>> {
+    let mut all = Vec::new(rt.alloc());
+    for path in paths {
+        all.push(bytes_at(rt, path)?)?;
+    }
+    Ok(all)
+}
+
+/// Each of these as the bytes of an object.
+fn as_objects<'a>(rt: &HostRuntime, all: &'a [Vec<u8>]) -> Result<Vec<ObjectBytes<'a>>> {
+    let mut objects = Vec::new(rt.alloc());
+    for bytes in all {
+        objects.push(ObjectBytes { bytes })?;
+    }
+    Ok(objects)
 }
 
 /// The object at a path, by way of its listing.
@@ -119,15 +137,14 @@ fn show_words(rt: &HostRuntime) -> Result<()> {
 /// Links the files that the arguments name by `ld`, and as libv7 does; prints how long the text and the bare file are.
 fn show_links(rt: &HostRuntime) -> Result<()> {
     let mut inputs = Vec::new(rt.alloc());
-    let mut objects = Vec::new(rt.alloc());
+    let all = all_bytes(rt, &arguments(rt)?)?;
     for path in arguments(rt)? {
-        objects.extend_from_slice(&bytes_at(rt, path.as_str())?)?;
         let file = fs::open(rt, path.as_str())?;
         inputs.push((path, Wire::new(file)))?;
     }
     let program = linked(rt.alloc(), inputs)?;
     println!(rt; "{} bytes of text", program.file.header().text_size)?;
-    match bare_program(rt.alloc(), &objects) {
+    match bare_program(rt.alloc(), &as_objects(rt, &all)?) {
         Ok(bare) => Ok(println!(rt; "{} bytes without symbols", bare.file.len())?),
         Err(refusal) => Err(anyhow!("object {}", refusal.place)),
     }
@@ -185,9 +202,10 @@ fn use_all(rt: &HostRuntime) -> Result<()> {
 }
 
 /// Prints the replies to the edits of a session, and then the lines of its state.
-fn show_state(rt: &HostRuntime, forced: &str, edits: &str, objects: &str) -> Result<()> {
+fn show_state(rt: &HostRuntime, forced: &str, edits: &str, paths: &[String]) -> Result<()> {
     let forced = bytes_at(rt, forced)?;
-    let objects = bytes_at(rt, objects)?;
+    let all = all_bytes(rt, paths)?;
+    let objects = as_objects(rt, &all)?;
     match show_session(rt.alloc(), 0, &forced, edits.as_bytes(), &objects) {
         Ok(shown) => {
             println!(rt; "{:?}", shown.replies)?;
@@ -200,8 +218,8 @@ fn show_state(rt: &HostRuntime, forced: &str, edits: &str, objects: &str) -> Res
 fn main(rt: HostRuntime) -> Result<()> {
     let words = arguments(&rt)?;
     match words.as_slice() {
-        [word, forced, edits, objects] if word.as_str() == "state" => {
-            show_state(&rt, forced, edits, objects)
+        [word, forced, edits, paths @ ..] if word.as_str() == "state" => {
+            show_state(&rt, forced, edits, paths)
         }
         _ => use_all(&rt),
     }

@@ -7,9 +7,9 @@ use std::marker::Model;
 /// How many bytes a line may have.
 pub(crate) const LINE_CAPACITY: usize = 64;
 
-/// The bytes of a line that is being made, in an array. Contracts see it as the list of its bytes.
+/// The bytes of a line, in an array. Contracts see it as the list of its bytes. (own choice)
 #[derive(Drop)]
-pub(crate) struct LineBuffer {
+pub struct LineBuffer {
     bytes: [u8; LINE_CAPACITY],
     len: usize,
 }
@@ -66,8 +66,8 @@ impl LineBuffer {
         self.push(&places[start..]);
     }
 
-    /// The bytes of the line.
-    pub(crate) fn as_bytes(&self) -> &[u8]
+    /// The bytes of the line. (own choice)
+    pub fn as_bytes(&self) -> &[u8]
         ensures { result.now ≡ self.now }
     {
         &self.bytes[..self.len]

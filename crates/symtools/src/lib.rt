@@ -11,13 +11,15 @@
 //! Types:
 //!
 //! - `NmOptions`: which symbols nm shows, and in which order
+//! - `LineBuffer`: the bytes of a line
 //! - `ToolFault`: why not all lines went out
 //!
 //! Functions:
 //!
 //! - `nm`: the symbols of files
 //! - `size`: the sizes of files
-//! - `line`: the line of one symbol
+//! - `line`, `line_of`, `size_line`: the line of one symbol, written or returned, and that of the sizes of one file
+//! - `shown`: the symbols that nm shows of a table
 //! - `value_column`, `letter`: its value and its letter, as nm shows them
 #![tactic(auto)]
 
@@ -28,8 +30,9 @@ mod listing;
 mod sizes;
 mod symbol_line;
 
+pub use buffer::LineBuffer;
 pub use fault::ToolFault;
-pub use listing::nm;
-pub use sizes::size;
-pub use symbol_line::{letter, line, value_column};
+pub use listing::{nm, shown};
+pub use sizes::{size, size_line};
+pub use symbol_line::{letter, line, line_of, value_column};
 pub use tool_options::NmOptions;

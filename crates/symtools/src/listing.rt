@@ -86,11 +86,12 @@ fn put_lines<W: Write>(
     Ok(())
 }
 
-/// The symbols that the options keep, in their order.
-fn shown(alloc: Global, table: &[Symbol], options: NmOptions) -> Result<Vec<Symbol>, ToolFault>
+/// The symbols of a table that the options ask for, in the order that they ask for. (nm(1))
+///
+/// Errors: `AllocError` if memory runs out for them.
+pub fn shown(alloc: Global, table: &[Symbol], options: NmOptions) -> Result<Vec<Symbol>, AllocError>
     ensures ok { IfOk result (λ list.
         list.items ≡ arranged options (filter (is_shown options) table.now)) }
-    ensures err { IfErr result (λ e. e ≡ Memory refused) }
     ensures shows { OnErr result (filter (is_shown options) table.now ≢ []) }
 {
     let mut list = kept(alloc, table, options)?;
@@ -108,9 +109,8 @@ fn shown(alloc: Global, table: &[Symbol], options: NmOptions) -> Result<Vec<Symb
     Ok(list)
 }
 
-fn kept(alloc: Global, table: &[Symbol], options: NmOptions) -> Result<Vec<Symbol>, ToolFault>
+fn kept(alloc: Global, table: &[Symbol], options: NmOptions) -> Result<Vec<Symbol>, AllocError>
     ensures ok { IfOk result (λ list. list.items ≡ filter (is_shown options) table.now) }
-    ensures err { IfErr result (λ e. e ≡ Memory refused) }
     ensures shows { OnErr result (filter (is_shown options) table.now ≢ []) }
 {
     let mut list = Vec::new(alloc);

@@ -40,11 +40,12 @@ fn put_size<W: Write>(
         ((if is_named then path.now ++ codes ": " else []) ++ size_line header.now ++ 10 ∷ []) }
 {
     put_heading(is_named, path, b": ", out)?;
-    let text = line_text(header);
+    let text = size_line(header);
     out.put(text.as_bytes())
 }
 
-fn line_text(header: &Header) -> LineBuffer
+/// The line of one file, as `size` writes it without a path. (own choice)
+pub fn size_line(header: &Header) -> LineBuffer
     ensures { result ≡ size_line header.now ++ 10 ∷ [] }
 {
     let sizes = [header.text_size, header.data_size, header.bss_size].map(u32::from);

@@ -17,11 +17,12 @@ use texts::six_digits;
 pub fn line<W: Write>(symbol: &Symbol, out: &mut Wire<W>) -> Result<(), DeviceFault>
     ensures { Writes W.contents result out.old out.new (symbol_line symbol.now) }
 {
-    let text = line_text(symbol);
+    let text = line_of(symbol);
     out.put(text.as_bytes())
 }
 
-fn line_text(symbol: &Symbol) -> LineBuffer
+/// The line of one symbol, as `line` writes it. (nm(1))
+pub fn line_of(symbol: &Symbol) -> LineBuffer
     ensures { result ≡ symbol_line symbol.now }
 {
     let mut text = LineBuffer::new();

@@ -3,6 +3,7 @@ use Rattle.std.proofs.Common.{◌≡◌, ◌≢◌, ℕ, Bool, true, false, cond
 use Rattle.std.proofs.Common.{Err, IfOk, IfErr, inl, inr, refl, sym, ap, subst, ◌∙◌, arith}
 use Rattle.std.specs.Prelude.{◌⊎◌, IsErr, IsErrAnd, IsOk, MatchResult, Vec}
 use Rattle.std.specs.declared.alloc.Global.{Global}
+use Rattle.aout_core.specs.Refusals as memory
 use Rattle.aout_core.specs.declared.object.ObjectFault.{ObjectFault}
 use Rattle.aout_core.specs.declared.object.ObjectFault.TheVariants as objects
 use Rattle.library_calls.specs.declared.cause.Cause.{Cause}
@@ -10,9 +11,6 @@ use Rattle.library_calls.specs.declared.cause.Cause.TheVariants.{NoOption, Exclu
 use Rattle.library_calls.specs.declared.cause.Cause.TheVariants.{TooLong, NoEdit, BadFile, BadObject, NotAdded}
 use Rattle.library_calls.specs.declared.cause.Cause.TheVariants.{NotLinked, BadListing, NotConverted, Memory}
 use Rattle.library_calls.specs.declared.cause.Refusal.{Refusal}
-use Rattle.library_calls.specs.declared.findings_call.ReportedName.{ReportedName}
-use Rattle.library_calls.specs.declared.findings_call.Found.{Found}
-use Rattle.library_calls.specs.declared.link_call.Program.{Program}
 use Rattle.gnu_objects.specs.declared.refusal.Refusal as gnu
 use Rattle.gnu_objects.specs.declared.refusal.Refusal.TheVariants as refusals
 use Rattle.library_calls.proofs.NumberLemmas.{IsNotMemory, CauseIsNotMemory, not_memory_made, not_memory_reason}
@@ -22,21 +20,18 @@ use Rattle.library_calls.specs.declared.parts.PartLists.{PartLists}
 use Rattle.library_calls.specs.declared.parts.SymbolRow.{SymbolRow}
 use Rattle.library_calls.specs.declared.remarks_call.RemarkRecord.{RemarkRecord}
 use Rattle.library_calls.specs.declared.remarks_call.Remarks.{Remarks}
-use Rattle.library_calls.specs.declared.session_call.Ran.{Ran}
 use Rattle.library_calls.specs.declared.state_call.Shown.{Shown}
 use Rattle.library_calls.specs.Causes.{gnu_number, gnu_word, number_of, object_number, object_word, word_of}
-use Rattle.library_calls.specs.LinkAnswers.{Output, founds_of, outputs_of}
 use Rattle.library_calls.specs.ObjectParts.{Pieces, file_for, made_of, pieces_in}
-use Rattle.library_calls.specs.RemarkAnswers.{remarks_in}
+use Rattle.library_calls.specs.RemarkAnswers.{Output, remarks_in}
 use Rattle.library_calls.specs.StateAnswers.{Asked, IsShown, states_of}
 use Rattle.v7_c.specs.declared.answer.Answer.{Answer}
 use Rattle.v7_c.specs.declared.answer.Counts.{Counts}
 use Rattle.v7_c.specs.declared.answer.FileHeader.{FileHeader}
-use Rattle.v7_c.specs.Left.{FileLeft, LeavesState, Left, LinkLeft, PartsLeft, file_left, no_header, read_left}
-use Rattle.v7_c.specs.Left.{wholes_or, bytes_or, counted_by, items_of, left, left_at, left_by, no_bytes_at}
-use Rattle.v7_c.specs.Left.{output_of_state, outputs_or, founds_or, SessionLeft, apart_left, counts_of, no_counts}
-use Rattle.v7_c.specs.Left.{of_none, parts_left, pieces_or, put_in, refused, remarks_or, given, link_left, output_left}
-use Rattle.v7_c.specs.Left.{no_output, no_session, ran_left, session_left, sessions_or, state_left, states_or}
+use Rattle.v7_c.specs.Left.{BothLeft, FileLeft, LeavesState, Left, PartsLeft, apart_left, both_left, bytes_or, counted_by, counts_of}
+use Rattle.v7_c.specs.Left.{file_left, given, items_of, left, left_at, left_by, no_bytes_at, no_counts, no_header, no_output, of_none}
+use Rattle.v7_c.specs.Left.{output_left, output_of_state, parts_left, pieces_or, put_in, read_left, refused, remarks_or, state_left}
+use Rattle.v7_c.specs.Left.{states_or, wholes_or}
 
 no_object_word : (fault : ObjectFault) → object_number fault ≡ 50 → object_word fault ≡ 0
 no_object_word objects.NotAnObject h = refl
@@ -60,7 +55,7 @@ no_gnu_word (refusals.AlikeNames n m) h = let e : 87 ≡ 50 = h in absurd (omega
 no_gnu_word (refusals.StabWord n) h = let e : 88 ≡ 50 = h in absurd (omega (arith, e))
 no_gnu_word (refusals.LocalWord n m) h = let e : 89 ≡ 50 = h in absurd (omega (arith, e))
 no_gnu_word (refusals.BadWord fault) h = no_object_word fault h
-no_gnu_word refusals.Memory h = refl
+no_gnu_word (refusals.Memory _) h = refl
 
 -- a cause of the number of no memory lies in no word
 no_word : (cause : Cause) → number_of cause ≡ 50 → word_of cause ≡ 0
@@ -77,7 +72,7 @@ no_word (NotAdded fault) h = refl
 no_word (NotLinked fault) h = refl
 no_word (BadListing fault) h = absurd (not_memory_reason fault.reason h)
 no_word (NotConverted refusal) h = no_gnu_word refusal h
-no_word Memory h = refl
+no_word (Memory _) h = refl
 
 abbrev answer_with : ℕ → ℕ → ℕ → Answer
 answer_with fault place word = record { fault = fault; word = word; place = place; size = 0; report_size = 0 }
@@ -87,55 +82,33 @@ no_memory : (r : Refusal) → number_of r.cause ≡ 50 → refused r ≡ answer_
 no_memory r h = ap (λ (n : ℕ). answer_with n r.place (word_of r.cause)) h ∙ ap (answer_with 50 r.place) (no_word r.cause h)
 
 -- a call that gives bytes, or has no buffer for them, is not answered as one without memory
-not_memory : {A : Type 0} (b : Bool) (x y : LinkLeft A) → x.answer.fault ≡ 60 → y.answer.fault ≡ 0 → (cond b x y).answer.fault ≡ 50 → ⊥
+not_memory : {A : Type 0} (b : Bool) (x y : BothLeft A) → x.answer.fault ≡ 60 → y.answer.fault ≡ 0 → (cond b x y).answer.fault ≡ 50 → ⊥
 not_memory true x y hx hy h = absurd (omega (arith, sym hx ∙ h))
 not_memory false x y hx hy h = absurd (omega (arith, sym hy ∙ h))
 
 module _ {A : Type 0} (status : ℕ) (answer : Answer) (old new : List ℕ) (report_old report_new : List A) where
-  pub output_memory : (r : Result (Output A) Refusal) → link_left status answer new report_new ≡ output_left r old report_old →
-      answer.fault ≡ 50 → link_left status answer new report_new ≡ no_output answer.place old report_old
+  pub output_memory : (r : Result (Output A) Refusal) → both_left status answer new report_new ≡ output_left r old report_old →
+      answer.fault ≡ 50 → both_left status answer new report_new ≡ no_output answer.place old report_old
   output_memory (Ok x) is h =
-      absurd (not_memory (nat_lt (length old) (length x.file) || nat_lt (length report_old) (length x.report))
-      (link_left 2 (given 60 (length x.file) (length x.report)) old report_old)
-      (link_left x.status (given 0 (length x.file) (length x.report)) (put_in old x.file) (put_in report_old x.report))
-      refl refl (sym (ap (λ (l : LinkLeft A). l.answer.fault) is) ∙ h))
+      absurd (not_memory (nat_lt (length old) (length x.bytes) || nat_lt (length report_old) (length x.records))
+      (both_left 2 (given 60 (length x.bytes) (length x.records)) old report_old)
+      (both_left x.status (given 0 (length x.bytes) (length x.records)) (put_in old x.bytes) (put_in report_old x.records))
+      refl refl (sym (ap (λ (l : BothLeft A). l.answer.fault) is) ∙ h))
   output_memory (Err refusal) is h =
       is
-      ∙ ap (λ (a : Answer). link_left 2 a old report_old) (no_memory refusal (sym (ap (λ (l : LinkLeft A). l.answer.fault) is) ∙ h))
-      ∙ ap (λ place. no_output place old report_old) (sym (ap (λ (l : LinkLeft A). l.answer.place) is))
+      ∙ ap (λ (a : Answer). both_left 2 a old report_old) (no_memory refusal (sym (ap (λ (l : BothLeft A). l.answer.fault) is) ∙ h))
+      ∙ ap (λ place. no_output place old report_old) (sym (ap (λ (l : BothLeft A). l.answer.place) is))
 
 module _ (status : ℕ) (answer : Answer) (old new report_old report_new : List ℕ) where
   -- what is left of a session that the library shows
   pub leaves_state : (asked : Result Asked Refusal) (r : Result Shown Refusal) → IfOk r (λ shown. IsShown asked (Ok (states_of shown))) →
-      IfErr r (λ refusal. (refusal.cause ≡ Memory → ⊥) → asked ≡ Err refusal) →
-      link_left status answer new report_new ≡ state_left (states_or r) old report_old → (answer.fault ≡ 50 → ⊥) →
-      LeavesState asked old report_old (link_left status answer new report_new)
+      IfErr r (λ refusal. (refusal.cause ≡ Memory memory.refused → ⊥) → asked ≡ Err refusal) →
+      both_left status answer new report_new ≡ state_left (states_or r) old report_old → (answer.fault ≡ 50 → ⊥) →
+      LeavesState asked old report_old (both_left status answer new report_new)
   leaves_state asked (Ok shown) ok err is other = record { output = Ok (states_of shown); shown = ok; is = is }
   leaves_state asked (Err refusal) ok err is other =
-      let same = err (λ memory. other (ap (λ (l : LinkLeft ℕ). l.answer.fault) is ∙ ap number_of memory)) in
+      let same = err (λ memory. other (ap (λ (l : BothLeft ℕ). l.answer.fault) is ∙ ap number_of memory)) in
       record { output = Err refusal; shown = subst (λ (a : Result Asked Refusal). IsShown a (Err refusal)) (sym same) refl; is = is }
-
-no_session_memory : (b : Bool) (x y : SessionLeft) → x.link.answer.fault ≡ 60 → y.link.answer.fault ≡ 0 →
-    (cond b x y).link.answer.fault ≡ 50 → ⊥
-no_session_memory true x y hx hy h = absurd (omega (arith, sym hx ∙ h))
-no_session_memory false x y hx hy h = absurd (omega (arith, sym hy ∙ h))
-
-module _ (status : ℕ) (answer : Answer) (old new report_old report_new replies_old replies_new : List ℕ) where
-  pub session_memory : (r : Result Ran Refusal) → session_left (link_left status answer new report_new) replies_new
-      ≡ ran_left (sessions_or r) replies_old old report_old → answer.fault ≡ 50 →
-      session_left (link_left status answer new report_new) replies_new ≡ no_session answer.place replies_old old report_old
-  session_memory (Ok x) is h =
-      absurd (no_session_memory (nat_lt (length replies_old) (length x.replies.items)
-      || (nat_lt (length old) (length x.program.file.items) || nat_lt (length report_old) (length x.program.report.items)))
-      (session_left (link_left 2 (given 60 (length x.program.file.items) (length x.program.report.items)) old report_old) replies_old)
-      (session_left (link_left x.program.status (given 0 (length x.program.file.items) (length x.program.report.items))
-      (put_in old x.program.file.items) (put_in report_old x.program.report.items)) (put_in replies_old x.replies.items))
-      refl refl (sym (ap (λ (l : SessionLeft). l.link.answer.fault) is) ∙ h))
-  session_memory (Err refusal) is h =
-      is
-      ∙ ap (λ (a : Answer). session_left (link_left 2 a old report_old) replies_old)
-      (no_memory refusal (sym (ap (λ (l : SessionLeft). l.link.answer.fault) is) ∙ h))
-      ∙ ap (λ place. no_session place replies_old old report_old) (sym (ap (λ (l : SessionLeft). l.link.answer.place) is))
 
 no_parts_memory : (b : Bool) (x y : PartsLeft) → x.answer.fault ≡ 60 → y.answer.fault ≡ 0 → (cond b x y).answer.fault ≡ 50 → ⊥
 no_parts_memory true x y hx hy h = absurd (omega (arith, sym hx ∙ h))
@@ -156,7 +129,7 @@ module _ (status : ℕ) (answer : Answer) (counts : Counts) (text_old text_new d
 
   pub apart_memory : (r : Result PartLists Cause) → parts_left status answer counts text_new data_new symbols_new
       ≡ apart_left (pieces_or r) text_old data_old symbols_old → answer.fault ≡ 50 →
-      parts_left status answer counts text_new data_new symbols_new ≡ apart_left (Err Memory) text_old data_old symbols_old
+      parts_left status answer counts text_new data_new symbols_new ≡ apart_left (Err (Memory memory.refused)) text_old data_old symbols_old
   apart_memory (Ok p) is h = absurd (parts_given (pieces_in p) is h)
   apart_memory (Err cause) is h =
       is
@@ -167,7 +140,7 @@ module _ (status : ℕ) (answer : Answer) (counts : Counts) (text_old text_new d
       file_left header (parts_left status answer counts text_new data_new symbols_new)
       ≡ read_left (wholes_or r) text_old data_old symbols_old → answer.fault ≡ 50 →
       file_left header (parts_left status answer counts text_new data_new symbols_new)
-      ≡ read_left (Err Memory) text_old data_old symbols_old
+      ≡ read_left (Err (Memory memory.refused)) text_old data_old symbols_old
   read_memory header (Ok f) is h = absurd (parts_given (pieces_in f.parts) (ap (λ (l : FileLeft). l.parts) is) h)
   read_memory header (Err cause) is h =
       is
@@ -176,7 +149,7 @@ module _ (status : ℕ) (answer : Answer) (counts : Counts) (text_old text_new d
 
 -- ---- a fault of the number of no memory
 
-is_memory_or : (cause : Cause) → (cause ≡ Memory) ⊎ (cause ≢ Memory)
+is_memory_or : (cause : Cause) → (cause ≡ Memory memory.refused) ⊎ (cause ≢ Memory memory.refused)
 is_memory_or NoOption = inr (λ e. absurd (cc))
 is_memory_or Excluded = inr (λ e. absurd (cc))
 is_memory_or LongName = inr (λ e. absurd (cc))
@@ -190,28 +163,28 @@ is_memory_or (NotAdded fault) = inr (λ e. absurd (cc))
 is_memory_or (NotLinked fault) = inr (λ e. absurd (cc))
 is_memory_or (BadListing fault) = inr (λ e. absurd (cc))
 is_memory_or (NotConverted refusal) = inr (λ e. absurd (cc))
-is_memory_or Memory = inl refl
+is_memory_or (Memory _) = inl refl
 
 module _ {A B X : Type 0} (answer : Result A Cause) where
   -- what is refused under it is refused for memory
-  pub is_memory : (r : Result B Cause) → CauseIsNotMemory answer → IfErr r (λ cause. cause ≢ Memory → answer ≡ Err cause) →
-      IfErr r (λ cause. cause ≡ Memory → X) → IsErrAnd r (λ cause. number_of cause ≡ 50) → X
+  pub is_memory : (r : Result B Cause) → CauseIsNotMemory answer → IfErr r (λ cause. cause ≢ Memory memory.refused → answer ≡ Err cause) →
+      IfErr r (λ cause. cause ≡ Memory memory.refused → X) → IsErrAnd r (λ cause. number_of cause ≡ 50) → X
   is_memory (Ok x) not_memory err memory h = absurd h
   is_memory (Err cause) not_memory err memory h = by (is_memory_or cause)
     where
-      by : ((cause ≡ Memory) ⊎ (cause ≢ Memory)) → X
+      by : ((cause ≡ Memory memory.refused) ⊎ (cause ≢ Memory memory.refused)) → X
       by (inl e) = memory e
       by (inr n) = absurd (subst (λ (r : Result A Cause). CauseIsNotMemory r) (err n) not_memory h)
 
 module _ {A B : Type 0} (X : ℕ → Type 0) (answer : Result A Refusal) where
   pub is_memory_at : (r : Result B Refusal) → IsNotMemory answer →
-      IfErr r (λ refusal. refusal.cause ≢ Memory → answer ≡ Err refusal) →
-      IfErr r (λ refusal. refusal.cause ≡ Memory → X refusal.place) →
+      IfErr r (λ refusal. refusal.cause ≢ Memory memory.refused → answer ≡ Err refusal) →
+      IfErr r (λ refusal. refusal.cause ≡ Memory memory.refused → X refusal.place) →
       (place : ℕ) → IsErrAnd r (λ refusal. (number_of refusal.cause ≡ 50) × (place ≡ refusal.place)) → X place
   is_memory_at (Ok x) not_memory err memory place h = absurd h
   is_memory_at (Err refusal) not_memory err memory place h = by (is_memory_or refusal.cause)
     where
-      by : ((refusal.cause ≡ Memory) ⊎ (refusal.cause ≢ Memory)) → X place
+      by : ((refusal.cause ≡ Memory memory.refused) ⊎ (refusal.cause ≢ Memory memory.refused)) → X place
       by (inl e) = subst X (sym h.1) (memory e)
       by (inr n) = absurd (subst (λ (r : Result A Refusal). IsNotMemory r) (err n) not_memory h.0)
 
@@ -256,77 +229,48 @@ count_fault status answer (Err cause) is h = sym (ap (λ (l : Left). l.answer.fa
 module _ {A : Type 0} (status : ℕ) (answer : Answer) (old new : List ℕ) (report_old report_new : List A) where
   output_fault : {B : Type 0} (view : B → Output A) (r : Result B Refusal) (given_ : Result (Output A) Refusal) →
       MatchResult r (λ x. given_ ≡ Ok (view x)) (λ refusal. given_ ≡ Err refusal) →
-      link_left status answer new report_new ≡ output_left given_ old report_old → answer.fault ≡ 50 →
+      both_left status answer new report_new ≡ output_left given_ old report_old → answer.fault ≡ 50 →
       IsErrAnd r (λ refusal. (number_of refusal.cause ≡ 50) × (answer.place ≡ refusal.place))
   output_fault view (Ok x) given_ same is h =
       let whole = is ∙ ap (λ (g : Result (Output A) Refusal). output_left g old report_old) same in
-      absurd (not_memory (nat_lt (length old) (length (view x).file) || nat_lt (length report_old) (length (view x).report))
-      (link_left 2 (given 60 (length (view x).file) (length (view x).report)) old report_old)
-      (link_left (view x).status (given 0 (length (view x).file) (length (view x).report)) (put_in old (view x).file)
-      (put_in report_old (view x).report))
-      refl refl (sym (ap (λ (l : LinkLeft A). l.answer.fault) whole) ∙ h))
+      absurd (not_memory (nat_lt (length old) (length (view x).bytes) || nat_lt (length report_old) (length (view x).records))
+      (both_left 2 (given 60 (length (view x).bytes) (length (view x).records)) old report_old)
+      (both_left (view x).status (given 0 (length (view x).bytes) (length (view x).records)) (put_in old (view x).bytes)
+      (put_in report_old (view x).records))
+      refl refl (sym (ap (λ (l : BothLeft A). l.answer.fault) whole) ∙ h))
   output_fault view (Err refusal) given_ same is h =
       let whole = is ∙ ap (λ (g : Result (Output A) Refusal). output_left g old report_old) same in
-      (sym (ap (λ (l : LinkLeft A). l.answer.fault) whole) ∙ h, ap (λ (l : LinkLeft A). l.answer.place) whole)
+      (sym (ap (λ (l : BothLeft A). l.answer.fault) whole) ∙ h, ap (λ (l : BothLeft A). l.answer.place) whole)
 
 module _ (status : ℕ) (answer : Answer) (old new report_old report_new : List ℕ) where
-  pub program_fault : (r : Result Program Refusal) →
-      link_left status answer new report_new ≡ output_left (outputs_or r) old report_old → answer.fault ≡ 50 →
-      IsErrAnd r (λ refusal. (number_of refusal.cause ≡ 50) × (answer.place ≡ refusal.place))
-  program_fault (Ok x) is h = output_fault status answer old new report_old report_new outputs_of (Ok x) (Ok (outputs_of x)) refl is h
-  program_fault (Err refusal) is h =
-      output_fault status answer old new report_old report_new outputs_of (Err refusal) (Err refusal) refl is h
-
   pub shown_fault : (r : Result Shown Refusal) →
-      link_left status answer new report_new ≡ state_left (states_or r) old report_old → answer.fault ≡ 50 →
+      both_left status answer new report_new ≡ state_left (states_or r) old report_old → answer.fault ≡ 50 →
       IsErrAnd r (λ refusal. (number_of refusal.cause ≡ 50) × (answer.place ≡ refusal.place))
   shown_fault (Ok x) is h =
       output_fault status answer old new report_old report_new
-      (λ (s : Shown). record { status = s.status; file = s.state.items; report = s.replies.items }) (Ok x)
+      (λ (s : Shown). record { status = s.status; bytes = s.state.items; records = s.replies.items }) (Ok x)
       (output_of_state (Ok (states_of x))) refl is h
   shown_fault (Err refusal) is h =
       output_fault status answer old new report_old report_new
-      (λ (s : Shown). record { status = s.status; file = s.state.items; report = s.replies.items }) (Err refusal)
+      (λ (s : Shown). record { status = s.status; bytes = s.state.items; records = s.replies.items }) (Err refusal)
       (Err refusal) refl is h
 
 module _ (status : ℕ) (answer : Answer) (old new : List ℕ) (records_old records_new : List RemarkRecord) where
   -- remarks are given, or memory ran out
   pub remarks_value : (x : Output RemarkRecord) (r : Result Remarks Cause) → IfOk r (λ m. remarks_in m ≡ x) →
-      IfErr r (λ cause. cause ≡ Memory) →
-      link_left status answer new records_new ≡ output_left (remarks_or r) old records_old → (answer.fault ≡ 50 → ⊥) →
-      link_left status answer new records_new ≡ output_left (Ok x) old records_old
+      IfErr r (λ cause. cause ≡ Memory memory.refused) →
+      both_left status answer new records_new ≡ output_left (remarks_or r) old records_old → (answer.fault ≡ 50 → ⊥) →
+      both_left status answer new records_new ≡ output_left (Ok x) old records_old
   remarks_value x (Ok m) ok err is other = is ∙ ap (λ (y : Output RemarkRecord). output_left (Ok y) old records_old) ok
-  remarks_value x (Err cause) ok err is other = absurd (other (ap (λ (l : LinkLeft RemarkRecord). l.answer.fault) is ∙ ap number_of err))
+  remarks_value x (Err cause) ok err is other = absurd (other (ap (λ (l : BothLeft RemarkRecord). l.answer.fault) is ∙ ap number_of err))
 
-  pub remarks_memory : (r : Result Remarks Cause) → IfErr r (λ cause. cause ≡ Memory) →
-      link_left status answer new records_new ≡ output_left (remarks_or r) old records_old → answer.fault ≡ 50 →
-      link_left status answer new records_new ≡ no_output 0 old records_old
+  pub remarks_memory : (r : Result Remarks Cause) → IfErr r (λ cause. cause ≡ Memory memory.refused) →
+      both_left status answer new records_new ≡ output_left (remarks_or r) old records_old → answer.fault ≡ 50 →
+      both_left status answer new records_new ≡ no_output 0 old records_old
   remarks_memory (Ok m) err is h =
       let r : Result Remarks Refusal = Ok m in
       absurd (output_fault status answer old new records_old records_new remarks_in r (Ok (remarks_in m)) refl is h)
   remarks_memory (Err cause) err is h = is ∙ ap (λ (c : Cause). output_left (Err (of_none c)) old records_old) err
-
-pub found_fault : (status : ℕ) (answer : Answer) (old new : List ℕ) (report_old report_new : List ReportedName)
-    (r : Result Found Refusal) → link_left status answer new report_new ≡ output_left (founds_or r) old report_old →
-    answer.fault ≡ 50 → IsErrAnd r (λ refusal. (number_of refusal.cause ≡ 50) × (answer.place ≡ refusal.place))
-found_fault status answer old new report_old report_new (Ok x) is h =
-    output_fault status answer old new report_old report_new founds_of (Ok x) (Ok (founds_of x)) refl is h
-found_fault status answer old new report_old report_new (Err refusal) is h =
-    output_fault status answer old new report_old report_new founds_of (Err refusal) (Err refusal) refl is h
-
-module _ (status : ℕ) (answer : Answer) (old new report_old report_new replies_old replies_new : List ℕ) where
-  pub ran_fault : (r : Result Ran Refusal) → session_left (link_left status answer new report_new) replies_new
-      ≡ ran_left (sessions_or r) replies_old old report_old → answer.fault ≡ 50 →
-      IsErrAnd r (λ refusal. (number_of refusal.cause ≡ 50) × (answer.place ≡ refusal.place))
-  ran_fault (Ok x) is h =
-      absurd (no_session_memory (nat_lt (length replies_old) (length x.replies.items)
-      || (nat_lt (length old) (length x.program.file.items) || nat_lt (length report_old) (length x.program.report.items)))
-      (session_left (link_left 2 (given 60 (length x.program.file.items) (length x.program.report.items)) old report_old) replies_old)
-      (session_left (link_left x.program.status (given 0 (length x.program.file.items) (length x.program.report.items))
-      (put_in old x.program.file.items) (put_in report_old x.program.report.items)) (put_in replies_old x.replies.items))
-      refl refl (sym (ap (λ (l : SessionLeft). l.link.answer.fault) is) ∙ h))
-  ran_fault (Err refusal) is h =
-      (sym (ap (λ (l : SessionLeft). l.link.answer.fault) is) ∙ h, ap (λ (l : SessionLeft). l.link.answer.place) is)
 
 module _ (status : ℕ) (answer : Answer) (counts : Counts) (text_old text_new data_old data_new : List ObjectWord)
     (symbols_old symbols_new : List SymbolRow) where
@@ -347,7 +291,7 @@ module _ (status : ℕ) (answer : Answer) (counts : Counts) (text_old text_new d
 -- memory ran out for an object that is made of parts
 pub made_memory : (p : Pieces) (status : ℕ) (answer : Answer) (old new : List ℕ) (r : Result (Vec ℕ Global) Cause) →
     left status answer new ≡ left_by (items_of r) old →
-    IfErr r (λ cause. cause ≢ Memory → made_of p ≡ Err cause) → IfErr r (λ cause. cause ≡ Memory → IsOk (file_for p)) →
+    IfErr r (λ cause. cause ≢ Memory memory.refused → made_of p ≡ Err cause) → IfErr r (λ cause. cause ≡ Memory memory.refused → IsOk (file_for p)) →
     answer.fault ≡ 50 → IsOk (file_for p)
 made_memory p status answer old new r is err memory fault =
     is_memory (made_of p) r (not_memory_made p) err memory (bytes_fault status answer old new r is fault)

@@ -1,2 +1,3 @@
 pub mod LeftLemmas
 pub mod RunLemmas
+pub mod StateLemmas

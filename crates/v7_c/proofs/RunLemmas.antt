@@ -1,13 +1,14 @@
 -- What the library answers to a request, by its mode.
 use Rattle.std.proofs.Common.{◌≡◌, ◌≢◌, ℕ, Bool, true, false, eqb, if◌then◌else◌, Result, Ok, Err, IfOk, IfErr, inl, inr, ap, ◌∙◌}
 use Rattle.std.proofs.lemmas.Bool.{ne_eqb}
+use Rattle.aout_core.specs.Refusals.{refused}
 use Rattle.library_calls.specs.declared.cause.Cause.TheVariants.{Memory, NoOption}
 use Rattle.library_calls.specs.declared.cause.Refusal.{Refusal}
 use Rattle.library_calls.specs.declared.run_call.RunResult.{RunResult}
 use Rattle.library_calls.specs.FileAnswers.{has_bit}
 use Rattle.library_calls.specs.LinkAnswers.{each_of}
-use Rattle.library_calls.specs.MemoryWanted.{LinkOfEachMayRunOut}
-use Rattle.library_calls.specs.RunAnswers.{RunOutput, SessionOfPartsMayRunOut, link_run, results_of, session_run}
+use Rattle.library_calls.specs.MemoryWanted.{LinkMayRunOut, SessionMayRunOut}
+use Rattle.library_calls.specs.RunAnswers.{RunOutput, link_run, results_of, session_run}
 use Rattle.v7_c.specs.declared.run.Request.{Request}
 use Rattle.v7_c.specs.RunLeft.{IsAnswer, is_known, results_or, run_in}
 
@@ -32,17 +33,17 @@ module _ (q : Request) (size : ℕ) where
 
   pub link_answer : (r : Result RunResult Refusal) → is_known q size ≡ true → q.mode ≡ 0 →
       IfOk r (λ given. link_of q ≡ Ok (results_of given)) →
-      IfErr r (λ refusal. refusal.cause ≢ Memory → link_of q ≡ Err refusal) →
-      IfErr r (λ refusal. refusal.cause ≡ Memory → LinkOfEachMayRunOut q.options q.entry.now q.forced.now
+      IfErr r (λ refusal. refusal.cause ≢ Memory refused → link_of q ≡ Err refusal) →
+      IfErr r (λ refusal. refusal.cause ≡ Memory refused → LinkMayRunOut q.options q.entry.now q.forced.now
       (each_of q.objects.now) refusal.place) → IsAnswer q size (results_or r)
   link_answer (Ok given) known mode ok err memory = is_link known mode ∙ ok
   link_answer (Err refusal) known mode ok err memory = (λ other. is_link known mode ∙ err other, λ out. (known, inl (mode, memory out)))
 
   pub session_answer : (r : Result RunResult Refusal) → is_known q size ≡ true → q.mode ≢ 0 →
       IfOk r (λ given. session_of q ≡ Ok (results_of given)) →
-      IfErr r (λ refusal. refusal.cause ≢ Memory → session_of q ≡ Err refusal) →
-      IfErr r (λ refusal. refusal.cause ≡ Memory →
-      SessionOfPartsMayRunOut q.options q.entry.now q.forced.now q.edits.now (each_of q.objects.now) refusal.place) →
+      IfErr r (λ refusal. refusal.cause ≢ Memory refused → session_of q ≡ Err refusal) →
+      IfErr r (λ refusal. refusal.cause ≡ Memory refused →
+      SessionMayRunOut q.options q.entry.now q.forced.now q.edits.now (each_of q.objects.now) refusal.place) →
       IsAnswer q size (results_or r)
   session_answer (Ok given) known mode ok err memory = is_session known mode ∙ ok
   session_answer (Err refusal) known mode ok err memory =

@@ -4,26 +4,21 @@
 -- that are needed. A refusal is a number, with the place of what is refused.
 use Rattle.std.specs.declared.alloc.Global.{Global}
 use Rattle.std.specs.Prelude.{◌≡◌, ℕ, ◌||◌, nat_lt, if◌then◌else◌, List, [], ◌++◌, drop, length, Vec, Result, Ok, Err}
+use Rattle.aout_core.specs.Refusals as memory
 use Rattle.aout_core.specs.declared.header.Header.{Header}
 use Rattle.library_calls.specs.declared.cause.Cause.{Cause}
 use Rattle.library_calls.specs.declared.cause.Cause.TheVariants.{Memory}
 use Rattle.library_calls.specs.declared.cause.Refusal.{Refusal}
-use Rattle.library_calls.specs.declared.findings_call.ReportedName.{ReportedName}
-use Rattle.library_calls.specs.declared.findings_call.Found.{Found}
-use Rattle.library_calls.specs.declared.link_call.Program.{Program}
 use Rattle.library_calls.specs.declared.parts.FileLists.{FileLists}
 use Rattle.library_calls.specs.declared.parts.ObjectWord.{ObjectWord}
 use Rattle.library_calls.specs.declared.parts.PartLists.{PartLists}
 use Rattle.library_calls.specs.declared.parts.SymbolRow.{SymbolRow}
 use Rattle.library_calls.specs.declared.remarks_call.RemarkRecord.{RemarkRecord}
 use Rattle.library_calls.specs.declared.remarks_call.Remarks.{Remarks}
-use Rattle.library_calls.specs.declared.session_call.Ran.{Ran}
 use Rattle.library_calls.specs.declared.state_call.Shown.{Shown}
 use Rattle.library_calls.specs.Causes.{number_of, word_of}
-use Rattle.library_calls.specs.LinkAnswers.{Output, founds_of, outputs_of}
 use Rattle.library_calls.specs.ObjectParts.{Pieces, Whole, pieces_in, whole_of}
-use Rattle.library_calls.specs.RemarkAnswers.{remarks_in}
-use Rattle.library_calls.specs.SessionAnswers.{SessionOutput, sessions_of}
+use Rattle.library_calls.specs.RemarkAnswers.{Output, remarks_in}
 use Rattle.library_calls.specs.StateAnswers.{Asked, IsShown, StateOutput, states_of}
 use Rattle.v7_c.specs.declared.answer.Answer.{Answer}
 use Rattle.v7_c.specs.declared.answer.Counts.{Counts}
@@ -68,7 +63,7 @@ counted_by (Ok count) = left 0 (given 0 count 0) []
 
 -- what is left by a call for which memory ran out
 abbrev pub no_bytes : List ℕ → Left
-no_bytes buffer = left_by (Err Memory) buffer
+no_bytes buffer = left_by (Err (Memory memory.refused)) buffer
 
 -- the same of a call whose refusals have places
 abbrev pub left_at : Result (List ℕ) Refusal → List ℕ → Left
@@ -77,63 +72,40 @@ left_at (Ok bytes) buffer = left_by (Ok bytes) buffer
 
 -- what it leaves if memory ran out, at this place
 abbrev pub no_bytes_at : ℕ → List ℕ → Left
-no_bytes_at place buffer = left_at (Err (record { cause = Memory; place = place })) buffer
+no_bytes_at place buffer = left_at (Err (record { cause = Memory memory.refused; place = place })) buffer
 
--- the same with a second buffer, for a report
-pub record LinkLeft (A : Type 0) : Type 0 where
+-- the same with a second buffer, for records
+pub record BothLeft (A : Type 0) : Type 0 where
   pub status : ℕ
   pub answer : Answer
   pub buffer : List ℕ
-  pub report : List A
+  pub records : List A
 
-abbrev pub link_left : {A : Type 0} → ℕ → Answer → List ℕ → List A → LinkLeft A
-link_left status answer buffer report = record { status = status; answer = answer; buffer = buffer; report = report }
+abbrev pub both_left : {A : Type 0} → ℕ → Answer → List ℕ → List A → BothLeft A
+both_left status answer buffer records = record { status = status; answer = answer; buffer = buffer; records = records }
 
--- what a link leaves: both parts, or neither
-abbrev pub output_left : {A : Type 0} → Result (Output A) Refusal → List ℕ → List A → LinkLeft A
-output_left (Err r) buffer report = link_left 2 (refused r) buffer report
-output_left (Ok x) buffer report =
-    if nat_lt (length buffer) (length x.file) || nat_lt (length report) (length x.report)
-    then link_left 2 (given 60 (length x.file) (length x.report)) buffer report
-    else link_left x.status (given 0 (length x.file) (length x.report)) (put_in buffer x.file) (put_in report x.report)
+-- what is left by a call that gives bytes and records: both, or neither
+abbrev pub output_left : {A : Type 0} → Result (Output A) Refusal → List ℕ → List A → BothLeft A
+output_left (Err r) buffer records = both_left 2 (refused r) buffer records
+output_left (Ok x) buffer records =
+    if nat_lt (length buffer) (length x.bytes) || nat_lt (length records) (length x.records)
+    then both_left 2 (given 60 (length x.bytes) (length x.records)) buffer records
+    else both_left x.status (given 0 (length x.bytes) (length x.records)) (put_in buffer x.bytes) (put_in records x.records)
 
--- what a link leaves for which memory ran out, at the object of this number
-abbrev pub no_output : {A : Type 0} → ℕ → List ℕ → List A → LinkLeft A
-no_output place buffer report = output_left (Err (record { cause = Memory; place = place })) buffer report
-
--- the same with a third buffer, for the replies to the edits of a session
-pub record SessionLeft : Type 0 where
-  pub link : LinkLeft ℕ
-  pub replies : List ℕ
-
-abbrev pub session_left : LinkLeft ℕ → List ℕ → SessionLeft
-session_left link replies = record { link = link; replies = replies }
-
--- what a session leaves: all three parts, or none
-abbrev pub ran_left : Result SessionOutput Refusal → List ℕ → List ℕ → List ℕ → SessionLeft
-ran_left (Err r) replies buffer report = session_left (output_left (Err r) buffer report) replies
-ran_left (Ok x) replies buffer report =
-    if nat_lt (length replies) (length x.replies)
-    || (nat_lt (length buffer) (length x.output.file) || nat_lt (length report) (length x.output.report))
-    then session_left (link_left 2 (given 60 (length x.output.file) (length x.output.report)) buffer report) replies
-    else session_left (link_left x.output.status (given 0 (length x.output.file) (length x.output.report))
-    (put_in buffer x.output.file) (put_in report x.output.report))
-    (put_in replies x.replies)
-
--- what a session leaves for which memory ran out, at the edit of this number
-abbrev pub no_session : ℕ → List ℕ → List ℕ → List ℕ → SessionLeft
-no_session place replies buffer report = ran_left (Err (record { cause = Memory; place = place })) replies buffer report
+-- what it leaves if memory ran out, at the edit of this number
+abbrev pub no_output : {A : Type 0} → ℕ → List ℕ → List A → BothLeft A
+no_output place buffer records = output_left (Err (record { cause = Memory memory.refused; place = place })) buffer records
 
 -- what is left by a call that shows a session: the state and the replies, or neither
 abbrev pub output_of_state : Result StateOutput Refusal → Result (Output ℕ) Refusal
-output_of_state (Ok x) = Ok (record { status = x.status; file = x.state; report = x.replies })
+output_of_state (Ok x) = Ok (record { status = x.status; bytes = x.state; records = x.replies })
 output_of_state (Err r) = Err r
 
-abbrev pub state_left : Result StateOutput Refusal → List ℕ → List ℕ → LinkLeft ℕ
+abbrev pub state_left : Result StateOutput Refusal → List ℕ → List ℕ → BothLeft ℕ
 state_left r buffer replies = output_left (output_of_state r) buffer replies
 
 -- what is left is an output that the session which is asked for may show
-pub record LeavesState (asked : Result Asked Refusal) (buffer replies : List ℕ) (left : LinkLeft ℕ) : Type 0 where
+pub record LeavesState (asked : Result Asked Refusal) (buffer replies : List ℕ) (left : BothLeft ℕ) : Type 0 where
   pub output : Result StateOutput Refusal
   pub shown : IsShown asked output
   pub is : left ≡ state_left output buffer replies
@@ -205,18 +177,6 @@ bytes_or (Err r) = Err r
 abbrev pub remarks_or : Result Remarks Cause → Result (Output RemarkRecord) Refusal
 remarks_or (Ok x) = Ok (remarks_in x)
 remarks_or (Err cause) = Err (of_none cause)
-
-abbrev pub outputs_or : Result Program Refusal → Result (Output ℕ) Refusal
-outputs_or (Ok program) = Ok (outputs_of program)
-outputs_or (Err r) = Err r
-
-abbrev pub founds_or : Result Found Refusal → Result (Output ReportedName) Refusal
-founds_or (Ok found) = Ok (founds_of found)
-founds_or (Err r) = Err r
-
-abbrev pub sessions_or : Result Ran Refusal → Result SessionOutput Refusal
-sessions_or (Ok ran) = Ok (sessions_of ran)
-sessions_or (Err r) = Err r
 
 abbrev pub states_or : Result Shown Refusal → Result StateOutput Refusal
 states_or (Ok shown) = Ok (states_of shown)

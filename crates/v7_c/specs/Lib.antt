@@ -1,3 +1,4 @@
 pub mod Left
 pub mod RunLeft
 pub mod MapLeft
+pub mod StateLeft

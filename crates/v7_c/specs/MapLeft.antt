@@ -1,6 +1,7 @@
 -- What v7_map leaves in the struct of its caller, and its status. (own choice)
 use Rattle.std.specs.Prelude.{◌≡◌, ◌≢◌, ℕ, Bool, true, ◌||◌, ◌&&◌, ◌%◌, not, eqb, nat_lt, nat_le}
 use Rattle.std.specs.Prelude.{if◌then◌else◌, List, length, Result, Ok, Err}
+use Rattle.aout_core.specs.Refusals.{refused}
 use Rattle.link_maps.specs.declared.limit_records.LimitRecord.{LimitRecord}
 use Rattle.link_maps.specs.declared.map_records.MapRecords.{MapRecords}
 use Rattle.link_maps.specs.declared.name_records.NameRecord.{NameRecord}
@@ -36,7 +37,7 @@ map_of_request q size =
 -- a map is one of that, or there is none, or memory ran out at a place at which it may
 abbrev pub IsMapGiven : Request → ℕ → Result Mapped Refusal → Type 0
 IsMapGiven q size (Ok m) = IsMapAnswer (map_of_request q size) m
-IsMapGiven q size (Err r) = (r.cause ≢ Memory → map_of_request q size ≡ Err r) × (r.cause ≡ Memory → MapOfRequestMayRunOut q size r.place)
+IsMapGiven q size (Err r) = (r.cause ≢ Memory refused → map_of_request q size ≡ Err r) × (r.cause ≡ Memory refused → MapOfRequestMayRunOut q size r.place)
 
 -- the status, and what is in the struct
 pub record MapLeft : Type 0 where
@@ -140,8 +141,12 @@ map_left (Ok m) l =
     if is_short m.records l then answered 2 60 0 0 (counts_of m.records) l
     else answered (map_status m.head) 0 0 0 (counts_of m.records) (filled m l)
 
+-- a struct of this size has what every answer fills: all but the buffers
+abbrev pub is_answered : ℕ → Bool
+is_answered size = nat_le 128 size
+
 -- a status, and a struct before and after the call
 pub record LeavesMap (q : Request) (old new : MapAnswer) (status : ℕ) : Type 0 where
   pub answer : Result Mapped Refusal
   pub given : IsMapGiven q old.size answer
-  pub is : left_in status new ≡ map_left answer (left_in 0 old)
+  pub is : left_in status new ≡ (if is_answered old.size then map_left answer (left_in 0 old) else left_in 2 old)

@@ -2,19 +2,20 @@
 --
 -- A request and a result begin with their sizes in bytes. A caller may have shorter ones, without the last fields: a link whose report
 -- is wanted as lines alone does not need them. So it is with the objects of what is reported. Fields that a result lacks stay as they
--- are.
+-- are; one that lacks a field which every answer fills stays as it is.
 use Rattle.std.specs.Prelude.{◌≡◌, ◌≢◌, ◌⊎◌, ℕ, Bool, true, ◌||◌, ◌&&◌, not, eqb, nat_lt, nat_le}
 use Rattle.std.specs.Prelude.{if◌then◌else◌, List, [], length, Result, Ok, Err}
+use Rattle.aout_core.specs.Refusals.{refused}
 use Rattle.library_calls.specs.declared.cause.Cause.TheVariants.{Memory, NoOption}
 use Rattle.library_calls.specs.declared.cause.Refusal.{Refusal}
-use Rattle.library_calls.specs.declared.findings_call.ReportedName.{ReportedName}
+use Rattle.library_calls.specs.declared.reported.ReportedName.{ReportedName}
 use Rattle.library_calls.specs.declared.run_call.RunResult.{RunResult}
 use Rattle.report_objects.specs.declared.places.FindingPlace.{FindingPlace}
 use Rattle.library_calls.specs.Causes.{number_of, word_of}
 use Rattle.library_calls.specs.FileAnswers.{has_bit}
 use Rattle.library_calls.specs.LinkAnswers.{each_of}
-use Rattle.library_calls.specs.MemoryWanted.{LinkOfEachMayRunOut}
-use Rattle.library_calls.specs.RunAnswers.{RunOutput, SessionOfPartsMayRunOut, link_run, results_of, session_run}
+use Rattle.library_calls.specs.MemoryWanted.{LinkMayRunOut, SessionMayRunOut}
+use Rattle.library_calls.specs.RunAnswers.{RunOutput, link_run, results_of, session_run}
 use Rattle.v7_c.specs.Left.{put_in}
 use Rattle.v7_c.specs.declared.run.Output.{Output}
 use Rattle.v7_c.specs.declared.run.Request.{Request}
@@ -48,13 +49,13 @@ run_in q size =
 abbrev pub RunMayRunOut : Request → ℕ → ℕ → Type 0
 RunMayRunOut q size place =
     (is_known q size ≡ true)
-    × (((q.mode ≡ 0) × LinkOfEachMayRunOut q.options q.entry.now q.forced.now (each_of q.objects.now) place)
-    ⊎ ((q.mode ≢ 0) × SessionOfPartsMayRunOut q.options q.entry.now q.forced.now q.edits.now (each_of q.objects.now) place))
+    × (((q.mode ≡ 0) × LinkMayRunOut q.options q.entry.now q.forced.now (each_of q.objects.now) place)
+    ⊎ ((q.mode ≢ 0) × SessionMayRunOut q.options q.entry.now q.forced.now q.edits.now (each_of q.objects.now) place))
 
 -- an answer is what the library gives, or that memory ran out at a place at which it may
 abbrev pub IsAnswer : Request → ℕ → Result RunOutput Refusal → Type 0
 IsAnswer q size (Ok x) = run_in q size ≡ Ok x
-IsAnswer q size (Err r) = (r.cause ≢ Memory → run_in q size ≡ Err r) × (r.cause ≡ Memory → RunMayRunOut q size r.place)
+IsAnswer q size (Err r) = (r.cause ≢ Memory refused → run_in q size ≡ Err r) × (r.cause ≡ Memory refused → RunMayRunOut q size r.place)
 
 abbrev pub results_or : Result RunResult Refusal → Result RunOutput Refusal
 results_or (Ok given) = Ok (results_of given)
@@ -186,8 +187,12 @@ abbrev pub answer_left : ℕ → Result RunOutput Refusal → RunLeft → RunLef
 answer_left wants (Err r) l = answered 2 (number_of r.cause) (word_of r.cause) r.place nothing l
 answer_left wants (Ok x) l = output_left (wanted wants x) l
 
+-- a result of this size has what every answer fills: the fault, its word and its place, and the sizes of file and report
+abbrev pub is_answered : ℕ → Bool
+is_answered size = nat_le 40 size
+
 -- a status, and a result before and after the call
 pub record LeavesRun (q : Request) (old new : RunAnswer) (status : ℕ) : Type 0 where
   pub answer : Result RunOutput Refusal
   pub given : IsAnswer q old.size answer
-  pub is : left_in status new ≡ answer_left q.wants answer (left_in 0 old)
+  pub is : left_in status new ≡ (if is_answered old.size then answer_left q.wants answer (left_in 0 old) else left_in 2 old)

@@ -1,16 +1,13 @@
 //! What a call gives, written into the buffers of its caller.
 ghost use Rattle.std.specs.Prelude.{◌≡◌, ◌≤◌, [], length, Ok};
-ghost use Rattle.library_calls.specs.LinkAnswers.{founds_of, outputs_of};
 ghost use Rattle.library_calls.specs.ObjectParts.{pieces_in};
 ghost use Rattle.library_calls.specs.RemarkAnswers.{remarks_in};
-ghost use Rattle.library_calls.specs.SessionAnswers.{sessions_of};
 ghost use Rattle.library_calls.specs.StateAnswers.{states_of};
-ghost use Rattle.v7_c.specs.Left.{apart_left, bytes_or, counted_by, counts_of, file_left, founds_or, items_of, left, left_at, left_by, link_left, output_left, outputs_or, parts_left, pieces_or, put_in, ran_left, read_left, remarks_or, session_left, sessions_or, state_left, states_or, wholes_or};
+ghost use Rattle.v7_c.specs.Left.{apart_left, both_left, bytes_or, counted_by, counts_of, file_left, items_of, left, left_at, left_by, output_left, parts_left, pieces_or, put_in, read_left, remarks_or, state_left, states_or, wholes_or};
 
 use crate::answer::{Answer, Counts, FileHeader};
 use library_calls::{
-    Cause, FileLists, Found, ObjectWord, PartLists, Program, Ran, Refusal, RemarkRecord, Remarks,
-    ReportedName, Shown, SymbolRow,
+    Cause, FileLists, ObjectWord, PartLists, Refusal, RemarkRecord, Remarks, Shown, SymbolRow,
 };
 
 /// The fault if a buffer is too short.
@@ -87,109 +84,35 @@ pub(crate) fn leave_bytes_at(
     }
 }
 
-/// Two results and a status.
+/// Bytes, records and a status.
 #[derive(Clone, Copy)]
 struct Both<'a, T> {
     status: u8,
     bytes: &'a [u8],
-    more: &'a [T],
+    records: &'a [T],
 }
 
-/// Writes two results into their buffers, if both fit.
+/// Writes bytes and records into their buffers, if both fit.
 fn leave_both<T: Copy>(
     both: &Both<'_, T>,
     buffer: &mut [u8],
-    report: &mut [T],
+    records: &mut [T],
     answer: &mut Answer,
 ) -> u32
-    ensures { link_left result answer.new buffer.new report.new ≡ output_left (Ok
-        (record { status = both.now.status; file = both.now.bytes.now; report = both.now.more.now }))
-        buffer.old report.old }
+    ensures { both_left result answer.new buffer.new records.new ≡ output_left
+        (Ok (record { status = both.now.status; bytes = both.now.bytes.now; records = both.now.records.now }))
+        buffer.old records.old }
 {
     let size = both.bytes.len();
-    let report_size = both.more.len();
-    if buffer.len() < size || report.len() < report_size {
-        *answer = Answer::given(NO_ROOM, size, report_size);
+    let count = both.records.len();
+    if buffer.len() < size || records.len() < count {
+        *answer = Answer::given(NO_ROOM, size, count);
         return 2;
     }
     put(both.bytes, buffer);
-    put(both.more, report);
-    *answer = Answer::given(0, size, report_size);
+    put(both.records, records);
+    *answer = Answer::given(0, size, count);
     u32::from(both.status)
-}
-
-/// Writes the file of a link and its report into the buffers, if both fit.
-fn leave_program(
-    program: &Program,
-    buffer: &mut [u8],
-    report: &mut [u8],
-    answer: &mut Answer,
-) -> u32
-    ensures { link_left result answer.new buffer.new report.new
-        ≡ output_left (Ok (outputs_of program.now)) buffer.old report.old }
-{
-    let both = Both {
-        status: program.status,
-        bytes: &program.file,
-        more: &program.report,
-    };
-    leave_both(&both, buffer, report, answer)
-}
-
-/// Writes a link into the buffers, if there is one.
-pub(crate) fn leave_output(
-    program: Result<Program, Refusal>,
-    buffer: &mut [u8],
-    report: &mut [u8],
-    answer: &mut Answer,
-) -> u32
-    ensures { link_left result answer.new buffer.new report.new
-        ≡ output_left (outputs_or program) buffer.old report.old }
-{
-    match program {
-        Ok(program) => leave_program(&program, buffer, report, answer),
-        Err(refusal) => {
-            *answer = Answer::refused(refusal);
-            2
-        }
-    }
-}
-
-/// Writes the file of a link and its findings into the buffers, if both fit.
-fn leave_found(
-    found: &Found,
-    buffer: &mut [u8],
-    findings: &mut [ReportedName],
-    answer: &mut Answer,
-) -> u32
-    ensures { link_left result answer.new buffer.new findings.new
-        ≡ output_left (Ok (founds_of found.now)) buffer.old findings.old }
-{
-    let both = Both {
-        status: found.status,
-        bytes: &found.file,
-        more: &found.findings,
-    };
-    leave_both(&both, buffer, findings, answer)
-}
-
-/// Writes a link and its findings into the buffers, if there is one.
-pub(crate) fn leave_findings(
-    found: Result<Found, Refusal>,
-    buffer: &mut [u8],
-    findings: &mut [ReportedName],
-    answer: &mut Answer,
-) -> u32
-    ensures { link_left result answer.new buffer.new findings.new
-        ≡ output_left (founds_or found) buffer.old findings.old }
-{
-    match found {
-        Ok(found) => leave_found(&found, buffer, findings, answer),
-        Err(refusal) => {
-            *answer = Answer::refused(refusal);
-            2
-        }
-    }
 }
 
 /// Writes remarks and their texts into the buffers, if both fit.
@@ -199,13 +122,13 @@ fn leave_all_remarks(
     records: &mut [RemarkRecord],
     answer: &mut Answer,
 ) -> u32
-    ensures { link_left result answer.new texts.new records.new
+    ensures { both_left result answer.new texts.new records.new
         ≡ output_left (Ok (remarks_in remarks.now)) texts.old records.old }
 {
     let both = Both {
         status: remarks.status,
         bytes: &remarks.texts,
-        more: &remarks.records,
+        records: &remarks.records,
     };
     leave_both(&both, texts, records, answer)
 }
@@ -217,7 +140,7 @@ pub(crate) fn leave_remarks(
     records: &mut [RemarkRecord],
     answer: &mut Answer,
 ) -> u32
-    ensures { link_left result answer.new texts.new records.new
+    ensures { both_left result answer.new texts.new records.new
         ≡ output_left (remarks_or remarks) texts.old records.old }
 {
     match remarks {
@@ -229,59 +152,15 @@ pub(crate) fn leave_remarks(
     }
 }
 
-/// Writes the link of a session and the replies into the buffers, if all fit.
-fn leave_ran(
-    ran: &Ran,
-    replies: &mut [u8],
-    buffer: &mut [u8],
-    report: &mut [u8],
-    answer: &mut Answer,
-) -> u32
-    ensures { session_left (link_left result answer.new buffer.new report.new) replies.new
-        ≡ ran_left (Ok (sessions_of ran.now)) replies.old buffer.old report.old }
-{
-    let size = ran.program.file.len();
-    let report_size = ran.program.report.len();
-    if replies.len() < ran.replies.len() || buffer.len() < size || report.len() < report_size {
-        *answer = Answer::given(NO_ROOM, size, report_size);
-        return 2;
-    }
-    put(&ran.replies, replies);
-    put(&ran.program.file, buffer);
-    put(&ran.program.report, report);
-    *answer = Answer::given(0, size, report_size);
-    u32::from(ran.program.status)
-}
-
-/// Writes the link of a session and the replies into the buffers, if there is one.
-pub(crate) fn leave_session(
-    ran: Result<Ran, Refusal>,
-    replies: &mut [u8],
-    buffer: &mut [u8],
-    report: &mut [u8],
-    answer: &mut Answer,
-) -> u32
-    ensures { session_left (link_left result answer.new buffer.new report.new) replies.new
-        ≡ ran_left (sessions_or ran) replies.old buffer.old report.old }
-{
-    match ran {
-        Ok(ran) => leave_ran(&ran, replies, buffer, report, answer),
-        Err(refusal) => {
-            *answer = Answer::refused(refusal);
-            2
-        }
-    }
-}
-
 /// Writes the state of a session and the replies into the buffers, if both fit.
 fn leave_shown(shown: &Shown, buffer: &mut [u8], replies: &mut [u8], answer: &mut Answer) -> u32
-    ensures { link_left result answer.new buffer.new replies.new
+    ensures { both_left result answer.new buffer.new replies.new
         ≡ state_left (Ok (states_of shown.now)) buffer.old replies.old }
 {
     let both = Both {
         status: shown.status,
         bytes: &shown.state,
-        more: &shown.replies,
+        records: &shown.replies,
     };
     leave_both(&both, buffer, replies, answer)
 }
@@ -293,7 +172,7 @@ pub(crate) fn leave_state(
     replies: &mut [u8],
     answer: &mut Answer,
 ) -> u32
-    ensures { link_left result answer.new buffer.new replies.new
+    ensures { both_left result answer.new buffer.new replies.new
         ≡ state_left (states_or shown) buffer.old replies.old }
 {
     match shown {

@@ -7,33 +7,31 @@ mod answer;
 mod buffers;
 mod map;
 mod run;
+mod state;
 
 ghost use Rattle.std.specs.Prelude.{◌≡◌, ◌≢◌, ◌⊎◌, [], Ok, Err, IsOk};
+ghost use Rattle.aout_core.specs.Refusals.{refused};
 ghost use Rattle.disassemblies.specs.Columns.{plain_disassembly};
 ghost use Rattle.library_calls.specs.declared.cause.Cause.TheVariants.{Memory};
 ghost use Rattle.library_calls.specs.FileAnswers.{checked_in, disassembled_in, names_in, sizes_in, stripped_in};
 ghost use Rattle.library_calls.specs.GnuAnswers.{ConversionMayRunOut, converted_in};
-ghost use Rattle.library_calls.specs.LinkAnswers.{each_of, found_each, output_each, output_in};
 ghost use Rattle.library_calls.specs.ListingAnswers.{DescribedMayRunOut, described_in, listed_in};
-ghost use Rattle.library_calls.specs.MemoryWanted.{HasBody, LinkMayRunOut, LinkOfEachMayRunOut, SessionMayRunOut, StateMayRunOut};
+ghost use Rattle.library_calls.specs.MemoryWanted.{HasBody};
 ghost use Rattle.library_calls.specs.ObjectParts.{file_for, made_of, parts_in, pieces, whole_in};
 ghost use Rattle.library_calls.specs.RemarkAnswers.{remarked_in};
-ghost use Rattle.library_calls.specs.SessionAnswers.{session_in};
-ghost use Rattle.library_calls.specs.StateAnswers.{asked_in};
 ghost use Rattle.v7_c.specs.MapLeft.{LeavesMap};
 ghost use Rattle.v7_c.specs.RunLeft.{LeavesRun};
-ghost use Rattle.v7_c.specs.Left.{LeavesState, apart_left, counted_by, file_left, left, left_at, left_by, link_left, no_bytes, no_bytes_at, no_output, no_session, output_left, parts_left, ran_left, read_left, session_left};
+ghost use Rattle.v7_c.specs.StateLeft.{StateOfRequestMayRunOut, asked_by};
+ghost use Rattle.v7_c.specs.Left.{LeavesState, apart_left, both_left, counted_by, file_left, left, left_at, left_by, no_bytes, no_bytes_at, no_output, output_left, parts_left, read_left};
 
 use crate::answer::{Answer, Counts, FileHeader};
 use crate::buffers::{
-    leave_bytes, leave_bytes_at, leave_count, leave_file, leave_findings, leave_output,
-    leave_parts, leave_remarks, leave_session, leave_state,
+    leave_bytes, leave_bytes_at, leave_count, leave_file, leave_parts, leave_remarks, leave_state,
 };
 use crate::map::MapAnswer;
 use crate::run::{Request, RunAnswer};
-use library_calls::{
-    LinkRequest, ObjectBytes, ObjectParts, ObjectWord, RemarkRecord, ReportedName, SymbolRow,
-};
+use crate::state::state_for;
+use library_calls::{ObjectParts, ObjectWord, RemarkRecord, SymbolRow};
 use std::alloc::Global;
 
 /// The version of the library, 0.4.0: 65,536 for each major version, 256 for each minor version, and the patch.
@@ -191,9 +189,9 @@ pub extern "C" fn v7_remarks(
     remarks: &mut [RemarkRecord],
     answer: &mut Answer,
 ) -> u32
-    ensures value { answer.new.fault ≢ 50 → link_left result answer.new texts.new remarks.new
+    ensures value { answer.new.fault ≢ 50 → both_left result answer.new texts.new remarks.new
         ≡ output_left (Ok (remarked_in bytes.now)) texts.old remarks.old }
-    ensures memory { answer.new.fault ≡ 50 → link_left result answer.new texts.new remarks.new
+    ensures memory { answer.new.fault ≡ 50 → both_left result answer.new texts.new remarks.new
         ≡ no_output 0 texts.old remarks.old }
 {
     leave_remarks(
@@ -202,100 +200,6 @@ pub extern "C" fn v7_remarks(
         remarks,
         answer,
     )
-}
-
-/// Links objects.
-#[unsafe(no_mangle)]
-pub extern "C" fn v7_link(
-    alloc: Global,
-    options: u32,
-    entry: &[u8],
-    forced: &[u8],
-    objects: &[u8],
-    room: &mut [u8],
-    report: &mut [u8],
-    answer: &mut Answer,
-) -> u32
-    ensures value { answer.new.fault ≢ 50 → link_left result answer.new room.new report.new
-        ≡ output_left (output_in options entry.now forced.now objects.now) room.old report.old }
-    ensures memory { answer.new.fault ≡ 50 → link_left result answer.new room.new report.new
-        ≡ no_output answer.new.place room.old report.old }
-    ensures ran_out { answer.new.fault ≡ 50
-        → LinkMayRunOut options entry.now forced.now objects.now answer.new.place }
-{
-    let request = LinkRequest {
-        options,
-        entry,
-        forced,
-    };
-    leave_output(
-        library_calls::link(alloc, &request, objects),
-        room,
-        report,
-        answer,
-    )
-}
-
-/// Links objects whose bytes are apart.
-#[unsafe(no_mangle)]
-pub extern "C" fn v7_link_list(
-    alloc: Global,
-    options: u32,
-    entry: &[u8],
-    forced: &[u8],
-    objects: &[ObjectBytes<'_>],
-    room: &mut [u8],
-    report: &mut [u8],
-    answer: &mut Answer,
-) -> u32
-    ensures value { answer.new.fault ≢ 50
-        → link_left result answer.new room.new report.new ≡ output_left
-        (output_each options entry.now forced.now (each_of objects.now)) room.old report.old }
-    ensures memory { answer.new.fault ≡ 50 → link_left result answer.new room.new report.new
-        ≡ no_output answer.new.place room.old report.old }
-    ensures ran_out { answer.new.fault ≡ 50
-        → LinkOfEachMayRunOut options entry.now forced.now (each_of objects.now) answer.new.place }
-{
-    let request = LinkRequest {
-        options,
-        entry,
-        forced,
-    };
-    leave_output(
-        library_calls::link_each(alloc, &request, objects),
-        room,
-        report,
-        answer,
-    )
-}
-
-/// Links objects whose bytes are apart, and gives the report as a list.
-#[unsafe(no_mangle)]
-pub extern "C" fn v7_link_findings(
-    alloc: Global,
-    options: u32,
-    entry: &[u8],
-    forced: &[u8],
-    objects: &[ObjectBytes<'_>],
-    room: &mut [u8],
-    findings: &mut [ReportedName],
-    answer: &mut Answer,
-) -> u32
-    ensures value { answer.new.fault ≢ 50
-        → link_left result answer.new room.new findings.new ≡ output_left
-        (found_each options entry.now forced.now (each_of objects.now)) room.old findings.old }
-    ensures memory { answer.new.fault ≡ 50 → link_left result answer.new room.new findings.new
-        ≡ no_output answer.new.place room.old findings.old }
-    ensures ran_out { answer.new.fault ≡ 50
-        → LinkOfEachMayRunOut options entry.now forced.now (each_of objects.now) answer.new.place }
-{
-    let request = LinkRequest {
-        options,
-        entry,
-        forced,
-    };
-    let found = library_calls::link_findings(alloc, &request, objects);
-    leave_findings(found, room, findings, answer)
 }
 
 /// Links objects or runs a session, by one request with one result.
@@ -356,7 +260,7 @@ pub extern "C" fn v7_take_apart(
         → parts_left result answer.new counts.new text.new data_words.new symbols.new
         ≡ apart_left (parts_in bytes.now) text.old data_words.old symbols.old }
     ensures memory { answer.new.fault ≡ 50 → parts_left result answer.new counts.new text.new
-        data_words.new symbols.new ≡ apart_left (Err Memory) text.old data_words.old symbols.old }
+        data_words.new symbols.new ≡ apart_left (Err (Memory refused)) text.old data_words.old symbols.old }
     ensures ran_out { answer.new.fault ≡ 50 → HasBody bytes.now ⊎ IsOk (parts_in bytes.now) }
 {
     let parts = library_calls::take_apart(alloc, bytes);
@@ -382,7 +286,7 @@ pub extern "C" fn v7_read(
         ≡ read_left (whole_in bytes.now) text.old data_words.old symbols.old }
     ensures memory { answer.new.fault ≡ 50 → file_left header.new
         (parts_left result answer.new counts.new text.new data_words.new symbols.new)
-        ≡ read_left (Err Memory) text.old data_words.old symbols.old }
+        ≡ read_left (Err (Memory refused)) text.old data_words.old symbols.old }
     ensures ran_out { answer.new.fault ≡ 50 → IsOk (whole_in bytes.now) }
 {
     let file = library_calls::read_apart(alloc, bytes);
@@ -391,59 +295,22 @@ pub extern "C" fn v7_read(
     status
 }
 
-/// Runs the edits of a session, and links what is left.
-#[unsafe(no_mangle)]
-pub extern "C" fn v7_session(
-    alloc: Global,
-    options: u32,
-    entry: &[u8],
-    forced: &[u8],
-    edits: &[u8],
-    objects: &[u8],
-    replies: &mut [u8],
-    room: &mut [u8],
-    report: &mut [u8],
-    answer: &mut Answer,
-) -> u32
-    ensures value { answer.new.fault ≢ 50
-        → session_left (link_left result answer.new room.new report.new) replies.new
-        ≡ ran_left (session_in options entry.now forced.now edits.now objects.now) replies.old
-        room.old report.old }
-    ensures memory { answer.new.fault ≡ 50
-        → session_left (link_left result answer.new room.new report.new) replies.new
-        ≡ no_session answer.new.place replies.old room.old report.old }
-    ensures ran_out { answer.new.fault ≡ 50
-        → SessionMayRunOut options entry.now forced.now edits.now objects.now answer.new.place }
-{
-    let request = LinkRequest {
-        options,
-        entry,
-        forced,
-    };
-    let ran = library_calls::run_session(alloc, &request, edits, objects);
-    leave_session(ran, replies, room, report, answer)
-}
-
 /// Runs the edits of a session, and gives what it then shows.
 #[unsafe(no_mangle)]
 pub extern "C" fn v7_state(
     alloc: Global,
     form: u32,
-    forced: &[u8],
-    edits: &[u8],
-    objects: &[u8],
+    request: &Request<'_>,
     replies: &mut [u8],
     room: &mut [u8],
     answer: &mut Answer,
 ) -> u32
-    ensures value { answer.new.fault ≢ 50
-        → LeavesState (asked_in form forced.now edits.now objects.now) room.old replies.old
-        (link_left result answer.new room.new replies.new) }
-    ensures memory { answer.new.fault ≡ 50 → link_left result answer.new room.new replies.new
+    ensures value { answer.new.fault ≢ 50 → LeavesState (asked_by form request.now) room.old
+        replies.old (both_left result answer.new room.new replies.new) }
+    ensures memory { answer.new.fault ≡ 50 → both_left result answer.new room.new replies.new
         ≡ no_output answer.new.place room.old replies.old }
     ensures ran_out { answer.new.fault ≡ 50
-        → StateMayRunOut form forced.now edits.now objects.now answer.new.place }
+        → StateOfRequestMayRunOut form request.now answer.new.place }
 {
-    let shown = library_calls::show_session(alloc, form, forced, edits, objects);
-    leave_state(shown, room, replies, answer)
+    leave_state(state_for(alloc, form, request), room, replies, answer)
 }

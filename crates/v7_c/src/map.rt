@@ -12,6 +12,8 @@ use std::alloc::Global;
 
 /// The size of a map.
 const MAP: usize = 192;
+/// The size of a map that has what every answer fills.
+const ANSWERED: usize = 128;
 
 /// What a map is written to.
 #[repr(C)]
@@ -180,10 +182,13 @@ fn leave(answer: &mut MapAnswer<'_>, mapped: Result<Mapped, Refusal>) -> u32
     }
 }
 
-/// Does what is asked for.
+/// Does what is asked for. A struct without what every answer fills is not touched.
 pub(crate) fn map(alloc: Global, request: &Request<'_>, answer: &mut MapAnswer<'_>) -> u32
     ensures { LeavesMap request.now answer.old answer.new result }
 {
+    if answer.size < ANSWERED {
+        return 2;
+    }
     let given = map_for(alloc, request, answer.size);
     leave(answer, given)
 }

@@ -3,12 +3,12 @@ ghost use Rattle.std.specs.Prelude.{◌≡◌, ◌<◌, false};
 ghost use Rattle.library_calls.specs.Causes.{number_of, word_of};
 ghost use Rattle.library_calls.specs.FileAnswers.{has_bit};
 ghost use Rattle.library_calls.specs.RunAnswers.{results_of};
-ghost use Rattle.v7_c.specs.RunLeft.{IsAnswer, LeavesRun, answer_left, answered, filled, has_more, has_places, is_enough, is_known, is_short, left_in, needs_more, nothing, output_in, output_left, results_or, wanted};
+ghost use Rattle.v7_c.specs.RunLeft.{IsAnswer, LeavesRun, answer_left, answered, filled, has_more, has_places, is_answered, is_enough, is_known, is_short, left_in, needs_more, nothing, output_in, output_left, results_or, wanted};
 
 use crate::buffers::{NO_ROOM, put};
 use library_calls::{
     Cause, FindingPlace, LinkRequest, ObjectBytes, Refusal, ReportedName, RunResult, run_link,
-    run_session_of_parts,
+    run_session,
 };
 use std::alloc::Global;
 
@@ -16,8 +16,10 @@ use std::alloc::Global;
 pub(crate) const LINK_REQUEST: usize = 72;
 
 const LINK_RESULT: usize = 72;
+/// The size of a result that has what every answer fills.
+const ANSWERED: usize = 40;
 /// The size of a request that has all fields.
-const REQUEST: usize = 88;
+pub(crate) const REQUEST: usize = 88;
 /// The size of a result for a session, or for a link whose report is wanted as a list.
 const LIST_RESULT: usize = 120;
 /// The size of a result that has all fields.
@@ -139,7 +141,7 @@ fn answer_to(alloc: Global, request: &Request<'_>, size: usize) -> Result<RunRes
     if request.mode == 0 {
         run_link(alloc, &link, is_placed, request.objects)
     } else {
-        run_session_of_parts(alloc, &link, is_placed, request.edits, request.objects)
+        run_session(alloc, &link, is_placed, request.edits, request.objects)
     }
 }
 
@@ -283,20 +285,27 @@ fn leave_refusal(answer: &mut RunAnswer<'_>, refusal: Refusal) -> u32
 }
 
 /// Writes what is wanted of what there is, or why there is nothing.
-fn leave(answer: &mut RunAnswer<'_>, wants: u32, given: Result<RunResult, Refusal>) -> u32
+fn leave(
+    answer: &mut RunAnswer<'_>,
+    request: &Request<'_>,
+    given: Result<RunResult, Refusal>,
+) -> u32
     ensures { left_in result answer.new
-        ≡ answer_left wants (results_or given) (left_in 0 answer.old) }
+        ≡ answer_left request.now.wants (results_or given) (left_in 0 answer.old) }
 {
     match given {
-        Ok(given) => leave_output(answer, &wanted(&given, wants)),
+        Ok(given) => leave_output(answer, &wanted(&given, request.wants)),
         Err(refusal) => leave_refusal(answer, refusal),
     }
 }
 
-/// Does what is asked for.
+/// Does what is asked for. A result without what every answer fills is not touched.
 pub(crate) fn run(alloc: Global, request: &Request<'_>, answer: &mut RunAnswer<'_>) -> u32
     ensures { LeavesRun request.now answer.old answer.new result }
 {
+    if answer.size < ANSWERED {
+        return 2;
+    }
     let given = answer_to(alloc, request, answer.size);
-    leave(answer, request.wants, given)
+    leave(answer, request, given)
 }

@@ -1,6 +1,6 @@
 use Rattle.std.proofs.Common.{◌≡◌, ◌++◌, [], ◌∷◌, map, length, rules, arith, subst, sym}
 use Rattle.std.proofs.lemmas.Grind.{common_steps}
-use Rattle.link_out.specs.Runs.{change_of}
+use Rattle.library_calls.specs.internal.Edited.{change_of}
 use Rattle.library_calls.proofs.StateLemmas.{AreBegun, all_edited, one_more_edited, some_changes}
 use Rattle.library_calls.proofs.edits.make_edits.Goals as goal
 

@@ -1,5 +1,5 @@
 use Rattle.std.proofs.Common.{◌≢◌, [], map}
-use Rattle.link_out.specs.Runs.{change_of}
+use Rattle.library_calls.specs.internal.Edited.{change_of}
 use Rattle.library_calls.proofs.StateLemmas.{AreBegun}
 use Rattle.library_calls.proofs.edits.make_edits.Given as goal
 

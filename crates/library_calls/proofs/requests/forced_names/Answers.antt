@@ -1,7 +1,7 @@
 use Rattle.std.proofs.Common.{◌≡◌, ◌/◌, true, length, [], rules, arith}
 use Rattle.tool_options.specs.ForcedNames.{takes}
 use Rattle.library_calls.specs.LinkRequests.{with_names}
-use Rattle.library_calls.proofs.TakingLemmas.{one_more_name}
+use Rattle.library_calls.proofs.ForcedNameLemmas.{one_more_name}
 use Rattle.library_calls.proofs.requests.forced_names.Goals as goal
 
 pub loop-i-preserved : goal.loop-i-preserved

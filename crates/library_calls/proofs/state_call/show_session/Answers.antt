@@ -1,6 +1,6 @@
 use Rattle.std.proofs.Common.{map, ap, subst, sym}
 use Rattle.link_session.specs.Undo.{Kept}
-use Rattle.link_out.specs.Runs.{change_of}
+use Rattle.library_calls.specs.internal.Edited.{change_of}
 use Rattle.library_calls.specs.StateAnswers.{Shows, states_of}
 use Rattle.library_calls.proofs.StateLemmas.{all_shown, asked}
 use Rattle.library_calls.proofs.state_call.show_session.Goals as goal

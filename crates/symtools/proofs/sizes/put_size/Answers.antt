@@ -16,6 +16,6 @@ returns g c =
     let front = if c.args.is_named then c.args.path.now ++ 58 ∷ 32 ∷ [] else [] in
     let line = size_line c.args.header.now in
     let text = subst (Writes g.W.Write.contents c.put.result c.put_heading.new.out c.put.new.self)
-    (c.as_bytes.ensures ∙ c.line_text-text.ensures) c.put.ensures.writes in
+    (c.as_bytes.ensures ∙ c.size_line-text.ensures) c.put.ensures.writes in
     subst (Writes g.W.Write.contents c.put.result c.args.out.now c.put.new.self)
     (sym (append_assoc front line (10 ∷ []))) (writes_both c.in_ok-put_heading.ensures text)

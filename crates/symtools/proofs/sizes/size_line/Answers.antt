@@ -1,6 +1,6 @@
 use Rattle.std.proofs.Common.{arith}
 use Rattle.std.proofs.lemmas.Grind.{common_steps}
-use Rattle.symtools.proofs.sizes.line_text.Goals as goal
+use Rattle.symtools.proofs.sizes.size_line.Goals as goal
 
 pub returns : goal.returns
 returns c = grind (arith, common_steps)
