@@ -1,5 +1,5 @@
 -- The number of the file that another one clashes with.
-use Rattle.std.proofs.Common.{◌≡◌, ℕ, ◌+◌, ◌<◌, List, [], ◌∷◌, length, Option, Some, None, refl, subst, arith}
+use Rattle.std.proofs.Common.{◌≡◌, ℕ, ◌+◌, ◌<◌, List, [], ◌∷◌, length, Option, Some, None, subst, arith}
 use Rattle.std.proofs.lemmas.List.{length-map}
 use Rattle.gnu_objects.specs.Clashes.{clash_among, clash_among_from, clash_in, first_clash, found_first}
 use Rattle.gnu_objects.specs.declared.clash.Clash.{Clash}
@@ -26,6 +26,6 @@ pub clash_within : (before : List Target) (bytes : List ℕ) (number : ℕ) (cla
     clash_among (bytes_of before) bytes ≡ Some (number, clash) → number < length before
 clash_within before bytes number clash is =
     let n = length (bytes_of before) in
-    let below : number < n = subst (IsBelow n) is (among_below 0 n (bytes_of before) bytes refl) in
+    let below : number < n = subst (IsBelow n) is (among_below 0 n (bytes_of before) bytes (omega arith)) in
     let same : n ≡ length before = length-map before (λ (t : Target). t.source.bytes) in
     omega arith
