@@ -1,6 +1,7 @@
 -- The file that bytes begin with, and its lines.
 use Rattle.std.proofs.Common.{◌≡◌, ℕ, ◌<◌, Bool, true, false, if◌then◌else◌, nat_lt, List, [], ◌∷◌, ◌++◌, append-nil}
 use Rattle.std.proofs.Common.{Result, Ok, Err, refl, ap, sym, ◌∙◌}
+use Rattle.std.proofs.lemmas.Bool.{false≢true}
 use Rattle.std.specs.Prelude.{IsOk}
 use Rattle.std.specs.List.{flat_map}
 use Rattle.aout_core.specs.Contents.{Contents}
@@ -19,7 +20,7 @@ use Rattle.library_calls.specs.MemoryWanted.{HasBody}
 
 is_whole : (r : Result Contents ReadFault) → IsOk r → IsOk (refused_as BadFile r)
 is_whole (Ok c) h = refl
-is_whole (Err fault) h = absurd (cc)
+is_whole (Err fault) h = absurd (false≢true h)
 
 pub has_body : (bytes : List ℕ) → IsOk (decode bytes) → 16 < file_length (header_in bytes) → HasBody bytes
 has_body bytes whole more = record { whole = is_whole (decode bytes) whole; more = more }

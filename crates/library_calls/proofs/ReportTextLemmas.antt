@@ -34,4 +34,4 @@ pub no_undefined_put : (old : Written) (names : List (List ℕ)) → length name
 no_undefined_put old [] none = nothing old
 no_undefined_put old (n ∷ ns) none = absurd (cc)
 
-pub ruleset by_part = (multiples_put, entry_put, undefined_put, no_entry_put, no_undefined_put)
+pub ruleset by_part = (multiples_put, undefined_put, no_entry_put, no_undefined_put)

@@ -1,6 +1,7 @@
 use Rattle.std.proofs.Common.{map, ap, subst, sym}
 use Rattle.link_session.specs.Undo.{Kept}
 use Rattle.library_calls.specs.internal.Edited.{change_of}
+use Rattle.library_calls.specs.LinkAnswers.{each_of}
 use Rattle.library_calls.specs.StateAnswers.{Shows, states_of}
 use Rattle.library_calls.proofs.StateLemmas.{all_shown, asked}
 use Rattle.library_calls.proofs.state_call.show_session.Goals as goal
@@ -13,5 +14,5 @@ returns-clause-ok c =
     let begun = c.in_ok-session.ensures.kept in
     let shows = subst (λ (k : Kept). Shows (asked form k.forced changes) output) begun
     (c.in_ok-edit_and_show.ensures.ok (ap (λ (k : Kept). k.entries) begun)) in
-    all_shown c.args.form c.args.forced.now c.args.letters.now c.args.objects.now form c.in_ok-forced.forced changes output
+    all_shown c.args.form c.args.forced.now c.args.letters.now (each_of c.args.parts.now) form c.in_ok-forced.forced changes output
     (sym c.in_ok-form.ensures) (sym c.in_ok-forced.ensures.value) c.in_ok-edits.ensures.ok shows
