@@ -9,15 +9,16 @@ usage: tests/wrong_bodies.py [-j N] [CRATE ..]   tries all edits of these crates
        tests/wrong_bodies.py [-j N] --try        tries this script: tests/wrong_bodies_tried.py
 
 A wrong body is an edit in must-fail/ or in the file wrong-bodies of a crate: tests/edits.py has its form. A copy has at most one edit for
-each function. It is checked once, by the kit's `rattle`, with the libraries below it as tests/prove.py proves them and keeps
-them, and over what `rt check` of the crate left, or else its earlier copies. For each edit, the script then reads whether the
+each function. It is checked once, by the kit's `rattle`, with the libraries below it as `rt lib` proves them, or as the gate
+left them, and over what `rt check` of the crate left, or else its earlier copies. For each edit, the script then reads whether the
 prover refuses the function itself. If it only says that the function calls another one that is not proved, the edit goes into a later
 copy without the edits of that one. An edit outside of functions, as of a constant or a definition, has a copy for itself.
 
 It is an error if an edit does not fit its crate, if the prover cannot read the text that it makes, if its function is proved,
 or if the function is refused for what it calls alone. It is an error too if the function is refused only for its shape: the
-proof names a goal or a step that is gone. Then the script checks the function with the edit and without it, both times without
-what is written of its proof, and the refusal counts if the edit has a goal open that the right body does not have.
+proof names a goal or a step that is gone, so another goal may lack its answer. Then the script checks the function with the edit and
+without it, both times without what is written of its proof, and the refusal counts if the edit has a goal open and the right body none
+of its kind: of a clause at any return, or else of its name.
 
 N copies are checked side by side, two if it is not given. The last line has how many edits are refused, and the minutes.
 """
@@ -44,6 +45,8 @@ PLACE = re.compile(r"(?:note: )?(?:\./)?((?:src|specs|proofs)/[^:\s]+):(\d+):\d+
 SHAPE = re.compile(r"has no field|is not in scope|has no `|was not admitted|cannot be named from here")
 UNREAD = re.compile(r"is not in scope|has no field|is no name|operand is missing|expected the end|cannot continue")
 CALLED = re.compile(r"`([^`]+)`")
+# the way to a return in the name of its goal, as `then-one-other` in `returns-then-one-other-clause-first`
+WAY = re.compile(r"^returns.*?(?=-clause-|$)")
 # what is between two words of a source, and what has to stay as it is: a text, a character, and a comment after code
 BETWEEN = re.compile(r"""(?P<blank>\s*\n\s*(?://[^\n]*(?:\n\s*|\Z))*|\s+)
     |\bb?r(?P<marks>\#*)".*?"(?P=marks)|"(?:\\.|[^"\\])*"|'(?:\\.[^'\n]*|[^'\\\n])'|(?://|--)[^\n]*""", re.S | re.X)
@@ -213,7 +216,7 @@ class Answer:
                 yield name
 
     def open_goals(self, function):
-        """The goals of a function that are not proved."""
+        """The kinds of the goals of a function that are not proved. A condition that changes has other names for the ways to its returns."""
         folders = tuple(f"proofs/{name.replace('::', '/')}/" for name in self.names(function))
         found = set()
         for name in self.names(function):
@@ -223,7 +226,7 @@ class Answer:
             named = re.match(r"error: `([^`]*)`: ", text)
             if named and file.startswith(folders) and not SHAPE.search(text):
                 found.add(named[1])
-        return found
+        return {WAY.sub("returns", goal) for goal in found}
 
     def judge(self, edit):
         """What the answer says of an edit: proved, refused, shape, callee; and a line that shows it."""
@@ -240,8 +243,12 @@ class Answer:
             return "proved", ""
         else:
             searched = [text for text in self.verdicts.values() if "did not prove" in text]
-        telling = [text for text in told if not SHAPE.search(text)] + searched
-        return ("refused", telling[0]) if telling else ("shape", (told or [self.last])[0])
+        shape = [text for text in told if SHAPE.search(text)]
+        telling = [text for text in told if text not in shape]
+        # where an answer is for a goal that is gone, the goal in its place has none
+        if not shape or not edit.function:
+            telling += searched
+        return ("refused", telling[0]) if telling else ("shape", (shape or [self.last])[0])
 
     def waits_for(self, function, crate):
         """The names of the functions that are not proved and that a function calls, also by others."""
@@ -399,19 +406,15 @@ class Kit(prove.Kit):
         return words + ["--crate-type", "staticlib"] * crate.is_static
 
 
-class Below(prove.Proving):
-    """The libraries below the crates that are tried, each proved by one process."""
-
-    def __init__(self, crates, kit, slots):
-        super().__init__(crates, kit)
-        self.slots = slots
-
-    def commands(self, crate):
-        return self.kit.library(crate, 1)
-
-    def run(self, crate):
-        with self.slots:
-            return super().run(crate)
+def has_libraries(crates, place):
+    """Has `rt lib` prove libraries, lowest first, or find them proved, as after the gate, and names them in a folder. Whether all are."""
+    for crate in crates:
+        status, said, _ = run(["rt", "lib"], f"crates/{crate.name}")
+        if status:
+            print(said)
+            return False
+        os.symlink(os.path.abspath(f"crates/{crate.name}/out/rlib/{crate.name}.rlib"), f"{place}/{crate.name}.rlib")
+    return True
 
 
 def without_comments(text):
@@ -504,21 +507,15 @@ def note(passed):
 def try_edits(names, jobs, only=()):
     """Tries the edits of crates, or only some, once the libraries below are proved. The trials, and whether all edits are
     refused, by crate."""
-    os.makedirs(prove.KEPT, exist_ok=True)
-    slots = threading.Semaphore(jobs)
     with tempfile.TemporaryDirectory(prefix="wrong-bodies-") as place:
         kit, crates = Kit(place), {it.name: it for it in prove.crates_under(*names)}
         needed = {below for name in names for below in crates[name].below}
-        below = Below([it for it in crates.values() if it in needed], kit, slots)
+        slots = threading.Semaphore(jobs)
         trials = {name: Trial(crates[name], kit, slots, only) for name in names}
-
-        def run(trial):
-            return all([below.lanes[it].result() for it in trial.crate.below]) and trial.run()
-
-        with ThreadPoolExecutor(len(below.crates) + len(names)) as pool:
-            for crate in below.crates:
-                below.lanes[crate] = pool.submit(below.prove, crate)
-            ran = {name: pool.submit(run, trials[name]) for name in names}
+        if not has_libraries([it for it in crates.values() if it in needed], place):
+            return trials, dict.fromkeys(names, False)
+        with ThreadPoolExecutor(len(names)) as pool:
+            ran = {name: pool.submit(trials[name].run) for name in names}
         return trials, {name: it.result() for name, it in ran.items()}
 
 

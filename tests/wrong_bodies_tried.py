@@ -12,7 +12,7 @@ import wrong_bodies
 SOURCE = """//! Sums of small numbers.
 #![tactic(auto)]
 
-ghost use Rattle.std.specs.Prelude.{◌≡◌, ◌+◌, ◌<◌, ◌≤◌, ◌↔◌, IsTrue};
+ghost use Rattle.std.specs.Prelude.{◌≡◌, ◌+◌, ◌*◌, ◌<◌, ◌≤◌, ◌↔◌, IsTrue};
 ghost use Rattle.tried.specs.Sums.{sum_of};
 
 /// Twice a number.
@@ -54,6 +54,16 @@ pub fn larger(one: u16, other: u16) -> u16
     }
     one
 }
+
+/// A number whose square is at least that of the first one.
+pub fn no_smaller(first: u8, second: u8) -> u8
+    ensures { first * first ≤ result * result }
+{
+    if first < second {
+        return second;
+    }
+    first
+}
 """
 FILES = {
     "crates.txt": "tried:\n",
@@ -71,6 +81,13 @@ use Rattle.tried.proofs.larger.Goals as goal
 pub returns-then-one-other-clause-first : goal.returns-then-one-other-clause-first
 returns-then-one-other-clause-first c = search rules
 """,
+    "crates/tried/proofs/no_smaller/Answers.antt": """use Rattle.std.proofs.Common.{rules}
+use Rattle.std.proofs.lemmas.Nat.{mul-le}
+use Rattle.tried.proofs.no_smaller.Goals as goal
+
+pub returns-then-first-second : goal.returns-then-first-second
+returns-then-first-second c = mul-le c.args.first c.args.first c.args.second c.args.second (search rules) (search rules)
+""",
 }
 # of each edit: its file, the old and the new text, and what the report has to begin with
 LIB, SUMS = "src/lib.rt", "specs/Sums.antt"
@@ -83,6 +100,9 @@ EDITS = {
     "harmless_definition": (SUMS, "= one + other", "= other + one", "NOT REFUSED"),
     "other_shape": (LIB, "if one < other {", "if other > one {", "refused only for its shape"),
     "other_shape_wrong": (LIB, "if one < other {", "if other < one {", "refused"),
+    # a condition that is wider, so the answer is for a goal that is gone
+    "harmless_branch": (LIB, "if first < second {", "if first < second || first == second {", "refused only for its shape"),
+    "wrong_branch": (LIB, "if one < other {", "if one < other || one == 7 {", "refused"),
     "unreadable": (LIB, "    number < 100", "    number < no_such_name", "the prover cannot read it"),
     "wrong_limit": (LIB, "    number < 100", "    number <= 100", "refused"),
     "unfit": (LIB, "no such text", "another", "it cannot be made"),
