@@ -1,4 +1,4 @@
-use Rattle.std.proofs.Common.{◌≡◌, ◌<◌, true, false, nat_le, if◌then◌else◌, Bool, Err, sym, ap, ◌∙◌, arith, le-leb}
+use Rattle.std.proofs.Common.{◌≡◌, ◌<◌, true, false, nat_le, if◌then◌else◌, Bool, sym, ap, ◌∙◌, arith, le-leb}
 use Rattle.std.proofs.lemmas.Bool.{and_left, and_right, lt-leb}
 use Rattle.v7_c.specs.RunLeft.{RunLeft, answer_left, is_answered, is_known, left_in, results_or}
 use Rattle.v7_c.proofs.RunLemmas.{no_option, unknown_answer}
