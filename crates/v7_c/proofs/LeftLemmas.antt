@@ -169,24 +169,24 @@ module _ {A B X : Type 0} (answer : Result A Cause) where
   -- what is refused under it is refused for memory
   pub is_memory : (r : Result B Cause) → CauseIsNotMemory answer → IfErr r (λ cause. cause ≢ Memory memory.refused → answer ≡ Err cause) →
       IfErr r (λ cause. cause ≡ Memory memory.refused → X) → IsErrAnd r (λ cause. number_of cause ≡ 50) → X
-  is_memory (Ok x) not_memory err memory h = absurd h
-  is_memory (Err cause) not_memory err memory h = by (is_memory_or cause)
+  is_memory (Ok x) known err ran_out h = absurd h
+  is_memory (Err cause) known err ran_out h = by (is_memory_or cause)
     where
       by : ((cause ≡ Memory memory.refused) ⊎ (cause ≢ Memory memory.refused)) → X
-      by (inl e) = memory e
-      by (inr n) = absurd (subst (λ (r : Result A Cause). CauseIsNotMemory r) (err n) not_memory h)
+      by (inl e) = ran_out e
+      by (inr n) = absurd (subst (λ (r : Result A Cause). CauseIsNotMemory r) (err n) known h)
 
 module _ {A B : Type 0} (X : ℕ → Type 0) (answer : Result A Refusal) where
   pub is_memory_at : (r : Result B Refusal) → IsNotMemory answer →
       IfErr r (λ refusal. refusal.cause ≢ Memory memory.refused → answer ≡ Err refusal) →
       IfErr r (λ refusal. refusal.cause ≡ Memory memory.refused → X refusal.place) →
       (place : ℕ) → IsErrAnd r (λ refusal. (number_of refusal.cause ≡ 50) × (place ≡ refusal.place)) → X place
-  is_memory_at (Ok x) not_memory err memory place h = absurd h
-  is_memory_at (Err refusal) not_memory err memory place h = by (is_memory_or refusal.cause)
+  is_memory_at (Ok x) known err ran_out place h = absurd h
+  is_memory_at (Err refusal) known err ran_out place h = by (is_memory_or refusal.cause)
     where
       by : ((refusal.cause ≡ Memory memory.refused) ⊎ (refusal.cause ≢ Memory memory.refused)) → X place
-      by (inl e) = subst X (sym h.1) (memory e)
-      by (inr n) = absurd (subst (λ (r : Result A Refusal). IsNotMemory r) (err n) not_memory h.0)
+      by (inl e) = subst X (sym h.1) (ran_out e)
+      by (inr n) = absurd (subst (λ (r : Result A Refusal). IsNotMemory r) (err n) known h.0)
 
 no_left_memory : (b : Bool) (x y : Left) → x.answer.fault ≡ 60 → y.answer.fault ≡ 0 → (cond b x y).answer.fault ≡ 50 → ⊥
 no_left_memory true x y hx hy h = absurd (omega (arith, sym hx ∙ h))

@@ -18,7 +18,7 @@ link_of q = link_run (has_bit q.wants 4) q.options q.entry.now q.forced.now (eac
 abbrev session_of : Request → Result RunOutput Refusal
 session_of q = session_run (has_bit q.wants 4) q.options q.entry.now q.forced.now q.edits.now (each_of q.objects.now)
 
-abbrev no_option : Result RunOutput Refusal
+abbrev pub no_option : Result RunOutput Refusal
 no_option = Err (record { cause = NoOption; place = 0 })
 
 module _ (q : Request) (size : ℕ) where
