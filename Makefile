@@ -221,7 +221,7 @@ build/v7-lesson: crates/lesson/out/lesson
 	mkdir -p build
 	cp crates/lesson/out/lesson build/v7-lesson
 
-LESSON_CRATES := $(addprefix crates/,aout_core texts link_session tool_options link_out symtools reports listings instructions disassemblies lesson)
+LESSON_CRATES := $(addprefix crates/,aout_core texts surroundings link_session tool_options link_out symtools reports instructions disassemblies lesson)
 crates/lesson/out/lesson: crates.txt $(shell find $(LESSON_CRATES) -name out -prune -o -type f -print)
 	python3 tests/prove.py lesson $@
 	touch $@

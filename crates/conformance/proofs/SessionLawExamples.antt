@@ -10,7 +10,7 @@ use Rattle.clap.proofs.OnLiterals.{clap_on_literals}
 use Rattle.aout_core.specs.Contents.{Contents}
 use Rattle.aout_core.specs.Encoding.{encoding}
 use Rattle.command_words.specs.declared.words.Call.TheVariants.{Ld, Session}
-use Rattle.command_words.specs.Scripts.{Asked, Given, to_add, to_withdraw, to_link}
+use Rattle.command_words.specs.Scripts.{to_add, to_withdraw, to_link}
 use Rattle.link_session.specs.declared.cell.Cell.{Cell}
 use Rattle.link_session.specs.Labelled.{Labelled}
 use Rattle.link_session.specs.Marks.{HoldCell}
@@ -216,12 +216,6 @@ abbrev files : Disk
 files at =
     cond (bytes_eq at a) (Some (encoding b_o)) (cond (bytes_eq at b) (Some (encoding e_o)) (cond (bytes_eq at c) (Some (encoding w_o)) None))
 
-abbrev text_of : Asked → List ℕ
-text_of (to_add path) = line (codes "add " ++ path)
-text_of (to_link path) = line (codes "link " ++ path)
-text_of to_withdraw = line (codes "withdraw")
-text_of _ = []
-
 abbrev session_words : List (List ℕ)
 session_words = codes "session" ∷ []
 
@@ -229,7 +223,7 @@ session_words = codes "session" ∷ []
 abbrev session_of : List LineRun → Run (List ℕ) (List ℕ)
 session_of lines = record {
   words = session_words;
-  script = Some (flat_map text_of (lines_asked lines));
+  script = None;
   disk = files;
   earlier = [];
   events = events_of lines;
@@ -317,7 +311,7 @@ long_ran : RanLines contents contents [] plain (session_of long_lines) long_line
 long_ran = record {
   kept = two;
   chain = (missing_is, (first_is, (second_is, (third_is, (withdraw_is, (link_is, refl))))));
-  lines = refl;
+  lines = tt;
   events = refl;
   answers = refl;
   status = refl;
@@ -327,7 +321,7 @@ short_ran : RanLines contents contents [] plain (session_of short_lines) short_l
 short_ran = record {
   kept = two;
   chain = (missing_is, (first_is, (second_is, (link_is, refl))));
-  lines = refl;
+  lines = tt;
   events = refl;
   answers = refl;
   status = refl;
@@ -337,7 +331,7 @@ no_link_ran : RanLines contents contents [] plain (session_of no_link_lines) no_
 no_link_ran = record {
   kept = four;
   chain = (missing_is, (first_is, (second_is, (third_is, (withdraw_is, (large_is, (no_link_is, refl)))))));
-  lines = refl;
+  lines = tt;
   events = refl;
   answers = refl;
   status = refl;
@@ -349,7 +343,7 @@ answered_of : (runs : List LineRun) → RanLines contents contents [] plain (ses
 answered_of runs h = record {
   kept = h.kept;
   chain = h.chain;
-  lines = ([], ap (λ (g : Given). g.lines) h.lines ∙ sym (append-nil (lines_asked runs)));
+  lines = tt;
   further = [];
   events = sym (append-nil (events_of runs));
   part = [];
@@ -366,6 +360,7 @@ session_asks = record {
 }
 
 long_session : EndsWell contents contents (session_of long_lines)
+unfolding long_ran
 long_session = record {
   performs = (
     Ok 1,
@@ -382,7 +377,7 @@ long_session = record {
           working = λ e. e;
           latched = λ failed. absurd (cc);
         };
-        ends = (refl, refl);
+        ends = (tt, refl);
       }));
     }),
     (refl, refl),
@@ -597,10 +592,10 @@ abbrev refused_lines : List LineRun
 refused_lines = missing_line ∷ nothing_line ∷ []
 
 refused_ran : RanLines contents contents [] plain (session_of refused_lines) refused_lines
-refused_ran = record { kept = none; chain = (missing_is, (nothing_is, refl)); lines = refl; events = refl; answers = refl; status = refl }
+refused_ran = record { kept = none; chain = (missing_is, (nothing_is, refl)); lines = tt; events = refl; answers = refl; status = refl }
 
 silent_ran : RanLines contents contents [] plain (session_of []) []
-silent_ran = record { kept = none; chain = refl; lines = refl; events = refl; answers = refl; status = refl }
+silent_ran = record { kept = none; chain = refl; lines = tt; events = refl; answers = refl; status = refl }
 
 undo_of_refused : ((forced : List (List ℕ)) (o : Choices) (long short : Run (List ℕ) (List ℕ)) (before after others : List LineRun)
     (add withdraw : LineRun) (path : List ℕ) →
@@ -657,7 +652,7 @@ back_ran : RanLines contents contents [] plain (session_of back_lines) back_line
 back_ran = record {
   kept = none;
   chain = (first_is, (back_is, (empty_is, refl)));
-  lines = refl;
+  lines = tt;
   events = refl;
   answers = refl;
   status = refl;
