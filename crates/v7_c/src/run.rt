@@ -3,7 +3,7 @@ ghost use Rattle.std.specs.Prelude.{◌≡◌, ◌<◌, false};
 ghost use Rattle.library_calls.specs.Causes.{number_of, word_of};
 ghost use Rattle.library_calls.specs.FileAnswers.{has_bit};
 ghost use Rattle.library_calls.specs.RunAnswers.{results_of};
-ghost use Rattle.v7_c.specs.RunLeft.{IsAnswer, LeavesRun, answer_left, answered, filled, has_more, has_places, is_answered, is_enough, is_known, is_short, left_in, needs_more, nothing, output_in, output_left, results_or, wanted};
+ghost use Rattle.v7_c.specs.RunLeft.{IsAnswer, LeavesRun, answer_left, answered, filled, has_more, has_places, is_enough, is_known, is_short, left_in, needs_more, nothing, output_in, output_left, results_or, wanted};
 
 use crate::buffers::{NO_ROOM, put};
 use library_calls::{
