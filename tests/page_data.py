@@ -393,7 +393,7 @@ def largest_page(tools, files):
     for more, status in ((1, 0), (2, 2)):
         written(path, b"lesson One\nsay " + b"1" * (room + more) + b"\n")
         done = subprocess.run([tools.lesson, "-p", tools.page, "-q", path, files[0]], capture_output=True, text=True)
-        same(f"a page of {4_999_999 + more} bytes", (done.returncode, len(done.stdout), done.stderr),
+        same(f"a page of {4_999_999 + more} bytes", (done.returncode, len(done.stdout.encode()), done.stderr),
              (status, 0 if status else 5_000_000, "v7-lesson: the page would have more than 5000000 bytes\n" if status else ""))
 
 
@@ -473,15 +473,16 @@ def check_data(tools, questions, files):
     counts(tools, files)
     given, many = program_in_c(files), sixteen_objects()
     same_objects(os.path.dirname(given[0]))
-    for what, held, of in (("the class example", files, questions), ("a program in C", given, os.path.join(os.path.dirname(given[0]), "lessons.txt")),
-                           ("a program", program_files(files), ""), ("sixteen objects", many, "")):
+    of_c = os.path.join(os.path.dirname(given[0]), "lessons.txt")
+    for what, held, of, least in (("the class example", files, questions, (9, 12)), ("a program in C", given, of_c, (2, 6)),
+                                  ("a program", program_files(files), "", ()), ("sixteen objects", many, "", ())):
         path = tools.page_of(held, "data.html", of)
         data, size = states_in(path)
         compare_objects(tools, held, data)
         compare_states(tools, held, data, what)
         print(f"{what}: {len(data['states'])} states, {compared} things so far", flush=True)
         if of:
-            lesson_answers(tools, path, held, LAYOUTS, same)
+            lesson_answers(tools, path, held, LAYOUTS, same, *least)
         if what == "a program in C":
             remarks(tools, path, held, same)
         if what == "sixteen objects":
