@@ -1,5 +1,6 @@
 //! A use of `library_calls`.
 ghost use Rattle.std.specs.Prelude.{◌≡◌, ◌≢◌, [], false, Ok, Err, IfOk, IfErr};
+ghost use Rattle.aout_core.specs.Refusals.{refused};
 ghost use Rattle.library_calls.specs.LinkAnswers.{each_of};
 ghost use Rattle.library_calls.specs.MemoryWanted.{LinkMayRunOut};
 ghost use Rattle.library_calls.specs.RunAnswers.{link_run, results_of};
@@ -13,9 +14,9 @@ pub(crate) fn bare_program(alloc: Global, objects: &[ObjectBytes<'_>]) -> Result
     ensures ok { IfOk result (λ given.
         link_run false 2 [] [] (each_of objects.now) ≡ Ok (results_of given)) }
     ensures err { IfErr result (λ r.
-        r.cause ≢ Memory → link_run false 2 [] [] (each_of objects.now) ≡ Err r) }
+        r.cause ≢ Memory refused → link_run false 2 [] [] (each_of objects.now) ≡ Err r) }
     ensures memory { IfErr result (λ r.
-        r.cause ≡ Memory → LinkMayRunOut 2 [] [] (each_of objects.now) r.place) }
+        r.cause ≡ Memory refused → LinkMayRunOut 2 [] [] (each_of objects.now) r.place) }
 {
     let request = LinkRequest {
         options: 2,
