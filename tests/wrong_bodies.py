@@ -45,6 +45,8 @@ PLACE = re.compile(r"(?:note: )?(?:\./)?((?:src|specs|proofs)/[^:\s]+):(\d+):\d+
 SHAPE = re.compile(r"has no field|is not in scope|has no `|was not admitted|cannot be named from here")
 UNREAD = re.compile(r"is not in scope|has no field|is no name|operand is missing|expected the end|cannot continue")
 CALLED = re.compile(r"`([^`]+)`")
+# a goal that has no answer, and that no search proves
+OPEN = re.compile(r"it is not proved that .*?\(`([^`]+)`\)")
 # the way to a return in the name of its goal, as `then-one-other` in `returns-then-one-other-clause-first`
 WAY = re.compile(r"^returns.*?(?=-clause-|$)")
 # what is between two words of a source, and what has to stay as it is: a text, a character, and a comment after code
@@ -223,9 +225,9 @@ class Answer:
             _, searched, goals = self.verdicts[name].partition("`search` did not prove ")
             found.update(CALLED.findall(goals.split(";")[0]) if searched else [])
         for file, _, text in self.places:
-            named = re.match(r"error: `([^`]*)`: ", text)
-            if named and file.startswith(folders) and not SHAPE.search(text):
-                found.add(named[1])
+            answered = file.startswith(folders) and not SHAPE.search(text)
+            named = re.match(r"error: `([^`]*)`: ", text) if answered else OPEN.match(text)
+            found.update([named[1]] if named else [])
         return {WAY.sub("returns", goal) for goal in found}
 
     def judge(self, edit):
@@ -244,10 +246,10 @@ class Answer:
         else:
             searched = [text for text in self.verdicts.values() if "did not prove" in text]
         shape = [text for text in told if SHAPE.search(text)]
-        telling = [text for text in told if text not in shape]
-        # where an answer is for a goal that is gone, the goal in its place has none
-        if not shape or not edit.function:
-            telling += searched
+        telling = [text for text in told if text not in shape] + searched
+        if shape and edit.function:
+            # an answer is for a goal that is gone, so the goal in its place has none: what tells is an answer that fails
+            telling = [text for text in telling if text.startswith("error: ")]
         return ("refused", telling[0]) if telling else ("shape", (shape or [self.last])[0])
 
     def waits_for(self, function, crate):

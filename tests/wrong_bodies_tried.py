@@ -101,13 +101,19 @@ EDITS = {
     "other_shape": (LIB, "if one < other {", "if other > one {", "refused only for its shape"),
     "other_shape_wrong": (LIB, "if one < other {", "if other < one {", "refused"),
     # a condition that is wider, so the answer is for a goal that is gone
-    "harmless_branch": (LIB, "if first < second {", "if first < second || first == second {", "refused only for its shape"),
-    "wrong_branch": (LIB, "if one < other {", "if one < other || one == 7 {", "refused"),
+    "harmless_branch": (LIB, "if first < second {", "if second == first || first < second {", "refused only for its shape"),
+    "wrong_branch": (LIB, "if one < other {", "if other == 7 || one < other {", "refused"),
     "unreadable": (LIB, "    number < 100", "    number < no_such_name", "the prover cannot read it"),
     "wrong_limit": (LIB, "    number < 100", "    number <= 100", "refused"),
     "unfit": (LIB, "no such text", "another", "it cannot be made"),
 }
 WAITS = "harmless_caller"
+# what the prover says of the harmless branch, where no search proves the goal in place of the one that is gone
+SAID = """fn tried::no_smaller: not proved
+proofs/no_smaller/Answers.antt:5:1: error: `returns-then-first-second`: `Goals` has no `returns-then-first-second` that can be named from here
+src/lib.rt:{line}:9: it is not proved that what the function ensures holds when it returns (`returns-then-second-first`)
+logic=failed
+"""
 # lines that are broken: a file, and the text before and after
 BROKEN = [
     (SUMS, "other = one", "other =\n    one"),
@@ -158,6 +164,10 @@ def faults(trial):
         shown = fault or "refused"
         if bool(fault) != (wanted != "refused") or not shown.startswith(wanted):
             yield f"{edit.name}: it has to be: {wanted}; the script says: {shown}"
+        if edit.name == "harmless_branch":
+            answer = wrong_bodies.Answer("tried", 1, SAID.format(line=edit.function.first))
+            if answer.judge(edit)[0] != "shape" or answer.open_goals(edit.function) != {"returns"}:
+                yield f"{edit.name}: a goal without an answer, in place of one that is gone, tells nothing"
         if edit.name == WAITS and not edit.waited:
             yield f"{edit.name}: it has to wait for another copy, since the function calls one with a wrong body"
 
