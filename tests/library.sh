@@ -221,7 +221,7 @@ run_shown() {
         "$top/docs/LIBRARY.md" >shown.sh
     [ -s shown.sh ] || fail "docs/LIBRARY.md shows no command of $1"
     rm -f page/program
-    (cd page && LIBV7=$library sh -e ../shown.sh) >/dev/null && cmp theirs page/program || fail "docs/LIBRARY.md: the commands of $1"
+    (cd page && LIBV7=$library PYTHONPATH=$top/packaging/python sh -e ../shown.sh) >/dev/null && cmp theirs page/program || fail "docs/LIBRARY.md: the commands of $1"
     echo "docs/LIBRARY.md: the commands of $1"
 }
 if command -v pkg-config >/dev/null; then

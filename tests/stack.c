@@ -151,5 +151,5 @@ int main(void)
     edits[COUNT - 1] = V7_WITHDRAW;
     call_in_thread();
     printf("%u calls, %u with a result\n", calls, results);
-    return calls != 142 || results < 126;
+    return calls != 78 || results < 72;
 }
