@@ -240,7 +240,7 @@ def try_call(programs, call):
 def try_library(programs):
     """Has tests/memory_library.py refuse the requests of libv7: how much is wrong."""
     environment = {**os.environ, "LD_PRELOAD": compiled(), "LIBV7": os.path.join(programs, "libv7.so"),
-                   "PYTHONPATH": os.path.join(TOP, "examples", "python")}
+                   "PYTHONPATH": os.path.join(TOP, "packaging", "python")}
     script = os.path.join(TOP, "tests", "memory_library.py")
     return subprocess.run([sys.executable, script, compiled()], env=environment, check=False).returncode
 

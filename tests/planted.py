@@ -108,7 +108,7 @@ def row_fails(folder, name):
     script, row = name.split(": ")
     path = os.path.join(TOP, "tests", script)
     words = [sys.executable, path, row] if script == "largest_library.py" else [sys.executable, path, folder, row]
-    module = os.path.join(TOP, "examples", "python")
+    module = os.path.join(TOP, "packaging", "python")
     ran = subprocess.run(words, stdout=subprocess.PIPE, stderr=subprocess.STDOUT, check=False,
                          env={**os.environ, "LIBV7": os.path.join(folder, "libv7.so"), "PYTHONPATH": module})
     said = ran.stdout.decode("utf-8", "replace")
