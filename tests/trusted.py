@@ -40,7 +40,7 @@ LIBRARIES = [
     "explanations", "map_texts", "report_objects", "library_calls", "v7_c", "v7_from_gnu", "v7_object", "v7_explain",
 ]
 IMPORT = re.compile(
-    r"^ *(?:pub )?(?:ghost )?use Rattle\.(\w+)\.(specs|proofs)\.([\w.]+?)(?:\.\{([^}]*)\}|(?: as (\w+))?);?$"
+    r"^ *(?:pub )?(?:ghost )?use Rattle\.(\w+)\.(specs|proofs)(?:\.([\w.]+?))?(?:\.\{([^}]*)\}|(?: as (\w+))?);?$"
 )
 faults = []
 
@@ -57,8 +57,9 @@ def imports(text):
         if found and found[1] in LIBRARIES:
             crate, folder, module, names, alias = found.groups()
             for name in (names or alias or module.split(".")[-1]).split(","):
-                own, _, other = name.strip().partition(" as ")
-                yield other or own, (crate, folder, module, own)
+                path, _, other = name.strip().partition(" as ")
+                inner, _, own = path.rpartition(".")
+                yield other or own, (crate, folder, ".".join(part for part in (module, inner) if part), own)
 
 
 def exported(crate):

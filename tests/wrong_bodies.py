@@ -52,8 +52,8 @@ WAY = re.compile(r"^returns.*?(?=-clause-|$)")
 # what is between two words of a source, and what has to stay as it is: a text, a character, and a comment after code
 BETWEEN = re.compile(r"""(?P<blank>\s*\n\s*(?://[^\n]*(?:\n\s*|\Z))*|\s+)
     |\bb?r(?P<marks>\#*)".*?"(?P=marks)|"(?:\\.|[^"\\])*"|'(?:\\.[^'\n]*|[^'\\\n])'|(?://|--)[^\n]*""", re.S | re.X)
-# two imports from one module, of which the first goes on as far as the other's first item
-IMPORTS = re.compile(r"^(((?:pub )?use \S+\.\{)[^}\n]*)\}\n\2", re.M)
+# names that are imported from below one path
+IMPORTS = re.compile(r"^((?:pub )?use \S+\.)\{([^}]*)\}$")
 
 
 class Untold(Exception):
@@ -437,20 +437,22 @@ def on_one_blank(text):
 
 
 def on_one_line(text):
-    """A text of definitions in the layout of `rt fmt`, with each statement and each module's imports on one line. What begins four
-    columns or more to the right of a statement goes on with it there, so a line that is broken says the same."""
-    lines, begun = [], 0
+    """A text of definitions with each statement on one line, and each name that is imported, sorted: the same however imports are put
+    together. What begins four columns or more to the right of a statement goes on with it there, so a line that is broken says the
+    same."""
+    lines, imported, begun = [], [], 0
     for line in filter(str.strip, text.split("\n")):
+        found = IMPORTS.match(line)
+        if found:
+            imported += [found[1] + name.strip() for name in found[2].split(",")]
+            continue
         depth = len(line) - len(line.lstrip())
         if lines and depth >= begun + 4:
             lines[-1] += " " + line.strip()
             continue
         lines.append(line)
         begun = depth
-    joined, more = "\n".join(lines), 1
-    while more:
-        joined, more = IMPORTS.subn(r"\1, ", joined)
-    return joined
+    return "\n".join(sorted(imported) + lines)
 
 
 def digest(crate):

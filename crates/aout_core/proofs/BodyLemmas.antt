@@ -1,20 +1,13 @@
 -- The bytes after a header, cut into the parts of a file.
-use Rattle.std.proofs.Common.{zero, suc, ◌*◌, length-append, take_at, ◌≡◌, ℕ, ◌+◌, ◌/◌, ◌%◌, ◌≤◌, List}
-use Rattle.std.proofs.Common.{[], ◌∷◌, ◌++◌, take, drop, length, refl, sym, ◌∙◌, ap, arith, length-drop}
-use Rattle.std.proofs.Common.{append_assoc, drop-drop, drop_at, ◌&&◌, eqb, eqb-true}
-use Rattle.std.proofs.lemmas.List.{take-append-drop, take-append-le, drop-append-le}
-use Rattle.std.proofs.lemmas.Bool.{and_parts}
+use Rattle.std.proofs.Common.{zero, suc, ◌*◌, length-append, take_at, ◌≡◌, ℕ, ◌+◌, ◌/◌, ◌%◌, ◌≤◌, List, [], ◌∷◌, ◌++◌, take, drop, length}
+use Rattle.std.proofs.Common.{refl, sym, ◌∙◌, ap, arith, length-drop, append_assoc, drop-drop, drop_at, ◌&&◌, eqb, eqb-true}
+use Rattle.std.proofs.{lemmas.List.take-append-drop, lemmas.List.take-append-le, lemmas.List.drop-append-le, lemmas.Bool.and_parts}
 use Rattle.std.specs.Prelude.{IsTrue}
-use Rattle.aout_core.specs.declared.header.Header.{Header}
-use Rattle.aout_core.specs.declared.reloc.Reloc.{Reloc}
-use Rattle.aout_core.specs.Words.{words_in}
 use Rattle.aout_core.specs.Contents.{Contents, has_whole_sizes, with_relocation}
-use Rattle.aout_core.specs.Encoding.{relocation_at, symbols_at, file_length}
 use Rattle.aout_core.specs.Decoding.{part, relocs_in, symbol_in, symbols_in, contents_in}
-use Rattle.aout_core.specs.internal.Rows.{row_in, word_in, reloc_in}
-use Rattle.aout_core.proofs.EncodingLemmas.{with_relocation-add}
-use Rattle.aout_core.proofs.DecodingLemmas.{with_relocation-even}
-use Rattle.aout_core.proofs.EncodesLemmas.{symbols_front}
+use Rattle.aout_core.specs.{declared.header.Header.Header, declared.reloc.Reloc.Reloc, Words.words_in, Encoding.relocation_at}
+use Rattle.aout_core.specs.{Encoding.symbols_at, Encoding.file_length, internal.Rows.row_in, internal.Rows.word_in, internal.Rows.reloc_in}
+use Rattle.aout_core.proofs.{EncodingLemmas.with_relocation-add, DecodingLemmas.with_relocation-even, EncodesLemmas.symbols_front}
 
 -- a part of the whole is a part of the bytes after the header
 after : (start body rest : List ℕ) (from : ℕ) → length start ≡ 16 → from ≤ length body →

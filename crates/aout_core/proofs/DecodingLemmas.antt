@@ -1,17 +1,13 @@
 -- What is read fits, and its encoding is what was read, but for what stood in names after a NUL.
-use Rattle.std.proofs.Common.{◌≡◌, ℕ, zero, suc, ◌+◌, ◌*◌, ◌/◌, ◌%◌, ◌≤◌, Bool, true, false, cond, not}
-use Rattle.std.proofs.Common.{◌&&◌, eqb, List, [], ◌∷◌, drop, length, refl, ap, subst, arith, length-take}
-use Rattle.std.proofs.Common.{length-drop, eqb-true, ltb-false}
+use Rattle.std.proofs.Common.{◌≡◌, ℕ, zero, suc, ◌+◌, ◌*◌, ◌/◌, ◌%◌, ◌≤◌, Bool, true, false, cond, not, ◌&&◌, eqb, List, [], ◌∷◌, drop}
+use Rattle.std.proofs.Common.{length, refl, ap, subst, arith, length-take, length-drop, eqb-true, ltb-false}
+use Rattle.std.proofs.{lemmas.Bool.and_parts, lemmas.List.length-map}
 use Rattle.std.specs.Prelude.{Ok, Err, nat_lt}
-use Rattle.std.proofs.lemmas.Bool.{and_parts}
-use Rattle.std.proofs.lemmas.List.{length-map}
-use Rattle.aout_core.specs.declared.header.Header.{Header}
-use Rattle.aout_core.specs.declared.reloc.Reloc.{Reloc}
 use Rattle.aout_core.specs.declared.file.ReadFault.TheVariants.{ShortHeader, BadMagic, OddSize, Truncated}
-use Rattle.aout_core.specs.Words.{words_in}
 use Rattle.aout_core.specs.Contents.{Contents, is_magic, has_whole_sizes, with_relocation, Fits}
 use Rattle.aout_core.specs.Encoding.{relocation_at, symbols_at, file_length}
 use Rattle.aout_core.specs.Decoding.{part, header_in, relocs_in, symbols_in, contents_in, decode}
+use Rattle.aout_core.specs.{declared.header.Header.Header, declared.reloc.Reloc.Reloc, Words.words_in}
 use Rattle.aout_core.proofs.EncodingLemmas.{with_relocation-add}
 
 -- what `decode` let through: its four tests, and the file

@@ -1,29 +1,23 @@
 -- What is read is what the bytes encode, and the other way round.
-use Rattle.std.proofs.Common.{◌≡◌, ℕ, zero, suc, ◌+◌, ◌-◌, ◌*◌, ◌/◌, ◌%◌, ◌<◌, ◌≤◌, Bool, true, false, cond, eqb}
-use Rattle.std.proofs.Common.{List, [], ◌∷◌, ◌++◌, map, take, drop, replicate, length, Some, refl, sym, ◌∙◌, ap}
-use Rattle.std.proofs.Common.{subst, arith, append_assoc, length-append, length-take, length-drop, drop-drop, drop_at}
-use Rattle.std.proofs.Common.{eqb-true, le-ltb, ◌⊎◌, inl, inr}
-use Rattle.std.specs.Prelude.{slice_get, slice_index, Result, Ok, nat_lt}
-use Rattle.aout_core.specs.declared.file.ReadFault.{ReadFault}
-use Rattle.std.specs.List.{flat_map, AllByRecursion}
-use Rattle.std.proofs.Math.Seq.{take-add}
+use Rattle.std.proofs.Common.{◌≡◌, ℕ, zero, suc, ◌+◌, ◌-◌, ◌*◌, ◌/◌, ◌%◌, ◌<◌, ◌≤◌, Bool, true, false, cond, eqb, List, [], ◌∷◌, ◌++◌, map}
+use Rattle.std.proofs.Common.{take, drop, replicate, length, Some, refl, sym, ◌∙◌, ap, subst, arith, append_assoc, length-append}
+use Rattle.std.proofs.Common.{length-take, length-drop, drop-drop, drop_at, eqb-true, le-ltb, ◌⊎◌, inl, inr}
 use Rattle.std.proofs.lemmas.List.{take-append-drop, take_all, take-append-le, drop-append-le}
-use Rattle.std.proofs.lemmas.Option.{slice_get_within}
-use Rattle.aout_core.specs.declared.header.Header.{Header}
-use Rattle.aout_core.specs.declared.reloc.Reloc.{Reloc}
-use Rattle.aout_core.specs.declared.symbol.Symbol.{Symbol}
-use Rattle.aout_core.specs.Words.{AreBytes, word_bytes, all_word_bytes, words_in}
-use Rattle.aout_core.specs.Names.{before_nul, padded, IsName}
-use Rattle.aout_core.specs.Contents.{Contents, with_relocation, Fits, IsWord, IsSymbol, IsSound}
-use Rattle.aout_core.specs.Encoding.{header_words, header_encoding, reloc_encoding, symbol_encoding, relocation_at}
-use Rattle.aout_core.specs.Encoding.{symbols_at, file_length, encoding}
-use Rattle.aout_core.specs.Encodes.{IsAfterNul, Encodes}
+use Rattle.std.proofs.{Math.Seq.take-add, lemmas.Option.slice_get_within}
+use Rattle.std.specs.Prelude.{slice_get, slice_index, Result, Ok, nat_lt}
+use Rattle.std.specs.List.{flat_map, AllByRecursion}
+use Rattle.aout_core.specs.Encoding.{header_words, header_encoding, reloc_encoding, symbol_encoding, relocation_at, symbols_at, file_length}
+use Rattle.aout_core.specs.Encoding.{encoding}
 use Rattle.aout_core.specs.Decoding.{part, header_of, header_in, relocs_in, symbol_in, symbols_in, contents_in, decode_with, decode}
-use Rattle.aout_core.proofs.AlikeLemmas.{AreAlike, slice_get_front, slice_get_after, alike_front, alike_back}
-use Rattle.aout_core.proofs.AlikeLemmas.{alike_both, alike_more, alike_self, alike_same}
-use Rattle.aout_core.proofs.EncodingLemmas.{decode-encoding, nul_free_head, word_back, with_relocation-add}
-use Rattle.aout_core.proofs.EncodingLemmas.{length-all_word_bytes, length-reloc_encoding, length-header_encoding}
-use Rattle.aout_core.proofs.EncodingLemmas.{length-padded, length-symbol_encoding, length-symbols_encoding}
+use Rattle.aout_core.specs.{declared.file.ReadFault.ReadFault, declared.header.Header.Header, declared.reloc.Reloc.Reloc}
+use Rattle.aout_core.specs.{declared.symbol.Symbol.Symbol, Words.AreBytes, Words.word_bytes, Words.all_word_bytes, Words.words_in}
+use Rattle.aout_core.specs.{Names.before_nul, Names.padded, Names.IsName, Contents.Contents, Contents.with_relocation, Contents.Fits}
+use Rattle.aout_core.specs.{Contents.IsWord, Contents.IsSymbol, Contents.IsSound, Encodes.IsAfterNul, Encodes.Encodes}
+use Rattle.aout_core.proofs.AlikeLemmas.{AreAlike, slice_get_front, slice_get_after, alike_front, alike_back, alike_both, alike_more}
+use Rattle.aout_core.proofs.AlikeLemmas.{alike_self, alike_same}
+use Rattle.aout_core.proofs.EncodingLemmas.{decode-encoding, nul_free_head, word_back, with_relocation-add, length-all_word_bytes}
+use Rattle.aout_core.proofs.EncodingLemmas.{length-reloc_encoding, length-header_encoding, length-padded, length-symbol_encoding}
+use Rattle.aout_core.proofs.EncodingLemmas.{length-symbols_encoding}
 use Rattle.aout_core.proofs.DecodingLemmas.{Passed, decoded_passed, decoded_fits}
 
 bytes_take : (n : ℕ) (bytes : List ℕ) → AreBytes bytes → AreBytes (take n bytes)

@@ -1,18 +1,13 @@
 -- What is encoded is read.
-use Rattle.std.proofs.Common.{◌≡◌, ℕ, zero, suc, ◌+◌, ◌*◌, ◌/◌, ◌%◌, ◌≤◌, Bool, true, false, cond, eqb, List, [], ◌∷◌}
-use Rattle.std.proofs.Common.{◌++◌, take, drop, replicate, length, refl, sym, ◌∙◌, ap, subst, arith, append_assoc}
-use Rattle.std.proofs.Common.{length-append, length-take, take_at, drop_at, le-ltb}
-use Rattle.std.specs.Prelude.{Result, Ok, nat_lt}
-use Rattle.std.specs.List.{flat_map, AllByRecursion}
-use Rattle.aout_core.specs.declared.header.Header.{Header}
-use Rattle.aout_core.specs.declared.reloc.Reloc.{Reloc}
-use Rattle.aout_core.specs.declared.symbol.Symbol.{Symbol}
-use Rattle.aout_core.specs.declared.file.ReadFault.{ReadFault}
-use Rattle.aout_core.specs.Words.{word_bytes, all_word_bytes, words_in}
-use Rattle.aout_core.specs.Names.{before_nul, padded, IsName}
-use Rattle.aout_core.specs.Contents.{Contents, with_relocation, IsSymbol, IsSound}
+use Rattle.std.proofs.Common.{◌≡◌, ℕ, zero, suc, ◌+◌, ◌*◌, ◌/◌, ◌%◌, ◌≤◌, Bool, true, false, cond, eqb, List, [], ◌∷◌, ◌++◌, take, drop}
+use Rattle.std.proofs.Common.{replicate, length, refl, sym, ◌∙◌, ap, subst, arith, append_assoc, length-append, length-take, take_at}
+use Rattle.std.proofs.Common.{drop_at, le-ltb}
+use Rattle.std.specs.{Prelude.Result, Prelude.Ok, Prelude.nat_lt, List.flat_map, List.AllByRecursion}
 use Rattle.aout_core.specs.Encoding.{header_encoding, reloc_encoding, symbol_encoding, file_length, encoding}
 use Rattle.aout_core.specs.Decoding.{part, header_in, relocs_in, symbol_in, symbols_in, contents_in, decode_with, decode}
+use Rattle.aout_core.specs.{declared.header.Header.Header, declared.reloc.Reloc.Reloc, declared.symbol.Symbol.Symbol}
+use Rattle.aout_core.specs.{declared.file.ReadFault.ReadFault, Words.word_bytes, Words.all_word_bytes, Words.words_in, Names.before_nul}
+use Rattle.aout_core.specs.{Names.padded, Names.IsName, Contents.Contents, Contents.with_relocation, Contents.IsSymbol, Contents.IsSound}
 
 -- the two bytes of a word give the word
 pub word_back : (w : ℕ) → w % 256 + 256 * (w / 256) ≡ w

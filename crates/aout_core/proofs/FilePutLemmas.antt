@@ -1,11 +1,8 @@
 -- The parts of a file written in their order, and where a write breaks off.
 use Rattle.std.proofs.Common.{◌≡◌, ℕ, List, ◌++◌, Option, sym, ◌∙◌, ap, subst, append_assoc}
 use Rattle.std.specs.List.{flat_map}
-use Rattle.aout_core.specs.Words.{all_word_bytes}
-use Rattle.aout_core.specs.Contents.{Contents}
 use Rattle.aout_core.specs.Encoding.{header_encoding, reloc_encoding, symbol_encoding, encoding}
-use Rattle.aout_core.specs.Wires.{AppendsPrefix}
-use Rattle.aout_core.specs.internal.Blocks.{AppendsBut}
+use Rattle.aout_core.specs.{Words.all_word_bytes, Contents.Contents, Wires.AppendsPrefix, internal.Blocks.AppendsBut}
 use Rattle.aout_core.proofs.OutgoingLemmas.{appends_but_more, broke_before, broke_more}
 
 -- text and data, and their relocation

@@ -1,18 +1,14 @@
 -- What was read in blocks, and what was taken of it.
-use Rattle.std.proofs.Common.{◌≡◌, ℕ, zero, suc, ◌+◌, ◌-◌, ◌*◌, ◌∷◌, ◌<◌, ◌≤◌, min, List, [], ◌++◌, length, take, drop}
-use Rattle.std.proofs.Common.{Option, Some, None, sym, ◌∙◌, ap, subst, arith, append_assoc, append-nil, length-append}
-use Rattle.std.proofs.Common.{length-drop, take_at, drop_at, take_all, take-append-drop, suc-add, zero-add}
-use Rattle.std.proofs.lemmas.List.{drop_all, take-append-le, drop-append-le}
-use Rattle.std.specs.Io.KnownBytes.{Consumes, prepend_known}
-use Rattle.std.proofs.KnownBytes.{Consumes-trans}
-use Rattle.aout_core.specs.declared.file.ReadFault.{ReadFault}
+use Rattle.std.proofs.Common.{◌≡◌, ℕ, zero, suc, ◌+◌, ◌-◌, ◌*◌, ◌∷◌, ◌<◌, ◌≤◌, min, List, [], ◌++◌, length, take, drop, Option, Some, None}
+use Rattle.std.proofs.Common.{sym, ◌∙◌, ap, subst, arith, append_assoc, append-nil, length-append, length-drop, take_at, drop_at, take_all}
+use Rattle.std.proofs.Common.{take-append-drop, suc-add, zero-add}
+use Rattle.std.proofs.{lemmas.List.drop_all, lemmas.List.take-append-le, lemmas.List.drop-append-le, KnownBytes.Consumes-trans}
+use Rattle.std.specs.{Io.KnownBytes.Consumes, Io.KnownBytes.prepend_known, Prelude.Err}
 use Rattle.aout_core.specs.declared.file.ReadFault.TheVariants.{ShortHeader, BadMagic, OddSize, Memory, Truncated, Device}
-use Rattle.std.specs.Prelude.{Err}
-use Rattle.aout_core.specs.declared.header.Header.{Header}
-use Rattle.aout_core.specs.Encoding.{file_length}
 use Rattle.aout_core.specs.internal.ReadParts.{EndsEarly, IsBodyRead}
 use Rattle.aout_core.specs.internal.Blocks.{Awaited, awaited, EndsBefore, Refills, Takes}
 use Rattle.aout_core.specs.internal.Rows.{row_in, TakesItem, TakesRow}
+use Rattle.aout_core.specs.{declared.file.ReadFault.ReadFault, declared.header.Header.Header, Encoding.file_length}
 
 -- bytes taken from those that waited
 pub taken_waiting : (a : Option (List ℕ)) (waiting out rest : List ℕ) → waiting ≡ out ++ rest →

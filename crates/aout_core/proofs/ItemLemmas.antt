@@ -1,16 +1,12 @@
 -- Items in a row, several of which are taken from a block or put into one.
-use Rattle.std.proofs.Common.{◌≡◌, ℕ, zero, suc, ◌+◌, ◌*◌, ◌∷◌, ◌<◌, ◌≤◌, List, [], ◌++◌, length, take, drop, Option}
-use Rattle.std.proofs.Common.{sym, ◌∙◌, ap, subst, arith, append_assoc, append-nil, length-append, length-take-le}
-use Rattle.std.proofs.Common.{length-drop, take-append-drop, suc-add, zero-add, add-zero}
+use Rattle.std.proofs.Common.{◌≡◌, ℕ, zero, suc, ◌+◌, ◌*◌, ◌∷◌, ◌<◌, ◌≤◌, List, [], ◌++◌, length, take, drop, Option, sym, ◌∙◌, ap, subst}
+use Rattle.std.proofs.Common.{arith, append_assoc, append-nil, length-append, length-take-le, length-drop, take-append-drop, suc-add}
+use Rattle.std.proofs.Common.{zero-add, add-zero}
 use Rattle.std.proofs.lemmas.List.{take-append-le, drop-append-le}
-use Rattle.std.proofs.lemmas.Grind.{flat_map-append}
-use Rattle.std.specs.List.{flat_map}
-use Rattle.std.specs.Io.KnownBytes.{prepend_known}
-use Rattle.std.proofs.KnownBytes.{Consumes-nil}
-use Rattle.std.proofs.Math.Nat.{mul-le-mul_left}
-use Rattle.aout_core.specs.Wires.{AppendsPrefix}
+use Rattle.std.proofs.{lemmas.Grind.flat_map-append, KnownBytes.Consumes-nil, Math.Nat.mul-le-mul_left}
+use Rattle.std.specs.{List.flat_map, Io.KnownBytes.prepend_known}
 use Rattle.aout_core.specs.internal.Blocks.{AppendsBut, Awaited, awaited}
-use Rattle.aout_core.specs.internal.Rows.{row_in, TakesRow}
+use Rattle.aout_core.specs.{Wires.AppendsPrefix, internal.Rows.row_in, internal.Rows.TakesRow}
 use Rattle.aout_core.proofs.IncomingLemmas.{taken_waiting, takes_more}
 use Rattle.aout_core.proofs.OutgoingLemmas.{appends_but_more, broke_before, broke_more}
 

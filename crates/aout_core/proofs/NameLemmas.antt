@@ -1,13 +1,10 @@
 -- The bytes before the first NUL, by the place of that NUL.
-use Rattle.std.proofs.Common.{◌≡◌, ◌==◌, ◌+◌, ◌-◌, ◌≤◌, min, ℕ, Bool, true, false, List, [], ◌∷◌, ◌++◌}
-use Rattle.std.proofs.Common.{length, take, drop, replicate, cond, refl, sym, ap, ◌∙◌, arith, if◌then◌else◌}
-use Rattle.std.proofs.Common.{zero, suc, nat_lt, ltb, Some, None}
-use Rattle.std.proofs.lemmas.Bool.{ltb-false}
+use Rattle.std.proofs.Common.{◌≡◌, ◌==◌, ◌+◌, ◌-◌, ◌≤◌, min, ℕ, Bool, true, false, List, [], ◌∷◌, ◌++◌, length, take, drop, replicate, cond}
+use Rattle.std.proofs.Common.{refl, sym, ap, ◌∙◌, arith, if◌then◌else◌, zero, suc, nat_lt, ltb, Some, None}
 use Rattle.std.proofs.lemmas.List.{take_all, drop-replicate, take_min, take-replicate}
-use Rattle.std.proofs.Math.Seq.{take-append-add}
-use Rattle.std.specs.List.{position, position_or_len}
-use Rattle.std.proofs.lemmas.List.Recursion.{is_position_or_len}
 use Rattle.std.proofs.lemmas.List.Sums.{prefix_len-le-length}
+use Rattle.std.proofs.{lemmas.Bool.ltb-false, Math.Seq.take-append-add, lemmas.List.Recursion.is_position_or_len}
+use Rattle.std.specs.List.{position, position_or_len}
 use lib.Lanes.{sel_l, zip2}
 use Rattle.aout_core.specs.Names.{before_nul, padded}
 

@@ -1,17 +1,14 @@
 -- A header and the bytes after it, put together again.
-use Rattle.std.proofs.Common.{◌≡◌, ℕ, ◌+◌, ◌<◌, ◌≤◌, true, false, List, [], ◌++◌, take, drop, length, replicate, Option}
-use Rattle.std.proofs.Common.{Some, None, IfSome, refl, sym, ◌∙◌, ap, subst, arith, append_assoc, append-nil}
-use Rattle.std.proofs.Common.{length-append, take_at, drop_at, take_all, le-ltb, lt-ltb}
+use Rattle.std.proofs.Common.{◌≡◌, ℕ, ◌+◌, ◌<◌, ◌≤◌, true, false, List, [], ◌++◌, take, drop, length, replicate, Option, Some, None, IfSome}
+use Rattle.std.proofs.Common.{refl, sym, ◌∙◌, ap, subst, arith, append_assoc, append-nil, length-append, take_at, drop_at, take_all, le-ltb}
+use Rattle.std.proofs.Common.{lt-ltb}
 use Rattle.std.specs.Prelude.{Result, Ok, Err, nat_lt}
-use Rattle.aout_core.specs.declared.header.Header.{Header}
-use Rattle.aout_core.specs.declared.file.ReadFault.{ReadFault}
 use Rattle.aout_core.specs.declared.file.ReadFault.TheVariants.{ShortHeader, BadMagic, OddSize, Memory, Truncated, Device}
-use Rattle.aout_core.specs.Words.{words_in}
 use Rattle.aout_core.specs.Contents.{Contents, is_magic, has_whole_sizes, Fits}
-use Rattle.aout_core.specs.Encoding.{file_length}
 use Rattle.aout_core.specs.Decoding.{header_of, header_in, contents_in, decode_with, decode}
 use Rattle.aout_core.specs.Reading.{IsFileHeader, HasHeader, IsReadOf, LeavesAfter}
 use Rattle.aout_core.specs.internal.ReadParts.{TakesHeader, TakesBody, EndsEarly, IsHeaderRead, IsBodyRead}
+use Rattle.aout_core.specs.{declared.header.Header.Header, declared.file.ReadFault.ReadFault, Words.words_in, Encoding.file_length}
 use Rattle.aout_core.proofs.DecodingLemmas.{contents_in_fits}
 
 -- what is made of a whole body fits

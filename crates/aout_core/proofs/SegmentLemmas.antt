@@ -1,9 +1,8 @@
 -- The segment with a number.
 use Rattle.std.proofs.Common.{ℕ, zero, suc, Bool, true, false, eqb, sym, subst, arith}
 use Rattle.std.proofs.lemmas.Bool.{ne_eqb}
-use Rattle.aout_core.specs.declared.symbol.Segment.{Segment}
 use Rattle.aout_core.specs.declared.symbol.Segment.TheVariants.{Undefined, Absolute, TextSeg, DataSeg, BssSeg, Other}
-use Rattle.aout_core.specs.WellFormed.{segment_numbered}
+use Rattle.aout_core.specs.{declared.symbol.Segment.Segment, WellFormed.segment_numbered}
 
 -- what holds of each segment holds of the one with a number, where 0 alone is the number of no definition
 pub by_number : (P : Bool → Segment → Type 0) → P true Undefined → P false Absolute → P false TextSeg →

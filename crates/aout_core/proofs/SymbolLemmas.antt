@@ -1,15 +1,11 @@
 -- An entry by its twelve bytes.
 use borrow.Rule.Slice.PartMut.{put_mid}
 use Rattle.std.proofs.lemmas.List.{drop_all}
-use Rattle.std.proofs.Common.{◌≡◌, ℕ, ◌+◌, ◌*◌, ◌≤◌, List, [], ◌∷◌, ◌++◌, length, take, drop, slice_index_or}
-use Rattle.std.proofs.Common.{refl, sym, ap, ◌∙◌, arith, append_assoc, append-nil, length-append, length-drop}
-use Rattle.std.proofs.Common.{length-take, take_all, take_at, drop_at}
+use Rattle.std.proofs.Common.{◌≡◌, ℕ, ◌+◌, ◌*◌, ◌≤◌, List, [], ◌∷◌, ◌++◌, length, take, drop, slice_index_or, refl, sym, ap, ◌∙◌, arith}
+use Rattle.std.proofs.Common.{append_assoc, append-nil, length-append, length-drop, length-take, take_all, take_at, drop_at}
 use Rattle.std.specs.Prelude.{slice_index}
 use Rattle.byteorder.specs.Endian.{little_number}
-use Rattle.aout_core.specs.declared.symbol.Symbol.{Symbol}
-use Rattle.aout_core.specs.Words.{words_in}
-use Rattle.aout_core.specs.Names.{before_nul}
-use Rattle.aout_core.specs.Decoding.{part, symbol_in}
+use Rattle.aout_core.specs.{declared.symbol.Symbol.Symbol, Words.words_in, Names.before_nul, Decoding.part, Decoding.symbol_in}
 use Rattle.aout_core.proofs.NameLemmas.{length-before_nul-le}
 
 two_words : (bytes : List ℕ) → length bytes ≡ 12 →

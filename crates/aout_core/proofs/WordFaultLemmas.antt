@@ -1,10 +1,8 @@
 -- Words that need no symbol, and the first bad word of two lists, one after the other.
 use Rattle.std.proofs.Common.{◌≡◌, ℕ, zero, suc, ◌+◌, ◌/◌, ◌%◌, ◌<◌, List, [], ◌∷◌, ◌++◌, length, Option, Some, None, refl, ◌∙◌, ap, arith}
-use Rattle.aout_core.specs.declared.reloc.Reloc.{Reloc}
-use Rattle.aout_core.specs.declared.symbol.Symbol.{Symbol}
-use Rattle.aout_core.specs.declared.object.ObjectFault.{ObjectFault}
-use Rattle.aout_core.specs.Contents.{Contents}
 use Rattle.aout_core.specs.WellFormed.{first_of, kind_numbered, kind_fault, word_fault, first_bad_word, first_object_fault}
+use Rattle.aout_core.specs.{declared.reloc.Reloc.Reloc, declared.symbol.Symbol.Symbol, declared.object.ObjectFault.ObjectFault}
+use Rattle.aout_core.specs.{Contents.Contents}
 
 no_kind_fault : (symbols : List Symbol) (i k number : ℕ) → k < 4 → None ≡ kind_fault symbols i (kind_numbered k) number
 no_kind_fault symbols i zero number h = refl

@@ -1,8 +1,6 @@
 -- Words as `byteorder` reads and writes them.
-use Rattle.std.specs.Int.{w16}
+use Rattle.std.specs.{Int.w16, Prelude.slice_index, List.flat_map}
 use Rattle.std.proofs.Common.{Fits, ◌≡◌, ℕ, suc, ◌+◌, ◌*◌, ◌/◌, ◌%◌, ◌<◌, List, [], ◌∷◌, ◌++◌, length, drop, refl, ◌∙◌, ap, arith}
-use Rattle.std.specs.Prelude.{slice_index}
-use Rattle.std.specs.List.{flat_map}
 use Rattle.byteorder.specs.Endian.{little_bytes, little_number, IsRead}
 use Rattle.aout_core.specs.Words.{word_bytes, words_in, all_word_bytes}
 

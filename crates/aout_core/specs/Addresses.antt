@@ -4,10 +4,7 @@
 -- piece that the PDP-11 maps. With split spaces text and data both begin at 0. A word that is relative to the pc has the distance
 -- from the address after the word.
 use Rattle.std.specs.Prelude.{ℕ, ◌+◌, ◌*◌, ◌/◌, eqb, if◌then◌else◌}
-use Rattle.aout_core.specs.declared.header.Header.{Header}
-use Rattle.aout_core.specs.declared.reloc.Reloc.{Reloc}
-use Rattle.aout_core.specs.Words.{plus}
-use Rattle.aout_core.specs.WellFormed.{is_pc_relative}
+use Rattle.aout_core.specs.{declared.header.Header.Header, declared.reloc.Reloc.Reloc, Words.plus, WellFormed.is_pc_relative}
 
 -- the next multiple of 020000
 abbrev pub next_boundary : ℕ → ℕ

@@ -2,17 +2,13 @@
 --
 -- The first 16 bytes are the header. If its magic and its sizes may be in a file, the lists are taken from the bytes after it, each
 -- from its place and as long as the header announces. What follows the last symbol is not part of the file.
-use Rattle.std.specs.Prelude.{ℕ, zero, suc, ◌+◌, ◌/◌, not, if◌then◌else◌, nat_lt, List, [], ◌∷◌, map}
-use Rattle.std.specs.Prelude.{take, drop, length, slice_index, Result, Ok, Err}
-use Rattle.aout_core.specs.declared.header.Header.{Header}
-use Rattle.aout_core.specs.declared.reloc.Reloc.{Reloc}
-use Rattle.aout_core.specs.declared.symbol.Symbol.{Symbol}
-use Rattle.aout_core.specs.declared.file.ReadFault.{ReadFault}
+use Rattle.std.specs.Prelude.{ℕ, zero, suc, ◌+◌, ◌/◌, not, if◌then◌else◌, nat_lt, List, [], ◌∷◌, map, take, drop, length, slice_index}
+use Rattle.std.specs.Prelude.{Result, Ok, Err}
 use Rattle.aout_core.specs.declared.file.ReadFault.TheVariants.{ShortHeader, BadMagic, OddSize, Truncated}
-use Rattle.aout_core.specs.Words.{words_in}
-use Rattle.aout_core.specs.Names.{before_nul}
 use Rattle.aout_core.specs.Contents.{Contents, is_magic, has_whole_sizes, with_relocation}
 use Rattle.aout_core.specs.Encoding.{relocation_at, symbols_at, file_length}
+use Rattle.aout_core.specs.{declared.header.Header.Header, declared.reloc.Reloc.Reloc, declared.symbol.Symbol.Symbol}
+use Rattle.aout_core.specs.{declared.file.ReadFault.ReadFault, Words.words_in, Names.before_nul}
 
 -- size bytes from a place on
 abbrev pub part : ℕ → ℕ → List ℕ → List ℕ

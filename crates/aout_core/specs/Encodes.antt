@@ -3,8 +3,7 @@
 -- Reading ignores what is in a name after a NUL, so the same file may be read from bytes other than `encoding` has for it.
 -- In every other place they are the same.
 use Rattle.std.specs.Prelude.{◌≡◌, ◌⊎◌, ℕ, ◌+◌, ◌*◌, ◌<◌, ◌≤◌, List, length, Some, slice_get}
-use Rattle.aout_core.specs.Contents.{Contents}
-use Rattle.aout_core.specs.Encoding.{symbols_at, encoding}
+use Rattle.aout_core.specs.{Contents.Contents, Encoding.symbols_at, Encoding.encoding}
 
 -- the place is one of the eight bytes of the name of the symbol numbered `entry`, and after a NUL among them; the symbols
 -- begin at `table`

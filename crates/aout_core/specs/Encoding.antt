@@ -2,14 +2,9 @@
 --
 -- The parts come one after another: 16 bytes of header, text, data, the relocation of text, that of data, and 12 bytes for each
 -- symbol. Each word is written low byte first, and each name with NULs up to its eighth byte, so a file has one encoding.
-use Rattle.std.specs.Prelude.{ℕ, ◌+◌, List, [], ◌∷◌, ◌++◌}
-use Rattle.std.specs.List.{flat_map}
-use Rattle.aout_core.specs.declared.header.Header.{Header}
-use Rattle.aout_core.specs.declared.reloc.Reloc.{Reloc}
-use Rattle.aout_core.specs.declared.symbol.Symbol.{Symbol}
-use Rattle.aout_core.specs.Words.{word_bytes, all_word_bytes}
-use Rattle.aout_core.specs.Names.{padded}
-use Rattle.aout_core.specs.Contents.{Contents, with_relocation}
+use Rattle.std.specs.{Prelude.ℕ, Prelude.◌+◌, Prelude.List, Prelude.[], Prelude.◌∷◌, Prelude.◌++◌, List.flat_map}
+use Rattle.aout_core.specs.{declared.header.Header.Header, declared.reloc.Reloc.Reloc, declared.symbol.Symbol.Symbol, Words.word_bytes}
+use Rattle.aout_core.specs.{Words.all_word_bytes, Names.padded, Contents.Contents, Contents.with_relocation}
 
 abbrev pub header_words : Header → List ℕ
 header_words h = h.magic ∷ h.text_size ∷ h.data_size ∷ h.bss_size ∷ h.symbol_size ∷ h.entry_point ∷ h.unused ∷ h.flag ∷ []

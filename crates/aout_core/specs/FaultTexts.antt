@@ -1,9 +1,8 @@
 -- What is said of a file that is refused. (own choice)
 use Rattle.std.specs.Prelude.{ℕ, List, [], ◌++◌, codes, decimal, Option, Some, None}
-use Rattle.aout_core.specs.declared.file.ReadFault.{ReadFault}
-use Rattle.aout_core.specs.declared.file.ReadFault.TheVariants as reads
-use Rattle.aout_core.specs.declared.object.ObjectFault.{ObjectFault}
 use Rattle.aout_core.specs.declared.object.ObjectFault.TheVariants.{NotAnObject, NoRelocation, BadRelocation, BadSymbolNumber}
+use Rattle.aout_core.specs.{declared.file.ReadFault.ReadFault, declared.object.ObjectFault.ObjectFault}
+use Rattle.aout_core.specs.declared.file.ReadFault.TheVariants as reads
 
 abbrev pub read_text : ReadFault → List ℕ
 read_text reads.ShortHeader = codes "short header"

@@ -2,11 +2,8 @@
 --
 -- What was written is read back, whatever follows it. What is read is what the bytes encode. Bytes encode one file at most.
 use Rattle.std.specs.Prelude.{◌≡◌, ℕ, List, ◌++◌, take, Ok}
-use Rattle.aout_core.specs.Words.{AreBytes}
-use Rattle.aout_core.specs.Contents.{Contents, IsSound}
 use Rattle.aout_core.specs.Encoding.{file_length, encoding}
-use Rattle.aout_core.specs.Decoding.{decode}
-use Rattle.aout_core.specs.Encodes.{Encodes}
+use Rattle.aout_core.specs.{Words.AreBytes, Contents.Contents, Contents.IsSound, Decoding.decode, Encodes.Encodes}
 
 -- the encoding of a file, whatever follows it, is read as that file
 abbrev pub EncodingLaw : Type 0

@@ -3,12 +3,10 @@
 -- It returns the file that the bytes begin with, or the first refusal, and takes no byte after the file. Two things do not follow
 -- from the bytes: whether memory runs out for the lists, and whether the device fails.
 use Rattle.std.specs.Prelude.{◌≡◌, ℕ, ◌<◌, ◌≤◌, List, [], drop, length, Option, Some, Result, Ok, Err, IsTrue}
-use Rattle.aout_core.specs.declared.header.Header.{Header}
-use Rattle.aout_core.specs.declared.file.ReadFault.{ReadFault}
 use Rattle.aout_core.specs.declared.file.ReadFault.TheVariants.{ShortHeader, Memory, Truncated, Device}
 use Rattle.aout_core.specs.Contents.{Contents, is_magic, has_whole_sizes}
-use Rattle.aout_core.specs.Encoding.{file_length}
-use Rattle.aout_core.specs.Decoding.{header_in, decode}
+use Rattle.aout_core.specs.{declared.header.Header.Header, declared.file.ReadFault.ReadFault, Encoding.file_length, Decoding.header_in}
+use Rattle.aout_core.specs.{Decoding.decode}
 
 -- nothing is wrong with the magic and the sizes
 pub record IsFileHeader (h : Header) : Type 0 where

@@ -1,19 +1,15 @@
 -- The lines of a script, taken off its bytes one by one.
-use Rattle.std.proofs.Common.{◌≡◌, ◌≢◌, ◌+◌, ◌<◌, ◌≤◌, ℕ, Bool, true, false, cond, if◌then◌else◌, List, [], ◌∷◌}
+use Rattle.std.proofs.Common.{◌≡◌, ◌≢◌, ◌+◌, ◌<◌, ◌≤◌, ℕ, Bool, true, false, cond, if◌then◌else◌, List, [], ◌∷◌, ◌++◌, length, Option, Some}
+use Rattle.std.proofs.Common.{None, Ok, refl, sym, ap, ◌∙◌, ◌↔◌, Err, subst, drop, drop_at, arith, append_assoc, append-nil, length-append}
+use Rattle.std.proofs.{KnownBytes.Consumes-trans, lemmas.Bool.ne_eqb, lemmas.Bool.lt-leb, lemmas.Bool.lt-ltb, lemmas.Bool.le-ltb}
 use Rattle.aout_core.specs.Refusals.{refused}
-use Rattle.std.proofs.Common.{◌++◌, length, Option, Some, None, Ok, refl, sym, ap, ◌∙◌, ◌↔◌, Err, subst, drop, drop_at}
-use Rattle.std.proofs.Common.{arith, append_assoc, append-nil, length-append}
-use Rattle.std.specs.Prelude.{nat_lt, IsSome}
-use Rattle.std.specs.Io.KnownBytes.{Consumes, IsAtEnd}
-use Rattle.std.proofs.KnownBytes.{Consumes-trans}
-use Rattle.std.proofs.lemmas.Bool.{ne_eqb, lt-leb, lt-ltb, le-ltb}
-use Rattle.command_words.specs.declared.lines.Line.{Line}
-use Rattle.command_words.specs.declared.line_reader.Stop.{Stop}
-use Rattle.command_words.specs.declared.line_reader.Stop.TheVariants as stops
+use Rattle.std.specs.{Prelude.nat_lt, Prelude.IsSome, Io.KnownBytes.Consumes, Io.KnownBytes.IsAtEnd}
 use Rattle.command_words.specs.Scripts.{asked, long_line, many_lines, and_given, ends_with_fault, given_after}
-use Rattle.texts.specs.Lines.{lines_in, on_first}
 use Rattle.command_words.specs.ScriptAnswers.{Answer, asked_by, HasLine, HasNone, NamesPath, after_line, WhereKnown, IsNextOf}
 use Rattle.command_words.specs.internal.LineParts.{IsStopOf, IsTakenOf}
+use Rattle.command_words.specs.{declared.lines.Line.Line, declared.line_reader.Stop.Stop}
+use Rattle.texts.specs.Lines.{lines_in, on_first}
+use Rattle.command_words.specs.declared.line_reader.Stop.TheVariants as stops
 
 pub has_none_push : (line : List ℕ) (b : ℕ) → HasNone line → b ≢ 10 → HasNone (line ++ b ∷ [])
 has_none_push [] b h n = (n, tt)

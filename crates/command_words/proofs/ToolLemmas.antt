@@ -1,37 +1,21 @@
 -- What options make of a command, and what is read of the words by it.
-use Rattle.std.proofs.Common.{◌≡◌, ◌<◌, ◌+◌, ℕ, Bool, true, false, cond, drop, get_or, List, [], length}
+use Rattle.std.proofs.Common.{◌≡◌, ◌<◌, ◌+◌, ℕ, Bool, true, false, cond, drop, get_or, List, [], length, filter, map, Option, Some, None}
+use Rattle.std.proofs.Common.{option_map, Result, Ok, Err, refl, sym, ap, ap₂, ◌∙◌, subst, inl, inr}
+use Rattle.std.proofs.{lemmas.Bool.false_from_ne_true, lemmas.List.at_drop_more, lemmas.Slice.Eq.bytes_eq-Decides}
 use Rattle.aout_core.specs.Refusals.{refused}
-use Rattle.std.proofs.Common.{filter, map, Option, Some, None, option_map, Result, Ok, Err, refl}
-use Rattle.std.proofs.Common.{sym, ap, ap₂, ◌∙◌, subst, inl, inr}
-use Rattle.std.specs.Borrow.{Bor}
-use Rattle.std.specs.declared.alloc.Global.{Global}
-use Rattle.std.proofs.lemmas.Bool.{false_from_ne_true}
-use Rattle.std.proofs.lemmas.List.{at_drop_more}
-use Rattle.std.proofs.lemmas.Slice.Eq.{bytes_eq-Decides}
 use Rattle.std.specs.Prelude.{IfErr, IfOk, IsErrAnd, String, bytes_eq, codes, string_bytes}
-use Rattle.clap.specs.Built.{AddsArg, AddsSubcommand}
-use Rattle.clap.specs.Faults.{fault_of, is_simple_and_free}
-use Rattle.clap.specs.Kinds.{HasKind, Kinds}
-use Rattle.clap.specs.Matches.{subcommand_name_of}
+use Rattle.std.specs.{Borrow.Bor, declared.alloc.Global.Global}
 use Rattle.clap.specs.Simple.{App, HasMatchesOf, app_of, is_simple, shape_of, subcommand_of, subcommand_rows_of, with_rule, with_subcommand}
-use Rattle.clap.specs.Values.{kind_of}
-use Rattle.clap.specs.Walk.{Row, Rule, rule_of}
-use Rattle.clap.specs.declared.builder.arg.Arg.{Arg}
-use Rattle.clap.specs.declared.builder.command.Command.{Command}
-use Rattle.clap.specs.declared.error.Error.{Error}
-use Rattle.clap.specs.declared.parser.matches.ArgMatches.{ArgMatches}
-use Rattle.clap.specs.declared.parser.matches.ArgMatches.TheViews.{out-ArgMatches}
-use Rattle.clap.proofs.OnLiterals.{clap_on_literals}
-use Rattle.clap.proofs.SimpleLemmas.{plain_fields}
-use Rattle.command_words.specs.declared.fault.WordsFault.{WordsFault}
-use Rattle.command_words.specs.declared.fault.WordsFault.TheVariants.{Memory}
-use Rattle.command_words.specs.declared.words.Call.{Call}
-use Rattle.command_words.specs.declared.words.TheConstants.{FILE}
+use Rattle.clap.specs.{Built.AddsArg, Built.AddsSubcommand, Faults.fault_of, Faults.is_simple_and_free, Kinds.HasKind, Kinds.Kinds}
+use Rattle.clap.specs.{Matches.subcommand_name_of, Values.kind_of, Walk.Row, Walk.Rule, Walk.rule_of, declared.builder.arg.Arg.Arg}
+use Rattle.clap.specs.{declared.builder.command.Command.Command, declared.error.Error.Error, declared.parser.matches.ArgMatches.ArgMatches}
+use Rattle.clap.specs.{declared.parser.matches.ArgMatches.TheViews.out-ArgMatches}
+use Rattle.clap.proofs.{OnLiterals.clap_on_literals, SimpleLemmas.plain_fields}
 use Rattle.command_words.specs.Calls.{Asks, AsksForNone, IsAsked, fault_of_words, name_of}
-use Rattle.command_words.specs.internal.ToolCalls.{HasNoCall}
-use Rattle.command_words.specs.LinkWords.{values_of}
-use Rattle.command_words.specs.internal.ToolApps.{tool_app, tools_added}
 use Rattle.command_words.specs.Tools.{bare, files_rule, ld_app, nm_app, session_app, v7_app}
+use Rattle.command_words.specs.{declared.fault.WordsFault.WordsFault, declared.fault.WordsFault.TheVariants.Memory}
+use Rattle.command_words.specs.{declared.words.Call.Call, declared.words.TheConstants.FILE, internal.ToolCalls.HasNoCall}
+use Rattle.command_words.specs.{LinkWords.values_of, internal.ToolApps.tool_app, internal.ToolApps.tools_added}
 use Rattle.command_words.proofs.WordsLemmas.{dashes-asked, dashes-bytes, is_dash}
 
 v7_is_simple : is_simple v7_app ≡ true

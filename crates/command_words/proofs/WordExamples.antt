@@ -1,10 +1,8 @@
 -- What the words of a command ask for, computed from the definitions of `clap`.
 use Rattle.std.specs.Prelude.{◌≡◌, ℕ, Bool, true, false, List, [], ◌∷◌, Option, Some, codes, option_map, refl}
-use Rattle.clap.specs.Faults.{fault_of}
-use Rattle.clap.specs.Simple.{subcommand_of}
-use Rattle.clap.specs.Walk.{Row}
-use Rattle.clap.specs.declared.error.kind.ErrorKind.TheVariants.{ArgumentConflict, InvalidSubcommand, InvalidValue}
-use Rattle.clap.specs.declared.error.kind.ErrorKind.TheVariants.{MissingSubcommand, UnknownArgument}
+use Rattle.clap.specs.declared.error.kind.ErrorKind.TheVariants.{ArgumentConflict, InvalidSubcommand, InvalidValue, MissingSubcommand}
+use Rattle.clap.specs.declared.error.kind.ErrorKind.TheVariants.{UnknownArgument}
+use Rattle.clap.specs.{Faults.fault_of, Simple.subcommand_of, Walk.Row}
 use Rattle.clap.proofs.OnLiterals.{clap_on_literals}
 use Rattle.command_words.specs.declared.words.TheConstants.{FILE, OUT, REVERSE, BY_VALUE}
 use Rattle.command_words.specs.declared.link_words.TheConstants.{ENTRY, FORCED, STRIP}

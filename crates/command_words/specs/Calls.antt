@@ -4,19 +4,14 @@
 -- and files are those that `clap` reads from them. Without files nm and size take the program, `a.out`.
 use Rattle.std.specs.Prelude.{◌≡◌, ◌<◌, ℕ, List, [], ◌∷◌, map, filter, length, Ok, Some, bytes_eq, codes, string_bytes, unwrap_or, vec_len}
 use Rattle.aout_core.specs.Refusals.{refused}
-use Rattle.clap.specs.Faults.{fault_of}
-use Rattle.clap.specs.Simple.{subcommand_of}
-use Rattle.clap.specs.Walk.{Row, first_of}
-use Rattle.clap.specs.declared.error.kind.ErrorKind.{ErrorKind}
-use Rattle.clap.specs.declared.error.kind.ErrorKind.TheVariants.{OutOfMemory}
+use Rattle.clap.specs.{Faults.fault_of, Simple.subcommand_of, Walk.Row, Walk.first_of, declared.error.kind.ErrorKind.ErrorKind}
+use Rattle.clap.specs.{declared.error.kind.ErrorKind.TheVariants.OutOfMemory}
 use Rattle.tool_options.specs.declared.nm_options.NmOptions.{NmOptions}
-use Rattle.command_words.specs.declared.fault.WordsFault.{WordsFault}
-use Rattle.command_words.specs.declared.fault.WordsFault.TheVariants as faults
-use Rattle.command_words.specs.declared.words.Call.{Call}
 use Rattle.command_words.specs.declared.words.Call.TheVariants.{Ld, Nm, Size, Strip, Session}
 use Rattle.command_words.specs.declared.words.TheConstants.{FILE, OUT, EXTERNAL, BY_VALUE, EACH_LINE, TABLE_ORDER, REVERSE, UNDEFINED}
 use Rattle.command_words.specs.LinkWords.{AreAllowed, AreForced, forced_asked, is_given, options_asked, values_of}
-use Rattle.command_words.specs.Tools.{v7_app}
+use Rattle.command_words.specs.{declared.fault.WordsFault.WordsFault, declared.words.Call.Call, Tools.v7_app}
+use Rattle.command_words.specs.declared.fault.WordsFault.TheVariants as faults
 
 -- a call has files, but for a session; no option of a link excludes another, and at most 64 different names are forced
 abbrev pub IsWhole : Call → Type 0

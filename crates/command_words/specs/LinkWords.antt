@@ -1,17 +1,14 @@
 -- What the options that ld and session share ask for, by the rows that `clap` read from the arguments. (ld(1))
 --
 -- A row is an option with its values. If options exclude each other, the arguments ask for nothing.
-use Rattle.std.specs.Prelude.{◌≡◌, ◌≤◌, ℕ, Bool, cond, nat_lt, List, [], ◌∷◌, take, length, None}
-use Rattle.std.specs.Prelude.{ok_or, option_map, unwrap_or, Result, Ok, Err}
+use Rattle.std.specs.Prelude.{◌≡◌, ◌≤◌, ℕ, Bool, cond, nat_lt, List, [], ◌∷◌, take, length, None, ok_or, option_map, unwrap_or, Result, Ok}
+use Rattle.std.specs.Prelude.{Err}
 use Rattle.clap.specs.Walk.{Row, all_of, count_of, first_of}
 use Rattle.aout_core.specs.Names.{before_nul}
-use Rattle.tool_options.specs.ForcedNames.{AreDifferent, takes, with_name}
-use Rattle.tool_options.specs.declared.flags.Flags.{Flags}
-use Rattle.tool_options.specs.Choices.{Choices, option_fault}
-use Rattle.tool_options.specs.Flags.{choices_of}
-use Rattle.command_words.specs.declared.fault.WordsFault.{WordsFault}
-use Rattle.command_words.specs.declared.fault.WordsFault.TheVariants.{Usage}
+use Rattle.tool_options.specs.{ForcedNames.AreDifferent, ForcedNames.takes, ForcedNames.with_name, declared.flags.Flags.Flags}
+use Rattle.tool_options.specs.{Choices.Choices, Choices.option_fault, Flags.choices_of}
 use Rattle.command_words.specs.declared.link_words.TheConstants.{RELOCATABLE, STRIP, EXTERNALS, NOT_L, PURE, SPLIT, COMMONS, FORCED, ENTRY}
+use Rattle.command_words.specs.{declared.fault.WordsFault.WordsFault, declared.fault.WordsFault.TheVariants.Usage}
 
 -- whether a flag was given, once or more
 abbrev pub is_given : List Row → List ℕ → Bool

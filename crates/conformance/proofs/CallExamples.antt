@@ -1,11 +1,9 @@
 -- System calls with their arguments, and text that a decoder takes for something else.
 use Rattle.std.proofs.Common.{◌≡◌, ◌∷◌, [], refl}
-use Rattle.std.specs.Prelude.{codes}
-use Rattle.std.specs.Fmt.{digits}
+use Rattle.std.specs.{Prelude.codes, Fmt.digits}
 use Rattle.texts.specs.Numbers.{six_digits}
-use Rattle.instructions.specs.declared.unix.Decoder.TheVariants.{Pdp11, Unix}
-use Rattle.instructions.specs.Rows.{begins, row_of}
 use Rattle.instructions.specs.UnixLines.{call_of, unix_line_at, unix_text}
+use Rattle.instructions.specs.{declared.unix.Decoder.TheVariants.Pdp11, declared.unix.Decoder.TheVariants.Unix, Rows.begins, Rows.row_of}
 
 write : unix_text 0 (unix_line_at Unix (0o104404 ∷ 0o24 ∷ 0o12 ∷ []) 0) (0o24 ∷ 0o12 ∷ []) ≡ codes "sys write; 000024; 000012"
 unfolding call_of six_digits

@@ -1,35 +1,23 @@
 -- The clauses of the relation of linking as tests, where what they speak of is written out.
-use Rattle.std.proofs.Common.{◌≡◌, ◌≢◌, ℕ, zero, suc, ◌+◌, ◌*◌, ◌<◌, ◌≤◌, Bool, true, false, cond, not}
-use Rattle.std.proofs.Common.{◌&&◌, List, [], ◌∷◌, ◌++◌, length, Option, Some, None, refl, sym, ◌∙◌}
-use Rattle.std.proofs.Common.{ap, subst, arith, inr, eqb-true, eq-eqb}
+use Rattle.std.proofs.Common.{◌≡◌, ◌≢◌, ℕ, zero, suc, ◌+◌, ◌*◌, ◌<◌, ◌≤◌, Bool, true, false, cond, not, ◌&&◌, List, [], ◌∷◌, ◌++◌, length}
+use Rattle.std.proofs.Common.{Option, Some, None, refl, sym, ◌∙◌, ap, subst, arith, inr, eqb-true, eq-eqb}
+use Rattle.std.proofs.{lemmas.Bool.and_parts, lemmas.Bool.ltb-false, lemmas.Bool.ltb-true, lemmas.Slice.Eq.bytes_eq-Decides}
 use Rattle.std.specs.Prelude.{eqb, nat_lt, is_none, slice_get, Ok, bytes_eq}
-use Rattle.std.proofs.lemmas.Bool.{and_parts, ltb-false, ltb-true}
-use Rattle.aout_core.specs.declared.symbol.Symbol.{Symbol}
-use Rattle.aout_core.specs.declared.symbol.Segment.{Segment}
 use Rattle.aout_core.specs.declared.symbol.Segment.TheVariants.{TextSeg, DataSeg, BssSeg}
-use Rattle.aout_core.specs.declared.reloc.Reloc.{Reloc}
-use Rattle.std.proofs.lemmas.Slice.Eq.{bytes_eq-Decides}
 use Rattle.aout_core.specs.Contents.{Contents, is_magic, has_whole_sizes, with_relocation}
-use Rattle.aout_core.specs.WellFormed.{IsWellFormed}
-use Rattle.link_session.specs.declared.state.State.TheVariants.{Defined, Wanted}
-use Rattle.link_session.specs.Sessions.{IsObject}
-use Rattle.link_session.specs.Starts.{total}
-use Rattle.link_session.specs.Mentions.{Mention}
+use Rattle.aout_core.specs.{declared.symbol.Symbol.Symbol, declared.symbol.Segment.Segment, declared.reloc.Reloc.Reloc}
+use Rattle.aout_core.specs.{WellFormed.IsWellFormed, Addresses.data_start_in}
+use Rattle.link_session.specs.{declared.state.State.TheVariants.Defined, declared.state.State.TheVariants.Wanted, Sessions.IsObject}
+use Rattle.link_session.specs.{Starts.total, Mentions.Mention}
 use Rattle.tool_options.specs.Choices.{Choices}
-use Rattle.link_out.specs.Layouts.{magic_of}
-use Rattle.link_laws.specs.relation.NameStates.{IsWanted}
 use Rattle.link_out.specs.ReservedNames.{etext, edata, end_name, reserved_names}
-use Rattle.link_out.specs.Results.{Outcome}
-use Rattle.link_out.specs.function.Link.{link}
-use Rattle.aout_core.specs.Addresses.{data_start_in}
-use Rattle.link_laws.specs.relation.Relocated.{IsRelocated, IsEntry}
-use Rattle.link_laws.specs.relation.LinkedWords.{AreRelocated, IsKept, AreKept}
-use Rattle.link_laws.specs.relation.Reported.{ArePicked, IsOther}
-use Rattle.link_laws.specs.relation.LinkedFrom.{IsLinkedFrom}
-use Rattle.conformance.specs.Clauses.{Clause, text_size, data_size, bss, text_words, data_words, magic, symbol_size}
-use Rattle.conformance.specs.Clauses.{unused, flag, short, few, names, are_rows, table, text, «data», text_relocs}
-use Rattle.conformance.specs.Clauses.{data_relocs, text_kept, data_kept, entry, multiples, reserved, undefined}
-use Rattle.conformance.specs.Clauses.{none, Says, ClausesAreAll}
+use Rattle.link_out.specs.{Layouts.magic_of, Results.Outcome, function.Link.link}
+use Rattle.link_laws.specs.{relation.NameStates.IsWanted, relation.Relocated.IsRelocated, relation.Relocated.IsEntry}
+use Rattle.link_laws.specs.{relation.LinkedWords.AreRelocated, relation.LinkedWords.IsKept, relation.LinkedWords.AreKept}
+use Rattle.link_laws.specs.{relation.Reported.ArePicked, relation.Reported.IsOther, relation.LinkedFrom.IsLinkedFrom}
+use Rattle.conformance.specs.Clauses.{Clause, text_size, data_size, bss, text_words, data_words, magic, symbol_size, unused, flag, short}
+use Rattle.conformance.specs.Clauses.{few, names, are_rows, table, text, «data», text_relocs, data_relocs, text_kept, data_kept, entry}
+use Rattle.conformance.specs.Clauses.{multiples, reserved, undefined, none, Says, ClausesAreAll}
 
 abbrev pub at_most : ℕ → ℕ → Bool
 at_most a b = not (nat_lt b a)

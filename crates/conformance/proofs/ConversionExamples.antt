@@ -1,19 +1,14 @@
 -- Objects in GNU's form, what they become, and objects near these that they do not become.
-use Rattle.std.proofs.Common.{◌≡◌, ℕ, zero, suc, ◌/◌, false, true, List, [], ◌∷◌, Some, None, length}
-use Rattle.std.proofs.Common.{slice_get, refl, sym as back, ap, ◌∙◌, arith}
-use Rattle.std.specs.Prelude.{codes, Ok, Err, slice_index}
-use Rattle.std.specs.List.{AllZip}
-use Rattle.aout_core.specs.declared.reloc.Reloc.{Reloc}
+use Rattle.std.proofs.Common.{◌≡◌, ℕ, zero, suc, ◌/◌, false, true, List, [], ◌∷◌, Some, None, length, slice_get, refl, sym as back, ap, ◌∙◌}
+use Rattle.std.proofs.Common.{arith}
+use Rattle.std.specs.{Prelude.codes, Prelude.Ok, Prelude.Err, Prelude.slice_index, List.AllZip}
 use Rattle.aout_core.specs.declared.reloc.Kind.TheVariants.{Absolute, TextSeg, External}
-use Rattle.aout_core.specs.declared.symbol.Symbol.{Symbol}
-use Rattle.aout_core.specs.Contents.{Contents}
-use Rattle.aout_core.specs.WellFormed.{symbol_number}
-use Rattle.gnu_objects.specs.declared.options.Options.{Options}
-use Rattle.gnu_objects.specs.declared.options.Locals.TheVariants.{KeepAll, KeepNone}
+use Rattle.aout_core.specs.{declared.reloc.Reloc.Reloc, declared.symbol.Symbol.Symbol, Contents.Contents, WellFormed.symbol_number}
 use Rattle.gnu_objects.specs.declared.refusal.Refusal.TheVariants.{AlikeNames, LocalWord}
-use Rattle.gnu_objects.specs.declared.symbols.GnuSymbol.{GnuSymbol}
 use Rattle.gnu_objects.specs.Converted.{converted, converted_symbol}
 use Rattle.gnu_objects.specs.Laws.{gnu_file, RefersAlike, IsSameReference, IsConversion, ConversionLaw}
+use Rattle.gnu_objects.specs.{declared.options.Options.Options, declared.options.Locals.TheVariants.KeepAll}
+use Rattle.gnu_objects.specs.{declared.options.Locals.TheVariants.KeepNone, declared.symbols.GnuSymbol.GnuSymbol}
 use Rattle.conformance.specs.Samples.{sym, object, _f, _g}
 
 abbrev keeping : Options

@@ -1,27 +1,17 @@
 -- Rows that follow from the laws of linking alone: no link is computed here.
 use Rattle.std.proofs.Common.{◌≡◌, ℕ, zero, suc, true, false, List, [], ◌∷◌, ◌++◌, Some, None, refl, sym, ◌∙◌, ap, subst, arith, inl, inr}
-use Rattle.std.specs.Prelude.{Ok, codes, slice_get, bytes_eq}
 use Rattle.std.proofs.lemmas.Slice.Eq.{bytes_eq-Decides}
-use Rattle.aout_core.specs.declared.symbol.Symbol.{Symbol}
-use Rattle.aout_core.specs.declared.symbol.Segment.{Segment}
-use Rattle.aout_core.specs.declared.symbol.Segment.TheVariants.{TextSeg, DataSeg}
-use Rattle.aout_core.specs.declared.reloc.Reloc.{Reloc}
-use Rattle.aout_core.specs.Contents.{Contents}
-use Rattle.link_session.specs.declared.state.State.{State}
-use Rattle.link_session.specs.declared.state.State.TheVariants.{Defined, Wanted}
+use Rattle.std.specs.Prelude.{Ok, codes, slice_get, bytes_eq}
+use Rattle.aout_core.specs.{declared.symbol.Symbol.Symbol, declared.symbol.Segment.Segment, declared.symbol.Segment.TheVariants.TextSeg}
+use Rattle.aout_core.specs.{declared.symbol.Segment.TheVariants.DataSeg, declared.reloc.Reloc.Reloc, Contents.Contents}
+use Rattle.link_session.specs.{declared.state.State.State, declared.state.State.TheVariants.Defined}
+use Rattle.link_session.specs.{declared.state.State.TheVariants.Wanted, Mentions.Mention}
 use Rattle.tool_options.specs.NameLists.{is_among}
-use Rattle.link_session.specs.Mentions.{Mention}
-use Rattle.link_out.specs.declared.linked.LinkFault.TheVariants.{DoesNotFit}
-use Rattle.link_laws.specs.relation.NameStates.{IsFirst, IsWanted}
 use Rattle.link_out.specs.ReservedNames.{etext, edata, end_name}
-use Rattle.link_out.specs.Results.{Outcome}
-use Rattle.link_out.specs.function.Link.{link}
-use Rattle.link_laws.specs.relation.Relocated.{IsRelocated}
-use Rattle.link_laws.specs.relation.LinkedWords.{AreRelocated}
-use Rattle.link_laws.specs.relation.Reported.{IsReported}
-use Rattle.link_laws.specs.relation.LinkedFrom.{IsLinkedFrom, LinkedExactly}
-use Rattle.link_laws.specs.WordsAndNames.{MultiplesDiffer}
-use Rattle.link_laws.specs.relation.Refusals.{RefusedExactly}
+use Rattle.link_out.specs.{declared.linked.LinkFault.TheVariants.DoesNotFit, Results.Outcome, function.Link.link}
+use Rattle.link_laws.specs.{relation.NameStates.IsFirst, relation.NameStates.IsWanted, relation.Relocated.IsRelocated}
+use Rattle.link_laws.specs.{relation.LinkedWords.AreRelocated, relation.Reported.IsReported, relation.LinkedFrom.IsLinkedFrom}
+use Rattle.link_laws.specs.{relation.LinkedFrom.LinkedExactly, WordsAndNames.MultiplesDiffer, relation.Refusals.RefusedExactly}
 use Rattle.conformance.specs.Samples.{sym as entry_of, header, sized, _f, L1, c_o, d_o, d2_o, plain}
 use Rattle.conformance.proofs.LinkExamples.{shown, table_of, CallForward, LargeCommonRefused}
 use Rattle.conformance.proofs.ClauseLemmas.{only_object, only_word, no_word, as_object, at_most_so, less_so, only_wanted}

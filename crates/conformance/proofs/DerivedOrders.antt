@@ -1,24 +1,15 @@
 -- What the law of orders says of `ld`, whose contract is about paths and bytes: derived from the law, without computing a link.
 use Rattle.std.proofs.Common.{◌≡◌, ℕ, ◌+◌, false, List, [], ◌∷◌, ◌++◌, map, Option, Some, None, refl, sym, ◌∙◌, ap, subst, arith}
-use Rattle.std.specs.Prelude.{Result, Ok, Err, sum_by}
-use Rattle.std.specs.List.{AllByRecursion}
-use Rattle.std.specs.List.Sorted.{IsPermutation}
-use Rattle.std.proofs.lemmas.List.Sorted.{IsPermutation-map, sum_by-IsPermutation}
-use Rattle.std.proofs.lemmas.List.Sums.{sum_by-cons}
-use Rattle.aout_core.specs.Contents.{Contents}
-use Rattle.aout_core.specs.Decoding.{decode}
-use Rattle.link_session.specs.declared.entry.AddFault.{AddFault}
-use Rattle.link_session.specs.Labelled.{Labelled, objects}
-use Rattle.link_session.specs.Limits.{refusal}
+use Rattle.std.proofs.{lemmas.List.Sorted.IsPermutation-map, lemmas.List.Sorted.sum_by-IsPermutation, lemmas.List.Sums.sum_by-cons}
+use Rattle.std.specs.{Prelude.Result, Prelude.Ok, Prelude.Err, Prelude.sum_by, List.AllByRecursion, List.Sorted.IsPermutation}
+use Rattle.aout_core.specs.{Contents.Contents, Decoding.decode}
 use Rattle.link_session.specs.Edits.{Answer, added, refused, kept_unless, answer_by, answers_from, survivors_from, survivors}
+use Rattle.link_session.specs.{declared.entry.AddFault.AddFault, Labelled.Labelled, Labelled.objects, Limits.refusal}
 use Rattle.tool_options.specs.Choices.{Choices}
-use Rattle.link_out.specs.declared.linked.LinkFault.{LinkFault}
-use Rattle.link_out.specs.Results.{Outcome}
-use Rattle.link_out.specs.function.Link.{link}
-use Rattle.link_out.specs.Runs.{link_after}
-use Rattle.laws.specs.Orders.{additions, AreAdded, OrderAddsAlike, AreAlike, OrderLinksAlike}
 use Rattle.link_out.specs.Steps.{and_then, refused_as, unless}
 use Rattle.link_out.specs.Inputs.{Cause, Refusal, not_added, not_linked, object_in, kept_with, at_path, with_inputs, linked}
+use Rattle.link_out.specs.{declared.linked.LinkFault.LinkFault, Results.Outcome, function.Link.link, Runs.link_after}
+use Rattle.laws.specs.Orders.{additions, AreAdded, OrderAddsAlike, AreAlike, OrderLinksAlike}
 use Rattle.conformance.specs.Samples.{e_o}
 
 -- a path and the bytes there

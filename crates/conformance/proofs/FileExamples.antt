@@ -1,14 +1,10 @@
 -- Files read, checked and stripped.
 use Rattle.std.specs.Prelude.{◌≡◌, [], ◌∷◌, ◌++◌, map, take, Option, Some, None, Result, Ok, Err, refl}
-use Rattle.aout_core.specs.declared.file.ReadFault.{ReadFault}
 use Rattle.aout_core.specs.declared.file.ReadFault.TheVariants.{ShortHeader, BadMagic, OddSize, Truncated}
 use Rattle.aout_core.specs.declared.object.ObjectFault.TheVariants.{NotAnObject, NoRelocation, BadRelocation, BadSymbolNumber}
-use Rattle.aout_core.specs.Contents.{Contents}
-use Rattle.aout_core.specs.Words.{word_bytes}
 use Rattle.aout_core.specs.Encoding.{encoding, header_encoding, symbol_encoding, file_length}
-use Rattle.aout_core.specs.Decoding.{decode, symbol_in}
-use Rattle.aout_core.specs.WellFormed.{first_object_fault}
-use Rattle.aout_core.specs.Strip.{stripped}
+use Rattle.aout_core.specs.{declared.file.ReadFault.ReadFault, Contents.Contents, Words.word_bytes, Decoding.decode, Decoding.symbol_in}
+use Rattle.aout_core.specs.{WellFormed.first_object_fault, Strip.stripped}
 use Rattle.conformance.specs.Samples.{relocs, sym, header, _f, a_o, b_o, c_o, d_o, i_o, k_o, l_o, q_o, s_o}
 
 abbrev decode_ok : Result Contents ReadFault → Option ReadFault

@@ -1,30 +1,21 @@
 -- The law of frames at an object that is patched, and statements near it that do not hold.
 use Rattle.std.proofs.Common.{◌≡◌, ◌≢◌, ℕ, ◌+◌, ◌*◌, ◌⊎◌, inl, inr, List, [], ◌∷◌, ◌++◌, map, length, Option, Some, None, refl, sym, ◌∙◌}
 use Rattle.std.specs.Prelude.{not, filter, slice_get, codes, Ok, Err}
-use Rattle.std.specs.List.{AllByRecursion}
-use Rattle.std.specs.List.Sorted.{IsPermutation}
-use Rattle.aout_core.specs.declared.symbol.Symbol.{Symbol}
-use Rattle.aout_core.specs.declared.symbol.Segment.{Segment}
+use Rattle.std.specs.{List.AllByRecursion, List.Sorted.IsPermutation}
 use Rattle.aout_core.specs.declared.symbol.Segment.TheVariants.{Undefined, Absolute, TextSeg, DataSeg, BssSeg, Other}
-use Rattle.aout_core.specs.declared.header.Header.{Header}
-use Rattle.aout_core.specs.Contents.{Contents, with_relocation}
-use Rattle.aout_core.specs.Encoding.{relocation_at, symbols_at, encoding}
-use Rattle.aout_core.specs.WellFormed.{is_external}
-use Rattle.link_session.specs.Mentions.{externals_in}
-use Rattle.link_session.specs.Sessions.{IsObject}
-use Rattle.link_session.specs.Starts.{size_of, total}
-use Rattle.link_out.specs.declared.linked.LinkFault.{LinkFault}
-use Rattle.link_out.specs.declared.linked.LinkFault.TheVariants.{SymbolNumber}
-use Rattle.tool_options.specs.declared.options.Keep.TheVariants.{NotL, Nothing}
-use Rattle.tool_options.specs.Choices.{Choices}
+use Rattle.aout_core.specs.{declared.symbol.Symbol.Symbol, declared.symbol.Segment.Segment, declared.header.Header.Header}
+use Rattle.aout_core.specs.{Contents.Contents, Contents.with_relocation, Encoding.relocation_at, Encoding.symbols_at, Encoding.encoding}
+use Rattle.aout_core.specs.{WellFormed.is_external}
+use Rattle.link_session.specs.{Mentions.externals_in, Sessions.IsObject, Starts.size_of, Starts.total}
 use Rattle.link_out.specs.Results.{ReportNames, Outcome}
+use Rattle.link_out.specs.{declared.linked.LinkFault.LinkFault, declared.linked.LinkFault.TheVariants.SymbolNumber, function.Link.link}
+use Rattle.tool_options.specs.{declared.options.Keep.TheVariants.NotL, declared.options.Keep.TheVariants.Nothing, Choices.Choices}
 use Rattle.link_laws.specs.relation.Refusals.{kept_locals}
-use Rattle.link_out.specs.function.Link.{link}
-use Rattle.laws.specs.Frame.{TakesPlace, AreReplaced, DifferInObject, FrameHolds, IsBeside, IsOutside, FrameOfBytes}
-use Rattle.laws.specs.Frame.{TakesPlaceRevalued, AreRevaluedLinks, Follows, WordStays, DifferByValues, FrameOfValues}
+use Rattle.laws.specs.Frame.{TakesPlace, AreReplaced, DifferInObject, FrameHolds, IsBeside, IsOutside, FrameOfBytes, TakesPlaceRevalued}
+use Rattle.laws.specs.Frame.{AreRevaluedLinks, Follows, WordStays, DifferByValues, FrameOfValues}
 use Rattle.laws.proofs.FrameBytes.{beside_same}
-use Rattle.conformance.specs.Samples.{sym as entry, object, _f, _g, L1, c_o, d_o, g_o, p_o, plain, plain_s}
-use Rattle.conformance.specs.Samples.{relocatable, with_keep, with_entry}
+use Rattle.conformance.specs.Samples.{sym as entry, object, _f, _g, L1, c_o, d_o, g_o, p_o, plain, plain_s, relocatable, with_keep}
+use Rattle.conformance.specs.Samples.{with_entry}
 use Rattle.conformance.proofs.ClauseLemmas.{as_object, at_most_so, less_so}
 use Rattle.conformance.proofs.NeededPremises.{counts, all_kept, link_of, c_good, d_good}
 use Rattle.conformance.proofs.OrderExamples.{first_two, many_locals}

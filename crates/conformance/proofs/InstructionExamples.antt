@@ -1,15 +1,10 @@
 -- Instructions: texts of words, and statements near the definitions that do not hold.
 use Rattle.std.proofs.Common.{◌≡◌, ℕ, ◌+◌, ◌*◌, ◌%◌, ◌<◌, nat_lt, if◌then◌else◌, List, [], ◌∷◌, ◌++◌, slice_index, refl, ap, arith}
-use Rattle.std.specs.Prelude.{codes}
-use Rattle.std.specs.Fmt.{digits}
-use Rattle.instructions.specs.declared.mode.Mode.{Mode}
-use Rattle.instructions.specs.declared.mode.Mode.TheVariants.{Increment, Decrement}
-use Rattle.instructions.specs.Modes.{mode_number}
-use Rattle.instructions.specs.Rows.{begins, row_of}
-use Rattle.instructions.specs.Lines.{line_at, lines}
-use Rattle.texts.specs.Numbers.{octal, six_digits}
+use Rattle.std.specs.{Prelude.codes, Fmt.digits}
 use Rattle.instructions.specs.Texts.{line_text, branch_target, branch_back_target}
-use Rattle.instructions.specs.Laws.{lines_text}
+use Rattle.instructions.specs.{declared.mode.Mode.Mode, declared.mode.Mode.TheVariants.Increment, declared.mode.Mode.TheVariants.Decrement}
+use Rattle.instructions.specs.{Modes.mode_number, Rows.begins, Rows.row_of, Lines.line_at, Lines.lines, Laws.lines_text}
+use Rattle.texts.specs.Numbers.{octal, six_digits}
 use Rattle.disassemblies.specs.Columns.{plain_disassembly}
 
 in_columns : plain_disassembly 0o177776 (0o401 ∷ 0o12767 ∷ 0o177777 ∷ 0 ∷ 0o12737 ∷ [])

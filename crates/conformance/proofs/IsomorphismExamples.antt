@@ -1,46 +1,30 @@
 -- The law of isomorphic links at the objects of docs/teaching/BLACKBOARD.md, and statements near it that do not hold.
-use Rattle.std.proofs.Common.{◌≡◌, ◌≢◌, ℕ, zero, suc, ◌+◌, ◌*◌, ◌<◌, ◌≤◌, Bool, true, false, List, []}
-use Rattle.std.proofs.Common.{◌∷◌, map, Some, None, refl, sym, ◌∙◌, ap, subst, arith}
-use Rattle.std.specs.Prelude.{eqb, bytes_eq, slice_get, Ok}
-use Rattle.std.specs.List.{AllByRecursion}
-use Rattle.std.proofs.lemmas.List.Sorted.{IsPermutation-refl}
-use Rattle.std.proofs.lemmas.Option.{same_Some}
-use Rattle.std.proofs.lemmas.Slice.Eq.{bytes_eq-Decides}
-use Rattle.aout_core.specs.declared.symbol.Symbol.{Symbol}
-use Rattle.aout_core.specs.declared.symbol.Segment.{Segment}
+use Rattle.std.proofs.Common.{◌≡◌, ◌≢◌, ℕ, zero, suc, ◌+◌, ◌*◌, ◌<◌, ◌≤◌, Bool, true, false, List, [], ◌∷◌, map, Some, None, refl, sym, ◌∙◌}
+use Rattle.std.proofs.Common.{ap, subst, arith}
+use Rattle.std.proofs.{lemmas.List.Sorted.IsPermutation-refl, lemmas.Option.same_Some, lemmas.Slice.Eq.bytes_eq-Decides}
+use Rattle.std.specs.{Prelude.eqb, Prelude.bytes_eq, Prelude.slice_get, Prelude.Ok, List.AllByRecursion}
 use Rattle.aout_core.specs.declared.symbol.Segment.TheVariants.{Undefined, Absolute, TextSeg, DataSeg, BssSeg, Other}
-use Rattle.aout_core.specs.declared.reloc.Reloc.{Reloc}
-use Rattle.aout_core.specs.Contents.{Contents}
-use Rattle.aout_core.specs.Words.{minus}
-use Rattle.aout_core.specs.WellFormed.{kind_of, symbol_number}
-use Rattle.link_session.specs.Starts.{size_of}
-use Rattle.link_session.specs.Sessions.{IsObject}
-use Rattle.link_session.specs.Mentions.{mentions}
-use Rattle.link_session.specs.Cells.{segment_words, segment_relocs}
-use Rattle.tool_options.specs.declared.options.Keep.TheVariants.{Nothing}
-use Rattle.tool_options.specs.declared.options.Layout.{Layout}
-use Rattle.tool_options.specs.declared.options.Layout.TheVariants.{Plain, Pure, Split}
-use Rattle.tool_options.specs.Choices.{Choices, lays_commons}
-use Rattle.link_out.specs.Results.{Outcome}
-use Rattle.link_out.specs.function.Link.{link}
-use Rattle.link_laws.specs.relation.Relocated.{entry_of as row_of, external_type}
-use Rattle.link_laws.specs.CommonsAndLayouts.{IsCommon}
+use Rattle.aout_core.specs.{declared.symbol.Symbol.Symbol, declared.symbol.Segment.Segment, declared.reloc.Reloc.Reloc, Contents.Contents}
+use Rattle.aout_core.specs.{Words.minus, WellFormed.kind_of, WellFormed.symbol_number}
+use Rattle.link_session.specs.{Starts.size_of, Sessions.IsObject, Mentions.mentions, Cells.segment_words, Cells.segment_relocs}
+use Rattle.tool_options.specs.{declared.options.Keep.TheVariants.Nothing, declared.options.Layout.Layout}
+use Rattle.tool_options.specs.{declared.options.Layout.TheVariants.Plain, declared.options.Layout.TheVariants.Pure}
+use Rattle.tool_options.specs.{declared.options.Layout.TheVariants.Split, Choices.Choices, Choices.lays_commons}
+use Rattle.link_out.specs.{Results.Outcome, function.Link.link}
+use Rattle.link_laws.specs.{relation.Relocated.entry_of as row_of, relation.Relocated.external_type, CommonsAndLayouts.IsCommon}
 use Rattle.link_laws.proofs.HasStateLemmas.{has_state}
 use Rattle.instructions.specs.Relocated.{is_relocated}
 use Rattle.laws.specs.Core.{Space, of_instructions, of_data, core, IsWordAt}
-use Rattle.laws.specs.CoreLaws.{space_of}
-use Rattle.laws.specs.Operands.{operand}
-use Rattle.laws.specs.Orders.{missing, Means}
-use Rattle.laws.specs.Isomorphism.{Place, of_object, of_common, segment_at, value_in, address_at, IsLoadedAt, AreRenumbered}
-use Rattle.laws.specs.Isomorphism.{moved, Target, to_place, to_end, to_nothing, address_to, moved_target, IsDefinedAt}
-use Rattle.laws.specs.Isomorphism.{RefersTo, AreLinks, IsUnrelocated, MovesAsTarget, AreIsomorphic, LinksAreIsomorphic}
-use Rattle.conformance.specs.Samples.{sym as entry, object, _f, _x, _twice, main_o, twice_o, count_o}
-use Rattle.conformance.specs.Samples.{c_o, x4_o, plain, plain_s, with_layout}
-use Rattle.conformance.proofs.ClauseLemmas.{as_object, less_so}
-use Rattle.conformance.proofs.NearLaws.{different}
+use Rattle.laws.specs.Isomorphism.{Place, of_object, of_common, segment_at, value_in, address_at, IsLoadedAt, AreRenumbered, moved, Target}
+use Rattle.laws.specs.Isomorphism.{to_place, to_end, to_nothing, address_to, moved_target, IsDefinedAt, RefersTo, AreLinks, IsUnrelocated}
+use Rattle.laws.specs.Isomorphism.{MovesAsTarget, AreIsomorphic, LinksAreIsomorphic}
+use Rattle.laws.specs.{CoreLaws.space_of, Operands.operand, Orders.missing, Orders.Means}
+use Rattle.conformance.specs.Samples.{sym as entry, object, _f, _x, _twice, main_o, twice_o, count_o, c_o, x4_o, plain, plain_s}
+use Rattle.conformance.specs.Samples.{with_layout}
 use Rattle.conformance.proofs.NeededPremises.{counts, all_kept, link_of, c_good}
 use Rattle.conformance.proofs.MachineExamples.{main_good, twice_good}
 use Rattle.conformance.proofs.OrderExamples.{first_two, main_first, twice_first, one, other, f2_o, text_f, data_f}
+use Rattle.conformance.proofs.{ClauseLemmas.as_object, ClauseLemmas.less_so, NearLaws.different}
 
 -- two orders and two layouts: `main.o` and `twice.o` change places, and data goes to 020000
 

@@ -1,21 +1,14 @@
 -- The laws at samples: their premises can be met.
-use Rattle.std.specs.Prelude.{◌≡◌, ℕ, ◌<◌, true, false, List, [], ◌∷◌, ◌++◌, take, drop, Ok, Err, refl, nat_lt}
-use Rattle.std.proofs.lemmas.Bool.{and_parts, ltb-true}
+use Rattle.std.specs.Prelude.{◌≡◌, ℕ, ◌<◌, true, false, List, [], ◌∷◌, ◌++◌, take, drop, Ok, Err, refl, nat_lt, Result}
 use Rattle.std.specs.List.{AllByRecursion, list_all}
-use Rattle.aout_core.specs.Contents.{Contents}
-use Rattle.aout_core.specs.Encoding.{encoding}
-use Rattle.aout_core.specs.Encodes.{Encodes}
-use Rattle.aout_core.specs.Decoding.{decode}
+use Rattle.std.proofs.lemmas.Bool.{and_parts, ltb-true}
+use Rattle.aout_core.specs.{Contents.Contents, Encoding.encoding, Encodes.Encodes, Decoding.decode}
 use Rattle.aout_core.proofs.EncodesLemmas.{decoded_is_encoded}
-use Rattle.link_session.specs.Mentions.{mentions}
-use Rattle.link_session.specs.States.{multiple_names}
+use Rattle.link_session.specs.{Mentions.mentions, States.multiple_names}
 use Rattle.tool_options.specs.declared.options.Keep.TheVariants.{NotL}
-use Rattle.link_out.specs.declared.linked.LinkFault.{LinkFault}
-use Rattle.link_out.specs.function.Link.{Outcome, link}
-use Rattle.link_out.specs.laws.PartialLinks.{IsPartialLink}
+use Rattle.link_out.specs.{declared.linked.LinkFault.LinkFault, function.Link.Outcome, function.Link.link, laws.PartialLinks.IsPartialLink}
 use Rattle.link_out.proofs.partial_links.PartialTheorem.{partial_replaces_among}
 use Rattle.conformance.specs.Samples.{_f, sym, object, c_o, d_o, d2_o, e_o, p_o, q_o, r_o, plain, plain_s, relocatable, with_keep}
-use Rattle.std.specs.Prelude.{Result}
 
 abbrev pub outcome_of : Result Outcome LinkFault → Outcome
 outcome_of (Ok x) = x

@@ -1,25 +1,17 @@
 -- Links computed in full.
-use Rattle.std.specs.Prelude.{◌≡◌, ℕ, true, List, [], ◌∷◌, Some, None, Result, Ok, Err, codes, refl}
-use Rattle.aout_core.specs.Contents.{Contents}
-use Rattle.aout_core.specs.Encoding.{encoding}
-use Rattle.link_out.specs.declared.linked.LinkFault.{LinkFault}
+use Rattle.std.specs.Prelude.{◌≡◌, ℕ, true, List, [], ◌∷◌, Some, None, Result, Ok, Err, codes, refl, replicate}
+use Rattle.aout_core.specs.{Contents.Contents, Encoding.encoding, declared.symbol.Symbol.Symbol, declared.reloc.Reloc.Reloc}
+use Rattle.aout_core.specs.{WellFormed.first_object_fault, Strip.stripped}
 use Rattle.link_out.specs.declared.linked.LinkFault.TheVariants.{DoesNotFit, TooManySymbols, SymbolNumber}
-use Rattle.tool_options.specs.declared.options.Layout.TheVariants.{Pure, Split}
-use Rattle.tool_options.specs.declared.options.Keep.TheVariants.{NotL, Externals}
-use Rattle.tool_options.specs.Choices.{Choices}
 use Rattle.link_out.specs.function.Reports.{report_text, status_of}
-use Rattle.link_out.specs.function.Link.{Outcome, link}
-use Rattle.std.specs.Prelude.{replicate}
-use Rattle.aout_core.specs.declared.symbol.Symbol.{Symbol}
-use Rattle.aout_core.specs.declared.reloc.Reloc.{Reloc}
-use Rattle.aout_core.specs.WellFormed.{first_object_fault}
-use Rattle.aout_core.specs.Strip.{stripped}
+use Rattle.link_out.specs.{declared.linked.LinkFault.LinkFault, function.Link.Outcome, function.Link.link, function.Plans.plan}
+use Rattle.tool_options.specs.{declared.options.Layout.TheVariants.Pure, declared.options.Layout.TheVariants.Split}
+use Rattle.tool_options.specs.{declared.options.Keep.TheVariants.NotL, declared.options.Keep.TheVariants.Externals, Choices.Choices}
 use Rattle.link_session.specs.Limits.{refusal}
 use Rattle.link_session.specs.declared.entry.AddFault.TheVariants.{TextFull, DataFull, BssFull}
-use Rattle.link_out.specs.function.Plans.{plan}
-use Rattle.conformance.specs.Samples.{relocs, sym, object, sized, _f, _x, _z, _end, _etext, _edata, L1, a_o, b_o, c_o}
-use Rattle.conformance.specs.Samples.{d_o, d2_o, e_o, g_o, i_o, k_o, l_o, p_o, q_o, r_o, y1_o, y2_o, plain, plain_s}
-use Rattle.conformance.specs.Samples.{relocatable, relocatable_d, with_keep, with_layout, with_entry}
+use Rattle.conformance.specs.Samples.{relocs, sym, object, sized, _f, _x, _z, _end, _etext, _edata, L1, a_o, b_o, c_o, d_o, d2_o, e_o, g_o}
+use Rattle.conformance.specs.Samples.{i_o, k_o, l_o, p_o, q_o, r_o, y1_o, y2_o, plain, plain_s, relocatable, relocatable_d, with_keep}
+use Rattle.conformance.specs.Samples.{with_layout, with_entry}
 
 -- the bytes, the report's lines and its status
 abbrev pub Shown : Type 0

@@ -1,37 +1,27 @@
 -- Lists of linked files: what nm and size write of them, and statements near the law of lists that do not hold.
-use Rattle.std.proofs.Common.{◌≡◌, ◌≢◌, ◌⊎◌, ℕ, ◌+◌, true, false, List, [], ◌∷◌, ◌++◌, map, filter, length}
-use Rattle.std.proofs.Common.{Some, IsPermutation, refl, sym, ◌∙◌, ap, inr, eq-eqb}
-use Rattle.std.specs.Prelude.{eqb, Ok, codes, bytes_eq, drop, slice_index, slice_index_or, sum_by}
-use Rattle.std.specs.List.{flat_map}
-use Rattle.std.specs.Fmt.{digits}
+use Rattle.std.proofs.Common.{◌≡◌, ◌≢◌, ◌⊎◌, ℕ, ◌+◌, true, false, List, [], ◌∷◌, ◌++◌, map, filter, length, Some, IsPermutation, refl, sym}
+use Rattle.std.proofs.Common.{◌∙◌, ap, inr, eq-eqb}
 use Rattle.std.proofs.lemmas.List.Sorted.{length_permutation}
-use Rattle.aout_core.specs.declared.symbol.Symbol.{Symbol}
+use Rattle.std.specs.Prelude.{eqb, Ok, codes, bytes_eq, drop, slice_index, slice_index_or, sum_by}
+use Rattle.std.specs.{List.flat_map, Fmt.digits}
 use Rattle.aout_core.specs.declared.symbol.Segment.TheVariants.{TextSeg, DataSeg, BssSeg}
-use Rattle.aout_core.specs.Contents.{Contents}
-use Rattle.link_session.specs.declared.state.State.{State}
-use Rattle.link_session.specs.declared.state.State.TheVariants.{Wanted}
-use Rattle.link_session.specs.Starts.{total}
-use Rattle.tool_options.specs.NameLists.{is_among}
+use Rattle.aout_core.specs.{declared.symbol.Symbol.Symbol, Contents.Contents, Addresses.data_start_in}
 use Rattle.link_session.specs.Mentions.{mentions, externals}
-use Rattle.link_session.specs.Sessions.{IsObject}
+use Rattle.link_session.specs.{declared.state.State.State, declared.state.State.TheVariants.Wanted, Starts.total, Sessions.IsObject}
 use Rattle.tool_options.specs.declared.options.Keep.TheVariants.{All, Externals, Nothing}
 use Rattle.tool_options.specs.Choices.{Choices, lays_commons}
-use Rattle.link_out.specs.Results.{Outcome}
-use Rattle.link_out.specs.function.Link.{link}
-use Rattle.link_laws.specs.relation.NameStates.{HasState, IsWanted}
-use Rattle.aout_core.specs.Addresses.{data_start_in}
-use Rattle.link_laws.specs.relation.Relocated.{entry_of}
+use Rattle.tool_options.specs.{NameLists.is_among, declared.nm_options.NmOptions.NmOptions}
+use Rattle.link_out.specs.{Results.Outcome, function.Link.link}
 use Rattle.link_laws.specs.relation.LinkedFrom.{IsLinkedFrom, moved_locals_in}
+use Rattle.link_laws.specs.{relation.NameStates.HasState, relation.NameStates.IsWanted, relation.Relocated.entry_of}
 use Rattle.link_laws.proofs.LinkedTheorem.{linked_exactly}
-use Rattle.tool_options.specs.declared.nm_options.NmOptions.{NmOptions}
 use Rattle.texts.specs.Numbers.{six_digits}
-use Rattle.symtools.specs.SymbolLines.{letter, symbol_line, value_column}
-use Rattle.symtools.specs.NmLists.{arranged, shown, nm_text}
-use Rattle.symtools.specs.SizeLines.{size_line, size_text}
-use Rattle.laws.specs.Listings.{undefined_locals, listed_locals, undefined_symbol, lines, state_letter, IsListedOnce}
-use Rattle.laws.specs.Listings.{of_sizes, UndefinedAreListed, UndefinedLines, RowLines, ExternalsAreListed}
-use Rattle.conformance.specs.Samples.{sym as entry, object, _f, _g, _x, _end, L1, c_o, d_o, g_o, x4_o, y1_o}
-use Rattle.conformance.specs.Samples.{y2_o, plain, plain_s, relocatable, with_keep}
+use Rattle.symtools.specs.{SymbolLines.letter, SymbolLines.symbol_line, SymbolLines.value_column, NmLists.arranged, NmLists.shown}
+use Rattle.symtools.specs.{NmLists.nm_text, SizeLines.size_line, SizeLines.size_text}
+use Rattle.laws.specs.Listings.{undefined_locals, listed_locals, undefined_symbol, lines, state_letter, IsListedOnce, of_sizes}
+use Rattle.laws.specs.Listings.{UndefinedAreListed, UndefinedLines, RowLines, ExternalsAreListed}
+use Rattle.conformance.specs.Samples.{sym as entry, object, _f, _g, _x, _end, L1, c_o, d_o, g_o, x4_o, y1_o, y2_o, plain, plain_s}
+use Rattle.conformance.specs.Samples.{relocatable, with_keep}
 use Rattle.conformance.proofs.ClauseLemmas.{as_object, only_wanted}
 use Rattle.conformance.proofs.NeededPremises.{counts, all_kept, link_of, c_good, d_good}
 

@@ -1,19 +1,15 @@
 -- The laws of loaded programs at samples: bytes at addresses, and what instructions find there.
 use Rattle.std.proofs.Common.{◌≡◌, ℕ, true, false, List, [], ◌∷◌, Some, None, refl}
 use Rattle.std.specs.Prelude.{map}
-use Rattle.aout_core.specs.declared.symbol.Segment.TheVariants.{TextSeg, DataSeg}
-use Rattle.aout_core.specs.Contents.{Contents}
+use Rattle.aout_core.specs.{declared.symbol.Segment.TheVariants.TextSeg, declared.symbol.Segment.TheVariants.DataSeg, Contents.Contents}
 use Rattle.link_session.specs.Sessions.{IsObject}
-use Rattle.tool_options.specs.declared.options.Layout.TheVariants.{Pure, Split}
-use Rattle.tool_options.specs.Choices.{Choices}
+use Rattle.tool_options.specs.{declared.options.Layout.TheVariants.Pure, declared.options.Layout.TheVariants.Split, Choices.Choices}
 use Rattle.link_out.specs.function.Link.{link}
 use Rattle.laws.specs.Core.{Space, of_instructions, of_data, core}
 use Rattle.laws.specs.Operands.{operand, Calls, Defines, is_usable_in, Arrives}
 use Rattle.laws.proofs.OperandLemmas.{calls_arrive}
 use Rattle.conformance.specs.Samples.{sym as entry, _twice, _count, main_o, twice_o, count_o, i_o, plain, with_layout}
-use Rattle.conformance.proofs.LawExamples.{outcome_of}
-use Rattle.conformance.proofs.ClauseLemmas.{as_object}
-use Rattle.conformance.proofs.NeededPremises.{all_kept}
+use Rattle.conformance.proofs.{LawExamples.outcome_of, ClauseLemmas.as_object, NeededPremises.all_kept}
 
 abbrev pub file_of : List Contents → Choices → Contents
 file_of os o = (outcome_of (link [] os o)).file

@@ -1,29 +1,19 @@
 -- Where the definitions of a stage rule out that memory ran out.
 use Rattle.std.proofs.Common.{◌≡◌, ℕ, ◌≤◌, ◌<◌, true, false, List, [], ◌∷◌, length, Some, Err, refl, subst, arith, inl, inr}
 use Rattle.std.specs.Prelude.{IsOk, codes}
-use Rattle.aout_core.specs.declared.file.ReadFault.TheVariants as reads
-use Rattle.aout_core.specs.Contents.{Contents}
-use Rattle.aout_core.specs.Encoding.{encoding}
-use Rattle.aout_core.specs.Reading.{IsReadOf}
-use Rattle.aout_core.specs.Refusals.{refused}
-use Rattle.aout_core.specs.Wires.{Latched}
-use Rattle.link_session.specs.declared.entry.AddFault.TheVariants as adds
-use Rattle.link_session.specs.Labelled.{Labelled}
-use Rattle.link_session.specs.Limits.{refusal}
-use Rattle.link_session.specs.Sessions.{IsCause, nothing_kept}
-use Rattle.tool_options.specs.declared.options.Layout.TheVariants.{Pure}
-use Rattle.tool_options.specs.Choices.{Choices}
-use Rattle.link_out.specs.declared.linked.LinkFault.TheVariants as links
-use Rattle.link_out.specs.function.Link.{link}
-use Rattle.link_out.specs.Outcomes.{IsLinkOf}
-use Rattle.v7tools.specs.declared.fault.CliFault.TheVariants as faults
-use Rattle.v7tools.specs.Answers.{Stepped}
+use Rattle.aout_core.specs.{Contents.Contents, Encoding.encoding, Reading.IsReadOf, Refusals.refused, Wires.Latched}
+use Rattle.link_session.specs.{Labelled.Labelled, Limits.refusal, Sessions.IsCause, Sessions.nothing_kept}
+use Rattle.tool_options.specs.{declared.options.Layout.TheVariants.Pure, Choices.Choices}
+use Rattle.link_out.specs.{function.Link.link, Outcomes.IsLinkOf}
 use Rattle.v7tools.specs.LinkAnswers.{Input, IsLinkOver, WantsMemory, runs_out}
-use Rattle.v7tools.specs.LineRuns.{IsAddOf}
-use Rattle.v7tools.specs.SessionSteps.{IsAddBy, IsLinkBy, without_memory}
-use Rattle.v7tools.specs.internal.InputParts.{IsFinalLink, StopsWith}
+use Rattle.v7tools.specs.{Answers.Stepped, LineRuns.IsAddOf, SessionSteps.IsAddBy, SessionSteps.IsLinkBy, SessionSteps.without_memory}
+use Rattle.v7tools.specs.{internal.InputParts.IsFinalLink, internal.InputParts.StopsWith}
 use Rattle.conformance.specs.Samples.{sized, b_o, plain, with_layout}
 use Rattle.conformance.proofs.NeededPremises.{counts}
+use Rattle.aout_core.specs.declared.file.ReadFault.TheVariants as reads
+use Rattle.link_session.specs.declared.entry.AddFault.TheVariants as adds
+use Rattle.link_out.specs.declared.linked.LinkFault.TheVariants as links
+use Rattle.v7tools.specs.declared.fault.CliFault.TheVariants as faults
 
 abbrev path : List ℕ
 path = codes "a.o"

@@ -2,13 +2,11 @@
 use Rattle.std.proofs.Common.{◌≡◌, ℕ, ◌<◌, List, [], ◌∷◌, Some, Err, refl, inl, inr, arith}
 use Rattle.std.specs.Prelude.{◌⊎◌, IsOk}
 use Rattle.aout_core.specs.Encoding.{header_encoding}
-use Rattle.library_calls.specs.declared.cause.Cause.TheVariants.{Excluded, LongName}
-use Rattle.library_calls.specs.FileAnswers.{names_in, sizes_in, stripped_in}
-use Rattle.library_calls.specs.LinkRequests.{choices_in}
 use Rattle.library_calls.specs.MemoryWanted.{HasBody, LinkMayRunOut, SessionMayRunOut, StateMayRunOut}
-use Rattle.library_calls.specs.ObjectParts.{file_for, parts_in, pieces}
-use Rattle.gnu_objects.specs.declared.refusal.Refusal.TheVariants.{ShortHeader}
-use Rattle.gnu_objects.specs.GnuRefusals.{sizes_refusal}
+use Rattle.library_calls.specs.{declared.cause.Cause.TheVariants.Excluded, declared.cause.Cause.TheVariants.LongName, FileAnswers.names_in}
+use Rattle.library_calls.specs.{FileAnswers.sizes_in, FileAnswers.stripped_in, LinkRequests.choices_in, ObjectParts.file_for}
+use Rattle.library_calls.specs.{ObjectParts.parts_in, ObjectParts.pieces}
+use Rattle.gnu_objects.specs.{declared.refusal.Refusal.TheVariants.ShortHeader, GnuRefusals.sizes_refusal}
 use Rattle.conformance.specs.Samples.{header}
 
 abbrev three_bytes : List ℕ

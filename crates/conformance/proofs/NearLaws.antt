@@ -1,31 +1,19 @@
 -- Statements near the laws of linking that do not hold: each has a link that shows it.
-use Rattle.std.proofs.Common.{◌≡◌, ◌≢◌, ◌↔◌, ℕ, ◌+◌, ◌%◌, ◌<◌, ◌≤◌, true, false, List, [], ◌∷◌, Some}
-use Rattle.std.proofs.Common.{refl, sym, ◌∙◌, ap, arith, inl, inr, eq-eqb}
-use Rattle.std.specs.Prelude.{eqb, Ok, Err, replicate, slice_get, sum_by}
-use Rattle.std.specs.List.{AllByRecursion}
-use Rattle.aout_core.specs.declared.symbol.Symbol.{Symbol}
-use Rattle.aout_core.specs.declared.symbol.Segment.{Segment}
-use Rattle.aout_core.specs.declared.symbol.Segment.TheVariants.{TextSeg}
-use Rattle.aout_core.specs.declared.reloc.Reloc.{Reloc}
-use Rattle.aout_core.specs.Contents.{Contents}
-use Rattle.aout_core.specs.WellFormed.{symbol_number}
-use Rattle.link_session.specs.declared.state.State.{State}
-use Rattle.link_session.specs.declared.state.State.TheVariants.{Defined, Wanted}
-use Rattle.link_session.specs.Sessions.{IsObject}
-use Rattle.tool_options.specs.NameLists.{is_among}
-use Rattle.link_session.specs.Mentions.{place_of}
+use Rattle.std.proofs.Common.{◌≡◌, ◌≢◌, ◌↔◌, ℕ, ◌+◌, ◌%◌, ◌<◌, ◌≤◌, true, false, List, [], ◌∷◌, Some, refl, sym, ◌∙◌, ap, arith, inl, inr}
+use Rattle.std.proofs.Common.{eq-eqb}
+use Rattle.std.specs.{Prelude.eqb, Prelude.Ok, Prelude.Err, Prelude.replicate, Prelude.slice_get, Prelude.sum_by, List.AllByRecursion}
+use Rattle.aout_core.specs.{declared.symbol.Symbol.Symbol, declared.symbol.Segment.Segment, declared.symbol.Segment.TheVariants.TextSeg}
+use Rattle.aout_core.specs.{declared.reloc.Reloc.Reloc, Contents.Contents, WellFormed.symbol_number}
 use Rattle.link_session.specs.Cells.{segment_words, segment_relocs}
-use Rattle.link_out.specs.declared.linked.LinkFault.{LinkFault}
+use Rattle.link_session.specs.{declared.state.State.State, declared.state.State.TheVariants.Defined}
+use Rattle.link_session.specs.{declared.state.State.TheVariants.Wanted, Sessions.IsObject, Mentions.place_of}
+use Rattle.tool_options.specs.{NameLists.is_among, declared.options.Layout.Layout, declared.options.Layout.TheVariants.Split}
+use Rattle.tool_options.specs.{Choices.Choices}
 use Rattle.link_out.specs.declared.linked.LinkFault.TheVariants.{DoesNotFit, TooManySymbols, SymbolNumber, Memory}
-use Rattle.tool_options.specs.declared.options.Layout.{Layout}
-use Rattle.tool_options.specs.declared.options.Layout.TheVariants.{Split}
-use Rattle.tool_options.specs.Choices.{Choices}
-use Rattle.link_laws.specs.relation.NameStates.{IsFirst}
-use Rattle.link_out.specs.Results.{Outcome}
-use Rattle.link_out.specs.function.Link.{link}
+use Rattle.link_out.specs.{declared.linked.LinkFault.LinkFault, Results.Outcome, function.Link.link}
 use Rattle.link_laws.specs.WordsAndNames.{IsSaid, HasTwoDefinitions, MultiplesDiffer}
-use Rattle.link_laws.specs.CommonsAndLayouts.{DifferInPlace, LayoutsDiffer}
 use Rattle.link_laws.specs.relation.Refusals.{CommonsTake, EndsAt, entry_count, HasNumberTooLarge, RefusedExactly}
+use Rattle.link_laws.specs.{relation.NameStates.IsFirst, CommonsAndLayouts.DifferInPlace, CommonsAndLayouts.LayoutsDiffer}
 use Rattle.conformance.specs.Samples.{sym as entry_of, object, _f, _x, L1, a_o, c_o, d_o, i_o, plain, relocatable, with_layout}
 use Rattle.conformance.proofs.LawExamples.{outcome_of}
 use Rattle.conformance.proofs.ClauseLemmas.{only_object, only_word, no_word, as_object, at_most_so, less_so, only_wanted}

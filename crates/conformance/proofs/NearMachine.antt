@@ -1,45 +1,29 @@
 -- Statements near the laws of loaded programs that do not hold: each has a link that shows it.
-use Rattle.std.proofs.Common.{◌≡◌, ◌≢◌, ℕ, ◌+◌, ◌*◌, ◌/◌, ◌%◌, ◌<◌, ◌≤◌, true, false, List, [], ◌∷◌, ◌++◌, Some}
-use Rattle.std.proofs.Common.{None, ◌⊎◌, refl, sym, ◌∙◌, ap, arith, inl, inr, subst}
-use Rattle.std.specs.Prelude.{eqb, Ok, replicate, slice_get}
-use Rattle.std.specs.List.{AllByRecursion}
-use Rattle.aout_core.specs.declared.header.Header.{Header}
-use Rattle.aout_core.specs.declared.symbol.Symbol.{Symbol}
-use Rattle.aout_core.specs.declared.symbol.Segment.{Segment}
+use Rattle.std.proofs.Common.{◌≡◌, ◌≢◌, ℕ, ◌+◌, ◌*◌, ◌/◌, ◌%◌, ◌<◌, ◌≤◌, true, false, List, [], ◌∷◌, ◌++◌, Some, None, ◌⊎◌, refl, sym, ◌∙◌}
+use Rattle.std.proofs.Common.{ap, arith, inl, inr, subst}
+use Rattle.std.specs.{Prelude.eqb, Prelude.Ok, Prelude.replicate, Prelude.slice_get, List.AllByRecursion}
 use Rattle.aout_core.specs.declared.symbol.Segment.TheVariants.{Undefined, Absolute, TextSeg, DataSeg, BssSeg, Other}
-use Rattle.aout_core.specs.declared.reloc.Reloc.{Reloc}
-use Rattle.aout_core.specs.declared.reloc.Kind.{Kind}
-use Rattle.aout_core.specs.declared.reloc.Kind.TheVariants as kinds
-use Rattle.aout_core.specs.Contents.{Contents}
-use Rattle.aout_core.specs.Words.{plus}
 use Rattle.aout_core.specs.WellFormed.{is_external, segment_of, kind_of, symbol_number}
-use Rattle.link_session.specs.Starts.{size_of, total, own}
-use Rattle.link_session.specs.Sessions.{IsObject}
-use Rattle.link_session.specs.Cells.{segment_words, segment_relocs}
-use Rattle.tool_options.specs.declared.options.Layout.TheVariants.{Split}
-use Rattle.tool_options.specs.declared.options.Keep.{Keep}
-use Rattle.tool_options.specs.declared.options.Keep.TheVariants.{All, Nothing}
-use Rattle.tool_options.specs.Choices.{Choices, lays_commons}
-use Rattle.link_out.specs.Results.{Outcome}
-use Rattle.link_out.specs.function.Link.{link}
-use Rattle.link_laws.specs.relation.Relocated.{base_in, entry_of}
-use Rattle.link_laws.specs.CommonsAndLayouts.{IsCommon}
+use Rattle.aout_core.specs.{declared.header.Header.Header, declared.symbol.Symbol.Symbol, declared.symbol.Segment.Segment}
+use Rattle.aout_core.specs.{declared.reloc.Reloc.Reloc, declared.reloc.Kind.Kind, Contents.Contents, Words.plus}
+use Rattle.link_session.specs.{Starts.size_of, Starts.total, Starts.own, Sessions.IsObject, Cells.segment_words, Cells.segment_relocs}
+use Rattle.tool_options.specs.{declared.options.Layout.TheVariants.Split, declared.options.Keep.Keep, declared.options.Keep.TheVariants.All}
+use Rattle.tool_options.specs.{declared.options.Keep.TheVariants.Nothing, Choices.Choices, Choices.lays_commons}
+use Rattle.link_out.specs.{Results.Outcome, function.Link.link}
+use Rattle.link_laws.specs.{relation.Relocated.base_in, relation.Relocated.entry_of, CommonsAndLayouts.IsCommon}
 use Rattle.laws.specs.Core.{Space, of_instructions, of_data, has_segment, first_address, bytes_of, is_in, core}
-use Rattle.laws.specs.CoreLaws.{IsLoaded, IsZero, IsOfWord, NothingElse}
-use Rattle.laws.specs.OperandWords.{space_used}
 use Rattle.laws.specs.Operands.{FindsMore, FindsName, segment_meant, Calls, Defines, is_usable_in, Arrives, CallsArrive}
-use Rattle.instructions.specs.declared.operation.Operation.{Operation}
-use Rattle.instructions.specs.declared.operation.Operation.TheVariants.{Jsr}
-use Rattle.instructions.specs.declared.mode.Addressing.TheVariants.{Relative}
-use Rattle.laws.proofs.OperandLemmas.{calls_arrive}
-use Rattle.laws.proofs.LoadedLemmas.{words_loaded}
-use Rattle.conformance.specs.Samples.{sym as entry, object, sized, _f, _x, _twice, a_o, b_o, c_o, d_o, d2_o, k_o, x4_o}
-use Rattle.conformance.specs.Samples.{main_o, twice_o, plain, plain_s, relocatable, with_layout}
-use Rattle.conformance.proofs.LawExamples.{outcome_of}
+use Rattle.laws.specs.{CoreLaws.IsLoaded, CoreLaws.IsZero, CoreLaws.IsOfWord, CoreLaws.NothingElse, OperandWords.space_used}
+use Rattle.instructions.specs.{declared.operation.Operation.Operation, declared.operation.Operation.TheVariants.Jsr}
+use Rattle.instructions.specs.{declared.mode.Addressing.TheVariants.Relative}
+use Rattle.laws.proofs.{OperandLemmas.calls_arrive, LoadedLemmas.words_loaded}
+use Rattle.conformance.specs.Samples.{sym as entry, object, sized, _f, _x, _twice, a_o, b_o, c_o, d_o, d2_o, k_o, x4_o, main_o, twice_o}
+use Rattle.conformance.specs.Samples.{plain, plain_s, relocatable, with_layout}
 use Rattle.conformance.proofs.ClauseLemmas.{at_most_so, less_so, as_object, one_of_two, only_object, only_wanted}
-use Rattle.conformance.proofs.NearLaws.{different}
 use Rattle.conformance.proofs.NeededPremises.{all_kept, no_object, c_good, d_good}
 use Rattle.conformance.proofs.MachineExamples.{file_of, forward, main_good, twice_good}
+use Rattle.conformance.proofs.{LawExamples.outcome_of, NearLaws.different}
+use Rattle.aout_core.specs.declared.reloc.Kind.TheVariants as kinds
 
 other_byte : (a b : ℕ) → eqb a b ≡ false → Some a ≡ Some b → ⊥
 other_byte a b t e = let same : a ≡ b = cc in different a b t same

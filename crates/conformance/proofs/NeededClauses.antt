@@ -1,26 +1,21 @@
 -- No clause of the relation of linking can be left out: for each, a wrong file or report that all the others let through.
-use Rattle.std.proofs.Common.{◌≡◌, ◌≢◌, ℕ, ◌+◌, ◌≤◌, Bool, true, false, List, [], ◌∷◌, length, Some}
-use Rattle.std.proofs.Common.{None, refl, sym, subst, arith, inl, inr, eqb-true}
+use Rattle.std.proofs.Common.{◌≡◌, ◌≢◌, ℕ, ◌+◌, ◌≤◌, Bool, true, false, List, [], ◌∷◌, length, Some, None, refl, sym, subst, arith, inl}
+use Rattle.std.proofs.Common.{inr, eqb-true}
 use Rattle.std.specs.Prelude.{eqb, Ok, Err, slice_get, replicate, sum_by}
-use Rattle.aout_core.specs.declared.header.Header.{Header}
-use Rattle.aout_core.specs.declared.symbol.Symbol.{Symbol}
 use Rattle.aout_core.specs.declared.symbol.Segment.TheVariants.{TextSeg, DataSeg, BssSeg}
-use Rattle.aout_core.specs.declared.reloc.Reloc.{Reloc}
-use Rattle.aout_core.specs.Contents.{Contents}
+use Rattle.aout_core.specs.{declared.header.Header.Header, declared.symbol.Symbol.Symbol, declared.reloc.Reloc.Reloc, Contents.Contents}
+use Rattle.aout_core.specs.{Addresses.data_start_in}
 use Rattle.link_session.specs.declared.state.State.TheVariants.{Wanted}
 use Rattle.link_out.specs.declared.linked.LinkFault.TheVariants.{DoesNotFit, TooManySymbols}
 use Rattle.link_out.specs.Results.{ReportNames, Outcome}
-use Rattle.aout_core.specs.Addresses.{data_start_in}
 use Rattle.link_laws.specs.relation.Relocated.{base_in, IsRelocated}
 use Rattle.conformance.specs.Samples.{sym as entry_of, header, object, relocs, _f, _x, _z, L1, plain, relocatable}
-use Rattle.conformance.specs.Clauses.{Clause, text_size, data_size, bss, text_words, data_words, magic, symbol_size}
-use Rattle.conformance.specs.Clauses.{unused, flag, short, few, names, are_rows, table, text, «data», text_relocs}
-use Rattle.conformance.specs.Clauses.{data_relocs, text_kept, data_kept, entry, multiples, reserved, undefined}
-use Rattle.conformance.specs.Clauses.{none, Says, IsNeeded}
-use Rattle.conformance.proofs.ClauseLemmas.{is_empty, empty_so, passes, passed, no_words, none_kept, only_object}
-use Rattle.conformance.proofs.ClauseLemmas.{as_object, wordless_text, wordless_data, unkept_text, unkept_data}
-use Rattle.conformance.proofs.ClauseLemmas.{only_word, nothing_reserved, wants_alone, only_wanted, none_reserved}
-use Rattle.conformance.proofs.ClauseLemmas.{other_outcome}
+use Rattle.conformance.specs.Clauses.{Clause, text_size, data_size, bss, text_words, data_words, magic, symbol_size, unused, flag, short}
+use Rattle.conformance.specs.Clauses.{few, names, are_rows, table, text, «data», text_relocs, data_relocs, text_kept, data_kept, entry}
+use Rattle.conformance.specs.Clauses.{multiples, reserved, undefined, none, Says, IsNeeded}
+use Rattle.conformance.proofs.ClauseLemmas.{is_empty, empty_so, passes, passed, no_words, none_kept, only_object, as_object, wordless_text}
+use Rattle.conformance.proofs.ClauseLemmas.{wordless_data, unkept_text, unkept_data, only_word, nothing_reserved, wants_alone, only_wanted}
+use Rattle.conformance.proofs.ClauseLemmas.{none_reserved, other_outcome}
 
 abbrev silent : ReportNames
 silent = record { multiples = []; reserved = []; entry_bad = None; undefined = [] }

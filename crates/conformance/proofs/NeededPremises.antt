@@ -1,32 +1,20 @@
 -- Premises of the laws that are needed: each law without one of them, and a link for which it is then false.
-use Rattle.std.proofs.Common.{◌≡◌, ◌≢◌, ℕ, ◌+◌, ◌≤◌, true, false, List, [], ◌∷◌, ◌++◌, map, length, Some}
-use Rattle.std.proofs.Common.{None, refl, sym, ◌∙◌, ap, arith, inl, inr, eq-eqb}
-use Rattle.std.specs.Prelude.{eqb, filter, Result, Ok, slice_get, sum_by}
-use Rattle.std.specs.List.{AllByRecursion}
-use Rattle.aout_core.specs.declared.symbol.Symbol.{Symbol}
-use Rattle.aout_core.specs.declared.symbol.Segment.{Segment}
-use Rattle.aout_core.specs.declared.symbol.Segment.TheVariants.{TextSeg}
-use Rattle.aout_core.specs.declared.reloc.Reloc.{Reloc}
-use Rattle.aout_core.specs.Contents.{Contents}
-use Rattle.aout_core.specs.Strip.{stripped}
+use Rattle.std.proofs.Common.{◌≡◌, ◌≢◌, ℕ, ◌+◌, ◌≤◌, true, false, List, [], ◌∷◌, ◌++◌, map, length, Some, None, refl, sym, ◌∙◌, ap, arith}
+use Rattle.std.proofs.Common.{inl, inr, eq-eqb}
+use Rattle.std.specs.{Prelude.eqb, Prelude.filter, Prelude.Result, Prelude.Ok, Prelude.slice_get, Prelude.sum_by, List.AllByRecursion}
 use Rattle.aout_core.specs.WellFormed.{is_external, masked_type, IsWellFormed}
-use Rattle.link_session.specs.Sessions.{IsObject}
-use Rattle.tool_options.specs.NameLists.{is_among}
-use Rattle.link_session.specs.Mentions.{externals}
-use Rattle.link_session.specs.Cells.{segment_words, segment_relocs}
-use Rattle.link_out.specs.declared.linked.LinkFault.{LinkFault}
-use Rattle.tool_options.specs.declared.options.Keep.TheVariants.{All, NotL, Nothing}
-use Rattle.tool_options.specs.Choices.{Choices, lays_commons, option_fault}
-use Rattle.link_out.specs.Results.{Outcome}
-use Rattle.link_out.specs.function.Link.{link}
+use Rattle.aout_core.specs.{declared.symbol.Symbol.Symbol, declared.symbol.Segment.Segment, declared.symbol.Segment.TheVariants.TextSeg}
+use Rattle.aout_core.specs.{declared.reloc.Reloc.Reloc, Contents.Contents, Strip.stripped}
+use Rattle.link_session.specs.{Sessions.IsObject, Mentions.externals, Cells.segment_words, Cells.segment_relocs}
+use Rattle.tool_options.specs.{NameLists.is_among, declared.options.Keep.TheVariants.All, declared.options.Keep.TheVariants.NotL}
+use Rattle.tool_options.specs.{declared.options.Keep.TheVariants.Nothing, Choices.Choices, Choices.lays_commons, Choices.option_fault}
 use Rattle.link_out.specs.laws.PartialLinks.{KeepsNoMore, IsPartialLink, without_multiples}
+use Rattle.link_out.specs.{declared.linked.LinkFault.LinkFault, Results.Outcome, function.Link.link}
 use Rattle.link_laws.specs.relation.Relocated.{entry_of, IsRelocated, HoldsObjects, IsEntry}
-use Rattle.link_laws.specs.WordsAndNames.{IsDefined}
-use Rattle.link_laws.specs.CommonsAndLayouts.{IsCommon, HasSpace}
-use Rattle.conformance.specs.Samples.{sym as entry, sized, _f, _x, _z, c_o, d_o, d2_o, x4_o, plain, plain_s}
-use Rattle.conformance.specs.Samples.{relocatable, relocatable_d, with_keep, with_entry}
-use Rattle.conformance.proofs.LawExamples.{outcome_of}
-use Rattle.conformance.proofs.ClauseLemmas.{as_object, only_wanted}
+use Rattle.link_laws.specs.{WordsAndNames.IsDefined, CommonsAndLayouts.IsCommon, CommonsAndLayouts.HasSpace}
+use Rattle.conformance.specs.Samples.{sym as entry, sized, _f, _x, _z, c_o, d_o, d2_o, x4_o, plain, plain_s, relocatable, relocatable_d}
+use Rattle.conformance.specs.Samples.{with_keep, with_entry}
+use Rattle.conformance.proofs.{LawExamples.outcome_of, ClauseLemmas.as_object, ClauseLemmas.only_wanted}
 
 -- what is equal counts the same
 pub counts : {A : Type 0} (f : A → ℕ) (x y : A) → eqb (f x) (f y) ≡ false → x ≡ y → ⊥

@@ -1,35 +1,24 @@
 -- The law of order at the objects of docs/teaching/BLACKBOARD.md, and statements near it that do not hold.
-use Rattle.std.proofs.Common.{◌≡◌, ◌≢◌, ◌↔◌, ℕ, ◌≤◌, true, false, List, [], ◌∷◌, ◌++◌, length}
-use Rattle.std.proofs.Common.{Option, Some, None, refl, sym, ◌∙◌, ap, arith}
+use Rattle.std.proofs.Common.{◌≡◌, ◌≢◌, ◌↔◌, ℕ, ◌≤◌, true, false, List, [], ◌∷◌, ◌++◌, length, Option, Some, None, refl, sym, ◌∙◌, ap}
+use Rattle.std.proofs.Common.{arith}
+use Rattle.std.proofs.lemmas.List.Sorted.{IsPermutation-refl, sum_by-IsPermutation}
 use Rattle.std.specs.Prelude.{Bool, not, ◌&&◌, eqb, replicate, filter, sum_by, slice_get, bytes_eq, codes, Ok, Err}
 use Rattle.std.specs.List.Sorted.{IsPermutation}
-use Rattle.std.proofs.lemmas.List.Sorted.{IsPermutation-refl, sum_by-IsPermutation}
-use Rattle.aout_core.specs.declared.symbol.Symbol.{Symbol}
-use Rattle.aout_core.specs.declared.symbol.Segment.{Segment}
 use Rattle.aout_core.specs.declared.symbol.Segment.TheVariants.{Undefined, Absolute, TextSeg, DataSeg, BssSeg, Other}
-use Rattle.aout_core.specs.declared.reloc.Reloc.{Reloc}
-use Rattle.aout_core.specs.Contents.{Contents}
 use Rattle.aout_core.specs.WellFormed.{is_external, masked_type, segment_of}
-use Rattle.link_session.specs.declared.entry.AddFault.{AddFault}
-use Rattle.link_session.specs.declared.entry.AddFault.TheVariants.{TextFull, DataFull}
-use Rattle.link_session.specs.Labelled.{Labelled}
-use Rattle.link_session.specs.Edits.{Answer, added, refused, answers, survivors}
-use Rattle.tool_options.specs.NameLists.{is_among}
-use Rattle.link_session.specs.Mentions.{externals}
-use Rattle.link_session.specs.Cells.{segment_words, segment_relocs}
-use Rattle.link_out.specs.declared.linked.LinkFault.{LinkFault}
-use Rattle.link_out.specs.declared.linked.LinkFault.TheVariants.{SymbolNumber}
-use Rattle.tool_options.specs.declared.options.Keep.TheVariants.{Nothing}
-use Rattle.tool_options.specs.Choices.{Choices}
-use Rattle.link_out.specs.Results.{Outcome}
-use Rattle.link_out.specs.function.Link.{link}
-use Rattle.link_out.specs.Runs.{link_after}
+use Rattle.aout_core.specs.{declared.symbol.Symbol.Symbol, declared.symbol.Segment.Segment, declared.reloc.Reloc.Reloc, Contents.Contents}
+use Rattle.link_session.specs.{declared.entry.AddFault.AddFault, declared.entry.AddFault.TheVariants.TextFull}
+use Rattle.link_session.specs.{declared.entry.AddFault.TheVariants.DataFull, Labelled.Labelled, Edits.Answer, Edits.added, Edits.refused}
+use Rattle.link_session.specs.{Edits.answers, Edits.survivors, Mentions.externals, Cells.segment_words, Cells.segment_relocs}
+use Rattle.tool_options.specs.{NameLists.is_among, declared.options.Keep.TheVariants.Nothing, Choices.Choices}
+use Rattle.link_out.specs.{declared.linked.LinkFault.LinkFault, declared.linked.LinkFault.TheVariants.SymbolNumber, Results.Outcome}
+use Rattle.link_out.specs.{function.Link.link, Runs.link_after}
 use Rattle.link_laws.specs.relation.Relocated.{entry_of as row_of, external_type}
-use Rattle.laws.specs.Orders.{additions, AreAdded, OrderAddsAlike, AreAlike, OrderLinksAlike, AreOrders, Meaning}
-use Rattle.laws.specs.Orders.{definition, common, missing, Means, MeansTheSame, RefersAlike, OrderKeepsSizes}
-use Rattle.laws.specs.Orders.{OrderReportsAlike, OrderFindsEntry, OrderKeepsMeanings, defines, OnceInAnyOrder}
-use Rattle.conformance.specs.Samples.{sym as entry, object, sized, d_o, _f, _g, _x, L1, _main, _twice, main_o, twice_o}
-use Rattle.conformance.specs.Samples.{count_o, g_o, x4_o, plain, plain_s, relocatable, with_entry}
+use Rattle.laws.specs.Orders.{additions, AreAdded, OrderAddsAlike, AreAlike, OrderLinksAlike, AreOrders, Meaning, definition, common}
+use Rattle.laws.specs.Orders.{missing, Means, MeansTheSame, RefersAlike, OrderKeepsSizes, OrderReportsAlike, OrderFindsEntry}
+use Rattle.laws.specs.Orders.{OrderKeepsMeanings, defines, OnceInAnyOrder}
+use Rattle.conformance.specs.Samples.{sym as entry, object, sized, d_o, _f, _g, _x, L1, _main, _twice, main_o, twice_o, count_o, g_o, x4_o}
+use Rattle.conformance.specs.Samples.{plain, plain_s, relocatable, with_entry}
 use Rattle.conformance.proofs.ClauseLemmas.{at_most_so}
 use Rattle.conformance.proofs.NeededPremises.{counts, all_kept, link_of, no_object}
 

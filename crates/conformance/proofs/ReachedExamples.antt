@@ -1,50 +1,31 @@
 -- The law of instructions that are reached, at samples, and statements near it that do not hold.
 use Rattle.std.proofs.Common.{◌≡◌, ◌≢◌, ℕ, ◌+◌, ◌*◌, ◌/◌, false, List, [], ◌∷◌, ◌++◌, drop, Option, Some, None, inl, refl, ap, ◌∙◌, arith}
-use Rattle.std.specs.Prelude.{Ok, slice_get}
-use Rattle.std.specs.List.{AllByRecursion}
-use Rattle.aout_core.specs.declared.symbol.Symbol.{Symbol}
-use Rattle.aout_core.specs.declared.symbol.Segment.TheVariants.{TextSeg}
-use Rattle.aout_core.specs.declared.reloc.Reloc.{Reloc}
-use Rattle.aout_core.specs.declared.reloc.Kind.TheVariants as kinds
-use Rattle.aout_core.specs.Contents.{Contents}
-use Rattle.aout_core.specs.Words.{plus}
-use Rattle.aout_core.specs.WellFormed.{kind_of, symbol_number}
-use Rattle.link_session.specs.Starts.{total}
-use Rattle.link_session.specs.Sessions.{IsObject}
-use Rattle.tool_options.specs.declared.options.Keep.TheVariants.{Nothing}
-use Rattle.tool_options.specs.Choices.{Choices}
-use Rattle.link_out.specs.Results.{Outcome}
-use Rattle.link_out.specs.function.Link.{link}
-use Rattle.link_laws.specs.relation.Relocated.{entry_of}
-use Rattle.link_laws.specs.relation.LinkedFrom.{IsLinkedFrom}
+use Rattle.std.specs.{Prelude.Ok, Prelude.slice_get, List.AllByRecursion}
+use Rattle.aout_core.specs.{declared.symbol.Symbol.Symbol, declared.symbol.Segment.TheVariants.TextSeg, declared.reloc.Reloc.Reloc}
+use Rattle.aout_core.specs.{Contents.Contents, Words.plus, WellFormed.kind_of, WellFormed.symbol_number}
+use Rattle.link_session.specs.{Starts.total, Sessions.IsObject}
+use Rattle.tool_options.specs.{declared.options.Keep.TheVariants.Nothing, Choices.Choices}
+use Rattle.link_out.specs.{Results.Outcome, function.Link.link}
+use Rattle.link_laws.specs.{relation.Relocated.entry_of, relation.LinkedFrom.IsLinkedFrom}
 use Rattle.link_laws.proofs.LinkedTheorem.{linked_exactly}
-use Rattle.instructions.specs.declared.field.Field.TheVariants as fields
-use Rattle.instructions.specs.declared.operation.Operation.TheVariants.{Mov, Jsr}
-use Rattle.instructions.specs.declared.mode.Mode.TheVariants.{Direct, Index}
-use Rattle.instructions.specs.declared.mode.Register.TheVariants as registers
-use Rattle.instructions.specs.declared.mode.Addressing.{Addressing}
-use Rattle.instructions.specs.declared.mode.Addressing.TheVariants.{Relative}
-use Rattle.instructions.specs.declared.operand.Operand.{Operand}
-use Rattle.instructions.specs.declared.operand.Operand.TheVariants.{General, Register}
-use Rattle.instructions.specs.declared.instruction.Instruction.{Instruction}
-use Rattle.instructions.specs.Rows.{begins, row_of}
-use Rattle.instructions.specs.Instructions.{instruction_of}
-use Rattle.instructions.specs.Alike.{is_cut}
-use Rattle.instructions.specs.UnixLines.{call_of}
-use Rattle.suspicions.specs.declared.evidence.Evidence.{Evidence}
-use Rattle.suspicions.specs.declared.evidence.Evidence.TheVariants.{Symbols, Distances}
+use Rattle.instructions.specs.{declared.operation.Operation.TheVariants.Mov, declared.operation.Operation.TheVariants.Jsr}
+use Rattle.instructions.specs.{declared.mode.Mode.TheVariants.Direct, declared.mode.Mode.TheVariants.Index}
+use Rattle.instructions.specs.{declared.mode.Addressing.Addressing, declared.mode.Addressing.TheVariants.Relative}
+use Rattle.instructions.specs.{declared.operand.Operand.Operand, declared.operand.Operand.TheVariants.General}
+use Rattle.instructions.specs.{declared.operand.Operand.TheVariants.Register, declared.instruction.Instruction.Instruction, Rows.begins}
+use Rattle.instructions.specs.{Rows.row_of, Instructions.instruction_of, Alike.is_cut, UnixLines.call_of}
 use Rattle.suspicions.specs.ReachedLaw.{IsReached, Evident, Led}
-use Rattle.suspicions.specs.SureSuspicions.{sure_suspicions}
-use Rattle.laws.specs.OperandWords.{machine_value}
-use Rattle.laws.specs.OperandPlaces.{addressing_of, IsOperand}
-use Rattle.laws.specs.ReachedInstructions.{KeepsInstruction, BeginsInstruction}
+use Rattle.suspicions.specs.{declared.evidence.Evidence.Evidence, declared.evidence.Evidence.TheVariants.Symbols}
+use Rattle.suspicions.specs.{declared.evidence.Evidence.TheVariants.Distances, SureSuspicions.sure_suspicions}
+use Rattle.laws.specs.{OperandWords.machine_value, OperandPlaces.addressing_of, OperandPlaces.IsOperand}
+use Rattle.laws.specs.{ReachedInstructions.KeepsInstruction, ReachedInstructions.BeginsInstruction}
 use Rattle.laws.proofs.ReachedInstructionLemmas.{reached_instructions_kept}
 use Rattle.conformance.specs.Samples.{sym as entry, object, _f, _count, b_o, main_o, twice_o, count_o, plain}
-use Rattle.conformance.proofs.LawExamples.{outcome_of}
-use Rattle.conformance.proofs.ClauseLemmas.{as_object}
-use Rattle.conformance.proofs.NearLaws.{different}
-use Rattle.conformance.proofs.NeededPremises.{all_kept}
 use Rattle.conformance.proofs.MachineExamples.{forward, main_good, twice_good, count_good}
+use Rattle.conformance.proofs.{LawExamples.outcome_of, ClauseLemmas.as_object, NearLaws.different, NeededPremises.all_kept}
+use Rattle.aout_core.specs.declared.reloc.Kind.TheVariants as kinds
+use Rattle.instructions.specs.declared.field.Field.TheVariants as fields
+use Rattle.instructions.specs.declared.mode.Register.TheVariants as registers
 
 -- nothing is suspicious in `main.o`; distances reach `mov _count,r0`, which leads to the call, and symbols what follows that too
 

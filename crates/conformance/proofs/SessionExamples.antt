@@ -1,20 +1,14 @@
 -- Images, undo and edits on small objects.
 use Rattle.std.specs.Prelude.{◌≡◌, ℕ, Bool, true, false, List, [], ◌∷◌, codes, refl}
-use Rattle.aout_core.specs.declared.symbol.Segment.TheVariants as segments
 use Rattle.aout_core.specs.Contents.{Contents}
-use Rattle.link_session.specs.declared.cell.Cell.{Cell}
-use Rattle.link_session.specs.declared.cell.Target.{Target}
 use Rattle.link_session.specs.declared.cell.Target.TheVariants.{Absolute, TextSeg, DataSeg, External}
-use Rattle.link_session.specs.declared.state.State.TheVariants.{Defined, Wanted}
-use Rattle.link_session.specs.declared.mark.Mark.TheVariants.{CellWas, StateWas}
-use Rattle.link_session.specs.declared.mark.Place.TheVariants.{InText}
-use Rattle.link_session.specs.declared.entry.AddFault.TheVariants.{TextFull}
-use Rattle.link_session.specs.Labelled.{Labelled}
-use Rattle.link_session.specs.Mentions.{externals}
-use Rattle.link_session.specs.Image.{image}
 use Rattle.link_session.specs.Edits.{addition, withdrawal, added, refused, withdrew, nothing, survivors, answers}
-use Rattle.link_session.specs.Undo.{undo}
+use Rattle.link_session.specs.{declared.cell.Cell.Cell, declared.cell.Target.Target, declared.state.State.TheVariants.Defined}
+use Rattle.link_session.specs.{declared.state.State.TheVariants.Wanted, declared.mark.Mark.TheVariants.CellWas}
+use Rattle.link_session.specs.{declared.mark.Mark.TheVariants.StateWas, declared.mark.Place.TheVariants.InText}
+use Rattle.link_session.specs.{declared.entry.AddFault.TheVariants.TextFull, Labelled.Labelled, Mentions.externals, Image.image, Undo.undo}
 use Rattle.conformance.specs.Samples.{sym, object, sized, _f, _g, _x, _y, _z, c_o, d_o, d2_o, g_o, k_o, l_o, p_o, q_o, r_o, x4_o, x10_o}
+use Rattle.aout_core.specs.declared.symbol.Segment.TheVariants as segments
 
 abbrev is : ℕ → Target → Bool → Cell
 is value target pc = record { value = value; target = target; pc = pc }

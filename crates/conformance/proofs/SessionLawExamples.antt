@@ -1,50 +1,33 @@
 -- The laws of sessions at a sample, and laws near them that do not hold.
-use Rattle.std.specs.declared.alloc.Global.{Global}
-use Rattle.std.proofs.Common.{◌≡◌, ◌≢◌, ℕ, true, false, List, [], ◌∷◌, ◌++◌, Some, None, Ok, Err, refl, sym}
-use Rattle.std.proofs.Common.{◌∙◌, ap, arith, inl, inr, subst, ◌⊎◌}
-use Rattle.std.proofs.lemmas.List.{append-nil}
-use Rattle.std.proofs.lemmas.Slice.Eq.{bytes_eq-Decides}
-use Rattle.std.specs.List.{AllByRecursion, flat_map}
 use Rattle.std.specs.Prelude.{String, Vec, bytes_eq, codes, cond, decimal}
+use Rattle.std.specs.{declared.alloc.Global.Global, List.AllByRecursion, List.flat_map}
+use Rattle.std.proofs.Common.{◌≡◌, ◌≢◌, ℕ, true, false, List, [], ◌∷◌, ◌++◌, Some, None, Ok, Err, refl, sym, ◌∙◌, ap, arith, inl, inr}
+use Rattle.std.proofs.Common.{subst, ◌⊎◌}
+use Rattle.std.proofs.{lemmas.List.append-nil, lemmas.Slice.Eq.bytes_eq-Decides}
 use Rattle.clap.proofs.OnLiterals.{clap_on_literals}
-use Rattle.aout_core.specs.Contents.{Contents}
-use Rattle.aout_core.specs.Encoding.{encoding}
+use Rattle.aout_core.specs.{Contents.Contents, Encoding.encoding}
 use Rattle.command_words.specs.declared.words.Call.TheVariants.{Ld, Session}
 use Rattle.command_words.specs.Scripts.{to_add, to_withdraw, to_link}
-use Rattle.link_session.specs.declared.cell.Cell.{Cell}
-use Rattle.link_session.specs.Labelled.{Labelled}
-use Rattle.link_session.specs.Marks.{HoldCell}
-use Rattle.link_session.specs.Sessions.{Adds, nothing_kept}
-use Rattle.link_session.specs.Undo as undo
-use Rattle.link_session.specs.Undo.{AreMarksOf}
+use Rattle.link_session.specs.{declared.cell.Cell.Cell, Labelled.Labelled, Marks.HoldCell, Sessions.Adds, Sessions.nothing_kept}
+use Rattle.link_session.specs.{Undo.AreMarksOf, declared.mark.Mark.Mark}
 use Rattle.tool_options.specs.Choices.{Choices}
-use Rattle.link_out.specs.declared.linked.Linked.{Linked}
-use Rattle.link_out.specs.declared.linked.LinkFault.TheVariants.{DoesNotFit}
-use Rattle.link_out.specs.Outcomes.{outcome_of as result_of}
-use Rattle.link_out.specs.function.Link.{link}
-use Rattle.link_out.specs.function.Reports.{line}
+use Rattle.link_out.specs.{declared.linked.Linked.Linked, declared.linked.LinkFault.TheVariants.DoesNotFit}
+use Rattle.link_out.specs.{Outcomes.outcome_of as result_of, function.Link.link, function.Reports.line, Inputs.linked, Inputs.with_input}
 use Rattle.surroundings.specs.Events.{Event, Opened, opened, opens, stored}
 use Rattle.surroundings.specs.declared.office.Stored.TheVariants.{Kept}
-use Rattle.v7tools.specs.CommandRuns.{AsksFor}
-use Rattle.v7tools.specs.declared.fault.CliFault.TheVariants.{NotLinked}
 use Rattle.v7tools.specs.Answers.{Stepped, Verdict, add_step, done, link_step}
-use Rattle.v7tools.specs.FaultTexts.{fault_line}
-use Rattle.link_out.specs.Inputs.{linked, with_input}
 use Rattle.v7tools.specs.LineRuns.{IsLineOf, LineRun, status_after}
-use Rattle.v7tools.specs.SessionSteps.{AddsIf}
-use Rattle.link_session.specs.declared.mark.Mark.{Mark}
 use Rattle.v7tools.specs.SessionRuns.{answers_of, events_of, lines_asked, worst}
-use Rattle.laws.specs.Disks.{Disk, EndsWell, Run}
-use Rattle.laws.specs.StepsByCommands.{Links}
+use Rattle.v7tools.specs.{CommandRuns.AsksFor, declared.fault.CliFault.TheVariants.NotLinked, FaultTexts.fault_line, SessionSteps.AddsIf}
 use Rattle.laws.specs.SessionsByCommands.{AnsweredLines, AnswersLaw, AreGivenTheSame, AreThere, CannotRead, CannotWrite, DoesAsLd, FailsBy}
 use Rattle.laws.specs.SessionsByCommands.{IsGivenTheSame, IsKnown, IsRefusedAsLd, IsSameOn, IsThere, IsUndisturbed, LeavesNoTrace, LinesLaw}
-use Rattle.laws.specs.SessionsByCommands.{LinkLineLaw, LinksLeft, RanLines, RefusedLineLaw, SameDiskLaw, UndoLaw, files_left}
-use Rattle.laws.specs.SessionsByCommands.{opened_by}
+use Rattle.laws.specs.SessionsByCommands.{LinkLineLaw, LinksLeft, RanLines, RefusedLineLaw, SameDiskLaw, UndoLaw, files_left, opened_by}
+use Rattle.laws.specs.{Disks.Disk, Disks.EndsWell, Disks.Run, StepsByCommands.Links}
 use Rattle.conformance.specs.Samples.{_x, b_o, e_o, object, plain, sym as sym_of}
-use Rattle.conformance.proofs.LawExamples.{outcome_of}
-use Rattle.conformance.proofs.NeededPremises.{counts}
 use Rattle.conformance.proofs.StepExamples.{a_path, q_path, rows_read, run_links, run_on, whole_asks, whole_words}
 use Rattle.conformance.proofs.StepRuns.{as_written, contents, holding, links, run_of, vector}
+use Rattle.conformance.proofs.{LawExamples.outcome_of, NeededPremises.counts}
+use Rattle.link_session.specs.Undo as undo
 
 abbrev a : List ℕ
 a = codes "a"

@@ -1,40 +1,24 @@
 -- Commands in steps: their law at a sample, and laws near it that do not hold.
-use Rattle.std.specs.declared.alloc.Global.{Global}
+use Rattle.std.specs.Prelude.{IfSome, String, Vec, bytes_eq, codes, cond, string_bytes, sum_by}
+use Rattle.std.specs.{declared.alloc.Global.Global, List.AllByRecursion}
 use Rattle.std.proofs.Common.{◌≡◌, ℕ, ◌<◌, ◌^◌, true, false, List, [], ◌∷◌, ◌++◌, length, Option, Some, None, Ok, refl, sym, ◌∙◌, ap, arith}
 use Rattle.std.proofs.lemmas.Slice.Eq.{bytes_eq-Decides}
-use Rattle.std.specs.List.{AllByRecursion}
-use Rattle.std.specs.Prelude.{IfSome, String, Vec, bytes_eq, codes, cond, string_bytes, sum_by}
 use Rattle.clap.proofs.OnLiterals.{clap_on_literals}
-use Rattle.clap.specs.Simple.{subcommand_of}
-use Rattle.clap.specs.Walk.{Row}
-use Rattle.aout_core.specs.Contents.{Contents, IsSound}
-use Rattle.aout_core.specs.Decoding.{decode}
-use Rattle.aout_core.specs.Names.{IsName}
-use Rattle.aout_core.specs.Encoding.{encoding}
-use Rattle.link_session.specs.Labelled.{Labelled}
-use Rattle.tool_options.specs.NameLists.{is_among}
-use Rattle.link_session.specs.Mentions.{mentions}
-use Rattle.link_session.specs.States.{multiple_names}
-use Rattle.link_out.specs.declared.linked.Linked.{Linked}
-use Rattle.tool_options.specs.declared.options.Keep.TheVariants.{Externals}
-use Rattle.tool_options.specs.Choices.{Choices}
-use Rattle.link_out.specs.Outcomes.{outcome_of as result_of}
-use Rattle.link_out.specs.function.Link.{link}
-use Rattle.link_out.specs.laws.PartialLinks.{KeepsNoMore, IsPart, DefinesNoMultiple}
-use Rattle.command_words.specs.declared.words.Call.TheVariants.{Ld}
-use Rattle.command_words.specs.Tools.{v7_app}
-use Rattle.v7tools.specs.CommandRuns.{AsksFor}
+use Rattle.clap.specs.{Simple.subcommand_of, Walk.Row}
+use Rattle.aout_core.specs.{Contents.Contents, Contents.IsSound, Decoding.decode, Names.IsName, Encoding.encoding}
+use Rattle.link_session.specs.{Labelled.Labelled, Mentions.mentions, States.multiple_names}
+use Rattle.tool_options.specs.{NameLists.is_among, declared.options.Keep.TheVariants.Externals, Choices.Choices}
+use Rattle.link_out.specs.{declared.linked.Linked.Linked, Outcomes.outcome_of as result_of, function.Link.link}
+use Rattle.link_out.specs.{laws.PartialLinks.KeepsNoMore, laws.PartialLinks.IsPart, laws.PartialLinks.DefinesNoMultiple, Inputs.kept_with}
+use Rattle.link_out.specs.{Inputs.linked, Inputs.object_in}
+use Rattle.command_words.specs.{declared.words.Call.TheVariants.Ld, Tools.v7_app}
+use Rattle.v7tools.specs.{CommandRuns.AsksFor, LinkAnswers.TakesAll, LinkRuns.inputs_opened}
 use Rattle.surroundings.specs.Events.{Opened}
-use Rattle.link_out.specs.Inputs.{kept_with, linked, object_in}
-use Rattle.v7tools.specs.LinkAnswers.{TakesAll}
-use Rattle.v7tools.specs.LinkRuns.{inputs_opened}
 use Rattle.laws.specs.Disks.{Disk, Run, file_after}
 use Rattle.laws.specs.StepsByCommands.{AreAt, IsAt, LeaveTheSame, Links, LinkStepsLaw, ReportTheSame}
 use Rattle.conformance.specs.Samples.{_f, _g, b_o, d_o, d2_o, e_o, x4_o, plain, relocatable, relocatable_d, with_keep}
-use Rattle.conformance.proofs.LawExamples.{below, outcome_of}
-use Rattle.conformance.proofs.NeededPremises.{counts}
-use Rattle.conformance.proofs.ListingExamples.{local_o}
 use Rattle.conformance.proofs.StepRuns.{as_written, contents, links, run_of, sound_file, vector}
+use Rattle.conformance.proofs.{LawExamples.below, LawExamples.outcome_of, NeededPremises.counts, ListingExamples.local_o}
 
 -- ---- the law of steps, by its premises
 

@@ -1,32 +1,21 @@
 -- Runs of ld, made of the files that it opens and the link that it makes, for examples of commands in steps.
-use Rattle.std.specs.declared.alloc.Global.{Global}
-use Rattle.std.proofs.Common.{◌≡◌, ℕ, ◌<◌, ◌≤◌, ◌^◌, Bool, true, false, List, [], ◌∷◌, ◌++◌, map, length}
-use Rattle.std.proofs.Common.{Option, Some, None, Ok, refl, ap, arith, inr}
 use Rattle.std.specs.Prelude.{IfSome, String, Vec, encode_utf8_all, eqb, nat_lt, if◌then◌else◌, string_bytes}
-use denote.RawPtr.{null_ptr}
+use Rattle.std.specs.{declared.alloc.Global.Global, List.list_all}
+use Rattle.std.proofs.Common.{◌≡◌, ℕ, ◌<◌, ◌≤◌, ◌^◌, Bool, true, false, List, [], ◌∷◌, ◌++◌, map, length, Option, Some, None, Ok, refl, ap}
+use Rattle.std.proofs.Common.{arith, inr}
 use Rattle.std.proofs.lemmas.Str.{encode_ascii}
-use Rattle.std.specs.List.{list_all}
-use Rattle.aout_core.specs.Contents.{Contents, IsSound}
-use Rattle.aout_core.specs.Decoding.{decode}
-use Rattle.aout_core.specs.Encoding.{encoding}
-use Rattle.aout_core.specs.Wires.{Latched}
+use denote.RawPtr.{null_ptr}
+use Rattle.aout_core.specs.{Contents.Contents, Contents.IsSound, Decoding.decode, Encoding.encoding, Wires.Latched}
 use Rattle.aout_core.proofs.EncodesLemmas.{decoded_sound}
 use Rattle.link_session.specs.Labelled.{Labelled, objects}
-use Rattle.link_out.specs.declared.linked.Linked.{Linked}
+use Rattle.link_out.specs.{declared.linked.Linked.Linked, Outcomes.report_names, Outcomes.outcome_of, Results.ReportNames}
+use Rattle.link_out.specs.{function.Link.link, function.Reports.report_text, function.Reports.status_of, Inputs.linked}
 use Rattle.tool_options.specs.Choices.{Choices}
-use Rattle.link_out.specs.Outcomes.{report_names, outcome_of}
-use Rattle.link_out.specs.Results.{ReportNames}
-use Rattle.link_out.specs.function.Link.{link}
-use Rattle.link_out.specs.function.Reports.{report_text, status_of}
 use Rattle.command_words.specs.declared.words.Call.TheVariants.{Ld}
-use Rattle.v7tools.specs.CommandRuns.{AsksFor}
+use Rattle.v7tools.specs.{CommandRuns.AsksFor, LinkAnswers.TakesAll, LinkAnswers.known_inputs, LinkRuns.inputs_opened}
 use Rattle.surroundings.specs.Events.{Event, Opened, opens, paths_of, stored}
-use Rattle.link_out.specs.Inputs.{linked}
-use Rattle.v7tools.specs.LinkAnswers.{TakesAll, known_inputs}
-use Rattle.v7tools.specs.LinkRuns.{inputs_opened}
 use Rattle.surroundings.specs.declared.office.Stored.TheVariants.{Kept}
-use Rattle.laws.specs.Disks.{Disk, IsOn, Run}
-use Rattle.laws.specs.StepsByCommands.{Links}
+use Rattle.laws.specs.{Disks.Disk, Disks.IsOn, Disks.Run, StepsByCommands.Links}
 use Rattle.conformance.proofs.LawExamples.{below}
 
 abbrev pub heap : Global

@@ -1,26 +1,18 @@
 -- A program that is stripped: the law at a sample, and laws near it that do not hold.
 use Rattle.std.proofs.Common.{◌≡◌, ℕ, List, [], ◌∷◌, Option, Some, None, Ok, refl, sym, ◌∙◌, arith, inr}
-use Rattle.std.specs.List.{AllByRecursion}
-use Rattle.std.specs.Prelude.{codes}
+use Rattle.std.specs.{List.AllByRecursion, Prelude.codes}
 use Rattle.clap.proofs.OnLiterals.{clap_on_literals}
-use Rattle.aout_core.specs.Contents.{Contents, IsSound}
-use Rattle.aout_core.specs.Decoding.{decode}
-use Rattle.aout_core.specs.Names.{IsName}
-use Rattle.aout_core.specs.Encoding.{encoding}
-use Rattle.aout_core.specs.Strip.{stripped}
-use Rattle.tool_options.specs.declared.options.Keep.TheVariants.{Nothing}
-use Rattle.tool_options.specs.Choices.{Choices}
+use Rattle.aout_core.specs.{Contents.Contents, Contents.IsSound, Decoding.decode, Names.IsName, Encoding.encoding, Strip.stripped}
+use Rattle.tool_options.specs.{declared.options.Keep.TheVariants.Nothing, Choices.Choices}
 use Rattle.command_words.specs.declared.words.Call.TheVariants.{Ld, Strip}
 use Rattle.v7tools.specs.CommandRuns.{AsksFor}
-use Rattle.surroundings.specs.Events.{opened, stored}
-use Rattle.surroundings.specs.declared.office.Stored.TheVariants.{Kept}
+use Rattle.surroundings.specs.{Events.opened, Events.stored, declared.office.Stored.TheVariants.Kept}
 use Rattle.laws.specs.Disks.{Run, file_after}
 use Rattle.laws.specs.StepsByCommands.{AreAt, LeaveTheSame, Links, ReportTheSame, StripStepsLaw, Strips}
 use Rattle.conformance.specs.Samples.{d_o, e_o, plain, plain_s}
-use Rattle.conformance.proofs.NeededPremises.{counts}
-use Rattle.conformance.proofs.StepRuns.{contents, holding, sound_file}
-use Rattle.conformance.proofs.StepExamples.{IsIntact, a, a_path, bytes_in, file_there, link_file, one, one_file, p}
-use Rattle.conformance.proofs.StepExamples.{p_path, q, q_path, rows_read, run_links, run_on, whole_asks, whole_words}
+use Rattle.conformance.proofs.StepExamples.{IsIntact, a, a_path, bytes_in, file_there, link_file, one, one_file, p, p_path, q, q_path}
+use Rattle.conformance.proofs.StepExamples.{rows_read, run_links, run_on, whole_asks, whole_words}
+use Rattle.conformance.proofs.{NeededPremises.counts, StepRuns.contents, StepRuns.holding, StepRuns.sound_file}
 
 -- ---- the law, by its premises
 

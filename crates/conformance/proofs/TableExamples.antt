@@ -1,11 +1,8 @@
 -- The name of each row of the table: a word of each, and its text. The words are those of the manual's table with these operands: r1, r2,
 -- (r1), r5, fr3, the numbers 11 and 5, and branches to the word after the next one.
 use Rattle.std.proofs.Common.{◌≡◌, ◌∷◌, [], refl}
-use Rattle.std.specs.Prelude.{codes}
-use Rattle.std.specs.Fmt.{digits}
-use Rattle.instructions.specs.Rows.{begins, row_of}
-use Rattle.instructions.specs.Lines.{lines}
-use Rattle.instructions.specs.Laws.{lines_text}
+use Rattle.std.specs.{Prelude.codes, Fmt.digits}
+use Rattle.instructions.specs.{Rows.begins, Rows.row_of, Lines.lines, Laws.lines_text}
 
 no_operands : lines_text 0 (lines (0o000241 ∷ 0o000242 ∷ 0o000244 ∷ 0o000250 ∷ 0o000261 ∷ 0o000262 ∷ 0o000264 ∷ 0o000270 ∷ []))
     ≡ codes "clc\nclv\nclz\ncln\nsec\nsev\nsez\nsen\n"

@@ -1,19 +1,11 @@
 -- Listings of files: what is written, what is read, and statements near the law of listings that do not hold.
 use Rattle.std.proofs.Common.{◌≡◌, ℕ, ◌+◌, ◌<◌, List, [], ◌∷◌, ◌++◌, refl, ap, arith}
-use Rattle.std.specs.Prelude.{codes, drop, get_or, Result, Ok, Err}
-use Rattle.aout_core.specs.declared.reloc.Reloc.{Reloc}
-use Rattle.aout_core.specs.declared.symbol.Symbol.{Symbol}
-use Rattle.aout_core.specs.Contents.{Contents, IsSound}
-use Rattle.listings.specs.declared.fault.Fault.{Fault}
-use Rattle.listings.specs.declared.fault.Reason.{Reason}
+use Rattle.std.specs.{Prelude.codes, Prelude.drop, Prelude.get_or, Prelude.Result, Prelude.Ok, Prelude.Err, Fmt.digits}
+use Rattle.aout_core.specs.{declared.reloc.Reloc.Reloc, declared.symbol.Symbol.Symbol, Contents.Contents, Contents.IsSound}
 use Rattle.listings.specs.declared.fault.Reason.TheVariants.{NotOctal, UnknownWord, WrongNumber, NoMagic, OddSize}
-use Rattle.std.specs.Fmt.{digits}
-use Rattle.texts.specs.Numbers.{six_digits, octal}
-use Rattle.texts.specs.Names.{printable_name}
-use Rattle.texts.specs.Lines.{text_of}
 use Rattle.listings.specs.Listing.{gap, no_remarks, listing}
-use Rattle.listings.specs.Laws.{ListingLaw}
-use Rattle.listings.specs.Reading.{read}
+use Rattle.listings.specs.{declared.fault.Fault.Fault, declared.fault.Reason.Reason, Laws.ListingLaw, Reading.read}
+use Rattle.texts.specs.{Numbers.six_digits, Numbers.octal, Names.printable_name, Lines.text_of}
 use Rattle.conformance.specs.Samples.{sym as entry_of, object, header, _f}
 use Rattle.conformance.proofs.StepRuns.{sound_file}
 

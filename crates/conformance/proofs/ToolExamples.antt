@@ -1,16 +1,12 @@
 -- Lists of symbols, sizes, and links of inputs.
 use Rattle.std.specs.Prelude.{◌≡◌, true, false, [], ◌∷◌, take, Err, codes, refl}
 use Rattle.std.specs.Fmt.{digits}
-use Rattle.aout_core.specs.declared.file.ReadFault.TheVariants.{Truncated}
-use Rattle.aout_core.specs.declared.object.ObjectFault.TheVariants.{NoRelocation}
-use Rattle.aout_core.specs.Encoding.{encoding}
-use Rattle.aout_core.specs.Strip.{stripped}
-use Rattle.link_out.specs.function.Link.{link}
-use Rattle.texts.specs.Numbers.{six_digits}
-use Rattle.symtools.specs.NmLists.{nm_text}
-use Rattle.symtools.specs.SizeLines.{size_line, size_text}
-use Rattle.link_out.specs.Steps.{refused_as}
+use Rattle.aout_core.specs.{declared.file.ReadFault.TheVariants.Truncated, declared.object.ObjectFault.TheVariants.NoRelocation}
+use Rattle.aout_core.specs.{Encoding.encoding, Strip.stripped}
 use Rattle.link_out.specs.Inputs.{of_input, bad_file, bad_object, linked, not_linked}
+use Rattle.link_out.specs.{function.Link.link, Steps.refused_as}
+use Rattle.texts.specs.Numbers.{six_digits}
+use Rattle.symtools.specs.{NmLists.nm_text, SizeLines.size_line, SizeLines.size_text}
 use Rattle.conformance.specs.Samples.{sym, header, object, L1, a_o, b_o, e_o, s_o, plain_s}
 
 nm_orders : nm_text (record {

@@ -1,17 +1,12 @@
 -- A symbol of another bucket has no label at an address, and has none within a line that is in one block.
 use Rattle.std.proofs.Common.{◌≡◌, ℕ, ◌+◌, ◌<◌, Bool, true, false, eqb, nat_lt, if◌then◌else◌, [], ◌∷◌, ◌++◌, refl, ap, arith}
+use Rattle.std.proofs.{lemmas.Bool.Decides.Decides-eqb, lemmas.Bool.Decides.nat_tests, lemmas.Bool.false_from_ne_true}
 use Rattle.std.specs.Prelude.{◌*◌, ◌%◌, ◌-◌, ◌&&◌, codes}
-use Rattle.std.proofs.lemmas.Bool.Decides.{Decides-eqb, nat_tests}
-use Rattle.std.proofs.lemmas.Bool.{false_from_ne_true}
-use Rattle.aout_core.specs.declared.symbol.Symbol.{Symbol}
-use Rattle.aout_core.specs.declared.symbol.Segment.TheVariants.{TextSeg}
-use Rattle.aout_core.specs.WellFormed.{masked_type}
-use Rattle.texts.specs.Numbers.{octal}
-use Rattle.texts.specs.Lines.{text_of}
+use Rattle.aout_core.specs.{declared.symbol.Symbol.Symbol, declared.symbol.Segment.TheVariants.TextSeg, WellFormed.masked_type}
+use Rattle.texts.specs.{Numbers.octal, Lines.text_of}
 use Rattle.instructions.specs.References.{assembly_name}
-use Rattle.disassemblies.specs.internal.Blocks.{block, bucket_of}
-use Rattle.disassemblies.specs.Naming.{is_at}
 use Rattle.disassemblies.specs.Labels.{label_at, is_within, label_within}
+use Rattle.disassemblies.specs.{internal.Blocks.block, internal.Blocks.bucket_of, Naming.is_at}
 
 and_first : (a c : Bool) → (a && c) ≡ true → a ≡ true
 and_first true c h = refl

@@ -1,14 +1,9 @@
 -- A table is put into chains from its last symbol to the first, and a walk along a chain passes over symbols of other buckets.
-use Rattle.std.proofs.Common.{◌≡◌, ℕ, zero, suc, ◌+◌, ◌<◌, ◌-◌, Bool, true, false, eqb, if◌then◌else◌}
-use Rattle.std.proofs.Common.{Some, None, List, [], ◌∷◌, ◌++◌, length, drop, replicate, refl, sym, ap}
-use Rattle.std.proofs.Common.{subst, ◌∙◌, arith, append_assoc, get_or}
-use Rattle.std.specs.Prelude.{slice_get, slice_set, slice_index_or}
-use Rattle.std.specs.Option.{ForSome}
-use Rattle.std.specs.List.{flat_map}
-use Rattle.std.proofs.lemmas.Bool.{false_from_ne_true}
-use Rattle.std.proofs.lemmas.Bool.Decides.{Decides-eqb}
+use Rattle.std.proofs.Common.{◌≡◌, ℕ, zero, suc, ◌+◌, ◌<◌, ◌-◌, Bool, true, false, eqb, if◌then◌else◌, Some, None, List, [], ◌∷◌, ◌++◌}
+use Rattle.std.proofs.Common.{length, drop, replicate, refl, sym, ap, subst, ◌∙◌, arith, append_assoc, get_or}
 use Rattle.std.proofs.lemmas.Option.{slice_get_past, slice_get-get_or, slice_get_read}
-use Rattle.std.proofs.Math.ListN.{drop_of_length-le}
+use Rattle.std.proofs.{lemmas.Bool.false_from_ne_true, lemmas.Bool.Decides.Decides-eqb, Math.ListN.drop_of_length-le}
+use Rattle.std.specs.{Prelude.slice_get, Prelude.slice_set, Prelude.slice_index_or, Option.ForSome, List.flat_map}
 use Rattle.aout_core.specs.declared.symbol.Symbol.{Symbol}
 use Rattle.disassemblies.specs.internal.Blocks.{place_of, AreFirst, IsNext, AreNext, IsIn, Walks}
 

@@ -1,10 +1,8 @@
 -- Lines of words alone are appended, one after another.
 use Rattle.std.proofs.Common.{◌≡◌, ℕ, ◌-◌, ◌*◌, ◌<◌, List, ◌∷◌, ◌++◌, length, take, drop, sym, ◌∙◌, ap, append_assoc}
 use Rattle.aout_core.specs.Words.{plus}
-use Rattle.instructions.specs.declared.line.Line.{Line}
-use Rattle.instructions.specs.Lines.{line_at, line_length, lines, words_of}
-use Rattle.instructions.proofs.AlikeLemmas.{lines_some}
-use Rattle.instructions.proofs.LineLemmas.{identity}
+use Rattle.instructions.specs.{declared.line.Line.Line, Lines.line_at, Lines.line_length, Lines.lines, Lines.words_of}
+use Rattle.instructions.proofs.{AlikeLemmas.lines_some, LineLemmas.identity}
 use Rattle.disassemblies.specs.Columns.{plain_row, plain_rows}
 
 -- the words of the first line

@@ -1,22 +1,17 @@
 -- The lines from a place on: the first of them, and those after it.
-use Rattle.std.proofs.Common.{◌≡◌, ℕ, zero, suc, ◌+◌, ◌-◌, ◌<◌, ◌≤◌, Bool, true, false, nat_lt, if◌then◌else◌}
-use Rattle.std.proofs.Common.{List, ◌++◌, drop, Option, Some, None, length, refl, sym, ◌∙◌, ap, append_assoc, arith}
+use Rattle.std.proofs.Common.{◌≡◌, ℕ, zero, suc, ◌+◌, ◌-◌, ◌<◌, ◌≤◌, Bool, true, false, nat_lt, if◌then◌else◌, List, ◌++◌, drop, Option}
+use Rattle.std.proofs.Common.{Some, None, length, refl, sym, ◌∙◌, ap, append_assoc, arith}
+use Rattle.std.proofs.{lemmas.Bool.Decides.nat_tests, lemmas.List.length-drop}
 use Rattle.std.specs.Prelude.{slice_get, slice_index}
-use Rattle.std.proofs.lemmas.Bool.Decides.{nat_tests}
 use Rattle.aout_core.specs.Contents.{Contents}
-use Rattle.std.proofs.lemmas.List.{length-drop}
-use Rattle.instructions.specs.declared.call_table.CallRow.{CallRow}
-use Rattle.instructions.specs.declared.instruction.Instruction.{Instruction}
-use Rattle.instructions.specs.declared.line.Line.TheVariants.{Plain, Decoded}
 use Rattle.instructions.specs.Instructions.{instruction_of, following_words, word_count_of}
 use Rattle.instructions.specs.Lines.{line_of, line_length, word_for}
-use Rattle.instructions.specs.declared.unix.Decoder.{Decoder}
-use Rattle.instructions.specs.declared.unix.UnixLine.TheVariants.{Machine, Call}
-use Rattle.instructions.specs.Relocated.{is_relocated}
 use Rattle.instructions.specs.UnixLines.{call_by, unix_line, unix_line_at, unix_length}
+use Rattle.instructions.specs.{declared.call_table.CallRow.CallRow, declared.instruction.Instruction.Instruction}
+use Rattle.instructions.specs.{declared.line.Line.TheVariants.Plain, declared.line.Line.TheVariants.Decoded, declared.unix.Decoder.Decoder}
+use Rattle.instructions.specs.{declared.unix.UnixLine.TheVariants.Machine, declared.unix.UnixLine.TheVariants.Call, Relocated.is_relocated}
 use Rattle.instructions.proofs.UnixLemmas.{unix_short}
-use Rattle.disassemblies.specs.Lines.{unix_line_in}
-use Rattle.disassemblies.specs.Starts.{lines_from}
+use Rattle.disassemblies.specs.{Lines.unix_line_in, Starts.lines_from}
 
 length_by : (d : Decoder) (c : Contents) (place : ℕ) (t : Bool) →
     (1 ≤ unix_length (if t then Machine (Plain (slice_index c.text_words place)) else unix_line_at d c.text_words place))

@@ -1,6 +1,5 @@
 -- A string from a place on: its first byte, and the bytes after it.
-use Rattle.std.proofs.Common.{◌≡◌, ℕ, suc, ◌+◌, ◌-◌, ◌<◌, Bool, true, false, if◌then◌else◌, List, ◌++◌, sym, ◌∙◌, ap}
-use Rattle.std.proofs.Common.{append_assoc, arith}
+use Rattle.std.proofs.Common.{◌≡◌, ℕ, suc, ◌+◌, ◌-◌, ◌<◌, Bool, true, false, if◌then◌else◌, List, ◌++◌, sym, ◌∙◌, ap, append_assoc, arith}
 use Rattle.disassemblies.specs.Strings.{byte_in, is_text, run, character_at, characters}
 
 minus_suc : (n m : ℕ) → n < m → m - n ≡ suc (m - (n + 1))

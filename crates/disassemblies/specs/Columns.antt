@@ -1,16 +1,11 @@
 -- Lines in columns: the address, the words and the text. Those of a file have labels before them. (own choice)
 use Rattle.std.specs.Prelude.{ℕ, ◌+◌, ◌-◌, ◌*◌, List, [], ◌∷◌, ◌++◌, length, take, drop, replicate, codes}
 use Rattle.std.specs.List.{flat_map}
-use Rattle.aout_core.specs.Contents.{Contents}
-use Rattle.aout_core.specs.Words.{plus}
-use Rattle.instructions.specs.declared.line.Line.{Line}
-use Rattle.instructions.specs.declared.unix.Decoder.{Decoder}
+use Rattle.aout_core.specs.{Contents.Contents, Words.plus}
 use Rattle.instructions.specs.Lines.{line_length, lines, words_of}
+use Rattle.instructions.specs.{declared.line.Line.Line, declared.unix.Decoder.Decoder, Texts.line_text}
 use Rattle.texts.specs.Numbers.{six_digits}
-use Rattle.instructions.specs.Texts.{line_text}
-use Rattle.disassemblies.specs.Remarks.{remarked_text}
-use Rattle.disassemblies.specs.Starts.{by_lines}
-use Rattle.disassemblies.specs.Labels.{labels}
+use Rattle.disassemblies.specs.{Remarks.remarked_text, Starts.by_lines, Labels.labels}
 
 abbrev pub word_column : ℕ → List ℕ
 word_column w = six_digits w ++ codes " "

@@ -1,11 +1,8 @@
 -- Labels: the symbols of text, at their addresses. (as(1); labels within a line: own choice)
 use Rattle.std.specs.Prelude.{ℕ, ◌+◌, ◌-◌, ◌*◌, Bool, ◌&&◌, eqb, nat_lt, if◌then◌else◌, List, [], ◌∷◌, ◌++◌, codes}
 use Rattle.std.specs.List.{flat_map}
-use Rattle.aout_core.specs.declared.symbol.Symbol.{Symbol}
-use Rattle.aout_core.specs.declared.symbol.Segment.TheVariants.{TextSeg}
-use Rattle.aout_core.specs.WellFormed.{masked_type}
-use Rattle.texts.specs.Numbers.{octal}
-use Rattle.texts.specs.Lines.{text_of}
+use Rattle.aout_core.specs.{declared.symbol.Symbol.Symbol, declared.symbol.Segment.TheVariants.TextSeg, WellFormed.masked_type}
+use Rattle.texts.specs.{Numbers.octal, Lines.text_of}
 use Rattle.instructions.specs.References.{assembly_name}
 use Rattle.disassemblies.specs.Naming.{is_at}
 

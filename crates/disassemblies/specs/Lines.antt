@@ -2,29 +2,20 @@
 --
 -- A line is at a place, which counts the words of text. A relocated word begins no instruction, since a link changes it. Other
 -- lines are those of the words alone, and each operand is named by its relocation word, or without relocation by its address.
-use Rattle.std.specs.Prelude.{ℕ, ◌+◌, ◌*◌, true, eqb, if◌then◌else◌, List, [], ◌∷◌, ◌++◌, take, drop}
-use Rattle.std.specs.Prelude.{Option, Some, None, slice_get, slice_index}
-use Rattle.aout_core.specs.declared.symbol.Symbol.{Symbol}
-use Rattle.aout_core.specs.declared.symbol.Segment.TheVariants.{TextSeg}
-use Rattle.aout_core.specs.declared.reloc.Reloc.{Reloc}
-use Rattle.aout_core.specs.Contents.{Contents}
-use Rattle.instructions.specs.declared.operation.Operation.{Operation}
-use Rattle.instructions.specs.declared.mode.Addressing.{Addressing}
-use Rattle.instructions.specs.declared.mode.Addressing.TheVariants.{Immediate}
-use Rattle.instructions.specs.declared.operand.Operand.{Operand}
+use Rattle.std.specs.Prelude.{ℕ, ◌+◌, ◌*◌, true, eqb, if◌then◌else◌, List, [], ◌∷◌, ◌++◌, take, drop, Option, Some, None, slice_get}
+use Rattle.std.specs.Prelude.{slice_index}
+use Rattle.aout_core.specs.{declared.symbol.Symbol.Symbol, declared.symbol.Segment.TheVariants.TextSeg, declared.reloc.Reloc.Reloc}
+use Rattle.aout_core.specs.{Contents.Contents}
 use Rattle.instructions.specs.declared.operand.Operand.TheVariants.{General, Forward, Backward}
-use Rattle.instructions.specs.declared.reference.Reference.{Reference}
-use Rattle.instructions.specs.declared.reference.References.{References}
-use Rattle.instructions.specs.declared.line.Line.{Line}
-use Rattle.instructions.specs.declared.line.Line.TheVariants.{Plain, Decoded}
-use Rattle.instructions.specs.declared.unix.Decoder.{Decoder}
-use Rattle.instructions.specs.declared.unix.UnixLine.{UnixLine}
-use Rattle.instructions.specs.declared.unix.UnixLine.TheVariants.{Machine, Call}
-use Rattle.instructions.specs.Modes.{addressing}
-use Rattle.instructions.specs.Instructions.{word_count_of}
-use Rattle.instructions.specs.Relocated.{is_relocated}
 use Rattle.instructions.specs.UnixLines.{unix_line_at, argument_text, call_text}
 use Rattle.instructions.specs.Texts.{number, branch_target, branch_back_target, first_next, second_next, text_with}
+use Rattle.instructions.specs.{declared.operation.Operation.Operation, declared.mode.Addressing.Addressing}
+use Rattle.instructions.specs.{declared.mode.Addressing.TheVariants.Immediate, declared.operand.Operand.Operand}
+use Rattle.instructions.specs.{declared.reference.Reference.Reference, declared.reference.References.References, declared.line.Line.Line}
+use Rattle.instructions.specs.{declared.line.Line.TheVariants.Plain, declared.line.Line.TheVariants.Decoded, declared.unix.Decoder.Decoder}
+use Rattle.instructions.specs.{declared.unix.UnixLine.UnixLine, declared.unix.UnixLine.TheVariants.Machine}
+use Rattle.instructions.specs.{declared.unix.UnixLine.TheVariants.Call, Modes.addressing, Instructions.word_count_of}
+use Rattle.instructions.specs.{Relocated.is_relocated}
 use Rattle.disassemblies.specs.Naming.{symbol_at, exact, object_reference, relocated_text}
 use Rattle.disassemblies.specs.Linked.{located, linked_reference}
 

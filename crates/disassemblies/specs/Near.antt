@@ -3,9 +3,7 @@
 -- A label is near if it is fewer than 0400 bytes before the address. Of several with one value an external comes first, and then the
 -- first of the table.
 use Rattle.std.specs.Prelude.{ℕ, zero, suc, ◌-◌, nat_le, if◌then◌else◌, List, Option, Some, None}
-use Rattle.aout_core.specs.declared.symbol.Symbol.{Symbol}
-use Rattle.aout_core.specs.declared.symbol.Segment.{Segment}
-use Rattle.aout_core.specs.WellFormed.{first_of}
+use Rattle.aout_core.specs.{declared.symbol.Symbol.Symbol, declared.symbol.Segment.Segment, WellFormed.first_of}
 use Rattle.instructions.specs.declared.reference.Reference.{Reference}
 use Rattle.disassemblies.specs.Naming.{symbol_at}
 

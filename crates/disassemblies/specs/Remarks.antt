@@ -3,28 +3,18 @@
 -- A relocated word that has no name in its instruction has a remark, as a relocated word that begins a line has it, but with the near
 -- label. So has one whose mode the relocation does not suit. A string of data that a word refers to is a remark too. Each remark is
 -- after a ` / `.
-use Rattle.std.specs.Prelude.{ℕ, ◌+◌, ◌-◌, ◌*◌, nat_lt, if◌then◌else◌, List, [], ◌∷◌, ◌++◌, take, drop, codes}
-use Rattle.std.specs.Prelude.{Option, Some, None, slice_get}
-use Rattle.aout_core.specs.declared.symbol.Symbol.{Symbol}
-use Rattle.aout_core.specs.declared.symbol.Segment.TheVariants as segments
-use Rattle.aout_core.specs.declared.reloc.Reloc.{Reloc}
-use Rattle.aout_core.specs.declared.reloc.Kind.{Kind}
-use Rattle.aout_core.specs.declared.reloc.Kind.TheVariants as kinds
-use Rattle.aout_core.specs.Contents.{Contents}
-use Rattle.aout_core.specs.Addresses.{target, data_start_in}
-use Rattle.aout_core.specs.WellFormed.{kind_of}
-use Rattle.instructions.specs.declared.reference.Reference.{Reference}
-use Rattle.instructions.specs.declared.reference.References.{References}
-use Rattle.instructions.specs.declared.line.Line.TheVariants.{Plain, Decoded}
-use Rattle.instructions.specs.declared.unix.Decoder.{Decoder}
-use Rattle.instructions.specs.declared.unix.UnixLine.{UnixLine}
-use Rattle.instructions.specs.declared.unix.UnixLine.TheVariants.{Machine, Call}
-use Rattle.instructions.specs.Instructions.{word_count_of}
-use Rattle.instructions.specs.Relocated.{is_relocated}
-use Rattle.disassemblies.specs.Naming.{referred, referred_text, from_the_pc}
-use Rattle.disassemblies.specs.Near.{near}
-use Rattle.disassemblies.specs.Strings.{string_remark}
+use Rattle.std.specs.Prelude.{ℕ, ◌+◌, ◌-◌, ◌*◌, nat_lt, if◌then◌else◌, List, [], ◌∷◌, ◌++◌, take, drop, codes, Option, Some, None}
+use Rattle.std.specs.Prelude.{slice_get}
+use Rattle.aout_core.specs.{declared.symbol.Symbol.Symbol, declared.reloc.Reloc.Reloc, declared.reloc.Kind.Kind, Contents.Contents}
+use Rattle.aout_core.specs.{Addresses.target, Addresses.data_start_in, WellFormed.kind_of}
+use Rattle.instructions.specs.{declared.reference.Reference.Reference, declared.reference.References.References}
+use Rattle.instructions.specs.{declared.line.Line.TheVariants.Plain, declared.line.Line.TheVariants.Decoded, declared.unix.Decoder.Decoder}
+use Rattle.instructions.specs.{declared.unix.UnixLine.UnixLine, declared.unix.UnixLine.TheVariants.Machine}
+use Rattle.instructions.specs.{declared.unix.UnixLine.TheVariants.Call, Instructions.word_count_of, Relocated.is_relocated}
 use Rattle.disassemblies.specs.Lines.{unix_line_in, references, argument_reference, line_text_in}
+use Rattle.disassemblies.specs.{Naming.referred, Naming.referred_text, Naming.from_the_pc, Near.near, Strings.string_remark}
+use Rattle.aout_core.specs.declared.symbol.Segment.TheVariants as segments
+use Rattle.aout_core.specs.declared.reloc.Kind.TheVariants as kinds
 
 -- what a number refers to by its relocation word: of an address the label near it
 abbrev pub near_by : List Symbol → Reloc → ℕ → Option Kind → Option Reference

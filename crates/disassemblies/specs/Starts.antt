@@ -1,11 +1,9 @@
 -- The lines of a file's text, one after the other, the words at which they begin, and the line that has a word. (as(1))
-use Rattle.std.specs.Prelude.{ℕ, zero, suc, ◌+◌, ◌-◌, Bool, true, false, nat_lt, if◌then◌else◌, List, [], ◌∷◌}
-use Rattle.std.specs.Prelude.{◌++◌, Option, Some, None, length, replicate, slice_get}
+use Rattle.std.specs.Prelude.{ℕ, zero, suc, ◌+◌, ◌-◌, Bool, true, false, nat_lt, if◌then◌else◌, List, [], ◌∷◌, ◌++◌, Option, Some, None}
+use Rattle.std.specs.Prelude.{length, replicate, slice_get}
 use Rattle.aout_core.specs.Contents.{Contents}
-use Rattle.instructions.specs.declared.unix.Decoder.{Decoder}
-use Rattle.instructions.specs.declared.unix.Decoder.TheVariants.{Unix}
-use Rattle.instructions.specs.declared.unix.UnixLine.{UnixLine}
-use Rattle.instructions.specs.UnixLines.{unix_length}
+use Rattle.instructions.specs.{declared.unix.Decoder.Decoder, declared.unix.Decoder.TheVariants.Unix, declared.unix.UnixLine.UnixLine}
+use Rattle.instructions.specs.{UnixLines.unix_length}
 use Rattle.disassemblies.specs.Lines.{unix_line_in}
 
 -- what each line from a place on gives by its place and its words, at most so many lines, and what their end gives

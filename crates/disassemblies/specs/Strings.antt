@@ -2,8 +2,8 @@
 --
 -- A string is two or more bytes of text, ended by a NUL. A byte of text prints, or is a tab or a newline. At most 40 bytes are shown: if
 -- more bytes of text follow them, `..` does too, and where these end is not looked at.
-use Rattle.std.specs.Prelude.{ℕ, zero, suc, ◌+◌, ◌/◌, ◌%◌, Bool, false, ◌&&◌, ◌||◌, eqb, nat_le, nat_lt, if◌then◌else◌}
-use Rattle.std.specs.Prelude.{List, [], ◌∷◌, ◌++◌, codes, Option, Some, None, slice_get}
+use Rattle.std.specs.Prelude.{ℕ, zero, suc, ◌+◌, ◌/◌, ◌%◌, Bool, false, ◌&&◌, ◌||◌, eqb, nat_le, nat_lt, if◌then◌else◌, List, [], ◌∷◌, ◌++◌}
+use Rattle.std.specs.Prelude.{codes, Option, Some, None, slice_get}
 
 -- the low byte of a word is first
 abbrev pub half : ℕ → ℕ → ℕ

@@ -1,10 +1,9 @@
 -- Rows of words, one after another.
-use Rattle.std.proofs.Common.{◌≡◌, ℕ, ◌+◌, ◌*◌, ◌<◌, ◌≤◌, true, false, List, []}
-use Rattle.std.proofs.Common.{◌∷◌, ◌++◌, length, min, refl, ap, sym, ◌∙◌, append_assoc, arith}
+use Rattle.std.proofs.Common.{◌≡◌, ℕ, ◌+◌, ◌*◌, ◌<◌, ◌≤◌, true, false, List, [], ◌∷◌, ◌++◌, length, min, refl, ap, sym, ◌∙◌, append_assoc}
+use Rattle.std.proofs.Common.{arith}
 use Rattle.std.proofs.lemmas.List.{length-append}
 use Rattle.std.specs.Prelude.{bytes_eq}
-use Rattle.explanations.specs.declared.rows.Base.{Base}
-use Rattle.explanations.specs.Dumps.{rows, rows_from, folded, row_text}
+use Rattle.explanations.specs.{declared.rows.Base.Base, Dumps.rows, Dumps.rows_from, Dumps.folded, Dumps.row_text}
 
 -- a row comes off, which is short only where nothing follows it
 rows_step : (row rest : List ℕ) → 0 < length row → length row ≤ 8 → (length row < 8 → rest ≡ []) → rows (row ++ rest) ≡ row ∷ rows rest

@@ -2,15 +2,12 @@
 --
 -- A row has its address, its words and its characters. A word is six octal digits, or its two bytes in hexadecimal, the low byte
 -- first, as they are in the file. Rows that are the same as the row before them are not shown, and a remark counts them.
-use Rattle.std.specs.Prelude.{ℕ, ◌+◌, ◌-◌, ◌*◌, ◌/◌, ◌%◌, ◌&&◌, nat_le, nat_lt, eqb, bytes_eq, if◌then◌else◌}
-use Rattle.std.specs.Prelude.{List, [], ◌∷◌, ◌++◌, length, slice_index, codes, decimal}
+use Rattle.std.specs.Prelude.{ℕ, ◌+◌, ◌-◌, ◌*◌, ◌/◌, ◌%◌, ◌&&◌, nat_le, nat_lt, eqb, bytes_eq, if◌then◌else◌, List, [], ◌∷◌, ◌++◌, length}
+use Rattle.std.specs.Prelude.{slice_index, codes, decimal}
 use Rattle.std.specs.List.{flat_map}
-use Rattle.aout_core.specs.Addresses.{data_start_in}
-use Rattle.aout_core.specs.Contents.{Contents}
-use Rattle.texts.specs.Columns.{blanks}
-use Rattle.texts.specs.Numbers.{six_digits}
-use Rattle.explanations.specs.declared.rows.Base.{Base}
-use Rattle.explanations.specs.declared.rows.Base.TheVariants.{Octal, Hexadecimal}
+use Rattle.aout_core.specs.{Addresses.data_start_in, Contents.Contents}
+use Rattle.texts.specs.{Columns.blanks, Numbers.six_digits}
+use Rattle.explanations.specs.{declared.rows.Base.Base, declared.rows.Base.TheVariants.Octal, declared.rows.Base.TheVariants.Hexadecimal}
 
 -- ---- numbers
 

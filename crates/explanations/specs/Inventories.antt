@@ -1,30 +1,19 @@
 -- A line of an inventory: what a file is, its sizes, its symbols, what is wrong or odd in it, and its path. (own choice)
 --
 -- A number that a kind of file does not have, or that is not counted, is a hyphen.
-use Rattle.std.specs.Prelude.{ℕ, ◌+◌, Bool, ◌&&◌, eqb, nat_lt, true, false, if◌then◌else◌, List, [], ◌∷◌, ◌++◌, length, codes}
-use Rattle.std.specs.Prelude.{decimal, filter, option_map, Option, Some, None}
-use Rattle.aout_core.specs.Contents.{Contents}
-use Rattle.aout_core.specs.Decoding.{header_in}
-use Rattle.aout_core.specs.WellFormed.{is_undefined}
-use Rattle.aout_core.specs.declared.file.ReadFault.{ReadFault}
-use Rattle.aout_core.specs.declared.file.ReadFault.TheVariants as faults
-use Rattle.aout_core.specs.declared.header.Header.{Header}
-use Rattle.aout_core.specs.declared.symbol.Symbol.{Symbol}
-use Rattle.findings.specs.Found.{Found}
-use Rattle.findings.specs.Odd.{odd}
-use Rattle.findings.specs.OtherFiles.{is_of_gnu, other_form}
-use Rattle.findings.specs.declared.other_files.OtherForm.{OtherForm}
-use Rattle.findings.specs.declared.other_files.OtherForm.TheVariants as forms
+use Rattle.std.specs.Prelude.{ℕ, ◌+◌, Bool, ◌&&◌, eqb, nat_lt, true, false, if◌then◌else◌, List, [], ◌∷◌, ◌++◌, length, codes, decimal}
+use Rattle.std.specs.Prelude.{filter, option_map, Option, Some, None}
+use Rattle.aout_core.specs.{Contents.Contents, Decoding.header_in, WellFormed.is_undefined, declared.file.ReadFault.ReadFault}
+use Rattle.aout_core.specs.{declared.header.Header.Header, declared.symbol.Symbol.Symbol}
+use Rattle.findings.specs.{Found.Found, Odd.odd, OtherFiles.is_of_gnu, OtherFiles.other_form, declared.other_files.OtherForm.OtherForm}
 use Rattle.suspicions.specs.Suspicions.{suspicions}
-use Rattle.texts.specs.Columns.{at_left, at_right}
-use Rattle.texts.specs.Numbers.{padded_octal}
-use Rattle.explanations.specs.Said.{printed}
-use Rattle.explanations.specs.declared.inventory.Condition.{Condition}
+use Rattle.texts.specs.{Columns.at_left, Columns.at_right, Numbers.padded_octal}
 use Rattle.explanations.specs.declared.inventory.Condition.TheVariants.{NotExamined, DamagedAt, Odd}
-use Rattle.explanations.specs.declared.inventory.InventoryRow.{InventoryRow}
-use Rattle.explanations.specs.declared.inventory.SegmentSizes.{SegmentSizes}
-use Rattle.explanations.specs.declared.inventory.SymbolCounts.{SymbolCounts}
-use Rattle.explanations.specs.declared.file_kind.FileKind.{FileKind}
+use Rattle.explanations.specs.{Said.printed, declared.inventory.Condition.Condition, declared.inventory.InventoryRow.InventoryRow}
+use Rattle.explanations.specs.{declared.inventory.SegmentSizes.SegmentSizes, declared.inventory.SymbolCounts.SymbolCounts}
+use Rattle.explanations.specs.{declared.file_kind.FileKind.FileKind}
+use Rattle.aout_core.specs.declared.file.ReadFault.TheVariants as faults
+use Rattle.findings.specs.declared.other_files.OtherForm.TheVariants as forms
 use Rattle.explanations.specs.declared.file_kind.FileKind.TheVariants as kinds
 
 -- ---- what a file is

@@ -2,27 +2,19 @@
 -- relocation word refers to, and the letter that nm has for each symbol. (a.out(5), as(1), nm(1); the words: own choice)
 --
 -- A byte below the blank is shown as a backslash and three octal digits, so a note or a remark never leaves its line.
-use Rattle.std.specs.Prelude.{ℕ, ◌+◌, ◌*◌, ◌%◌, Bool, true, ◌&&◌, nat_lt, nat_le, eqb, if◌then◌else◌, List, [], ◌∷◌}
-use Rattle.std.specs.Prelude.{◌++◌, length, map, Option, Some, None, slice_get, slice_index, codes, decimal}
+use Rattle.std.specs.Prelude.{ℕ, ◌+◌, ◌*◌, ◌%◌, Bool, true, ◌&&◌, nat_lt, nat_le, eqb, if◌then◌else◌, List, [], ◌∷◌, ◌++◌, length, map}
+use Rattle.std.specs.Prelude.{Option, Some, None, slice_get, slice_index, codes, decimal}
 use Rattle.std.specs.List.{flat_map}
-use Rattle.aout_core.specs.declared.reloc.Reloc.{Reloc}
-use Rattle.aout_core.specs.declared.reloc.Kind.{Kind}
-use Rattle.aout_core.specs.declared.reloc.Kind.TheVariants as kinds
-use Rattle.aout_core.specs.declared.symbol.Symbol.{Symbol}
 use Rattle.aout_core.specs.WellFormed.{is_undefined, is_pc_relative, kind_of, symbol_number}
+use Rattle.aout_core.specs.{declared.reloc.Reloc.Reloc, declared.reloc.Kind.Kind, declared.symbol.Symbol.Symbol, Contents.Contents}
+use Rattle.aout_core.specs.{declared.part.Part.Part, Addresses.data_start_in, Addresses.target}
 use Rattle.symtools.specs.SymbolLines.{letter}
-use Rattle.texts.specs.Numbers.{six_digits, octal}
-use Rattle.texts.specs.Names.{escaped, printable_name}
-use Rattle.aout_core.specs.Contents.{Contents}
-use Rattle.aout_core.specs.declared.part.Part.{Part}
-use Rattle.aout_core.specs.declared.part.Part.TheVariants as parts
-use Rattle.aout_core.specs.Addresses.{data_start_in, target}
+use Rattle.texts.specs.{Numbers.six_digits, Numbers.octal, Names.escaped, Names.printable_name}
 use Rattle.listings.specs.Listing.{Remarks}
-use Rattle.instructions.specs.declared.unix.Decoder.TheVariants.{Unix}
-use Rattle.instructions.specs.UnixLines.{unix_length}
-use Rattle.disassemblies.specs.Lines.{unix_line_in, line_text_in}
-use Rattle.disassemblies.specs.Labels.{label_lines}
-use Rattle.disassemblies.specs.Starts.{is_start}
+use Rattle.instructions.specs.{declared.unix.Decoder.TheVariants.Unix, UnixLines.unix_length}
+use Rattle.disassemblies.specs.{Lines.unix_line_in, Lines.line_text_in, Labels.label_lines, Starts.is_start}
+use Rattle.aout_core.specs.declared.reloc.Kind.TheVariants as kinds
+use Rattle.aout_core.specs.declared.part.Part.TheVariants as parts
 
 abbrev pub printed_byte : ℕ → List ℕ
 printed_byte b = if nat_lt b 32 then escaped b else b ∷ []

@@ -1,11 +1,7 @@
 -- Bad relocation words: those of text and of data are one list.
 use Rattle.std.proofs.Common.{◌≡◌, ℕ, ◌+◌, ◌*◌, List, [], ◌∷◌, ◌++◌, length, sym, ◌∙◌, ap, arith, append_assoc}
-use Rattle.aout_core.specs.declared.reloc.Reloc.{Reloc}
-use Rattle.aout_core.specs.Contents.{Contents}
-use Rattle.aout_core.specs.WellFormed.{word_fault}
-use Rattle.findings.specs.Found.{Found}
-use Rattle.findings.specs.Texts.{bad_word_text, owner_text}
-use Rattle.findings.specs.Wrong.{fault_kind, bad_word, bad_words}
+use Rattle.aout_core.specs.{declared.reloc.Reloc.Reloc, Contents.Contents, WellFormed.word_fault}
+use Rattle.findings.specs.{Found.Found, Texts.bad_word_text, Texts.owner_text, Wrong.fault_kind, Wrong.bad_word, Wrong.bad_words}
 
 bad_words-append : (c : Contents) (place n : ℕ) (rs ss : List Reloc) →
     bad_words c place n (rs ++ ss) ≡ bad_words c place n rs ++ bad_words c place (n + length rs) ss

@@ -1,15 +1,10 @@
 -- One more symbol of a table: what is odd in it, and that its name is noted.
-use Rattle.std.proofs.Common.{◌≡◌, refl, ℕ, ◌+◌, ◌<◌, Bool, true, false, if◌then◌else◌, not, ◌&&◌}
-use Rattle.std.proofs.Common.{is_some, Option, Some, None, List, [], ◌∷◌, ◌++◌, take, drop, length}
-use Rattle.std.proofs.Common.{get_or, sym, ◌∙◌, ap, arith, append_assoc}
+use Rattle.std.proofs.Common.{◌≡◌, refl, ℕ, ◌+◌, ◌<◌, Bool, true, false, if◌then◌else◌, not, ◌&&◌, is_some, Option, Some, None, List, []}
+use Rattle.std.proofs.Common.{◌∷◌, ◌++◌, take, drop, length, get_or, sym, ◌∙◌, ap, arith, append_assoc}
+use Rattle.std.proofs.{lemmas.List.drop_more, lemmas.List.take_more, lemmas.List.length-take, lemmas.Slice.Eq.bytes_eq-Decides}
 use Rattle.std.specs.Prelude.{bytes_eq}
-use Rattle.std.proofs.lemmas.List.{drop_more, take_more, length-take}
-use Rattle.std.proofs.lemmas.Slice.Eq.{bytes_eq-Decides}
-use Rattle.aout_core.specs.declared.symbol.Symbol.{Symbol}
-use Rattle.aout_core.specs.Contents.{Contents}
-use Rattle.aout_core.specs.WellFormed.{first_of}
-use Rattle.findings.specs.Found.{Found}
-use Rattle.findings.specs.Odd.{first_named_from, first_named, odd_symbol, symbol_at, odd_symbols}
+use Rattle.aout_core.specs.{declared.symbol.Symbol.Symbol, Contents.Contents, WellFormed.first_of}
+use Rattle.findings.specs.{Found.Found, Odd.first_named_from, Odd.first_named, Odd.odd_symbol, Odd.symbol_at, Odd.odd_symbols}
 
 pub symbols_more : (c : Contents) (bytes : List ℕ) (symbols : List Symbol) (i : ℕ) (s : Symbol) (old new whole : List Found) →
     i < length symbols → s ≡ get_or symbols i s →

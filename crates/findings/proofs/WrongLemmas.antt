@@ -1,20 +1,14 @@
 -- No relocation word is shown as wrong exactly if the check of objects finds none that is bad.
 use Rattle.std.proofs.Common.{◌≡◌, ℕ, ◌+◌, ◌*◌, Bool, true, false, Option, Some, None, List, refl, ◌∙◌, ap}
 use Rattle.std.specs.Prelude.{◌↔◌, [], ◌∷◌, ◌++◌, not, eqb, take, length, slice_get, if◌then◌else◌}
-use Rattle.aout_core.specs.declared.symbol.Symbol.{Symbol}
-use Rattle.aout_core.specs.declared.reloc.Reloc.{Reloc}
-use Rattle.aout_core.specs.declared.reloc.Kind.{Kind}
-use Rattle.aout_core.specs.declared.reloc.Kind.TheVariants as kinds
-use Rattle.aout_core.specs.declared.object.ObjectFault.{ObjectFault}
 use Rattle.aout_core.specs.declared.object.ObjectFault.TheVariants.{NotAnObject, NoRelocation, BadSymbolNumber}
-use Rattle.aout_core.specs.Contents.{Contents}
-use Rattle.aout_core.specs.Encoding.{relocation_at}
 use Rattle.aout_core.specs.WellFormed.{is_wanted, kind_of, symbol_number, kind_fault, word_fault, first_of, first_bad_word}
-use Rattle.findings.specs.declared.finding.FindingKind.{FindingKind}
-use Rattle.findings.specs.Found.{Found}
-use Rattle.findings.specs.Texts.{bad_word_text, owner_text}
+use Rattle.aout_core.specs.{declared.symbol.Symbol.Symbol, declared.reloc.Reloc.Reloc, declared.reloc.Kind.Kind}
+use Rattle.aout_core.specs.{declared.object.ObjectFault.ObjectFault, Contents.Contents, Encoding.relocation_at}
 use Rattle.findings.specs.Wrong.{fault_kind, bad_word, bad_words, all_bad_words, more_bad_words, wrong_words}
-use Rattle.findings.specs.WrongLaw.{WrongWordsLaw, WrongObjectsLaw}
+use Rattle.findings.specs.{declared.finding.FindingKind.FindingKind, Found.Found, Texts.bad_word_text, Texts.owner_text}
+use Rattle.findings.specs.{WrongLaw.WrongWordsLaw, WrongLaw.WrongObjectsLaw}
+use Rattle.aout_core.specs.declared.reloc.Kind.TheVariants as kinds
 
 nothing : (xs ys : List Found) → xs ++ ys ≡ [] → (xs ≡ []) × (ys ≡ [])
 nothing [] ys e = (refl, e)

@@ -1,8 +1,7 @@
 -- What is found in a file: at which byte, what it is, and its text. (own choice)
 use Rattle.std.specs.Prelude.{◌≡◌, ℕ, Bool, false, if◌then◌else◌, List, [], ◌∷◌, ◌++◌, map}
 use Rattle.texts.specs.Texts.{Written}
-use Rattle.findings.specs.declared.finding.Finding.{Finding}
-use Rattle.findings.specs.declared.finding.FindingKind.{FindingKind}
+use Rattle.findings.specs.{declared.finding.Finding.Finding, declared.finding.FindingKind.FindingKind}
 
 pub record Found : Type 0 where
   pub place : ℕ

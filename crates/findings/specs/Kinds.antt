@@ -1,8 +1,7 @@
 -- What a file is named as, by its magic number and its flag. (a.out(5), ld(1); the words: own choice)
 use Rattle.std.specs.Prelude.{ℕ, eqb, if◌then◌else◌, List, [], ◌++◌, codes, Option, Some, None}
-use Rattle.aout_core.specs.declared.header.Header.{Header}
-use Rattle.aout_core.specs.declared.object.ObjectFault.{ObjectFault}
 use Rattle.aout_core.specs.declared.object.ObjectFault.TheVariants.{NotAnObject, NoRelocation, BadRelocation, BadSymbolNumber}
+use Rattle.aout_core.specs.{declared.header.Header.Header, declared.object.ObjectFault.ObjectFault}
 
 abbrev pub program_text : ℕ → List ℕ
 program_text magic =

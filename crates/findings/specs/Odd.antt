@@ -2,32 +2,22 @@
 --
 -- The header comes first, then the relocation words of text and of data, and then the symbols. Each finding has the byte of the file
 -- at which the odd field begins.
-use Rattle.std.specs.Prelude.{ℕ, ◌+◌, ◌-◌, ◌*◌, ◌%◌, Bool, true, false, not, ◌&&◌, ◌||◌, eqb, nat_lt}
-use Rattle.std.specs.Prelude.{nat_le, if◌then◌else◌, List, [], ◌∷◌, ◌++◌, take, drop, length, slice_index}
-use Rattle.std.specs.Prelude.{bytes_eq, Option, Some, None}
+use Rattle.std.specs.Prelude.{ℕ, ◌+◌, ◌-◌, ◌*◌, ◌%◌, Bool, true, false, not, ◌&&◌, ◌||◌, eqb, nat_lt, nat_le, if◌then◌else◌, List, [], ◌∷◌}
+use Rattle.std.specs.Prelude.{◌++◌, take, drop, length, slice_index, bytes_eq, Option, Some, None}
 use Rattle.std.specs.List.{list_any}
-use Rattle.aout_core.specs.declared.header.Header.{Header}
-use Rattle.aout_core.specs.declared.symbol.Symbol.{Symbol}
-use Rattle.aout_core.specs.declared.symbol.Segment.{Segment}
-use Rattle.aout_core.specs.declared.reloc.Reloc.{Reloc}
-use Rattle.aout_core.specs.declared.reloc.Kind.{Kind}
-use Rattle.aout_core.specs.declared.reloc.Kind.TheVariants.{External}
-use Rattle.aout_core.specs.Contents.{Contents}
-use Rattle.aout_core.specs.Encoding.{relocation_at, symbols_at, file_length}
 use Rattle.aout_core.specs.WellFormed.{is_undefined, kind_of, masked_type, segment_of}
-use Rattle.aout_core.specs.Words.{plus}
-use Rattle.aout_core.specs.Addresses.{data_start_in, target}
+use Rattle.aout_core.specs.{declared.header.Header.Header, declared.symbol.Symbol.Symbol, declared.symbol.Segment.Segment}
+use Rattle.aout_core.specs.{declared.reloc.Reloc.Reloc, declared.reloc.Kind.Kind, declared.reloc.Kind.TheVariants.External}
+use Rattle.aout_core.specs.{Contents.Contents, Encoding.relocation_at, Encoding.symbols_at, Encoding.file_length, Words.plus}
+use Rattle.aout_core.specs.{Addresses.data_start_in, Addresses.target}
 use Rattle.texts.specs.Names.{is_printable}
-use Rattle.findings.specs.declared.finding.FindingKind.TheVariants.{IgnoredEntry, IgnoredWord, BytesAfterTable}
-use Rattle.findings.specs.declared.finding.FindingKind.TheVariants.{IgnoredRelocationBits, OutsideReference, EmptyName}
-use Rattle.findings.specs.declared.finding.FindingKind.TheVariants.{UnprintableName, BytesAfterName, RepeatedName}
-use Rattle.findings.specs.declared.finding.FindingKind.TheVariants.{IgnoredTypeBits, UnknownType, OddCommon}
-use Rattle.findings.specs.declared.finding.FindingKind.TheVariants.{OutsideValue}
-use Rattle.findings.specs.Found.{Found, found_if}
-use Rattle.findings.specs.OddTexts.{entry_text, unused_text, bytes_after_text, ignored_bits_text}
-use Rattle.findings.specs.OddTexts.{outside_reference_text, symbol_title, empty_name_text, hidden_text, rest_text}
-use Rattle.findings.specs.OddTexts.{repeated_text, type_bits_text, unknown_type_text, common_text, outside_value_text}
-use Rattle.findings.specs.Segments.{has_address, segment_meant}
+use Rattle.findings.specs.declared.finding.FindingKind.TheVariants.{IgnoredEntry, IgnoredWord, BytesAfterTable, IgnoredRelocationBits}
+use Rattle.findings.specs.declared.finding.FindingKind.TheVariants.{OutsideReference, EmptyName, UnprintableName, BytesAfterName}
+use Rattle.findings.specs.declared.finding.FindingKind.TheVariants.{RepeatedName, IgnoredTypeBits, UnknownType, OddCommon, OutsideValue}
+use Rattle.findings.specs.OddTexts.{entry_text, unused_text, bytes_after_text, ignored_bits_text, outside_reference_text, symbol_title}
+use Rattle.findings.specs.OddTexts.{empty_name_text, hidden_text, rest_text, repeated_text, type_bits_text, unknown_type_text, common_text}
+use Rattle.findings.specs.OddTexts.{outside_value_text}
+use Rattle.findings.specs.{Found.Found, Found.found_if, Segments.has_address, Segments.segment_meant}
 
 -- the entry point of a file with relocation
 abbrev pub odd_entry : Header → List Found

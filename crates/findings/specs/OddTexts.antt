@@ -1,10 +1,8 @@
 -- The texts of findings that are odd, and not refused, with their numbers. (own choice)
 use Rattle.std.specs.Prelude.{ℕ, List, ◌++◌, codes, decimal}
-use Rattle.aout_core.specs.declared.header.Header.{Header}
-use Rattle.aout_core.specs.declared.symbol.Segment.{Segment}
-use Rattle.aout_core.specs.declared.symbol.Segment.TheVariants.{DataSeg, BssSeg}
-use Rattle.texts.specs.Numbers.{octal_and_decimal, six_digits}
-use Rattle.texts.specs.Names.{printable_name}
+use Rattle.aout_core.specs.{declared.header.Header.Header, declared.symbol.Segment.Segment, declared.symbol.Segment.TheVariants.DataSeg}
+use Rattle.aout_core.specs.{declared.symbol.Segment.TheVariants.BssSeg}
+use Rattle.texts.specs.{Numbers.octal_and_decimal, Numbers.six_digits, Names.printable_name}
 use Rattle.findings.specs.Segments.{segment_from, segment_to}
 
 unfoldable pub entry_text : ℕ → List ℕ

@@ -1,18 +1,14 @@
 -- What a file is that is not an a.out file of the Seventh Edition: by its first bytes, or as what GNU's assembler makes. (own choice)
-use Rattle.std.specs.Prelude.{ℕ, ◌+◌, ◌*◌, ◌==◌, ◌&&◌, ◌||◌, Bool, true, false, nat_eq, nat_le, nat_lt, if◌then◌else◌}
-use Rattle.std.specs.Prelude.{List, [], ◌∷◌, length, codes, option_map, Option, Some, None, Result, Ok, Err}
+use Rattle.std.specs.Prelude.{ℕ, ◌+◌, ◌*◌, ◌==◌, ◌&&◌, ◌||◌, Bool, true, false, nat_eq, nat_le, nat_lt, if◌then◌else◌, List, [], ◌∷◌}
+use Rattle.std.specs.Prelude.{length, codes, option_map, Option, Some, None, Result, Ok, Err}
 use Rattle.std.specs.List.{list_all, starts_with}
-use Rattle.aout_core.specs.Contents.{Contents, is_magic}
-use Rattle.aout_core.specs.Decoding.{header_in}
+use Rattle.aout_core.specs.{Contents.Contents, Contents.is_magic, Decoding.header_in}
 use Rattle.findings.specs.declared.other_files.OtherForm.{OtherForm}
-use Rattle.findings.specs.declared.other_files.OtherForm.TheVariants.{Empty, Elf, Archive, OldArchive, PortableArchive}
-use Rattle.findings.specs.declared.other_files.OtherForm.TheVariants.{PlainText, Swapped}
-use Rattle.gnu_objects.specs.Converted.{converted}
-use Rattle.gnu_objects.specs.declared.options.Locals.TheVariants.{KeepAll}
-use Rattle.gnu_objects.specs.declared.options.Options.{Options}
-use Rattle.gnu_objects.specs.declared.refusal.Refusal.{Refusal}
-use Rattle.gnu_objects.specs.declared.refusal.Refusal.TheVariants.{Overlay, BadPlace, Stab, Description}
-use Rattle.gnu_objects.specs.declared.refusal.Refusal.TheVariants.{Linked, TooManySymbols, AlikeNames, StabWord, LocalWord, BadWord}
+use Rattle.findings.specs.declared.other_files.OtherForm.TheVariants.{Empty, Elf, Archive, OldArchive, PortableArchive, PlainText, Swapped}
+use Rattle.gnu_objects.specs.declared.refusal.Refusal.TheVariants.{Overlay, BadPlace, Stab, Description, Linked, TooManySymbols, AlikeNames}
+use Rattle.gnu_objects.specs.declared.refusal.Refusal.TheVariants.{StabWord, LocalWord, BadWord}
+use Rattle.gnu_objects.specs.{Converted.converted, declared.options.Locals.TheVariants.KeepAll, declared.options.Options.Options}
+use Rattle.gnu_objects.specs.{declared.refusal.Refusal.Refusal}
 
 -- a newline, a carriage return, a tab, a blank, or what prints
 abbrev pub is_of_text : ℕ → Bool

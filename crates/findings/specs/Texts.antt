@@ -1,19 +1,12 @@
 -- The texts of findings that are damage: what is wrong, with its numbers. (own choice)
-use Rattle.std.specs.Prelude.{ℕ, ◌+◌, ◌*◌, false, nat_lt, if◌then◌else◌, List, [], ◌++◌, length, slice_get}
-use Rattle.std.specs.Prelude.{codes, decimal, Bool, Option, Some, None}
-use Rattle.aout_core.specs.declared.header.Header.{Header}
-use Rattle.aout_core.specs.declared.symbol.Symbol.{Symbol}
-use Rattle.aout_core.specs.declared.reloc.Reloc.{Reloc}
-use Rattle.aout_core.specs.Contents.{Contents}
-use Rattle.aout_core.specs.Encoding.{relocation_at, symbols_at, file_length}
-use Rattle.aout_core.specs.WellFormed.{symbol_number}
-use Rattle.texts.specs.Numbers.{octal, octal_and_decimal, six_digits}
-use Rattle.texts.specs.Names.{printable_name}
+use Rattle.std.specs.Prelude.{ℕ, ◌+◌, ◌*◌, false, nat_lt, if◌then◌else◌, List, [], ◌++◌, length, slice_get, codes, decimal, Bool, Option}
+use Rattle.std.specs.Prelude.{Some, None}
+use Rattle.aout_core.specs.{declared.header.Header.Header, declared.symbol.Symbol.Symbol, declared.reloc.Reloc.Reloc, Contents.Contents}
+use Rattle.aout_core.specs.{Encoding.relocation_at, Encoding.symbols_at, Encoding.file_length, WellFormed.symbol_number}
+use Rattle.texts.specs.{Numbers.octal, Numbers.octal_and_decimal, Numbers.six_digits, Names.printable_name}
 use Rattle.instructions.specs.declared.unix.Decoder.TheVariants.{Unix}
-use Rattle.disassemblies.specs.Starts.{starts, line_start}
-use Rattle.disassemblies.specs.Lines.{line_text_in}
-use Rattle.findings.specs.declared.finding.FindingKind.{FindingKind}
-use Rattle.findings.specs.declared.finding.FindingKind.TheVariants.{BadRelocation}
+use Rattle.disassemblies.specs.{Starts.starts, Starts.line_start, Lines.line_text_in}
+use Rattle.findings.specs.{declared.finding.FindingKind.FindingKind, declared.finding.FindingKind.TheVariants.BadRelocation}
 
 unfoldable pub short_header_text : List ℕ
 short_header_text = codes "short header: the file ends here, and a header has 16 bytes"

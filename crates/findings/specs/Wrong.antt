@@ -1,22 +1,16 @@
 -- What is damaged in a file: why it is refused, at which byte, and in which words. (a.out(5); the refusals: own choice)
-use Rattle.std.specs.Prelude.{ℕ, ◌+◌, ◌*◌, ◌-◌, ◌%◌, Bool, true, false, not, eqb, nat_lt, if◌then◌else◌, List, []}
-use Rattle.std.specs.Prelude.{◌∷◌, ◌++◌, take, length, codes, Option, Some, None}
-use Rattle.aout_core.specs.declared.header.Header.{Header}
-use Rattle.aout_core.specs.declared.reloc.Reloc.{Reloc}
-use Rattle.aout_core.specs.declared.file.ReadFault.{ReadFault}
+use Rattle.std.specs.Prelude.{ℕ, ◌+◌, ◌*◌, ◌-◌, ◌%◌, Bool, true, false, not, eqb, nat_lt, if◌then◌else◌, List, [], ◌∷◌, ◌++◌, take, length}
+use Rattle.std.specs.Prelude.{codes, Option, Some, None}
+use Rattle.aout_core.specs.{declared.header.Header.Header, declared.reloc.Reloc.Reloc, declared.file.ReadFault.ReadFault}
+use Rattle.aout_core.specs.{declared.object.ObjectFault.ObjectFault, Contents.Contents, Encoding.relocation_at, Decoding.header_in}
+use Rattle.aout_core.specs.{WellFormed.word_fault}
+use Rattle.findings.specs.declared.finding.FindingKind.TheVariants.{ShortHeader, BadMagic, OddSize, Truncated, BadRelocation}
+use Rattle.findings.specs.declared.finding.FindingKind.TheVariants.{BadSymbolNumber, MoreBadWords}
+use Rattle.findings.specs.Texts.{short_header_text, bad_magic_text, odd_size_text, odd_table_text, truncated_text, bad_word_text}
+use Rattle.findings.specs.Texts.{owner_text, more_text}
+use Rattle.findings.specs.{declared.finding.FindingKind.FindingKind, Found.Found, Found.found_if}
 use Rattle.aout_core.specs.declared.file.ReadFault.TheVariants as faults
-use Rattle.aout_core.specs.declared.object.ObjectFault.{ObjectFault}
 use Rattle.aout_core.specs.declared.object.ObjectFault.TheVariants as refusals
-use Rattle.aout_core.specs.Contents.{Contents}
-use Rattle.aout_core.specs.Encoding.{relocation_at}
-use Rattle.aout_core.specs.Decoding.{header_in}
-use Rattle.aout_core.specs.WellFormed.{word_fault}
-use Rattle.findings.specs.declared.finding.FindingKind.{FindingKind}
-use Rattle.findings.specs.declared.finding.FindingKind.TheVariants.{ShortHeader, BadMagic, OddSize, Truncated}
-use Rattle.findings.specs.declared.finding.FindingKind.TheVariants.{BadRelocation, BadSymbolNumber, MoreBadWords}
-use Rattle.findings.specs.Found.{Found, found_if}
-use Rattle.findings.specs.Texts.{short_header_text, bad_magic_text, odd_size_text, odd_table_text, truncated_text}
-use Rattle.findings.specs.Texts.{bad_word_text, owner_text, more_text}
 
 -- the size of a part, at its word of the header
 abbrev pub odd_size : ℕ → List ℕ → ℕ → List Found

@@ -1,7 +1,6 @@
 -- What holds of a file of which no relocation word is found wrong. (own choice)
 use Rattle.std.specs.Prelude.{◌≡◌, ◌↔◌, true, eqb, [], ◌++◌, None}
-use Rattle.aout_core.specs.Contents.{Contents}
-use Rattle.aout_core.specs.WellFormed.{first_bad_word, IsWellFormed}
+use Rattle.aout_core.specs.{Contents.Contents, WellFormed.first_bad_word, WellFormed.IsWellFormed}
 use Rattle.findings.specs.Wrong.{wrong_words}
 
 -- the check of an object finds no bad relocation word

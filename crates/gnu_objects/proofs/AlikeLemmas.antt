@@ -1,15 +1,12 @@
 -- What a map finds for a name once a name, or a symbol that counts, has been put in.
-use Rattle.std.proofs.Common.{◌≡◌, ℕ, ◌+◌, ◌<◌, Bool, true, false, cond, not, ◌&&◌, nat_eq, if◌then◌else◌, List, drop}
-use Rattle.std.proofs.Common.{take, length, Option, Some, None, Result, Ok, Err, OnErr, get_or, refl, sym, ap, ◌∙◌}
-use Rattle.std.proofs.lemmas.Cmp.{nat_list_eq_equiv}
-use Rattle.std.proofs.lemmas.List.{drop_more}
+use Rattle.std.proofs.Common.{◌≡◌, ℕ, ◌+◌, ◌<◌, Bool, true, false, cond, not, ◌&&◌, nat_eq, if◌then◌else◌, List, drop, take, length, Option}
+use Rattle.std.proofs.Common.{Some, None, Result, Ok, Err, OnErr, get_or, refl, sym, ap, ◌∙◌}
+use Rattle.std.proofs.{lemmas.Cmp.nat_list_eq_equiv, lemmas.List.drop_more}
 use Rattle.std.specs.Cmp.Lexicographic.{pointwise, same_text}
 use Rattle.indexmap.specs.IndexMap.{IndexMap, get}
-use Rattle.gnu_objects.specs.declared.alike.Equals.{Equals}
-use Rattle.gnu_objects.specs.declared.symbols.GnuSymbol.{GnuSymbol}
-use Rattle.gnu_objects.specs.GnuForm.{name_at}
 use Rattle.gnu_objects.specs.Staying.{are_alike, counts, alike_with}
 use Rattle.gnu_objects.specs.internal.AlikeNames.{other_than, found, first_number, PutsName, PutsSymbol, PutsSymbolsFrom, FindsNoLess}
+use Rattle.gnu_objects.specs.{declared.alike.Equals.Equals, declared.symbols.GnuSymbol.GnuSymbol, GnuForm.name_at}
 
 pub alike-symm : (a b : List ℕ) → are_alike a b ≡ are_alike b a
 alike-symm a b =

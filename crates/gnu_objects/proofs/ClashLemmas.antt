@@ -1,18 +1,16 @@
 -- Files of whose externals none is found clash with none of those whose names are put in.
-use Rattle.std.proofs.Common.{◌≡◌, ℕ, ◌+◌, Bool, true, false, ◌&&◌, ◌||◌, if◌then◌else◌, List, [], ◌∷◌, ◌++◌}
-use Rattle.std.proofs.Common.{take, Option, Some, None, refl, sym, ap, ◌∙◌, subst}
+use Rattle.std.proofs.Common.{◌≡◌, ℕ, ◌+◌, Bool, true, false, ◌&&◌, ◌||◌, if◌then◌else◌, List, [], ◌∷◌, ◌++◌, take, Option, Some, None}
+use Rattle.std.proofs.Common.{refl, sym, ap, ◌∙◌, subst}
 use Rattle.std.specs.List.{list_any}
 use Rattle.indexmap.specs.IndexMap.{IndexMap}
 use Rattle.aout_core.specs.Decoding.{header_in}
-use Rattle.gnu_objects.specs.declared.alike.Equals.{Equals}
-use Rattle.gnu_objects.specs.declared.clash.Clash.{Clash}
-use Rattle.gnu_objects.specs.declared.symbols.GnuSymbol.{GnuSymbol}
 use Rattle.gnu_objects.specs.GnuForm.{name_at, strings_of, symbols_of}
 use Rattle.gnu_objects.specs.Staying.{are_alike, counts, alike_with, is_some}
-use Rattle.gnu_objects.specs.Clashes.{clash_at, clash_of, clash_first, first_clash_from, first_clash}
-use Rattle.gnu_objects.specs.Clashes.{clash_in, found_first, clash_among_from}
+use Rattle.gnu_objects.specs.Clashes.{clash_at, clash_of, clash_first, first_clash_from, first_clash, clash_in, found_first}
+use Rattle.gnu_objects.specs.Clashes.{clash_among_from}
 use Rattle.gnu_objects.specs.internal.AlikeNames.{found, first_number, PutsSymbols, FindsNoLess}
 use Rattle.gnu_objects.specs.internal.Files.{external_alike, NoneAlike, HasNames, is_found, may_clash, clash_among_files}
+use Rattle.gnu_objects.specs.{declared.alike.Equals.Equals, declared.clash.Clash.Clash, declared.symbols.GnuSymbol.GnuSymbol}
 use Rattle.gnu_objects.proofs.AlikeLemmas.{alike-symm}
 
 -- no symbol of these that counts is alike with a name

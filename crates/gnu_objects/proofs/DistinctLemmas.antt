@@ -1,15 +1,11 @@
 -- Different names of symbols that stay are different in eight bytes.
-use Rattle.std.proofs.Common.{◌≡◌, ◌≢◌, ℕ, zero, suc, ◌+◌, ◌<◌, Bool, true, false, not, ◌&&◌, ◌||◌, nat_eq}
-use Rattle.std.proofs.Common.{if◌then◌else◌, List, [], ◌∷◌, take, Option, Some, None, slice_get, refl}
-use Rattle.std.proofs.Common.{sym, ap, ◌∙◌, arith, ◌⊎◌, inl, inr}
-use Rattle.std.proofs.lemmas.Bool.{cases_order}
-use Rattle.std.proofs.lemmas.Cmp.{nat_list_eq_equiv}
+use Rattle.std.proofs.Common.{◌≡◌, ◌≢◌, ℕ, zero, suc, ◌+◌, ◌<◌, Bool, true, false, not, ◌&&◌, ◌||◌, nat_eq, if◌then◌else◌, List, [], ◌∷◌}
+use Rattle.std.proofs.Common.{take, Option, Some, None, slice_get, refl, sym, ap, ◌∙◌, arith, ◌⊎◌, inl, inr}
+use Rattle.std.proofs.{lemmas.Bool.cases_order, lemmas.Cmp.nat_list_eq_equiv}
 use Rattle.std.specs.Cmp.Lexicographic.{pointwise, same_text}
-use Rattle.gnu_objects.specs.declared.options.Locals.{Locals}
-use Rattle.gnu_objects.specs.declared.symbols.GnuSymbol.{GnuSymbol}
-use Rattle.gnu_objects.specs.GnuForm.{name_at, is_stab}
 use Rattle.gnu_objects.specs.Staying.{is_external, is_chosen, are_alike, counts, alike_with, is_some, collides, stays}
 use Rattle.gnu_objects.specs.GnuRefusals.{alike_at, alike_refusal, first_alike}
+use Rattle.gnu_objects.specs.{declared.options.Locals.Locals, declared.symbols.GnuSymbol.GnuSymbol, GnuForm.name_at, GnuForm.is_stab}
 use Rattle.gnu_objects.proofs.ReferenceLemmas.{both_none}
 
 cut_same : (a b : List ℕ) → take 8 a ≡ take 8 b → pointwise nat_eq (take 8 a) (take 8 b) ≡ true

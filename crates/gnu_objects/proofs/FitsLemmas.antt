@@ -1,16 +1,12 @@
 -- The parts of a converted object fit its header.
-use Rattle.std.proofs.Common.{◌≡◌, ℕ, ◌+◌, ◌*◌, ◌/◌, ◌%◌, ◌&&◌, ◌==◌, Bool, true, false, IsTrue, if◌then◌else◌, List}
-use Rattle.std.proofs.Common.{take, drop, length, replicate, refl, sym, ap, subst, ◌∙◌, arith}
+use Rattle.std.proofs.Common.{◌≡◌, ℕ, ◌+◌, ◌*◌, ◌/◌, ◌%◌, ◌&&◌, ◌==◌, Bool, true, false, IsTrue, if◌then◌else◌, List, take, drop, length}
+use Rattle.std.proofs.Common.{replicate, refl, sym, ap, subst, ◌∙◌, arith}
 use Rattle.std.proofs.lemmas.List.{length-map, length-take, length-drop, length-replicate}
 use Rattle.std.proofs.lemmas.List.FromFn.{length-map-range_with_len}
-use Rattle.aout_core.specs.declared.header.Header.{Header}
-use Rattle.aout_core.specs.Contents.{Fits, is_magic}
-use Rattle.aout_core.specs.Encoding.{relocation_at}
-use Rattle.gnu_objects.specs.declared.symbols.GnuSymbol.{GnuSymbol}
+use Rattle.aout_core.specs.{declared.header.Header.Header, Contents.Fits, Contents.is_magic, Encoding.relocation_at}
 use Rattle.gnu_objects.specs.GnuForm.{word_at, symbol_at, words_from, symbols_from, relocation_of}
-use Rattle.gnu_objects.specs.Staying.{pairs_kept, count}
 use Rattle.gnu_objects.specs.Converted.{contents_with, renumbered, converted_symbol}
-use Rattle.gnu_objects.specs.internal.Sizes.{IsObjectHeader}
+use Rattle.gnu_objects.specs.{declared.symbols.GnuSymbol.GnuSymbol, Staying.pairs_kept, Staying.count, internal.Sizes.IsObjectHeader}
 use Rattle.gnu_objects.proofs.StayingLemmas.{length-pairs_kept}
 
 pub length-words_from : (bytes : List ℕ) (at count : ℕ) → length (words_from bytes at count) ≡ count

@@ -1,7 +1,7 @@
 -- The bytes before the first NUL have none.
 use Rattle.std.proofs.Common.{◌≡◌, ◌==◌, ℕ, Bool, true, false, cond, List, [], ◌∷◌, take, Some, None, refl, sym, ap, ◌∙◌}
-use Rattle.std.specs.List.{position}
 use Rattle.std.proofs.Math.Seq.{take-length}
+use Rattle.std.specs.List.{position}
 use Rattle.aout_core.proofs.NameLemmas.{nul_found, nul_missing, take-before_nul}
 use Rattle.aout_core.specs.Names.{before_nul}
 

@@ -1,13 +1,11 @@
 -- How many symbols stay before each.
-use Rattle.std.proofs.Common.{◌≡◌, ℕ, zero, suc, ◌+◌, ◌*◌, ◌/◌, ◌%◌, ◌≤◌, ◌<◌, ◌⊎◌, inl, inr, Bool, true, false}
-use Rattle.std.proofs.Common.{if◌then◌else◌, List, [], ◌∷◌, ◌++◌, take, length, min, get_or, refl, sym, ap, ◌∙◌, arith}
-use Rattle.std.proofs.lemmas.Bool.{cases_lt}
-use Rattle.std.proofs.lemmas.List.{take_all}
+use Rattle.std.proofs.Common.{◌≡◌, ℕ, zero, suc, ◌+◌, ◌*◌, ◌/◌, ◌%◌, ◌≤◌, ◌<◌, ◌⊎◌, inl, inr, Bool, true, false, if◌then◌else◌, List, []}
+use Rattle.std.proofs.Common.{◌∷◌, ◌++◌, take, length, min, get_or, refl, sym, ap, ◌∙◌, arith}
 use Rattle.std.proofs.lemmas.List.FromFn.{get_or-map-range_with_len, length-map-range_with_len, map-range_with_len_more}
+use Rattle.std.proofs.{lemmas.Bool.cases_lt, lemmas.List.take_all}
 use Rattle.aout_core.specs.declared.reloc.Reloc.{Reloc}
-use Rattle.gnu_objects.specs.Staying.{count, refers}
-use Rattle.gnu_objects.specs.Converted.{renumbered}
 use Rattle.gnu_objects.specs.internal.Ranks.{one_if, ranks_to, ranks_of}
+use Rattle.gnu_objects.specs.{Staying.count, Staying.refers, Converted.renumbered}
 
 -- no more stay than there are
 pub count_le : (flags : List Bool) → count flags ≤ length flags

@@ -1,23 +1,16 @@
 -- What the words of a converted object refer to.
-use Rattle.std.proofs.Common.{◌≡◌, ℕ, zero, suc, ◌+◌, ◌*◌, ◌/◌, ◌%◌, ◌<◌, ◌≤◌, Bool, true, false, ◌==◌, eqb, eqb-true}
-use Rattle.std.proofs.Common.{if◌then◌else◌, List, [], ◌∷◌, ◌++◌, map, take, length, Option, Some, None, option_map}
-use Rattle.std.proofs.Common.{slice_get, refl, sym, ap, ◌∙◌, arith, ◌⊎◌, inl, inr}
-use Rattle.std.proofs.lemmas.Bool.{cases_lt}
-use Rattle.std.proofs.lemmas.List.{length-map}
-use Rattle.std.proofs.lemmas.Option.{slice_get-map, slice_get_past}
-use Rattle.aout_core.specs.declared.object.ObjectFault.{ObjectFault}
-use Rattle.aout_core.specs.declared.object.ObjectFault.TheVariants.{BadSymbolNumber}
-use Rattle.aout_core.specs.declared.reloc.Reloc.{Reloc}
-use Rattle.aout_core.specs.declared.reloc.Kind.TheVariants.{External}
-use Rattle.aout_core.specs.declared.symbol.Symbol.{Symbol}
-use Rattle.aout_core.specs.Contents.{Contents}
+use Rattle.std.proofs.Common.{◌≡◌, ℕ, zero, suc, ◌+◌, ◌*◌, ◌/◌, ◌%◌, ◌<◌, ◌≤◌, Bool, true, false, ◌==◌, eqb, eqb-true, if◌then◌else◌, List}
+use Rattle.std.proofs.Common.{[], ◌∷◌, ◌++◌, map, take, length, Option, Some, None, option_map, slice_get, refl, sym, ap, ◌∙◌, arith, ◌⊎◌}
+use Rattle.std.proofs.Common.{inl, inr}
+use Rattle.std.proofs.{lemmas.Bool.cases_lt, lemmas.List.length-map, lemmas.Option.slice_get-map, lemmas.Option.slice_get_past}
 use Rattle.aout_core.specs.WellFormed.{kind_numbered, kind_of, symbol_number, is_wanted, kind_fault, word_fault, first_of, first_bad_word}
-use Rattle.gnu_objects.specs.declared.refusal.Refusal.{Refusal}
-use Rattle.gnu_objects.specs.declared.symbols.GnuSymbol.{GnuSymbol}
-use Rattle.gnu_objects.specs.Staying.{refers, kept, count}
+use Rattle.aout_core.specs.{declared.object.ObjectFault.ObjectFault, declared.object.ObjectFault.TheVariants.BadSymbolNumber}
+use Rattle.aout_core.specs.{declared.reloc.Reloc.Reloc, declared.reloc.Kind.TheVariants.External, declared.symbol.Symbol.Symbol}
+use Rattle.aout_core.specs.{Contents.Contents}
 use Rattle.gnu_objects.specs.GnuRefusals.{refused_first, dropped_refusal, word_refusal, first_dropped_word}
-use Rattle.gnu_objects.specs.Converted.{renumbered, converted_symbol}
 use Rattle.gnu_objects.specs.Laws.{GnuFile, RefersAlike, IsSameReference, AreSameReferences}
+use Rattle.gnu_objects.specs.{declared.refusal.Refusal.Refusal, declared.symbols.GnuSymbol.GnuSymbol, Staying.refers, Staying.kept}
+use Rattle.gnu_objects.specs.{Staying.count, Converted.renumbered, Converted.converted_symbol}
 use Rattle.gnu_objects.proofs.StayingLemmas.{length-kept, kept_at}
 
 pub both_none : (a b : Option Refusal) → refused_first a b ≡ None → (a ≡ None) × (b ≡ None)

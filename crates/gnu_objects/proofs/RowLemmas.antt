@@ -1,7 +1,7 @@
 -- Rows of items, one for each number.
 use Rattle.std.proofs.Common.{◌≡◌, ℕ, ◌+◌, List, [], ◌∷◌, ◌++◌, map, sym, ap, ◌∙◌, arith}
-use Rattle.std.specs.List.{range_with_len}
 use Rattle.std.proofs.lemmas.List.FromFn.{map-range_with_len_more}
+use Rattle.std.specs.List.{range_with_len}
 
 -- a row with one item more
 pub row_more : {A : Type 0} (f : ℕ → A) (n : ℕ) (before after : List A) (x : A) →

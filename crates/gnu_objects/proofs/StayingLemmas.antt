@@ -1,11 +1,10 @@
 -- The symbols that stay.
-use Rattle.std.proofs.Common.{◌≡◌, ℕ, zero, suc, ◌+◌, Bool, true, false, List, [], ◌∷◌, map, take}
-use Rattle.std.proofs.Common.{length, Some, slice_get, refl, ap, ◌∙◌, arith}
+use Rattle.std.proofs.Common.{◌≡◌, ℕ, zero, suc, ◌+◌, Bool, true, false, List, [], ◌∷◌, map, take, length, Some, slice_get, refl, ap, ◌∙◌}
+use Rattle.std.proofs.Common.{arith}
 use Rattle.std.proofs.lemmas.List.{length-map}
 use Rattle.aout_core.specs.declared.symbol.Symbol.{Symbol}
-use Rattle.gnu_objects.specs.declared.options.Locals.{Locals}
-use Rattle.gnu_objects.specs.declared.symbols.GnuSymbol.{GnuSymbol}
 use Rattle.gnu_objects.specs.Staying.{staying_from, staying, pairs_kept, kept, count}
+use Rattle.gnu_objects.specs.{declared.options.Locals.Locals, declared.symbols.GnuSymbol.GnuSymbol}
 
 pub length-staying_from : (locals : Locals) (strings : List ℕ) (symbols : List GnuSymbol) (words : List ℕ) (n : ℕ) (rest : List GnuSymbol) →
     length (staying_from locals strings symbols words n rest) ≡ length rest

@@ -1,11 +1,8 @@
 -- Externals of two files whose names differ, and are equal in eight bytes. (own choice)
 use Rattle.std.specs.Prelude.{ℕ, ◌+◌, true, if◌then◌else◌, List, [], ◌∷◌, take, Option, Some, None}
-use Rattle.aout_core.specs.declared.header.Header.{Header}
-use Rattle.aout_core.specs.Decoding.{header_in}
-use Rattle.gnu_objects.specs.declared.clash.Clash.{Clash}
-use Rattle.gnu_objects.specs.declared.symbols.GnuSymbol.{GnuSymbol}
+use Rattle.aout_core.specs.{declared.header.Header.Header, Decoding.header_in}
 use Rattle.gnu_objects.specs.GnuForm.{name_at, strings_of, symbols_of}
-use Rattle.gnu_objects.specs.Staying.{counts, alike_with}
+use Rattle.gnu_objects.specs.{declared.clash.Clash.Clash, declared.symbols.GnuSymbol.GnuSymbol, Staying.counts, Staying.alike_with}
 
 abbrev pub clash_at : ℕ → Option ℕ → Option Clash
 clash_at n None = None

@@ -2,22 +2,15 @@
 --
 -- The words of text and data stay. A relocation word of an external gets the number that its symbol has among those that stay, and
 -- else stays. A symbol keeps the first eight bytes of its name, its type and its value.
-use Rattle.std.specs.Prelude.{ℕ, ◌+◌, ◌*◌, ◌/◌, ◌%◌, Bool, if◌then◌else◌, List, map, take, drop}
-use Rattle.std.specs.Prelude.{length, Option, Some, None, Result, Ok, Err}
-use Rattle.aout_core.specs.declared.header.Header.{Header}
-use Rattle.aout_core.specs.declared.reloc.Reloc.{Reloc}
-use Rattle.aout_core.specs.declared.symbol.Symbol.{Symbol}
-use Rattle.aout_core.specs.declared.object.ObjectFault.{ObjectFault}
-use Rattle.aout_core.specs.Contents.{Contents}
-use Rattle.aout_core.specs.Decoding.{header_in}
-use Rattle.aout_core.specs.WellFormed.{first_object_fault}
-use Rattle.gnu_objects.specs.declared.refusal.Refusal.{Refusal}
-use Rattle.gnu_objects.specs.declared.refusal.Refusal.TheVariants.{BadWord}
-use Rattle.gnu_objects.specs.declared.symbols.GnuSymbol.{GnuSymbol}
-use Rattle.gnu_objects.specs.declared.options.Options.{Options}
+use Rattle.std.specs.Prelude.{ℕ, ◌+◌, ◌*◌, ◌/◌, ◌%◌, Bool, if◌then◌else◌, List, map, take, drop, length, Option, Some, None, Result, Ok}
+use Rattle.std.specs.Prelude.{Err}
+use Rattle.aout_core.specs.{declared.header.Header.Header, declared.reloc.Reloc.Reloc, declared.symbol.Symbol.Symbol}
+use Rattle.aout_core.specs.{declared.object.ObjectFault.ObjectFault, Contents.Contents, Decoding.header_in, WellFormed.first_object_fault}
 use Rattle.gnu_objects.specs.GnuForm.{words_from, symbols_of, strings_of, relocation_of, name_at}
 use Rattle.gnu_objects.specs.Staying.{refers, staying, pairs_kept, count}
 use Rattle.gnu_objects.specs.GnuRefusals.{header_refusal, strings_refusal, table_refusal}
+use Rattle.gnu_objects.specs.{declared.refusal.Refusal.Refusal, declared.refusal.Refusal.TheVariants.BadWord}
+use Rattle.gnu_objects.specs.{declared.symbols.GnuSymbol.GnuSymbol, declared.options.Options.Options}
 
 -- a relocation word, an external by its number among the symbols that stay
 abbrev pub renumbered : List Bool → ℕ → Reloc

@@ -2,20 +2,15 @@
 --
 -- First the header and the sizes are checked, then the strings, each symbol, the entry point, the number of symbols that stay, the
 -- externals, of which no two may be equal in eight bytes only, and last the relocation words.
-use Rattle.std.specs.Prelude.{ℕ, ◌+◌, ◌/◌, ◌%◌, Bool, true, false, ◌&&◌, ◌||◌, ◌==◌, not, nat_lt, nat_le, if◌then◌else◌}
-use Rattle.std.specs.Prelude.{List, [], ◌∷◌, take, length, slice_get, Option, Some, None}
-use Rattle.aout_core.specs.declared.header.Header.{Header}
-use Rattle.aout_core.specs.Decoding.{header_in}
-use Rattle.aout_core.specs.Encoding.{file_length}
-use Rattle.gnu_objects.specs.declared.refusal.Refusal.{Refusal}
-use Rattle.gnu_objects.specs.declared.refusal.Refusal.TheVariants.{ShortHeader, BadMagic, OddSize, Truncated}
-use Rattle.gnu_objects.specs.declared.refusal.Refusal.TheVariants.{BadStrings, Overlay, BadPlace, Stab, Description}
-use Rattle.gnu_objects.specs.declared.refusal.Refusal.TheVariants.{Linked, TooManySymbols, AlikeNames, StabWord}
+use Rattle.std.specs.Prelude.{ℕ, ◌+◌, ◌/◌, ◌%◌, Bool, true, false, ◌&&◌, ◌||◌, ◌==◌, not, nat_lt, nat_le, if◌then◌else◌, List, [], ◌∷◌}
+use Rattle.std.specs.Prelude.{take, length, slice_get, Option, Some, None}
+use Rattle.aout_core.specs.{declared.header.Header.Header, Decoding.header_in, Encoding.file_length}
+use Rattle.gnu_objects.specs.declared.refusal.Refusal.TheVariants.{ShortHeader, BadMagic, OddSize, Truncated, BadStrings, Overlay, BadPlace}
+use Rattle.gnu_objects.specs.declared.refusal.Refusal.TheVariants.{Stab, Description, Linked, TooManySymbols, AlikeNames, StabWord}
 use Rattle.gnu_objects.specs.declared.refusal.Refusal.TheVariants.{LocalWord}
+use Rattle.gnu_objects.specs.{declared.refusal.Refusal.Refusal, declared.symbols.GnuSymbol.GnuSymbol, GnuForm.long_at, GnuForm.name_at}
+use Rattle.gnu_objects.specs.{GnuForm.is_stab, Staying.counts, Staying.alike_with, Staying.refers, Staying.count}
 use Rattle.gnu_objects.specs.declared.refusal.Size.TheVariants as sizes
-use Rattle.gnu_objects.specs.declared.symbols.GnuSymbol.{GnuSymbol}
-use Rattle.gnu_objects.specs.GnuForm.{long_at, name_at, is_stab}
-use Rattle.gnu_objects.specs.Staying.{counts, alike_with, refers, count}
 
 -- the first of two refusals, if there is one
 abbrev pub refused_first : Option Refusal → Option Refusal → Option Refusal

@@ -1,17 +1,11 @@
 -- The law of conversion: what an object in GNU's form and the object that it becomes have in common. (own choice)
 use Rattle.std.specs.Prelude.{◌≡◌, ◌≢◌, ℕ, ◌+◌, ◌/◌, true, List, map, take, drop, slice_get, Some, Ok}
 use Rattle.std.specs.List.{AllZip}
-use Rattle.aout_core.specs.declared.header.Header.{Header}
-use Rattle.aout_core.specs.declared.reloc.Reloc.{Reloc}
-use Rattle.aout_core.specs.declared.reloc.Kind.TheVariants.{External}
-use Rattle.aout_core.specs.Contents.{Contents}
-use Rattle.aout_core.specs.Decoding.{header_in}
-use Rattle.aout_core.specs.WellFormed.{kind_of, is_pc_relative, symbol_number}
-use Rattle.gnu_objects.specs.declared.options.Options.{Options}
-use Rattle.gnu_objects.specs.declared.symbols.GnuSymbol.{GnuSymbol}
+use Rattle.aout_core.specs.{declared.header.Header.Header, declared.reloc.Reloc.Reloc, declared.reloc.Kind.TheVariants.External}
+use Rattle.aout_core.specs.{Contents.Contents, Decoding.header_in, WellFormed.kind_of, WellFormed.is_pc_relative, WellFormed.symbol_number}
 use Rattle.gnu_objects.specs.GnuForm.{words_from, symbols_of, strings_of, relocation_of, name_at}
-use Rattle.gnu_objects.specs.Staying.{stays, staying, kept}
-use Rattle.gnu_objects.specs.Converted.{converted, converted_symbol}
+use Rattle.gnu_objects.specs.{declared.options.Options.Options, declared.symbols.GnuSymbol.GnuSymbol, Staying.stays, Staying.staying}
+use Rattle.gnu_objects.specs.{Staying.kept, Converted.converted, Converted.converted_symbol}
 
 -- a file in GNU's form by its parts
 pub record GnuFile : Type 0 where

@@ -1,19 +1,14 @@
 -- The byte of a file that a refusal is about, and the whole name of a symbol. (own choice)
 use Rattle.std.specs.Prelude.{◌≡◌, ℕ, ◌+◌, ◌*◌, ◌/◌, ◌<◌, ◌≤◌, nat_lt, nat_le, ◌||◌, if◌then◌else◌, List, [], take, length, None, is_some}
-use Rattle.aout_core.specs.declared.header.Header.{Header}
-use Rattle.aout_core.specs.declared.object.ObjectFault.{ObjectFault}
 use Rattle.aout_core.specs.declared.object.ObjectFault.TheVariants.{NotAnObject, NoRelocation, BadRelocation, BadSymbolNumber}
-use Rattle.aout_core.specs.Decoding.{header_in}
 use Rattle.aout_core.specs.Encoding.{relocation_at, symbols_at, file_length}
-use Rattle.gnu_objects.specs.declared.refusal.Refusal.{Refusal}
-use Rattle.gnu_objects.specs.declared.refusal.Refusal.TheVariants.{ShortHeader, BadMagic, OddSize, Truncated}
-use Rattle.gnu_objects.specs.declared.refusal.Refusal.TheVariants.{BadStrings, Overlay, BadPlace, Stab, Description}
-use Rattle.gnu_objects.specs.declared.refusal.Refusal.TheVariants.{Linked, TooManySymbols, AlikeNames, StabWord}
+use Rattle.aout_core.specs.{declared.header.Header.Header, declared.object.ObjectFault.ObjectFault, Decoding.header_in}
+use Rattle.gnu_objects.specs.declared.refusal.Refusal.TheVariants.{ShortHeader, BadMagic, OddSize, Truncated, BadStrings, Overlay, BadPlace}
+use Rattle.gnu_objects.specs.declared.refusal.Refusal.TheVariants.{Stab, Description, Linked, TooManySymbols, AlikeNames, StabWord}
 use Rattle.gnu_objects.specs.declared.refusal.Refusal.TheVariants.{LocalWord, BadWord, Memory}
-use Rattle.gnu_objects.specs.declared.refusal.Size.{Size}
 use Rattle.gnu_objects.specs.declared.refusal.Size.TheVariants.{TextSize, DataSize, BssSize, SymbolSize}
-use Rattle.gnu_objects.specs.GnuForm.{symbol_at, strings_of, name_at}
-use Rattle.gnu_objects.specs.GnuRefusals.{header_refusal, strings_refusal}
+use Rattle.gnu_objects.specs.{declared.refusal.Refusal.Refusal, declared.refusal.Size.Size, GnuForm.symbol_at, GnuForm.strings_of}
+use Rattle.gnu_objects.specs.{GnuForm.name_at, GnuRefusals.header_refusal, GnuRefusals.strings_refusal}
 
 abbrev pub symbol_place : Header → ℕ → ℕ
 symbol_place h n = symbols_at h + 8 * n

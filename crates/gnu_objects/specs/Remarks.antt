@@ -1,14 +1,11 @@
 -- What is reported of externals whose names are cut, and of locals that are dropped because of their names. (own choice)
 use Rattle.std.specs.Prelude.{ℕ, ◌+◌, false, nat_lt, if◌then◌else◌, List, [], ◌∷◌, ◌++◌, take, length, Option, Some, None}
 use Rattle.std.specs.Option.{option_to_list}
-use Rattle.aout_core.specs.declared.header.Header.{Header}
-use Rattle.aout_core.specs.Decoding.{header_in}
-use Rattle.gnu_objects.specs.declared.options.Locals.{Locals}
-use Rattle.gnu_objects.specs.declared.remark.Remark.{Remark}
-use Rattle.gnu_objects.specs.declared.remark.Remark.TheVariants.{Cut, Dropped}
-use Rattle.gnu_objects.specs.declared.symbols.GnuSymbol.{GnuSymbol}
+use Rattle.aout_core.specs.{declared.header.Header.Header, Decoding.header_in}
 use Rattle.gnu_objects.specs.GnuForm.{name_at, is_stab, strings_of, symbols_of, relocation_of}
 use Rattle.gnu_objects.specs.Staying.{is_external, is_chosen, alike_with}
+use Rattle.gnu_objects.specs.{declared.options.Locals.Locals, declared.remark.Remark.Remark, declared.remark.Remark.TheVariants.Cut}
+use Rattle.gnu_objects.specs.{declared.remark.Remark.TheVariants.Dropped, declared.symbols.GnuSymbol.GnuSymbol}
 
 abbrev pub cut_remark : ℕ → List ℕ → Option Remark
 cut_remark n name = if nat_lt 8 (length name) then Some (Cut n) else None

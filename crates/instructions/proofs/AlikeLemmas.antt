@@ -1,16 +1,12 @@
 -- The lines of two texts that differ at most in words that move, and of texts one after the other.
-use Rattle.std.proofs.Common.{◌≡◌, ℕ, zero, suc, ◌+◌, ◌-◌, ◌<◌, ◌≤◌, Bool, true, false, nat_lt, if◌then◌else◌}
-use Rattle.std.proofs.Common.{Option, Some, None, List, [], ◌∷◌, ◌++◌, length, take, drop, slice_get}
-use Rattle.std.proofs.Common.{refl, sym, ap, subst, ◌∙◌, arith}
-use Rattle.std.proofs.lemmas.Bool.Decides.{nat_tests}
-use Rattle.std.proofs.lemmas.List.{length-drop, take_rest}
-use Rattle.instructions.specs.declared.instruction.Instruction.{Instruction}
-use Rattle.instructions.specs.declared.line.Line.{Line}
-use Rattle.instructions.specs.declared.line.Line.TheVariants.{Plain, Decoded}
-use Rattle.instructions.specs.Operands.{takes_word}
+use Rattle.std.proofs.Common.{◌≡◌, ℕ, zero, suc, ◌+◌, ◌-◌, ◌<◌, ◌≤◌, Bool, true, false, nat_lt, if◌then◌else◌, Option, Some, None, List, []}
+use Rattle.std.proofs.Common.{◌∷◌, ◌++◌, length, take, drop, slice_get, refl, sym, ap, subst, ◌∙◌, arith}
+use Rattle.std.proofs.{lemmas.Bool.Decides.nat_tests, lemmas.List.length-drop, lemmas.List.take_rest}
 use Rattle.instructions.specs.Instructions.{instruction_of, word_count_of, following_words}
 use Rattle.instructions.specs.Lines.{word_for, line_of, line_at, line_length, lines_within, lines}
 use Rattle.instructions.specs.Alike.{AlikeWords, AlikeLine, AlikeLines, is_cut, AreWhole}
+use Rattle.instructions.specs.{declared.instruction.Instruction.Instruction, declared.line.Line.Line, declared.line.Line.TheVariants.Plain}
+use Rattle.instructions.specs.{declared.line.Line.TheVariants.Decoded, Operands.takes_word}
 use Rattle.instructions.proofs.LineLemmas.{length_from, line_within}
 
 -- the bound on the number of lines does not matter if it is no less than that of the words

@@ -1,21 +1,13 @@
 -- What holds of each row of the table of calls: by its name it is found again.
-use Rattle.std.proofs.Common.{◌≡◌, ℕ, ◌≤◌, ◌<◌, ◌/◌, Bool, true, false, ◌&&◌, eqb, nat_lt, Option, Some, None, List}
-use Rattle.std.proofs.Common.{[], ◌∷◌, ◌++◌, slice_index, refl, subst, cond, arith}
-use Rattle.std.specs.Prelude.{IfSome}
+use Rattle.std.proofs.Common.{◌≡◌, ℕ, ◌≤◌, ◌<◌, ◌/◌, Bool, true, false, ◌&&◌, eqb, nat_lt, Option, Some, None, List, [], ◌∷◌, ◌++◌}
+use Rattle.std.proofs.Common.{slice_index, refl, subst, cond, arith}
 use Rattle.std.proofs.lemmas.Bool.Decides.{Decides-eqb, nat_tests}
-use Rattle.std.specs.List.{find}
-use Rattle.instructions.specs.declared.call_table.CallRow.{CallRow}
-use Rattle.instructions.specs.declared.unix.Decoder.{Decoder}
+use Rattle.std.specs.{Prelude.IfSome, List.find}
+use Rattle.instructions.specs.{declared.call_table.CallRow.CallRow, declared.unix.Decoder.Decoder, declared.call_table.TheConstants.CALLS}
+use Rattle.instructions.specs.{CallNames.call_name, Calls.system_calls, Rows.begins, Rows.row_of, UnixLines.call_word, UnixLines.call_of}
+use Rattle.instructions.specs.{UnixLines.call_by, UnixLaws.AreMadeBySys, internal.CallSearch.call_in}
+use Rattle.instructions.proofs.{SplitLemmas.free, TableLemmas.same_text}
 use Rattle.instructions.specs.declared.unix.Decoder.TheVariants as decoders
-use Rattle.instructions.specs.declared.call_table.TheConstants.{CALLS}
-use Rattle.instructions.specs.CallNames.{call_name}
-use Rattle.instructions.specs.Calls.{system_calls}
-use Rattle.instructions.specs.Rows.{begins, row_of}
-use Rattle.instructions.specs.UnixLines.{call_word, call_of, call_by}
-use Rattle.instructions.specs.UnixLaws.{AreMadeBySys}
-use Rattle.instructions.specs.internal.CallSearch.{call_in}
-use Rattle.instructions.proofs.SplitLemmas.{free}
-use Rattle.instructions.proofs.TableLemmas.{same_text}
 
 -- the call of a name
 unfoldable pub call_named : List ℕ → Option CallRow

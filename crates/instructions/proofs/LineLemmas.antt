@@ -1,19 +1,14 @@
 -- A line has the words that it was made of.
-use Rattle.std.proofs.Common.{◌≡◌, ℕ, zero, suc, ◌+◌, ◌<◌, ◌≤◌, Bool, true, false, nat_lt, if◌then◌else◌}
-use Rattle.std.proofs.Common.{Option, Some, None, List, [], ◌∷◌, ◌++◌, length, take, drop, slice_get}
-use Rattle.std.proofs.Common.{slice_index, refl, sym, ap, ◌∙◌, arith}
-use Rattle.std.proofs.lemmas.Bool.Decides.{nat_tests}
-use Rattle.std.specs.List.{flat_map}
+use Rattle.std.proofs.Common.{◌≡◌, ℕ, zero, suc, ◌+◌, ◌<◌, ◌≤◌, Bool, true, false, nat_lt, if◌then◌else◌, Option, Some, None, List, [], ◌∷◌}
+use Rattle.std.proofs.Common.{◌++◌, length, take, drop, slice_get, slice_index, refl, sym, ap, ◌∙◌, arith}
 use Rattle.std.proofs.lemmas.List.{length-drop, take-append-drop}
-use Rattle.std.proofs.Math.Seq.{drop-cons}
-use Rattle.std.proofs.Math.Numerals.{add-one}
-use Rattle.instructions.specs.declared.instruction.Instruction.{Instruction}
-use Rattle.instructions.specs.declared.line.Line.{Line}
-use Rattle.instructions.specs.declared.line.Line.TheVariants.{Plain, Decoded}
-use Rattle.instructions.specs.Operands.{takes_word}
+use Rattle.std.proofs.{lemmas.Bool.Decides.nat_tests, Math.Seq.drop-cons, Math.Numerals.add-one}
+use Rattle.std.specs.List.{flat_map}
 use Rattle.instructions.specs.Instructions.{instruction_of, first_word, word_count_of, following_words}
 use Rattle.instructions.specs.Lines.{word_for, line_of, line_at, line_length, word_list, words_of, start_of, lines_within}
 use Rattle.instructions.specs.Laws.{IdentityLaw, FirstWordLaw, TotalLaw, shape}
+use Rattle.instructions.specs.{declared.instruction.Instruction.Instruction, declared.line.Line.Line, declared.line.Line.TheVariants.Plain}
+use Rattle.instructions.specs.{declared.line.Line.TheVariants.Decoded, Operands.takes_word}
 use Rattle.instructions.proofs.FieldLemmas.{first_word_again}
 
 -- the operand words, by which of two operands has one

@@ -1,18 +1,13 @@
 -- The rows of the table are in the order of their words, so the row of a word is found by halves.
-use Rattle.std.proofs.Common.{◌≡◌, ℕ, ◌+◌, ◌-◌, ◌*◌, ◌<◌, ◌≤◌, Bool, true, false, ◌&&◌, nat_le, nat_lt}
-use Rattle.std.proofs.Common.{if◌then◌else◌, Option, Some, None, List, [], ◌∷◌, ◌++◌, length, slice_index_or}
-use Rattle.std.proofs.Common.{refl, sym, ap, subst, ◌∙◌, cond, arith}
+use Rattle.std.proofs.Common.{◌≡◌, ℕ, ◌+◌, ◌-◌, ◌*◌, ◌<◌, ◌≤◌, Bool, true, false, ◌&&◌, nat_le, nat_lt, if◌then◌else◌, Option, Some, None}
+use Rattle.std.proofs.Common.{List, [], ◌∷◌, ◌++◌, length, slice_index_or, refl, sym, ap, subst, ◌∙◌, cond, arith}
 use Rattle.std.proofs.lemmas.Bool.Decides.{nat_tests}
 use Rattle.std.specs.List.{find, filter}
-use Rattle.instructions.specs.declared.field.Field.{Field}
-use Rattle.instructions.specs.declared.field.Field.TheVariants as fields
-use Rattle.instructions.specs.declared.table.TheConstants.{ROWS}
-use Rattle.instructions.specs.declared.table.Row.{Row}
-use Rattle.instructions.specs.Fields.{place, size}
-use Rattle.instructions.specs.Table.{table}
-use Rattle.instructions.specs.Rows.{part, begins, row_of}
-use Rattle.instructions.specs.Laws.{placed, in_order, SameTable, OneRow}
+use Rattle.instructions.specs.{declared.field.Field.Field, declared.table.TheConstants.ROWS, declared.table.Row.Row, Fields.place}
+use Rattle.instructions.specs.{Fields.size, Table.table, Rows.part, Rows.begins, Rows.row_of, Laws.placed, Laws.in_order, Laws.SameTable}
+use Rattle.instructions.specs.{Laws.OneRow}
 use Rattle.instructions.proofs.FieldLemmas.{row_sum}
+use Rattle.instructions.specs.declared.field.Field.TheVariants as fields
 
 -- what a field adds at most
 abbrev pub most : Option Field → ℕ

@@ -1,8 +1,6 @@
 -- The texts of operands without references, which are read back.
 use Rattle.std.proofs.Common.{ℕ, Option, None, List}
-use Rattle.instructions.specs.declared.mode.Mode.{Mode}
-use Rattle.instructions.specs.declared.mode.Register.{Register}
-use Rattle.instructions.specs.declared.operand.Operand.{Operand}
+use Rattle.instructions.specs.{declared.mode.Mode.Mode, declared.mode.Register.Register, declared.operand.Operand.Operand}
 use Rattle.instructions.specs.Texts as texts
 
 abbrev pub increment_text : Register → ℕ → List ℕ

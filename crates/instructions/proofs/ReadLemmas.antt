@@ -1,19 +1,16 @@
 -- The text of an operand is read back.
-use Rattle.std.proofs.Common.{◌≡◌, ℕ, ◌+◌, ◌-◌, ◌*◌, ◌%◌, ◌<◌, ◌≤◌, Bool, true, false, eqb, nat_lt, if◌then◌else◌}
-use Rattle.std.proofs.Common.{Option, Some, None, List, [], ◌∷◌, ◌++◌, length, slice_index, refl, sym, ap, ◌∙◌, arith}
-use Rattle.std.proofs.lemmas.Bool.Decides.{nat_tests}
-use Rattle.std.specs.Prelude.{codes}
-use Rattle.std.proofs.lemmas.List.{append-nil}
-use Rattle.std.specs.Str.Parse.{digits_value}
-use Rattle.instructions.specs.declared.mode.Mode.{Mode}
-use Rattle.instructions.specs.declared.mode.Mode.TheVariants as modes
-use Rattle.instructions.specs.declared.mode.Register.{Register}
+use Rattle.std.proofs.Common.{◌≡◌, ℕ, ◌+◌, ◌-◌, ◌*◌, ◌%◌, ◌<◌, ◌≤◌, Bool, true, false, eqb, nat_lt, if◌then◌else◌, Option, Some, None, List}
+use Rattle.std.proofs.Common.{[], ◌∷◌, ◌++◌, length, slice_index, refl, sym, ap, ◌∙◌, arith}
+use Rattle.std.proofs.{lemmas.Bool.Decides.nat_tests, lemmas.List.append-nil}
+use Rattle.std.specs.{Prelude.codes, Str.Parse.digits_value}
 use Rattle.instructions.specs.declared.mode.Register.TheVariants.{R0, R1, R2, R3, R4, R5, Sp, Pc}
 use Rattle.instructions.specs.Modes.{mode_number, register_number, has_word}
-use Rattle.texts.specs.Numbers.{octal}
 use Rattle.instructions.specs.Texts.{register_text, in_parentheses}
+use Rattle.instructions.specs.{declared.mode.Mode.Mode, declared.mode.Register.Register}
+use Rattle.texts.specs.Numbers.{octal}
 use Rattle.instructions.proofs.PlainTexts.{increment_text, index_text, general_text}
 use Rattle.instructions.proofs.SplitLemmas.{until, past, other_test, until_past, AreDigits, octal_is, digits_free}
+use Rattle.instructions.specs.declared.mode.Mode.TheVariants as modes
 
 -- a value in a field, and the word of the operand if it has one
 abbrev pub Reading : Type 0

@@ -1,32 +1,24 @@
 -- The text of a line at an address is read back, so that no two lines of different words have one text.
-use Rattle.std.proofs.Common.{◌≡◌, ℕ, zero, suc, ◌+◌, ◌-◌, ◌*◌, ◌/◌, ◌%◌, ◌<◌, ◌≤◌, Bool, true, false, ◌||◌, eqb}
-use Rattle.std.proofs.Common.{nat_lt, if◌then◌else◌, Option, Some, None, List, [], ◌∷◌, ◌++◌, length, drop, slice_get}
-use Rattle.std.proofs.Common.{slice_index, refl, sym, ap, subst, ◌∙◌, append_assoc, arith}
+use Rattle.std.proofs.Common.{◌≡◌, ℕ, zero, suc, ◌+◌, ◌-◌, ◌*◌, ◌/◌, ◌%◌, ◌<◌, ◌≤◌, Bool, true, false, ◌||◌, eqb, nat_lt, if◌then◌else◌}
+use Rattle.std.proofs.Common.{Option, Some, None, List, [], ◌∷◌, ◌++◌, length, drop, slice_get, slice_index, refl, sym, ap, subst, ◌∙◌}
+use Rattle.std.proofs.Common.{append_assoc, arith}
 use Rattle.std.proofs.lemmas.Bool.Decides.{nat_tests}
 use Rattle.std.specs.Prelude.{codes}
-use Rattle.instructions.specs.declared.field.Field.{Field}
-use Rattle.instructions.specs.declared.field.Field.TheVariants as fields
-use Rattle.instructions.specs.declared.operand.Operand.{Operand}
-use Rattle.instructions.specs.declared.operand.Operand.TheVariants as operands
-use Rattle.instructions.specs.declared.table.Row.{Row}
-use Rattle.instructions.specs.declared.instruction.Instruction.{Instruction}
-use Rattle.instructions.specs.declared.line.Line.{Line}
-use Rattle.instructions.specs.declared.line.Line.TheVariants.{Plain, Decoded}
-use Rattle.instructions.specs.Fields.{place, size}
-use Rattle.instructions.specs.Rows.{part, begins, row_of}
 use Rattle.instructions.specs.Operands.{general, operand_of, takes_word, is_missing}
 use Rattle.instructions.specs.Instructions.{field_operand, instruction, instruction_in, word_count_of, following_words}
 use Rattle.instructions.specs.Lines.{word_for, line_of, line_at, word_list, words_of}
-use Rattle.instructions.specs.Names.{name_text}
+use Rattle.instructions.specs.{declared.field.Field.Field, declared.operand.Operand.Operand, declared.table.Row.Row}
+use Rattle.instructions.specs.{declared.instruction.Instruction.Instruction, declared.line.Line.Line, declared.line.Line.TheVariants.Plain}
+use Rattle.instructions.specs.{declared.line.Line.TheVariants.Decoded, Fields.place, Fields.size, Rows.part, Rows.begins, Rows.row_of}
+use Rattle.instructions.specs.{Names.name_text, Texts.number, Texts.is_ldf, Texts.name, Texts.line_text, Laws.AreWords, Laws.UnambiguousLaw}
 use Rattle.texts.specs.Numbers.{six_digits}
-use Rattle.instructions.specs.Texts.{number, is_ldf, name, line_text}
-use Rattle.instructions.proofs.PlainTexts.{operand_text, operand_after}
-use Rattle.instructions.specs.Laws.{AreWords, UnambiguousLaw}
 use Rattle.instructions.proofs.FieldLemmas.{in_size, row_begins, row_sum, instruction_starts}
-use Rattle.instructions.proofs.SplitLemmas.{until, past, free, Stops, until_past}
-use Rattle.instructions.proofs.ReadLemmas.{Reading, tail}
 use Rattle.instructions.proofs.FieldReadLemmas.{Word, field_read, field_back, field_free, floating_f}
 use Rattle.instructions.proofs.TableLemmas.{Layout, layout_of, layout, FitsBy, Sound, row_sound}
+use Rattle.instructions.proofs.{PlainTexts.operand_text, PlainTexts.operand_after, SplitLemmas.until, SplitLemmas.past, SplitLemmas.free}
+use Rattle.instructions.proofs.{SplitLemmas.Stops, SplitLemmas.until_past, ReadLemmas.Reading, ReadLemmas.tail}
+use Rattle.instructions.specs.declared.field.Field.TheVariants as fields
+use Rattle.instructions.specs.declared.operand.Operand.TheVariants as operands
 
 -- what a field adds to the base, and the word of its operand
 abbrev pub part_read : Option Field → ℕ → ℕ → List ℕ → Reading

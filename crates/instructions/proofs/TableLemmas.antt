@@ -1,16 +1,11 @@
 -- What holds of each row of the table: by its name, and by whether an accumulator stands following it, it is found again.
-use Rattle.std.proofs.Common.{◌≡◌, ℕ, Bool, true, false, eqb, nat_lt, if◌then◌else◌, Option, Some, None, List}
-use Rattle.std.proofs.Common.{[], ◌∷◌, ◌++◌, slice_index, refl, ap, subst, ◌∙◌, cond}
-use Rattle.std.specs.Prelude.{codes, option_map}
-use Rattle.std.specs.List.{find}
-use Rattle.instructions.specs.declared.field.Field.{Field}
+use Rattle.std.proofs.Common.{◌≡◌, ℕ, Bool, true, false, eqb, nat_lt, if◌then◌else◌, Option, Some, None, List, [], ◌∷◌, ◌++◌, slice_index}
+use Rattle.std.proofs.Common.{refl, ap, subst, ◌∙◌, cond}
+use Rattle.std.specs.{Prelude.codes, Prelude.option_map, List.find}
+use Rattle.instructions.specs.{declared.field.Field.Field, declared.table.Row.Row, declared.table.TheConstants.ROWS, Rows.begins}
+use Rattle.instructions.specs.{Rows.row_of, Names.name_text}
+use Rattle.instructions.proofs.{SplitLemmas.free, SplitLemmas.clean as spotless, OrderLemmas.table_holds}
 use Rattle.instructions.specs.declared.field.Field.TheVariants as fields
-use Rattle.instructions.specs.declared.table.Row.{Row}
-use Rattle.instructions.specs.declared.table.TheConstants.{ROWS}
-use Rattle.instructions.specs.Rows.{begins, row_of}
-use Rattle.instructions.specs.Names.{name_text}
-use Rattle.instructions.proofs.SplitLemmas.{free, clean as spotless}
-use Rattle.instructions.proofs.OrderLemmas.{table_holds}
 
 abbrev pub same_text : List ℕ → List ℕ → Bool
 same_text [] [] = true

@@ -3,9 +3,8 @@
 -- Read each line aloud: the number of the call in decimal, as the manual numbers them, the call, and how many words follow `sys`. The
 -- other arguments are in registers. No call has another number.
 use Rattle.std.specs.Prelude.{ℕ, List, [], ◌∷◌, map}
-use Rattle.instructions.specs.declared.call.SystemCall.{SystemCall}
+use Rattle.instructions.specs.{declared.call.SystemCall.SystemCall, declared.call_table.CallRow.CallRow}
 use Rattle.instructions.specs.declared.call.SystemCall.TheVariants as calls
-use Rattle.instructions.specs.declared.call_table.CallRow.{CallRow}
 
 abbrev pub call_rows : List (ℕ × SystemCall × ℕ) → List CallRow
 call_rows entries = map (λ e. record { call = e.1; number = e.0; words = e.2 }) entries

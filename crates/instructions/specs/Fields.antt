@@ -1,9 +1,8 @@
 -- The fields of a first word: the value of the lowest bit, and how many values a field has. (the handbook of the PDP-11/70)
 use Rattle.std.specs.Prelude.{ℕ}
 use Rattle.instructions.specs.declared.field.Field.{Field}
-use Rattle.instructions.specs.declared.field.Field.TheVariants.{Source, Destination, Floating, Register, LowRegister}
-use Rattle.instructions.specs.declared.field.Field.TheVariants.{Accumulator, Forward, Backward, Byte, SixBits}
-use Rattle.instructions.specs.declared.field.Field.TheVariants.{ThreeBits}
+use Rattle.instructions.specs.declared.field.Field.TheVariants.{Source, Destination, Floating, Register, LowRegister, Accumulator, Forward}
+use Rattle.instructions.specs.declared.field.Field.TheVariants.{Backward, Byte, SixBits, ThreeBits}
 
 abbrev pub place : Field → ℕ
 place Source = 0o100

@@ -2,19 +2,13 @@
 --
 -- Nothing is lost or normalized: encoding what was decoded gives the same words. The first word alone decides the instruction and
 -- the length, if enough words follow it. At one address different words have different texts.
-use Rattle.std.specs.Prelude.{◌≡◌, ℕ, ◌+◌, ◌*◌, ◌<◌, ◌≤◌, nat_lt, if◌then◌else◌, Option, Some, None}
-use Rattle.std.specs.Prelude.{List, [], ◌∷◌, ◌++◌, length, filter, take, drop}
+use Rattle.std.specs.Prelude.{◌≡◌, ℕ, ◌+◌, ◌*◌, ◌<◌, ◌≤◌, nat_lt, if◌then◌else◌, Option, Some, None, List, [], ◌∷◌, ◌++◌, length, filter}
+use Rattle.std.specs.Prelude.{take, drop}
 use Rattle.std.specs.List.{flat_map}
-use Rattle.instructions.specs.declared.table.Row.{Row}
-use Rattle.instructions.specs.declared.table.TheConstants.{ROWS}
-use Rattle.instructions.specs.Table.{table}
-use Rattle.instructions.specs.Rows.{begins, row_of}
-use Rattle.instructions.specs.declared.instruction.Instruction.{Instruction}
-use Rattle.instructions.specs.declared.line.Line.{Line}
-use Rattle.instructions.specs.declared.line.Line.TheVariants.{Plain, Decoded}
-use Rattle.instructions.specs.Instructions.{instruction_of}
 use Rattle.instructions.specs.Lines.{line_at, line_of, line_length, words_of, lines}
-use Rattle.instructions.specs.Texts.{line_text}
+use Rattle.instructions.specs.{declared.table.Row.Row, declared.table.TheConstants.ROWS, Table.table, Rows.begins, Rows.row_of}
+use Rattle.instructions.specs.{declared.instruction.Instruction.Instruction, declared.line.Line.Line, declared.line.Line.TheVariants.Plain}
+use Rattle.instructions.specs.{declared.line.Line.TheVariants.Decoded, Instructions.instruction_of, Texts.line_text}
 
 -- the words of a line are those that it was made of
 abbrev pub IdentityLaw : Type 0

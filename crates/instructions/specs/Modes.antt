@@ -1,12 +1,10 @@
 -- The modes and registers of general operands, and how they use an operand word. (the handbook of the PDP-11/70)
 use Rattle.std.specs.Prelude.{ℕ, Bool, true, false, if◌then◌else◌, Option, Some, None, [], ◌∷◌, slice_index_or}
-use Rattle.instructions.specs.declared.mode.Mode.{Mode}
-use Rattle.instructions.specs.declared.mode.Mode.TheVariants.{Direct, Deferred, Increment, IncrementDeferred, Decrement}
-use Rattle.instructions.specs.declared.mode.Mode.TheVariants.{DecrementDeferred, Index, IndexDeferred}
-use Rattle.instructions.specs.declared.mode.Addressing.{Addressing}
+use Rattle.instructions.specs.declared.mode.Mode.TheVariants.{Direct, Deferred, Increment, IncrementDeferred, Decrement, DecrementDeferred}
+use Rattle.instructions.specs.declared.mode.Mode.TheVariants.{Index, IndexDeferred}
 use Rattle.instructions.specs.declared.mode.Addressing.TheVariants.{Immediate, Absolute, Relative, RelativeDeferred, Indexed}
-use Rattle.instructions.specs.declared.mode.Register.{Register}
 use Rattle.instructions.specs.declared.mode.Register.TheVariants.{R0, R1, R2, R3, R4, R5, Sp, Pc}
+use Rattle.instructions.specs.{declared.mode.Mode.Mode, declared.mode.Addressing.Addressing, declared.mode.Register.Register}
 
 abbrev pub mode_numbered : ℕ → Mode
 mode_numbered n =

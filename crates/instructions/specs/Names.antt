@@ -3,24 +3,18 @@
 -- Condition codes together are written as as(1) takes them, as `clc|clv`; for 000260, which sets none, `sec&sev` (own choice).
 use Rattle.std.specs.Prelude.{ℕ, List, codes}
 use Rattle.instructions.specs.declared.operation.Operation.{Operation}
-use Rattle.instructions.specs.declared.operation.Operation.TheVariants.{Clc, Clv, Clz, Cln, Sec, Sev, Sez, Sen, Halt}
-use Rattle.instructions.specs.declared.operation.Operation.TheVariants.{ClcClv, ClcClz, ClvClz, ClcClvClz, ClcCln, ClvCln}
-use Rattle.instructions.specs.declared.operation.Operation.TheVariants.{ClcClvCln, ClzCln, ClcClzCln, ClvClzCln}
-use Rattle.instructions.specs.declared.operation.Operation.TheVariants.{SecAndSev, SecSev, SecSez, SevSez, SecSevSez}
-use Rattle.instructions.specs.declared.operation.Operation.TheVariants.{SecSen, SevSen, SecSevSen, SezSen, SecSezSen}
-use Rattle.instructions.specs.declared.operation.Operation.TheVariants.{SevSezSen}
-use Rattle.instructions.specs.declared.operation.Operation.TheVariants.{Wait, Rti, Bpt, Iot, Reset, Rtt, Nop, Ccc, Scc}
-use Rattle.instructions.specs.declared.operation.Operation.TheVariants.{Cfcc, Setf, Seti, Setd, Setl, Jmp, Swab, Clr}
-use Rattle.instructions.specs.declared.operation.Operation.TheVariants.{Clrb, Com, Comb, Inc, Incb, Dec, Decb, Neg}
-use Rattle.instructions.specs.declared.operation.Operation.TheVariants.{Negb, Adc, Adcb, Sbc, Sbcb, Tst, Tstb, Ror}
-use Rattle.instructions.specs.declared.operation.Operation.TheVariants.{Rorb, Rol, Rolb, Asr, Asrb, Asl, Aslb, Sxt}
-use Rattle.instructions.specs.declared.operation.Operation.TheVariants.{Mfpi, Mtpi, Mfpd, Mtpd, Ldfps, Stfps, Stst, Mov}
-use Rattle.instructions.specs.declared.operation.Operation.TheVariants.{Movb, Cmp, Cmpb, Bit, Bitb, Bic, Bicb, Bis}
-use Rattle.instructions.specs.declared.operation.Operation.TheVariants.{Bisb, Add, Sub, Jsr, Xor, Mul, Div, Ash, Ashc}
-use Rattle.instructions.specs.declared.operation.Operation.TheVariants.{Rts, Br, Bne, Beq, Bge, Blt, Bgt, Ble, Bpl, Bmi}
-use Rattle.instructions.specs.declared.operation.Operation.TheVariants.{Bhi, Blos, Bvc, Bvs, Bcc, Bcs, Sob, Sys, Emt}
-use Rattle.instructions.specs.declared.operation.Operation.TheVariants.{Mark, Spl, Clrf, Tstf, Absf, Negf, Mulf, Modf}
-use Rattle.instructions.specs.declared.operation.Operation.TheVariants.{Addf, Movf, Subf, Cmpf, Divf, Movof, Movfo}
+use Rattle.instructions.specs.declared.operation.Operation.TheVariants.{Clc, Clv, Clz, Cln, Sec, Sev, Sez, Sen, Halt, ClcClv, ClcClz}
+use Rattle.instructions.specs.declared.operation.Operation.TheVariants.{ClvClz, ClcClvClz, ClcCln, ClvCln, ClcClvCln, ClzCln, ClcClzCln}
+use Rattle.instructions.specs.declared.operation.Operation.TheVariants.{ClvClzCln, SecAndSev, SecSev, SecSez, SevSez, SecSevSez, SecSen}
+use Rattle.instructions.specs.declared.operation.Operation.TheVariants.{SevSen, SecSevSen, SezSen, SecSezSen, SevSezSen, Wait, Rti, Bpt}
+use Rattle.instructions.specs.declared.operation.Operation.TheVariants.{Iot, Reset, Rtt, Nop, Ccc, Scc, Cfcc, Setf, Seti, Setd, Setl, Jmp}
+use Rattle.instructions.specs.declared.operation.Operation.TheVariants.{Swab, Clr, Clrb, Com, Comb, Inc, Incb, Dec, Decb, Neg, Negb, Adc}
+use Rattle.instructions.specs.declared.operation.Operation.TheVariants.{Adcb, Sbc, Sbcb, Tst, Tstb, Ror, Rorb, Rol, Rolb, Asr, Asrb, Asl}
+use Rattle.instructions.specs.declared.operation.Operation.TheVariants.{Aslb, Sxt, Mfpi, Mtpi, Mfpd, Mtpd, Ldfps, Stfps, Stst, Mov, Movb}
+use Rattle.instructions.specs.declared.operation.Operation.TheVariants.{Cmp, Cmpb, Bit, Bitb, Bic, Bicb, Bis, Bisb, Add, Sub, Jsr, Xor, Mul}
+use Rattle.instructions.specs.declared.operation.Operation.TheVariants.{Div, Ash, Ashc, Rts, Br, Bne, Beq, Bge, Blt, Bgt, Ble, Bpl, Bmi}
+use Rattle.instructions.specs.declared.operation.Operation.TheVariants.{Bhi, Blos, Bvc, Bvs, Bcc, Bcs, Sob, Sys, Emt, Mark, Spl, Clrf, Tstf}
+use Rattle.instructions.specs.declared.operation.Operation.TheVariants.{Absf, Negf, Mulf, Modf, Addf, Movf, Subf, Cmpf, Divf, Movof, Movfo}
 use Rattle.instructions.specs.declared.operation.Operation.TheVariants.{Movei, Movfi, Movie, Movif}
 
 abbrev pub name_text : Operation → List ℕ

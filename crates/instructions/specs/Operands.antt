@@ -1,10 +1,9 @@
 -- The operand that a value in a field of a first word encodes, and the value of an operand. (the handbook of the PDP-11/70)
 use Rattle.std.specs.Prelude.{ℕ, ◌+◌, ◌*◌, ◌/◌, ◌%◌, Bool, false, nat_lt, not, if◌then◌else◌, Option, Some}
-use Rattle.instructions.specs.declared.field.Field.{Field}
-use Rattle.instructions.specs.declared.field.Field.TheVariants as fields
-use Rattle.instructions.specs.declared.operand.Operand.{Operand}
 use Rattle.instructions.specs.declared.operand.Operand.TheVariants.{General, Accumulator, Register, Forward, Backward, Number}
 use Rattle.instructions.specs.Modes.{mode_numbered, mode_number, register_numbered, register_number, has_word}
+use Rattle.instructions.specs.{declared.field.Field.Field, declared.operand.Operand.Operand}
+use Rattle.instructions.specs.declared.field.Field.TheVariants as fields
 
 -- mode in the upper three bits, register in the lower three
 abbrev pub general : ℕ → Operand

@@ -4,8 +4,7 @@
 -- begins a name, and the first letter of a name that is a register's. Then no name looks like a number or a register.
 use Rattle.std.specs.Prelude.{ℕ, ◌-◌, Bool, false, ◌&&◌, ◌||◌, eqb, nat_le, nat_lt, if◌then◌else◌, List, [], ◌∷◌, ◌++◌, codes}
 use Rattle.std.specs.List.{flat_map}
-use Rattle.texts.specs.Numbers.{octal}
-use Rattle.texts.specs.Names.{escaped}
+use Rattle.texts.specs.{Numbers.octal, Names.escaped}
 use Rattle.instructions.specs.declared.reference.Reference.{Reference}
 
 -- from one byte to another

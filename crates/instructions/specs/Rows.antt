@@ -4,10 +4,7 @@
 -- of Laws), so the order of the table does not matter.
 use Rattle.std.specs.Prelude.{ℕ, ◌+◌, ◌*◌, ◌/◌, ◌%◌, Bool, eqb, Option, Some, None}
 use Rattle.std.specs.List.{find}
-use Rattle.instructions.specs.declared.field.Field.{Field}
-use Rattle.instructions.specs.declared.table.Row.{Row}
-use Rattle.instructions.specs.Fields.{place, size}
-use Rattle.instructions.specs.Table.{table}
+use Rattle.instructions.specs.{declared.field.Field.Field, declared.table.Row.Row, Fields.place, Fields.size, Table.table}
 
 -- what a field adds to the base in a first word
 abbrev pub part : Option Field → ℕ → ℕ

@@ -4,19 +4,12 @@
 -- words have different texts.
 use Rattle.std.specs.Prelude.{◌≡◌, ℕ, ◌+◌, ◌<◌, ◌≤◌, List, ◌∷◌, length, take, drop, map, Some, None}
 use Rattle.std.specs.List.{flat_map}
-use Rattle.instructions.specs.declared.field.Field.TheVariants.{Byte}
-use Rattle.instructions.specs.declared.operation.Operation.TheVariants.{Sys}
-use Rattle.instructions.specs.declared.operand.Operand.TheVariants.{Number}
-use Rattle.instructions.specs.declared.instruction.Instruction.{Instruction}
-use Rattle.instructions.specs.declared.call_table.TheConstants.{CALLS}
-use Rattle.instructions.specs.declared.call_table.CallRow.{CallRow}
-use Rattle.instructions.specs.declared.unix.Decoder.{Decoder}
-use Rattle.instructions.specs.declared.unix.UnixLine.TheVariants.{Machine, Call}
-use Rattle.instructions.specs.Calls.{system_calls}
-use Rattle.instructions.specs.Lines.{line_at}
-use Rattle.instructions.specs.Instructions.{instruction_of}
 use Rattle.instructions.specs.UnixLines.{call_word, call_by, unix_line_at, unix_length, unix_words, unix_text, unix_lines}
-use Rattle.instructions.specs.Laws.{AreWords}
+use Rattle.instructions.specs.{declared.field.Field.TheVariants.Byte, declared.operation.Operation.TheVariants.Sys}
+use Rattle.instructions.specs.{declared.operand.Operand.TheVariants.Number, declared.instruction.Instruction.Instruction}
+use Rattle.instructions.specs.{declared.call_table.TheConstants.CALLS, declared.call_table.CallRow.CallRow, declared.unix.Decoder.Decoder}
+use Rattle.instructions.specs.{declared.unix.UnixLine.TheVariants.Machine, declared.unix.UnixLine.TheVariants.Call, Calls.system_calls}
+use Rattle.instructions.specs.{Lines.line_at, Instructions.instruction_of, Laws.AreWords}
 
 -- the words of a line are those that it was made of
 abbrev pub UnixIdentityLaw : Type 0

@@ -3,21 +3,15 @@
 --
 -- The call of number N is made by the instruction 104400 + N, and its arguments are the words after it. If the words end before them,
 -- the call is cut: its first word is plain, as that of an instruction that is cut.
-use Rattle.std.specs.Prelude.{ℕ, zero, suc, ◌+◌, eqb, nat_lt, if◌then◌else◌, Option, Some, None, List}
-use Rattle.std.specs.Prelude.{[], ◌∷◌, ◌++◌, codes, length, take, drop, slice_index}
+use Rattle.std.specs.Prelude.{ℕ, zero, suc, ◌+◌, eqb, nat_lt, if◌then◌else◌, Option, Some, None, List, [], ◌∷◌, ◌++◌, codes, length, take}
+use Rattle.std.specs.Prelude.{drop, slice_index}
 use Rattle.std.specs.List.{find, flat_map}
 use Rattle.texts.specs.Numbers.{six_digits}
-use Rattle.instructions.specs.declared.call_table.CallRow.{CallRow}
-use Rattle.instructions.specs.declared.line.Line.TheVariants.{Plain}
-use Rattle.instructions.specs.declared.unix.Decoder.{Decoder}
+use Rattle.instructions.specs.{declared.call_table.CallRow.CallRow, declared.line.Line.TheVariants.Plain, declared.unix.Decoder.Decoder}
+use Rattle.instructions.specs.{declared.unix.UnixLine.UnixLine, declared.unix.UnixLine.TheVariants.Machine}
+use Rattle.instructions.specs.{declared.unix.UnixLine.TheVariants.Call, declared.reference.Reference.Reference, CallNames.call_name}
+use Rattle.instructions.specs.{Calls.system_calls, Lines.line_at, Lines.line_length, Lines.words_of, Texts.shown, Texts.line_text}
 use Rattle.instructions.specs.declared.unix.Decoder.TheVariants as decoders
-use Rattle.instructions.specs.declared.unix.UnixLine.{UnixLine}
-use Rattle.instructions.specs.declared.unix.UnixLine.TheVariants.{Machine, Call}
-use Rattle.instructions.specs.declared.reference.Reference.{Reference}
-use Rattle.instructions.specs.CallNames.{call_name}
-use Rattle.instructions.specs.Calls.{system_calls}
-use Rattle.instructions.specs.Lines.{line_at, line_length, words_of}
-use Rattle.instructions.specs.Texts.{shown, line_text}
 
 -- the word that makes a call
 abbrev pub call_word : CallRow → ℕ

@@ -1,10 +1,9 @@
 -- The orders of nm only move symbols: what passes a test alone does so in every order.
-use Rattle.std.proofs.Common.{◌≡◌, Bool, true, false, cond, List, [], ◌∷◌, ◌++◌, reverse, filter}
-use Rattle.std.proofs.Common.{IsPermutation, refl, sym, ◌∙◌, ap, append-nil}
-use Rattle.std.proofs.lemmas.List.{reverse-append}
-use Rattle.std.proofs.lemmas.List.Elements.{filter-append}
-use Rattle.std.proofs.lemmas.List.Sorted.{IsPermutation-refl, IsPermutation-sym, IsPermutation-cons}
-use Rattle.std.proofs.lemmas.List.Sorted.{IsPermutation-trans, IsPermutation-middle, IsPermutation-reverse}
+use Rattle.std.proofs.Common.{◌≡◌, Bool, true, false, cond, List, [], ◌∷◌, ◌++◌, reverse, filter, IsPermutation, refl, sym, ◌∙◌, ap}
+use Rattle.std.proofs.Common.{append-nil}
+use Rattle.std.proofs.lemmas.List.Sorted.{IsPermutation-refl, IsPermutation-sym, IsPermutation-cons, IsPermutation-trans}
+use Rattle.std.proofs.lemmas.List.Sorted.{IsPermutation-middle, IsPermutation-reverse}
+use Rattle.std.proofs.{lemmas.List.reverse-append, lemmas.List.Elements.filter-append}
 use Rattle.aout_core.specs.declared.symbol.Symbol.{Symbol}
 use Rattle.tool_options.specs.declared.nm_options.NmOptions.{NmOptions}
 use Rattle.symtools.specs.NmLists.{name_before, value_before, inserted, in_order, arranged}

@@ -1,14 +1,12 @@
 -- Words ask for one call at most.
 use Rattle.std.specs.declared.alloc.Global.{Global}
-use Rattle.std.proofs.Common.{◌≡◌, ℕ, Bool, true, false, List, [], map, Option, Some, None, Result, Ok, sym, ap, ◌∙◌}
 use Rattle.std.specs.Prelude.{String, Vec, bytes_eq, codes, string_bytes, unwrap_or}
+use Rattle.std.proofs.Common.{◌≡◌, ℕ, Bool, true, false, List, [], map, Option, Some, None, Result, Ok, sym, ap, ◌∙◌}
 use Rattle.clap.specs.Walk.{Row, first_of}
 use Rattle.tool_options.specs.Choices.{Choices}
-use Rattle.command_words.specs.declared.fault.WordsFault.{WordsFault}
-use Rattle.command_words.specs.declared.words.Call.{Call}
 use Rattle.command_words.specs.declared.words.Call.TheVariants.{Ld, Nm, Size, Strip, Session}
-use Rattle.command_words.specs.Calls.{name_of, program}
 use Rattle.command_words.specs.LinkWords.{forced_asked, options_asked, values_of}
+use Rattle.command_words.specs.{declared.fault.WordsFault.WordsFault, declared.words.Call.Call, Calls.name_of, Calls.program}
 use Rattle.v7tools.specs.CommandRuns.{AsksFor}
 
 -- the ids by which the options are known

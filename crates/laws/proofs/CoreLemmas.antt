@@ -1,16 +1,13 @@
 -- The segments of a file in its spaces: which address is in which, and what the core has there.
-use Rattle.std.proofs.Common.{◌≡◌, ℕ, ◌+◌, ◌-◌, ◌<◌, ◌≤◌, ◌⊎◌, inl, inr, Bool, true, false, cond, ◌&&◌, ◌||◌}
-use Rattle.std.proofs.Common.{eqb, Option, Some, None, refl, sym, ◌∙◌, ap, arith, eqb-true}
-use Rattle.std.specs.Prelude.{nat_le, nat_lt}
+use Rattle.std.proofs.Common.{◌≡◌, ℕ, ◌+◌, ◌-◌, ◌<◌, ◌≤◌, ◌⊎◌, inl, inr, Bool, true, false, cond, ◌&&◌, ◌||◌, eqb, Option, Some, None, refl}
+use Rattle.std.proofs.Common.{sym, ◌∙◌, ap, arith, eqb-true}
 use Rattle.std.proofs.lemmas.Bool.{and_parts, and_from, ltb-true, leb-true, lt-ltb, le-leb, false_from_ne_true}
-use Rattle.aout_core.specs.declared.header.Header.{Header}
-use Rattle.aout_core.specs.declared.symbol.Segment.{Segment}
+use Rattle.std.specs.Prelude.{nat_le, nat_lt}
 use Rattle.aout_core.specs.declared.symbol.Segment.TheVariants.{Undefined, Absolute, TextSeg, DataSeg, BssSeg, Other}
-use Rattle.aout_core.specs.Contents.{Contents}
-use Rattle.aout_core.specs.WellFormed.{first_of}
 use Rattle.aout_core.specs.Addresses.{data_start_in, next_boundary}
-use Rattle.laws.specs.Core.{Space, of_instructions, of_data, has_one_space, has_segment, first_address}
-use Rattle.laws.specs.Core.{bytes_of, segment_byte, is_in, loaded_byte, core}
+use Rattle.aout_core.specs.{declared.header.Header.Header, declared.symbol.Segment.Segment, Contents.Contents, WellFormed.first_of}
+use Rattle.laws.specs.Core.{Space, of_instructions, of_data, has_one_space, has_segment, first_address, bytes_of, segment_byte, is_in}
+use Rattle.laws.specs.Core.{loaded_byte, core}
 
 -- what it is to be in a segment
 pub record IsWithin (h : Header) (space : Space) (segment : Segment) (address : ℕ) : Type 0 where

@@ -1,30 +1,18 @@
 -- What is on a disk, and which objects a link takes from it.
-use Rattle.std.proofs.Common.{◌≡◌, ℕ, ◌≤◌, Bool, true, false, cond, List, [], ◌∷◌, ◌++◌, Option, Some}
-use Rattle.std.proofs.Common.{None, Result, Ok, refl, sym, ap, ◌∙◌, subst}
+use Rattle.std.proofs.Common.{◌≡◌, ℕ, ◌≤◌, Bool, true, false, cond, List, [], ◌∷◌, ◌++◌, Option, Some, None, Result, Ok, refl, sym, ap, ◌∙◌}
+use Rattle.std.proofs.Common.{subst}
 use Rattle.std.proofs.lemmas.List.{append-nil, append_assoc, map-append}
-use Rattle.std.proofs.lemmas.Slice.Eq.{bytes_eq-Decides}
-use Rattle.std.specs.List.{AllByRecursion}
-use Rattle.std.specs.Prelude.{IfSome, bytes_eq, nat_lt}
-use Rattle.std.proofs.lemmas.Bool.{ltb-false}
-use Rattle.aout_core.specs.declared.object.ObjectFault.{ObjectFault}
-use Rattle.aout_core.specs.Contents.{Contents, IsSound}
-use Rattle.aout_core.specs.Decoding.{decode}
-use Rattle.aout_core.specs.Laws.{EncodingLaw}
-use Rattle.aout_core.specs.Encoding.{encoding}
+use Rattle.std.proofs.{lemmas.Slice.Eq.bytes_eq-Decides, lemmas.Bool.ltb-false}
+use Rattle.std.specs.{List.AllByRecursion, Prelude.IfSome, Prelude.bytes_eq, Prelude.nat_lt}
 use Rattle.aout_core.specs.WellFormed.{IsWellFormed, first_object_fault}
-use Rattle.aout_core.specs.declared.symbol.Segment.TheVariants.{TextSeg}
-use Rattle.link_session.specs.declared.entry.AddFault.{AddFault}
-use Rattle.link_session.specs.declared.entry.AddFault.TheVariants.{TextFull}
-use Rattle.link_session.specs.Limits.{limit_passed, refusal}
-use Rattle.link_session.specs.Labelled.{Labelled, objects}
-use Rattle.link_session.specs.Starts.{total}
+use Rattle.aout_core.specs.{declared.object.ObjectFault.ObjectFault, Contents.Contents, Contents.IsSound, Decoding.decode, Laws.EncodingLaw}
+use Rattle.aout_core.specs.{Encoding.encoding, declared.symbol.Segment.TheVariants.TextSeg}
+use Rattle.link_session.specs.{declared.entry.AddFault.AddFault, declared.entry.AddFault.TheVariants.TextFull, Limits.limit_passed}
+use Rattle.link_session.specs.{Limits.refusal, Labelled.Labelled, Labelled.objects, Starts.total}
 use Rattle.surroundings.specs.Events.{Event, Opened, opens, paths_of}
-use Rattle.link_out.specs.Steps.{unless}
-use Rattle.link_out.specs.Inputs.{Cause, bad_object, not_added, object_in}
-use Rattle.v7tools.specs.LinkAnswers.{TakesAll}
-use Rattle.v7tools.specs.LinkRuns.{inputs_opened}
-use Rattle.laws.specs.Disks.{Disk, IsOn, disk_after, with_file}
-use Rattle.laws.specs.StepsByCommands.{AreAt}
+use Rattle.link_out.specs.{Steps.unless, Inputs.Cause, Inputs.bad_object, Inputs.not_added, Inputs.object_in}
+use Rattle.v7tools.specs.{LinkAnswers.TakesAll, LinkRuns.inputs_opened}
+use Rattle.laws.specs.{Disks.Disk, Disks.IsOn, Disks.disk_after, Disks.with_file, StepsByCommands.AreAt}
 
 -- ---- what was opened and stored
 

@@ -1,41 +1,25 @@
 -- The rows of the externals, as the relation of linking tells them, stand once each among the symbols that nm lists.
-use Rattle.std.proofs.Common.{◌≡◌, ◌≢◌, ℕ, ◌+◌, Bool, true, false, cond, not, ◌&&◌, ◌||◌, eqb, List, [], ◌∷◌}
-use Rattle.std.proofs.Common.{◌++◌, map, filter, Some, refl, sym, ◌∙◌, ap, subst, arith}
-use Rattle.std.specs.Prelude.{bytes_eq}
-use Rattle.std.specs.List.{flat_map, AllByRecursion}
-use Rattle.std.proofs.lemmas.Bool.{and_parts}
-use Rattle.std.proofs.lemmas.List.Elements.{filter-append}
-use Rattle.std.proofs.lemmas.Slice.Eq.{bytes_eq-Decides}
-use Rattle.aout_core.specs.declared.header.Header.{Header}
-use Rattle.aout_core.specs.declared.symbol.Symbol.{Symbol}
+use Rattle.std.proofs.Common.{◌≡◌, ◌≢◌, ℕ, ◌+◌, Bool, true, false, cond, not, ◌&&◌, ◌||◌, eqb, List, [], ◌∷◌, ◌++◌, map, filter, Some, refl}
+use Rattle.std.proofs.Common.{sym, ◌∙◌, ap, subst, arith}
+use Rattle.std.proofs.{lemmas.Bool.and_parts, lemmas.List.Elements.filter-append, lemmas.Slice.Eq.bytes_eq-Decides}
+use Rattle.std.specs.{Prelude.bytes_eq, List.flat_map, List.AllByRecursion}
 use Rattle.aout_core.specs.declared.symbol.Segment.TheVariants.{Undefined, Absolute, TextSeg, DataSeg, BssSeg, Other}
-use Rattle.aout_core.specs.Contents.{Contents}
-use Rattle.aout_core.specs.WellFormed.{is_external}
-use Rattle.link_session.specs.declared.state.State.{State}
-use Rattle.link_session.specs.declared.state.State.TheVariants.{Defined, Wanted}
-use Rattle.link_session.specs.Earlier.{with_earlier}
-use Rattle.link_session.specs.Starts.{total}
-use Rattle.tool_options.specs.NameLists.{is_among, new_names}
+use Rattle.aout_core.specs.{declared.header.Header.Header, declared.symbol.Symbol.Symbol, Contents.Contents, WellFormed.is_external}
+use Rattle.aout_core.specs.{Addresses.data_start_in}
 use Rattle.link_session.specs.Mentions.{Mention, mentions, externals, names_of}
+use Rattle.link_session.specs.{declared.state.State.State, declared.state.State.TheVariants.Defined}
+use Rattle.link_session.specs.{declared.state.State.TheVariants.Wanted, Earlier.with_earlier, Starts.total}
+use Rattle.tool_options.specs.NameLists.{is_among, new_names}
+use Rattle.tool_options.specs.{declared.options.Keep.TheVariants.Nothing, Choices.Choices, declared.nm_options.NmOptions.NmOptions}
 use Rattle.tool_options.proofs.NameListLemmas.{is_among-append}
-use Rattle.tool_options.specs.declared.options.Keep.TheVariants.{Nothing}
-use Rattle.tool_options.specs.Choices.{Choices}
-use Rattle.link_out.specs.KeptSymbols.{is_kept_local}
-use Rattle.link_out.specs.ReservedNames.{etext, edata, end_name}
-use Rattle.link_out.specs.Results.{Outcome}
-use Rattle.link_laws.specs.relation.NameStates.{HasState}
-use Rattle.aout_core.specs.Addresses.{data_start_in}
-use Rattle.link_laws.specs.relation.Relocated.{base_in, entry_of}
+use Rattle.link_out.specs.{KeptSymbols.is_kept_local, ReservedNames.etext, ReservedNames.edata, ReservedNames.end_name, Results.Outcome}
 use Rattle.link_laws.specs.relation.LinkedTable.{shown as row_of_name, row_for, space_for, AreRows, moved_local_in, moved_locals_in}
-use Rattle.link_laws.specs.relation.Refusals.{CommonsTake}
-use Rattle.link_laws.specs.relation.LinkedFrom.{IsLinkedFrom}
+use Rattle.link_laws.specs.{relation.NameStates.HasState, relation.Relocated.base_in, relation.Relocated.entry_of}
+use Rattle.link_laws.specs.{relation.Refusals.CommonsTake, relation.LinkedFrom.IsLinkedFrom}
 use Rattle.link_out.proofs.RowLemmas.{rows_kept-others}
-use Rattle.tool_options.specs.declared.nm_options.NmOptions.{NmOptions}
-use Rattle.symtools.specs.SymbolLines.{letter}
-use Rattle.symtools.specs.NmLists.{is_shown, arranged, shown, nm_text}
+use Rattle.symtools.specs.{SymbolLines.letter, NmLists.is_shown, NmLists.arranged, NmLists.shown, NmLists.nm_text}
 use Rattle.laws.specs.Listings.{listed_locals, lines, state_letter, IsListedOnce}
-use Rattle.laws.proofs.ArrangedLemmas.{arranged_one}
-use Rattle.laws.proofs.ShownLemmas.{no_local, all_apart, one_file}
+use Rattle.laws.proofs.{ArrangedLemmas.arranged_one, ShownLemmas.no_local, ShownLemmas.all_apart, ShownLemmas.one_file}
 
 -- kept locals are no externals
 

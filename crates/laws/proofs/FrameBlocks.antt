@@ -1,10 +1,8 @@
 -- Lists that are made of blocks, one for each object, where one object is replaced.
 use Rattle.std.proofs.Common.{◌≡◌, ℕ, ◌+◌, List, [], ◌∷◌, ◌++◌, length, refl, sym, ◌∙◌, ap, length-append, append_assoc}
 use Rattle.std.proofs.lemmas.List.Sums.{sum_by-append}
-use Rattle.aout_core.specs.declared.symbol.Segment.{Segment}
 use Rattle.aout_core.specs.declared.symbol.Segment.TheVariants.{Undefined, Absolute, TextSeg, DataSeg, BssSeg, Other}
-use Rattle.aout_core.specs.Contents.{Contents}
-use Rattle.aout_core.specs.Words.{plus, minus}
+use Rattle.aout_core.specs.{declared.symbol.Segment.Segment, Contents.Contents, Words.plus, Words.minus}
 use Rattle.link_session.specs.Starts.{size_of, total, shift}
 use Rattle.link_session.proofs.TotalLemmas.{total-first}
 use Rattle.link_session.proofs.NeighbourLemmas.{AreAsLong, as_long_append, as_long_self, blocks, blocks_same, blocks-append}

@@ -1,32 +1,23 @@
 -- The bytes of two linked files that differ in one object.
-use Rattle.std.proofs.Common.{◌≡◌, ℕ, ◌+◌, ◌-◌, ◌*◌, ◌/◌, inl, inr, Bool, true, false, cond, eqb, List, [], ◌∷◌}
-use Rattle.std.proofs.Common.{◌++◌, length, refl, sym, ◌∙◌, ap, subst, arith, length-append}
-use Rattle.std.specs.Prelude.{nat_lt, slice_get}
-use Rattle.std.specs.List.{flat_map, AllByRecursion}
-use Rattle.std.proofs.lemmas.Bool.{ltb-true, ltb-false}
-use Rattle.std.proofs.lemmas.List.Concat.{flat_map-append}
-use Rattle.aout_core.specs.declared.header.Header.{Header}
-use Rattle.aout_core.specs.declared.symbol.Segment.{Segment}
-use Rattle.aout_core.specs.declared.symbol.Segment.TheVariants.{TextSeg, DataSeg}
-use Rattle.aout_core.specs.declared.reloc.Reloc.{Reloc}
-use Rattle.aout_core.specs.Contents.{Contents, Fits, with_relocation}
-use Rattle.aout_core.specs.Words.{word_bytes, all_word_bytes}
+use Rattle.std.proofs.Common.{◌≡◌, ℕ, ◌+◌, ◌-◌, ◌*◌, ◌/◌, inl, inr, Bool, true, false, cond, eqb, List, [], ◌∷◌, ◌++◌, length, refl, sym}
+use Rattle.std.proofs.Common.{◌∙◌, ap, subst, arith, length-append}
+use Rattle.std.proofs.{lemmas.Bool.ltb-true, lemmas.Bool.ltb-false, lemmas.List.Concat.flat_map-append}
+use Rattle.std.specs.{Prelude.nat_lt, Prelude.slice_get, List.flat_map, List.AllByRecursion}
 use Rattle.aout_core.specs.Encoding.{header_encoding, reloc_encoding, symbol_encoding, relocation_at, symbols_at, encoding}
+use Rattle.aout_core.specs.{declared.header.Header.Header, declared.symbol.Segment.Segment, declared.symbol.Segment.TheVariants.TextSeg}
+use Rattle.aout_core.specs.{declared.symbol.Segment.TheVariants.DataSeg, declared.reloc.Reloc.Reloc, Contents.Contents, Contents.Fits}
+use Rattle.aout_core.specs.{Contents.with_relocation, Words.word_bytes, Words.all_word_bytes}
 use Rattle.aout_core.proofs.AlikeLemmas.{slice_get_front, slice_get_after}
 use Rattle.aout_core.proofs.EncodingLemmas.{length-all_word_bytes, length-reloc_encoding, length-symbols_encoding, with_relocation-add}
-use Rattle.link_session.specs.Starts.{total}
-use Rattle.link_session.specs.Sessions.{IsObject}
+use Rattle.link_session.specs.{Starts.total, Sessions.IsObject}
 use Rattle.link_session.proofs.ListLemmas.{all_split}
 use Rattle.tool_options.specs.Choices.{Choices}
 use Rattle.link_laws.specs.relation.Refusals.{kept_locals}
-use Rattle.link_out.specs.function.Plans.{plan}
-use Rattle.link_out.specs.function.Link.{Outcome}
-use Rattle.link_out.proofs.FitLemmas.{linked_fits}
-use Rattle.link_out.proofs.OutcomeLemmas.{made_file}
+use Rattle.link_out.specs.{function.Plans.plan, function.Link.Outcome}
+use Rattle.link_out.proofs.{FitLemmas.linked_fits, OutcomeLemmas.made_file}
 use Rattle.link_laws.proofs.SegmentLemmas.{HasWords, made_length}
 use Rattle.laws.specs.Frame.{AreReplaced, DifferAt, DifferInObject, IsBeside, IsOutside}
-use Rattle.laws.proofs.FrameBlocks.{differ_long}
-use Rattle.laws.proofs.FrameLinks.{frame_holds}
+use Rattle.laws.proofs.{FrameBlocks.differ_long, FrameLinks.frame_holds}
 
 -- lists that differ at some places have the same elements beside them
 pub beside_same : {A : Type 0} (start count place : ℕ) (xs ys : List A) → DifferAt start count xs ys →

@@ -1,33 +1,19 @@
 -- The parts of a link, where one object is replaced by another of the same sizes, with as many kept locals.
-use Rattle.std.proofs.Common.{◌≡◌, ℕ, ◌+◌, ◌*◌, ◌/◌, ◌%◌, Bool, true, false, cond, not, ◌&&◌, List, [], ◌∷◌}
-use Rattle.std.proofs.Common.{◌++◌, map, length, refl, sym, ◌∙◌, ap, subst, arith}
-use Rattle.std.specs.Prelude.{filter}
-use Rattle.std.specs.List.{flat_map, AllByRecursion}
-use Rattle.aout_core.specs.declared.symbol.Symbol.{Symbol}
-use Rattle.aout_core.specs.declared.symbol.Segment.{Segment}
+use Rattle.std.proofs.Common.{◌≡◌, ℕ, ◌+◌, ◌*◌, ◌/◌, ◌%◌, Bool, true, false, cond, not, ◌&&◌, List, [], ◌∷◌, ◌++◌, map, length, refl, sym}
+use Rattle.std.proofs.Common.{◌∙◌, ap, subst, arith}
+use Rattle.std.specs.{Prelude.filter, List.flat_map, List.AllByRecursion}
 use Rattle.aout_core.specs.declared.symbol.Segment.TheVariants.{Undefined, Absolute, TextSeg, DataSeg, BssSeg, Other}
-use Rattle.aout_core.specs.declared.reloc.Reloc.{Reloc}
-use Rattle.aout_core.specs.Contents.{Contents, with_relocation}
-use Rattle.aout_core.specs.Words.{plus, minus}
-use Rattle.aout_core.specs.WellFormed.{is_external, segment_of}
-use Rattle.link_session.specs.Earlier.{with_earlier}
-use Rattle.link_session.specs.Starts.{size_of, total}
+use Rattle.aout_core.specs.{declared.symbol.Symbol.Symbol, declared.symbol.Segment.Segment, declared.reloc.Reloc.Reloc, Contents.Contents}
+use Rattle.aout_core.specs.{Contents.with_relocation, Words.plus, Words.minus, WellFormed.is_external, WellFormed.segment_of}
 use Rattle.link_session.specs.Cells.{Referent, to_segment, to_name, referent, words_of, if_pc}
-use Rattle.link_session.specs.Sessions.{IsObject}
-use Rattle.link_session.proofs.ListLemmas.{all_split}
-use Rattle.link_session.proofs.TotalLemmas.{total-first}
-use Rattle.tool_options.specs.declared.options.Keep.{Keep}
-use Rattle.tool_options.specs.declared.options.Keep.TheVariants.{Nothing}
-use Rattle.tool_options.specs.Choices.{Choices}
-use Rattle.link_out.specs.Layouts.{Bases, base}
-use Rattle.link_laws.specs.relation.Refusals.{kept_locals}
-use Rattle.link_out.specs.function.Plans.{Plan, plan}
+use Rattle.link_session.specs.{Earlier.with_earlier, Starts.size_of, Starts.total, Sessions.IsObject}
+use Rattle.link_session.proofs.{ListLemmas.all_split, TotalLemmas.total-first, NeighbourLemmas.AreAsLong, NeighbourLemmas.shift_same}
+use Rattle.tool_options.specs.{declared.options.Keep.Keep, declared.options.Keep.TheVariants.Nothing, Choices.Choices}
 use Rattle.link_out.specs.function.Words.{referent_move, final_word}
 use Rattle.link_out.specs.function.Tables.{is_kept_local, moved_value, moved_local, local_rows, referent_bits, final_reloc, final_relocs}
-use Rattle.link_out.specs.function.Link.{linked_header}
-use Rattle.link_session.proofs.NeighbourLemmas.{AreAsLong, shift_same}
-use Rattle.link_laws.proofs.RefusalLemmas.{locals_long}
-use Rattle.link_laws.proofs.SegmentLemmas.{HasWords, made_length}
+use Rattle.link_out.specs.{Layouts.Bases, Layouts.base, function.Plans.Plan, function.Plans.plan, function.Link.linked_header}
+use Rattle.link_laws.specs.relation.Refusals.{kept_locals}
+use Rattle.link_laws.proofs.{RefusalLemmas.locals_long, SegmentLemmas.HasWords, SegmentLemmas.made_length}
 use Rattle.laws.specs.Frame.{DifferAt}
 use Rattle.laws.proofs.FrameBlocks.{differ_long, replaced, same_totals, as_long}
 

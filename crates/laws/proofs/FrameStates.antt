@@ -1,17 +1,15 @@
 -- What mentions make of names, where one object defines some of them with other values.
-use Rattle.std.proofs.Common.{◌≡◌, ◌⊎◌, inl, inr, ℕ, suc, ◌%◌, max, Bool, true, false, cond, eqb, List, []}
-use Rattle.std.proofs.Common.{◌∷◌, map, None, refl, sym, ◌∙◌, ap, subst, eqb-true, eq-eqb}
-use Rattle.std.specs.Prelude.{bytes_eq}
+use Rattle.std.proofs.Common.{◌≡◌, ◌⊎◌, inl, inr, ℕ, suc, ◌%◌, max, Bool, true, false, cond, eqb, List, [], ◌∷◌, map, None, refl, sym, ◌∙◌}
+use Rattle.std.proofs.Common.{ap, subst, eqb-true, eq-eqb}
 use Rattle.std.proofs.lemmas.Slice.Eq.{bytes_eq-Decides}
-use Rattle.aout_core.specs.declared.symbol.Symbol.{Symbol}
-use Rattle.aout_core.specs.declared.symbol.Segment.{Segment}
+use Rattle.std.specs.Prelude.{bytes_eq}
 use Rattle.aout_core.specs.declared.symbol.Segment.TheVariants.{Undefined, Absolute, TextSeg, DataSeg, BssSeg, Other}
 use Rattle.aout_core.specs.WellFormed.{segment_of, segment_numbered, first_of}
-use Rattle.link_session.specs.declared.state.State.{State}
-use Rattle.link_session.specs.declared.state.State.TheVariants.{Defined, Wanted}
+use Rattle.aout_core.specs.{declared.symbol.Symbol.Symbol, declared.symbol.Segment.Segment}
 use Rattle.link_session.specs.Mentions.{Mention, statement_by, names_of}
 use Rattle.link_session.specs.States.{state, state_by, definition_by, size_wanted_by, first_definition, wanted_size}
-use Rattle.link_session.specs.internal.Updates.{updated_state}
+use Rattle.link_session.specs.{declared.state.State.State, declared.state.State.TheVariants.Defined}
+use Rattle.link_session.specs.{declared.state.State.TheVariants.Wanted, internal.Updates.updated_state}
 use Rattle.link_session.proofs.StateLemmas.{state-append}
 use Rattle.laws.specs.Frame.{IsRevalued, AreRevalued, HasOtherValue}
 

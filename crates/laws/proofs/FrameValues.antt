@@ -1,44 +1,31 @@
 -- The link of objects, one of which is replaced by another that defines its names with other values.
-use Rattle.std.proofs.Common.{◌≡◌, ◌≢◌, ◌⊎◌, inl, inr, ℕ, zero, suc, ◌+◌, ◌-◌, ◌*◌, ◌<◌, ◌≤◌, Bool, true, false}
-use Rattle.std.proofs.Common.{cond, not, ◌&&◌, eqb, List, [], ◌∷◌, ◌++◌, map, length, Option, Some, None, refl}
-use Rattle.std.proofs.Common.{sym, ◌∙◌, ap, subst, arith, take, length-append}
+use Rattle.std.proofs.Common.{◌≡◌, ◌≢◌, ◌⊎◌, inl, inr, ℕ, zero, suc, ◌+◌, ◌-◌, ◌*◌, ◌<◌, ◌≤◌, Bool, true, false, cond, not, ◌&&◌, eqb, List}
+use Rattle.std.proofs.Common.{[], ◌∷◌, ◌++◌, map, length, Option, Some, None, refl, sym, ◌∙◌, ap, subst, arith, take, length-append}
+use Rattle.std.proofs.{lemmas.Bool.ltb-true, lemmas.Bool.ltb-false, lemmas.List.length-map}
 use Rattle.std.specs.Prelude.{filter, nat_lt, slice_get, sum_by}
-use Rattle.std.proofs.lemmas.Bool.{ltb-true, ltb-false}
-use Rattle.std.proofs.lemmas.List.{length-map}
-use Rattle.aout_core.specs.declared.symbol.Symbol.{Symbol}
-use Rattle.aout_core.specs.declared.symbol.Segment.{Segment}
 use Rattle.aout_core.specs.declared.symbol.Segment.TheVariants.{TextSeg, DataSeg, BssSeg}
-use Rattle.aout_core.specs.Contents.{Contents}
+use Rattle.aout_core.specs.{declared.symbol.Symbol.Symbol, declared.symbol.Segment.Segment, Contents.Contents}
 use Rattle.aout_core.proofs.AlikeLemmas.{slice_get_front, slice_get_after}
-use Rattle.link_session.specs.declared.state.State.{State}
-use Rattle.link_session.specs.declared.state.State.TheVariants.{Defined, Wanted}
-use Rattle.link_session.specs.Starts.{shift}
 use Rattle.link_session.specs.Mentions.{Mention, mentions_in, mentions, externals_in, names_of, names_by_first_mention, place_of}
-use Rattle.link_session.specs.Cells.{Referent, to_segment, to_name}
-use Rattle.link_session.specs.States.{state, multiple_names}
-use Rattle.link_session.specs.internal.Updates.{updated_state}
-use Rattle.link_session.proofs.MentionLemmas.{mentions-append, names_of-append}
-use Rattle.link_session.proofs.StateLemmas.{state-append}
-use Rattle.tool_options.specs.NameLists.{is_among, new_names}
-use Rattle.tool_options.specs.declared.options.Keep.TheVariants.{Nothing}
-use Rattle.tool_options.specs.Choices.{Choices, lays_commons}
-use Rattle.link_out.specs.Layouts.{Bases, bases, magic_of}
-use Rattle.link_out.specs.ReservedNames.{reserved_names}
-use Rattle.link_laws.specs.relation.Refusals.{kept_locals}
-use Rattle.link_laws.specs.relation.Relocated.{entry_of}
+use Rattle.link_session.specs.{declared.state.State.State, declared.state.State.TheVariants.Defined}
+use Rattle.link_session.specs.{declared.state.State.TheVariants.Wanted, Starts.shift, Cells.Referent, Cells.to_segment, Cells.to_name}
+use Rattle.link_session.specs.{States.state, States.multiple_names, internal.Updates.updated_state}
+use Rattle.link_session.proofs.{MentionLemmas.mentions-append, MentionLemmas.names_of-append, StateLemmas.state-append}
+use Rattle.link_session.proofs.{NeighbourLemmas.blocks, NeighbourLemmas.mentions_in_same}
+use Rattle.tool_options.specs.{NameLists.is_among, NameLists.new_names, declared.options.Keep.TheVariants.Nothing, Choices.Choices}
+use Rattle.tool_options.specs.{Choices.lays_commons}
 use Rattle.link_out.specs.function.Plans.{Plan, plan, common_size, commons_size, common_offset, commons_laid}
-use Rattle.link_out.specs.function.Finals.{Final, final, final_at, type_of}
 use Rattle.link_out.specs.function.Tables.{local_rows, external_row, external_rows, table, name_bits, referent_bits}
 use Rattle.link_out.specs.function.Reports.{report_of, entry_word, entry_found_bad, is_undefined, undefined_names}
-use Rattle.link_out.specs.function.Link.{linked_header}
-use Rattle.link_session.proofs.NeighbourLemmas.{blocks, mentions_in_same}
+use Rattle.link_out.specs.{Layouts.Bases, Layouts.bases, Layouts.magic_of, ReservedNames.reserved_names, function.Finals.Final}
+use Rattle.link_out.specs.{function.Finals.final, function.Finals.final_at, function.Finals.type_of, function.Link.linked_header}
+use Rattle.link_laws.specs.{relation.Refusals.kept_locals, relation.Relocated.entry_of}
 use Rattle.link_laws.proofs.ExternalLemmas.{entry_in_table}
 use Rattle.link_out.proofs.RowLemmas.{rows_kept-others}
 use Rattle.laws.specs.Frame.{TakesPlaceRevalued, DifferAt, IsBeside, IsRedefined, SymbolsStay}
 use Rattle.laws.proofs.FrameBlocks.{differ_long, after_same, as_long, own_shift}
-use Rattle.laws.proofs.FrameBytes.{beside_same}
-use Rattle.laws.proofs.FrameParts.{locals_differ}
 use Rattle.laws.proofs.FrameStates.{AreNear, near_self, near_updated, said_by, names_revalued, near_states, same_or_other}
+use Rattle.laws.proofs.{FrameBytes.beside_same, FrameParts.locals_differ}
 
 -- what follows from states that are near
 

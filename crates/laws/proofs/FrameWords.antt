@@ -1,34 +1,23 @@
 -- The words of the other objects, where one object is replaced by another that defines its names with other values.
-use Rattle.std.proofs.Common.{◌≡◌, ◌≢◌, ◌⊎◌, inl, inr, ℕ, ◌+◌, ◌/◌, cond, List, ◌∷◌, ◌++◌, Option, Some}
-use Rattle.std.proofs.Common.{None, refl, sym, ◌∙◌, ap, subst, arith, append_assoc}
-use Rattle.std.specs.Prelude.{slice_get, Ok}
-use Rattle.std.specs.List.{AllByRecursion}
-use Rattle.aout_core.specs.declared.symbol.Symbol.{Symbol}
-use Rattle.aout_core.specs.declared.symbol.Segment.{Segment}
+use Rattle.std.proofs.Common.{◌≡◌, ◌≢◌, ◌⊎◌, inl, inr, ℕ, ◌+◌, ◌/◌, cond, List, ◌∷◌, ◌++◌, Option, Some, None, refl, sym, ◌∙◌, ap, subst}
+use Rattle.std.proofs.Common.{arith, append_assoc}
+use Rattle.std.specs.{Prelude.slice_get, Prelude.Ok, List.AllByRecursion}
 use Rattle.aout_core.specs.declared.symbol.Segment.TheVariants.{Undefined, Absolute, TextSeg, DataSeg, BssSeg, Other}
-use Rattle.aout_core.specs.declared.reloc.Reloc.{Reloc}
-use Rattle.aout_core.specs.declared.reloc.Kind.{Kind}
-use Rattle.aout_core.specs.declared.reloc.Kind.TheVariants as kinds
-use Rattle.aout_core.specs.Contents.{Contents}
-use Rattle.aout_core.specs.Words.{plus, minus}
 use Rattle.aout_core.specs.WellFormed.{kind_of, is_pc_relative, symbol_number}
-use Rattle.link_session.specs.Starts.{total, own}
-use Rattle.link_session.specs.Cells.{segment_words, segment_relocs}
-use Rattle.link_session.specs.Sessions.{IsObject}
-use Rattle.link_session.proofs.ListLemmas.{all_append, all_split}
-use Rattle.tool_options.specs.declared.options.Keep.TheVariants.{Nothing}
-use Rattle.tool_options.specs.Choices.{Choices}
+use Rattle.aout_core.specs.{declared.symbol.Symbol.Symbol, declared.symbol.Segment.Segment, declared.reloc.Reloc.Reloc}
+use Rattle.aout_core.specs.{declared.reloc.Kind.Kind, Contents.Contents, Words.plus, Words.minus}
+use Rattle.link_session.specs.{Starts.total, Starts.own, Cells.segment_words, Cells.segment_relocs, Sessions.IsObject}
+use Rattle.link_session.proofs.{ListLemmas.all_append, ListLemmas.all_split, NeighbourLemmas.AreAsLong, NeighbourLemmas.as_long_self}
+use Rattle.tool_options.specs.{declared.options.Keep.TheVariants.Nothing, Choices.Choices}
 use Rattle.link_laws.specs.relation.Relocated.{base_in, move_in, entry_of, address_in, IsAdded, IsRelocated}
-use Rattle.link_out.specs.function.Plans.{plan}
-use Rattle.link_out.specs.function.Reports.{report_of}
 use Rattle.link_out.specs.function.Link.{Outcome, linked_file, link}
-use Rattle.link_session.proofs.NeighbourLemmas.{AreAsLong, as_long_self}
+use Rattle.link_out.specs.{function.Plans.plan, function.Reports.report_of}
 use Rattle.link_out.proofs.OutcomeLemmas.{made}
 use Rattle.link_laws.proofs.RelocatedLemmas.{words_relocated}
 use Rattle.laws.specs.Frame.{AreRevaluedLinks, IsRedefined, Follows, WordStays, WordsStay, DifferByValues}
-use Rattle.laws.proofs.FrameBlocks.{same_totals, as_long}
-use Rattle.laws.proofs.FrameParts.{kept_relocs_differ}
 use Rattle.laws.proofs.FrameValues.{same_report, same_header, same_entry, tables_stay, bits_same}
+use Rattle.laws.proofs.{FrameBlocks.same_totals, FrameBlocks.as_long, FrameParts.kept_relocs_differ}
+use Rattle.aout_core.specs.declared.reloc.Kind.TheVariants as kinds
 
 -- a word that both links have of an object, after these objects in the one and those in the other
 module _ (x y : Outcome) (k l m : Contents) (xs ys f g : List Contents)

@@ -1,30 +1,19 @@
 -- Linking preserves instructions.
-use Rattle.std.proofs.Common.{◌≡◌, ℕ, zero, suc, ◌+◌, ◌-◌, ◌*◌, ◌/◌, ◌%◌, ◌<◌, ◌≤◌, Bool, true, false}
-use Rattle.std.proofs.Common.{eqb, if◌then◌else◌, cond, List, [], ◌∷◌, ◌++◌, length, drop, Some, refl}
-use Rattle.std.proofs.Common.{sym, ◌∙◌, ap, subst, append_assoc, arith}
-use Rattle.std.specs.Prelude.{slice_get, not}
-use Rattle.std.specs.List.{AllByRecursion}
-use Rattle.std.proofs.lemmas.List.{length-drop}
-use Rattle.std.proofs.lemmas.List.Sums.{sum_by-append}
+use Rattle.std.proofs.Common.{◌≡◌, ℕ, zero, suc, ◌+◌, ◌-◌, ◌*◌, ◌/◌, ◌%◌, ◌<◌, ◌≤◌, Bool, true, false, eqb, if◌then◌else◌, cond, List, []}
+use Rattle.std.proofs.Common.{◌∷◌, ◌++◌, length, drop, Some, refl, sym, ◌∙◌, ap, subst, append_assoc, arith}
 use Rattle.std.proofs.lemmas.Option.{slice_get_within, same_Some}
-use Rattle.std.proofs.lemmas.Bool.{eqb-true}
-use Rattle.aout_core.specs.declared.symbol.Symbol.{Symbol}
-use Rattle.aout_core.specs.declared.symbol.Segment.TheVariants.{TextSeg}
-use Rattle.aout_core.specs.declared.reloc.Reloc.{Reloc}
-use Rattle.aout_core.specs.declared.reloc.Kind.TheVariants.{Absolute}
-use Rattle.aout_core.specs.Contents.{Contents, IsWord}
-use Rattle.aout_core.specs.Words.{plus, minus}
+use Rattle.std.proofs.{lemmas.List.length-drop, lemmas.List.Sums.sum_by-append, lemmas.Bool.eqb-true}
+use Rattle.std.specs.{Prelude.slice_get, Prelude.not, List.AllByRecursion}
 use Rattle.aout_core.specs.WellFormed.{kind_numbered, kind_of, is_pc_relative, symbol_number}
-use Rattle.link_session.specs.Starts.{size_of, total}
-use Rattle.link_session.specs.Sessions.{IsObject}
-use Rattle.link_session.proofs.ListLemmas.{all_split}
-use Rattle.link_session.proofs.WellFormedLemmas.{well_formed_parts}
+use Rattle.aout_core.specs.{declared.symbol.Symbol.Symbol, declared.symbol.Segment.TheVariants.TextSeg, declared.reloc.Reloc.Reloc}
+use Rattle.aout_core.specs.{declared.reloc.Kind.TheVariants.Absolute, Contents.Contents, Contents.IsWord, Words.plus, Words.minus}
+use Rattle.link_session.specs.{Starts.size_of, Starts.total, Sessions.IsObject}
+use Rattle.link_session.proofs.{ListLemmas.all_split, WellFormedLemmas.well_formed_parts}
 use Rattle.tool_options.specs.Choices.{Choices}
 use Rattle.link_out.specs.Results.{Outcome}
 use Rattle.link_laws.specs.relation.Relocated.{move_in, IsAdded, IsRelocated}
 use Rattle.link_laws.specs.relation.LinkedFrom.{IsLinkedFrom}
-use Rattle.instructions.specs.Lines.{lines}
-use Rattle.instructions.specs.Relocated.{is_relocated}
+use Rattle.instructions.specs.{Lines.lines, Relocated.is_relocated}
 use Rattle.instructions.proofs.AlikeLemmas.{Pairs, Same, get_from, drop_twice, BeginAlike, begin_alike}
 use Rattle.laws.specs.Instructions.{HasWholeText, IsLinkedWord, AreLinesOf, InstructionsAreKept, TextsAreKept}
 use Rattle.laws.proofs.LoadedLemmas.{whole_words}

@@ -1,16 +1,11 @@
 -- An instruction stands in a linked file wherever it begins in an object.
 use Rattle.std.proofs.Common.{◌≡◌, ℕ, ◌+◌, ◌/◌, ◌≤◌, Bool, false, List, [], ◌∷◌, ◌++◌, length, drop, refl, sym, ◌∙◌, ap, subst, arith}
-use Rattle.std.specs.Prelude.{slice_get}
 use Rattle.std.proofs.lemmas.List.{length-drop}
-use Rattle.aout_core.specs.declared.symbol.Segment.TheVariants.{TextSeg}
-use Rattle.aout_core.specs.Contents.{Contents}
-use Rattle.link_session.specs.Starts.{total}
-use Rattle.link_session.specs.Sessions.{IsObject}
+use Rattle.std.specs.Prelude.{slice_get}
+use Rattle.aout_core.specs.{declared.symbol.Segment.TheVariants.TextSeg, Contents.Contents}
+use Rattle.link_session.specs.{Starts.total, Sessions.IsObject}
 use Rattle.link_session.proofs.ListLemmas.{all_split}
-use Rattle.instructions.specs.Instructions.{instruction_of}
-use Rattle.instructions.specs.Lines.{line_of}
-use Rattle.instructions.specs.Relocated.{is_relocated}
-use Rattle.instructions.specs.Alike.{AlikeLine, is_cut}
+use Rattle.instructions.specs.{Instructions.instruction_of, Lines.line_of, Relocated.is_relocated, Alike.AlikeLine, Alike.is_cut}
 use Rattle.instructions.proofs.AlikeLemmas.{Pairs, Same, drop_twice, pairs_from, line_alike}
 use Rattle.laws.specs.Instructions.{IsLinkedWord, InstructionsAreThere}
 use Rattle.laws.proofs.InstructionLemmas.{linked_pairs, linked_same, text_within}

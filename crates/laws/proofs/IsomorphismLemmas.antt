@@ -1,56 +1,37 @@
 -- Two links of the same objects: the same places, the same bytes, and words that move as what they refer to.
-use Rattle.std.proofs.Common.{◌≡◌, ◌≢◌, ℕ, zero, suc, ◌+◌, ◌*◌, ◌/◌, ◌%◌, ◌<◌, Bool, true, false, cond, eqb, List, []}
-use Rattle.std.proofs.Common.{◌∷◌, ◌++◌, length, take, drop, Option, Some, None, refl, sym, ◌∙◌, ap, subst, arith}
-use Rattle.std.specs.Prelude.{slice_get, bytes_eq, Ok}
-use Rattle.std.specs.List.{AllByRecursion}
-use Rattle.std.proofs.lemmas.List.Sorted.{IsPermutation-sym}
-use Rattle.std.proofs.lemmas.Bool.{eqb-true, eqb-false}
-use Rattle.std.proofs.lemmas.Option.{same_Some}
-use Rattle.aout_core.specs.declared.symbol.Symbol.{Symbol}
-use Rattle.aout_core.specs.declared.symbol.Segment.{Segment}
+use Rattle.std.proofs.Common.{◌≡◌, ◌≢◌, ℕ, zero, suc, ◌+◌, ◌*◌, ◌/◌, ◌%◌, ◌<◌, Bool, true, false, cond, eqb, List, [], ◌∷◌, ◌++◌, length}
+use Rattle.std.proofs.Common.{take, drop, Option, Some, None, refl, sym, ◌∙◌, ap, subst, arith}
+use Rattle.std.proofs.{lemmas.List.Sorted.IsPermutation-sym, lemmas.Bool.eqb-true, lemmas.Bool.eqb-false, lemmas.Option.same_Some}
+use Rattle.std.specs.{Prelude.slice_get, Prelude.bytes_eq, Prelude.Ok, List.AllByRecursion}
 use Rattle.aout_core.specs.declared.symbol.Segment.TheVariants.{Undefined, Absolute, TextSeg, DataSeg, BssSeg, Other}
-use Rattle.aout_core.specs.declared.reloc.Reloc.{Reloc}
-use Rattle.aout_core.specs.declared.reloc.Kind.{Kind}
-use Rattle.aout_core.specs.declared.reloc.Kind.TheVariants as kinds
-use Rattle.aout_core.specs.Contents.{Contents}
-use Rattle.aout_core.specs.Addresses.{data_start_in}
-use Rattle.aout_core.specs.Words.{plus, minus}
 use Rattle.aout_core.specs.WellFormed.{kind_numbered, kind_of, is_pc_relative, symbol_number, segment_of}
-use Rattle.link_session.specs.Starts.{size_of, total, own}
-use Rattle.link_session.specs.Sessions.{IsObject}
-use Rattle.link_session.specs.Cells.{segment_words, segment_relocs}
-use Rattle.link_session.proofs.ListLemmas.{all_split}
-use Rattle.link_session.proofs.WellFormedLemmas.{well_formed_parts}
-use Rattle.tool_options.specs.declared.options.Keep.TheVariants.{Nothing}
-use Rattle.tool_options.specs.declared.options.Layout.{Layout}
+use Rattle.aout_core.specs.{declared.symbol.Symbol.Symbol, declared.symbol.Segment.Segment, declared.reloc.Reloc.Reloc}
+use Rattle.aout_core.specs.{declared.reloc.Kind.Kind, Contents.Contents, Addresses.data_start_in, Words.plus, Words.minus}
+use Rattle.link_session.specs.{Starts.size_of, Starts.total, Starts.own, Sessions.IsObject, Cells.segment_words, Cells.segment_relocs}
+use Rattle.link_session.proofs.{ListLemmas.all_split, WellFormedLemmas.well_formed_parts}
 use Rattle.tool_options.specs.Choices.{Choices, lays_commons}
-use Rattle.link_out.specs.ReservedNames.{etext, edata, end_name}
-use Rattle.link_out.specs.Results.{Outcome}
-use Rattle.link_out.specs.function.Link.{link}
+use Rattle.tool_options.specs.{declared.options.Keep.TheVariants.Nothing, declared.options.Layout.Layout}
+use Rattle.link_out.specs.{ReservedNames.etext, ReservedNames.edata, ReservedNames.end_name, Results.Outcome, function.Link.link}
 use Rattle.link_laws.specs.relation.Relocated.{base_in, move_in, entry_of, address_in, IsAdded}
 use Rattle.link_laws.specs.relation.LinkedTable.{shown, undefined_row}
-use Rattle.link_laws.specs.WordsAndNames.{IsDefined}
-use Rattle.link_laws.specs.CommonsAndLayouts.{HasSpace}
-use Rattle.link_laws.proofs.SegmentLemmas.{HasWords}
-use Rattle.link_laws.proofs.DefinedLemmas.{definitions_hold}
+use Rattle.link_laws.specs.{WordsAndNames.IsDefined, CommonsAndLayouts.HasSpace}
+use Rattle.link_laws.proofs.{SegmentLemmas.HasWords, DefinedLemmas.definitions_hold}
 use Rattle.instructions.proofs.AlikeLemmas.{get_inside}
 use Rattle.laws.specs.Core.{Space, of_instructions, of_data, has_segment, is_in, core, IsWordAt}
-use Rattle.laws.specs.CoreLaws.{space_of, IsPlace, IsLoaded}
-use Rattle.laws.specs.Operands.{operand, FindsMore}
-use Rattle.laws.specs.Orders.{Meaning, definition, common, missing, IsDefinedBy, Means, MeansTheSame}
-use Rattle.laws.specs.Orders.{AreOrders, OrderKeepsReferents, OrderKeepsMeanings}
-use Rattle.laws.specs.Isomorphism.{Place, of_object, of_common, IsPlaceOf, segment_at, value_in, address_at, IsLoadedAt}
-use Rattle.laws.specs.Isomorphism.{PlacesAreLoaded, AreRenumbered, moved, Target, to_place, to_end, to_nothing}
-use Rattle.laws.specs.Isomorphism.{address_to, moved_target, missing_target, IsDefinedAt, IsTargetOf, RefersTo}
-use Rattle.laws.specs.Isomorphism.{AreLinks, IsUnrelocated, MovesAsTarget, LinksAreIsomorphic, LinksKeepReferents}
-use Rattle.laws.proofs.CoreLemmas.{core_at, one_space}
+use Rattle.laws.specs.Orders.{Meaning, definition, common, missing, IsDefinedBy, Means, MeansTheSame, AreOrders, OrderKeepsReferents}
+use Rattle.laws.specs.Orders.{OrderKeepsMeanings}
+use Rattle.laws.specs.Isomorphism.{Place, of_object, of_common, IsPlaceOf, segment_at, value_in, address_at, IsLoadedAt, PlacesAreLoaded}
+use Rattle.laws.specs.Isomorphism.{AreRenumbered, moved, Target, to_place, to_end, to_nothing, address_to, moved_target, missing_target}
+use Rattle.laws.specs.Isomorphism.{IsDefinedAt, IsTargetOf, RefersTo, AreLinks, IsUnrelocated, MovesAsTarget, LinksAreIsomorphic}
+use Rattle.laws.specs.Isomorphism.{LinksKeepReferents}
+use Rattle.laws.specs.{CoreLaws.space_of, CoreLaws.IsPlace, CoreLaws.IsLoaded, Operands.operand, Operands.FindsMore}
 use Rattle.laws.proofs.InstructionLemmas.{relocs_by, relocs_long, reloc_inside, moves_low}
 use Rattle.laws.proofs.IsomorphismLists.{cut, take_before, get_between}
-use Rattle.laws.proofs.IsomorphismPlaces.{place_in}
 use Rattle.laws.proofs.LoadedLemmas.{address_of, words_there, words_loaded}
 use Rattle.laws.proofs.OperandLemmas.{loaded_finds, any_place, defined_address}
-use Rattle.laws.proofs.ReorderedMentions.{wanted_too}
 use Rattle.laws.proofs.ReorderedMeanings.{laid, meanings_kept, objects_too, referents_kept}
+use Rattle.laws.proofs.{CoreLemmas.core_at, CoreLemmas.one_space, IsomorphismPlaces.place_in, ReorderedMentions.wanted_too}
+use Rattle.aout_core.specs.declared.reloc.Kind.TheVariants as kinds
 
 -- a segment has the same in each space that has it
 in_its_space : (file : Contents) (segment : Segment) (space : Space) (address : ℕ) →

@@ -1,50 +1,31 @@
 -- The places of a link: each is loaded, no two at one address, and each byte that is loaded has one.
-use Rattle.std.proofs.Common.{◌≡◌, ◌≢◌, ℕ, zero, suc, ◌+◌, ◌-◌, ◌%◌, ◌<◌, ◌≤◌, ◌⊎◌, inl, inr, Bool, true}
-use Rattle.std.proofs.Common.{false, cond, ◌||◌, eqb, nat_lt, List, [], ◌∷◌, take, drop, Option, Some}
-use Rattle.std.proofs.Common.{None, refl, sym, ◌∙◌, ap, subst, arith}
-use Rattle.std.specs.Prelude.{slice_get, sum_by, bytes_eq, Ok}
-use Rattle.std.specs.List.{AllByRecursion}
+use Rattle.std.proofs.Common.{◌≡◌, ◌≢◌, ℕ, zero, suc, ◌+◌, ◌-◌, ◌%◌, ◌<◌, ◌≤◌, ◌⊎◌, inl, inr, Bool, true, false, cond, ◌||◌, eqb, nat_lt}
+use Rattle.std.proofs.Common.{List, [], ◌∷◌, take, drop, Option, Some, None, refl, sym, ◌∙◌, ap, subst, arith}
 use Rattle.std.proofs.lemmas.Bool.{ltb-true, ltb-false, eqb-true}
-use Rattle.std.proofs.lemmas.Option.{same_Some}
-use Rattle.std.proofs.lemmas.Slice.Eq.{bytes_eq-Decides}
-use Rattle.aout_core.specs.declared.symbol.Symbol.{Symbol}
-use Rattle.aout_core.specs.declared.symbol.Segment.{Segment}
+use Rattle.std.proofs.{lemmas.Option.same_Some, lemmas.Slice.Eq.bytes_eq-Decides}
+use Rattle.std.specs.{Prelude.slice_get, Prelude.sum_by, Prelude.bytes_eq, Prelude.Ok, List.AllByRecursion}
 use Rattle.aout_core.specs.declared.symbol.Segment.TheVariants.{Undefined, Absolute, TextSeg, DataSeg, BssSeg, Other}
-use Rattle.aout_core.specs.Contents.{Contents}
-use Rattle.aout_core.specs.Addresses.{data_start_in}
-use Rattle.aout_core.specs.Words.{plus}
-use Rattle.link_session.specs.declared.state.State.{State}
-use Rattle.link_session.specs.declared.state.State.TheVariants.{Defined, Wanted}
-use Rattle.link_session.specs.Starts.{size_of, total}
-use Rattle.link_session.specs.Sessions.{IsObject}
-use Rattle.tool_options.specs.NameLists.{is_among}
+use Rattle.aout_core.specs.{declared.symbol.Symbol.Symbol, declared.symbol.Segment.Segment, Contents.Contents, Addresses.data_start_in}
+use Rattle.aout_core.specs.{Words.plus}
 use Rattle.link_session.specs.Mentions.{Mention, mentions, names_of, names_by_first_mention, place_of}
-use Rattle.link_session.specs.States.{state}
-use Rattle.link_session.proofs.MentionLemmas.{get_place}
-use Rattle.link_session.proofs.UpdateLemmas.{own_name}
-use Rattle.tool_options.specs.declared.options.Keep.TheVariants.{Nothing}
-use Rattle.tool_options.specs.Choices.{Choices, lays_commons}
-use Rattle.link_out.specs.Results.{Outcome}
+use Rattle.link_session.specs.{declared.state.State.State, declared.state.State.TheVariants.Defined}
+use Rattle.link_session.specs.{declared.state.State.TheVariants.Wanted, Starts.size_of, Starts.total, Sessions.IsObject, States.state}
+use Rattle.tool_options.specs.{NameLists.is_among, declared.options.Keep.TheVariants.Nothing, Choices.Choices, Choices.lays_commons}
+use Rattle.link_session.proofs.{MentionLemmas.get_place, UpdateLemmas.own_name}
 use Rattle.link_out.specs.function.Plans.{Plan, plan, common_size, commons_total, common_offset, commons_laid}
 use Rattle.link_out.specs.function.Finals.{Final, final, final_by, bound_at, waiting, reserved_or_waiting}
-use Rattle.link_out.specs.function.Tables.{external_row}
-use Rattle.link_out.specs.function.Link.{link}
-use Rattle.link_laws.specs.relation.NameStates.{HasState}
+use Rattle.link_out.specs.{Results.Outcome, function.Tables.external_row, function.Link.link}
 use Rattle.link_laws.specs.relation.Relocated.{base_in, entry_of, HoldsObjects}
-use Rattle.link_laws.specs.CommonsAndLayouts.{IsCommon, HasSpace}
-use Rattle.link_laws.proofs.HasStateLemmas.{has_state, state_is}
+use Rattle.link_laws.specs.{relation.NameStates.HasState, CommonsAndLayouts.IsCommon, CommonsAndLayouts.HasSpace}
+use Rattle.link_laws.proofs.{HasStateLemmas.has_state, HasStateLemmas.state_is, ExternalLemmas.entry_in_table, ExternalLemmas.entry_there}
+use Rattle.link_laws.proofs.{MoveLemmas.data_begun, CommonLemmas.commons_have_space, RelocatedLemmas.objects_fill}
 use Rattle.link_out.proofs.OutcomeLemmas.{made_file, made_fits}
-use Rattle.link_laws.proofs.ExternalLemmas.{entry_in_table, entry_there}
-use Rattle.link_laws.proofs.MoveLemmas.{data_begun}
-use Rattle.link_laws.proofs.CommonLemmas.{commons_have_space}
-use Rattle.link_laws.proofs.RelocatedLemmas.{objects_fill}
 use Rattle.laws.specs.Core.{Space, has_segment, first_address, bytes_of, is_in, core}
-use Rattle.laws.specs.Isomorphism.{Place, of_object, of_common, IsInObject, IsInCommon, IsPlaceOf, segment_at, value_in}
-use Rattle.laws.specs.Isomorphism.{address_at, IsLoadedAt, PlacesAreApart, BytesHavePlaces}
+use Rattle.laws.specs.Isomorphism.{Place, of_object, of_common, IsInObject, IsInCommon, IsPlaceOf, segment_at, value_in, address_at}
+use Rattle.laws.specs.Isomorphism.{IsLoadedAt, PlacesAreApart, BytesHavePlaces}
 use Rattle.laws.proofs.CoreLemmas.{IsWithin, within, within_back, segments_apart, IsByteOf, core_back}
-use Rattle.laws.proofs.NameListLemmas.{AreOnce, new_once}
-use Rattle.laws.proofs.OperandLemmas.{byte_in}
 use Rattle.laws.proofs.IsomorphismLists.{unit_at, one_unit, unit_inside, cut}
+use Rattle.laws.proofs.{NameListLemmas.AreOnce, NameListLemmas.new_once, OperandLemmas.byte_in}
 
 -- a list without repetition has each name at its place
 place_once : (ns : List (List ℕ)) (i : ℕ) (n : List ℕ) → AreOnce ns → slice_get ns i ≡ Some n → place_of n ns ≡ i

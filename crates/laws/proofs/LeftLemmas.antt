@@ -1,29 +1,22 @@
 -- What the lines of a session leave: its objects are those of the files that are left, taken one after another.
-use Rattle.std.proofs.Common.{◌≡◌, ℕ, Bool, true, false, List, [], ◌∷◌, ◌++◌, map, Option, Some, None, Result, Ok, Err}
-use Rattle.std.proofs.Common.{option_and_then, option_map, refl, sym, ap, ◌∙◌, subst, inl, inr}
-use Rattle.std.specs.Prelude.{IfSome, eqb, unwrap_or}
+use Rattle.std.proofs.Common.{◌≡◌, ℕ, Bool, true, false, List, [], ◌∷◌, ◌++◌, map, Option, Some, None, Result, Ok, Err, option_and_then}
+use Rattle.std.proofs.Common.{option_map, refl, sym, ap, ◌∙◌, subst, inl, inr}
 use Rattle.std.proofs.lemmas.List.{map-append}
-use Rattle.aout_core.specs.Contents.{Contents}
-use Rattle.aout_core.specs.Decoding.{decode}
-use Rattle.link_session.specs.declared.entry.AddFault.{AddFault}
+use Rattle.std.specs.Prelude.{IfSome, eqb, unwrap_or}
+use Rattle.aout_core.specs.{Contents.Contents, Decoding.decode}
 use Rattle.link_session.specs.Edits.{last_of, without_last}
-use Rattle.link_session.specs.Labelled.{Labelled, objects}
-use Rattle.link_session.specs.Limits.{refusal}
-use Rattle.link_session.specs.Undo.{Kept}
+use Rattle.link_session.specs.{declared.entry.AddFault.AddFault, Labelled.Labelled, Labelled.objects, Limits.refusal, Undo.Kept}
 use Rattle.link_out.specs.Steps.{and_then, unless}
+use Rattle.link_out.specs.Inputs.{Cause, Refusal, not_added, at_path, kept_with, object_in, with_input, with_inputs}
 use Rattle.link_session.proofs.EditLemmas.{without_last-put_last}
 use Rattle.tool_options.specs.Choices.{Choices}
 use Rattle.surroundings.specs.Events.{Event, Opened}
 use Rattle.command_words.specs.Scripts.{Asked, to_add, to_withdraw, for_externals, for_undefined, to_link, for_nothing}
 use Rattle.v7tools.specs.Answers.{Verdict, done, refused, Stepped, add_step, withdraw_step}
-use Rattle.link_out.specs.Inputs.{Cause, Refusal, not_added, at_path, kept_with, object_in, with_input, with_inputs}
 use Rattle.v7tools.specs.LineRuns.{DoesStep, IsAddOf, IsLineOf, LineRun, OpensOne, status_after}
-use Rattle.v7tools.specs.LinkAnswers.{Input, Takes, TakesAll, known_inputs}
-use Rattle.v7tools.specs.LinkRuns.{inputs_opened}
-use Rattle.v7tools.specs.SessionRuns.{Chains}
-use Rattle.v7tools.specs.SessionSteps.{AddsIf, IsAddOn, WithdrawsIf}
-use Rattle.laws.specs.Disks.{Disk}
-use Rattle.laws.specs.SessionsByCommands.{AreThere, left_after, left_by}
+use Rattle.v7tools.specs.{LinkAnswers.Input, LinkAnswers.Takes, LinkAnswers.TakesAll, LinkAnswers.known_inputs, LinkRuns.inputs_opened}
+use Rattle.v7tools.specs.{SessionRuns.Chains, SessionSteps.AddsIf, SessionSteps.IsAddOn, SessionSteps.WithdrawsIf}
+use Rattle.laws.specs.{Disks.Disk, SessionsByCommands.AreThere, SessionsByCommands.left_after, SessionsByCommands.left_by}
 
 -- ---- inputs that are taken, one more and one less
 

@@ -1,25 +1,22 @@
 -- The lines that a session ran and answered: all of its script if it ends well, and else the first.
-use Rattle.std.proofs.Common.{◌≡◌, ℕ, ◌≤◌, List, [], ◌∷◌, ◌++◌, Option, Some, None, Result, Ok, Err, refl, sym, ap, ◌∙◌, arith, inl, inr, subst}
-use Rattle.std.proofs.KnownBytes.{Appends-nil}
-use Rattle.std.proofs.lemmas.List.{append-nil, append_assoc, append_cancel_left}
-use Rattle.std.specs.Io.KnownBytes.{Appends}
-use Rattle.std.specs.Prelude.{IfSome}
+use Rattle.std.proofs.Common.{◌≡◌, ℕ, ◌≤◌, List, [], ◌∷◌, ◌++◌, Option, Some, None, Result, Ok, Err, refl, sym, ap, ◌∙◌, arith, inl, inr}
+use Rattle.std.proofs.Common.{subst}
+use Rattle.std.proofs.{KnownBytes.Appends-nil, lemmas.List.append-nil, lemmas.List.append_assoc, lemmas.List.append_cancel_left}
+use Rattle.std.specs.{Io.KnownBytes.Appends, Prelude.IfSome}
 use Rattle.aout_core.specs.Wires.{Latched}
 use Rattle.link_session.specs.Sessions.{nothing_kept}
 use Rattle.tool_options.specs.Choices.{Choices}
 use Rattle.surroundings.specs.Events.{Extends}
 use Rattle.command_words.specs.Scripts.{Asked, Given, ScriptFault, long_line, many_lines}
-use Rattle.command_words.specs.ScriptAnswers.{NamesPath}
-use Rattle.command_words.specs.declared.words.Call.{Call}
 use Rattle.command_words.specs.declared.words.Call.TheVariants.{Ld, Nm, Size, Strip, Session}
+use Rattle.command_words.specs.{ScriptAnswers.NamesPath, declared.words.Call.Call}
 use Rattle.v7tools.specs.CommandRuns.{Ends, IsCallRun, RunsWords}
-use Rattle.v7tools.specs.LineRuns.{LineRun}
 use Rattle.v7tools.specs.SessionRuns.{AreFirst, AreLines, EndsAfter, IsSessionRun, StopsAfter, answers_of, events_of, given, lines_asked}
-use Rattle.v7tools.specs.declared.fault.CliFault.{CliFault}
-use Rattle.v7tools.specs.declared.fault.CliFault.TheVariants as faults
+use Rattle.v7tools.specs.{LineRuns.LineRun, declared.fault.CliFault.CliFault}
 use Rattle.laws.specs.Disks.{Run}
 use Rattle.laws.specs.SessionsByCommands.{AnsweredLines, AnswersLaw, LinesLaw, RanLines}
 use Rattle.laws.proofs.CallLemmas.{IsSession, same_session}
+use Rattle.v7tools.specs.declared.fault.CliFault.TheVariants as faults
 
 no_fault : (answer : ℕ) (fault : CliFault) → (let x : Result ℕ CliFault = Ok answer in let y : Result ℕ CliFault = Err fault in x ≡ y) → ⊥
 no_fault answer fault e = cc

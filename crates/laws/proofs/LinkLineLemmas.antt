@@ -1,52 +1,36 @@
 -- What `ld` does with the files that a session has left, and what a line of the session did.
-use Rattle.std.specs.declared.alloc.Global.{Global}
-use Rattle.std.proofs.Common.{◌≡◌, ℕ, List, [], ◌∷◌, ◌++◌, Option, Some, None, Result, Ok, Err, refl, sym, ap, ◌∙◌}
-use Rattle.std.proofs.Common.{inl, inr, subst, ◌⊎◌}
-use Rattle.std.proofs.lemmas.List.{append-nil, append_cancel_left}
 use Rattle.std.specs.Prelude.{IfSome, String, codes, decimal, string_bytes}
-use Rattle.std.specs.List.{AllByRecursion}
-use Rattle.aout_core.specs.declared.file.ReadFault.TheVariants as reads
-use Rattle.aout_core.specs.Contents.{Contents}
-use Rattle.aout_core.specs.Refusals.{refused}
-use Rattle.command_words.specs.declared.words.Call.{Call}
+use Rattle.std.specs.{declared.alloc.Global.Global, List.AllByRecursion}
+use Rattle.std.proofs.Common.{◌≡◌, ℕ, List, [], ◌∷◌, ◌++◌, Option, Some, None, Result, Ok, Err, refl, sym, ap, ◌∙◌, inl, inr, subst, ◌⊎◌}
+use Rattle.std.proofs.lemmas.List.{append-nil, append_cancel_left}
+use Rattle.aout_core.specs.{Contents.Contents, Refusals.refused}
 use Rattle.command_words.specs.declared.words.Call.TheVariants.{Ld, Nm, Size, Strip, Session}
-use Rattle.command_words.specs.Scripts.{Asked, to_link}
-use Rattle.link_session.specs.declared.entry.AddFault.TheVariants as adds
-use Rattle.link_session.specs.Labelled.{Labelled, objects}
-use Rattle.link_session.specs.Sessions.{nothing_kept}
-use Rattle.link_session.specs.Undo as undo
+use Rattle.command_words.specs.{declared.words.Call.Call, Scripts.Asked, Scripts.to_link}
+use Rattle.link_session.specs.{Labelled.Labelled, Labelled.objects, Sessions.nothing_kept}
 use Rattle.link_session.proofs.ListLemmas.{all_append}
-use Rattle.link_out.specs.declared.linked.Linked.{Linked}
-use Rattle.link_out.specs.declared.linked.LinkFault.{LinkFault}
-use Rattle.link_out.specs.declared.linked.LinkFault.TheVariants as links
-use Rattle.link_out.specs.FaultTexts.{link_text}
-use Rattle.link_out.specs.Outcomes.{outcome_of, report_names}
-use Rattle.link_out.specs.Results.{Outcome}
-use Rattle.link_out.specs.Steps.{and_then, refused_as}
-use Rattle.link_out.specs.function.Link.{link}
-use Rattle.link_out.specs.function.Reports.{line, report_text, status_of}
+use Rattle.link_out.specs.{declared.linked.Linked.Linked, declared.linked.LinkFault.LinkFault, FaultTexts.link_text, Outcomes.outcome_of}
+use Rattle.link_out.specs.{Outcomes.report_names, Results.Outcome, Steps.and_then, Steps.refused_as, function.Link.link}
+use Rattle.link_out.specs.{function.Reports.line, function.Reports.report_text, function.Reports.status_of, Inputs.Refusal, Inputs.linked}
+use Rattle.link_out.specs.{Inputs.not_linked}
 use Rattle.tool_options.specs.Choices.{Choices}
 use Rattle.surroundings.specs.Events.{Event, Extends, Opened, opened, opens, paths_of, stored}
 use Rattle.surroundings.specs.declared.office.Stored.{Stored}
 use Rattle.surroundings.specs.declared.office.Stored.TheVariants.{Kept, NotCreated, Failed}
-use Rattle.v7tools.specs.Answers.{Stepped, link_answer_text, link_status, link_step}
-use Rattle.v7tools.specs.Calls.{fault_of_words}
-use Rattle.v7tools.specs.CommandRuns.{Ends, IsCallRun, RunsWords}
-use Rattle.v7tools.specs.FaultTexts.{cli_text, no_memory}
-use Rattle.link_out.specs.Inputs.{Refusal, linked, not_linked}
-use Rattle.v7tools.specs.LineRuns.{IsLineOf, LineRun}
-use Rattle.v7tools.specs.LinkAnswers.{IsLinkOfBytes, IsTrueOf, known_inputs, said_by}
 use Rattle.v7tools.specs.LinkRuns.{IsLinkOfFiles, IsLinkRun, Refuses, Reports, ReportsIf, inputs_opened}
-use Rattle.v7tools.specs.SessionSteps.{IsLinkBy}
-use Rattle.v7tools.specs.declared.fault.CliFault.{CliFault}
-use Rattle.v7tools.specs.declared.fault.CliFault.TheVariants as faults
-use Rattle.laws.specs.Disks.{Disk, IsOn, Run, Writes}
-use Rattle.laws.specs.StepsByCommands.{AsksToLink}
+use Rattle.v7tools.specs.{Answers.Stepped, Answers.link_answer_text, Answers.link_status, Answers.link_step, Calls.fault_of_words}
+use Rattle.v7tools.specs.{CommandRuns.Ends, CommandRuns.IsCallRun, CommandRuns.RunsWords, FaultTexts.cli_text, FaultTexts.no_memory}
+use Rattle.v7tools.specs.{LineRuns.IsLineOf, LineRuns.LineRun, LinkAnswers.IsLinkOfBytes, LinkAnswers.IsTrueOf, LinkAnswers.known_inputs}
+use Rattle.v7tools.specs.{LinkAnswers.said_by, SessionSteps.IsLinkBy, declared.fault.CliFault.CliFault}
 use Rattle.laws.specs.SessionsByCommands.{AreThere, CannotRead, CannotWrite, DoesAsLd, FailsBy, IsOpening, IsRefusedAsLd, LinkLineLaw}
 use Rattle.laws.specs.SessionsByCommands.{RefusedLineLaw, Says, files_left}
-use Rattle.laws.proofs.CallLemmas.{IsLink, same_link}
-use Rattle.laws.proofs.DiskLemmas.{AreGiven, given}
+use Rattle.laws.specs.{Disks.Disk, Disks.IsOn, Disks.Run, Disks.Writes, StepsByCommands.AsksToLink}
 use Rattle.laws.proofs.LeftLemmas.{IsAt, IsLeft, all_known, at_line, bytes_of, left_lines, taken_bytes}
+use Rattle.laws.proofs.{CallLemmas.IsLink, CallLemmas.same_link, DiskLemmas.AreGiven, DiskLemmas.given}
+use Rattle.aout_core.specs.declared.file.ReadFault.TheVariants as reads
+use Rattle.link_session.specs.declared.entry.AddFault.TheVariants as adds
+use Rattle.link_session.specs.Undo as undo
+use Rattle.link_out.specs.declared.linked.LinkFault.TheVariants as links
+use Rattle.v7tools.specs.declared.fault.CliFault.TheVariants as faults
 
 -- ---- the files that ld opened are those that are left
 

@@ -1,45 +1,29 @@
 -- What a link puts into the core: words, zeros, and nothing else.
-use Rattle.std.proofs.Common.{◌≡◌, ◌≢◌, ℕ, zero, suc, ◌+◌, ◌-◌, ◌*◌, ◌/◌, ◌%◌, ◌<◌, ◌≤◌, ◌⊎◌, inl, inr, Bool, true}
-use Rattle.std.proofs.Common.{false, cond, eqb, List, [], ◌∷◌, ◌++◌, length, Some, refl, sym, ◌∙◌, ap, subst, arith}
-use Rattle.std.specs.Prelude.{slice_get, nat_lt, Ok}
-use Rattle.std.specs.List.{AllByRecursion}
-use Rattle.std.proofs.lemmas.List.Sums.{sum_by-append}
-use Rattle.std.proofs.lemmas.Option.{slice_get_within, same_Some}
+use Rattle.std.proofs.Common.{◌≡◌, ◌≢◌, ℕ, zero, suc, ◌+◌, ◌-◌, ◌*◌, ◌/◌, ◌%◌, ◌<◌, ◌≤◌, ◌⊎◌, inl, inr, Bool, true, false, cond, eqb, List}
+use Rattle.std.proofs.Common.{[], ◌∷◌, ◌++◌, length, Some, refl, sym, ◌∙◌, ap, subst, arith}
 use Rattle.std.proofs.lemmas.Bool.{ltb-true, ltb-false, eqb-true, eqb-false}
-use Rattle.aout_core.specs.declared.header.Header.{Header}
-use Rattle.aout_core.specs.declared.symbol.Symbol.{Symbol}
-use Rattle.aout_core.specs.declared.symbol.Segment.{Segment}
+use Rattle.std.proofs.{lemmas.List.Sums.sum_by-append, lemmas.Option.slice_get_within, lemmas.Option.same_Some}
+use Rattle.std.specs.{Prelude.slice_get, Prelude.nat_lt, Prelude.Ok, List.AllByRecursion}
 use Rattle.aout_core.specs.declared.symbol.Segment.TheVariants.{Undefined, Absolute, TextSeg, DataSeg, BssSeg, Other}
-use Rattle.aout_core.specs.declared.reloc.Reloc.{Reloc}
-use Rattle.aout_core.specs.Contents.{Contents}
-use Rattle.aout_core.specs.Words.{plus, minus}
-use Rattle.aout_core.specs.WellFormed.{is_pc_relative}
-use Rattle.link_session.specs.Starts.{size_of, total, own}
-use Rattle.link_session.specs.Sessions.{IsObject}
-use Rattle.link_session.specs.Mentions.{mentions}
+use Rattle.aout_core.specs.{declared.header.Header.Header, declared.symbol.Symbol.Symbol, declared.symbol.Segment.Segment}
+use Rattle.aout_core.specs.{declared.reloc.Reloc.Reloc, Contents.Contents, Words.plus, Words.minus, WellFormed.is_pc_relative}
+use Rattle.aout_core.specs.{Addresses.data_start_in}
+use Rattle.link_session.specs.{Starts.size_of, Starts.total, Starts.own, Sessions.IsObject, Mentions.mentions, Cells.segment_words}
+use Rattle.link_session.specs.{Cells.segment_relocs}
 use Rattle.link_session.proofs.ListLemmas.{all_split}
-use Rattle.link_session.specs.Cells.{segment_words, segment_relocs}
-use Rattle.tool_options.specs.declared.options.Keep.{Keep}
-use Rattle.tool_options.specs.declared.options.Keep.TheVariants.{Nothing}
-use Rattle.tool_options.specs.declared.options.Layout.{Layout}
-use Rattle.tool_options.specs.declared.options.Layout.TheVariants.{Plain, Pure, Split}
-use Rattle.tool_options.specs.Choices.{Choices, lays_commons}
+use Rattle.tool_options.specs.{declared.options.Keep.Keep, declared.options.Keep.TheVariants.Nothing, declared.options.Layout.Layout}
+use Rattle.tool_options.specs.{declared.options.Layout.TheVariants.Plain, declared.options.Layout.TheVariants.Pure}
+use Rattle.tool_options.specs.{declared.options.Layout.TheVariants.Split, Choices.Choices, Choices.lays_commons}
 use Rattle.link_out.specs.Layouts.{magic_of, data_base}
-use Rattle.link_out.specs.Results.{Outcome}
-use Rattle.link_out.specs.function.Plans.{plan, commons_laid}
-use Rattle.link_out.specs.function.Link.{link, linked_file}
-use Rattle.aout_core.specs.Addresses.{data_start_in}
+use Rattle.link_out.specs.{Results.Outcome, function.Plans.plan, function.Plans.commons_laid, function.Link.link, function.Link.linked_file}
 use Rattle.link_laws.specs.relation.Relocated.{base_in, move_in, entry_of, IsRelocated, HoldsObjects}
-use Rattle.link_laws.specs.relation.LinkedFrom.{IsLinkedFrom}
-use Rattle.link_laws.specs.CommonsAndLayouts.{IsCommon, HasSpace}
+use Rattle.link_laws.specs.{relation.LinkedFrom.IsLinkedFrom, CommonsAndLayouts.IsCommon, CommonsAndLayouts.HasSpace}
 use Rattle.link_out.proofs.OutcomeLemmas.{made_file, made_fits}
 use Rattle.link_laws.proofs.SegmentLemmas.{HasWords, made_length}
 use Rattle.link_laws.proofs.RelocatedLemmas.{words_relocated, objects_fill}
-use Rattle.link_laws.proofs.MoveLemmas.{data_begun}
-use Rattle.link_laws.proofs.CommonLemmas.{commons_have_space}
-use Rattle.link_laws.proofs.LinkedTheorem.{linked_exactly}
-use Rattle.laws.specs.Core.{Space, of_instructions, of_data, has_one_space, has_segment, first_address}
-use Rattle.laws.specs.Core.{bytes_of, segment_byte, is_in, core, IsWordAt}
+use Rattle.link_laws.proofs.{MoveLemmas.data_begun, CommonLemmas.commons_have_space, LinkedTheorem.linked_exactly}
+use Rattle.laws.specs.Core.{Space, of_instructions, of_data, has_one_space, has_segment, first_address, bytes_of, segment_byte, is_in, core}
+use Rattle.laws.specs.Core.{IsWordAt}
 use Rattle.laws.specs.CoreLaws.{space_of, IsPlace, IsLoaded, IsZero, IsOfWord}
 use Rattle.laws.proofs.ByteLemmas.{low_byte, high_byte}
 use Rattle.laws.proofs.CoreLemmas.{IsWithin, within, within_back, core_at, IsByteOf, core_back, one_space}

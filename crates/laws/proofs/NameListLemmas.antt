@@ -1,11 +1,9 @@
 -- Lists of names without a repetition: two with the same names are in another order at most.
 use Rattle.std.proofs.Common.{◌≡◌, ℕ, Bool, true, false, cond, ◌&&◌, ◌||◌, List, [], ◌∷◌, ◌++◌, refl, sym, ◌∙◌, ap, subst}
-use Rattle.std.specs.Prelude.{bytes_eq, filter}
-use Rattle.std.specs.List.Sorted.{IsPermutation}
-use Rattle.std.proofs.lemmas.Bool.{or_left, or_right, or_parts}
-use Rattle.std.proofs.lemmas.List.Sorted.{IsPermutation-refl, IsPermutation-sym, IsPermutation-trans}
-use Rattle.std.proofs.lemmas.List.Sorted.{IsPermutation-cons, IsPermutation-middle}
-use Rattle.std.proofs.lemmas.Slice.Eq.{bytes_eq-Decides}
+use Rattle.std.proofs.lemmas.List.Sorted.{IsPermutation-refl, IsPermutation-sym, IsPermutation-trans, IsPermutation-cons}
+use Rattle.std.proofs.lemmas.List.Sorted.{IsPermutation-middle}
+use Rattle.std.proofs.{lemmas.Bool.or_left, lemmas.Bool.or_right, lemmas.Bool.or_parts, lemmas.Slice.Eq.bytes_eq-Decides}
+use Rattle.std.specs.{Prelude.bytes_eq, Prelude.filter, List.Sorted.IsPermutation}
 use Rattle.tool_options.specs.NameLists.{is_among, new_names}
 use Rattle.tool_options.proofs.NameListLemmas.{is_among-append}
 use Rattle.link_session.proofs.UpdateLemmas.{bytes_eq_sym, own_name}

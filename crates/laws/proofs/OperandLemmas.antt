@@ -1,50 +1,29 @@
 -- What words of a linked program find, beside what they find in their objects.
-use Rattle.std.proofs.Common.{◌≡◌, ◌≢◌, ℕ, ◌+◌, ◌*◌, ◌-◌, ◌%◌, ◌<◌, ◌≤◌, Bool, true, false, cond, not, ◌||◌, eqb, List}
-use Rattle.std.proofs.Common.{[], ◌∷◌, ◌++◌, Option, Some, None, refl, sym, ◌∙◌, ap, subst, arith}
-use Rattle.std.specs.Prelude.{slice_get, bytes_eq, Ok}
-use Rattle.std.specs.List.{AllByRecursion}
-use Rattle.std.proofs.lemmas.List.Sums.{sum_by-append}
-use Rattle.std.proofs.lemmas.Option.{same_Some}
-use Rattle.aout_core.specs.declared.header.Header.{Header}
-use Rattle.aout_core.specs.declared.symbol.Symbol.{Symbol}
-use Rattle.aout_core.specs.declared.symbol.Segment.{Segment}
+use Rattle.std.proofs.Common.{◌≡◌, ◌≢◌, ℕ, ◌+◌, ◌*◌, ◌-◌, ◌%◌, ◌<◌, ◌≤◌, Bool, true, false, cond, not, ◌||◌, eqb, List, [], ◌∷◌, ◌++◌}
+use Rattle.std.proofs.Common.{Option, Some, None, refl, sym, ◌∙◌, ap, subst, arith}
+use Rattle.std.proofs.{lemmas.List.Sums.sum_by-append, lemmas.Option.same_Some}
+use Rattle.std.specs.{Prelude.slice_get, Prelude.bytes_eq, Prelude.Ok, List.AllByRecursion}
 use Rattle.aout_core.specs.declared.symbol.Segment.TheVariants.{Undefined, Absolute, TextSeg, DataSeg, BssSeg, Other}
-use Rattle.aout_core.specs.declared.reloc.Reloc.{Reloc}
-use Rattle.aout_core.specs.declared.reloc.Kind.{Kind}
-use Rattle.aout_core.specs.declared.reloc.Kind.TheVariants as kinds
-use Rattle.aout_core.specs.Contents.{Contents}
-use Rattle.aout_core.specs.Words.{plus, minus}
-use Rattle.aout_core.specs.WellFormed.{kind_of, is_pc_relative, symbol_number}
-use Rattle.link_session.specs.declared.state.State.{State}
-use Rattle.link_session.specs.declared.state.State.TheVariants.{Defined, Wanted}
-use Rattle.link_session.specs.Starts.{size_of, total, own}
-use Rattle.link_session.specs.Sessions.{IsObject}
-use Rattle.tool_options.specs.NameLists.{is_among}
-use Rattle.link_session.specs.Mentions.{mentions, names_by_first_mention}
-use Rattle.link_session.specs.States.{state}
-use Rattle.link_session.specs.Cells.{segment_words, segment_relocs}
-use Rattle.tool_options.specs.declared.options.Keep.TheVariants.{Nothing}
-use Rattle.tool_options.specs.Choices.{Choices}
-use Rattle.link_out.specs.Layouts.{Bases}
-use Rattle.link_out.specs.Results.{Outcome}
+use Rattle.aout_core.specs.{declared.header.Header.Header, declared.symbol.Symbol.Symbol, declared.symbol.Segment.Segment}
+use Rattle.aout_core.specs.{declared.reloc.Reloc.Reloc, declared.reloc.Kind.Kind, Contents.Contents, Words.plus, Words.minus}
+use Rattle.aout_core.specs.{WellFormed.kind_of, WellFormed.is_pc_relative, WellFormed.symbol_number, Addresses.data_start_in}
+use Rattle.link_session.specs.{declared.state.State.State, declared.state.State.TheVariants.Defined}
+use Rattle.link_session.specs.{declared.state.State.TheVariants.Wanted, Starts.size_of, Starts.total, Starts.own, Sessions.IsObject}
+use Rattle.link_session.specs.{Mentions.mentions, Mentions.names_by_first_mention, States.state, Cells.segment_words, Cells.segment_relocs}
+use Rattle.tool_options.specs.{NameLists.is_among, declared.options.Keep.TheVariants.Nothing, Choices.Choices}
 use Rattle.link_out.specs.function.Plans.{Plan, plan, common_offset}
 use Rattle.link_out.specs.function.Finals.{Final, final_by, bound_at, waiting, reserved_or_waiting, etext, edata, end_name}
-use Rattle.link_out.specs.function.Tables.{external_row}
-use Rattle.link_out.specs.function.Link.{link}
-use Rattle.aout_core.specs.Addresses.{data_start_in}
+use Rattle.link_out.specs.{Layouts.Bases, Results.Outcome, function.Tables.external_row, function.Link.link}
 use Rattle.link_laws.specs.relation.Relocated.{move_in, entry_of, address_in, IsAddressOf, IsAdded, base_in, external_type, HoldsObjects}
-use Rattle.link_laws.proofs.RelocatedLemmas.{objects_fill}
 use Rattle.link_laws.specs.WordsAndNames.{IsDefined}
+use Rattle.link_laws.proofs.{RelocatedLemmas.objects_fill, ExternalLemmas.entry_in_table, ExternalLemmas.row_address}
+use Rattle.link_laws.proofs.{SegmentLemmas.HasWords, DefinedLemmas.definitions_hold, LinkedTheorem.linked_exactly}
 use Rattle.link_out.proofs.OutcomeLemmas.{made_file}
-use Rattle.link_laws.proofs.ExternalLemmas.{entry_in_table, row_address}
-use Rattle.link_laws.proofs.SegmentLemmas.{HasWords}
-use Rattle.link_laws.proofs.DefinedLemmas.{definitions_hold}
-use Rattle.link_laws.proofs.LinkedTheorem.{linked_exactly}
-use Rattle.laws.specs.Core.{Space, is_in}
-use Rattle.laws.specs.CoreLaws.{IsPlace, IsLoaded}
 use Rattle.laws.specs.Operands.{operand, FindsMore, FindsName, segment_meant, Calls, Defines, is_usable_in, Arrives}
+use Rattle.laws.specs.{Core.Space, Core.is_in, CoreLaws.IsPlace, CoreLaws.IsLoaded}
 use Rattle.laws.proofs.CoreLemmas.{within_back}
 use Rattle.laws.proofs.LoadedLemmas.{address_of, place_at, words_there, words_loaded, words_of_rows}
+use Rattle.aout_core.specs.declared.reloc.Kind.TheVariants as kinds
 
 -- sums
 

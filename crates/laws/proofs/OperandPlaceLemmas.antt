@@ -1,60 +1,38 @@
 -- What the operands of an instruction are in a program: the addresses of the bytes to which they refer.
-use Rattle.std.proofs.Common.{◌≡◌, ◌≢◌, ℕ, ◌+◌, ◌-◌, ◌*◌, ◌/◌, ◌%◌, ◌<◌, ◌≤◌, ◌⊎◌, inl, inr, Bool, true}
-use Rattle.std.proofs.Common.{false, ◌||◌, nat_lt, if◌then◌else◌, List, [], ◌∷◌, ◌++◌, length, drop, Option}
-use Rattle.std.proofs.Common.{Some, None, refl, sym, ◌∙◌, ap, subst, arith}
-use Rattle.std.specs.Prelude.{slice_get, Ok}
-use Rattle.std.specs.List.{AllByRecursion}
-use Rattle.std.proofs.lemmas.Bool.Decides.{nat_tests}
-use Rattle.std.proofs.lemmas.List.{length-drop}
-use Rattle.std.proofs.lemmas.Option.{same_Some}
-use Rattle.aout_core.specs.declared.symbol.Symbol.{Symbol}
-use Rattle.aout_core.specs.declared.symbol.Segment.{Segment}
-use Rattle.aout_core.specs.declared.symbol.Segment.TheVariants as segs
-use Rattle.aout_core.specs.declared.reloc.Reloc.{Reloc}
-use Rattle.aout_core.specs.declared.reloc.Kind.{Kind}
-use Rattle.aout_core.specs.declared.reloc.Kind.TheVariants as kinds
-use Rattle.aout_core.specs.Contents.{Contents}
-use Rattle.aout_core.specs.Words.{plus}
+use Rattle.std.proofs.Common.{◌≡◌, ◌≢◌, ℕ, ◌+◌, ◌-◌, ◌*◌, ◌/◌, ◌%◌, ◌<◌, ◌≤◌, ◌⊎◌, inl, inr, Bool, true, false, ◌||◌, nat_lt, if◌then◌else◌}
+use Rattle.std.proofs.Common.{List, [], ◌∷◌, ◌++◌, length, drop, Option, Some, None, refl, sym, ◌∙◌, ap, subst, arith}
+use Rattle.std.proofs.{lemmas.Bool.Decides.nat_tests, lemmas.List.length-drop, lemmas.Option.same_Some}
+use Rattle.std.specs.{Prelude.slice_get, Prelude.Ok, List.AllByRecursion}
 use Rattle.aout_core.specs.WellFormed.{kind_of, is_pc_relative, symbol_number}
-use Rattle.link_session.specs.Starts.{own}
-use Rattle.link_session.specs.Sessions.{IsObject}
-use Rattle.link_session.specs.Cells.{segment_words, segment_relocs}
+use Rattle.aout_core.specs.{declared.symbol.Symbol.Symbol, declared.symbol.Segment.Segment, declared.reloc.Reloc.Reloc}
+use Rattle.aout_core.specs.{declared.reloc.Kind.Kind, Contents.Contents, Words.plus}
+use Rattle.link_session.specs.{Starts.own, Sessions.IsObject, Cells.segment_words, Cells.segment_relocs}
 use Rattle.link_session.proofs.ListLemmas.{all_split}
-use Rattle.tool_options.specs.declared.options.Keep.TheVariants.{Nothing}
-use Rattle.tool_options.specs.Choices.{Choices}
-use Rattle.link_out.specs.Results.{Outcome}
-use Rattle.link_out.specs.function.Link.{link}
+use Rattle.tool_options.specs.{declared.options.Keep.TheVariants.Nothing, Choices.Choices}
+use Rattle.link_out.specs.{Results.Outcome, function.Link.link}
 use Rattle.link_laws.specs.relation.Relocated.{move_in, entry_of, address_in, external_type}
-use Rattle.link_laws.specs.relation.LinkedFrom.{IsLinkedFrom}
-use Rattle.link_laws.specs.WordsAndNames.{IsDefined}
-use Rattle.link_laws.proofs.DefinedLemmas.{definitions_hold}
-use Rattle.link_laws.proofs.LinkedTheorem.{linked_exactly}
-use Rattle.instructions.specs.declared.operation.Operation.{Operation}
-use Rattle.instructions.specs.declared.mode.Mode.{Mode}
-use Rattle.instructions.specs.declared.mode.Mode.TheVariants.{Direct, Deferred, Increment, IncrementDeferred, Decrement}
-use Rattle.instructions.specs.declared.mode.Mode.TheVariants.{DecrementDeferred, Index, IndexDeferred}
-use Rattle.instructions.specs.declared.mode.Register.{Register}
-use Rattle.instructions.specs.declared.mode.Addressing.{Addressing}
+use Rattle.link_laws.specs.{relation.LinkedFrom.IsLinkedFrom, WordsAndNames.IsDefined}
+use Rattle.link_laws.proofs.{DefinedLemmas.definitions_hold, LinkedTheorem.linked_exactly}
+use Rattle.instructions.specs.declared.mode.Mode.TheVariants.{Direct, Deferred, Increment, IncrementDeferred, Decrement, DecrementDeferred}
+use Rattle.instructions.specs.declared.mode.Mode.TheVariants.{Index, IndexDeferred}
 use Rattle.instructions.specs.declared.mode.Addressing.TheVariants.{Immediate, Absolute, Relative, RelativeDeferred, Indexed}
-use Rattle.instructions.specs.declared.operand.Operand.{Operand}
-use Rattle.instructions.specs.declared.operand.Operand.TheVariants as operands
-use Rattle.instructions.specs.declared.instruction.Instruction.{Instruction}
 use Rattle.instructions.specs.Modes.{is_pc, has_word, addressing, counts_from_pc}
-use Rattle.instructions.specs.Operands.{takes_word}
 use Rattle.instructions.specs.Instructions.{instruction_of, jumps, word_count_of, following_words}
-use Rattle.instructions.specs.Alike.{is_cut}
+use Rattle.instructions.specs.{declared.operation.Operation.Operation, declared.mode.Mode.Mode, declared.mode.Register.Register}
+use Rattle.instructions.specs.{declared.mode.Addressing.Addressing, declared.operand.Operand.Operand}
+use Rattle.instructions.specs.{declared.instruction.Instruction.Instruction, Operands.takes_word, Alike.is_cut}
 use Rattle.instructions.proofs.AlikeLemmas.{get_inside}
-use Rattle.laws.specs.Core.{Space, of_instructions, of_data, IsWordAt}
-use Rattle.laws.specs.CoreLaws.{space_of}
-use Rattle.laws.specs.Operands.{operand, FindsMore, segment_meant, Defines}
-use Rattle.laws.specs.OperandWords.{machine_value, moves_instructions, space_used}
-use Rattle.laws.specs.OperandPlaces.{addressing_of, within_text, kind_meant, IsNamedByte, IsAddress, HasOperand}
-use Rattle.laws.specs.OperandPlaces.{IsOperand, OperandsAreThere, IsDirect, JumpsArrive, PointersToSegments}
-use Rattle.laws.specs.OperandPlaces.{PointersToNames}
-use Rattle.laws.proofs.InstructionLemmas.{relocs_long, reloc_inside}
-use Rattle.laws.proofs.LoadedLemmas.{address_of, words_there, words_of_rows}
+use Rattle.laws.specs.OperandPlaces.{addressing_of, within_text, kind_meant, IsNamedByte, IsAddress, HasOperand, IsOperand}
+use Rattle.laws.specs.OperandPlaces.{OperandsAreThere, IsDirect, JumpsArrive, PointersToSegments, PointersToNames}
+use Rattle.laws.specs.{Core.Space, Core.of_instructions, Core.of_data, Core.IsWordAt, CoreLaws.space_of, Operands.operand}
+use Rattle.laws.specs.{Operands.FindsMore, Operands.segment_meant, Operands.Defines, OperandWords.machine_value}
+use Rattle.laws.specs.{OperandWords.moves_instructions, OperandWords.space_used}
 use Rattle.laws.proofs.OperandLemmas.{loaded_finds, address_found, names_found, segments_found, any_place, defined_address, byte_in}
-use Rattle.laws.proofs.OperandWordLemmas.{machine_is}
+use Rattle.laws.proofs.{InstructionLemmas.relocs_long, InstructionLemmas.reloc_inside, LoadedLemmas.address_of, LoadedLemmas.words_there}
+use Rattle.laws.proofs.{LoadedLemmas.words_of_rows, OperandWordLemmas.machine_is}
+use Rattle.aout_core.specs.declared.symbol.Segment.TheVariants as segs
+use Rattle.aout_core.specs.declared.reloc.Kind.TheVariants as kinds
+use Rattle.instructions.specs.declared.operand.Operand.TheVariants as operands
 
 -- the word at an address is one
 one_number : (a b : ℕ) → Some (a % 256) ≡ Some (b % 256) → Some (a / 256) ≡ Some (b / 256) → a ≡ b

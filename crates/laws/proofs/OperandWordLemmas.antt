@@ -1,14 +1,10 @@
 -- What the machine makes of an operand word is what `operand` says, by the pc bit that suits the mode.
 use Rattle.std.proofs.Common.{◌≡◌, ℕ, ◌+◌, ◌*◌, ◌%◌, Bool, true, false, List, ◌∷◌, ◌++◌, sym, ◌∙◌, ap, arith}
-use Rattle.aout_core.specs.declared.symbol.Segment.TheVariants.{TextSeg}
-use Rattle.aout_core.specs.declared.reloc.Reloc.{Reloc}
-use Rattle.aout_core.specs.Contents.{Contents}
-use Rattle.aout_core.specs.Words.{plus}
-use Rattle.aout_core.specs.WellFormed.{is_pc_relative}
+use Rattle.aout_core.specs.{declared.symbol.Segment.TheVariants.TextSeg, declared.reloc.Reloc.Reloc, Contents.Contents, Words.plus}
+use Rattle.aout_core.specs.{WellFormed.is_pc_relative}
 use Rattle.link_laws.specs.relation.Relocated.{move_in}
-use Rattle.instructions.specs.Modes.{counts_from_pc}
-use Rattle.instructions.specs.declared.mode.Addressing.{Addressing}
 use Rattle.instructions.specs.declared.mode.Addressing.TheVariants.{Immediate, Absolute, Relative, RelativeDeferred, Indexed}
+use Rattle.instructions.specs.{Modes.counts_from_pc, declared.mode.Addressing.Addressing}
 use Rattle.laws.specs.Operands.{operand, FindsMore}
 use Rattle.laws.specs.OperandWords.{machine_value, GivesMore, OperandsGiveNames, OperandsGiveSegments}
 use Rattle.laws.proofs.OperandLemmas.{names_found, segments_found}

@@ -1,57 +1,38 @@
 -- The instructions of an object that are reached, in a program, if nothing is suspicious for sure in the object.
-use Rattle.std.proofs.Common.{◌≡◌, ℕ, zero, suc, ◌+◌, ◌*◌, ◌/◌, ◌%◌, ◌<◌, Bool, true, false, inl, inr, List, []}
-use Rattle.std.proofs.Common.{◌∷◌, ◌++◌, length, drop, Option, Some, None, refl, sym, ◌∙◌, ap, subst, arith}
+use Rattle.std.proofs.Common.{◌≡◌, ℕ, zero, suc, ◌+◌, ◌*◌, ◌/◌, ◌%◌, ◌<◌, Bool, true, false, inl, inr, List, [], ◌∷◌, ◌++◌, length, drop}
+use Rattle.std.proofs.Common.{Option, Some, None, refl, sym, ◌∙◌, ap, subst, arith}
+use Rattle.std.proofs.{lemmas.Bool.le-ltb, lemmas.Bool.eqb-true, lemmas.Option.same_Some}
 use Rattle.std.specs.Prelude.{slice_get, slice_index, nat_lt, eqb, cond, if◌then◌else◌, Ok}
 use Rattle.std.specs.List.{find}
-use Rattle.std.proofs.lemmas.Bool.{le-ltb, eqb-true}
-use Rattle.std.proofs.lemmas.Option.{same_Some}
-use Rattle.aout_core.specs.declared.symbol.Symbol.{Symbol}
-use Rattle.aout_core.specs.declared.symbol.Segment.TheVariants as segs
-use Rattle.aout_core.specs.declared.reloc.Reloc.{Reloc}
-use Rattle.aout_core.specs.declared.reloc.Kind.{Kind}
-use Rattle.aout_core.specs.declared.reloc.Kind.TheVariants as kinds
-use Rattle.aout_core.specs.Contents.{Contents}
-use Rattle.aout_core.specs.Words.{plus}
 use Rattle.aout_core.specs.WellFormed.{kind_numbered, kind_of, is_pc_relative, symbol_number, kind_fault, word_fault, first_bad_word}
+use Rattle.aout_core.specs.{declared.symbol.Symbol.Symbol, declared.reloc.Reloc.Reloc, declared.reloc.Kind.Kind, Contents.Contents}
+use Rattle.aout_core.specs.{Words.plus}
 use Rattle.link_session.specs.Sessions.{IsObject}
-use Rattle.link_session.proofs.ListLemmas.{all_split}
-use Rattle.link_session.proofs.WellFormedLemmas.{first_of_none, well_formed_parts}
+use Rattle.link_session.proofs.{ListLemmas.all_split, WellFormedLemmas.first_of_none, WellFormedLemmas.well_formed_parts}
 use Rattle.tool_options.specs.Choices.{Choices}
-use Rattle.link_out.specs.Results.{Outcome}
-use Rattle.link_out.specs.function.Link.{link}
+use Rattle.link_out.specs.{Results.Outcome, function.Link.link}
 use Rattle.link_laws.proofs.LinkedTheorem.{linked_exactly}
-use Rattle.instructions.specs.Modes.{counts_from_pc}
-use Rattle.instructions.specs.declared.operation.Operation.{Operation}
-use Rattle.instructions.specs.declared.mode.Addressing.{Addressing}
 use Rattle.instructions.specs.declared.mode.Addressing.TheVariants.{Immediate, Absolute, Relative, RelativeDeferred, Indexed}
-use Rattle.instructions.specs.declared.operand.Operand.{Operand}
-use Rattle.instructions.specs.declared.operand.Operand.TheVariants as operands
-use Rattle.instructions.specs.declared.instruction.Instruction.{Instruction}
-use Rattle.instructions.specs.declared.call_table.CallRow.{CallRow}
-use Rattle.instructions.specs.declared.line.Line.{Line}
-use Rattle.instructions.specs.declared.line.Line.TheVariants.{Plain, Decoded}
-use Rattle.instructions.specs.declared.unix.Decoder.TheVariants.{Unix}
-use Rattle.instructions.specs.declared.unix.UnixLine.{UnixLine}
-use Rattle.instructions.specs.declared.unix.UnixLine.TheVariants.{Machine}
-use Rattle.instructions.specs.Calls.{system_calls}
 use Rattle.instructions.specs.Instructions.{instruction_of, word_count_of, following_words}
 use Rattle.instructions.specs.Lines.{word_for, line_of, line_at}
-use Rattle.instructions.specs.Relocated.{is_relocated}
-use Rattle.instructions.specs.Alike.{is_cut}
 use Rattle.instructions.specs.UnixLines.{call_word, call_of, call_by, unix_line, unix_line_at}
-use Rattle.instructions.specs.UnixLaws.{sys, AreMadeBySys}
+use Rattle.instructions.specs.{Modes.counts_from_pc, declared.operation.Operation.Operation, declared.mode.Addressing.Addressing}
+use Rattle.instructions.specs.{declared.operand.Operand.Operand, declared.instruction.Instruction.Instruction}
+use Rattle.instructions.specs.{declared.call_table.CallRow.CallRow, declared.line.Line.Line, declared.line.Line.TheVariants.Plain}
+use Rattle.instructions.specs.{declared.line.Line.TheVariants.Decoded, declared.unix.Decoder.TheVariants.Unix}
+use Rattle.instructions.specs.{declared.unix.UnixLine.UnixLine, declared.unix.UnixLine.TheVariants.Machine, Calls.system_calls}
+use Rattle.instructions.specs.{Relocated.is_relocated, Alike.is_cut, UnixLaws.sys, UnixLaws.AreMadeBySys}
 use Rattle.instructions.proofs.CallLemmas.{each_made_by_sys}
 use Rattle.disassemblies.specs.Lines.{unix_line_in}
-use Rattle.suspicions.specs.declared.evidence.Evidence.TheVariants.{Distances}
-use Rattle.suspicions.specs.Trust.{is_plain}
-use Rattle.suspicions.specs.SureLaw.{SuitsMode, SuitsModes}
+use Rattle.suspicions.specs.{declared.evidence.Evidence.TheVariants.Distances, Trust.is_plain, SureLaw.SuitsMode, SureLaw.SuitsModes}
 use Rattle.suspicions.proofs.SureLemmas.{place_below, sure_places, reached_words}
 use Rattle.laws.specs.OperandWords.{machine_value}
 use Rattle.laws.specs.OperandPlaces.{addressing_of, within_text, kind_meant, IsOwnByte, HasOperand, IsOperand}
 use Rattle.laws.specs.ReachedInstructions.{kind_said, HasOperandSaid, ReachedInstructionsAreKept, SurePlacesBegin}
-use Rattle.laws.proofs.InstructionLemmas.{moves_low}
-use Rattle.laws.proofs.InstructionPlaceLemmas.{instructions_there}
-use Rattle.laws.proofs.OperandPlaceLemmas.{operands_there}
+use Rattle.laws.proofs.{InstructionLemmas.moves_low, InstructionPlaceLemmas.instructions_there, OperandPlaceLemmas.operands_there}
+use Rattle.aout_core.specs.declared.symbol.Segment.TheVariants as segs
+use Rattle.aout_core.specs.declared.reloc.Kind.TheVariants as kinds
+use Rattle.instructions.specs.declared.operand.Operand.TheVariants as operands
 
 -- the word at a place, and those after it
 words_after : (ws : List ℕ) (i : ℕ) → i < length ws → drop i ws ≡ slice_index ws i ∷ drop (suc i) ws

@@ -1,27 +1,20 @@
 -- Additions of the same objects in two orders, and the links after them.
-use Rattle.std.proofs.Common.{◌≡◌, ◌↔◌, ℕ, false, cond, List, [], ◌∷◌, ◌++◌, length, Option, Some, None, refl}
-use Rattle.std.proofs.Common.{sym, ◌∙◌, ap, subst, append_assoc, append-nil, arith}
-use Rattle.std.specs.Prelude.{nat_lt, Result, Ok, Err}
-use Rattle.std.specs.List.{AllByRecursion}
-use Rattle.std.specs.List.Sorted.{IsPermutation}
+use Rattle.std.proofs.Common.{◌≡◌, ◌↔◌, ℕ, false, cond, List, [], ◌∷◌, ◌++◌, length, Option, Some, None, refl, sym, ◌∙◌, ap, subst}
+use Rattle.std.proofs.Common.{append_assoc, append-nil, arith}
 use Rattle.std.proofs.lemmas.List.{map-append}
 use Rattle.std.proofs.lemmas.List.Sorted.{IsPermutation-sym, IsPermutation-map, length_permutation}
+use Rattle.std.specs.{Prelude.nat_lt, Prelude.Result, Prelude.Ok, Prelude.Err, List.AllByRecursion, List.Sorted.IsPermutation}
 use Rattle.aout_core.specs.declared.symbol.Segment.TheVariants.{TextSeg, DataSeg, BssSeg}
 use Rattle.aout_core.specs.Contents.{Contents}
-use Rattle.link_session.specs.declared.entry.AddFault.{AddFault}
 use Rattle.link_session.specs.declared.entry.AddFault.TheVariants.{TextFull, DataFull, BssFull, NamesFull}
-use Rattle.link_session.specs.Labelled.{Labelled, objects}
-use Rattle.link_session.specs.Mentions.{externals}
 use Rattle.link_session.specs.Limits.{limit_passed, refusal}
 use Rattle.link_session.specs.Edits.{Answer, added, refused, kept_unless, answer_by, answers_from, survivors_from, survivors}
+use Rattle.link_session.specs.{declared.entry.AddFault.AddFault, Labelled.Labelled, Labelled.objects, Mentions.externals}
 use Rattle.link_session.proofs.TotalLemmas.{within_before}
-use Rattle.link_out.specs.declared.linked.LinkFault.{LinkFault}
+use Rattle.link_out.specs.{declared.linked.LinkFault.LinkFault, function.Link.Outcome, function.Link.link, Runs.link_after}
 use Rattle.tool_options.specs.Choices.{Choices}
-use Rattle.link_out.specs.function.Link.{Outcome, link}
-use Rattle.link_out.specs.Runs.{link_after}
 use Rattle.laws.specs.Orders.{additions, AreAdded, AreAlike}
-use Rattle.laws.proofs.ReorderedMentions.{names_reordered, same_total}
-use Rattle.laws.proofs.ReorderedLinks.{refused_in_order}
+use Rattle.laws.proofs.{ReorderedMentions.names_reordered, ReorderedMentions.same_total, ReorderedLinks.refused_in_order}
 
 -- the first objects of a list that passes no limit pass none
 front_within : (forced : List (List ℕ)) (os ps : List Contents) → limit_passed forced (os ++ ps) ≡ None → limit_passed forced os ≡ None

@@ -1,29 +1,20 @@
 -- What defines a name among the same objects in two orders.
-use Rattle.std.proofs.Common.{◌≡◌, ℕ, ◌+◌, Bool, true, false, cond, eqb, eqb-true, List, [], ◌∷◌, ◌++◌, map, length}
-use Rattle.std.proofs.Common.{Option, Some, refl, sym, ◌∙◌, ap, subst, append_assoc, ◌⊎◌, inl, inr}
-use Rattle.std.specs.Prelude.{bytes_eq, filter, slice_get}
-use Rattle.std.specs.List.{AllByRecursion}
-use Rattle.std.specs.List.Sorted.{IsPermutation}
+use Rattle.std.proofs.Common.{◌≡◌, ℕ, ◌+◌, Bool, true, false, cond, eqb, eqb-true, List, [], ◌∷◌, ◌++◌, map, length, Option, Some, refl}
+use Rattle.std.proofs.Common.{sym, ◌∙◌, ap, subst, append_assoc, ◌⊎◌, inl, inr}
 use Rattle.std.proofs.lemmas.Slice.Eq.{bytes_eq-Decides}
-use Rattle.aout_core.specs.declared.symbol.Symbol.{Symbol}
-use Rattle.aout_core.specs.declared.symbol.Segment.{Segment}
+use Rattle.std.specs.{Prelude.bytes_eq, Prelude.filter, Prelude.slice_get, List.AllByRecursion, List.Sorted.IsPermutation}
 use Rattle.aout_core.specs.declared.symbol.Segment.TheVariants.{Undefined, Absolute, TextSeg, DataSeg, BssSeg, Other}
-use Rattle.aout_core.specs.Contents.{Contents}
-use Rattle.aout_core.specs.Words.{plus}
 use Rattle.aout_core.specs.WellFormed.{is_external, masked_type, segment_of, segment_numbered}
+use Rattle.aout_core.specs.{declared.symbol.Symbol.Symbol, declared.symbol.Segment.Segment, Contents.Contents, Words.plus}
 use Rattle.aout_core.proofs.AlikeLemmas.{slice_get_after}
-use Rattle.link_session.specs.declared.state.State.{State}
-use Rattle.link_session.specs.declared.state.State.TheVariants.{Defined, Wanted}
-use Rattle.link_session.specs.Starts.{shift}
 use Rattle.link_session.specs.Mentions.{Mention, statement, mention, mentions, mentions_in, forced_mention}
 use Rattle.link_session.specs.States.{Definition, first_definition, wanted_size, state_by, state, differs, multiple_names}
-use Rattle.link_session.proofs.ListLemmas.{all_append}
-use Rattle.link_laws.specs.relation.NameStates.{LeavesOpen, IsFirst, HasState}
-use Rattle.link_laws.specs.WordsAndNames.{IsSaid}
-use Rattle.link_laws.proofs.HasStateLemmas.{has_state}
+use Rattle.link_session.specs.{declared.state.State.State, declared.state.State.TheVariants.Defined}
+use Rattle.link_session.specs.{declared.state.State.TheVariants.Wanted, Starts.shift}
 use Rattle.link_session.proofs.AgreementLemmas.{AgreesIn, none_differ, agrees_with}
-use Rattle.link_session.proofs.NeighbourLemmas.{blocks}
-use Rattle.link_laws.proofs.SaidLemmas.{of_entry}
+use Rattle.link_session.proofs.{ListLemmas.all_append, NeighbourLemmas.blocks}
+use Rattle.link_laws.specs.{relation.NameStates.LeavesOpen, relation.NameStates.IsFirst, relation.NameStates.HasState, WordsAndNames.IsSaid}
+use Rattle.link_laws.proofs.{HasStateLemmas.has_state, SaidLemmas.of_entry}
 use Rattle.laws.proofs.ReorderedMentions.{placed_again, none_first}
 
 -- a symbol of one of the objects defines the name, and of these mentions its is the first to

@@ -1,36 +1,28 @@
 -- Links of the same objects in two orders: refusals, sizes and reports.
-use Rattle.std.proofs.Common.{◌≡◌, ℕ, ◌+◌, ◌*◌, Bool, true, false, cond, ◌&&◌, eqb, List, [], length}
-use Rattle.std.proofs.Common.{Option, Some, None, refl, sym, ◌∙◌, ap, subst}
-use Rattle.std.specs.Prelude.{bytes_eq, filter, nat_lt, Result, Ok, Err}
-use Rattle.std.specs.List.Sorted.{IsPermutation}
+use Rattle.std.proofs.Common.{◌≡◌, ℕ, ◌+◌, ◌*◌, Bool, true, false, cond, ◌&&◌, eqb, List, [], length, Option, Some, None, refl, sym, ◌∙◌}
+use Rattle.std.proofs.Common.{ap, subst}
 use Rattle.std.proofs.lemmas.List.Concat.{length-flat_map}
 use Rattle.std.proofs.lemmas.List.Sorted.{IsPermutation-refl, IsPermutation-sym, length_permutation, sum_by-IsPermutation}
-use Rattle.aout_core.specs.declared.symbol.Segment.{Segment}
+use Rattle.std.specs.{Prelude.bytes_eq, Prelude.filter, Prelude.nat_lt, Prelude.Result, Prelude.Ok, Prelude.Err, List.Sorted.IsPermutation}
 use Rattle.aout_core.specs.declared.symbol.Segment.TheVariants.{TextSeg, DataSeg, BssSeg}
-use Rattle.aout_core.specs.Contents.{Contents}
-use Rattle.aout_core.specs.Words.{plus}
-use Rattle.link_session.specs.declared.state.State.{State}
-use Rattle.link_session.specs.declared.state.State.TheVariants.{Defined, Wanted}
-use Rattle.link_session.specs.Mentions.{mentions, externals}
-use Rattle.link_session.specs.States.{state, multiple_names}
-use Rattle.link_out.specs.declared.linked.LinkFault.{LinkFault}
+use Rattle.aout_core.specs.{declared.symbol.Segment.Segment, Contents.Contents, Words.plus}
+use Rattle.link_session.specs.{declared.state.State.State, declared.state.State.TheVariants.Defined}
+use Rattle.link_session.specs.{declared.state.State.TheVariants.Wanted, Mentions.mentions, Mentions.externals, States.state}
+use Rattle.link_session.specs.{States.multiple_names}
 use Rattle.link_out.specs.declared.linked.LinkFault.TheVariants.{DoesNotFit, TooManySymbols, SymbolNumber}
-use Rattle.tool_options.specs.Choices.{Choices, lays_commons}
-use Rattle.link_out.specs.KeptSymbols.{is_kept_local}
-use Rattle.link_out.specs.Layouts.{Bases, bases, magic_of}
-use Rattle.link_out.specs.Results.{ReportNames}
-use Rattle.link_laws.specs.relation.Refusals.{kept_locals, entries}
 use Rattle.link_out.specs.function.Plans.{Plan, plan, commons_laid, common_offset}
 use Rattle.link_out.specs.function.Finals.{Final, final, final_at, bound_at, waiting, etext, edata, end_name, type_of}
-use Rattle.link_out.specs.function.Tables.{table, has_number_too_large}
 use Rattle.link_out.specs.function.Reports.{report_of, entry_found_bad, undefined_names}
 use Rattle.link_out.specs.function.Link.{Outcome, linked_header, linked_file, link}
-use Rattle.link_laws.proofs.HasStateLemmas.{state_is}
+use Rattle.link_out.specs.{declared.linked.LinkFault.LinkFault, KeptSymbols.is_kept_local, Layouts.Bases, Layouts.bases, Layouts.magic_of}
+use Rattle.link_out.specs.{Results.ReportNames, function.Tables.table, function.Tables.has_number_too_large}
+use Rattle.tool_options.specs.Choices.{Choices, lays_commons}
+use Rattle.link_laws.specs.relation.Refusals.{kept_locals, entries}
+use Rattle.link_laws.proofs.{HasStateLemmas.state_is, RefusalLemmas.table_long}
 use Rattle.link_out.proofs.OutcomeLemmas.{made_file, made_report}
-use Rattle.link_laws.proofs.RefusalLemmas.{table_long}
 use Rattle.laws.specs.Orders.{AreOrders}
-use Rattle.laws.proofs.ReorderedMentions.{size_if_wanted, same_names, names_reordered, same_wants, same_total}
-use Rattle.laws.proofs.ReorderedMentions.{same_commons, same_reserved, undefined_reordered}
+use Rattle.laws.proofs.ReorderedMentions.{size_if_wanted, same_names, names_reordered, same_wants, same_total, same_commons, same_reserved}
+use Rattle.laws.proofs.ReorderedMentions.{undefined_reordered}
 use Rattle.laws.proofs.ReorderedDefinitions.{definition_found, said_again, first_is_said}
 
 module _ (forced : List (List ℕ)) (os ps : List Contents) (o : Choices) (same : IsPermutation os ps) where

@@ -1,54 +1,30 @@
 -- What names mean, and what words refer to, in links of the same objects in two orders and two layouts.
-use Rattle.std.proofs.Common.{◌≡◌, ◌≢◌, ℕ, ◌+◌, Bool, true, false, cond, not, ◌||◌, eqb, List, [], ◌∷◌, ◌++◌, Option}
-use Rattle.std.proofs.Common.{Some, None, refl, sym, ◌∙◌, ap, subst, append_assoc, arith, eqb-true}
-use Rattle.std.specs.Prelude.{bytes_eq, slice_get, Ok}
-use Rattle.std.specs.List.{AllByRecursion}
-use Rattle.std.specs.List.Sorted.{IsPermutation}
+use Rattle.std.proofs.Common.{◌≡◌, ◌≢◌, ℕ, ◌+◌, Bool, true, false, cond, not, ◌||◌, eqb, List, [], ◌∷◌, ◌++◌, Option, Some, None, refl, sym}
+use Rattle.std.proofs.Common.{◌∙◌, ap, subst, append_assoc, arith, eqb-true}
 use Rattle.std.proofs.lemmas.List.Sorted.{IsPermutation-sym}
-use Rattle.aout_core.specs.declared.header.Header.{Header}
-use Rattle.aout_core.specs.declared.symbol.Symbol.{Symbol}
-use Rattle.aout_core.specs.declared.symbol.Segment.{Segment}
+use Rattle.std.specs.{Prelude.bytes_eq, Prelude.slice_get, Prelude.Ok, List.AllByRecursion, List.Sorted.IsPermutation}
 use Rattle.aout_core.specs.declared.symbol.Segment.TheVariants.{Undefined, Absolute, TextSeg, DataSeg, BssSeg, Other}
-use Rattle.aout_core.specs.declared.reloc.Kind.{Kind}
-use Rattle.aout_core.specs.declared.reloc.Kind.TheVariants.{External}
-use Rattle.aout_core.specs.Contents.{Contents}
-use Rattle.aout_core.specs.Words.{plus}
-use Rattle.aout_core.specs.WellFormed.{kind_of, symbol_number, segment_of}
-use Rattle.link_session.specs.declared.state.State.{State}
-use Rattle.link_session.specs.declared.state.State.TheVariants.{Defined, Wanted}
-use Rattle.link_session.specs.Starts.{total, shift}
-use Rattle.link_session.specs.Sessions.{IsObject}
-use Rattle.tool_options.specs.NameLists.{is_among}
+use Rattle.aout_core.specs.{declared.header.Header.Header, declared.symbol.Symbol.Symbol, declared.symbol.Segment.Segment}
+use Rattle.aout_core.specs.{declared.reloc.Kind.Kind, declared.reloc.Kind.TheVariants.External, Contents.Contents, Words.plus}
+use Rattle.aout_core.specs.{WellFormed.kind_of, WellFormed.symbol_number, WellFormed.segment_of, Addresses.data_start_in}
 use Rattle.link_session.specs.Mentions.{statement, mentions, names_of, externals}
-use Rattle.link_session.specs.States.{state, multiple_names}
-use Rattle.link_session.specs.Cells.{referent_by, name_in}
-use Rattle.link_session.proofs.ListLemmas.{all_split}
-use Rattle.link_session.proofs.MentionLemmas.{is_among-externals}
-use Rattle.link_session.proofs.CellLemmas.{RefersAmong}
-use Rattle.link_session.proofs.UpdateLemmas.{unmentioned}
-use Rattle.tool_options.specs.declared.options.Keep.TheVariants.{Nothing}
-use Rattle.tool_options.specs.declared.options.Layout.{Layout}
+use Rattle.link_session.specs.{declared.state.State.State, declared.state.State.TheVariants.Defined}
+use Rattle.link_session.specs.{declared.state.State.TheVariants.Wanted, Starts.total, Starts.shift, Sessions.IsObject, States.state}
+use Rattle.link_session.specs.{States.multiple_names, Cells.referent_by, Cells.name_in}
 use Rattle.tool_options.specs.Choices.{Choices, lays_commons}
-use Rattle.link_out.specs.Layouts.{Bases, base}
-use Rattle.link_out.specs.Results.{ReportNames}
-use Rattle.link_laws.specs.relation.NameStates.{HasState, IsWanted}
-use Rattle.aout_core.specs.Addresses.{data_start_in}
-use Rattle.link_laws.specs.relation.Relocated.{entry_of, external_type, IsRelocated}
-use Rattle.link_laws.specs.relation.LinkedTable.{shown, undefined_row}
-use Rattle.link_laws.specs.WordsAndNames.{IsDefined, IsSaid}
-use Rattle.link_laws.specs.CommonsAndLayouts.{IsCommon}
+use Rattle.tool_options.specs.{NameLists.is_among, declared.options.Keep.TheVariants.Nothing, declared.options.Layout.Layout}
+use Rattle.link_session.proofs.{ListLemmas.all_split, MentionLemmas.is_among-externals, CellLemmas.RefersAmong, UpdateLemmas.unmentioned}
 use Rattle.link_out.specs.function.Plans.{Plan, plan, commons_laid}
 use Rattle.link_out.specs.function.Finals.{Final, final, final_by, type_of, bound_at, waiting, reserved_or_waiting, etext, edata, end_name}
-use Rattle.link_out.specs.function.Words.{move}
-use Rattle.link_out.specs.function.Tables.{external_row}
 use Rattle.link_out.specs.function.Link.{Outcome, linked_header, linked_file, link}
-use Rattle.link_laws.proofs.HasStateLemmas.{has_state, state_is}
+use Rattle.link_out.specs.{Layouts.Bases, Layouts.base, Results.ReportNames, function.Words.move, function.Tables.external_row}
+use Rattle.link_laws.specs.{relation.NameStates.HasState, relation.NameStates.IsWanted, relation.Relocated.entry_of}
+use Rattle.link_laws.specs.{relation.Relocated.external_type, relation.Relocated.IsRelocated, relation.LinkedTable.shown}
+use Rattle.link_laws.specs.{relation.LinkedTable.undefined_row, WordsAndNames.IsDefined, WordsAndNames.IsSaid, CommonsAndLayouts.IsCommon}
+use Rattle.link_laws.proofs.{HasStateLemmas.has_state, HasStateLemmas.state_is, MoveLemmas.data_begun, MoveLemmas.move_by_header}
+use Rattle.link_laws.proofs.{ExternalLemmas.row_at, ExternalLemmas.entry_there, CommonLemmas.commons_have_space, SegmentLemmas.word_at}
+use Rattle.link_laws.proofs.{RelocatedLemmas.words_relocated}
 use Rattle.link_out.proofs.OutcomeLemmas.{made_file, made_report}
-use Rattle.link_laws.proofs.MoveLemmas.{data_begun, move_by_header}
-use Rattle.link_laws.proofs.ExternalLemmas.{row_at, entry_there}
-use Rattle.link_laws.proofs.CommonLemmas.{commons_have_space}
-use Rattle.link_laws.proofs.SegmentLemmas.{word_at}
-use Rattle.link_laws.proofs.RelocatedLemmas.{words_relocated}
 use Rattle.laws.specs.Orders.{definition, common, missing, IsDefinedBy, Means, MeansTheSame}
 use Rattle.laws.specs.Isomorphism.{AreLinks, LinksKeepReferents}
 use Rattle.laws.proofs.ReorderedMentions.{size_if_wanted, wanted_too, same_names, same_wants, placed_again}

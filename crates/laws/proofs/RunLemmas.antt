@@ -1,26 +1,20 @@
 -- What ld and strip did in a run that ends well.
-use Rattle.std.specs.declared.alloc.Global.{Global}
+use Rattle.std.specs.{declared.alloc.Global.Global, Prelude.String, Prelude.Vec, Prelude.string_bytes}
 use Rattle.std.proofs.Common.{◌≡◌, ℕ, ◌≤◌, List, [], ◌∷◌, ◌++◌, map, Option, Some, Result, Ok, Err, sym, ap, ◌∙◌, arith, inl, inr, subst}
 use Rattle.std.proofs.lemmas.List.{append_cancel_left}
-use Rattle.std.specs.Prelude.{String, Vec, string_bytes}
 use Rattle.aout_core.specs.Wires.{Latched}
-use Rattle.link_out.specs.declared.linked.Linked.{Linked}
+use Rattle.link_out.specs.{declared.linked.Linked.Linked, Outcomes.report_names, function.Reports.report_text, function.Reports.status_of}
 use Rattle.tool_options.specs.Choices.{Choices}
-use Rattle.link_out.specs.Outcomes.{report_names}
-use Rattle.link_out.specs.function.Reports.{report_text, status_of}
 use Rattle.command_words.specs.declared.words.Call.{Call}
 use Rattle.command_words.specs.declared.words.Call.TheVariants.{Ld, Nm, Size, Strip, Session}
-use Rattle.v7tools.specs.CommandRuns.{AsksFor, Ends, IsCallRun, RunsWords}
-use Rattle.surroundings.specs.Events.{Event, Extends, Opened, opens, paths_of, stored}
-use Rattle.v7tools.specs.FileRuns.{AreRead, IsStripRun, Loaded, strips}
-use Rattle.v7tools.specs.LinkAnswers.{LinksAll}
 use Rattle.v7tools.specs.LinkRuns.{inputs_opened, IsLinkOfFiles, IsLinkRun, ReportsIf}
-use Rattle.v7tools.specs.declared.fault.CliFault.{CliFault}
+use Rattle.v7tools.specs.{CommandRuns.AsksFor, CommandRuns.Ends, CommandRuns.IsCallRun, CommandRuns.RunsWords, FileRuns.AreRead}
+use Rattle.v7tools.specs.{FileRuns.IsStripRun, FileRuns.Loaded, FileRuns.strips, LinkAnswers.LinksAll, declared.fault.CliFault.CliFault}
+use Rattle.surroundings.specs.Events.{Event, Extends, Opened, opens, paths_of, stored}
 use Rattle.surroundings.specs.declared.office.Stored.{Stored}
 use Rattle.surroundings.specs.declared.office.Stored.TheVariants.{Kept, NotCreated, Failed}
 use Rattle.surroundings.proofs.EventLemmas.{asked_after}
-use Rattle.laws.specs.Disks.{Run, Writes}
-use Rattle.laws.specs.StepsByCommands.{Links, Strips}
+use Rattle.laws.specs.{Disks.Run, Disks.Writes, StepsByCommands.Links, StepsByCommands.Strips}
 use Rattle.laws.proofs.CallLemmas.{IsLink, IsStrip, same_link, same_strip}
 
 abbrev Answer : Type 0

@@ -1,17 +1,13 @@
 -- The files that a session has left, on its disk and on another.
 use Rattle.std.proofs.Common.{◌≡◌, ℕ, Bool, true, false, cond, List, [], ◌∷◌, ◌++◌, Option, Some, None, refl, sym, ap, ◌∙◌, subst}
-use Rattle.std.proofs.lemmas.Bool.{false_from_ne_true}
-use Rattle.std.proofs.lemmas.Grind.{flat_map-append}
-use Rattle.std.proofs.lemmas.List.{append_assoc}
-use Rattle.std.proofs.lemmas.Slice.Eq.{bytes_eq-Decides}
-use Rattle.std.specs.List.{AllByRecursion}
-use Rattle.std.specs.Prelude.{◌≢◌, IfSome, bytes_eq, eqb}
+use Rattle.std.proofs.{lemmas.Bool.false_from_ne_true, lemmas.Grind.flat_map-append, lemmas.List.append_assoc}
+use Rattle.std.proofs.{lemmas.Slice.Eq.bytes_eq-Decides}
+use Rattle.std.specs.{List.AllByRecursion, Prelude.◌≢◌, Prelude.IfSome, Prelude.bytes_eq, Prelude.eqb}
 use Rattle.command_words.specs.Scripts.{Asked, to_add, to_withdraw, for_externals, for_undefined, to_link, for_nothing}
 use Rattle.link_session.specs.Edits.{without_last}
 use Rattle.link_session.proofs.ListLemmas.{all_append}
 use Rattle.surroundings.specs.Events.{Event, Opened, opened, stored, written}
-use Rattle.v7tools.specs.LineRuns.{LineRun}
-use Rattle.v7tools.specs.SessionRuns.{events_of}
+use Rattle.v7tools.specs.{LineRuns.LineRun, SessionRuns.events_of}
 use Rattle.aout_core.specs.Encoding.{encoding}
 use Rattle.laws.specs.Disks.{Disk, IsOn, disk_after, text_left, with_file}
 use Rattle.laws.specs.SessionsByCommands.{AreThere, IsSameOn, SameDiskLaw, StoresNot, files_left, left_after, left_by, opened_by}

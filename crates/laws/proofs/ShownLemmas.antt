@@ -1,14 +1,11 @@
 -- What nm shows of a table: its locals and its externals apart, and the lines of one file.
-use Rattle.std.proofs.Common.{◌≡◌, ℕ, Bool, true, false, cond, not, ◌&&◌, ◌||◌, List, [], ◌∷◌}
-use Rattle.std.proofs.Common.{◌++◌, filter, codes, refl, ◌∙◌, ap, append-nil}
-use Rattle.std.specs.List.{AllByRecursion}
+use Rattle.std.proofs.Common.{◌≡◌, ℕ, Bool, true, false, cond, not, ◌&&◌, ◌||◌, List, [], ◌∷◌, ◌++◌, filter, codes, refl, ◌∙◌, ap}
+use Rattle.std.proofs.Common.{append-nil}
 use Rattle.std.proofs.lemmas.List.Elements.{filter-append}
-use Rattle.aout_core.specs.declared.symbol.Symbol.{Symbol}
-use Rattle.aout_core.specs.Contents.{Contents}
-use Rattle.aout_core.specs.WellFormed.{is_external}
+use Rattle.std.specs.List.{AllByRecursion}
+use Rattle.aout_core.specs.{declared.symbol.Symbol.Symbol, Contents.Contents, WellFormed.is_external}
 use Rattle.tool_options.specs.declared.nm_options.NmOptions.{NmOptions}
-use Rattle.symtools.specs.SymbolLines.{is_shown_undefined}
-use Rattle.symtools.specs.NmLists.{is_shown, shown, nm_text}
+use Rattle.symtools.specs.{SymbolLines.is_shown_undefined, NmLists.is_shown, NmLists.shown, NmLists.nm_text}
 use Rattle.laws.specs.Listings.{listed_locals, lines}
 
 all_pass : (ss : List Symbol) → filter (λ s. true) ss ≡ ss

@@ -1,27 +1,19 @@
 -- Names that one symbol defines at most are not multiply defined.
-use Rattle.std.proofs.Common.{◌≡◌, ℕ, suc, ◌+◌, ◌≤◌, Bool, true, false, cond, not, ◌&&◌, eqb, List, [], ◌∷◌, ◌++◌}
-use Rattle.std.proofs.Common.{map, length, Option, Some, refl, sym, ◌∙◌, ap, subst, arith}
-use Rattle.std.specs.Prelude.{bytes_eq, filter, sum_by, Ok}
-use Rattle.std.specs.List.{AllByRecursion}
-use Rattle.std.specs.List.Sorted.{IsPermutation}
-use Rattle.std.proofs.lemmas.List.Sorted.{sum_by-IsPermutation}
-use Rattle.std.proofs.lemmas.List.Sums.{sum_by-append}
-use Rattle.aout_core.specs.declared.symbol.Symbol.{Symbol}
-use Rattle.aout_core.specs.Contents.{Contents}
+use Rattle.std.proofs.Common.{◌≡◌, ℕ, suc, ◌+◌, ◌≤◌, Bool, true, false, cond, not, ◌&&◌, eqb, List, [], ◌∷◌, ◌++◌, map, length, Option}
+use Rattle.std.proofs.Common.{Some, refl, sym, ◌∙◌, ap, subst, arith}
+use Rattle.std.proofs.{lemmas.List.Sorted.sum_by-IsPermutation, lemmas.List.Sums.sum_by-append}
+use Rattle.std.specs.{Prelude.bytes_eq, Prelude.filter, Prelude.sum_by, Prelude.Ok, List.AllByRecursion, List.Sorted.IsPermutation}
 use Rattle.aout_core.specs.WellFormed.{is_external, masked_type, segment_of, first_of}
+use Rattle.aout_core.specs.{declared.symbol.Symbol.Symbol, Contents.Contents}
 use Rattle.aout_core.proofs.SegmentLemmas.{by_number}
 use Rattle.link_session.specs.declared.state.State.{State}
 use Rattle.link_session.specs.declared.state.State.TheVariants.{Defined, Wanted}
 use Rattle.link_session.specs.Mentions.{Mention, statement, mention, mentions, mentions_in, forced_mention}
 use Rattle.link_session.specs.States.{Definition, definition_by, first_definition, differs, multiple_names}
-use Rattle.link_session.proofs.ListLemmas.{all_map}
-use Rattle.link_session.proofs.UpdateLemmas.{own_name}
-use Rattle.tool_options.specs.Choices.{Choices}
-use Rattle.link_out.specs.Results.{ReportNames}
-use Rattle.link_out.specs.function.Plans.{plan}
-use Rattle.link_out.specs.function.Link.{Outcome, link}
 use Rattle.link_session.proofs.AgreementLemmas.{AgreesIn, of_each_name, no_multiples, own_again}
-use Rattle.link_session.proofs.NeighbourLemmas.{blocks}
+use Rattle.link_session.proofs.{ListLemmas.all_map, UpdateLemmas.own_name, NeighbourLemmas.blocks}
+use Rattle.tool_options.specs.Choices.{Choices}
+use Rattle.link_out.specs.{Results.ReportNames, function.Plans.plan, function.Link.Outcome, function.Link.link}
 use Rattle.link_out.proofs.OutcomeLemmas.{made_report}
 use Rattle.laws.specs.Orders.{defines, DefineOnce}
 

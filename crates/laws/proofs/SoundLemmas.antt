@@ -1,44 +1,31 @@
 -- The file of a link of sound objects is sound: its words have 16 bits, and its names are names.
-use Rattle.std.proofs.Common.{◌≡◌, ℕ, ◌<◌, ◌≤◌, Bool, true, false, cond, ◌&&◌, ◌||◌, max, List, [], ◌∷◌, ◌++◌}
-use Rattle.std.proofs.Common.{map, length, Option, Some, None, Ok, refl, arith, subst}
+use Rattle.std.proofs.Common.{◌≡◌, ℕ, ◌<◌, ◌≤◌, Bool, true, false, cond, ◌&&◌, ◌||◌, max, List, [], ◌∷◌, ◌++◌, map, length, Option, Some}
+use Rattle.std.proofs.Common.{None, Ok, refl, arith, subst}
 use Rattle.std.proofs.lemmas.Bool.{ltb-false}
-use Rattle.std.specs.Prelude.{bytes_eq, eqb, filter}
-use Rattle.std.specs.List.{AllByRecursion, flat_map, list_any}
-use Rattle.aout_core.specs.declared.reloc.Reloc.{Reloc}
-use Rattle.aout_core.specs.declared.symbol.Segment.{Segment}
+use Rattle.std.specs.{Prelude.bytes_eq, Prelude.eqb, Prelude.filter, List.AllByRecursion, List.flat_map, List.list_any}
 use Rattle.aout_core.specs.declared.symbol.Segment.TheVariants.{Undefined, Absolute, TextSeg, DataSeg, BssSeg, Other}
-use Rattle.aout_core.specs.declared.symbol.Symbol.{Symbol}
-use Rattle.aout_core.specs.Contents.{Contents, IsSound, IsSymbol, IsWord}
-use Rattle.aout_core.specs.Names.{IsName}
-use Rattle.aout_core.specs.WellFormed.{is_external, segment_of, IsWellFormed}
-use Rattle.aout_core.specs.Words.{minus, plus}
-use Rattle.link_session.specs.Cells.{Referent, referent, to_name, to_segment, words_of}
-use Rattle.link_session.specs.Earlier.{with_earlier}
+use Rattle.aout_core.specs.{declared.reloc.Reloc.Reloc, declared.symbol.Segment.Segment, declared.symbol.Symbol.Symbol, Contents.Contents}
+use Rattle.aout_core.specs.{Contents.IsSound, Contents.IsSymbol, Contents.IsWord, Names.IsName, WellFormed.is_external}
+use Rattle.aout_core.specs.{WellFormed.segment_of, WellFormed.IsWellFormed, Words.minus, Words.plus}
+use Rattle.link_session.specs.{Cells.Referent, Cells.referent, Cells.to_name, Cells.to_segment, Cells.words_of, Earlier.with_earlier}
+use Rattle.link_session.specs.{Mentions.Mention, Mentions.forced_mention, Mentions.mention, Mentions.mentions, Mentions.mentions_in}
+use Rattle.link_session.specs.{Mentions.names_by_first_mention, Mentions.names_of, Mentions.statement, Sessions.IsObject, Starts.total}
+use Rattle.link_session.specs.{States.Definition, States.first_definition, States.size_wanted_by, States.state_by, States.wanted_size}
 use Rattle.tool_options.specs.NameLists.{is_among, new_names}
-use Rattle.link_session.specs.Mentions.{Mention, forced_mention, mention, mentions, mentions_in, names_by_first_mention}
-use Rattle.link_session.specs.Mentions.{names_of, statement}
-use Rattle.link_session.specs.Sessions.{IsObject}
-use Rattle.link_session.specs.Starts.{total}
-use Rattle.link_session.specs.States.{Definition, first_definition, size_wanted_by, state_by, wanted_size}
-use Rattle.link_session.proofs.ListLemmas.{all_append}
-use Rattle.tool_options.specs.declared.options.Keep.{Keep}
 use Rattle.tool_options.specs.declared.options.Keep.TheVariants.{All, Externals, NotL, Nothing}
-use Rattle.tool_options.specs.declared.options.Layout.{Layout}
-use Rattle.tool_options.specs.declared.options.Layout.TheVariants.{Plain, Pure, Split}
 use Rattle.tool_options.specs.Choices.{Choices, lays_commons}
-use Rattle.link_out.specs.KeptSymbols.{is_kept_local, rows_kept}
-use Rattle.link_out.specs.Layouts.{Bases, base, magic_of}
-use Rattle.link_out.specs.ReservedNames.{edata, end_name, etext}
+use Rattle.tool_options.specs.{declared.options.Keep.Keep, declared.options.Layout.Layout, declared.options.Layout.TheVariants.Plain}
+use Rattle.tool_options.specs.{declared.options.Layout.TheVariants.Pure, declared.options.Layout.TheVariants.Split}
+use Rattle.link_session.proofs.ListLemmas.{all_append}
 use Rattle.link_out.specs.function.Finals.{Final, bound_at, final, final_at, type_of, waiting}
-use Rattle.link_out.specs.function.Link.{Outcome, link}
-use Rattle.link_out.specs.function.Plans.{Plan, common_offset, plan}
-use Rattle.link_out.specs.function.Reports.{entry_word, is_in_text}
-use Rattle.link_out.specs.function.Tables.{external_row, external_rows, final_reloc, final_relocs, has_too_large_in}
-use Rattle.link_out.specs.function.Tables.{needs_too_large, local_rows, moved_local, moved_value, name_bits}
-use Rattle.link_out.specs.function.Tables.{referent_bits, row_of, segment_bits, table, number_too_large}
-use Rattle.link_out.specs.function.Words.{final_word, final_words}
-use Rattle.link_out.proofs.FitLemmas.{linked_fits}
-use Rattle.link_out.proofs.OutcomeLemmas.{IsMade, made}
+use Rattle.link_out.specs.function.Tables.{external_row, external_rows, final_reloc, final_relocs, has_too_large_in, needs_too_large}
+use Rattle.link_out.specs.function.Tables.{local_rows, moved_local, moved_value, name_bits, referent_bits, row_of, segment_bits, table}
+use Rattle.link_out.specs.function.Tables.{number_too_large}
+use Rattle.link_out.specs.{KeptSymbols.is_kept_local, KeptSymbols.rows_kept, Layouts.Bases, Layouts.base, Layouts.magic_of}
+use Rattle.link_out.specs.{ReservedNames.edata, ReservedNames.end_name, ReservedNames.etext, function.Link.Outcome, function.Link.link}
+use Rattle.link_out.specs.{function.Plans.Plan, function.Plans.common_offset, function.Plans.plan, function.Reports.entry_word}
+use Rattle.link_out.specs.{function.Reports.is_in_text, function.Words.final_word, function.Words.final_words}
+use Rattle.link_out.proofs.{FitLemmas.linked_fits, OutcomeLemmas.IsMade, OutcomeLemmas.made}
 
 -- ---- lists
 

@@ -1,36 +1,22 @@
 -- A link in two steps, and a program that is stripped.
-use Rattle.std.proofs.Common.{◌≡◌, ℕ, ◌≤◌, Bool, true, false, List, [], ◌∷◌, ◌++◌, Option, Some, None}
-use Rattle.std.proofs.Common.{Result, Ok, refl, sym, ap, ◌∙◌, arith, subst}
-use Rattle.std.specs.List.{AllByRecursion}
-use Rattle.std.specs.Prelude.{IfSome}
-use Rattle.aout_core.specs.declared.file.ReadFault.{ReadFault}
-use Rattle.aout_core.specs.Contents.{Contents, IsSound}
-use Rattle.aout_core.specs.Decoding.{decode}
-use Rattle.aout_core.specs.Laws.{EncodingLaw}
-use Rattle.aout_core.specs.Encoding.{encoding}
-use Rattle.aout_core.specs.Strip.{stripped}
-use Rattle.aout_core.specs.WellFormed.{IsWellFormed}
-use Rattle.aout_core.specs.declared.symbol.Segment.TheVariants.{TextSeg}
+use Rattle.std.proofs.Common.{◌≡◌, ℕ, ◌≤◌, Bool, true, false, List, [], ◌∷◌, ◌++◌, Option, Some, None, Result, Ok, refl, sym, ap, ◌∙◌}
+use Rattle.std.proofs.Common.{arith, subst}
+use Rattle.std.specs.{List.AllByRecursion, Prelude.IfSome}
+use Rattle.aout_core.specs.{declared.file.ReadFault.ReadFault, Contents.Contents, Contents.IsSound, Decoding.decode, Laws.EncodingLaw}
+use Rattle.aout_core.specs.{Encoding.encoding, Strip.stripped, WellFormed.IsWellFormed, declared.symbol.Segment.TheVariants.TextSeg}
 use Rattle.link_session.specs.Starts.{total}
 use Rattle.link_session.proofs.ListLemmas.{all_split}
-use Rattle.link_out.specs.declared.linked.Linked.{Linked}
-use Rattle.link_out.specs.declared.linked.LinkFault.{LinkFault}
-use Rattle.tool_options.specs.declared.options.Keep.TheVariants.{Nothing}
-use Rattle.tool_options.specs.declared.options.Layout.{Layout}
+use Rattle.link_out.specs.{declared.linked.Linked.Linked, declared.linked.LinkFault.LinkFault, Outcomes.outcome_of, Outcomes.report_names}
+use Rattle.link_out.specs.{Results.Outcome, function.Link.link, function.Reports.ReportNames, function.Reports.report_text}
+use Rattle.link_out.specs.{function.Reports.status_of, laws.Stripping.StripLaw}
 use Rattle.tool_options.specs.Choices.{Choices, option_fault}
-use Rattle.link_out.specs.Outcomes.{outcome_of, report_names}
-use Rattle.link_out.specs.Results.{Outcome}
-use Rattle.link_out.specs.function.Link.{link}
-use Rattle.link_out.specs.function.Reports.{ReportNames, report_text, status_of}
+use Rattle.tool_options.specs.{declared.options.Keep.TheVariants.Nothing, declared.options.Layout.Layout}
 use Rattle.link_laws.specs.PartialLinksAmongOthers.{PartialReplacesAmongOthers}
-use Rattle.link_out.specs.laws.Stripping.{StripLaw}
-use Rattle.surroundings.specs.Events.{Event, opens, paths_of, stored}
-use Rattle.surroundings.specs.declared.office.Stored.TheVariants.{Kept}
+use Rattle.surroundings.specs.{Events.Event, Events.opens, Events.paths_of, Events.stored, declared.office.Stored.TheVariants.Kept}
 use Rattle.laws.specs.Disks.{Disk, IsOn, Run, Writes, disk_after, file_after, with_file}
 use Rattle.laws.specs.StepsByCommands.{AreAt, IsAt, Links, LinkStepsLaw, ReportTheSame, StripStepsLaw}
 use Rattle.laws.proofs.DiskLemmas.{AreTaken, after_opens, are_at_append, given, objects_taken, read_back, stored_there}
-use Rattle.laws.proofs.SoundLemmas.{linked_sound}
-use Rattle.laws.proofs.RunLemmas.{LinkDone, StripDone, link_done, strip_done}
+use Rattle.laws.proofs.{SoundLemmas.linked_sound, RunLemmas.LinkDone, RunLemmas.StripDone, RunLemmas.link_done, RunLemmas.strip_done}
 
 -- a link of these objects was stored at a path and reported
 pub record Linking {W E : Type 0} (contents : W → Option (List ℕ)) (forced : List (List ℕ)) (o : Choices) (out : List ℕ)

@@ -1,40 +1,27 @@
 -- The symbols that nm -u shows of a linked file: some of the kept locals, and the names that are reported.
-use Rattle.std.proofs.Common.{◌≡◌, ◌≢◌, ◌⊎◌, ℕ, ◌-◌, Bool, true, false, cond, not, ◌&&◌, ◌||◌, eqb, eqb-true, List, []}
-use Rattle.std.proofs.Common.{◌∷◌, ◌++◌, map, filter, IsPermutation, refl, sym, ◌∙◌, ap, subst, inl, inr}
-use Rattle.std.specs.Prelude.{bytes_eq, Ok}
-use Rattle.std.specs.List.{flat_map, AllByRecursion}
-use Rattle.std.proofs.lemmas.List.Elements.{filter-append}
-use Rattle.std.proofs.lemmas.List.Sorted.{IsPermutation-sym, IsPermutation-map}
-use Rattle.aout_core.specs.declared.symbol.Symbol.{Symbol}
+use Rattle.std.proofs.Common.{◌≡◌, ◌≢◌, ◌⊎◌, ℕ, ◌-◌, Bool, true, false, cond, not, ◌&&◌, ◌||◌, eqb, eqb-true, List, [], ◌∷◌, ◌++◌, map}
+use Rattle.std.proofs.Common.{filter, IsPermutation, refl, sym, ◌∙◌, ap, subst, inl, inr}
+use Rattle.std.proofs.{lemmas.List.Elements.filter-append, lemmas.List.Sorted.IsPermutation-sym, lemmas.List.Sorted.IsPermutation-map}
+use Rattle.std.specs.{Prelude.bytes_eq, Prelude.Ok, List.flat_map, List.AllByRecursion}
 use Rattle.aout_core.specs.declared.symbol.Segment.TheVariants.{Undefined, Absolute, TextSeg, DataSeg, BssSeg, Other}
-use Rattle.aout_core.specs.Contents.{Contents}
-use Rattle.aout_core.specs.Words.{plus}
 use Rattle.aout_core.specs.WellFormed.{masked_type, is_external, segment_numbered}
-use Rattle.link_session.specs.declared.state.State.{State}
-use Rattle.link_session.specs.declared.state.State.TheVariants.{Defined, Wanted}
-use Rattle.link_session.specs.Earlier.{with_earlier}
+use Rattle.aout_core.specs.{declared.symbol.Symbol.Symbol, Contents.Contents, Words.plus}
 use Rattle.link_session.specs.Mentions.{Mention, mentions, names_by_first_mention}
-use Rattle.link_session.specs.States.{state}
-use Rattle.tool_options.specs.declared.options.Keep.TheVariants.{Nothing}
-use Rattle.tool_options.specs.Choices.{Choices}
-use Rattle.link_out.specs.KeptSymbols.{is_kept_local}
-use Rattle.link_out.specs.Layouts.{Bases}
+use Rattle.link_session.specs.{declared.state.State.State, declared.state.State.TheVariants.Defined}
+use Rattle.link_session.specs.{declared.state.State.TheVariants.Wanted, Earlier.with_earlier, States.state}
+use Rattle.tool_options.specs.{declared.options.Keep.TheVariants.Nothing, Choices.Choices, declared.nm_options.NmOptions.NmOptions}
 use Rattle.link_out.specs.function.Plans.{Plan, plan, common_offset}
 use Rattle.link_out.specs.function.Finals.{Final, final_by, bound_at, waiting, etext, edata, end_name}
 use Rattle.link_out.specs.function.Tables.{moved_value, moved_local, local_rows, external_row, external_rows}
 use Rattle.link_out.specs.function.Reports.{ReportNames, is_missing, undefined_names}
-use Rattle.link_out.specs.function.Link.{Outcome, link}
+use Rattle.link_out.specs.{KeptSymbols.is_kept_local, Layouts.Bases, function.Link.Outcome, function.Link.link}
 use Rattle.link_laws.specs.relation.Refusals.{kept_locals}
 use Rattle.link_laws.proofs.ExternalLemmas.{row_at}
-use Rattle.link_out.proofs.OutcomeLemmas.{made_file, made_report}
 use Rattle.link_out.proofs.partial_links.PartialLemmas.{IsProper, state_is_proper, local_rows_inner, external_row_outer}
-use Rattle.link_out.proofs.RowLemmas.{rows_kept-others}
-use Rattle.tool_options.specs.declared.nm_options.NmOptions.{NmOptions}
-use Rattle.symtools.specs.SymbolLines.{is_shown_undefined}
-use Rattle.symtools.specs.NmLists.{is_shown, arranged, shown, nm_text}
+use Rattle.link_out.proofs.{OutcomeLemmas.made_file, OutcomeLemmas.made_report, RowLemmas.rows_kept-others}
+use Rattle.symtools.specs.{SymbolLines.is_shown_undefined, NmLists.is_shown, NmLists.arranged, NmLists.shown, NmLists.nm_text}
 use Rattle.laws.specs.Listings.{undefined_locals, listed_locals, undefined_symbol, lines}
-use Rattle.laws.proofs.ArrangedLemmas.{arranged_moves}
-use Rattle.laws.proofs.ShownLemmas.{undefined_apart, one_file}
+use Rattle.laws.proofs.{ArrangedLemmas.arranged_moves, ShownLemmas.undefined_apart, ShownLemmas.one_file}
 
 -- the small letter, by what tests of type and value say
 abbrev small : Bool → Bool → Bool → Bool → Bool → Bool → Bool → ℕ

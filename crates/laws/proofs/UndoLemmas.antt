@@ -1,30 +1,19 @@
 -- Two lines that add a file and withdraw it, and two runs of the same lines for which the system gave the same.
-use Rattle.std.proofs.Common.{◌≡◌, ℕ, max, List, [], ◌∷◌, ◌++◌, map, Option, Some, None, Result, Ok, Err, refl, sym, ap, ◌∙◌, arith}
-use Rattle.std.proofs.Common.{inl, inr, subst}
-use Rattle.std.proofs.lemmas.List.{same_from_push}
-use Rattle.std.proofs.lemmas.Grind.{flat_map-append}
-use Rattle.std.specs.Prelude.{IfSome, codes}
-use Rattle.std.specs.List.{AllByRecursion}
-use Rattle.aout_core.specs.Contents.{Contents}
-use Rattle.aout_core.specs.Decoding.{decode}
+use Rattle.std.proofs.Common.{◌≡◌, ℕ, max, List, [], ◌∷◌, ◌++◌, map, Option, Some, None, Result, Ok, Err, refl, sym, ap, ◌∙◌, arith, inl}
+use Rattle.std.proofs.Common.{inr, subst}
+use Rattle.std.proofs.{lemmas.List.same_from_push, lemmas.Grind.flat_map-append}
+use Rattle.std.specs.{Prelude.IfSome, Prelude.codes, List.AllByRecursion}
+use Rattle.aout_core.specs.{Contents.Contents, Decoding.decode}
 use Rattle.command_words.specs.Scripts.{Asked, to_add, to_withdraw, for_externals, for_undefined, to_link, for_nothing}
-use Rattle.link_session.specs.declared.entry.AddFault.{AddFault}
-use Rattle.link_session.specs.Edits.{last_of}
-use Rattle.link_session.specs.Labelled.{Labelled, objects}
-use Rattle.link_session.specs.Limits.{refusal}
-use Rattle.link_session.specs.Sessions.{Adds, Withdraws, nothing_kept}
-use Rattle.link_session.specs.Undo.{Kept}
-use Rattle.link_out.specs.declared.linked.LinkFault.{LinkFault}
-use Rattle.link_out.specs.Steps.{unless}
-use Rattle.link_out.specs.function.Link.{link}
-use Rattle.link_out.specs.function.Reports.{line}
+use Rattle.link_session.specs.{declared.entry.AddFault.AddFault, Edits.last_of, Labelled.Labelled, Labelled.objects, Limits.refusal}
+use Rattle.link_session.specs.{Sessions.Adds, Sessions.Withdraws, Sessions.nothing_kept, Undo.Kept}
+use Rattle.link_out.specs.Inputs.{Cause, not_added, kept_with, object_in, with_input}
+use Rattle.link_out.specs.{declared.linked.LinkFault.LinkFault, Steps.unless, function.Link.link, function.Reports.line}
 use Rattle.link_session.proofs.EditLemmas.{last_of-put_last}
 use Rattle.tool_options.specs.Choices.{Choices}
 use Rattle.surroundings.specs.Events.{Event, opened, stored}
-use Rattle.v7tools.specs.Answers.{absent, adding, anything_else, listing_externals, listing_undefined, withdrawing}
-use Rattle.v7tools.specs.Answers.{Verdict, done, refused, to_store, Stepped, add_step, link_answer_text, link_status, link_step, step}
-use Rattle.v7tools.specs.Answers.{withdraw_step}
-use Rattle.link_out.specs.Inputs.{Cause, not_added, kept_with, object_in, with_input}
+use Rattle.v7tools.specs.Answers.{absent, adding, anything_else, listing_externals, listing_undefined, withdrawing, Verdict, done, refused}
+use Rattle.v7tools.specs.Answers.{to_store, Stepped, add_step, link_answer_text, link_status, link_step, step, withdraw_step}
 use Rattle.v7tools.specs.LineRuns.{DoesStep, IsAddOf, IsLineOf, LineRun, LinksNone, OpensOne, status_after}
 use Rattle.v7tools.specs.SessionRuns.{Chains, answers_of, events_of, lines_asked, worst}
 use Rattle.v7tools.specs.SessionSteps.{AddsIf, IsLinkBy, WithdrawsIf}

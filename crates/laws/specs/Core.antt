@@ -3,15 +3,11 @@
 -- A plain file (0407) and one with pure text (0410) are loaded into one space: text from 0, data from `data_start_in`, and zeros for
 -- bss after data. With split spaces (0411) text is loaded from 0 into the space of instructions, and data from 0 into that of
 -- data, with bss after it. A word has its low byte first. The stack is not described here.
-use Rattle.std.specs.Prelude.{◌≡◌, ℕ, ◌+◌, ◌-◌, ◌/◌, ◌%◌, Bool, false, ◌&&◌, ◌||◌, eqb, if◌then◌else◌}
-use Rattle.std.specs.Prelude.{nat_le, nat_lt, Option, Some, None, slice_get}
-use Rattle.aout_core.specs.declared.header.Header.{Header}
-use Rattle.aout_core.specs.declared.symbol.Segment.{Segment}
+use Rattle.std.specs.Prelude.{◌≡◌, ℕ, ◌+◌, ◌-◌, ◌/◌, ◌%◌, Bool, false, ◌&&◌, ◌||◌, eqb, if◌then◌else◌, nat_le, nat_lt, Option, Some, None}
+use Rattle.std.specs.Prelude.{slice_get}
 use Rattle.aout_core.specs.declared.symbol.Segment.TheVariants.{TextSeg, DataSeg, BssSeg}
-use Rattle.aout_core.specs.Contents.{Contents}
-use Rattle.aout_core.specs.Words.{all_word_bytes}
-use Rattle.aout_core.specs.WellFormed.{first_of}
-use Rattle.aout_core.specs.Addresses.{data_start_in}
+use Rattle.aout_core.specs.{declared.header.Header.Header, declared.symbol.Segment.Segment, Contents.Contents, Words.all_word_bytes}
+use Rattle.aout_core.specs.{WellFormed.first_of, Addresses.data_start_in}
 
 pub data Space : Type 0 where
   of_instructions : Space

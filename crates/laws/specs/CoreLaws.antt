@@ -5,27 +5,16 @@
 -- names up in; its words follow the rows of the relation of linking, and are those of a link that keeps symbols.
 use Rattle.std.specs.Prelude.{◌≡◌, ◌≢◌, ℕ, ◌+◌, ◌*◌, ◌%◌, ◌<◌, ◌≤◌, ◌⊎◌, true, cond, List, ◌∷◌, ◌++◌, Some, Ok, slice_get}
 use Rattle.std.specs.List.{AllByRecursion}
-use Rattle.aout_core.specs.declared.header.Header.{Header}
-use Rattle.aout_core.specs.declared.symbol.Symbol.{Symbol}
-use Rattle.aout_core.specs.declared.symbol.Segment.{Segment}
-use Rattle.aout_core.specs.declared.symbol.Segment.TheVariants.{TextSeg, BssSeg}
-use Rattle.aout_core.specs.declared.reloc.Reloc.{Reloc}
-use Rattle.aout_core.specs.Contents.{Contents}
-use Rattle.aout_core.specs.Words.{plus, minus}
 use Rattle.aout_core.specs.WellFormed.{kind_of, is_pc_relative, symbol_number}
-use Rattle.aout_core.specs.Strip.{stripped}
-use Rattle.link_session.specs.Starts.{total, own}
-use Rattle.link_session.specs.Sessions.{IsObject}
-use Rattle.link_session.specs.Cells.{segment_words, segment_relocs}
-use Rattle.tool_options.specs.declared.options.Keep.{Keep}
-use Rattle.tool_options.specs.declared.options.Keep.TheVariants.{Nothing}
-use Rattle.tool_options.specs.declared.options.Layout.TheVariants.{Split}
-use Rattle.tool_options.specs.Choices.{Choices, lays_commons}
-use Rattle.link_out.specs.Results.{Outcome}
-use Rattle.link_out.specs.function.Link.{link}
+use Rattle.aout_core.specs.{declared.header.Header.Header, declared.symbol.Symbol.Symbol, declared.symbol.Segment.Segment}
+use Rattle.aout_core.specs.{declared.symbol.Segment.TheVariants.TextSeg, declared.symbol.Segment.TheVariants.BssSeg}
+use Rattle.aout_core.specs.{declared.reloc.Reloc.Reloc, Contents.Contents, Words.plus, Words.minus, Strip.stripped}
+use Rattle.link_session.specs.{Starts.total, Starts.own, Sessions.IsObject, Cells.segment_words, Cells.segment_relocs}
+use Rattle.tool_options.specs.{declared.options.Keep.Keep, declared.options.Keep.TheVariants.Nothing}
+use Rattle.tool_options.specs.{declared.options.Layout.TheVariants.Split, Choices.Choices, Choices.lays_commons}
+use Rattle.link_out.specs.{Results.Outcome, function.Link.link}
 use Rattle.link_laws.specs.relation.Relocated.{base_in, move_in, entry_of, IsAdded}
-use Rattle.link_laws.specs.relation.LinkedFrom.{IsLinkedFrom}
-use Rattle.link_laws.specs.CommonsAndLayouts.{IsCommon}
+use Rattle.link_laws.specs.{relation.LinkedFrom.IsLinkedFrom, CommonsAndLayouts.IsCommon}
 use Rattle.laws.specs.Core.{Space, of_instructions, of_data, has_segment, is_in, core, IsWordAt}
 
 -- no two segments share an address of a space, whatever the file

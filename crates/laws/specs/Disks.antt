@@ -4,12 +4,10 @@
 -- bytes at a path. If each opening gives these bytes, or those that were stored there last, several runs may be taken as one.
 use Rattle.std.specs.Prelude.{◌≡◌, ℕ, ◌≤◌, cond, List, [], ◌∷◌, ◌++◌, Option, Some, None, IfSome, bytes_eq}
 use Rattle.std.specs.Io.KnownBytes.{Appends}
-use Rattle.aout_core.specs.Encoding.{encoding}
-use Rattle.aout_core.specs.Wires.{Latched}
+use Rattle.aout_core.specs.{Encoding.encoding, Wires.Latched}
 use Rattle.v7tools.specs.CommandRuns.{Performs}
 use Rattle.surroundings.specs.Events.{Event, opened, stored, written}
-use Rattle.surroundings.specs.declared.office.Stored.{Stored}
-use Rattle.surroundings.specs.declared.office.Stored.TheVariants.{Kept}
+use Rattle.surroundings.specs.{declared.office.Stored.Stored, declared.office.Stored.TheVariants.Kept}
 
 -- the bytes of the file at each path, if they are known
 abbrev pub Disk : Type 0

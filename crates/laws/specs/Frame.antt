@@ -3,31 +3,21 @@
 -- A changed object may take the place of another if it has the same sizes, the same external symbols in the same order, and as many
 -- kept locals; what its words are, what they refer to, and what its locals are is free. Then the header and the report stay as they
 -- were, and so does each byte of the file that is not of its own words of text and data, of their relocation words, or of its locals.
-use Rattle.std.specs.Prelude.{◌≡◌, ◌≢◌, ℕ, ◌+◌, ◌*◌, ◌/◌, ◌<◌, ◌≤◌, ◌⊎◌, false, List, [], ◌∷◌, ◌++◌}
-use Rattle.std.specs.Prelude.{length, Option, Some, None, Ok, Err, slice_get}
+use Rattle.std.specs.Prelude.{◌≡◌, ◌≢◌, ℕ, ◌+◌, ◌*◌, ◌/◌, ◌<◌, ◌≤◌, ◌⊎◌, false, List, [], ◌∷◌, ◌++◌, length, Option, Some, None, Ok, Err}
+use Rattle.std.specs.Prelude.{slice_get}
 use Rattle.std.specs.List.{AllByRecursion}
-use Rattle.aout_core.specs.declared.header.Header.{Header}
-use Rattle.aout_core.specs.declared.symbol.Symbol.{Symbol}
-use Rattle.aout_core.specs.declared.symbol.Segment.{Segment}
 use Rattle.aout_core.specs.declared.symbol.Segment.TheVariants.{Undefined, TextSeg, DataSeg}
-use Rattle.aout_core.specs.declared.reloc.Reloc.{Reloc}
-use Rattle.aout_core.specs.declared.reloc.Kind.TheVariants.{External}
 use Rattle.aout_core.specs.Contents.{Contents, with_relocation}
 use Rattle.aout_core.specs.WellFormed.{segment_of, kind_of, symbol_number}
-use Rattle.aout_core.specs.Words.{plus, minus}
 use Rattle.aout_core.specs.Encoding.{relocation_at, symbols_at, encoding}
-use Rattle.link_session.specs.Starts.{size_of, total}
-use Rattle.link_session.specs.Mentions.{externals_in}
-use Rattle.link_session.specs.Sessions.{IsObject}
+use Rattle.aout_core.specs.{declared.header.Header.Header, declared.symbol.Symbol.Symbol, declared.symbol.Segment.Segment}
+use Rattle.aout_core.specs.{declared.reloc.Reloc.Reloc, declared.reloc.Kind.TheVariants.External, Words.plus, Words.minus}
 use Rattle.link_session.specs.Cells.{segment_words, segment_relocs}
-use Rattle.link_out.specs.declared.linked.LinkFault.{LinkFault}
-use Rattle.link_out.specs.declared.linked.LinkFault.TheVariants.{SymbolNumber}
-use Rattle.tool_options.specs.declared.options.Keep.TheVariants.{Nothing}
-use Rattle.tool_options.specs.Choices.{Choices}
-use Rattle.link_out.specs.Results.{Outcome}
-use Rattle.link_laws.specs.relation.Refusals.{kept_locals}
-use Rattle.link_laws.specs.relation.Relocated.{entry_of, address_in}
-use Rattle.link_out.specs.function.Link.{link}
+use Rattle.link_session.specs.{Starts.size_of, Starts.total, Mentions.externals_in, Sessions.IsObject}
+use Rattle.link_out.specs.{declared.linked.LinkFault.LinkFault, declared.linked.LinkFault.TheVariants.SymbolNumber, Results.Outcome}
+use Rattle.link_out.specs.{function.Link.link}
+use Rattle.tool_options.specs.{declared.options.Keep.TheVariants.Nothing, Choices.Choices}
+use Rattle.link_laws.specs.{relation.Refusals.kept_locals, relation.Relocated.entry_of, relation.Relocated.address_in}
 use Rattle.laws.specs.Orders.{AreAlike}
 
 -- l may take the place of k: it has the same sizes, the same externals in the same order, and as many locals that are kept

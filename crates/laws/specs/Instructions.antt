@@ -5,21 +5,14 @@
 -- operand word may be another one, and is then the word that relocation makes of it.
 use Rattle.std.specs.Prelude.{◌≡◌, ℕ, ◌+◌, ◌/◌, false, List, [], ◌∷◌, ◌++◌, length, drop, Some, slice_get}
 use Rattle.std.specs.List.{AllByRecursion}
-use Rattle.aout_core.specs.declared.symbol.Symbol.{Symbol}
-use Rattle.aout_core.specs.declared.symbol.Segment.TheVariants.{TextSeg}
-use Rattle.aout_core.specs.declared.reloc.Reloc.{Reloc}
-use Rattle.aout_core.specs.Contents.{Contents, IsWord}
-use Rattle.link_session.specs.Starts.{total}
-use Rattle.link_session.specs.Sessions.{IsObject}
+use Rattle.aout_core.specs.{declared.symbol.Symbol.Symbol, declared.symbol.Segment.TheVariants.TextSeg, declared.reloc.Reloc.Reloc}
+use Rattle.aout_core.specs.{Contents.Contents, Contents.IsWord}
+use Rattle.link_session.specs.{Starts.total, Sessions.IsObject}
 use Rattle.tool_options.specs.Choices.{Choices}
 use Rattle.link_out.specs.Results.{Outcome}
-use Rattle.link_laws.specs.relation.Relocated.{IsRelocated}
-use Rattle.link_laws.specs.relation.LinkedFrom.{IsLinkedFrom}
-use Rattle.instructions.specs.declared.line.Line.{Line}
-use Rattle.instructions.specs.Instructions.{instruction_of}
-use Rattle.instructions.specs.Lines.{lines, line_of}
-use Rattle.instructions.specs.Relocated.{is_relocated}
+use Rattle.link_laws.specs.{relation.Relocated.IsRelocated, relation.LinkedFrom.IsLinkedFrom}
 use Rattle.instructions.specs.Alike.{AlikeLine, AlikeLines, AreWhole, is_cut}
+use Rattle.instructions.specs.{declared.line.Line.Line, Instructions.instruction_of, Lines.lines, Lines.line_of, Relocated.is_relocated}
 
 -- no word at which a line of the text begins is relocated, and no instruction is cut
 pub record HasWholeText (k : Contents) : Type 0 where

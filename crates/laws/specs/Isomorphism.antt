@@ -5,37 +5,22 @@
 -- same places at other addresses, and at each of them the same byte. A relocated word is the exception: it counts from a place, and
 -- is more by as much as that place has moved. No loaded byte is without a place: the byte that rounds up a common of odd size is the
 -- common's, and what is between pure text and data is not loaded.
-use Rattle.std.specs.Prelude.{◌≡◌, ◌≢◌, ℕ, ◌+◌, ◌*◌, ◌/◌, ◌%◌, ◌<◌, true, false, if◌then◌else◌, List, [], ◌∷◌, ◌++◌}
-use Rattle.std.specs.Prelude.{length, take, Option, Some, None, Ok, slice_get, bytes_eq}
-use Rattle.std.specs.List.{AllByRecursion}
-use Rattle.std.specs.List.Sorted.{IsPermutation}
-use Rattle.aout_core.specs.declared.header.Header.{Header}
-use Rattle.aout_core.specs.declared.symbol.Symbol.{Symbol}
-use Rattle.aout_core.specs.declared.symbol.Segment.{Segment}
+use Rattle.std.specs.Prelude.{◌≡◌, ◌≢◌, ℕ, ◌+◌, ◌*◌, ◌/◌, ◌%◌, ◌<◌, true, false, if◌then◌else◌, List, [], ◌∷◌, ◌++◌, length, take, Option}
+use Rattle.std.specs.Prelude.{Some, None, Ok, slice_get, bytes_eq}
+use Rattle.std.specs.{List.AllByRecursion, List.Sorted.IsPermutation}
 use Rattle.aout_core.specs.declared.symbol.Segment.TheVariants.{TextSeg, DataSeg, BssSeg}
-use Rattle.aout_core.specs.declared.reloc.Reloc.{Reloc}
-use Rattle.aout_core.specs.declared.reloc.Kind.{Kind}
-use Rattle.aout_core.specs.declared.reloc.Kind.TheVariants as kinds
-use Rattle.aout_core.specs.Contents.{Contents}
-use Rattle.aout_core.specs.Addresses.{data_start_in}
-use Rattle.aout_core.specs.Words.{minus}
 use Rattle.aout_core.specs.WellFormed.{segment_of, kind_of, is_pc_relative, symbol_number}
-use Rattle.link_session.specs.Starts.{size_of, total, own}
-use Rattle.link_session.specs.Sessions.{IsObject}
-use Rattle.link_session.specs.Cells.{segment_words, segment_relocs}
-use Rattle.tool_options.specs.declared.options.Keep.TheVariants.{Nothing}
-use Rattle.tool_options.specs.declared.options.Layout.{Layout}
+use Rattle.aout_core.specs.{declared.header.Header.Header, declared.symbol.Symbol.Symbol, declared.symbol.Segment.Segment}
+use Rattle.aout_core.specs.{declared.reloc.Reloc.Reloc, declared.reloc.Kind.Kind, Contents.Contents, Addresses.data_start_in, Words.minus}
+use Rattle.link_session.specs.{Starts.size_of, Starts.total, Starts.own, Sessions.IsObject, Cells.segment_words, Cells.segment_relocs}
 use Rattle.tool_options.specs.Choices.{Choices, lays_commons}
-use Rattle.link_out.specs.ReservedNames.{etext, edata, end_name}
-use Rattle.link_out.specs.Results.{Outcome}
-use Rattle.link_out.specs.function.Link.{link}
-use Rattle.link_laws.specs.relation.Relocated.{base_in, entry_of}
-use Rattle.link_laws.specs.CommonsAndLayouts.{IsCommon}
+use Rattle.tool_options.specs.{declared.options.Keep.TheVariants.Nothing, declared.options.Layout.Layout}
+use Rattle.link_out.specs.{ReservedNames.etext, ReservedNames.edata, ReservedNames.end_name, Results.Outcome, function.Link.link}
+use Rattle.link_laws.specs.{relation.Relocated.base_in, relation.Relocated.entry_of, CommonsAndLayouts.IsCommon}
 use Rattle.instructions.specs.Relocated.{is_relocated}
-use Rattle.laws.specs.Core.{Space, has_segment, core, IsWordAt}
-use Rattle.laws.specs.CoreLaws.{space_of}
-use Rattle.laws.specs.Operands.{operand}
 use Rattle.laws.specs.Orders.{common, missing, IsDefinedBy, Means, RefersAlike}
+use Rattle.laws.specs.{Core.Space, Core.has_segment, Core.core, Core.IsWordAt, CoreLaws.space_of, Operands.operand}
+use Rattle.aout_core.specs.declared.reloc.Kind.TheVariants as kinds
 
 -- places
 

@@ -1,35 +1,22 @@
 -- What nm and size show of a linked file: the names that its link reported undefined, its externals, and its sizes. (nm(1), size(1), ld(1))
 --
 -- The report is made from the objects, and a list from the linked file alone. By these laws the two agree.
-use Rattle.std.specs.Prelude.{◌≡◌, ◌≢◌, ◌⊎◌, ℕ, ◌+◌, true, false, ◌&&◌, cond, eqb, if◌then◌else◌, List, [], ◌∷◌}
-use Rattle.std.specs.Prelude.{◌++◌, map, filter, codes, Some, Ok, bytes_eq, IsPermutation}
+use Rattle.std.specs.Prelude.{◌≡◌, ◌≢◌, ◌⊎◌, ℕ, ◌+◌, true, false, ◌&&◌, cond, eqb, if◌then◌else◌, List, [], ◌∷◌, ◌++◌, map, filter, codes}
+use Rattle.std.specs.Prelude.{Some, Ok, bytes_eq, IsPermutation}
 use Rattle.std.specs.List.{flat_map}
-use Rattle.aout_core.specs.declared.header.Header.{Header}
-use Rattle.aout_core.specs.declared.symbol.Symbol.{Symbol}
-use Rattle.aout_core.specs.declared.symbol.Segment.{Segment}
 use Rattle.aout_core.specs.declared.symbol.Segment.TheVariants.{TextSeg, DataSeg, BssSeg}
-use Rattle.aout_core.specs.Contents.{Contents}
-use Rattle.aout_core.specs.Words.{letter_of}
-use Rattle.aout_core.specs.WellFormed.{is_external}
-use Rattle.link_session.specs.declared.state.State.{State}
-use Rattle.link_session.specs.declared.state.State.TheVariants.{Defined, Wanted}
-use Rattle.link_session.specs.Starts.{total}
-use Rattle.tool_options.specs.NameLists.{is_among}
-use Rattle.link_session.specs.Mentions.{mentions, externals}
-use Rattle.tool_options.specs.declared.options.Keep.TheVariants.{Nothing}
-use Rattle.tool_options.specs.Choices.{Choices}
-use Rattle.link_out.specs.ReservedNames.{etext, edata, end_name}
-use Rattle.link_out.specs.function.Link.{Outcome, link}
-use Rattle.link_laws.specs.relation.NameStates.{HasState}
-use Rattle.aout_core.specs.Addresses.{data_start_in}
-use Rattle.link_laws.specs.relation.Relocated.{entry_of}
+use Rattle.aout_core.specs.{declared.header.Header.Header, declared.symbol.Symbol.Symbol, declared.symbol.Segment.Segment}
+use Rattle.aout_core.specs.{Contents.Contents, Words.letter_of, WellFormed.is_external, Addresses.data_start_in}
+use Rattle.link_session.specs.{declared.state.State.State, declared.state.State.TheVariants.Defined}
+use Rattle.link_session.specs.{declared.state.State.TheVariants.Wanted, Starts.total, Mentions.mentions, Mentions.externals}
+use Rattle.tool_options.specs.{NameLists.is_among, declared.options.Keep.TheVariants.Nothing, Choices.Choices}
+use Rattle.tool_options.specs.{declared.nm_options.NmOptions.NmOptions}
+use Rattle.link_out.specs.{ReservedNames.etext, ReservedNames.edata, ReservedNames.end_name, function.Link.Outcome, function.Link.link}
 use Rattle.link_laws.specs.relation.LinkedTable.{row_for, moved_locals_in}
 use Rattle.link_laws.specs.relation.Refusals.{CommonsTake, kept_locals}
-use Rattle.link_laws.specs.relation.LinkedFrom.{IsLinkedFrom}
-use Rattle.tool_options.specs.declared.nm_options.NmOptions.{NmOptions}
+use Rattle.link_laws.specs.{relation.NameStates.HasState, relation.Relocated.entry_of, relation.LinkedFrom.IsLinkedFrom}
 use Rattle.symtools.specs.SymbolLines.{is_shown_undefined, letter, symbol_line}
-use Rattle.symtools.specs.NmLists.{arranged, shown, line_heading, nm_text}
-use Rattle.symtools.specs.SizeLines.{size_line, size_text}
+use Rattle.symtools.specs.{NmLists.arranged, NmLists.shown, NmLists.line_heading, NmLists.nm_text, SizeLines.size_line, SizeLines.size_text}
 
 -- the locals that a link keeps and nm shows as undefined: those of type 0 and value 0. A link reports none of them, since no
 -- other object can define a local

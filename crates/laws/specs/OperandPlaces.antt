@@ -4,39 +4,24 @@
 -- the addressing that the first word has, the operand is the address of that byte. That is the effective address in modes 67 and 37,
 -- the address of a pointer in mode 77, and a number in mode 27 and as an index. The machine looks in the space that the instruction
 -- uses.
-use Rattle.std.specs.Prelude.{◌≡◌, ◌≢◌, ℕ, ◌+◌, ◌*◌, ◌%◌, ◌<◌, ◌⊎◌, true, false, if◌then◌else◌, List, []}
-use Rattle.std.specs.Prelude.{◌∷◌, ◌++◌, drop, Option, Some, None, Ok, slice_get}
+use Rattle.std.specs.Prelude.{◌≡◌, ◌≢◌, ℕ, ◌+◌, ◌*◌, ◌%◌, ◌<◌, ◌⊎◌, true, false, if◌then◌else◌, List, [], ◌∷◌, ◌++◌, drop, Option, Some}
+use Rattle.std.specs.Prelude.{None, Ok, slice_get}
 use Rattle.std.specs.List.{AllByRecursion}
-use Rattle.aout_core.specs.declared.symbol.Symbol.{Symbol}
-use Rattle.aout_core.specs.declared.symbol.Segment.{Segment}
-use Rattle.aout_core.specs.declared.symbol.Segment.TheVariants.{TextSeg}
-use Rattle.aout_core.specs.declared.reloc.Reloc.{Reloc}
-use Rattle.aout_core.specs.declared.reloc.Kind.{Kind}
-use Rattle.aout_core.specs.declared.reloc.Kind.TheVariants as kinds
-use Rattle.aout_core.specs.Contents.{Contents}
-use Rattle.aout_core.specs.Words.{plus}
 use Rattle.aout_core.specs.WellFormed.{kind_of, is_pc_relative, symbol_number}
-use Rattle.link_session.specs.Starts.{size_of, own}
-use Rattle.link_session.specs.Sessions.{IsObject}
-use Rattle.link_session.specs.Cells.{segment_words, segment_relocs}
-use Rattle.tool_options.specs.declared.options.Keep.TheVariants.{Nothing}
-use Rattle.tool_options.specs.Choices.{Choices}
-use Rattle.link_out.specs.Results.{Outcome}
-use Rattle.link_out.specs.function.Link.{link}
+use Rattle.aout_core.specs.{declared.symbol.Symbol.Symbol, declared.symbol.Segment.Segment, declared.symbol.Segment.TheVariants.TextSeg}
+use Rattle.aout_core.specs.{declared.reloc.Reloc.Reloc, declared.reloc.Kind.Kind, Contents.Contents, Words.plus}
+use Rattle.link_session.specs.{Starts.size_of, Starts.own, Sessions.IsObject, Cells.segment_words, Cells.segment_relocs}
+use Rattle.tool_options.specs.{declared.options.Keep.TheVariants.Nothing, Choices.Choices}
+use Rattle.link_out.specs.{Results.Outcome, function.Link.link}
 use Rattle.link_laws.specs.relation.Relocated.{entry_of}
-use Rattle.instructions.specs.declared.operation.Operation.{Operation}
-use Rattle.instructions.specs.declared.mode.Addressing.{Addressing}
-use Rattle.instructions.specs.declared.mode.Addressing.TheVariants.{Absolute, Relative}
-use Rattle.instructions.specs.declared.operand.Operand.{Operand}
-use Rattle.instructions.specs.declared.operand.Operand.TheVariants.{General}
-use Rattle.instructions.specs.declared.instruction.Instruction.{Instruction}
-use Rattle.instructions.specs.Modes.{addressing, counts_from_pc}
-use Rattle.instructions.specs.Instructions.{instruction_of, jumps, word_count_of}
-use Rattle.instructions.specs.Alike.{is_cut}
-use Rattle.laws.specs.Core.{Space, of_instructions, is_in, IsWordAt}
-use Rattle.laws.specs.CoreLaws.{space_of, IsPlace}
-use Rattle.laws.specs.Operands.{operand, segment_meant, Defines, is_usable_in}
-use Rattle.laws.specs.OperandWords.{machine_value, space_used}
+use Rattle.instructions.specs.{declared.operation.Operation.Operation, declared.mode.Addressing.Addressing}
+use Rattle.instructions.specs.{declared.mode.Addressing.TheVariants.Absolute, declared.mode.Addressing.TheVariants.Relative}
+use Rattle.instructions.specs.{declared.operand.Operand.Operand, declared.operand.Operand.TheVariants.General}
+use Rattle.instructions.specs.{declared.instruction.Instruction.Instruction, Modes.addressing, Modes.counts_from_pc}
+use Rattle.instructions.specs.{Instructions.instruction_of, Instructions.jumps, Instructions.word_count_of, Alike.is_cut}
+use Rattle.laws.specs.{Core.Space, Core.of_instructions, Core.is_in, Core.IsWordAt, CoreLaws.space_of, CoreLaws.IsPlace, Operands.operand}
+use Rattle.laws.specs.{Operands.segment_meant, Operands.Defines, Operands.is_usable_in, OperandWords.machine_value, OperandWords.space_used}
+use Rattle.aout_core.specs.declared.reloc.Kind.TheVariants as kinds
 
 -- how an operand uses its word, if it has one
 abbrev pub addressing_of : Option Operand → Option Addressing

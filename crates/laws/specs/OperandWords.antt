@@ -5,30 +5,18 @@
 -- program is what it would find in the object, moved as the name or the segment was.
 use Rattle.std.specs.Prelude.{◌≡◌, ◌≢◌, ℕ, ◌+◌, ◌*◌, ◌%◌, Bool, true, false, ◌||◌, if◌then◌else◌, List, ◌∷◌, ◌++◌, Some, Ok, slice_get}
 use Rattle.std.specs.List.{AllByRecursion}
-use Rattle.aout_core.specs.declared.symbol.Symbol.{Symbol}
-use Rattle.aout_core.specs.declared.symbol.Segment.{Segment}
-use Rattle.aout_core.specs.declared.symbol.Segment.TheVariants.{TextSeg}
-use Rattle.aout_core.specs.declared.reloc.Reloc.{Reloc}
-use Rattle.aout_core.specs.declared.reloc.Kind.{Kind}
-use Rattle.aout_core.specs.declared.reloc.Kind.TheVariants as kinds
-use Rattle.aout_core.specs.Contents.{Contents}
-use Rattle.aout_core.specs.Words.{plus}
 use Rattle.aout_core.specs.WellFormed.{kind_of, is_pc_relative, symbol_number}
+use Rattle.aout_core.specs.{declared.symbol.Symbol.Symbol, declared.symbol.Segment.Segment, declared.symbol.Segment.TheVariants.TextSeg}
+use Rattle.aout_core.specs.{declared.reloc.Reloc.Reloc, declared.reloc.Kind.Kind, Contents.Contents, Words.plus}
 use Rattle.link_session.specs.Sessions.{IsObject}
-use Rattle.tool_options.specs.declared.options.Keep.TheVariants.{Nothing}
-use Rattle.tool_options.specs.Choices.{Choices}
-use Rattle.link_out.specs.Results.{Outcome}
-use Rattle.link_out.specs.function.Link.{link}
+use Rattle.tool_options.specs.{declared.options.Keep.TheVariants.Nothing, Choices.Choices}
+use Rattle.link_out.specs.{Results.Outcome, function.Link.link}
 use Rattle.link_laws.specs.relation.Relocated.{move_in, entry_of}
-use Rattle.instructions.specs.Modes.{counts_from_pc}
-use Rattle.instructions.specs.declared.operation.Operation.{Operation}
-use Rattle.instructions.specs.declared.operation.Operation.TheVariants.{Mfpi, Mtpi}
-use Rattle.instructions.specs.declared.mode.Addressing.{Addressing}
 use Rattle.instructions.specs.declared.mode.Addressing.TheVariants.{Immediate, Absolute, Relative, RelativeDeferred, Indexed}
-use Rattle.instructions.specs.Instructions.{jumps}
-use Rattle.laws.specs.Core.{Space, of_instructions, of_data, IsWordAt}
-use Rattle.laws.specs.CoreLaws.{IsPlace}
-use Rattle.laws.specs.Operands.{segment_meant}
+use Rattle.instructions.specs.{Modes.counts_from_pc, declared.operation.Operation.Operation, declared.operation.Operation.TheVariants.Mfpi}
+use Rattle.instructions.specs.{declared.operation.Operation.TheVariants.Mtpi, declared.mode.Addressing.Addressing, Instructions.jumps}
+use Rattle.laws.specs.{Core.Space, Core.of_instructions, Core.of_data, Core.IsWordAt, CoreLaws.IsPlace, Operands.segment_meant}
+use Rattle.aout_core.specs.declared.reloc.Kind.TheVariants as kinds
 
 -- what the machine makes of an operand word, by the address after the word, modulo 65,536
 abbrev pub machine_value : Addressing → ℕ → ℕ → ℕ

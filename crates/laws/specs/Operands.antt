@@ -5,28 +5,19 @@
 -- beyond the name's value, or beyond the address that the place has there. An instruction finds the same if the pc bit suits its mode:
 -- OperandWords goes by the mode. A call uses the address in the space of instructions, and an instruction that fetches or stores
 -- uses it in that of data.
-use Rattle.std.specs.Prelude.{◌≡◌, ◌≢◌, ℕ, ◌+◌, ◌*◌, ◌%◌, ◌<◌, Bool, true, false, cond, eqb, List}
-use Rattle.std.specs.Prelude.{[], ◌∷◌, ◌++◌, Option, Some, None, Ok, slice_get}
+use Rattle.std.specs.Prelude.{◌≡◌, ◌≢◌, ℕ, ◌+◌, ◌*◌, ◌%◌, ◌<◌, Bool, true, false, cond, eqb, List, [], ◌∷◌, ◌++◌, Option, Some, None, Ok}
+use Rattle.std.specs.Prelude.{slice_get}
 use Rattle.std.specs.List.{AllByRecursion}
-use Rattle.aout_core.specs.declared.symbol.Symbol.{Symbol}
-use Rattle.aout_core.specs.declared.symbol.Segment.{Segment}
-use Rattle.aout_core.specs.declared.symbol.Segment.TheVariants as segments
-use Rattle.aout_core.specs.declared.reloc.Reloc.{Reloc}
-use Rattle.aout_core.specs.declared.reloc.Kind.{Kind}
-use Rattle.aout_core.specs.declared.reloc.Kind.TheVariants as kinds
-use Rattle.aout_core.specs.Contents.{Contents}
-use Rattle.aout_core.specs.Words.{plus}
 use Rattle.aout_core.specs.WellFormed.{is_external, masked_type, segment_of, kind_of, is_pc_relative, symbol_number}
-use Rattle.link_session.specs.Starts.{size_of, own}
-use Rattle.link_session.specs.Sessions.{IsObject}
-use Rattle.link_session.specs.Cells.{segment_words, segment_relocs}
-use Rattle.tool_options.specs.declared.options.Keep.TheVariants.{Nothing}
-use Rattle.tool_options.specs.Choices.{Choices}
-use Rattle.link_out.specs.Results.{Outcome}
-use Rattle.link_out.specs.function.Link.{link}
+use Rattle.aout_core.specs.{declared.symbol.Symbol.Symbol, declared.symbol.Segment.Segment, declared.reloc.Reloc.Reloc}
+use Rattle.aout_core.specs.{declared.reloc.Kind.Kind, Contents.Contents, Words.plus}
+use Rattle.link_session.specs.{Starts.size_of, Starts.own, Sessions.IsObject, Cells.segment_words, Cells.segment_relocs}
+use Rattle.tool_options.specs.{declared.options.Keep.TheVariants.Nothing, Choices.Choices}
+use Rattle.link_out.specs.{Results.Outcome, function.Link.link}
 use Rattle.link_laws.specs.relation.Relocated.{move_in, entry_of}
-use Rattle.laws.specs.Core.{Space, has_segment, is_in, IsWordAt}
-use Rattle.laws.specs.CoreLaws.{space_of, IsPlace}
+use Rattle.laws.specs.{Core.Space, Core.has_segment, Core.is_in, Core.IsWordAt, CoreLaws.space_of, CoreLaws.IsPlace}
+use Rattle.aout_core.specs.declared.symbol.Segment.TheVariants as segments
+use Rattle.aout_core.specs.declared.reloc.Kind.TheVariants as kinds
 
 -- what a word at an address finds, modulo 65,536, if it has the pc bit or not
 abbrev pub operand : Bool → ℕ → ℕ → ℕ

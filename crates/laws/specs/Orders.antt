@@ -4,32 +4,19 @@
 -- reported, do not depend on the order of the objects; the places of objects and commons do. If no name is multiply defined, each
 -- name means the same in any order, so each word refers to the same thing. Two orders differ by exchanges, such as of two
 -- neighbours.
-use Rattle.std.specs.Prelude.{◌≡◌, ◌≢◌, ◌↔◌, ℕ, ◌≤◌, Bool, true, false, not, ◌&&◌, eqb, List, [], ◌∷◌, ◌++◌, map}
-use Rattle.std.specs.Prelude.{filter, length, sum_by, Some, Result, Ok, Err, slice_get, bytes_eq}
-use Rattle.std.specs.List.{AllByRecursion}
-use Rattle.std.specs.List.Sorted.{IsPermutation}
-use Rattle.aout_core.specs.declared.symbol.Symbol.{Symbol}
-use Rattle.aout_core.specs.declared.symbol.Segment.{Segment}
-use Rattle.aout_core.specs.declared.reloc.Reloc.{Reloc}
-use Rattle.aout_core.specs.declared.reloc.Kind.TheVariants.{External}
-use Rattle.aout_core.specs.Contents.{Contents}
+use Rattle.std.specs.Prelude.{◌≡◌, ◌≢◌, ◌↔◌, ℕ, ◌≤◌, Bool, true, false, not, ◌&&◌, eqb, List, [], ◌∷◌, ◌++◌, map, filter, length, sum_by}
+use Rattle.std.specs.Prelude.{Some, Result, Ok, Err, slice_get, bytes_eq}
+use Rattle.std.specs.{List.AllByRecursion, List.Sorted.IsPermutation}
 use Rattle.aout_core.specs.WellFormed.{is_external, masked_type, kind_of, symbol_number}
-use Rattle.link_session.specs.Labelled.{Labelled}
-use Rattle.link_session.specs.Edits.{Change, addition, added, answers}
-use Rattle.link_session.specs.Sessions.{IsObject}
-use Rattle.tool_options.specs.NameLists.{is_among}
-use Rattle.link_session.specs.Mentions.{mentions, externals}
-use Rattle.link_session.specs.Cells.{segment_words, segment_relocs}
-use Rattle.link_out.specs.declared.linked.LinkFault.{LinkFault}
-use Rattle.tool_options.specs.declared.options.Keep.TheVariants.{Nothing}
-use Rattle.tool_options.specs.Choices.{Choices}
-use Rattle.link_out.specs.function.Link.{Outcome, link}
-use Rattle.link_out.specs.Runs.{link_after}
-use Rattle.link_laws.specs.relation.NameStates.{IsWanted}
+use Rattle.aout_core.specs.{declared.symbol.Symbol.Symbol, declared.symbol.Segment.Segment, declared.reloc.Reloc.Reloc}
+use Rattle.aout_core.specs.{declared.reloc.Kind.TheVariants.External, Contents.Contents}
+use Rattle.link_session.specs.{Labelled.Labelled, Edits.Change, Edits.addition, Edits.added, Edits.answers, Sessions.IsObject}
+use Rattle.link_session.specs.{Mentions.mentions, Mentions.externals, Cells.segment_words, Cells.segment_relocs}
+use Rattle.tool_options.specs.{NameLists.is_among, declared.options.Keep.TheVariants.Nothing, Choices.Choices}
+use Rattle.link_out.specs.{declared.linked.LinkFault.LinkFault, function.Link.Outcome, function.Link.link, Runs.link_after}
 use Rattle.link_laws.specs.relation.Relocated.{entry_of, IsRelocated}
-use Rattle.link_laws.specs.relation.LinkedTable.{undefined_row}
-use Rattle.link_laws.specs.WordsAndNames.{IsDefined}
-use Rattle.link_laws.specs.CommonsAndLayouts.{IsCommon, HasSpace}
+use Rattle.link_laws.specs.{relation.NameStates.IsWanted, relation.LinkedTable.undefined_row, WordsAndNames.IsDefined}
+use Rattle.link_laws.specs.{CommonsAndLayouts.IsCommon, CommonsAndLayouts.HasSpace}
 
 -- the links of the same objects in two orders, by the same options
 pub record AreOrders (forced : List (List ℕ)) (os ps : List Contents) (o : Choices) (x y : Outcome) : Type 0 where

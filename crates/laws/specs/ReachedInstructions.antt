@@ -6,31 +6,20 @@
 -- pc bit suits its mode.
 use Rattle.std.specs.Prelude.{◌≡◌, ℕ, ◌+◌, ◌*◌, true, false, if◌then◌else◌, List, [], ◌∷◌, ◌++◌, drop, Option, Some, slice_get}
 use Rattle.std.specs.List.{AllByRecursion}
-use Rattle.aout_core.specs.declared.symbol.Symbol.{Symbol}
-use Rattle.aout_core.specs.declared.reloc.Reloc.{Reloc}
-use Rattle.aout_core.specs.declared.reloc.Kind.{Kind}
-use Rattle.aout_core.specs.declared.reloc.Kind.TheVariants as kinds
-use Rattle.aout_core.specs.Contents.{Contents, IsWord}
-use Rattle.aout_core.specs.WellFormed.{kind_of, is_pc_relative}
+use Rattle.aout_core.specs.{declared.symbol.Symbol.Symbol, declared.reloc.Reloc.Reloc, declared.reloc.Kind.Kind, Contents.Contents}
+use Rattle.aout_core.specs.{Contents.IsWord, WellFormed.kind_of, WellFormed.is_pc_relative}
 use Rattle.link_session.specs.Sessions.{IsObject}
 use Rattle.tool_options.specs.Choices.{Choices}
 use Rattle.link_out.specs.Results.{Outcome}
 use Rattle.link_laws.specs.relation.LinkedFrom.{IsLinkedFrom}
-use Rattle.instructions.specs.Modes.{counts_from_pc}
-use Rattle.instructions.specs.declared.operation.Operation.{Operation}
-use Rattle.instructions.specs.declared.mode.Addressing.{Addressing}
-use Rattle.instructions.specs.declared.operand.Operand.{Operand}
-use Rattle.instructions.specs.declared.instruction.Instruction.{Instruction}
-use Rattle.instructions.specs.Instructions.{instruction_of}
-use Rattle.instructions.specs.Relocated.{is_relocated}
-use Rattle.instructions.specs.Alike.{is_cut}
-use Rattle.suspicions.specs.declared.evidence.Evidence.{Evidence}
-use Rattle.suspicions.specs.declared.evidence.Evidence.TheVariants.{Distances}
-use Rattle.suspicions.specs.ReachedLaw.{IsReached}
-use Rattle.suspicions.specs.SureSuspicions.{sure_suspicions}
-use Rattle.laws.specs.Instructions.{KeepsLineAt}
-use Rattle.laws.specs.OperandWords.{machine_value}
+use Rattle.instructions.specs.{Modes.counts_from_pc, declared.operation.Operation.Operation, declared.mode.Addressing.Addressing}
+use Rattle.instructions.specs.{declared.operand.Operand.Operand, declared.instruction.Instruction.Instruction, Instructions.instruction_of}
+use Rattle.instructions.specs.{Relocated.is_relocated, Alike.is_cut}
+use Rattle.suspicions.specs.{declared.evidence.Evidence.Evidence, declared.evidence.Evidence.TheVariants.Distances, ReachedLaw.IsReached}
+use Rattle.suspicions.specs.{SureSuspicions.sure_suspicions}
 use Rattle.laws.specs.OperandPlaces.{addressing_of, kind_meant, HasOperand, IsOperand}
+use Rattle.laws.specs.{Instructions.KeepsLineAt, OperandWords.machine_value}
+use Rattle.aout_core.specs.declared.reloc.Kind.TheVariants as kinds
 
 -- what an operand word refers to: the kind of its relocation word. One that is not relocated is a distance within the text in modes 67 and
 -- 77, and else a number

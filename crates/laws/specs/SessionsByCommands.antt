@@ -6,28 +6,20 @@
 -- disk during the session, and files may change between the session and `ld`, but for those that are left.
 use Rattle.std.specs.Prelude.{◌≡◌, ◌≢◌, ◌⊎◌, ℕ, Bool, true, eqb, List, [], ◌∷◌, ◌++◌, map, Option, Some, None, codes, decimal}
 use Rattle.std.specs.List.{AllByRecursion}
-use Rattle.aout_core.specs.declared.file.ReadFault.TheVariants.{Device}
-use Rattle.aout_core.specs.Contents.{Contents}
-use Rattle.link_session.specs.Edits.{without_last}
-use Rattle.link_session.specs.Sessions.{nothing_kept}
-use Rattle.link_session.specs.Undo as undo
-use Rattle.link_out.specs.function.Reports.{line}
+use Rattle.aout_core.specs.{declared.file.ReadFault.TheVariants.Device, Contents.Contents}
+use Rattle.link_session.specs.{Edits.without_last, Sessions.nothing_kept}
+use Rattle.link_out.specs.{function.Reports.line, Inputs.bad_file}
 use Rattle.tool_options.specs.Choices.{Choices}
-use Rattle.surroundings.specs.Emits.{PutsUnless}
 use Rattle.surroundings.specs.Events.{Event, opened, stored, written, Opened, opens, paths_of}
-use Rattle.surroundings.specs.declared.office.Stored.{Stored}
-use Rattle.surroundings.specs.declared.office.Stored.TheVariants.{Kept}
+use Rattle.surroundings.specs.{Emits.PutsUnless, declared.office.Stored.Stored, declared.office.Stored.TheVariants.Kept}
 use Rattle.command_words.specs.declared.words.Call.TheVariants.{Session}
 use Rattle.command_words.specs.Scripts.{Asked, to_add, to_withdraw, to_link}
-use Rattle.v7tools.specs.CommandRuns.{AsksFor, Performs}
 use Rattle.v7tools.specs.FaultTexts.{cause_text, fault_line, no_memory}
-use Rattle.link_out.specs.Inputs.{bad_file}
-use Rattle.v7tools.specs.LineRuns.{LineRun}
 use Rattle.v7tools.specs.SessionRuns.{AreFirst, AreLines, Chains, answers_of, events_of, lines_asked, worst}
-use Rattle.v7tools.specs.declared.fault.CliFault.{CliFault}
+use Rattle.v7tools.specs.{CommandRuns.AsksFor, CommandRuns.Performs, LineRuns.LineRun, declared.fault.CliFault.CliFault}
+use Rattle.laws.specs.{Disks.Disk, Disks.IsOn, Disks.Run, Disks.EndsWell, Disks.Writes, StepsByCommands.AsksToLink}
+use Rattle.link_session.specs.Undo as undo
 use Rattle.v7tools.specs.declared.fault.CliFault.TheVariants as faults
-use Rattle.laws.specs.Disks.{Disk, IsOn, Run, EndsWell, Writes}
-use Rattle.laws.specs.StepsByCommands.{AsksToLink}
 
 -- ---- what is left
 

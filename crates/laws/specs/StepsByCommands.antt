@@ -4,14 +4,10 @@
 -- that the second does not force, and its objects define no name that is multiply defined among all.
 -- Two commands, the second of which opens what the first one stored, and one command that gives the same. Nothing is assumed of what
 -- else happens between the two, but that the file between them is left as it was. The objects are the same for the two and the one.
-use Rattle.std.specs.declared.alloc.Global.{Global}
 use Rattle.std.specs.Prelude.{◌≡◌, ℕ, true, false, List, [], ◌∷◌, ◌++◌, map, Option, Some, Ok, String, string_bytes, Vec}
-use Rattle.std.specs.List.{AllByRecursion}
-use Rattle.aout_core.specs.Contents.{Contents, IsSound}
-use Rattle.aout_core.specs.Decoding.{decode}
-use Rattle.aout_core.specs.Names.{IsName}
-use Rattle.tool_options.specs.declared.options.Keep.TheVariants.{Nothing}
-use Rattle.tool_options.specs.Choices.{Choices}
+use Rattle.std.specs.{declared.alloc.Global.Global, List.AllByRecursion}
+use Rattle.aout_core.specs.{Contents.Contents, Contents.IsSound, Decoding.decode, Names.IsName}
+use Rattle.tool_options.specs.{declared.options.Keep.TheVariants.Nothing, Choices.Choices}
 use Rattle.link_out.specs.laws.PartialLinks.{KeepsNoMore, IsPart, DefinesNoMultiple}
 use Rattle.command_words.specs.declared.words.Call.TheVariants.{Ld, Strip}
 use Rattle.v7tools.specs.CommandRuns.{AsksFor}

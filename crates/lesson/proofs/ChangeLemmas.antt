@@ -1,9 +1,8 @@
 -- Rows that differ, as far as a loop has come.
-use Rattle.std.proofs.Common.{◌≡◌, ℕ, ◌+◌, ◌≤◌, zero, suc, List, [], ◌∷◌, ◌++◌, length, drop}
-use Rattle.std.proofs.Common.{◌∙◌, ap, sym, refl, append-nil, append_assoc, arith}
+use Rattle.std.proofs.Common.{◌≡◌, ℕ, ◌+◌, ◌≤◌, zero, suc, List, [], ◌∷◌, ◌++◌, length, drop, ◌∙◌, ap, sym, refl, append-nil, append_assoc}
+use Rattle.std.proofs.Common.{arith}
 use Rattle.std.specs.List.{concat}
-use Rattle.lesson.specs.Rows.{row_at}
-use Rattle.lesson.specs.Steps.{changed_row, changed_rows}
+use Rattle.lesson.specs.{Rows.row_at, Steps.changed_row, Steps.changed_rows}
 
 only_before : (i : ℕ) (bs : List (List ℕ)) → changed_rows (drop i bs) [] ≡ changed_row (row_at bs i) [] ++ changed_rows (drop (suc i) bs) []
 only_before zero [] = refl

@@ -1,13 +1,9 @@
 -- The instructions of the objects, for each word of the merged text. (as(1); own choice)
-use Rattle.std.specs.Prelude.{ℕ, if◌then◌else◌, List, [], ◌∷◌}
-use Rattle.std.specs.List.{flat_map}
+use Rattle.std.specs.{Prelude.ℕ, Prelude.if◌then◌else◌, Prelude.List, Prelude.[], Prelude.◌∷◌, List.flat_map}
 use Rattle.aout_core.specs.Contents.{Contents}
-use Rattle.instructions.specs.declared.line.Line.TheVariants.{Decoded}
-use Rattle.instructions.specs.declared.unix.Decoder.TheVariants.{Pdp11}
-use Rattle.instructions.specs.declared.unix.UnixLine.{UnixLine}
-use Rattle.instructions.specs.declared.unix.UnixLine.TheVariants.{Machine}
-use Rattle.disassemblies.specs.Lines.{unix_line_in, line_text_in}
-use Rattle.disassemblies.specs.Starts.{starts, is_start}
+use Rattle.instructions.specs.{declared.line.Line.TheVariants.Decoded, declared.unix.Decoder.TheVariants.Pdp11}
+use Rattle.instructions.specs.{declared.unix.UnixLine.UnixLine, declared.unix.UnixLine.TheVariants.Machine}
+use Rattle.disassemblies.specs.{Lines.unix_line_in, Lines.line_text_in, Starts.starts, Starts.is_start}
 use Rattle.link_session.specs.Labelled.{Labelled}
 use Rattle.reports.specs.Items.{each}
 

@@ -1,13 +1,11 @@
 -- The place that a bound word refers to, as a step shows it after the word. (own choice)
 use Rattle.std.specs.Prelude.{ℕ, ◌*◌, ◌-◌, Bool, ◌&&◌, nat_lt, if◌then◌else◌, List, [], ◌++◌, length, codes}
 use Rattle.aout_core.specs.Addresses.{pc_target}
-use Rattle.link_session.specs.declared.cell.Cell.{Cell}
-use Rattle.link_session.specs.declared.cell.Target.{Target}
-use Rattle.link_session.specs.declared.cell.Target.TheVariants as targets
-use Rattle.link_session.specs.Image.{Image}
+use Rattle.link_session.specs.{declared.cell.Cell.Cell, declared.cell.Target.Target, Image.Image}
 use Rattle.texts.specs.Numbers.{octal, six_digits}
 use Rattle.lesson.specs.declared.places.Merged.{Merged}
 use Rattle.lesson.specs.declared.places.Merged.TheVariants.{Text, Data, Bss}
+use Rattle.link_session.specs.declared.cell.Target.TheVariants as targets
 
 -- the number of a place in its segment: the word's value, counted from the word after it if it is relative to the pc
 abbrev pub place_meant : ℕ → Bool → ℕ → ℕ

@@ -2,14 +2,9 @@
 --
 -- The line of a bound word has the place that it refers to, and a word of text that begins an instruction has this.
 use Rattle.std.specs.Prelude.{ℕ, List, [], ◌∷◌, ◌++◌, map, Option, Some, None, slice_get, codes}
-use Rattle.link_session.specs.declared.cell.Cell.{Cell}
-use Rattle.link_session.specs.declared.state.State.{State}
-use Rattle.link_session.specs.Image.{Image}
-use Rattle.link_session.specs.Undo.{Kept, image_of}
-use Rattle.reports.specs.Items.{each}
-use Rattle.reports.specs.StateLines.{bss_line, cell_row, external_line, multiple_line}
-use Rattle.lesson.specs.Instructions.{merged_instructions}
-use Rattle.lesson.specs.Meant.{place_text}
+use Rattle.link_session.specs.{declared.cell.Cell.Cell, declared.state.State.State, Image.Image, Undo.Kept, Undo.image_of}
+use Rattle.reports.specs.{Items.each, StateLines.bss_line, StateLines.cell_row, StateLines.external_line, StateLines.multiple_line}
+use Rattle.lesson.specs.{Instructions.merged_instructions, Meant.place_text}
 
 -- the row of this index; after the last one, an empty one
 abbrev pub row_in : Option (List ℕ) → List ℕ

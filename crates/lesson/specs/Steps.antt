@@ -4,12 +4,9 @@
 -- before, and one that went is not there any more. Marks are shown with the whole state alone: they remember what has a `-`.
 use Rattle.std.specs.Prelude.{ℕ, Bool, true, ◌&&◌, eqb, if◌then◌else◌, List, [], ◌∷◌, ◌++◌, Option, Some, None, codes, bytes_eq}
 use Rattle.std.specs.List.{concat}
-use Rattle.link_session.specs.Sessions.{newest}
-use Rattle.link_session.specs.Undo.{Kept, image_of}
-use Rattle.reports.specs.Items.{each}
-use Rattle.reports.specs.StateLines.{mark_line, nothing_line}
-use Rattle.lesson.specs.declared.steps.Shown.{Shown}
-use Rattle.lesson.specs.Rows.{Rows, rows_of}
+use Rattle.link_session.specs.{Sessions.newest, Undo.Kept, Undo.image_of}
+use Rattle.reports.specs.{Items.each, StateLines.mark_line, StateLines.nothing_line}
+use Rattle.lesson.specs.{declared.steps.Shown.Shown, Rows.Rows, Rows.rows_of}
 
 -- all rows, kind after kind
 abbrev pub all_rows : Rows → List ℕ

@@ -3,8 +3,8 @@
 -- The walk is at a list. The object that comes next is the first one that may come: one that is not in the list, and after the one that
 -- was refused or withdrawn last. Where there is none, the last one of the list is withdrawn. Of more than five objects only the one after
 -- those of the list may come.
-use Rattle.std.specs.Prelude.{◌≡◌, ℕ, zero, suc, Bool, true, ◌&&◌, not, nat_eq, nat_lt, if◌then◌else◌}
-use Rattle.std.specs.Prelude.{List, [], ◌∷◌, ◌++◌, length, Option, Some, None}
+use Rattle.std.specs.Prelude.{◌≡◌, ℕ, zero, suc, Bool, true, ◌&&◌, not, nat_eq, nat_lt, if◌then◌else◌, List, [], ◌∷◌, ◌++◌, length, Option}
+use Rattle.std.specs.Prelude.{Some, None}
 use Rattle.std.specs.List.{list_any}
 
 -- how many objects there are, those of the list, and the one that was refused or withdrawn since an object was added last

@@ -3,15 +3,11 @@ use Rattle.std.proofs.Common.{◌≡◌, ℕ, ◌+◌, ◌<◌, List, length, dr
 use Rattle.std.proofs.lemmas.List.{at_drop_more, drop_more, length-map}
 use Rattle.std.specs.Prelude.{◌⊎◌, IsOk, IsOkAnd}
 use Rattle.aout_core.specs.Contents.{Contents}
-use Rattle.link_session.specs.Labelled.{Labelled, objects}
-use Rattle.link_session.specs.Undo.{Kept}
+use Rattle.link_session.specs.{Labelled.Labelled, Labelled.objects, Undo.Kept}
 use Rattle.link_out.specs.Steps.{and_then}
-use Rattle.library_calls.specs.declared.cause.Cause.{Cause}
-use Rattle.library_calls.specs.declared.cause.Refusal.{Refusal}
-use Rattle.library_calls.specs.declared.parts.ObjectBytes.{ObjectBytes}
-use Rattle.library_calls.specs.Causes.{at}
-use Rattle.library_calls.specs.LinkAnswers.{each_of, with_each_of}
-use Rattle.library_calls.specs.MemoryWanted.{HasBody, MayRunOutInEachOf}
+use Rattle.library_calls.specs.{declared.cause.Cause.Cause, declared.cause.Refusal.Refusal, declared.parts.ObjectBytes.ObjectBytes}
+use Rattle.library_calls.specs.{Causes.at, LinkAnswers.each_of, LinkAnswers.with_each_of, MemoryWanted.HasBody}
+use Rattle.library_calls.specs.{MemoryWanted.MayRunOutInEachOf}
 
 module _ (with_one : List Contents → List ℕ → Result (List Contents) Cause) (parts : List ObjectBytes) (i : ℕ)
     (d : ObjectBytes) (os : List Contents) where

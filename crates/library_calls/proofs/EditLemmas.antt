@@ -1,26 +1,18 @@
 -- Edits read from their letters, one by one, and what a run of them gives.
-use Rattle.std.proofs.Common.{◌≡◌, ◌≢◌, ℕ, ◌+◌, ◌<◌, ◌≤◌, Bool, zero, suc, List, [], ◌∷◌, ◌++◌, length, drop}
-use Rattle.std.proofs.Common.{get_or, add-one, map, eqb, if◌then◌else◌, IfOk, Result, Ok, Err, refl, sym}
-use Rattle.std.proofs.Common.{ap, ◌∙◌, subst, inl, inr, arith, drop-cons}
-use Rattle.std.specs.Prelude.{IfErr, IsOk}
+use Rattle.std.proofs.Common.{◌≡◌, ◌≢◌, ℕ, ◌+◌, ◌<◌, ◌≤◌, Bool, zero, suc, List, [], ◌∷◌, ◌++◌, length, drop, get_or, add-one, map, eqb}
+use Rattle.std.proofs.Common.{if◌then◌else◌, IfOk, Result, Ok, Err, refl, sym, ap, ◌∙◌, subst, inl, inr, arith, drop-cons}
 use Rattle.std.proofs.lemmas.Bool.{ne_eqb}
+use Rattle.std.specs.Prelude.{IfErr, IsOk}
 use Rattle.aout_core.specs.Refusals.{refused}
 use Rattle.link_session.specs.Edits.{Change, answers, answers_from, survivors, survivors_from}
-use Rattle.link_session.specs.Labelled.{objects}
-use Rattle.link_session.specs.Sessions.{nothing_kept}
-use Rattle.link_session.specs.Undo.{Kept}
+use Rattle.link_session.specs.{Labelled.objects, Sessions.nothing_kept, Undo.Kept}
 use Rattle.tool_options.specs.Choices.{Choices}
-use Rattle.link_out.specs.function.Link.{link}
-use Rattle.link_out.specs.Steps.{and_then}
-use Rattle.library_calls.specs.declared.cause.Cause.{Cause}
-use Rattle.library_calls.specs.declared.cause.Cause.TheVariants.{Memory}
-use Rattle.library_calls.specs.declared.cause.Refusal.{Refusal}
-use Rattle.library_calls.specs.declared.run_call.RunResult.{RunResult}
-use Rattle.library_calls.specs.Causes.{at}
+use Rattle.link_out.specs.{function.Link.link, Steps.and_then}
 use Rattle.library_calls.specs.MemoryWanted.{MayRunOutForEdit, MayRunOutInEdits, MayRunOutInRun}
 use Rattle.library_calls.specs.RunAnswers.{changes_run, objects_run, results_of}
 use Rattle.library_calls.specs.SessionAnswers.{change_in, first_part, parts_after, reply_number, session_status, with_edit, with_edits}
-use Rattle.library_calls.specs.internal.Edited.{AreEdited}
+use Rattle.library_calls.specs.{declared.cause.Cause.Cause, declared.cause.Cause.TheVariants.Memory, declared.cause.Refusal.Refusal}
+use Rattle.library_calls.specs.{declared.run_call.RunResult.RunResult, Causes.at, internal.Edited.AreEdited}
 
 -- the letter of this number, and those after it
 at_letter : (number : ℕ) (letters : List ℕ) (letter : ℕ) → number < length letters → letter ≡ get_or letters number 0 →

@@ -1,22 +1,15 @@
 -- The file that bytes begin with, and its lines.
-use Rattle.std.proofs.Common.{◌≡◌, ℕ, ◌<◌, Bool, true, false, if◌then◌else◌, nat_lt, List, [], ◌∷◌, ◌++◌, append-nil}
-use Rattle.std.proofs.Common.{Result, Ok, Err, refl, ap, sym, ◌∙◌}
+use Rattle.std.proofs.Common.{◌≡◌, ℕ, ◌<◌, Bool, true, false, if◌then◌else◌, nat_lt, List, [], ◌∷◌, ◌++◌, append-nil, Result, Ok, Err, refl}
+use Rattle.std.proofs.Common.{ap, sym, ◌∙◌}
 use Rattle.std.proofs.lemmas.Bool.{false≢true}
-use Rattle.std.specs.Prelude.{IsOk}
-use Rattle.std.specs.List.{flat_map}
-use Rattle.aout_core.specs.Contents.{Contents}
-use Rattle.aout_core.specs.Decoding.{decode, header_in}
-use Rattle.aout_core.specs.Encoding.{file_length}
-use Rattle.aout_core.specs.declared.file.ReadFault.{ReadFault}
+use Rattle.std.specs.{Prelude.IsOk, List.flat_map}
+use Rattle.aout_core.specs.{Contents.Contents, Decoding.decode, Decoding.header_in, Encoding.file_length, declared.file.ReadFault.ReadFault}
 use Rattle.link_out.specs.Steps.{and_then, refused_as}
-use Rattle.symtools.specs.NmLists.{nm_text, shown}
-use Rattle.symtools.specs.SizeLines.{size_line, size_text}
-use Rattle.symtools.specs.SymbolLines.{symbol_line}
+use Rattle.symtools.specs.{NmLists.nm_text, NmLists.shown, SizeLines.size_line, SizeLines.size_text, SymbolLines.symbol_line}
 use Rattle.tool_options.specs.declared.nm_options.NmOptions.{NmOptions}
-use Rattle.library_calls.specs.declared.cause.Cause.{Cause}
-use Rattle.library_calls.specs.declared.cause.Cause.TheVariants.{BadFile, NoOption}
 use Rattle.library_calls.specs.FileAnswers.{file_in, names_in, nm_options_in, nm_options_of, sizes_in}
-use Rattle.library_calls.specs.MemoryWanted.{HasBody}
+use Rattle.library_calls.specs.{declared.cause.Cause.Cause, declared.cause.Cause.TheVariants.BadFile}
+use Rattle.library_calls.specs.{declared.cause.Cause.TheVariants.NoOption, MemoryWanted.HasBody}
 
 is_whole : (r : Result Contents ReadFault) → IsOk r → IsOk (refused_as BadFile r)
 is_whole (Ok c) h = refl

@@ -1,9 +1,8 @@
 -- Forced names, taken one by one.
 use Rattle.std.proofs.Common.{◌≡◌, ℕ, ◌+◌, ◌-◌, ◌<◌, suc, true, cond, List, take, drop, Result, Err, sym, ap, ◌∙◌, arith}
 use Rattle.tool_options.specs.ForcedNames.{takes, with_name}
-use Rattle.library_calls.specs.declared.cause.Cause.TheVariants.{ManyNames}
-use Rattle.library_calls.specs.declared.cause.Refusal.{Refusal}
 use Rattle.library_calls.specs.LinkRequests.{name_of, with_names}
+use Rattle.library_calls.specs.{declared.cause.Cause.TheVariants.ManyNames, declared.cause.Refusal.Refusal}
 
 one_step : (n i : ℕ) → i < n → n - i ≡ suc (n - (i + 1))
 one_step n i h = omega arith

@@ -1,34 +1,25 @@
 -- No refusal of a conversion has the number of no memory.
-use Rattle.std.proofs.Common.{◌≡◌, ℕ, ◌+◌, ◌/◌, ◌%◌, Bool, true, false, if◌then◌else◌, nat_lt, nat_le, ◌&&◌, ◌||◌, not}
-use Rattle.std.proofs.Common.{List, [], ◌∷◌, take, length, Option, Some, None, Result, Ok, Err, refl}
+use Rattle.std.proofs.Common.{◌≡◌, ℕ, ◌+◌, ◌/◌, ◌%◌, Bool, true, false, if◌then◌else◌, nat_lt, nat_le, ◌&&◌, ◌||◌, not, List, [], ◌∷◌, take}
+use Rattle.std.proofs.Common.{length, Option, Some, None, Result, Ok, Err, refl}
 use Rattle.std.specs.Prelude.{◌==◌, slice_get}
-use Rattle.aout_core.specs.Contents.{Contents}
-use Rattle.aout_core.specs.Decoding.{header_in}
-use Rattle.aout_core.specs.Encoding.{encoding, file_length}
-use Rattle.aout_core.specs.WellFormed.{first_object_fault}
-use Rattle.aout_core.specs.declared.header.Header.{Header}
-use Rattle.aout_core.specs.declared.object.ObjectFault.{ObjectFault}
-use Rattle.aout_core.specs.declared.object.ObjectFault.TheVariants as faults
+use Rattle.aout_core.specs.{Contents.Contents, Decoding.header_in, Encoding.encoding, Encoding.file_length, WellFormed.first_object_fault}
+use Rattle.aout_core.specs.{declared.header.Header.Header, declared.object.ObjectFault.ObjectFault}
 use Rattle.gnu_objects.specs.Converted.{contents_with, converted, converted_with, object_of, object_unless, unless}
 use Rattle.gnu_objects.specs.GnuForm.{is_stab, long_at, name_at, relocation_of, strings_of, symbols_of}
-use Rattle.gnu_objects.specs.GnuRefusals.{alike_at, alike_refusal, count_refusal, dropped_refusal, first_alike}
-use Rattle.gnu_objects.specs.GnuRefusals.{first_bad_symbol, first_dropped_word, header_refusal, linked_refusal}
-use Rattle.gnu_objects.specs.GnuRefusals.{refused_first, size_refusal, strings_refusal, symbol_refusal, table_refusal}
-use Rattle.gnu_objects.specs.GnuRefusals.{word_refusal}
+use Rattle.gnu_objects.specs.GnuRefusals.{alike_at, alike_refusal, count_refusal, dropped_refusal, first_alike, first_bad_symbol}
+use Rattle.gnu_objects.specs.GnuRefusals.{first_dropped_word, header_refusal, linked_refusal, refused_first, size_refusal, strings_refusal}
+use Rattle.gnu_objects.specs.GnuRefusals.{symbol_refusal, table_refusal, word_refusal}
 use Rattle.gnu_objects.specs.Staying.{alike_with, count, counts, refers, staying}
-use Rattle.gnu_objects.specs.declared.options.Options.{Options}
-use Rattle.gnu_objects.specs.declared.refusal.Refusal as gnu
-use Rattle.gnu_objects.specs.declared.refusal.Refusal.TheVariants.{ShortHeader, BadMagic, OddSize, Truncated}
-use Rattle.gnu_objects.specs.declared.refusal.Refusal.TheVariants.{BadStrings, Overlay, BadPlace, Stab, Description}
-use Rattle.gnu_objects.specs.declared.refusal.Refusal.TheVariants.{Linked, TooManySymbols, StabWord, LocalWord}
-use Rattle.gnu_objects.specs.declared.refusal.Size.TheVariants as sizes
-use Rattle.gnu_objects.specs.declared.symbols.GnuSymbol.{GnuSymbol}
+use Rattle.gnu_objects.specs.declared.refusal.Refusal.TheVariants.{ShortHeader, BadMagic, OddSize, Truncated, BadStrings, Overlay, BadPlace}
+use Rattle.gnu_objects.specs.declared.refusal.Refusal.TheVariants.{Stab, Description, Linked, TooManySymbols, StabWord, LocalWord}
+use Rattle.gnu_objects.specs.{declared.options.Options.Options, declared.symbols.GnuSymbol.GnuSymbol}
 use Rattle.link_out.specs.Steps.{and_then, refused_as}
-use Rattle.library_calls.specs.Causes.{at, gnu_number}
 use Rattle.library_calls.specs.GnuAnswers.{conversion_in, conversion_of, converted_in, refused_in}
-use Rattle.library_calls.specs.declared.cause.Cause.TheVariants.{NoOption}
-use Rattle.library_calls.specs.declared.cause.Refusal.{Refusal}
+use Rattle.library_calls.specs.{Causes.at, Causes.gnu_number, declared.cause.Cause.TheVariants.NoOption, declared.cause.Refusal.Refusal}
 use Rattle.library_calls.proofs.NumberLemmas.{CauseIsNotMemory, IsNotMemory, is_not_memory_at, is_not_memory_then, other}
+use Rattle.aout_core.specs.declared.object.ObjectFault.TheVariants as faults
+use Rattle.gnu_objects.specs.declared.refusal.Refusal as gnu
+use Rattle.gnu_objects.specs.declared.refusal.Size.TheVariants as sizes
 
 abbrev MaybeOther : Option gnu.Refusal → Type 0
 MaybeOther None = Unit {0}

@@ -1,14 +1,11 @@
 -- The file that a listing describes, step by step.
 use Rattle.std.proofs.Common.{◌≡◌, ℕ, List, Result, Ok, Err, inl, inr, refl, sym, ap, subst}
 use Rattle.std.specs.Prelude.{IsOk}
-use Rattle.aout_core.specs.Contents.{Contents}
-use Rattle.aout_core.specs.Encoding.{encoding}
+use Rattle.aout_core.specs.{Contents.Contents, Encoding.encoding}
 use Rattle.link_out.specs.Steps.{and_then, refused_as}
-use Rattle.listings.specs.MemoryWanted.{ListingMayRunOut}
-use Rattle.listings.specs.Reading.{read}
-use Rattle.library_calls.specs.Causes.{mistake_of}
+use Rattle.listings.specs.{MemoryWanted.ListingMayRunOut, Reading.read}
 use Rattle.library_calls.specs.ListingAnswers.{DescribedMayRunOut, described_in}
-use Rattle.library_calls.specs.declared.cause.Refusal.{Refusal}
+use Rattle.library_calls.specs.{Causes.mistake_of, declared.cause.Refusal.Refusal}
 
 abbrev encoded : Result Contents Refusal → Result (List ℕ) Refusal
 encoded r = and_then r (λ c. Ok (encoding c))

@@ -4,14 +4,10 @@ use Rattle.std.proofs.lemmas.List.{length-append, map-append}
 use Rattle.aout_core.specs.Contents.{Contents}
 use Rattle.link_session.specs.Labelled.{Labelled, objects}
 use Rattle.link_out.specs.Steps.{and_then}
-use Rattle.link_maps.specs.declared.members.Objects.{Objects}
-use Rattle.link_maps.specs.Members.{all_of}
-use Rattle.link_maps.specs.Taking.{split_of, with_object}
+use Rattle.link_maps.specs.{declared.members.Objects.Objects, Members.all_of, Taking.split_of, Taking.with_object}
 use Rattle.link_maps.proofs.TakingLemmas.{all_more, split_more}
-use Rattle.library_calls.specs.declared.cause.Cause.{Cause}
-use Rattle.library_calls.specs.declared.parts.ObjectBytes.{ObjectBytes}
-use Rattle.library_calls.specs.FileAnswers.{object_in}
 use Rattle.library_calls.specs.MapAnswers.{AreTaken, with_read}
+use Rattle.library_calls.specs.{declared.cause.Cause.Cause, declared.parts.ObjectBytes.ObjectBytes, FileAnswers.object_in}
 
 -- with one more object, whether it is kept or left
 module _ (old new : Objects) (e : Labelled) (taken : split_of new ≡ with_object old.session.forced (split_of old) e) where

@@ -2,23 +2,13 @@
 use Rattle.std.proofs.Common.{◌≡◌, ℕ, List, [], Result, Ok, Err, refl, sym, ap, ◌∙◌, subst, inl, inr}
 use Rattle.std.specs.Prelude.{IfErr, IsOk, IsOkAnd}
 use Rattle.aout_core.specs.Refusals.{refused}
-use Rattle.link_session.specs.Edits.{Change}
-use Rattle.link_session.specs.Labelled.{objects}
-use Rattle.link_session.specs.Sessions.{nothing_kept}
-use Rattle.link_session.specs.Undo.{Kept}
+use Rattle.link_session.specs.{Edits.Change, Labelled.objects, Sessions.nothing_kept, Undo.Kept}
 use Rattle.tool_options.specs.Choices.{Choices}
-use Rattle.link_out.specs.declared.linked.LinkFault.{LinkFault}
-use Rattle.link_out.specs.function.Link.{link}
-use Rattle.link_out.specs.Results.{Outcome}
-use Rattle.link_out.specs.Steps.{and_then, refused_as}
-use Rattle.library_calls.specs.declared.cause.Cause.{Cause}
-use Rattle.library_calls.specs.declared.cause.Cause.TheVariants.{Memory, NotLinked}
-use Rattle.library_calls.specs.declared.cause.Refusal.{Refusal}
-use Rattle.library_calls.specs.Causes.{at}
-use Rattle.library_calls.specs.LinkAnswers.{with_each}
-use Rattle.library_calls.specs.LinkRequests.{choices_in, forced_in}
+use Rattle.link_out.specs.{declared.linked.LinkFault.LinkFault, function.Link.link, Results.Outcome, Steps.and_then, Steps.refused_as}
 use Rattle.library_calls.specs.MemoryWanted.{MayRunOutInLink, MayRunOutInRun, MayRunOutInSession, SessionMayRunOut}
-use Rattle.library_calls.specs.SessionAnswers.{changes_in}
+use Rattle.library_calls.specs.{declared.cause.Cause.Cause, declared.cause.Cause.TheVariants.Memory}
+use Rattle.library_calls.specs.{declared.cause.Cause.TheVariants.NotLinked, declared.cause.Refusal.Refusal, Causes.at}
+use Rattle.library_calls.specs.{LinkAnswers.with_each, LinkRequests.choices_in, LinkRequests.forced_in, SessionAnswers.changes_in}
 
 is_linked : (r : Result Outcome LinkFault) → IsOk r → IsOk (at 0 (refused_as NotLinked r))
 is_linked (Ok x) h = refl

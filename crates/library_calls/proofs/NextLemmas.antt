@@ -1,9 +1,8 @@
 -- The next of the parts, and those that an edit leaves.
 use Rattle.std.proofs.Common.{◌≡◌, ℕ, List, [], ◌∷◌, length, drop, eqb, if◌then◌else◌, Option, Some, None, slice_get, refl, sym, ap, ◌∙◌}
 use Rattle.std.proofs.lemmas.Bool.{ne_eqb}
-use Rattle.library_calls.specs.declared.parts.ObjectBytes.{ObjectBytes}
-use Rattle.library_calls.specs.LinkAnswers.{each_of}
 use Rattle.library_calls.specs.SessionAnswers.{first_part, parts_after}
+use Rattle.library_calls.specs.{declared.parts.ObjectBytes.ObjectBytes, LinkAnswers.each_of}
 
 abbrev bytes_of : Option ObjectBytes → List ℕ
 bytes_of None = []

@@ -1,44 +1,30 @@
 -- No refusal of the definitions has the number of no memory.
-use Rattle.std.proofs.Common.{◌≡◌, ℕ, zero, suc, ◌+◌, Bool, true, false, cond, if◌then◌else◌, nat_lt}
-use Rattle.std.proofs.Common.{eqb, not, List, [], ◌∷◌, ◌++◌, length, take, drop, ◌/◌, ◌%◌}
-use Rattle.std.proofs.Common.{Option, Some, None, Result, Ok, Err, refl, ap}
+use Rattle.std.proofs.Common.{◌≡◌, ℕ, zero, suc, ◌+◌, Bool, true, false, cond, if◌then◌else◌, nat_lt, eqb, not, List, [], ◌∷◌, ◌++◌, length}
+use Rattle.std.proofs.Common.{take, drop, ◌/◌, ◌%◌, Option, Some, None, Result, Ok, Err, refl, ap}
 use Rattle.std.specs.Prelude.{IfErr}
-use Rattle.aout_core.specs.declared.header.Header.{Header}
-use Rattle.aout_core.specs.declared.object.ObjectFault.{ObjectFault}
-use Rattle.aout_core.specs.declared.object.ObjectFault.TheVariants as faults
-use Rattle.aout_core.specs.declared.file.ReadFault.TheVariants as reads
-use Rattle.aout_core.specs.Contents.{Contents, is_magic, has_whole_sizes}
-use Rattle.aout_core.specs.Decoding.{contents_in, header_in}
-use Rattle.aout_core.specs.Encoding.{encoding, file_length}
-use Rattle.aout_core.specs.WellFormed.{first_object_fault}
+use Rattle.aout_core.specs.{declared.header.Header.Header, declared.object.ObjectFault.ObjectFault, Contents.Contents, Contents.is_magic}
+use Rattle.aout_core.specs.{Contents.has_whole_sizes, Decoding.contents_in, Decoding.header_in, Encoding.encoding, Encoding.file_length}
+use Rattle.aout_core.specs.{WellFormed.first_object_fault, Strip.stripped}
 use Rattle.instructions.specs.declared.unix.Decoder.TheVariants.{Pdp11}
 use Rattle.link_out.specs.Steps.{and_then, refused_as, unless}
-use Rattle.library_calls.specs.declared.cause.Cause.{Cause}
-use Rattle.library_calls.specs.declared.cause.Cause.TheVariants.{NoOption, CutNames, ManyNames}
-use Rattle.library_calls.specs.declared.cause.Cause.TheVariants.{TooLong, NoEdit, BadFile, BadObject}
-use Rattle.library_calls.specs.declared.cause.LongPart.TheVariants as long
-use Rattle.library_calls.specs.declared.cause.Refusal.{Refusal}
-use Rattle.library_calls.specs.Causes.{at, mistake_of, number_of, reason_number}
-use Rattle.tool_options.specs.ForcedNames.{takes, with_name}
-use Rattle.link_session.specs.Edits.{Change, addition, withdrawal}
-use Rattle.link_session.specs.Labelled.{objects}
-use Rattle.link_session.specs.Limits.{refusal}
-use Rattle.aout_core.specs.Strip.{stripped}
-use Rattle.symtools.specs.NmLists.{nm_text}
-use Rattle.symtools.specs.SizeLines.{size_text}
-use Rattle.disassemblies.specs.Columns.{disassembly}
-use Rattle.listings.specs.Reading.{read}
-use Rattle.listings.specs.declared.fault.Fault.{Fault}
-use Rattle.listings.specs.declared.fault.Reason.{Reason}
-use Rattle.listings.specs.declared.fault.Reason.TheVariants as reasons
-use Rattle.library_calls.specs.FileAnswers.{checked_in, disassembled_in, file_in, names_in, nm_options_in}
-use Rattle.library_calls.specs.FileAnswers.{nm_options_of, object_in, object_of, sizes_in, stripped_in}
-use Rattle.library_calls.specs.ListingAnswers.{described_in, listed, listed_in}
-use Rattle.library_calls.specs.LinkRequests.{forced_in, name_of, with_names}
+use Rattle.library_calls.specs.declared.cause.Cause.TheVariants.{NoOption, CutNames, ManyNames, TooLong, NoEdit, BadFile, BadObject}
+use Rattle.library_calls.specs.FileAnswers.{checked_in, disassembled_in, file_in, names_in, nm_options_in, nm_options_of, object_in}
+use Rattle.library_calls.specs.FileAnswers.{object_of, sizes_in, stripped_in}
 use Rattle.library_calls.specs.ObjectParts.{Pieces, contents_for, file_for, header_for, header_of, made_of, parts_in, pieces_of, whole_in}
 use Rattle.library_calls.specs.SessionAnswers.{change_in, changes_in, first_part, parts_after, with_edit, with_edits}
-use Rattle.library_calls.specs.declared.state_call.Form.{Form}
-use Rattle.library_calls.specs.StateAnswers.{Asked, asked_in, form_in}
+use Rattle.library_calls.specs.{declared.cause.Cause.Cause, declared.cause.Refusal.Refusal, Causes.at, Causes.mistake_of, Causes.number_of}
+use Rattle.library_calls.specs.{Causes.reason_number, ListingAnswers.described_in, ListingAnswers.listed, ListingAnswers.listed_in}
+use Rattle.library_calls.specs.{LinkRequests.forced_in, LinkRequests.name_of, LinkRequests.with_names, declared.state_call.Form.Form}
+use Rattle.library_calls.specs.{StateAnswers.Asked, StateAnswers.asked_in, StateAnswers.form_in}
+use Rattle.tool_options.specs.ForcedNames.{takes, with_name}
+use Rattle.link_session.specs.{Edits.Change, Edits.addition, Edits.withdrawal, Labelled.objects, Limits.refusal}
+use Rattle.symtools.specs.{NmLists.nm_text, SizeLines.size_text}
+use Rattle.disassemblies.specs.Columns.{disassembly}
+use Rattle.listings.specs.{Reading.read, declared.fault.Fault.Fault, declared.fault.Reason.Reason}
+use Rattle.aout_core.specs.declared.object.ObjectFault.TheVariants as faults
+use Rattle.aout_core.specs.declared.file.ReadFault.TheVariants as reads
+use Rattle.library_calls.specs.declared.cause.LongPart.TheVariants as long
+use Rattle.listings.specs.declared.fault.Reason.TheVariants as reasons
 
 -- its number is another
 abbrev pub CauseIsNotMemory : {A : Type 0} → Result A Cause → Type 0

@@ -1,8 +1,7 @@
 -- The records of findings, one finding after another.
 use Rattle.std.proofs.Common.{◌≡◌, ℕ, ◌+◌, List, [], ◌∷◌, ◌++◌, length, ap, ◌∙◌, append_assoc, length-append}
 use Rattle.findings.specs.Found.{Found}
-use Rattle.library_calls.specs.RemarkAnswers.{records_from, texts_of}
-use Rattle.library_calls.specs.declared.remarks_call.RemarkRecord.{RemarkRecord}
+use Rattle.library_calls.specs.{RemarkAnswers.records_from, RemarkAnswers.texts_of, declared.remarks_call.RemarkRecord.RemarkRecord}
 
 -- the text of one more
 pub text_put : (old new : List ℕ) (f : Found) (fs all : List Found) → new ≡ old ++ f.text →

@@ -1,27 +1,19 @@
 -- Edits that are made one by one, and what a session shows after them.
-use Rattle.std.proofs.Common.{◌≡◌, ◌≢◌, ℕ, Result, Ok, List, [], ◌∷◌, ◌++◌, map, length, append_assoc}
-use Rattle.std.proofs.Common.{append-nil, arith, refl, sym, ap, ◌∙◌, subst, Option, Some, None, String, string_bytes}
+use Rattle.std.proofs.Common.{◌≡◌, ◌≢◌, ℕ, Result, Ok, List, [], ◌∷◌, ◌++◌, map, length, append_assoc, append-nil, arith, refl, sym, ap}
+use Rattle.std.proofs.Common.{◌∙◌, subst, Option, Some, None, String, string_bytes}
 use Rattle.std.specs.declared.alloc.Global.{Global}
-use Rattle.aout_core.specs.Refusals.{refused}
-use Rattle.aout_core.specs.Contents.{Contents}
-use Rattle.link_session.specs.declared.entry.AddFault.{AddFault}
-use Rattle.link_session.specs.declared.entry.AddFault.TheVariants.{Memory}
+use Rattle.aout_core.specs.{Refusals.refused, Contents.Contents}
 use Rattle.link_session.specs.Edits.{Change, addition, withdrawal, answer_by, answers_from, kept_unless, last_of, survivors_from}
 use Rattle.link_session.specs.Edits.{withdrawn_answer, without_last}
-use Rattle.link_session.specs.Labelled.{Labelled, objects}
-use Rattle.link_session.specs.Limits.{refusal}
 use Rattle.link_session.specs.Sessions.{Adds, IsCause, Withdraws, labelled}
-use Rattle.link_session.specs.Undo.{Kept, IsJournal}
+use Rattle.link_session.specs.{declared.entry.AddFault.AddFault, declared.entry.AddFault.TheVariants.Memory, Labelled.Labelled}
+use Rattle.link_session.specs.{Labelled.objects, Limits.refusal, Undo.Kept, Undo.IsJournal}
 use Rattle.link_out.specs.Steps.{and_then}
-use Rattle.library_calls.specs.declared.state_call.Form.{Form}
-use Rattle.library_calls.specs.declared.edits.Edit.{Edit}
-use Rattle.library_calls.specs.declared.cause.Cause.TheVariants.{NotAdded}
-use Rattle.library_calls.specs.declared.cause.Refusal.{Refusal}
-use Rattle.library_calls.specs.Causes.{at, number_of}
-use Rattle.library_calls.specs.LinkRequests.{forced_in}
 use Rattle.library_calls.specs.SessionAnswers.{changes_in, reply_number, session_status}
 use Rattle.library_calls.specs.StateAnswers.{Asked, IsShown, Shows, StateOutput, asked_in, form_in, encoded_in}
 use Rattle.library_calls.specs.internal.Edited.{AreEdited, IsEdited, ShowsFrom, change_of}
+use Rattle.library_calls.specs.{declared.state_call.Form.Form, declared.edits.Edit.Edit, declared.cause.Cause.TheVariants.NotAdded}
+use Rattle.library_calls.specs.{declared.cause.Refusal.Refusal, Causes.at, Causes.number_of, LinkRequests.forced_in}
 
 -- an object was added
 pub added_edit : (old new : Kept) (label : String Global) (o : Contents) → refusal old.forced (objects old.entries) o ≡ None →

@@ -2,27 +2,23 @@
 --
 -- That memory ran out is one cause, of a request that was refused. A device is never read, so its fault never comes.
 use Rattle.std.specs.Prelude.{ℕ, nat_lt, if◌then◌else◌, Result}
-use Rattle.aout_core.specs.declared.file.ReadFault.TheVariants as reads
 use Rattle.aout_core.specs.declared.object.ObjectFault.{ObjectFault}
-use Rattle.aout_core.specs.declared.object.ObjectFault.TheVariants as objects
-use Rattle.gnu_objects.specs.declared.refusal.Refusal as gnu
-use Rattle.gnu_objects.specs.declared.refusal.Refusal.TheVariants as refusals
 use Rattle.gnu_objects.specs.declared.refusal.Size.{Size}
 use Rattle.gnu_objects.specs.declared.refusal.Size.TheVariants.{TextSize, DataSize, BssSize, SymbolSize}
 use Rattle.link_session.specs.declared.entry.AddFault.{AddFault}
+use Rattle.link_out.specs.{declared.linked.LinkFault.LinkFault, Steps.refused_as}
+use Rattle.listings.specs.{declared.fault.Fault.Fault, declared.fault.Reason.Reason}
+use Rattle.library_calls.specs.declared.cause.Cause.TheVariants.{NoOption, Excluded, LongName, CutNames, ManyNames, TooLong, NoEdit}
+use Rattle.library_calls.specs.declared.cause.Cause.TheVariants.{BadFile, BadObject, NotAdded, NotLinked, BadListing, NotConverted, Memory}
+use Rattle.library_calls.specs.{declared.cause.Cause.Cause, declared.cause.Refusal.Refusal}
+use Rattle.aout_core.specs.declared.file.ReadFault.TheVariants as reads
+use Rattle.aout_core.specs.declared.object.ObjectFault.TheVariants as objects
+use Rattle.gnu_objects.specs.declared.refusal.Refusal as gnu
+use Rattle.gnu_objects.specs.declared.refusal.Refusal.TheVariants as refusals
 use Rattle.link_session.specs.declared.entry.AddFault.TheVariants as adds
-use Rattle.link_out.specs.declared.linked.LinkFault.{LinkFault}
 use Rattle.link_out.specs.declared.linked.LinkFault.TheVariants as links
-use Rattle.link_out.specs.Steps.{refused_as}
-use Rattle.listings.specs.declared.fault.Fault.{Fault}
-use Rattle.listings.specs.declared.fault.Reason.{Reason}
 use Rattle.listings.specs.declared.fault.Reason.TheVariants as reasons
-use Rattle.library_calls.specs.declared.cause.Cause.{Cause}
-use Rattle.library_calls.specs.declared.cause.Cause.TheVariants.{NoOption, Excluded, LongName, CutNames, ManyNames}
-use Rattle.library_calls.specs.declared.cause.Cause.TheVariants.{TooLong, NoEdit, BadFile, BadObject, NotAdded}
-use Rattle.library_calls.specs.declared.cause.Cause.TheVariants.{NotLinked, BadListing, NotConverted, Memory}
 use Rattle.library_calls.specs.declared.cause.LongPart.TheVariants as parts
-use Rattle.library_calls.specs.declared.cause.Refusal.{Refusal}
 
 abbrev pub cause_of_addition : AddFault → Cause
 cause_of_addition (adds.Memory refused) = Memory refused

@@ -2,17 +2,13 @@
 --
 -- The file is the one that the bytes begin with; what follows it is ignored.
 use Rattle.std.specs.Prelude.{ℕ, ◌%◌, ◌/◌, Bool, false, eqb, nat_lt, if◌then◌else◌, List, [], ◌∷◌, Result, Ok, Err}
-use Rattle.aout_core.specs.Contents.{Contents}
-use Rattle.aout_core.specs.Decoding.{decode}
 use Rattle.aout_core.specs.Encoding.{file_length, encoding}
-use Rattle.aout_core.specs.Strip.{stripped}
-use Rattle.aout_core.specs.WellFormed.{first_object_fault}
+use Rattle.aout_core.specs.{Contents.Contents, Decoding.decode, Strip.stripped, WellFormed.first_object_fault}
 use Rattle.instructions.specs.declared.unix.Decoder.TheVariants.{Pdp11}
 use Rattle.disassemblies.specs.Columns.{disassembly}
 use Rattle.link_out.specs.Steps.{and_then, refused_as, unless}
 use Rattle.tool_options.specs.declared.nm_options.NmOptions.{NmOptions}
-use Rattle.symtools.specs.NmLists.{nm_text}
-use Rattle.symtools.specs.SizeLines.{size_text}
+use Rattle.symtools.specs.{NmLists.nm_text, SizeLines.size_text}
 use Rattle.library_calls.specs.declared.cause.Cause.{Cause}
 use Rattle.library_calls.specs.declared.cause.Cause.TheVariants.{NoOption, BadFile, BadObject}
 

@@ -3,20 +3,13 @@
 -- Each object in order is read from its bytes, has to be an object, and is added after those before it; the bytes after it are ignored,
 -- as by ld. The first that is not taken is the refusal. Then all are linked.
 use Rattle.std.specs.Prelude.{ℕ, List, [], ◌∷◌, ◌++◌, length, map, Option, Some, None, Result, Ok}
-use Rattle.aout_core.specs.Contents.{Contents}
-use Rattle.aout_core.specs.Names.{padded}
+use Rattle.aout_core.specs.{Contents.Contents, Names.padded}
 use Rattle.link_session.specs.Limits.{refusal}
 use Rattle.tool_options.specs.Choices.{Choices}
-use Rattle.link_out.specs.function.Link.{Outcome, link}
-use Rattle.link_out.specs.Steps.{and_then, refused_as, unless}
-use Rattle.link_out.specs.Results.{ReportNames}
-use Rattle.library_calls.specs.declared.cause.Cause.{Cause}
+use Rattle.link_out.specs.{function.Link.Outcome, function.Link.link, Steps.and_then, Steps.refused_as, Steps.unless, Results.ReportNames}
 use Rattle.library_calls.specs.declared.cause.Cause.TheVariants.{NotAdded, NotLinked}
-use Rattle.library_calls.specs.declared.cause.Refusal.{Refusal}
-use Rattle.library_calls.specs.declared.parts.ObjectBytes.{ObjectBytes}
-use Rattle.library_calls.specs.declared.reported.ReportedName.{ReportedName}
-use Rattle.library_calls.specs.Causes.{at}
-use Rattle.library_calls.specs.FileAnswers.{object_in}
+use Rattle.library_calls.specs.{declared.cause.Cause.Cause, declared.cause.Refusal.Refusal, declared.parts.ObjectBytes.ObjectBytes}
+use Rattle.library_calls.specs.{declared.reported.ReportedName.ReportedName, Causes.at, FileAnswers.object_in}
 
 abbrev pub with_object : List (List ℕ) → List Contents → Contents → Result (List Contents) Cause
 with_object forced os o = unless NotAdded (refusal forced os o) (os ++ o ∷ [])

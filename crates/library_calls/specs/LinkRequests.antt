@@ -2,17 +2,12 @@
 --
 -- A forced name is eight bytes, filled up with NULs, as in a file. The entry point is a name of at most eight bytes; no bytes ask
 -- for none.
-use Rattle.std.specs.Prelude.{ℕ, zero, suc, ◌+◌, ◌%◌, ◌/◌, cond, eqb, nat_lt, if◌then◌else◌, List, [], ◌∷◌, take}
-use Rattle.std.specs.Prelude.{drop, length, Option, Some, None, ok_or, Result, Ok, Err}
+use Rattle.std.specs.Prelude.{ℕ, zero, suc, ◌+◌, ◌%◌, ◌/◌, cond, eqb, nat_lt, if◌then◌else◌, List, [], ◌∷◌, take, drop, length, Option}
+use Rattle.std.specs.Prelude.{Some, None, ok_or, Result, Ok, Err}
 use Rattle.aout_core.specs.Names.{before_nul}
-use Rattle.tool_options.specs.ForcedNames.{takes, with_name}
-use Rattle.tool_options.specs.declared.flags.Flags.{Flags}
-use Rattle.tool_options.specs.Choices.{Choices}
-use Rattle.tool_options.specs.Flags.{choices_of}
-use Rattle.library_calls.specs.declared.cause.Cause.{Cause}
+use Rattle.tool_options.specs.{ForcedNames.takes, ForcedNames.with_name, declared.flags.Flags.Flags, Choices.Choices, Flags.choices_of}
 use Rattle.library_calls.specs.declared.cause.Cause.TheVariants.{NoOption, Excluded, LongName, CutNames, ManyNames}
-use Rattle.library_calls.specs.declared.cause.Refusal.{Refusal}
-use Rattle.library_calls.specs.FileAnswers.{has_bit}
+use Rattle.library_calls.specs.{declared.cause.Cause.Cause, declared.cause.Refusal.Refusal, FileAnswers.has_bit}
 
 -- 1: -r, 2: -s, 4: -x, 8: -X, 16: -n, 32: -i, 64: -d
 abbrev pub flags_in : ℕ → Flags

@@ -1,18 +1,12 @@
 -- What a call answers for listings: the listing of a file, and the file of a listing. (own choice)
 use Rattle.std.specs.Prelude.{◌≡◌, ◌⊎◌, ℕ, List, [], Result, Ok, IsOk}
-use Rattle.aout_core.specs.Contents.{Contents}
-use Rattle.aout_core.specs.Encoding.{encoding}
+use Rattle.aout_core.specs.{Contents.Contents, Encoding.encoding}
 use Rattle.disassemblies.specs.Starts.{starts}
 use Rattle.explanations.specs.Said.{explained}
 use Rattle.instructions.specs.declared.unix.Decoder.TheVariants.{Unix}
 use Rattle.link_out.specs.Steps.{and_then, refused_as}
-use Rattle.listings.specs.Listing.{listing}
-use Rattle.listings.specs.MemoryWanted.{ListingMayRunOut}
-use Rattle.listings.specs.Reading.{read}
-use Rattle.library_calls.specs.declared.cause.Cause.{Cause}
-use Rattle.library_calls.specs.declared.cause.Refusal.{Refusal}
-use Rattle.library_calls.specs.Causes.{mistake_of}
-use Rattle.library_calls.specs.FileAnswers.{file_in}
+use Rattle.listings.specs.{Listing.listing, MemoryWanted.ListingMayRunOut, Reading.read}
+use Rattle.library_calls.specs.{declared.cause.Cause.Cause, declared.cause.Refusal.Refusal, Causes.mistake_of, FileAnswers.file_in}
 
 -- the listing with explanations, and without notes
 abbrev pub listed : Contents → List ℕ

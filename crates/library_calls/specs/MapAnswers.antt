@@ -1,34 +1,19 @@
 -- The map of a link of objects whose bytes are apart, as a call answers it. (own choice)
-use Rattle.std.specs.Prelude.{◌≡◌, ◌≢◌, ◌⊎◌, ℕ, ◌+◌, is_some, List, [], ◌∷◌, ◌++◌, length}
-use Rattle.std.specs.Prelude.{Option, Some, None, Result, Ok, Err, IsOk, IsOkAnd}
-use Rattle.aout_core.specs.Contents.{Contents}
-use Rattle.aout_core.specs.Names.{padded}
-use Rattle.link_session.specs.declared.entry.AddFault.{AddFault}
-use Rattle.link_session.specs.Labelled.{objects}
+use Rattle.std.specs.Prelude.{◌≡◌, ◌≢◌, ◌⊎◌, ℕ, ◌+◌, is_some, List, [], ◌∷◌, ◌++◌, length, Option, Some, None, Result, Ok, Err, IsOk}
+use Rattle.std.specs.Prelude.{IsOkAnd}
+use Rattle.aout_core.specs.{Contents.Contents, Names.padded}
+use Rattle.link_session.specs.{declared.entry.AddFault.AddFault, Labelled.objects}
 use Rattle.tool_options.specs.Choices.{Choices}
-use Rattle.link_out.specs.declared.linked.Linked.{Linked}
-use Rattle.link_out.specs.declared.linked.LinkFault.{LinkFault}
-use Rattle.link_out.specs.Layouts.{Bases}
-use Rattle.link_out.specs.Outcomes.{outcome_of}
-use Rattle.link_out.specs.function.Reports.{status_of}
-use Rattle.link_out.specs.Steps.{and_then}
-use Rattle.link_maps.specs.declared.map.LinkMap.{LinkMap}
-use Rattle.link_maps.specs.declared.members.Objects.{Objects}
-use Rattle.link_maps.specs.declared.outcome.Outcome.{Outcome}
+use Rattle.link_out.specs.{declared.linked.Linked.Linked, declared.linked.LinkFault.LinkFault, Layouts.Bases, Outcomes.outcome_of}
+use Rattle.link_out.specs.{function.Reports.status_of, Steps.and_then}
 use Rattle.link_maps.specs.Maps.{AreRecords, IsMapOf}
-use Rattle.link_maps.specs.Members.{all_of, cause_of}
-use Rattle.link_maps.specs.Records.{bit, no_label}
-use Rattle.link_maps.specs.Taking.{split, split_of}
-use Rattle.library_calls.specs.declared.cause.Cause.{Cause}
+use Rattle.link_maps.specs.{declared.map.LinkMap.LinkMap, declared.members.Objects.Objects, declared.outcome.Outcome.Outcome}
+use Rattle.link_maps.specs.{Members.all_of, Members.cause_of, Records.bit, Records.no_label, Taking.split, Taking.split_of}
 use Rattle.library_calls.specs.declared.cause.Cause.TheVariants.{NotAdded, NotLinked}
-use Rattle.library_calls.specs.declared.cause.Refusal.{Refusal}
-use Rattle.library_calls.specs.declared.map_call.MapHead.{MapHead}
-use Rattle.library_calls.specs.declared.map_call.Mapped.{Mapped}
-use Rattle.library_calls.specs.Causes.{at, number_of}
-use Rattle.library_calls.specs.FileAnswers.{object_in}
-use Rattle.library_calls.specs.LinkAnswers.{with_each_of}
 use Rattle.library_calls.specs.LinkRequests.{choices_in, forced_in}
-use Rattle.library_calls.specs.MemoryWanted.{MayRunOutInEachOf}
+use Rattle.library_calls.specs.{declared.cause.Cause.Cause, declared.cause.Refusal.Refusal, declared.map_call.MapHead.MapHead}
+use Rattle.library_calls.specs.{declared.map_call.Mapped.Mapped, Causes.at, Causes.number_of, FileAnswers.object_in}
+use Rattle.library_calls.specs.{LinkAnswers.with_each_of, MemoryWanted.MayRunOutInEachOf}
 
 -- the objects with the one that the bytes begin with, whether a session takes it or not
 abbrev pub with_read : List Contents → List ℕ → Result (List Contents) Cause

@@ -3,19 +3,13 @@
 -- A call works in stages, and each lacks memory only if nothing is refused up to there. The answer does not reveal which request
 -- failed. So once an object or an edit is accepted, memory may have run out there, whatever is refused later.
 use Rattle.std.specs.Prelude.{◌≡◌, ◌≢◌, ◌⊎◌, ℕ, ◌+◌, ◌<◌, List, [], ◌∷◌, length, Result, IsOk, IsOkAnd}
-use Rattle.aout_core.specs.Contents.{Contents}
-use Rattle.aout_core.specs.Decoding.{header_in}
-use Rattle.aout_core.specs.Encoding.{file_length}
-use Rattle.link_session.specs.Edits.{Change, survivors}
-use Rattle.link_session.specs.Labelled.{objects}
+use Rattle.aout_core.specs.{Contents.Contents, Decoding.header_in, Encoding.file_length}
+use Rattle.link_session.specs.{Edits.Change, Edits.survivors, Labelled.objects}
 use Rattle.tool_options.specs.Choices.{Choices}
 use Rattle.link_out.specs.function.Link.{link}
-use Rattle.library_calls.specs.declared.cause.Cause.{Cause}
-use Rattle.library_calls.specs.FileAnswers.{file_in}
-use Rattle.library_calls.specs.LinkAnswers.{linked_each, with_first}
-use Rattle.library_calls.specs.LinkRequests.{choices_in, forced_in}
 use Rattle.library_calls.specs.SessionAnswers.{change_in, changes_in, first_part, parts_after}
-use Rattle.library_calls.specs.StateAnswers.{form_in}
+use Rattle.library_calls.specs.{declared.cause.Cause.Cause, FileAnswers.file_in, LinkAnswers.linked_each, LinkAnswers.with_first}
+use Rattle.library_calls.specs.{LinkRequests.choices_in, LinkRequests.forced_in, StateAnswers.form_in}
 
 -- the bytes begin with a whole file, and it has more than its header: it is read before its words are checked
 pub record HasBody (bytes : List ℕ) : Type 0 where

@@ -3,18 +3,11 @@
 -- Each record has the place of its text among all texts, which are one after another.
 use Rattle.std.specs.Prelude.{ℕ, ◌+◌, List, [], ◌∷◌, ◌++◌, length, Result, Ok, Err}
 use Rattle.std.specs.List.{flat_map}
-use Rattle.aout_core.specs.Contents.{Contents}
-use Rattle.aout_core.specs.Decoding.{decode}
-use Rattle.aout_core.specs.WellFormed.{first_object_fault}
-use Rattle.aout_core.specs.declared.file.ReadFault.{ReadFault}
-use Rattle.findings.specs.Found.{Found}
-use Rattle.findings.specs.Odd.{odd}
-use Rattle.findings.specs.Wrong.{wrong_bytes, wrong_in}
-use Rattle.findings.specs.declared.finding.FindingKind.{FindingKind}
-use Rattle.findings.specs.declared.finding.FindingKind.TheVariants as kinds
+use Rattle.aout_core.specs.{Contents.Contents, Decoding.decode, WellFormed.first_object_fault, declared.file.ReadFault.ReadFault}
+use Rattle.findings.specs.{Found.Found, Odd.odd, Wrong.wrong_bytes, Wrong.wrong_in, declared.finding.FindingKind.FindingKind}
 use Rattle.suspicions.specs.Suspicions.{suspicions}
-use Rattle.library_calls.specs.declared.remarks_call.RemarkRecord.{RemarkRecord}
-use Rattle.library_calls.specs.declared.remarks_call.Remarks.{Remarks}
+use Rattle.library_calls.specs.{declared.remarks_call.RemarkRecord.RemarkRecord, declared.remarks_call.Remarks.Remarks}
+use Rattle.findings.specs.declared.finding.FindingKind.TheVariants as kinds
 
 -- what is wrong has 1 to 7, what is odd 8 to 20, and what is suspicious 21 to 26
 abbrev pub kind_number : FindingKind → ℕ

@@ -1,26 +1,16 @@
 -- What a call answers for a link or a session of objects whose bytes are apart: the report as lines and as a list, and the objects of
 -- what is reported. (ld(1); edits: own choice)
 use Rattle.std.specs.Prelude.{ℕ, Bool, if◌then◌else◌, List, [], map, Result, Ok}
-use Rattle.aout_core.specs.Contents.{Contents}
-use Rattle.aout_core.specs.Encoding.{encoding}
-use Rattle.link_session.specs.Edits.{Change, answers, survivors}
-use Rattle.link_session.specs.Labelled.{objects}
+use Rattle.aout_core.specs.{Contents.Contents, Encoding.encoding}
+use Rattle.link_session.specs.{Edits.Change, Edits.answers, Edits.survivors, Labelled.objects}
 use Rattle.tool_options.specs.Choices.{Choices}
-use Rattle.link_out.specs.function.Link.{Outcome, link}
-use Rattle.link_out.specs.function.Reports.{report_text, status_of}
-use Rattle.link_out.specs.Results.{ReportNames}
-use Rattle.link_out.specs.Steps.{and_then, refused_as}
-use Rattle.report_objects.specs.declared.places.FindingPlace.{FindingPlace}
-use Rattle.report_objects.specs.Places.{finding_places}
-use Rattle.library_calls.specs.declared.cause.Cause.{Cause}
-use Rattle.library_calls.specs.declared.cause.Cause.TheVariants.{NotLinked}
-use Rattle.library_calls.specs.declared.cause.Refusal.{Refusal}
-use Rattle.library_calls.specs.declared.reported.ReportedName.{ReportedName}
-use Rattle.library_calls.specs.declared.run_call.RunResult.{RunResult}
-use Rattle.library_calls.specs.Causes.{at}
-use Rattle.library_calls.specs.LinkAnswers.{all_findings, with_each}
-use Rattle.library_calls.specs.LinkRequests.{choices_in, forced_in}
+use Rattle.link_out.specs.{function.Link.Outcome, function.Link.link, function.Reports.report_text, function.Reports.status_of}
+use Rattle.link_out.specs.{Results.ReportNames, Steps.and_then, Steps.refused_as}
+use Rattle.report_objects.specs.{declared.places.FindingPlace.FindingPlace, Places.finding_places}
 use Rattle.library_calls.specs.SessionAnswers.{changes_in, reply_number, session_status}
+use Rattle.library_calls.specs.{declared.cause.Cause.Cause, declared.cause.Cause.TheVariants.NotLinked, declared.cause.Refusal.Refusal}
+use Rattle.library_calls.specs.{declared.reported.ReportedName.ReportedName, declared.run_call.RunResult.RunResult, Causes.at}
+use Rattle.library_calls.specs.{LinkAnswers.all_findings, LinkAnswers.with_each, LinkRequests.choices_in, LinkRequests.forced_in}
 
 -- the status, the replies to the edits, the bytes of the linked file, its report as the bytes of its lines and as a list, and the
 -- objects of what the list has

@@ -6,11 +6,9 @@
 use Rattle.std.specs.Prelude.{ℕ, ◌+◌, eqb, if◌then◌else◌, List, [], ◌∷◌, ◌++◌, Result, Ok, Err}
 use Rattle.link_session.specs.Edits.{Change, addition, withdrawal, Answer, added, refused, withdrew, nothing}
 use Rattle.link_out.specs.Steps.{and_then}
-use Rattle.library_calls.specs.declared.cause.Cause.{Cause}
-use Rattle.library_calls.specs.declared.cause.Cause.TheVariants.{NoEdit, NotAdded}
-use Rattle.library_calls.specs.declared.cause.Refusal.{Refusal}
-use Rattle.library_calls.specs.Causes.{at, number_of}
-use Rattle.library_calls.specs.FileAnswers.{object_in}
+use Rattle.library_calls.specs.{declared.cause.Cause.Cause, declared.cause.Cause.TheVariants.NoEdit}
+use Rattle.library_calls.specs.{declared.cause.Cause.TheVariants.NotAdded, declared.cause.Refusal.Refusal, Causes.at, Causes.number_of}
+use Rattle.library_calls.specs.{FileAnswers.object_in}
 
 -- ---- edits read
 

@@ -3,22 +3,15 @@
 -- The edits are read and run as those of a session that is linked. What the last addition overwrote, and nothing else, is in
 -- its marks, which take it back.
 use Rattle.std.specs.Prelude.{◌≡◌, ℕ, zero, suc, List, map, Result, Ok, Err}
-use Rattle.link_session.specs.declared.mark.Mark.{Mark}
 use Rattle.link_session.specs.Edits.{Change, answers, survivors}
-use Rattle.link_session.specs.Labelled.{objects}
-use Rattle.link_session.specs.Undo.{Kept, IsJournal}
-use Rattle.reports.specs.StateJson.{state_json}
-use Rattle.reports.specs.StateLines.{state_lines}
+use Rattle.link_session.specs.{declared.mark.Mark.Mark, Labelled.objects, Undo.Kept, Undo.IsJournal}
+use Rattle.reports.specs.{StateJson.state_json, StateLines.state_lines}
 use Rattle.link_out.specs.Steps.{and_then}
-use Rattle.library_calls.specs.declared.cause.Cause.{Cause}
-use Rattle.library_calls.specs.declared.cause.Cause.TheVariants.{NoOption}
-use Rattle.library_calls.specs.declared.cause.Refusal.{Refusal}
-use Rattle.library_calls.specs.declared.state_call.Form.{Form}
-use Rattle.library_calls.specs.declared.state_call.Form.TheVariants.{Lines, Json}
-use Rattle.library_calls.specs.declared.state_call.Shown.{Shown}
-use Rattle.library_calls.specs.Causes.{at}
-use Rattle.library_calls.specs.LinkRequests.{forced_in}
 use Rattle.library_calls.specs.SessionAnswers.{changes_in, reply_number, session_status}
+use Rattle.library_calls.specs.{declared.cause.Cause.Cause, declared.cause.Cause.TheVariants.NoOption, declared.cause.Refusal.Refusal}
+use Rattle.library_calls.specs.{declared.state_call.Form.Form, declared.state_call.Form.TheVariants.Lines}
+use Rattle.library_calls.specs.{declared.state_call.Form.TheVariants.Json, declared.state_call.Shown.Shown, Causes.at}
+use Rattle.library_calls.specs.{LinkRequests.forced_in}
 
 -- 0: lines, 1: JSON
 abbrev pub form_in : ℕ → Result Form Cause

@@ -1,34 +1,20 @@
 -- The commons of a linked file: each has room of its own.
-use Rattle.std.proofs.Common.{◌≡◌, ◌≢◌, ℕ, ◌+◌, ◌-◌, ◌%◌, ◌≤◌, Bool, true, false, cond, ◌||◌, eqb, List, [], ◌∷◌, Some}
-use Rattle.std.proofs.Common.{refl, sym, ◌∙◌, ap, subst, arith, ◌⊎◌, inl, inr, take, add-one}
+use Rattle.std.proofs.Common.{◌≡◌, ◌≢◌, ℕ, ◌+◌, ◌-◌, ◌%◌, ◌≤◌, Bool, true, false, cond, ◌||◌, eqb, List, [], ◌∷◌, Some, refl, sym, ◌∙◌, ap}
+use Rattle.std.proofs.Common.{subst, arith, ◌⊎◌, inl, inr, take, add-one}
+use Rattle.std.proofs.{lemmas.List.Sums.sum_by-append, lemmas.Slice.Eq.bytes_eq-Decides}
 use Rattle.std.specs.Prelude.{bytes_eq, Ok}
-use Rattle.std.proofs.lemmas.List.Sums.{sum_by-append}
-use Rattle.std.proofs.lemmas.Slice.Eq.{bytes_eq-Decides}
-use Rattle.aout_core.specs.declared.symbol.Symbol.{Symbol}
 use Rattle.aout_core.specs.declared.symbol.Segment.TheVariants.{TextSeg, DataSeg, BssSeg}
-use Rattle.aout_core.specs.Contents.{Contents}
-use Rattle.aout_core.specs.Words.{plus}
-use Rattle.link_session.specs.declared.state.State.{State}
-use Rattle.link_session.specs.declared.state.State.TheVariants.{Wanted}
-use Rattle.link_session.specs.Starts.{total}
-use Rattle.tool_options.specs.NameLists.{is_among}
+use Rattle.aout_core.specs.{declared.symbol.Symbol.Symbol, Contents.Contents, Words.plus, Addresses.data_start_in}
 use Rattle.link_session.specs.Mentions.{Mention, mentions, names_of, names_by_first_mention, place_of}
-use Rattle.link_session.specs.States.{state}
-use Rattle.link_session.proofs.MentionLemmas.{is_among-externals}
-use Rattle.link_session.proofs.UpdateLemmas.{unmentioned}
-use Rattle.tool_options.specs.declared.options.Keep.TheVariants.{Nothing}
-use Rattle.tool_options.specs.Choices.{Choices, lays_commons}
+use Rattle.link_session.specs.{declared.state.State.State, declared.state.State.TheVariants.Wanted, Starts.total, States.state}
+use Rattle.tool_options.specs.{NameLists.is_among, declared.options.Keep.TheVariants.Nothing, Choices.Choices, Choices.lays_commons}
+use Rattle.link_session.proofs.{MentionLemmas.is_among-externals, UpdateLemmas.unmentioned}
 use Rattle.link_out.specs.function.Plans.{Plan, plan, commons_laid, common_offset, common_size, commons_size, commons_total}
 use Rattle.link_out.specs.function.Finals.{Final, final, final_by, type_of, bound_at, waiting, reserved_or_waiting}
-use Rattle.link_out.specs.function.Tables.{external_row}
-use Rattle.link_out.specs.function.Link.{Outcome, linked_file, link}
-use Rattle.link_laws.specs.CommonsAndLayouts.{IsCommon, HasSpace}
-use Rattle.aout_core.specs.Addresses.{data_start_in}
-use Rattle.link_laws.specs.relation.Relocated.{entry_of}
-use Rattle.link_laws.proofs.HasStateLemmas.{state_is}
+use Rattle.link_out.specs.{function.Tables.external_row, function.Link.Outcome, function.Link.linked_file, function.Link.link}
+use Rattle.link_laws.specs.{CommonsAndLayouts.IsCommon, CommonsAndLayouts.HasSpace, relation.Relocated.entry_of}
+use Rattle.link_laws.proofs.{HasStateLemmas.state_is, ExternalLemmas.entry_there, MoveLemmas.data_begun, MoveLemmas.rest_back}
 use Rattle.link_out.proofs.OutcomeLemmas.{made_file, made_fits}
-use Rattle.link_laws.proofs.ExternalLemmas.{entry_there}
-use Rattle.link_laws.proofs.MoveLemmas.{data_begun, rest_back}
 
 -- room
 

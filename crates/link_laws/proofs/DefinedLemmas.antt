@@ -1,35 +1,22 @@
 -- Where no name is multiply defined, each definition of the objects holds in the linked file.
 use Rattle.std.proofs.Common.{◌≡◌, ◌≢◌, ℕ, Bool, true, false, eqb, List, [], ◌∷◌, ◌++◌, Option, Some, refl, sym, ◌∙◌, ap, subst, arith}
 use Rattle.std.specs.Prelude.{slice_get, Ok}
-use Rattle.aout_core.specs.declared.symbol.Symbol.{Symbol}
-use Rattle.aout_core.specs.declared.symbol.Segment.{Segment}
 use Rattle.aout_core.specs.declared.symbol.Segment.TheVariants.{Undefined, Absolute, TextSeg, DataSeg, BssSeg, Other}
-use Rattle.aout_core.specs.Contents.{Contents}
-use Rattle.aout_core.specs.Words.{plus}
 use Rattle.aout_core.specs.WellFormed.{is_external, masked_type, segment_of, segment_numbered}
+use Rattle.aout_core.specs.{declared.symbol.Symbol.Symbol, declared.symbol.Segment.Segment, Contents.Contents, Words.plus}
 use Rattle.aout_core.proofs.SegmentLemmas.{by_number}
-use Rattle.link_session.specs.declared.state.State.TheVariants.{Wanted}
-use Rattle.link_session.specs.Starts.{shift}
-use Rattle.tool_options.specs.NameLists.{is_among}
 use Rattle.link_session.specs.Mentions.{mention, statement, mentions, names_of, names_by_first_mention}
 use Rattle.link_session.specs.States.{Definition, first_definition, wanted_size, state_by, differs, multiple_names}
-use Rattle.link_session.proofs.MentionLemmas.{is_among-externals}
-use Rattle.link_session.proofs.UpdateLemmas.{unmentioned}
-use Rattle.tool_options.specs.declared.options.Keep.TheVariants.{Nothing}
-use Rattle.tool_options.specs.Choices.{Choices}
-use Rattle.link_out.specs.Layouts.{base}
-use Rattle.link_out.specs.function.Plans.{Plan, plan}
-use Rattle.link_out.specs.function.Finals.{Final, final, final_by, type_of, bound_at}
-use Rattle.link_out.specs.function.Tables.{external_row}
-use Rattle.link_out.specs.function.Reports.{ReportNames}
-use Rattle.link_out.specs.function.Link.{Outcome, linked_file, link}
-use Rattle.link_laws.specs.WordsAndNames.{IsDefined}
-use Rattle.link_laws.specs.relation.Relocated.{move_in, external_type}
-use Rattle.link_laws.proofs.SaidLemmas.{of_entry}
-use Rattle.link_out.proofs.OutcomeLemmas.{made_file, made_report}
-use Rattle.link_laws.proofs.MoveLemmas.{move_by_header}
-use Rattle.link_laws.proofs.ExternalLemmas.{entry_there}
+use Rattle.link_session.specs.{declared.state.State.TheVariants.Wanted, Starts.shift}
+use Rattle.tool_options.specs.{NameLists.is_among, declared.options.Keep.TheVariants.Nothing, Choices.Choices}
 use Rattle.link_session.proofs.AgreementLemmas.{AgreesIn, none_differ, agrees_with}
+use Rattle.link_session.proofs.{MentionLemmas.is_among-externals, UpdateLemmas.unmentioned}
+use Rattle.link_out.specs.function.Finals.{Final, final, final_by, type_of, bound_at}
+use Rattle.link_out.specs.{Layouts.base, function.Plans.Plan, function.Plans.plan, function.Tables.external_row}
+use Rattle.link_out.specs.{function.Reports.ReportNames, function.Link.Outcome, function.Link.linked_file, function.Link.link}
+use Rattle.link_laws.specs.{WordsAndNames.IsDefined, relation.Relocated.move_in, relation.Relocated.external_type}
+use Rattle.link_laws.proofs.{SaidLemmas.of_entry, MoveLemmas.move_by_header, ExternalLemmas.entry_there}
+use Rattle.link_out.proofs.OutcomeLemmas.{made_file, made_report}
 
 -- the mention that an entry makes agrees, where all do
 entry_agrees : (forced : List (List ℕ)) (before : List Contents) (k : Contents) (after : List Contents) →

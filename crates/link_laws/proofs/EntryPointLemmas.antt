@@ -1,23 +1,16 @@
 -- The entry point of a linked file, by its own symbol table.
-use Rattle.std.proofs.Common.{◌≡◌, ◌≢◌, ℕ, Bool, true, false, cond, ◌&&◌, eqb, List, Option, Some, None}
-use Rattle.std.proofs.Common.{refl, sym, ◌∙◌, ap, subst, inl, inr, eqb-true}
+use Rattle.std.proofs.Common.{◌≡◌, ◌≢◌, ℕ, Bool, true, false, cond, ◌&&◌, eqb, List, Option, Some, None, refl, sym, ◌∙◌, ap, subst, inl}
+use Rattle.std.proofs.Common.{inr, eqb-true}
 use Rattle.std.specs.Prelude.{bytes_eq, Ok}
-use Rattle.aout_core.specs.declared.symbol.Symbol.{Symbol}
 use Rattle.aout_core.specs.declared.symbol.Segment.TheVariants.{TextSeg, DataSeg, BssSeg}
-use Rattle.aout_core.specs.Contents.{Contents}
-use Rattle.aout_core.specs.Words.{plus}
-use Rattle.link_session.specs.declared.state.State.{State}
-use Rattle.link_session.specs.declared.state.State.TheVariants.{Defined, Wanted}
-use Rattle.tool_options.specs.NameLists.{is_among}
-use Rattle.link_session.specs.Mentions.{names_by_first_mention}
-use Rattle.link_session.specs.States.{state}
-use Rattle.tool_options.specs.declared.options.Keep.TheVariants.{Nothing}
-use Rattle.tool_options.specs.Choices.{Choices, lays_commons}
-use Rattle.link_out.specs.function.Plans.{Plan, plan, common_offset}
+use Rattle.aout_core.specs.{declared.symbol.Symbol.Symbol, Contents.Contents, Words.plus}
+use Rattle.link_session.specs.{declared.state.State.State, declared.state.State.TheVariants.Defined}
+use Rattle.link_session.specs.{declared.state.State.TheVariants.Wanted, Mentions.names_by_first_mention, States.state}
+use Rattle.tool_options.specs.{NameLists.is_among, declared.options.Keep.TheVariants.Nothing, Choices.Choices, Choices.lays_commons}
 use Rattle.link_out.specs.function.Finals.{final, final_by, type_of, bound_at, waiting, reserved_or_waiting, etext, edata, end_name}
-use Rattle.link_out.specs.function.Tables.{external_row, table}
-use Rattle.link_out.specs.function.Reports.{entry_word, entry_found_bad}
-use Rattle.link_out.specs.function.Link.{Outcome, link}
+use Rattle.link_out.specs.{function.Plans.Plan, function.Plans.plan, function.Plans.common_offset, function.Tables.external_row}
+use Rattle.link_out.specs.{function.Tables.table, function.Reports.entry_word, function.Reports.entry_found_bad, function.Link.Outcome}
+use Rattle.link_out.specs.{function.Link.link}
 use Rattle.link_laws.specs.relation.Relocated.{entry_of, IsEntry}
 use Rattle.link_out.proofs.OutcomeLemmas.{made}
 use Rattle.link_laws.proofs.ExternalLemmas.{entry_in_table}

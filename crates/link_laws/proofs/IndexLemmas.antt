@@ -1,8 +1,7 @@
 -- Elements of lists by their index.
-use Rattle.std.proofs.Common.{◌+◌, ◌++◌, ◌⊎◌, inl, inr, ◌≡◌, ℕ, zero, suc, Bool, true, false, cond, List, []}
-use Rattle.std.proofs.Common.{◌∷◌, map, length, Option, Some, refl, ◌∙◌, ap, subst, arith}
-use Rattle.std.specs.Prelude.{filter, zip, slice_get}
-use Rattle.std.specs.List.{AllByRecursion}
+use Rattle.std.proofs.Common.{◌+◌, ◌++◌, ◌⊎◌, inl, inr, ◌≡◌, ℕ, zero, suc, Bool, true, false, cond, List, [], ◌∷◌, map, length, Option}
+use Rattle.std.proofs.Common.{Some, refl, ◌∙◌, ap, subst, arith}
+use Rattle.std.specs.{Prelude.filter, Prelude.zip, Prelude.slice_get, List.AllByRecursion}
 
 -- two lists side by side: the pair at a place
 pub zip_get : {A B : Type 0} (xs : List A) (ys : List B) (i : ℕ) (x : A) (y : B) → slice_get xs i ≡ Some x →

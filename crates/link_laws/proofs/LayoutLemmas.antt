@@ -1,44 +1,29 @@
 -- Links in two layouts differ by where data and bss begin, alone.
-use Rattle.std.proofs.Common.{◌≡◌, ℕ, ◌+◌, ◌*◌, ◌%◌, Bool, true, false, cond, ◌&&◌, eqb, List, [], ◌∷◌, ◌++◌}
-use Rattle.std.proofs.Common.{map, Option, Some, None, refl, sym, ◌∙◌, ap, subst, arith}
-use Rattle.std.specs.Prelude.{bytes_eq, filter, Ok}
-use Rattle.std.specs.List.{flat_map}
-use Rattle.aout_core.specs.declared.header.Header.{Header}
-use Rattle.aout_core.specs.declared.symbol.Symbol.{Symbol}
-use Rattle.aout_core.specs.declared.symbol.Segment.{Segment}
+use Rattle.std.proofs.Common.{◌≡◌, ℕ, ◌+◌, ◌*◌, ◌%◌, Bool, true, false, cond, ◌&&◌, eqb, List, [], ◌∷◌, ◌++◌, map, Option, Some, None, refl}
+use Rattle.std.proofs.Common.{sym, ◌∙◌, ap, subst, arith}
+use Rattle.std.specs.{Prelude.bytes_eq, Prelude.filter, Prelude.Ok, List.flat_map}
 use Rattle.aout_core.specs.declared.symbol.Segment.TheVariants.{Undefined, Absolute, TextSeg, DataSeg, BssSeg, Other}
-use Rattle.aout_core.specs.declared.reloc.Reloc.{Reloc}
-use Rattle.aout_core.specs.Contents.{Contents}
-use Rattle.aout_core.specs.Words.{plus, minus}
-use Rattle.aout_core.specs.WellFormed.{segment_of}
-use Rattle.link_session.specs.declared.state.State.{State}
-use Rattle.link_session.specs.declared.state.State.TheVariants.{Defined, Wanted}
-use Rattle.link_session.specs.Earlier.{with_earlier}
-use Rattle.link_session.specs.Starts.{total, shift}
-use Rattle.tool_options.specs.NameLists.{is_among}
+use Rattle.aout_core.specs.{declared.header.Header.Header, declared.symbol.Symbol.Symbol, declared.symbol.Segment.Segment}
+use Rattle.aout_core.specs.{declared.reloc.Reloc.Reloc, Contents.Contents, Words.plus, Words.minus, WellFormed.segment_of}
+use Rattle.aout_core.specs.{Addresses.data_start_in}
 use Rattle.link_session.specs.Mentions.{Mention, mentions, names_by_first_mention, place_of}
-use Rattle.link_session.specs.States.{state}
 use Rattle.link_session.specs.Cells.{Referent, to_segment, to_name, referent, words_of}
-use Rattle.tool_options.specs.declared.options.Layout.{Layout}
-use Rattle.tool_options.specs.declared.options.Keep.{Keep}
+use Rattle.link_session.specs.{declared.state.State.State, declared.state.State.TheVariants.Defined}
+use Rattle.link_session.specs.{declared.state.State.TheVariants.Wanted, Earlier.with_earlier, Starts.total, Starts.shift, States.state}
 use Rattle.tool_options.specs.declared.options.Keep.TheVariants.{All, NotL, Externals, Nothing}
 use Rattle.tool_options.specs.Choices.{Choices, lays_commons}
+use Rattle.tool_options.specs.{NameLists.is_among, declared.options.Layout.Layout, declared.options.Keep.Keep}
 use Rattle.link_out.specs.function.Plans.{Plan, plan, commons_laid, common_offset}
 use Rattle.link_out.specs.function.Finals.{final, final_by, type_of, bound_at, waiting}
-use Rattle.link_out.specs.ReservedNames.{etext, edata, end_name}
-use Rattle.link_out.specs.KeptSymbols.{is_kept_local, rows_kept}
-use Rattle.link_out.specs.function.Tables.{moved_value, moved_local, local_rows, external_row, external_rows}
-use Rattle.link_out.specs.function.Tables.{table, name_bits, referent_bits, final_relocs}
-use Rattle.link_out.specs.function.Reports.{entry_word, entry_found_bad, report_of}
-use Rattle.link_out.specs.Results.{Outcome}
-use Rattle.link_out.specs.function.Link.{linked_header, linked_file, link}
-use Rattle.aout_core.specs.Addresses.{data_start_in}
+use Rattle.link_out.specs.function.Tables.{moved_value, moved_local, local_rows, external_row, external_rows, table, name_bits}
+use Rattle.link_out.specs.function.Tables.{referent_bits, final_relocs}
+use Rattle.link_out.specs.{ReservedNames.etext, ReservedNames.edata, ReservedNames.end_name, KeptSymbols.is_kept_local}
+use Rattle.link_out.specs.{KeptSymbols.rows_kept, function.Reports.entry_word, function.Reports.entry_found_bad, function.Reports.report_of}
+use Rattle.link_out.specs.{Results.Outcome, function.Link.linked_header, function.Link.linked_file, function.Link.link}
 use Rattle.link_laws.specs.relation.Relocated.{base_in}
 use Rattle.link_laws.specs.CommonsAndLayouts.{IsShifted, AreShifted, DifferInPlace}
-use Rattle.link_out.proofs.partial_links.PartialLemmas.{IsProper, state_is_proper}
-use Rattle.link_laws.proofs.MoveLemmas.{data_begun, rest_back}
-use Rattle.link_out.proofs.OutcomeLemmas.{made}
-use Rattle.link_laws.proofs.RefusalLemmas.{table_long, locals_long}
+use Rattle.link_out.proofs.{partial_links.PartialLemmas.IsProper, partial_links.PartialLemmas.state_is_proper, OutcomeLemmas.made}
+use Rattle.link_laws.proofs.{MoveLemmas.data_begun, MoveLemmas.rest_back, RefusalLemmas.table_long, RefusalLemmas.locals_long}
 
 -- numbers
 

@@ -1,47 +1,31 @@
 -- The kept locals and the relocation words are those that the relation of linking tells, and no others.
-use Rattle.std.proofs.Common.{◌≡◌, ℕ, zero, suc, ◌+◌, ◌*◌, ◌/◌, ◌%◌, ◌≤◌, Bool, true, false, cond, ◌&&◌}
-use Rattle.std.proofs.Common.{◌||◌, eqb, List, [], ◌∷◌, ◌++◌, map, length, Option, Some, None, refl}
-use Rattle.std.proofs.Common.{sym, ◌∙◌, ap, subst, arith, append_assoc}
+use Rattle.std.proofs.Common.{◌≡◌, ℕ, zero, suc, ◌+◌, ◌*◌, ◌/◌, ◌%◌, ◌≤◌, Bool, true, false, cond, ◌&&◌, ◌||◌, eqb, List, [], ◌∷◌, ◌++◌}
+use Rattle.std.proofs.Common.{map, length, Option, Some, None, refl, sym, ◌∙◌, ap, subst, arith, append_assoc}
+use Rattle.std.proofs.{lemmas.Bool.ltb-false, lemmas.Bool.ltb-true, lemmas.List.Folds.list_any-append}
 use Rattle.std.specs.Prelude.{bytes_eq, filter, slice_get, nat_lt}
 use Rattle.std.specs.List.{flat_map, list_any, AllByRecursion}
-use Rattle.std.proofs.lemmas.Bool.{ltb-false, ltb-true}
-use Rattle.std.proofs.lemmas.List.Folds.{list_any-append}
-use Rattle.aout_core.specs.declared.symbol.Symbol.{Symbol}
-use Rattle.aout_core.specs.declared.symbol.Segment.{Segment}
 use Rattle.aout_core.specs.declared.symbol.Segment.TheVariants.{Undefined, Absolute, TextSeg, DataSeg, BssSeg, Other}
-use Rattle.aout_core.specs.declared.reloc.Reloc.{Reloc}
-use Rattle.aout_core.specs.declared.reloc.Kind.{Kind}
-use Rattle.aout_core.specs.declared.reloc.Kind.TheVariants as kinds
-use Rattle.aout_core.specs.declared.object.ObjectFault.{ObjectFault}
-use Rattle.aout_core.specs.Contents.{Contents}
-use Rattle.aout_core.specs.Words.{plus}
 use Rattle.aout_core.specs.WellFormed.{segment_of, kind_of, symbol_number, is_wanted, kind_fault}
-use Rattle.link_session.specs.declared.state.State.{State}
-use Rattle.link_session.specs.declared.state.State.TheVariants.{Defined, Wanted}
-use Rattle.link_session.specs.Earlier.{with_earlier}
-use Rattle.link_session.specs.Starts.{total}
-use Rattle.link_session.specs.Sessions.{IsObject}
-use Rattle.tool_options.specs.NameLists.{is_among}
+use Rattle.aout_core.specs.{declared.symbol.Symbol.Symbol, declared.symbol.Segment.Segment, declared.reloc.Reloc.Reloc}
+use Rattle.aout_core.specs.{declared.reloc.Kind.Kind, declared.object.ObjectFault.ObjectFault, Contents.Contents, Words.plus}
 use Rattle.link_session.specs.Mentions.{mentions, names_of, names_by_first_mention, place_of}
-use Rattle.link_session.specs.States.{state}
 use Rattle.link_session.specs.Cells.{referent, referent_by, name_in, words_of, segment_relocs}
-use Rattle.link_session.proofs.CellLemmas.{RefersAmong}
-use Rattle.link_session.proofs.MentionLemmas.{is_among-externals}
-use Rattle.tool_options.specs.Choices.{Choices, lays_commons}
-use Rattle.link_out.specs.function.Plans.{Plan, plan, common_offset}
+use Rattle.link_session.specs.{declared.state.State.State, declared.state.State.TheVariants.Defined}
+use Rattle.link_session.specs.{declared.state.State.TheVariants.Wanted, Earlier.with_earlier, Starts.total, Sessions.IsObject, States.state}
+use Rattle.tool_options.specs.{NameLists.is_among, Choices.Choices, Choices.lays_commons}
+use Rattle.link_session.proofs.{CellLemmas.RefersAmong, MentionLemmas.is_among-externals, NeighbourLemmas.blocks}
 use Rattle.link_out.specs.function.Finals.{final, final_by, type_of, bound_at, waiting, etext, edata, end_name}
-use Rattle.link_out.specs.function.Tables.{is_kept_local, moved_value, moved_local, local_rows, external_row}
-use Rattle.link_out.specs.function.Tables.{external_rows, row_of, name_bits, referent_bits, final_reloc, final_relocs}
-use Rattle.link_out.specs.function.Tables.{number_too_large, needs_too_large, has_too_large_in}
-use Rattle.link_out.specs.function.Link.{linked_header}
+use Rattle.link_out.specs.function.Tables.{is_kept_local, moved_value, moved_local, local_rows, external_row, external_rows, row_of}
+use Rattle.link_out.specs.function.Tables.{name_bits, referent_bits, final_reloc, final_relocs, number_too_large, needs_too_large}
+use Rattle.link_out.specs.function.Tables.{has_too_large_in}
+use Rattle.link_out.specs.{function.Plans.Plan, function.Plans.plan, function.Plans.common_offset, function.Link.linked_header}
 use Rattle.link_laws.specs.relation.Relocated.{entry_of}
 use Rattle.link_laws.specs.relation.LinkedTable.{moved_value_in, moved_local_in, moved_locals_in}
 use Rattle.link_laws.specs.relation.LinkedWords.{row_bits, IsNamedBy, AreBits, AreKept}
 use Rattle.link_out.proofs.partial_links.PartialLemmas.{IsProper, state_is_proper}
-use Rattle.link_laws.proofs.MoveLemmas.{move_by_header}
-use Rattle.link_laws.proofs.ExternalLemmas.{names_of_rows, entry_among}
 use Rattle.link_laws.proofs.SegmentLemmas.{HasWords, made_found, made_whole, words_back, front_objects, word_at}
-use Rattle.link_session.proofs.NeighbourLemmas.{blocks}
+use Rattle.link_laws.proofs.{MoveLemmas.move_by_header, ExternalLemmas.names_of_rows, ExternalLemmas.entry_among}
+use Rattle.aout_core.specs.declared.reloc.Kind.TheVariants as kinds
 
 -- locals
 

@@ -1,28 +1,18 @@
 -- The rows of the externals are those that the relation of linking tells, and no others.
-use Rattle.std.proofs.Common.{◌≡◌, ℕ, ◌+◌, ◌-◌, ◌%◌, ◌≤◌, Bool, true, false, cond, eqb, List, []}
-use Rattle.std.proofs.Common.{◌∷◌, map, refl, sym, ◌∙◌, ap, subst, arith}
+use Rattle.std.proofs.Common.{◌≡◌, ℕ, ◌+◌, ◌-◌, ◌%◌, ◌≤◌, Bool, true, false, cond, eqb, List, [], ◌∷◌, map, refl, sym, ◌∙◌, ap, subst}
+use Rattle.std.proofs.Common.{arith}
 use Rattle.std.specs.Prelude.{bytes_eq}
-use Rattle.aout_core.specs.declared.header.Header.{Header}
-use Rattle.aout_core.specs.declared.symbol.Symbol.{Symbol}
 use Rattle.aout_core.specs.declared.symbol.Segment.TheVariants.{Undefined, Absolute, TextSeg, DataSeg, BssSeg, Other}
-use Rattle.aout_core.specs.Words.{plus}
-use Rattle.link_session.specs.declared.state.State.{State}
-use Rattle.link_session.specs.declared.state.State.TheVariants.{Defined, Wanted}
-use Rattle.link_session.specs.Mentions.{Mention}
-use Rattle.link_session.specs.States.{state}
+use Rattle.aout_core.specs.{declared.header.Header.Header, declared.symbol.Symbol.Symbol, Words.plus, Addresses.data_start_in}
+use Rattle.link_session.specs.{declared.state.State.State, declared.state.State.TheVariants.Defined}
+use Rattle.link_session.specs.{declared.state.State.TheVariants.Wanted, Mentions.Mention, States.state}
 use Rattle.tool_options.specs.Choices.{Choices, lays_commons}
-use Rattle.link_out.specs.Layouts.{Bases}
-use Rattle.link_out.specs.function.Plans.{Plan, common_size}
-use Rattle.link_out.specs.function.Finals.{Final, final, bound_at, waiting, reserved_or_waiting, etext, edata, end_name}
-use Rattle.link_out.specs.function.Tables.{external_row}
-use Rattle.link_out.specs.function.Finals.{final_at}
+use Rattle.link_out.specs.function.Finals.{Final, final, bound_at, waiting, reserved_or_waiting, etext, edata, end_name, final_at}
 use Rattle.link_out.specs.internal.InOrder.{finals_from, commons_size_in}
-use Rattle.aout_core.specs.Addresses.{data_start_in}
+use Rattle.link_out.specs.{Layouts.Bases, function.Plans.Plan, function.Plans.common_size, function.Tables.external_row}
 use Rattle.link_laws.specs.relation.LinkedTable.{undefined_row, row_for, space_for, AreRows}
-use Rattle.link_out.proofs.partial_links.PartialLemmas.{IsProper}
-use Rattle.link_laws.proofs.ExternalLemmas.{row_at}
-use Rattle.link_out.proofs.InOrderLemmas.{named_by}
-use Rattle.link_laws.proofs.HasStateLemmas.{has_state, state_is}
+use Rattle.link_out.proofs.{partial_links.PartialLemmas.IsProper, InOrderLemmas.named_by}
+use Rattle.link_laws.proofs.{ExternalLemmas.row_at, HasStateLemmas.has_state, HasStateLemmas.state_is}
 
 -- the rows of names, by what becomes of each
 abbrev pub rows_at : List (List ℕ) → List Final → List Symbol

@@ -1,19 +1,13 @@
 -- How far the segments of objects are moved.
 use Rattle.std.proofs.Common.{◌≡◌, ℕ, ◌+◌, ◌-◌, List, refl, sym, ◌∙◌, ap, arith}
-use Rattle.aout_core.specs.declared.symbol.Segment.{Segment}
 use Rattle.aout_core.specs.declared.symbol.Segment.TheVariants.{Undefined, Absolute, TextSeg, DataSeg, BssSeg, Other}
-use Rattle.aout_core.specs.Contents.{Contents}
-use Rattle.aout_core.specs.Words.{plus, minus}
-use Rattle.link_session.specs.Starts.{total, own}
-use Rattle.link_session.specs.Mentions.{mentions}
-use Rattle.tool_options.specs.declared.options.Layout.{Layout}
-use Rattle.tool_options.specs.declared.options.Layout.TheVariants.{Plain, Pure, Split}
-use Rattle.tool_options.specs.Choices.{Choices}
-use Rattle.link_out.specs.Layouts.{data_base, magic_of}
-use Rattle.link_out.specs.function.Plans.{plan, commons_laid}
-use Rattle.link_out.specs.function.Words.{move}
-use Rattle.link_out.specs.function.Link.{linked_file}
 use Rattle.aout_core.specs.Addresses.{data_start, data_start_in}
+use Rattle.aout_core.specs.{declared.symbol.Segment.Segment, Contents.Contents, Words.plus, Words.minus}
+use Rattle.link_session.specs.{Starts.total, Starts.own, Mentions.mentions}
+use Rattle.tool_options.specs.{declared.options.Layout.Layout, declared.options.Layout.TheVariants.Plain}
+use Rattle.tool_options.specs.{declared.options.Layout.TheVariants.Pure, declared.options.Layout.TheVariants.Split, Choices.Choices}
+use Rattle.link_out.specs.Layouts.{data_base, magic_of}
+use Rattle.link_out.specs.{function.Plans.plan, function.Plans.commons_laid, function.Words.move, function.Link.linked_file}
 use Rattle.link_laws.specs.relation.Relocated.{base_in, move_in}
 
 sum_moved : (b t n : ℕ) → plus b (minus t n) ≡ minus (b + t) n

@@ -1,30 +1,22 @@
 -- What the entries of objects say of names, and the mentions that they make: multiples are definitions that differ.
-use Rattle.std.proofs.Common.{◌≡◌, ◌↔◌, ℕ, zero, suc, ◌+◌, Bool, true, false, cond, ◌||◌, List, [], ◌∷◌, ◌++◌, map}
-use Rattle.std.proofs.Common.{length, Option, Some, None, refl, sym, ◌∙◌, ap, subst, append_assoc}
-use Rattle.std.specs.Prelude.{bytes_eq, filter, slice_get, Ok}
-use Rattle.std.specs.List.{AllByRecursion}
+use Rattle.std.proofs.Common.{◌≡◌, ◌↔◌, ℕ, zero, suc, ◌+◌, Bool, true, false, cond, ◌||◌, List, [], ◌∷◌, ◌++◌, map, length, Option, Some}
+use Rattle.std.proofs.Common.{None, refl, sym, ◌∙◌, ap, subst, append_assoc}
 use Rattle.std.proofs.lemmas.Slice.Eq.{bytes_eq-Decides}
-use Rattle.aout_core.specs.declared.symbol.Symbol.{Symbol}
-use Rattle.aout_core.specs.declared.symbol.Segment.{Segment}
-use Rattle.aout_core.specs.Contents.{Contents}
+use Rattle.std.specs.{Prelude.bytes_eq, Prelude.filter, Prelude.slice_get, Prelude.Ok, List.AllByRecursion}
 use Rattle.aout_core.specs.WellFormed.{is_external, segment_of, first_of}
+use Rattle.aout_core.specs.{declared.symbol.Symbol.Symbol, declared.symbol.Segment.Segment, Contents.Contents}
 use Rattle.aout_core.proofs.AlikeLemmas.{slice_get_after}
 use Rattle.link_session.specs.declared.state.State.{State}
 use Rattle.link_session.specs.declared.state.State.TheVariants.{Defined, Wanted}
-use Rattle.tool_options.specs.NameLists.{is_among}
 use Rattle.link_session.specs.Mentions.{Mention, mention, mentions, mentions_in, forced_mention, statement}
 use Rattle.link_session.specs.States.{Definition, definition_by, first_definition, differs, multiple_names}
-use Rattle.link_session.proofs.ListLemmas.{all_append, all_split}
-use Rattle.link_session.proofs.MentionLemmas.{mentions-append}
-use Rattle.tool_options.specs.Choices.{Choices}
-use Rattle.link_out.specs.function.Plans.{plan}
-use Rattle.link_out.specs.function.Reports.{ReportNames}
-use Rattle.link_out.specs.function.Link.{Outcome, link}
+use Rattle.tool_options.specs.{NameLists.is_among, Choices.Choices}
+use Rattle.link_session.proofs.AgreementLemmas.{AgreesIn, agrees_with, not_multiple, none_defines, own_again}
+use Rattle.link_session.proofs.{ListLemmas.all_append, ListLemmas.all_split, MentionLemmas.mentions-append, NeighbourLemmas.blocks}
+use Rattle.link_out.specs.{function.Plans.plan, function.Reports.ReportNames, function.Link.Outcome, function.Link.link}
 use Rattle.link_laws.specs.WordsAndNames.{IsSaid, HasTwoDefinitions}
 use Rattle.link_laws.proofs.IndexLemmas.{all_get, all_filtered}
-use Rattle.link_session.proofs.NeighbourLemmas.{blocks}
 use Rattle.link_out.proofs.OutcomeLemmas.{made_report}
-use Rattle.link_session.proofs.AgreementLemmas.{AgreesIn, agrees_with, not_multiple, none_defines, own_again}
 
 -- what holds of all mentions holds of the one that an entry makes
 pub of_entry : (P : Mention → Type 0) (forced : List (List ℕ)) (before : List Contents) (k : Contents)

@@ -1,29 +1,19 @@
 -- The words of a segment of the objects, one after another, and what is made of each.
-use Rattle.std.proofs.Common.{◌≡◌, ℕ, zero, suc, ◌+◌, ◌*◌, ◌/◌, List, [], ◌∷◌, ◌++◌, map, length, Option, Some, None}
-use Rattle.std.proofs.Common.{refl, sym, ◌∙◌, ap, subst, arith, length-append, append_assoc, append-nil, inl, inr, ◌⊎◌}
-use Rattle.std.specs.Prelude.{slice_get}
-use Rattle.std.specs.List.{AllByRecursion}
-use Rattle.std.proofs.lemmas.List.{length-map}
-use Rattle.std.proofs.lemmas.List.Sums.{sum_by-append}
-use Rattle.aout_core.specs.declared.symbol.Symbol.{Symbol}
-use Rattle.aout_core.specs.declared.symbol.Segment.{Segment}
+use Rattle.std.proofs.Common.{◌≡◌, ℕ, zero, suc, ◌+◌, ◌*◌, ◌/◌, List, [], ◌∷◌, ◌++◌, map, length, Option, Some, None, refl, sym, ◌∙◌, ap}
+use Rattle.std.proofs.Common.{subst, arith, length-append, append_assoc, append-nil, inl, inr, ◌⊎◌}
+use Rattle.std.proofs.{lemmas.List.length-map, lemmas.List.Sums.sum_by-append}
+use Rattle.std.specs.{Prelude.slice_get, List.AllByRecursion}
 use Rattle.aout_core.specs.declared.symbol.Segment.TheVariants.{Undefined, Absolute, TextSeg, DataSeg, BssSeg, Other}
-use Rattle.aout_core.specs.declared.reloc.Reloc.{Reloc}
-use Rattle.aout_core.specs.declared.object.ObjectFault.{ObjectFault}
-use Rattle.aout_core.specs.Contents.{Contents}
 use Rattle.aout_core.specs.WellFormed.{word_fault, first_of, first_bad_word}
+use Rattle.aout_core.specs.{declared.symbol.Symbol.Symbol, declared.symbol.Segment.Segment, declared.reloc.Reloc.Reloc}
+use Rattle.aout_core.specs.{declared.object.ObjectFault.ObjectFault, Contents.Contents}
 use Rattle.aout_core.proofs.AlikeLemmas.{slice_get_after}
-use Rattle.link_session.specs.Starts.{size_of, total}
-use Rattle.link_session.specs.Sessions.{IsObject}
-use Rattle.link_session.specs.Mentions.{mentions, names_of}
 use Rattle.link_session.specs.Cells.{referent, words_of, segment_words, segment_relocs}
-use Rattle.link_session.proofs.AdditionLemmas.{well_formed}
-use Rattle.link_session.proofs.CellLemmas.{RefersAmong, AllReferAmong}
-use Rattle.link_session.proofs.TotalLemmas.{with_all}
-use Rattle.link_session.proofs.WellFormedLemmas.{objects_refer, well_formed_parts}
-use Rattle.link_session.proofs.ListLemmas.{all_split, get_append, get_mapped}
+use Rattle.link_session.specs.{Starts.size_of, Starts.total, Sessions.IsObject, Mentions.mentions, Mentions.names_of}
+use Rattle.link_session.proofs.{AdditionLemmas.well_formed, CellLemmas.RefersAmong, CellLemmas.AllReferAmong, TotalLemmas.with_all}
+use Rattle.link_session.proofs.{WellFormedLemmas.objects_refer, WellFormedLemmas.well_formed_parts, ListLemmas.all_split}
+use Rattle.link_session.proofs.{ListLemmas.get_append, ListLemmas.get_mapped, NeighbourLemmas.blocks, NeighbourLemmas.blocks-append}
 use Rattle.link_laws.proofs.IndexLemmas.{zip_get, zip_length, all_get, same_elements, get_either, get_back, zip_back}
-use Rattle.link_session.proofs.NeighbourLemmas.{blocks, blocks-append}
 
 both_as_long : (a b size : ℕ) → 2 * a ≡ size → 2 * b ≡ size → a ≡ b
 both_as_long a b size e f = omega arith

@@ -3,23 +3,14 @@
 -- Like the laws of WordsAndNames, each answers one question and follows from the relation of LinkedFrom. No other proof rests on it.
 use Rattle.std.specs.Prelude.{◌≡◌, ◌≢◌, ℕ, ◌+◌, ◌≤◌, ◌⊎◌, true, false, eqb, List, [], ◌∷◌, Some, None, Ok, bytes_eq}
 use Rattle.std.specs.List.{AllByRecursion}
-use Rattle.aout_core.specs.declared.symbol.Symbol.{Symbol}
-use Rattle.aout_core.specs.declared.symbol.Segment.TheVariants.{BssSeg}
-use Rattle.aout_core.specs.Contents.{Contents}
-use Rattle.aout_core.specs.Words.{minus}
-use Rattle.aout_core.specs.WellFormed.{segment_of}
-use Rattle.link_session.specs.Starts.{total}
-use Rattle.link_session.specs.Sessions.{IsObject}
-use Rattle.tool_options.specs.NameLists.{is_among}
-use Rattle.link_session.specs.Mentions.{mentions}
-use Rattle.tool_options.specs.declared.options.Keep.TheVariants.{Nothing}
-use Rattle.tool_options.specs.declared.options.Layout.{Layout}
+use Rattle.aout_core.specs.{declared.symbol.Symbol.Symbol, declared.symbol.Segment.TheVariants.BssSeg, Contents.Contents, Words.minus}
+use Rattle.aout_core.specs.{WellFormed.segment_of, Addresses.data_start_in, declared.header.Header.Header}
+use Rattle.link_session.specs.{Starts.total, Sessions.IsObject, Mentions.mentions}
 use Rattle.tool_options.specs.Choices.{Choices, lays_commons, option_fault}
+use Rattle.tool_options.specs.{NameLists.is_among, declared.options.Keep.TheVariants.Nothing, declared.options.Layout.Layout}
 use Rattle.link_out.specs.function.Link.{Outcome, link}
 use Rattle.link_laws.specs.relation.NameStates.{IsWanted}
-use Rattle.aout_core.specs.Addresses.{data_start_in}
 use Rattle.link_laws.specs.relation.Relocated.{base_in, entry_of, IsEntry}
-use Rattle.aout_core.specs.declared.header.Header.{Header}
 
 -- a name that no object defines, and that they want at this size, which is not 0
 pub record IsCommon (forced : List (List ℕ)) (os : List Contents) (name : List ℕ) (size : ℕ) : Type 0 where

@@ -1,15 +1,10 @@
 -- Laws of partial links under weaker premises than in PartialLinks, also of partial links of partial links. (ld(1), the option `-r`)
 --
 -- Large programs are linked in parts. These laws state when the result does not depend on how the objects are divided into parts.
-use Rattle.std.specs.Prelude.{◌≡◌, ℕ, List, [], ◌∷◌, ◌++◌, Ok}
-use Rattle.std.specs.List.{AllByRecursion}
-use Rattle.aout_core.specs.Contents.{Contents}
-use Rattle.aout_core.specs.WellFormed.{IsWellFormed}
-use Rattle.link_session.specs.Mentions.{mentions}
-use Rattle.link_session.specs.States.{multiple_names}
-use Rattle.link_session.specs.Limits.{limit_passed}
-use Rattle.tool_options.specs.declared.options.Keep.{Keep}
-use Rattle.tool_options.specs.Choices.{Choices}
+use Rattle.std.specs.{Prelude.◌≡◌, Prelude.ℕ, Prelude.List, Prelude.[], Prelude.◌∷◌, Prelude.◌++◌, Prelude.Ok, List.AllByRecursion}
+use Rattle.aout_core.specs.{Contents.Contents, WellFormed.IsWellFormed}
+use Rattle.link_session.specs.{Mentions.mentions, States.multiple_names, Limits.limit_passed}
+use Rattle.tool_options.specs.{declared.options.Keep.Keep, Choices.Choices}
 use Rattle.link_out.specs.function.Link.{Outcome, link}
 use Rattle.link_out.specs.laws.PartialLinks.{KeepsNoMore, IsPartialLink, without_multiples, IsPart, DefinitionsAreKept, DefinesNoMultiple}
 

@@ -4,20 +4,11 @@
 -- follow from the relation of LinkedFrom, and no other proof rests on them. CommonsAndLayouts has more of them.
 use Rattle.std.specs.Prelude.{◌≡◌, ◌≢◌, ◌↔◌, ℕ, true, false, eqb, List, [], ◌∷◌, ◌++◌, map, filter, Some, Ok, slice_get}
 use Rattle.std.specs.List.{AllByRecursion}
-use Rattle.aout_core.specs.declared.symbol.Symbol.{Symbol}
-use Rattle.aout_core.specs.declared.symbol.Segment.{Segment}
-use Rattle.aout_core.specs.declared.reloc.Reloc.{Reloc}
-use Rattle.aout_core.specs.Contents.{Contents}
-use Rattle.aout_core.specs.Words.{plus}
-use Rattle.aout_core.specs.WellFormed.{is_external, masked_type, segment_of}
-use Rattle.link_session.specs.declared.state.State.{State}
-use Rattle.link_session.specs.Sessions.{IsObject}
-use Rattle.tool_options.specs.NameLists.{is_among}
-use Rattle.link_session.specs.Mentions.{externals, statement}
-use Rattle.link_session.specs.declared.state.State.TheVariants.{Defined}
-use Rattle.link_session.specs.Cells.{segment_words, segment_relocs}
-use Rattle.tool_options.specs.declared.options.Keep.TheVariants.{Nothing}
-use Rattle.tool_options.specs.Choices.{Choices}
+use Rattle.aout_core.specs.{declared.symbol.Symbol.Symbol, declared.symbol.Segment.Segment, declared.reloc.Reloc.Reloc, Contents.Contents}
+use Rattle.aout_core.specs.{Words.plus, WellFormed.is_external, WellFormed.masked_type, WellFormed.segment_of}
+use Rattle.link_session.specs.{declared.state.State.State, Sessions.IsObject, Mentions.externals, Mentions.statement}
+use Rattle.link_session.specs.{declared.state.State.TheVariants.Defined, Cells.segment_words, Cells.segment_relocs}
+use Rattle.tool_options.specs.{NameLists.is_among, declared.options.Keep.TheVariants.Nothing, Choices.Choices}
 use Rattle.link_out.specs.function.Link.{Outcome, link}
 use Rattle.link_laws.specs.relation.Relocated.{move_in, entry_of, external_type, IsRelocated, HoldsObjects}
 

@@ -1,21 +1,15 @@
 -- The nearest label, found among the labels of its segment.
-use Rattle.std.proofs.Common.{◌≡◌, ℕ, zero, suc, Bool, true, false, ◌&&◌, cond, List, [], ◌∷◌, filter, get_or}
-use Rattle.std.proofs.Common.{slice_get, nat_lt, nat_le, ◌==◌, if◌then◌else◌, Option, Some, None, refl, sym, ◌∙◌, ap}
-use Rattle.std.proofs.Common.{arith}
+use Rattle.std.proofs.Common.{◌≡◌, ℕ, zero, suc, Bool, true, false, ◌&&◌, cond, List, [], ◌∷◌, filter, get_or, slice_get, nat_lt, nat_le}
+use Rattle.std.proofs.Common.{◌==◌, if◌then◌else◌, Option, Some, None, refl, sym, ◌∙◌, ap, arith}
 use Rattle.std.proofs.lemmas.Bool.Decides.{nat_tests}
 use Rattle.std.proofs.lemmas.List.Sorted.{IsStrictWeakOrder-flip, IsStrictWeakOrder-by_number, sorted_far}
-use Rattle.std.specs.Cmp.{IsStrictWeakOrder}
-use Rattle.std.specs.Ordering.{nat_cmp, is_lt}
-use Rattle.std.specs.declared.cmp.Ordering.{Ordering}
 use Rattle.std.specs.declared.cmp.Ordering.TheVariants.{Less, Equal, Greater}
 use Rattle.std.specs.List.Sorted.{IsSortedBy, IsPartitionedBy, IsPartitionPoint}
-use Rattle.aout_core.specs.declared.symbol.Symbol.{Symbol}
-use Rattle.aout_core.specs.declared.symbol.Segment.{Segment}
+use Rattle.std.specs.{Cmp.IsStrictWeakOrder, Ordering.nat_cmp, Ordering.is_lt, declared.cmp.Ordering.Ordering}
+use Rattle.aout_core.specs.{declared.symbol.Symbol.Symbol, declared.symbol.Segment.Segment, Contents.Contents, Words.plus}
+use Rattle.aout_core.specs.{declared.part.Part.Part}
 use Rattle.symtools.specs.NmLists.{inserted, in_order}
-use Rattle.aout_core.specs.Contents.{Contents}
-use Rattle.aout_core.specs.Words.{plus}
 use Rattle.link_session.specs.Starts.{own}
-use Rattle.aout_core.specs.declared.part.Part.{Part}
 use Rattle.link_maps.specs.declared.references.Before.{Before}
 use Rattle.link_maps.specs.References.{segment_of_part, is_nearer, nearer, nearest, before, before_line}
 use Rattle.link_maps.specs.internal.Labels.{is_of, is_higher, AreLabels, first_from}

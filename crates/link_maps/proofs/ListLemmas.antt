@@ -1,25 +1,19 @@
 -- The words of an object in lists by symbol.
-use Rattle.std.proofs.Common.{◌≡◌, ℕ, zero, suc, ◌+◌, ◌≤◌, ◌<◌, Bool, true, false, ◌&&◌, List, [], ◌∷◌, ◌++◌}
-use Rattle.std.proofs.Common.{length, get_or, drop, replicate, slice_set, eqb, if◌then◌else◌, Option, refl}
-use Rattle.std.proofs.Common.{sym, subst, ◌∙◌, ap, arith, append_assoc, Vec}
+use Rattle.std.proofs.Common.{◌≡◌, ℕ, zero, suc, ◌+◌, ◌≤◌, ◌<◌, Bool, true, false, ◌&&◌, List, [], ◌∷◌, ◌++◌, length, get_or, drop}
+use Rattle.std.proofs.Common.{replicate, slice_set, eqb, if◌then◌else◌, Option, refl, sym, subst, ◌∙◌, ap, arith, append_assoc, Vec}
 use Rattle.std.proofs.lemmas.Bool.Decides.{nat_tests}
 use Rattle.std.proofs.lemmas.List.{append-nil, get_or_default, drop_more, drop_all, length-map, length-replicate}
 use Rattle.std.specs.declared.alloc.Global.{Global}
-use Rattle.aout_core.specs.declared.reloc.Reloc.{Reloc}
-use Rattle.aout_core.specs.declared.symbol.Symbol.{Symbol}
-use Rattle.aout_core.specs.Contents.{Contents}
-use Rattle.aout_core.specs.Words.{plus}
 use Rattle.aout_core.specs.WellFormed.{kind_of, symbol_number}
-use Rattle.aout_core.specs.declared.part.Part.{Part}
-use Rattle.aout_core.specs.declared.part.Part.TheVariants.{Text, Data}
-use Rattle.link_maps.specs.declared.references.Before.{Before}
-use Rattle.link_maps.specs.declared.references.ReferringWord.{ReferringWord}
-use Rattle.link_maps.specs.References.{is_external_kind, line_of, before_line, refers_to, reference_at, reference_by}
-use Rattle.link_maps.specs.References.{references_in, references_of, references_to}
-use Rattle.instructions.specs.declared.unix.Decoder.TheVariants.{Unix}
-use Rattle.disassemblies.specs.Starts.{starts}
+use Rattle.aout_core.specs.{declared.reloc.Reloc.Reloc, declared.symbol.Symbol.Symbol, Contents.Contents, Words.plus}
+use Rattle.aout_core.specs.{declared.part.Part.Part, declared.part.Part.TheVariants.Text, declared.part.Part.TheVariants.Data}
+use Rattle.link_maps.specs.References.{is_external_kind, line_of, before_line, refers_to, reference_at, reference_by, references_in}
+use Rattle.link_maps.specs.References.{references_of, references_to}
 use Rattle.link_maps.specs.Uses.{Use, use_by, uses_by, uses_in}
 use Rattle.link_maps.specs.internal.Lists.{lists_of, each_more, by_symbol, uses_with}
+use Rattle.link_maps.specs.{declared.references.Before.Before, declared.references.ReferringWord.ReferringWord}
+use Rattle.instructions.specs.declared.unix.Decoder.TheVariants.{Unix}
+use Rattle.disassemblies.specs.Starts.{starts}
 
 -- what f gives and then what g gives
 pub each_twice : (f g h : ℕ → List ReferringWord) (k : ℕ) (ls : List (List ReferringWord)) →

@@ -1,7 +1,6 @@
 -- Names padded in eight bytes.
 use Rattle.std.proofs.Common.{◌≡◌, ℕ, ◌+◌, ◌-◌, ◌≤◌, List, ◌++◌, length, take, drop, replicate, sym, ap, ◌∙◌, arith}
-use Rattle.std.proofs.lemmas.List.{drop-replicate, take-replicate}
-use Rattle.std.proofs.Math.Seq.{take-append-add}
+use Rattle.std.proofs.{lemmas.List.drop-replicate, lemmas.List.take-replicate, Math.Seq.take-append-add}
 use Rattle.aout_core.specs.Names.{padded}
 
 -- a name of at most eight bytes at the beginning of eight NULs

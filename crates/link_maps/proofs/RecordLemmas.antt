@@ -3,10 +3,8 @@ use Rattle.std.proofs.Common.{◌≡◌, ℕ, suc, ◌+◌, ◌≤◌, ◌<◌, 
 use Rattle.std.proofs.Common.{zero, slice_get, Some, length, refl, sym, ap, ◌∙◌, arith, append_assoc, length-drop}
 use Rattle.std.proofs.lemmas.List.{drop_more}
 use Rattle.std.specs.List.{flat_map}
-use Rattle.link_maps.specs.declared.places.Places.{Places}
-use Rattle.link_maps.specs.declared.records.UseRecord.{UseRecord}
-use Rattle.link_maps.specs.Uses.{Use, name_of}
 use Rattle.link_maps.specs.Records.{by_name, is_same_name, more_of_name, name_in, records_from, use_records, uses_of_name, with_use}
+use Rattle.link_maps.specs.{declared.places.Places.Places, declared.records.UseRecord.UseRecord, Uses.Use, Uses.name_of}
 
 -- one more use before the first name, whether it is of that name or not
 cut_step : (u v : Use) (vs : List Use) (b : Bool) →

@@ -4,10 +4,8 @@ use Rattle.std.specs.Prelude.{bytes_eq, position}
 use Rattle.aout_core.specs.declared.symbol.Symbol.{Symbol}
 use Rattle.tool_options.specs.NameLists.{is_among}
 use Rattle.link_session.specs.Mentions.{names_by_first_mention, place_of}
-use Rattle.link_out.specs.function.Plans.{Plan}
-use Rattle.link_out.specs.function.Tables.{external_row, external_rows}
-use Rattle.link_out.proofs.ReportNameLemmas.{position-place}
-use Rattle.link_out.proofs.CellWordLemmas.{mapped_at_place}
+use Rattle.link_out.specs.{function.Plans.Plan, function.Tables.external_row, function.Tables.external_rows}
+use Rattle.link_out.proofs.{ReportNameLemmas.position-place, CellWordLemmas.mapped_at_place}
 use Rattle.link_maps.specs.Rows.{row_at}
 
 pub row_found : (p : Plan) (rows : List Symbol) (name : List ℕ) → rows ≡ external_rows p →

@@ -2,15 +2,11 @@
 use Rattle.std.proofs.Common.{◌≡◌, ℕ, List, [], ◌∷◌, ◌++◌, Option, Some, None, refl, sym, ap, ◌∙◌}
 use Rattle.std.proofs.lemmas.List.{append-nil, append_assoc}
 use Rattle.aout_core.specs.WellFormed.{first_of}
-use Rattle.link_session.specs.declared.entry.AddFault.{AddFault}
-use Rattle.link_session.specs.Labelled.{Labelled, objects}
-use Rattle.link_session.specs.Limits.{refusal}
-use Rattle.link_session.specs.Sessions.{nothing_kept}
-use Rattle.link_session.specs.Undo.{Kept}
+use Rattle.link_session.specs.{declared.entry.AddFault.AddFault, Labelled.Labelled, Labelled.objects, Limits.refusal, Sessions.nothing_kept}
+use Rattle.link_session.specs.{Undo.Kept}
 use Rattle.link_maps.specs.Members.{all_of, cause_of, left_of}
 use Rattle.link_maps.specs.Taking.{Split, not_split, split, split_by, split_from, split_of, split_with, with_object}
-use Rattle.link_maps.specs.declared.members.Objects.{Objects}
-use Rattle.link_maps.specs.declared.members.Refused.{Refused}
+use Rattle.link_maps.specs.{declared.members.Objects.Objects, declared.members.Refused.Refused}
 
 -- ---- one after another
 

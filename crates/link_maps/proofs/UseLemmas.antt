@@ -1,11 +1,10 @@
 -- The uses of names in lists of objects.
-use Rattle.std.proofs.Common.{◌≡◌, ℕ, ◌+◌, ◌<◌, List, [], ◌∷◌, ◌++◌, map, length, drop, get_or, sym}
-use Rattle.std.proofs.Common.{◌∙◌, ap, arith, append_assoc, length-append}
+use Rattle.std.proofs.Common.{◌≡◌, ℕ, ◌+◌, ◌<◌, List, [], ◌∷◌, ◌++◌, map, length, drop, get_or, sym, ◌∙◌, ap, arith, append_assoc}
+use Rattle.std.proofs.Common.{length-append}
 use Rattle.std.proofs.lemmas.List.{drop_more, map-append, length-map}
 use Rattle.aout_core.specs.Contents.{Contents}
 use Rattle.link_session.specs.Labelled.{Labelled, objects}
-use Rattle.link_maps.specs.Members.{Member}
-use Rattle.link_maps.specs.Uses.{Use, uses_in, uses_from, forced_use, uses}
+use Rattle.link_maps.specs.{Members.Member, Uses.Use, Uses.uses_in, Uses.uses_from, Uses.forced_use, Uses.uses}
 
 -- one more object
 pub uses_more : (es : List Labelled) (i n m : ℕ) (e : Labelled) (old new whole : List Use) → i < length es →

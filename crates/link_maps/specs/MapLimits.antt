@@ -2,12 +2,9 @@
 use Rattle.std.specs.Prelude.{ℕ, Bool, if◌then◌else◌, List, [], ◌∷◌, ◌++◌, length, Option, Some, None, Result, Ok, Err}
 use Rattle.aout_core.specs.declared.header.Header.{Header}
 use Rattle.link_session.specs.Undo.{Kept, image_of}
-use Rattle.link_out.specs.declared.linked.Linked.{Linked}
-use Rattle.link_out.specs.declared.linked.LinkFault.{LinkFault}
-use Rattle.link_maps.specs.declared.limit_records.LimitRecord.{LimitRecord}
-use Rattle.link_maps.specs.declared.outcome.Outcome.{Outcome}
-use Rattle.link_maps.specs.Members.{Member, capped}
-use Rattle.link_maps.specs.Rows.{largest_number}
+use Rattle.link_out.specs.{declared.linked.Linked.Linked, declared.linked.LinkFault.LinkFault}
+use Rattle.link_maps.specs.{declared.limit_records.LimitRecord.LimitRecord, declared.outcome.Outcome.Outcome, Members.Member}
+use Rattle.link_maps.specs.{Members.capped, Rows.largest_number}
 
 abbrev pub limit : ℕ → ℕ → ℕ → LimitRecord
 limit kind used most = record { used = used; most = most; kind = kind }

@@ -2,14 +2,10 @@
 use Rattle.std.specs.Prelude.{◌≡◌, not, is_some, ℕ, List, map, IfSome}
 use Rattle.link_session.specs.Labelled.{objects}
 use Rattle.tool_options.specs.Choices.{Choices}
-use Rattle.link_maps.specs.declared.map.LinkMap.{LinkMap}
-use Rattle.link_maps.specs.declared.map_records.MapRecords.{MapRecords}
-use Rattle.link_maps.specs.declared.members.Objects.{Objects}
 use Rattle.link_maps.specs.Members.{all_of, first_places, member_of, places_from}
-use Rattle.link_maps.specs.MapLimits.{map_limits}
 use Rattle.link_maps.specs.Records.{by_name, knowledge_of, object_records, record_of, records_from}
-use Rattle.link_maps.specs.Rows.{IsOutcome, bases_of}
-use Rattle.link_maps.specs.Uses.{uses_in_order}
+use Rattle.link_maps.specs.{declared.map.LinkMap.LinkMap, declared.map_records.MapRecords.MapRecords, declared.members.Objects.Objects}
+use Rattle.link_maps.specs.{MapLimits.map_limits, Rows.IsOutcome, Rows.bases_of, Uses.uses_in_order}
 
 -- a map of these objects, what `map_of` gives
 pub record IsMapOf (all : Objects) (forced : List (List ℕ)) (o : Choices) (m : LinkMap) : Type 0 where

@@ -2,30 +2,19 @@
 --
 -- Objects and names are numbered from 0, names in their order. The uses of a name are one after another, and after each the words
 -- of its object that refer to the name.
-use Rattle.std.specs.Prelude.{ℕ, suc, ◌+◌, Bool, not, ◌&&◌, ◌||◌, is_some, if◌then◌else◌, Option, Some, None, Result, Ok, Err}
-use Rattle.std.specs.Prelude.{List, [], ◌∷◌, ◌++◌, drop, map, replicate, zip, Vec, bytes_eq, position, slice_get}
-use Rattle.std.specs.List.{flat_map}
-use Rattle.std.specs.declared.alloc.Global.{Global}
-use Rattle.aout_core.specs.Names.{padded}
-use Rattle.aout_core.specs.declared.symbol.Symbol.{Symbol}
-use Rattle.aout_core.specs.declared.part.Part.{Part}
-use Rattle.aout_core.specs.declared.part.Part.TheVariants.{Text, Data}
+use Rattle.std.specs.Prelude.{ℕ, suc, ◌+◌, Bool, not, ◌&&◌, ◌||◌, is_some, if◌then◌else◌, Option, Some, None, Result, Ok, Err, List, []}
+use Rattle.std.specs.Prelude.{◌∷◌, ◌++◌, drop, map, replicate, zip, Vec, bytes_eq, position, slice_get}
+use Rattle.std.specs.{List.flat_map, declared.alloc.Global.Global}
+use Rattle.aout_core.specs.{Names.padded, declared.symbol.Symbol.Symbol, declared.part.Part.Part, declared.part.Part.TheVariants.Text}
+use Rattle.aout_core.specs.{declared.part.Part.TheVariants.Data}
 use Rattle.tool_options.specs.NameLists.{is_among}
-use Rattle.link_session.specs.Labelled.{number_or_none, objects}
-use Rattle.link_session.specs.Mentions.{externals}
-use Rattle.link_session.specs.Undo.{Kept, image_of}
-use Rattle.link_out.specs.declared.linked.Linked.{Linked}
-use Rattle.link_out.specs.declared.linked.LinkFault.{LinkFault}
-use Rattle.link_maps.specs.declared.outcome.Outcome.{Outcome}
-use Rattle.link_maps.specs.declared.places.Places.{Places}
-use Rattle.link_maps.specs.declared.name_records.NameRecord.{NameRecord}
-use Rattle.link_maps.specs.declared.records.ObjectRecord.{ObjectRecord}
-use Rattle.link_maps.specs.declared.records.UseRecord.{UseRecord}
-use Rattle.link_maps.specs.declared.references.Before.{Before}
-use Rattle.link_maps.specs.declared.references.ReferringWord.{ReferringWord}
+use Rattle.link_session.specs.{Labelled.number_or_none, Labelled.objects, Mentions.externals, Undo.Kept, Undo.image_of}
+use Rattle.link_out.specs.{declared.linked.Linked.Linked, declared.linked.LinkFault.LinkFault}
 use Rattle.link_maps.specs.Members.{Member, capped, start_in}
-use Rattle.link_maps.specs.Rows.{row_at}
 use Rattle.link_maps.specs.Uses.{Use, is_common, is_definition, name_of, stays_undefined, telling}
+use Rattle.link_maps.specs.{declared.outcome.Outcome.Outcome, declared.places.Places.Places, declared.name_records.NameRecord.NameRecord}
+use Rattle.link_maps.specs.{declared.records.ObjectRecord.ObjectRecord, declared.records.UseRecord.UseRecord}
+use Rattle.link_maps.specs.{declared.references.Before.Before, declared.references.ReferringWord.ReferringWord, Rows.row_at}
 
 -- ---- objects
 

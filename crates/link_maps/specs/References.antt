@@ -3,25 +3,17 @@
 -- A word of text is in a line, an instruction or a plain word; a word of data is a line of its own. A label is a symbol of text or of data,
 -- at its address in the object. The one before a line is that with the largest address up to the line's own; of several at that address,
 -- the first of the table.
-use Rattle.std.specs.Prelude.{ℕ, ◌-◌, ◌*◌, ◌/◌, Bool, true, false, ◌&&◌, eqb, nat_lt, nat_le, if◌then◌else◌}
-use Rattle.std.specs.Prelude.{List, [], ◌∷◌, ◌++◌, length, Option, Some, None}
-use Rattle.aout_core.specs.declared.symbol.Symbol.{Symbol}
-use Rattle.aout_core.specs.declared.symbol.Segment.{Segment}
-use Rattle.aout_core.specs.declared.symbol.Segment.TheVariants.{TextSeg, DataSeg}
-use Rattle.aout_core.specs.declared.reloc.Reloc.{Reloc}
-use Rattle.aout_core.specs.declared.reloc.Kind.{Kind}
-use Rattle.aout_core.specs.declared.reloc.Kind.TheVariants.{External}
-use Rattle.aout_core.specs.Contents.{Contents}
-use Rattle.aout_core.specs.Words.{plus}
+use Rattle.std.specs.Prelude.{ℕ, ◌-◌, ◌*◌, ◌/◌, Bool, true, false, ◌&&◌, eqb, nat_lt, nat_le, if◌then◌else◌, List, [], ◌∷◌, ◌++◌, length}
+use Rattle.std.specs.Prelude.{Option, Some, None}
 use Rattle.aout_core.specs.WellFormed.{segment_of, segment_number, kind_of, symbol_number}
+use Rattle.aout_core.specs.{declared.symbol.Symbol.Symbol, declared.symbol.Segment.Segment, declared.symbol.Segment.TheVariants.TextSeg}
+use Rattle.aout_core.specs.{declared.symbol.Segment.TheVariants.DataSeg, declared.reloc.Reloc.Reloc, declared.reloc.Kind.Kind}
+use Rattle.aout_core.specs.{declared.reloc.Kind.TheVariants.External, Contents.Contents, Words.plus, declared.part.Part.Part}
+use Rattle.aout_core.specs.{declared.part.Part.TheVariants.Text, declared.part.Part.TheVariants.Data}
 use Rattle.instructions.specs.declared.unix.Decoder.TheVariants.{Unix}
-use Rattle.disassemblies.specs.Lines.{line_text_in}
-use Rattle.disassemblies.specs.Starts.{line_start}
+use Rattle.disassemblies.specs.{Lines.line_text_in, Starts.line_start}
 use Rattle.link_session.specs.Starts.{own}
-use Rattle.aout_core.specs.declared.part.Part.{Part}
-use Rattle.aout_core.specs.declared.part.Part.TheVariants.{Text, Data}
-use Rattle.link_maps.specs.declared.references.Before.{Before}
-use Rattle.link_maps.specs.declared.references.ReferringWord.{ReferringWord}
+use Rattle.link_maps.specs.{declared.references.Before.Before, declared.references.ReferringWord.ReferringWord}
 
 abbrev pub segment_of_part : Part → Segment
 segment_of_part Text = TextSeg

@@ -1,23 +1,12 @@
 -- What becomes of a link, and the row that its table has for a name. (ld(1))
 use Rattle.std.specs.Prelude.{◌≡◌, ◌≢◌, ◌↔◌, ℕ, ◌<◌, max, cond, List, [], ◌∷◌, Option, Some, None, Err, slice_get, IfSome, IsNone}
-use Rattle.aout_core.specs.declared.symbol.Symbol.{Symbol}
-use Rattle.aout_core.specs.declared.reloc.Reloc.{Reloc}
-use Rattle.aout_core.specs.declared.reloc.Kind.{Kind}
-use Rattle.aout_core.specs.declared.reloc.Kind.TheVariants.{External}
-use Rattle.aout_core.specs.Contents.{Contents}
-use Rattle.aout_core.specs.Refusals.{refused}
 use Rattle.aout_core.specs.WellFormed.{kind_of, symbol_number}
-use Rattle.link_session.specs.Labelled.{objects}
-use Rattle.tool_options.specs.NameLists.{is_among}
-use Rattle.link_session.specs.Mentions.{externals}
-use Rattle.link_session.specs.Undo.{Kept}
-use Rattle.tool_options.specs.Choices.{Choices}
-use Rattle.link_out.specs.declared.linked.LinkFault.TheVariants.{Memory}
-use Rattle.link_out.specs.Layouts.{Bases}
-use Rattle.link_out.specs.Outcomes.{IsLinkOf}
-use Rattle.link_out.specs.function.Link.{link}
-use Rattle.link_out.specs.function.Plans.{plan_of}
-use Rattle.link_out.specs.function.Tables.{external_row, external_rows}
+use Rattle.aout_core.specs.{declared.symbol.Symbol.Symbol, declared.reloc.Reloc.Reloc, declared.reloc.Kind.Kind}
+use Rattle.aout_core.specs.{declared.reloc.Kind.TheVariants.External, Contents.Contents, Refusals.refused}
+use Rattle.link_session.specs.{Labelled.objects, Mentions.externals, Undo.Kept}
+use Rattle.tool_options.specs.{NameLists.is_among, Choices.Choices}
+use Rattle.link_out.specs.{declared.linked.LinkFault.TheVariants.Memory, Layouts.Bases, Outcomes.IsLinkOf, function.Link.link}
+use Rattle.link_out.specs.{function.Plans.plan_of, function.Tables.external_row, function.Tables.external_rows}
 use Rattle.link_maps.specs.declared.outcome.Outcome.{Outcome}
 
 -- the addresses of the segments, the link or why it is refused, and the rows of the externals, if the link fits

@@ -3,12 +3,8 @@
 -- It takes them in order, each after those that it keeps. After the first that passes a limit it takes none.
 use Rattle.std.specs.Prelude.{ℕ, List, [], ◌∷◌, ◌++◌, Option, Some, None}
 use Rattle.aout_core.specs.WellFormed.{first_of}
-use Rattle.link_session.specs.declared.entry.AddFault.{AddFault}
-use Rattle.link_session.specs.Labelled.{Labelled, objects}
-use Rattle.link_session.specs.Limits.{refusal}
-use Rattle.link_maps.specs.declared.members.Objects.{Objects}
-use Rattle.link_maps.specs.declared.members.Refused.{Refused}
-use Rattle.link_maps.specs.Members.{cause_of, left_of}
+use Rattle.link_session.specs.{declared.entry.AddFault.AddFault, Labelled.Labelled, Labelled.objects, Limits.refusal}
+use Rattle.link_maps.specs.{declared.members.Objects.Objects, declared.members.Refused.Refused, Members.cause_of, Members.left_of}
 
 -- the objects that a session keeps, the limit that the next one passes, and that one with those after it
 pub record Split : Type 0 where

@@ -3,21 +3,16 @@
 -- Each external symbol of an object is a use of its name, with the words of the object that refer to the symbol. A forced
 -- name is used by no object. The map has the uses in the order of their names; those of one name stay in the order of the
 -- objects, forced ones first.
-use Rattle.std.specs.Prelude.{ℕ, ◌+◌, Bool, false, not, ◌&&◌, eqb, if◌then◌else◌, List, [], ◌∷◌, ◌++◌, map}
-use Rattle.std.specs.Prelude.{Option, Some, None, position, slice_get, unwrap_or}
-use Rattle.std.specs.List.{list_any}
-use Rattle.std.specs.Cmp.Lexicographic.{slice_cmp}
-use Rattle.std.specs.Ordering.{nat_cmp, is_lt}
-use Rattle.aout_core.specs.declared.symbol.Symbol.{Symbol}
-use Rattle.aout_core.specs.Contents.{Contents}
-use Rattle.aout_core.specs.WellFormed.{is_external, masked_type}
+use Rattle.std.specs.Prelude.{ℕ, ◌+◌, Bool, false, not, ◌&&◌, eqb, if◌then◌else◌, List, [], ◌∷◌, ◌++◌, map, Option, Some, None, position}
+use Rattle.std.specs.Prelude.{slice_get, unwrap_or}
+use Rattle.std.specs.{List.list_any, Cmp.Lexicographic.slice_cmp, Ordering.nat_cmp, Ordering.is_lt}
+use Rattle.aout_core.specs.{declared.symbol.Symbol.Symbol, Contents.Contents, WellFormed.is_external, WellFormed.masked_type}
 use Rattle.instructions.specs.declared.unix.Decoder.TheVariants.{Unix}
 use Rattle.disassemblies.specs.Starts.{starts}
 use Rattle.link_session.specs.declared.state.State.TheVariants.{Wanted}
 use Rattle.link_out.specs.function.Reports.{is_missing}
 use Rattle.symtools.specs.NmLists.{in_order}
-use Rattle.link_maps.specs.declared.references.ReferringWord.{ReferringWord}
-use Rattle.link_maps.specs.References.{references_to}
+use Rattle.link_maps.specs.{declared.references.ReferringWord.ReferringWord, References.references_to}
 
 -- the number of the object, counted from 0; none for a forced name
 pub record Use : Type 0 where

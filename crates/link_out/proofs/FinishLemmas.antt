@@ -1,44 +1,24 @@
 -- A link that no fault refuses.
 use Rattle.std.proofs.Common.{◌≡◌, ℕ, ◌+◌, ◌-◌, ◌≤◌, true, false, cond, List, [], map, length, ◌∙◌, ap, refl, sym, subst, arith}
-use Rattle.aout_core.specs.Refusals.{refused}
-use Rattle.std.specs.Prelude.{Result, Ok, Err, IsOk}
-use Rattle.std.specs.List.{AllByRecursion, list_any}
 use Rattle.std.proofs.lemmas.Bool.{or_parts}
-use Rattle.aout_core.specs.Contents.{Contents}
-use Rattle.aout_core.specs.WellFormed.{IsWellFormed}
-use Rattle.aout_core.specs.declared.symbol.Segment.{Segment}
 use Rattle.aout_core.specs.declared.symbol.Segment.TheVariants.{TextSeg, DataSeg, BssSeg}
-use Rattle.link_session.specs.declared.cell.Cell.{Cell}
-use Rattle.link_session.specs.Starts.{total}
-use Rattle.link_session.specs.Labelled.{objects}
-use Rattle.link_session.specs.Undo.{Kept}
-use Rattle.link_session.specs.Image.{named_states}
-use Rattle.link_session.specs.Cells.{cells}
-use Rattle.link_session.proofs.AdditionLemmas.{well_formed}
-use Rattle.link_session.proofs.WellFormedLemmas.{objects_refer}
+use Rattle.aout_core.specs.{Refusals.refused, Contents.Contents, WellFormed.IsWellFormed, declared.symbol.Segment.Segment}
+use Rattle.std.specs.{Prelude.Result, Prelude.Ok, Prelude.Err, Prelude.IsOk, List.AllByRecursion, List.list_any}
+use Rattle.link_session.specs.{declared.cell.Cell.Cell, Starts.total, Labelled.objects, Undo.Kept, Image.named_states, Cells.cells}
+use Rattle.link_session.proofs.{AdditionLemmas.well_formed, WellFormedLemmas.objects_refer}
 use Rattle.tool_options.specs.Choices.{Choices}
-use Rattle.link_out.specs.Layouts.{Bases}
-use Rattle.link_out.specs.function.Plans.{Plan, commons_laid}
-use Rattle.link_out.specs.function.Words.{final_words}
-use Rattle.link_out.specs.function.Finals.{Final}
 use Rattle.link_out.specs.internal.FromCells.{finals, word_of_cell, reloc_of_cell, target_too_large}
-use Rattle.link_out.specs.internal.Headers.{header_of}
-use Rattle.link_out.specs.internal.InOrder.{finals_from}
-use Rattle.link_out.specs.function.Tables.{table, final_relocs, has_too_large_in}
-use Rattle.link_out.specs.function.Reports.{entry_word, report_of}
 use Rattle.link_out.specs.function.Link.{Outcome, linked_header, linked_file, link_by, link}
-use Rattle.link_out.specs.internal.Passes.{IsPassed}
-use Rattle.link_out.specs.internal.Planned.{plan_in, objects_in, AreShort}
-use Rattle.link_out.specs.Outcomes.{IsLinkOf, outcome_of, report_names}
-use Rattle.link_out.specs.declared.plan.Plan as code
-use Rattle.link_out.specs.declared.linked.Linked.{Linked}
-use Rattle.link_out.specs.declared.linked.LinkFault.{LinkFault}
-use Rattle.link_out.specs.declared.linked.LinkFault.TheVariants.{Memory}
-use Rattle.link_out.proofs.InOrderLemmas.{finals-in_order}
-use Rattle.link_out.proofs.CellWordLemmas.{final_words-cells}
+use Rattle.link_out.specs.{Layouts.Bases, function.Plans.Plan, function.Plans.commons_laid, function.Words.final_words}
+use Rattle.link_out.specs.{function.Finals.Final, internal.Headers.header_of, internal.InOrder.finals_from, function.Tables.table}
+use Rattle.link_out.specs.{function.Tables.final_relocs, function.Tables.has_too_large_in, function.Reports.entry_word}
+use Rattle.link_out.specs.{function.Reports.report_of, internal.Passes.IsPassed, internal.Planned.plan_in, internal.Planned.objects_in}
+use Rattle.link_out.specs.{internal.Planned.AreShort, Outcomes.IsLinkOf, Outcomes.outcome_of, Outcomes.report_names}
+use Rattle.link_out.specs.{declared.linked.Linked.Linked, declared.linked.LinkFault.LinkFault, declared.linked.LinkFault.TheVariants.Memory}
 use Rattle.link_out.proofs.CellRelocLemmas.{final_relocs-cells, has_too_large_in-cells}
-use Rattle.link_out.proofs.ObjectLemmas.{linked_object}
 use Rattle.link_out.proofs.OutcomeLemmas.{passed_link, refused_link}
+use Rattle.link_out.proofs.{InOrderLemmas.finals-in_order, CellWordLemmas.final_words-cells, ObjectLemmas.linked_object}
+use Rattle.link_out.specs.declared.plan.Plan as code
 
 -- the parts of a file are those of the link
 pub linked_parts : (p : Plan) (os : List Contents) (c : Contents) → c.header ≡ linked_header p os →

@@ -1,22 +1,16 @@
 -- Commons, final names and undefined names, name by name.
-use Rattle.std.proofs.Common.{◌≡◌, ℕ, ◌+◌, Bool, true, false, cond, ◌||◌, List, [], ◌∷◌, ◌++◌, map, take}
-use Rattle.std.proofs.Common.{length, refl, sym, ◌∙◌, ap, arith, append_assoc}
+use Rattle.std.proofs.Common.{◌≡◌, ℕ, ◌+◌, Bool, true, false, cond, ◌||◌, List, [], ◌∷◌, ◌++◌, map, take, length, refl, sym, ◌∙◌, ap, arith}
+use Rattle.std.proofs.Common.{append_assoc}
+use Rattle.std.proofs.{Math.Seq.take-append_seam, lemmas.List.Sums.sum_by-append}
 use Rattle.std.specs.Prelude.{bytes_eq}
-use Rattle.std.proofs.Math.Seq.{take-append_seam}
-use Rattle.std.proofs.lemmas.List.Sums.{sum_by-append}
-use Rattle.link_session.specs.declared.state.State.{State}
-use Rattle.link_session.specs.Image.{Named}
-use Rattle.link_session.specs.Image.{named_states}
-use Rattle.tool_options.specs.NameLists.{is_among, new_names}
 use Rattle.link_session.specs.Mentions.{Mention, names_of, names_by_first_mention, place_of}
-use Rattle.link_session.specs.States.{state}
+use Rattle.link_session.specs.{declared.state.State.State, Image.Named, Image.named_states, States.state}
+use Rattle.tool_options.specs.NameLists.{is_among, new_names}
 use Rattle.tool_options.proofs.NameListLemmas.{is_among-append}
 use Rattle.link_session.proofs.UpdateLemmas.{own_name}
 use Rattle.link_out.specs.function.Plans.{Plan, common_size, commons_size, commons_total, common_offset}
-use Rattle.link_out.specs.function.Finals.{final}
-use Rattle.link_out.specs.internal.FromCells.{finals}
-use Rattle.link_out.specs.function.Finals.{final_at}
 use Rattle.link_out.specs.internal.InOrder.{finals_from, commons_size_in}
+use Rattle.link_out.specs.{function.Finals.final, function.Finals.final_at, internal.FromCells.finals}
 
 -- names with their states
 abbrev pub named_by : List Mention → List (List ℕ) → Named

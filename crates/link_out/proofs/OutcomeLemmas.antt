@@ -1,17 +1,12 @@
 -- The file and the report of a link that no fault refuses.
 use Rattle.std.proofs.Common.{◌≡◌, ℕ, ◌≤◌, Bool, true, false, cond, ◌&&◌, List, length, refl, ap, arith}
-use Rattle.aout_core.specs.Refusals.{refused}
-use Rattle.std.specs.Prelude.{Result, Ok, Err, nat_lt}
 use Rattle.std.proofs.lemmas.Bool.{ltb-true, ltb-false}
-use Rattle.aout_core.specs.Contents.{Contents}
-use Rattle.link_out.specs.declared.linked.LinkFault.{LinkFault}
+use Rattle.aout_core.specs.{Refusals.refused, Contents.Contents}
+use Rattle.std.specs.Prelude.{Result, Ok, Err, nat_lt}
 use Rattle.link_out.specs.declared.linked.LinkFault.TheVariants.{DoesNotFit, TooManySymbols, SymbolNumber, Memory}
-use Rattle.link_out.specs.function.Plans.{Plan}
-use Rattle.link_out.specs.function.Tables.{table, has_number_too_large}
-use Rattle.link_out.specs.function.Reports.{report_of}
-use Rattle.link_out.specs.function.Link.{Outcome, linked_file, link_by}
-use Rattle.link_out.specs.internal.Passes.{IsPassed}
-use Rattle.link_out.specs.Outcomes.{IsLinkOf}
+use Rattle.link_out.specs.{declared.linked.LinkFault.LinkFault, function.Plans.Plan, function.Tables.table}
+use Rattle.link_out.specs.{function.Tables.has_number_too_large, function.Reports.report_of, function.Link.Outcome}
+use Rattle.link_out.specs.{function.Link.linked_file, function.Link.link_by, internal.Passes.IsPassed, Outcomes.IsLinkOf}
 
 -- what a link that no fault refuses passed, and what it gives
 pub record IsMade (p : Plan) (os : List Contents) (x : Outcome) : Type 0 where

@@ -1,26 +1,18 @@
 -- The names of a report, and the address of the entry point.
-use Rattle.std.proofs.Common.{◌≡◌, ℕ, ◌+◌, ◌<◌, ◌≤◌, ◌⊎◌, inl, inr, Bool, true, false, cond, ◌&&◌, ◌||◌, eqb, List, []}
-use Rattle.std.proofs.Common.{◌∷◌, map, length, position, Some, None, refl, sym, ◌∙◌, ap, arith, nat_lt}
+use Rattle.std.proofs.Common.{◌≡◌, ℕ, ◌+◌, ◌<◌, ◌≤◌, ◌⊎◌, inl, inr, Bool, true, false, cond, ◌&&◌, ◌||◌, eqb, List, [], ◌∷◌, map, length}
+use Rattle.std.proofs.Common.{position, Some, None, refl, sym, ◌∙◌, ap, arith, nat_lt}
+use Rattle.std.proofs.{lemmas.List.Recursion.is_position_or_len, lemmas.Bool.le-ltb, lemmas.Bool.lt-ltb, lemmas.Bool.cases_lt}
 use Rattle.std.specs.Prelude.{bytes_eq, filter}
-use Rattle.std.proofs.lemmas.List.Recursion.{is_position_or_len}
-use Rattle.std.proofs.lemmas.Bool.{le-ltb, lt-ltb, cases_lt}
-use Rattle.link_session.specs.declared.state.State.{State}
-use Rattle.link_session.specs.declared.state.State.TheVariants.{Wanted}
-use Rattle.link_session.specs.Image.{state_at}
-use Rattle.link_session.specs.Image.{named_states}
+use Rattle.link_session.specs.{declared.state.State.State, declared.state.State.TheVariants.Wanted, Image.state_at, Image.named_states}
+use Rattle.link_session.specs.{Mentions.Mention, Mentions.names_by_first_mention, Mentions.place_of, States.state}
 use Rattle.tool_options.specs.NameLists.{is_among}
-use Rattle.link_session.specs.Mentions.{Mention, names_by_first_mention, place_of}
-use Rattle.link_session.specs.States.{state}
 use Rattle.link_session.proofs.PlaceLemmas.{found_place, missing_state}
 use Rattle.link_session.proofs.MentionedLemmas.{keys-named_states, state_for-named_states}
-use Rattle.link_out.specs.function.Plans.{Plan}
 use Rattle.link_out.specs.function.Finals.{Final, final, type_of}
-use Rattle.link_out.specs.internal.FromCells.{finals}
 use Rattle.link_out.specs.function.Reports.{is_missing, undefined_names, is_in_text, entry_word, entry_found_bad}
 use Rattle.link_out.specs.internal.Entries.{text_address, text_address_at}
-use Rattle.link_out.proofs.CellWordLemmas.{mapped_at_place}
-use Rattle.link_out.specs.internal.InOrder.{missing_among}
-use Rattle.link_out.proofs.InOrderLemmas.{named_by}
+use Rattle.link_out.specs.{function.Plans.Plan, internal.FromCells.finals, internal.InOrder.missing_among}
+use Rattle.link_out.proofs.{CellWordLemmas.mapped_at_place, InOrderLemmas.named_by}
 
 -- the state of a name that is found, and of one that is not
 pub found_known : (ms : List Mention) (name : List ℕ) (i : ℕ) →

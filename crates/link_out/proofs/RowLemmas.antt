@@ -1,33 +1,23 @@
 -- The rows of the table, object by object and name by name, are those of the whole list.
-use Rattle.std.proofs.Common.{◌≡◌, ℕ, ◌+◌, ◌%◌, ◌⊎◌, inl, inr, Bool, true, false, List, [], ◌∷◌, ◌++◌, map, length}
-use Rattle.std.proofs.Common.{drop, refl, sym, subst, ◌∙◌, ap, arith, length-append, append-nil, drop_of_length-le, ◌≤◌}
+use Rattle.std.proofs.Common.{◌≡◌, ℕ, ◌+◌, ◌%◌, ◌⊎◌, inl, inr, Bool, true, false, List, [], ◌∷◌, ◌++◌, map, length, drop, refl, sym, subst}
+use Rattle.std.proofs.Common.{◌∙◌, ap, arith, length-append, append-nil, drop_of_length-le, ◌≤◌}
+use Rattle.std.proofs.lemmas.List.{length-map}
 use Rattle.std.specs.Prelude.{filter, cond, nat_lt, Option, IsNone, IsTrue, IfSome, ◌↔◌}
 use Rattle.std.specs.List.{flat_map}
-use Rattle.std.proofs.lemmas.List.{length-map}
-use Rattle.aout_core.specs.declared.symbol.Symbol.{Symbol}
-use Rattle.aout_core.specs.declared.symbol.Segment.{Segment}
-use Rattle.aout_core.specs.declared.symbol.Segment.TheVariants as segments
-use Rattle.aout_core.specs.Contents.{Contents}
-use Rattle.aout_core.specs.Words.{plus, minus}
-use Rattle.aout_core.specs.WellFormed.{segment_of}
-use Rattle.link_session.specs.Earlier.{with_earlier}
-use Rattle.link_session.specs.Labelled.{Labelled, objects}
-use Rattle.link_session.specs.declared.relocate.Starts.{Starts}
+use Rattle.aout_core.specs.{declared.symbol.Symbol.Symbol, declared.symbol.Segment.Segment, Contents.Contents, Words.plus, Words.minus}
+use Rattle.aout_core.specs.{WellFormed.segment_of}
 use Rattle.link_session.specs.Starts.{total, no_starts, starts_after, next_starts, shifts_at}
-use Rattle.link_session.specs.Mentions.{names_by_first_mention}
-use Rattle.link_session.specs.States.{state}
-use Rattle.link_session.specs.Image.{Named, named_states}
+use Rattle.link_session.specs.{Earlier.with_earlier, Labelled.Labelled, Labelled.objects, declared.relocate.Starts.Starts}
+use Rattle.link_session.specs.{Mentions.names_by_first_mention, States.state, Image.Named, Image.named_states}
 use Rattle.tool_options.specs.declared.options.Keep.{Keep}
-use Rattle.tool_options.specs.declared.options.Keep.TheVariants as keeps
-use Rattle.link_out.specs.declared.table.Moves.{Moves}
-use Rattle.link_out.specs.Layouts.{Bases}
-use Rattle.link_out.specs.function.Finals.{Final, final}
-use Rattle.link_out.specs.internal.FromCells.{finals}
-use Rattle.link_out.specs.function.Plans.{Plan}
-use Rattle.link_out.specs.function.Tables.{is_kept_local, moved_value, moved_local, local_rows, external_row}
-use Rattle.link_out.specs.function.Tables.{external_rows, rows_kept, table}
+use Rattle.link_out.specs.function.Tables.{is_kept_local, moved_value, moved_local, local_rows, external_row, external_rows, rows_kept}
+use Rattle.link_out.specs.function.Tables.{table}
 use Rattle.link_out.specs.internal.Rows.{moves_by, value_moved, symbol_moved, rows_in, rows_from, rows_with, kept_count}
+use Rattle.link_out.specs.{declared.table.Moves.Moves, Layouts.Bases, function.Finals.Final, function.Finals.final}
+use Rattle.link_out.specs.{internal.FromCells.finals, function.Plans.Plan}
 use Rattle.link_session.proofs.StartLemmas.{next_starts-after}
+use Rattle.aout_core.specs.declared.symbol.Segment.TheVariants as segments
+use Rattle.tool_options.specs.declared.options.Keep.TheVariants as keeps
 
 -- a start modulo 65,536 moves as the start does
 moved_from : (v b t own : ℕ) → plus v (plus b (minus (t % 65536) own)) ≡ plus v (plus b (minus t own))

@@ -1,27 +1,15 @@
 -- A number that is too large by the states of the names is so by what becomes of them.
-use Rattle.std.proofs.Common.{◌≡◌, ℕ, ◌+◌, Bool, true, false, cond, not, ◌&&◌, ◌||◌, eqb, List}
-use Rattle.std.proofs.Common.{length, Option, Some, None, refl, sym, ◌∙◌, ap}
-use Rattle.std.specs.Prelude.{slice_get, option_map, if◌then◌else◌}
-use Rattle.std.specs.List.{list_any, AllByRecursion}
+use Rattle.std.proofs.Common.{◌≡◌, ℕ, ◌+◌, Bool, true, false, cond, not, ◌&&◌, ◌||◌, eqb, List, length, Option, Some, None, refl, sym, ◌∙◌}
+use Rattle.std.proofs.Common.{ap}
 use Rattle.std.proofs.lemmas.Option.{slice_get-map}
-use Rattle.aout_core.specs.declared.symbol.Segment.{Segment}
+use Rattle.std.specs.{Prelude.slice_get, Prelude.option_map, Prelude.if◌then◌else◌, List.list_any, List.AllByRecursion}
 use Rattle.aout_core.specs.declared.symbol.Segment.TheVariants.{TextSeg, DataSeg, BssSeg}
-use Rattle.aout_core.specs.Contents.{Contents}
-use Rattle.aout_core.specs.WellFormed.{IsWellFormed}
-use Rattle.aout_core.specs.Words.{plus}
-use Rattle.link_session.specs.declared.cell.Cell.{Cell}
-use Rattle.link_session.specs.declared.cell.Target.{Target}
-use Rattle.link_session.specs.declared.cell.Target.TheVariants as targets
-use Rattle.link_session.specs.declared.state.State.{State}
-use Rattle.link_session.specs.declared.state.State.TheVariants.{Defined, Wanted}
-use Rattle.link_session.specs.Cells.{cells, words_of}
-use Rattle.link_session.specs.Image.{image, named_states}
-use Rattle.link_session.specs.Mentions.{names_by_first_mention, names_of}
-use Rattle.link_session.specs.Sessions.{IsObject}
-use Rattle.link_session.specs.States.{state}
-use Rattle.link_session.proofs.CellLemmas.{AllReferAmong}
-use Rattle.link_session.proofs.AdditionLemmas.{well_formed}
-use Rattle.link_session.proofs.WellFormedLemmas.{objects_refer}
+use Rattle.aout_core.specs.{declared.symbol.Segment.Segment, Contents.Contents, WellFormed.IsWellFormed, Words.plus}
+use Rattle.link_session.specs.{declared.cell.Cell.Cell, declared.cell.Target.Target, declared.state.State.State}
+use Rattle.link_session.specs.{declared.state.State.TheVariants.Defined, declared.state.State.TheVariants.Wanted, Cells.cells}
+use Rattle.link_session.specs.{Cells.words_of, Image.image, Image.named_states, Mentions.names_by_first_mention, Mentions.names_of}
+use Rattle.link_session.specs.{Sessions.IsObject, States.state}
+use Rattle.link_session.proofs.{CellLemmas.AllReferAmong, AdditionLemmas.well_formed, WellFormedLemmas.objects_refer}
 use Rattle.tool_options.specs.Choices.{Choices, lays_commons}
 use Rattle.link_out.specs.function.Finals.{bound_at, waiting, reserved_or_waiting, final, final_by}
 use Rattle.link_out.specs.internal.FromCells.{bound_of, finals, target_too_large}
@@ -29,6 +17,7 @@ use Rattle.link_out.specs.function.Plans.{Plan, plan, common_offset}
 use Rattle.link_out.specs.function.Tables.{number_too_large, local_rows, has_too_large_in, has_number_too_large}
 use Rattle.link_out.specs.internal.SymbolNumbers.{kept_bound, kept_bound_of, is_too_large}
 use Rattle.link_out.proofs.CellRelocLemmas.{has_too_large_in-cells}
+use Rattle.link_session.specs.declared.cell.Target.TheVariants as targets
 
 module _ (p : Plan) (kept : p.choices.relocatable ≡ true) where
   -- a name is bound by its state as it is in the end

@@ -3,9 +3,7 @@
 -- Externals go into the table, unless all symbols are dropped. All locals are kept, or those whose names do not begin with
 -- L, as a compiler's labels do, or none.
 use Rattle.std.specs.Prelude.{ℕ, Bool, true, false, not, ◌&&◌, eqb, List, [], ◌∷◌, codes}
-use Rattle.aout_core.specs.declared.symbol.Symbol.{Symbol}
-use Rattle.aout_core.specs.Words.{letter_of}
-use Rattle.aout_core.specs.WellFormed.{is_external}
+use Rattle.aout_core.specs.{declared.symbol.Symbol.Symbol, Words.letter_of, WellFormed.is_external}
 use Rattle.tool_options.specs.declared.options.Keep.{Keep}
 use Rattle.tool_options.specs.declared.options.Keep.TheVariants.{All, NotL, Externals, Nothing}
 

@@ -2,11 +2,8 @@
 --
 -- The code may fail for one reason that the definition does not have: memory runs out.
 use Rattle.std.specs.Prelude.{◌≡◌, Result, Ok, Err, IsOk}
-use Rattle.link_out.specs.declared.linked.Report.{Report}
-use Rattle.link_out.specs.declared.linked.Linked.{Linked}
-use Rattle.link_out.specs.declared.linked.LinkFault.{LinkFault}
-use Rattle.link_out.specs.declared.linked.LinkFault.TheVariants.{Memory}
-use Rattle.link_out.specs.Results.{ReportNames, Outcome}
+use Rattle.link_out.specs.{declared.linked.Report.Report, declared.linked.Linked.Linked, declared.linked.LinkFault.LinkFault}
+use Rattle.link_out.specs.{declared.linked.LinkFault.TheVariants.Memory, Results.ReportNames, Results.Outcome}
 
 abbrev pub report_names : Report → ReportNames
 report_names r = record {

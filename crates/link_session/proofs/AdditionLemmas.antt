@@ -1,45 +1,31 @@
 -- An image that takes in an object becomes the image of the objects with that one.
 use Rattle.std.proofs.Common.{◌≡◌, ℕ, ◌+◌, List, [], ◌∷◌, ◌++◌, map, Option, Some, None, refl, sym, ◌∙◌, ap}
-use Rattle.std.specs.Prelude.{slice_get, ⊤}
-use Rattle.std.specs.List.{AllByRecursion}
-use Rattle.aout_core.specs.declared.symbol.Symbol.{Symbol}
-use Rattle.aout_core.specs.declared.symbol.Segment.{Segment}
-use Rattle.aout_core.specs.declared.symbol.Segment.TheVariants as segments
-use Rattle.aout_core.specs.declared.reloc.Reloc.{Reloc}
-use Rattle.aout_core.specs.declared.reloc.Kind.{Kind}
-use Rattle.aout_core.specs.declared.reloc.Kind.TheVariants as kinds
-use Rattle.aout_core.specs.Contents.{Contents}
-use Rattle.aout_core.specs.Words.{plus, minus}
+use Rattle.std.specs.{Prelude.slice_get, Prelude.⊤, List.AllByRecursion}
 use Rattle.aout_core.specs.WellFormed.{segment_of, kind_of, is_pc_relative, symbol_number, first_of, IsWellFormed}
-use Rattle.link_session.specs.declared.cell.Cell.{Cell}
-use Rattle.link_session.specs.declared.cell.Target.{Target}
-use Rattle.link_session.specs.declared.cell.Target.TheVariants as targets
-use Rattle.link_session.specs.declared.state.State.{State}
-use Rattle.link_session.specs.declared.relocate.Shifts.{Shifts}
-use Rattle.link_session.specs.Starts.{shift, shift_by}
-use Rattle.tool_options.specs.NameLists.{new_names}
-use Rattle.link_session.specs.Mentions.{Mention, mention, statement, statement_by, mentions, mentions_in, externals_in}
-use Rattle.link_session.specs.Mentions.{names_of, names_by_first_mention, place_of}
+use Rattle.aout_core.specs.{declared.symbol.Symbol.Symbol, declared.symbol.Segment.Segment, declared.reloc.Reloc.Reloc}
+use Rattle.aout_core.specs.{declared.reloc.Kind.Kind, Contents.Contents, Words.plus, Words.minus}
+use Rattle.link_session.specs.Mentions.{Mention, mention, statement, statement_by, mentions, mentions_in, externals_in, names_of}
+use Rattle.link_session.specs.Mentions.{names_by_first_mention, place_of}
 use Rattle.link_session.specs.States.{Definition, state, state_by, first_definition, wanted_size, multiple_names}
-use Rattle.link_session.specs.Cells.{Referent, to_segment, to_name, referent, referent_by, segment_target, name_target}
-use Rattle.link_session.specs.Cells.{name_in, target_of, target_shift, offset_in, if_pc, cell, words_of, cells}
-use Rattle.link_session.specs.Image.{named_states, image}
-use Rattle.link_session.specs.Sessions.{IsObject}
-use Rattle.link_session.specs.Image.{state_in, state_at}
-use Rattle.link_session.specs.internal.Additions.{state_for, place_in, with_mentions, all_clashes, bound_by, binding_at}
-use Rattle.link_session.specs.internal.Additions.{binding, bound_or, settled_cell, mention_by, mentions_by, reference}
-use Rattle.link_session.specs.internal.Additions.{own_cell, own_cells, next_shifts, next_mentions, next_named}
-use Rattle.link_session.specs.internal.Additions.{joined_image}
-use Rattle.link_session.proofs.StateLemmas.{first_definition-append}
+use Rattle.link_session.specs.Cells.{Referent, to_segment, to_name, referent, referent_by, segment_target, name_target, name_in, target_of}
+use Rattle.link_session.specs.Cells.{target_shift, offset_in, if_pc, cell, words_of, cells}
+use Rattle.link_session.specs.Image.{named_states, image, state_in, state_at}
+use Rattle.link_session.specs.internal.Additions.{state_for, place_in, with_mentions, all_clashes, bound_by, binding_at, binding, bound_or}
+use Rattle.link_session.specs.internal.Additions.{settled_cell, mention_by, mentions_by, reference, own_cell, own_cells, next_shifts}
+use Rattle.link_session.specs.internal.Additions.{next_mentions, next_named, joined_image}
+use Rattle.link_session.specs.{declared.cell.Cell.Cell, declared.cell.Target.Target, declared.state.State.State}
+use Rattle.link_session.specs.{declared.relocate.Shifts.Shifts, Starts.shift, Starts.shift_by, Sessions.IsObject}
+use Rattle.tool_options.specs.NameLists.{new_names}
 use Rattle.link_session.proofs.MentionLemmas.{names_by_first_mention-append, is_among-externals, get_place}
 use Rattle.link_session.proofs.CellLemmas.{rebound, bound, RefersAmong, AllReferAmong, cells_more, all_made}
-use Rattle.link_session.proofs.MarkLemmas.{awaited, bound-awaited}
-use Rattle.link_session.proofs.WellFormedLemmas.{objects_refer}
-use Rattle.link_session.proofs.UpdateLemmas.{image_own}
 use Rattle.link_session.proofs.MentionedLemmas.{keys-named_states, state_for-named_states, with_mentions-named_states}
 use Rattle.link_session.proofs.MentionedLemmas.{all_clashes-named_states}
-use Rattle.link_session.proofs.TotalLemmas.{text_total, data_total}
 use Rattle.link_session.proofs.ListLemmas.{all_map, get_append, index_get, get_mapped}
+use Rattle.link_session.proofs.{StateLemmas.first_definition-append, MarkLemmas.awaited, MarkLemmas.bound-awaited}
+use Rattle.link_session.proofs.{WellFormedLemmas.objects_refer, UpdateLemmas.image_own, TotalLemmas.text_total, TotalLemmas.data_total}
+use Rattle.aout_core.specs.declared.symbol.Segment.TheVariants as segments
+use Rattle.aout_core.specs.declared.reloc.Kind.TheVariants as kinds
+use Rattle.link_session.specs.declared.cell.Target.TheVariants as targets
 
 -- the cell, bound, if its name has a definition among later mentions
 abbrev pub rebinding : Option Definition → Cell → Option Cell

@@ -1,15 +1,12 @@
 -- Mentions that agree with the first definition of their name, and names that are not multiply defined.
 use Rattle.std.proofs.Common.{◌≡◌, ℕ, Bool, true, false, cond, not, ◌||◌, List, [], ◌∷◌, map, Option, Some, None, refl, sym, ◌∙◌, ap}
-use Rattle.std.specs.Prelude.{bytes_eq, filter}
-use Rattle.std.specs.List.{AllByRecursion}
 use Rattle.std.proofs.lemmas.Slice.Eq.{bytes_eq-Decides}
-use Rattle.aout_core.specs.declared.symbol.Segment.{Segment}
-use Rattle.aout_core.specs.WellFormed.{first_of}
-use Rattle.link_session.specs.declared.state.State.{State}
-use Rattle.link_session.specs.declared.state.State.TheVariants.{Defined, Wanted}
-use Rattle.tool_options.specs.NameLists.{is_among}
-use Rattle.link_session.specs.Mentions.{Mention}
+use Rattle.std.specs.{Prelude.bytes_eq, Prelude.filter, List.AllByRecursion}
+use Rattle.aout_core.specs.{declared.symbol.Segment.Segment, WellFormed.first_of}
 use Rattle.link_session.specs.States.{Definition, definition_by, first_definition, is_definition, differs}
+use Rattle.link_session.specs.{declared.state.State.State, declared.state.State.TheVariants.Defined}
+use Rattle.link_session.specs.{declared.state.State.TheVariants.Wanted, Mentions.Mention}
+use Rattle.tool_options.specs.NameLists.{is_among}
 use Rattle.link_session.proofs.UpdateLemmas.{own_definition, definition_same}
 
 -- a mention that says what the first definition of its name among all mentions says

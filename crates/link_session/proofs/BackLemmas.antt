@@ -1,22 +1,16 @@
 -- The marks of mentions bring the earlier states back, lie inside the image, and are few.
-use Rattle.std.proofs.Common.{◌≡◌, ℕ, zero, suc, ◌≤◌, ◌<◌, Bool, true, false, cond, ◌&&◌, List, [], ◌∷◌, take}
-use Rattle.std.proofs.Common.{length, refl, ◌∙◌, ap, arith, length-append, nat_lt}
-use Rattle.std.specs.List.{AllByRecursion}
-use Rattle.std.specs.Map.{keys_of}
+use Rattle.std.proofs.Common.{◌≡◌, ℕ, zero, suc, ◌≤◌, ◌<◌, Bool, true, false, cond, ◌&&◌, List, [], ◌∷◌, take, length, refl, ◌∙◌, ap, arith}
+use Rattle.std.proofs.Common.{length-append, nat_lt}
 use Rattle.std.proofs.lemmas.Bool.{ltb-true, ltb-false}
-use Rattle.link_session.specs.declared.state.State.{State}
-use Rattle.link_session.specs.declared.state.State.TheVariants.{Defined, Wanted}
-use Rattle.link_session.specs.declared.mark.Mark.TheVariants.{StateWas}
-use Rattle.tool_options.specs.NameLists.{is_among}
-use Rattle.link_session.specs.Mentions.{Mention}
-use Rattle.link_session.specs.Image.{Image}
-use Rattle.link_session.specs.Undo.{with_state, put_all_back, IsInside}
-use Rattle.link_session.specs.internal.Updates.{updated_state}
-use Rattle.link_session.specs.Image.{Named, state_at}
+use Rattle.std.specs.{List.AllByRecursion, Map.keys_of}
 use Rattle.link_session.specs.internal.Additions.{state_for, place_in, with_mention, with_mentions, changes, state_mark, state_marks}
+use Rattle.link_session.specs.{declared.state.State.State, declared.state.State.TheVariants.Defined}
+use Rattle.link_session.specs.{declared.state.State.TheVariants.Wanted, declared.mark.Mark.TheVariants.StateWas, Mentions.Mention}
+use Rattle.link_session.specs.{Image.Image, Image.Named, Image.state_at, Undo.with_state, Undo.put_all_back, Undo.IsInside}
+use Rattle.link_session.specs.{internal.Updates.updated_state}
+use Rattle.tool_options.specs.NameLists.{is_among}
 use Rattle.link_session.proofs.MarkLemmas.{put_all_back-append, take_grown, take_with_state}
-use Rattle.link_session.proofs.MentionedLemmas.{with_mention-is, next_state}
-use Rattle.link_session.proofs.ListLemmas.{all_append}
+use Rattle.link_session.proofs.{MentionedLemmas.with_mention-is, MentionedLemmas.next_state, ListLemmas.all_append}
 
 -- States.
 

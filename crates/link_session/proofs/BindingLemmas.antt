@@ -1,29 +1,21 @@
 -- Binding as a change of the whole image: one cell, a chain, an external, and several externals.
-use Rattle.std.proofs.Common.{◌≡◌, ◌<◌, ◌+◌, ℕ, zero, suc, List, [], ◌∷◌, map, length, refl, ◌∙◌, sym, ap, subst, arith}
-use Rattle.std.proofs.Common.{cond, Some, None, slice_index_or, slice_set}
-use Rattle.link_session.specs.declared.bind.Definition.{Definition}
-use Rattle.link_session.specs.declared.cell.Cell.{Cell}
-use Rattle.link_session.specs.declared.mark.Mark.{Mark}
-use Rattle.link_session.specs.declared.mark.Place.{Place}
-use Rattle.link_session.specs.declared.merged.Merged.{Merged}
-use Rattle.link_session.specs.declared.state.State.{State}
-use Rattle.link_session.specs.declared.state.State.TheVariants.{Defined, Wanted}
-use Rattle.link_session.specs.Image.{Image, Named, state_at}
-use Rattle.link_session.specs.internal.Additions.{bound_by, bound_or}
+use Rattle.std.proofs.Common.{◌≡◌, ◌<◌, ◌+◌, ℕ, zero, suc, List, [], ◌∷◌, map, length, refl, ◌∙◌, sym, ap, subst, arith, cond, Some, None}
+use Rattle.std.proofs.Common.{slice_index_or, slice_set}
 use Rattle.link_session.specs.internal.Chains.{Link, IsBoundTo, AreChained, link_at, walk, waits_at, bound_if}
-use Rattle.link_session.specs.internal.Counts.{NotesBound}
 use Rattle.link_session.specs.internal.Fields.{threads_in, with_cells, with_heads, HoldsChains, LeavesMarksIn, KeepsCapacity}
-use Rattle.link_session.specs.internal.Bindings.{Bindable, bindable_in, settled, settled_all, IsSettled, KeepsRest}
-use Rattle.link_session.specs.internal.Bindings.{IsChainIn, IsPlaceIn, BindsAt, BindsTo}
-use Rattle.link_session.specs.internal.Restores.{LeavesMarks}
-use Rattle.link_session.specs.internal.Settled.{settled_at, settled_over}
-use Rattle.link_session.specs.internal.Threads.{Threads, cut_by_state, cut_heads}
+use Rattle.link_session.specs.internal.Bindings.{Bindable, bindable_in, settled, settled_all, IsSettled, KeepsRest, IsChainIn, IsPlaceIn}
+use Rattle.link_session.specs.internal.Bindings.{BindsAt, BindsTo}
+use Rattle.link_session.specs.{declared.bind.Definition.Definition, declared.cell.Cell.Cell, declared.mark.Mark.Mark}
+use Rattle.link_session.specs.{declared.mark.Place.Place, declared.merged.Merged.Merged, declared.state.State.State}
+use Rattle.link_session.specs.{declared.state.State.TheVariants.Defined, declared.state.State.TheVariants.Wanted, Image.Image, Image.Named}
+use Rattle.link_session.specs.{Image.state_at, internal.Additions.bound_by, internal.Additions.bound_or, internal.Counts.NotesBound}
+use Rattle.link_session.specs.{internal.Restores.LeavesMarks, internal.Settled.settled_at, internal.Settled.settled_over}
+use Rattle.link_session.specs.{internal.Threads.Threads, internal.Threads.cut_by_state, internal.Threads.cut_heads}
 use Rattle.link_session.proofs.WalkLemmas.{begun, next_inside, step, shorter}
-use Rattle.link_session.proofs.ChainedLemmas.{cut_to}
 use Rattle.link_session.proofs.RestoreLemmas.{chain_left, all_texts, all_datas, all_marks}
 use Rattle.link_session.proofs.FewLemmas.{chain_noted, defined_noted, noted_then}
-use Rattle.link_session.proofs.EmptyChainLemmas.{no_text, no_data}
 use Rattle.link_session.proofs.NamesLemmas.{all_one, none_left, unsettled, leaves_then}
+use Rattle.link_session.proofs.{ChainedLemmas.cut_to, EmptyChainLemmas.no_text, EmptyChainLemmas.no_data}
 
 -- What stays.
 

@@ -1,18 +1,13 @@
 -- The marks of a chain bring its cells back.
-use Rattle.std.proofs.Common.{◌≡◌, ◌<◌, ◌⊎◌, inl, inr, ℕ, zero, suc, Bool, true, false, cond, ◌||◌, List, [], ◌∷◌, ◌++◌}
-use Rattle.std.proofs.Common.{length, Option, Some, slice_index_or, refl, sym, ap, ◌∙◌, subst, arith}
-use Rattle.std.specs.Prelude.{slice_get}
-use Rattle.std.specs.List.{AllByRecursion}
+use Rattle.std.proofs.Common.{◌≡◌, ◌<◌, ◌⊎◌, inl, inr, ℕ, zero, suc, Bool, true, false, cond, ◌||◌, List, [], ◌∷◌, ◌++◌, length, Option}
+use Rattle.std.proofs.Common.{Some, slice_index_or, refl, sym, ap, ◌∙◌, subst, arith}
 use Rattle.std.proofs.lemmas.Bool.{cases_eq}
+use Rattle.std.specs.{Prelude.slice_get, List.AllByRecursion}
 use Rattle.aout_core.specs.declared.symbol.Segment.{Segment}
-use Rattle.link_session.specs.declared.cell.Cell.{Cell}
-use Rattle.link_session.specs.declared.mark.Mark.{Mark}
-use Rattle.link_session.specs.declared.mark.Mark.TheVariants.{CellWas, StateWas}
-use Rattle.link_session.specs.declared.mark.Place.{Place}
-use Rattle.link_session.specs.declared.mark.Place.TheVariants.{InText, InData}
-use Rattle.link_session.specs.Image.{Image}
-use Rattle.link_session.specs.Undo.{put_all_back, IsInside}
 use Rattle.link_session.specs.internal.Chains.{Link, is_on, IsWithin, bound_to, bound_where, nowhere, marks_of, heads_back}
+use Rattle.link_session.specs.{declared.cell.Cell.Cell, declared.mark.Mark.Mark, declared.mark.Mark.TheVariants.CellWas}
+use Rattle.link_session.specs.{declared.mark.Mark.TheVariants.StateWas, declared.mark.Place.Place, declared.mark.Place.TheVariants.InText}
+use Rattle.link_session.specs.{declared.mark.Place.TheVariants.InData, Image.Image, Undo.put_all_back, Undo.IsInside}
 use Rattle.link_session.proofs.UndoLemmas.{put_back_all, put_back-old, AreOf, IsMarked, text_writes, data_writes}
 use Rattle.link_session.proofs.ChainLemmas.{length-bound_where, other_number}
 

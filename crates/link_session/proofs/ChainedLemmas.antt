@@ -1,29 +1,21 @@
 -- All chains of an image: while a name is bound, while names are added, and while the cells of an object are put last.
-use Rattle.std.proofs.Common.{◌≡◌, ◌≢◌, ◌<◌, ◌+◌, ◌||◌, ◌⊎◌, inl, inr, ℕ, zero, suc, Bool, true, false, cond, List, []}
-use Rattle.std.proofs.Common.{◌∷◌, ◌++◌, map, length, Some, None, nat_eq, slice_index_or, slice_set, refl, sym, ap, ◌∙◌}
-use Rattle.std.proofs.Common.{subst, arith, length-append, append_assoc, append-nil}
-use Rattle.std.specs.Prelude.{⊤}
-use Rattle.std.specs.List.{AllByRecursion}
+use Rattle.std.proofs.Common.{◌≡◌, ◌≢◌, ◌<◌, ◌+◌, ◌||◌, ◌⊎◌, inl, inr, ℕ, zero, suc, Bool, true, false, cond, List, [], ◌∷◌, ◌++◌, map}
+use Rattle.std.proofs.Common.{length, Some, None, nat_eq, slice_index_or, slice_set, refl, sym, ap, ◌∙◌, subst, arith, length-append}
+use Rattle.std.proofs.Common.{append_assoc, append-nil}
 use Rattle.std.proofs.lemmas.Bool.{cases_eq}
+use Rattle.std.specs.{Prelude.⊤, List.AllByRecursion}
 use Rattle.aout_core.specs.declared.symbol.Segment.{Segment}
-use Rattle.link_session.specs.declared.cell.Cell.{Cell}
-use Rattle.link_session.specs.declared.cell.Target.{Target}
-use Rattle.link_session.specs.declared.cell.Target.TheVariants as targets
-use Rattle.link_session.specs.declared.state.State.TheVariants.{Defined}
-use Rattle.link_session.specs.declared.mark.Mark.{Mark}
-use Rattle.link_session.specs.declared.mark.Place.{Place}
-use Rattle.link_session.specs.declared.mark.Place.TheVariants.{InText, InData}
-use Rattle.link_session.specs.Image.{Named, state_at}
-use Rattle.link_session.specs.internal.Additions.{bound_by, bound_or}
-use Rattle.link_session.specs.internal.Chains.{Link, IsChain, is_on, AreApart, IsWithin, IsBoundTo, bound_where}
-use Rattle.link_session.specs.internal.Chains.{bound_if, marks_of, waits_at, FindsWaiting, Waits, head_for, with_head}
-use Rattle.link_session.specs.internal.Chains.{threaded, AreChained}
-use Rattle.link_session.proofs.ListLemmas.{all_split}
+use Rattle.link_session.specs.internal.Chains.{Link, IsChain, is_on, AreApart, IsWithin, IsBoundTo, bound_where, bound_if, marks_of}
+use Rattle.link_session.specs.internal.Chains.{waits_at, FindsWaiting, Waits, head_for, with_head, threaded, AreChained}
+use Rattle.link_session.specs.{declared.cell.Cell.Cell, declared.cell.Target.Target, declared.state.State.TheVariants.Defined}
+use Rattle.link_session.specs.{declared.mark.Mark.Mark, declared.mark.Place.Place, declared.mark.Place.TheVariants.InText}
+use Rattle.link_session.specs.{declared.mark.Place.TheVariants.InData, Image.Named, Image.state_at, internal.Additions.bound_by}
+use Rattle.link_session.specs.{internal.Additions.bound_or, internal.Settled.settled_at}
 use Rattle.link_session.proofs.ChainLemmas.{length-bound_where, on_either, apart_parts, apart_from, own_number, chain-unique, none_ahead}
-use Rattle.link_session.specs.internal.Settled.{settled_at}
 use Rattle.link_session.proofs.WaitLemmas.{bound_on_chain, rest_finds, other_finds}
 use Rattle.link_session.proofs.PushLemmas.{push_text, pass_text, push_data, pass_data}
-use Rattle.link_session.proofs.CountLemmas.{waits_is}
+use Rattle.link_session.proofs.{ListLemmas.all_split, CountLemmas.waits_is}
+use Rattle.link_session.specs.declared.cell.Target.TheVariants as targets
 
 index_set_same : {A : Type 0} (xs : List A) (k : ℕ) (x d : A) → k < length xs → slice_index_or (slice_set xs k x) k d ≡ x
 index_set_same [] k x d h = absurd (omega arith)

@@ -1,16 +1,11 @@
 -- A state that mentions change does not come back.
-use Rattle.std.proofs.Common.{◌≡◌, ◌≢◌, ℕ, max, Bool, true, false, cond, List, [], ◌∷◌, ◌++◌, Option}
-use Rattle.std.proofs.Common.{refl, sym, ap, ◌∙◌, arith, append_assoc, append-nil}
+use Rattle.std.proofs.Common.{◌≡◌, ◌≢◌, ℕ, max, Bool, true, false, cond, List, [], ◌∷◌, ◌++◌, Option, refl, sym, ap, ◌∙◌, arith}
+use Rattle.std.proofs.Common.{append_assoc, append-nil}
 use Rattle.std.proofs.lemmas.Bool.{eqb-true}
-use Rattle.link_session.specs.declared.state.State.{State}
-use Rattle.link_session.specs.declared.state.State.TheVariants.{Defined, Wanted}
-use Rattle.link_session.specs.Marks.{same_state, state_changed, states_changed}
-use Rattle.link_session.specs.Mentions.{Mention}
-use Rattle.link_session.specs.States.{Definition, state, state_by}
-use Rattle.link_session.specs.internal.Updates.{updated_state}
-use Rattle.link_session.proofs.StateLemmas.{state-append}
-use Rattle.link_session.proofs.DifferenceLemmas.{own_state}
-use Rattle.link_session.proofs.UpdateLemmas.{definition_same}
+use Rattle.link_session.specs.{declared.state.State.State, declared.state.State.TheVariants.Defined}
+use Rattle.link_session.specs.{declared.state.State.TheVariants.Wanted, Marks.same_state, Marks.state_changed, Marks.states_changed}
+use Rattle.link_session.specs.{Mentions.Mention, States.Definition, States.state, States.state_by, internal.Updates.updated_state}
+use Rattle.link_session.proofs.{StateLemmas.state-append, DifferenceLemmas.own_state, UpdateLemmas.definition_same}
 
 is_same : (s t : State) → same_state s t ≡ true → t ≡ s
 is_same (Defined segment offset) (Defined again place) e =

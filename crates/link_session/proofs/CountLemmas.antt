@@ -1,24 +1,18 @@
 -- A chain has as many places as cells that wait for its external, and each name that is bound leaves so many fewer cells to bind.
-use Rattle.std.proofs.Common.{◌≡◌, ◌≢◌, ◌<◌, ◌+◌, ◌⊎◌, inl, inr, ℕ, zero, suc, Bool, true, false, cond, ◌||◌, List}
-use Rattle.std.proofs.Common.{[], ◌∷◌, map, length, is_some, refl, sym, ap, ◌∙◌, arith}
-use Rattle.std.specs.List.{AllByRecursion}
+use Rattle.std.proofs.Common.{◌≡◌, ◌≢◌, ◌<◌, ◌+◌, ◌⊎◌, inl, inr, ℕ, zero, suc, Bool, true, false, cond, ◌||◌, List, [], ◌∷◌, map, length}
+use Rattle.std.proofs.Common.{is_some, refl, sym, ap, ◌∙◌, arith}
 use Rattle.std.proofs.lemmas.Bool.{cases_eq}
+use Rattle.std.specs.List.{AllByRecursion}
 use Rattle.aout_core.specs.declared.symbol.Segment.{Segment}
-use Rattle.aout_core.specs.declared.symbol.Segment.TheVariants as segments
-use Rattle.link_session.specs.declared.cell.Cell.{Cell}
-use Rattle.link_session.specs.declared.cell.Target.{Target}
-use Rattle.link_session.specs.declared.cell.Target.TheVariants as targets
-use Rattle.link_session.specs.declared.state.State.{State}
-use Rattle.link_session.specs.declared.state.State.TheVariants.{Defined}
-use Rattle.link_session.specs.declared.mark.Place.{Place}
-use Rattle.link_session.specs.declared.mark.Place.TheVariants.{InText, InData}
-use Rattle.link_session.specs.Cells.{segment_target}
-use Rattle.link_session.specs.Image.{Named, state_at}
 use Rattle.link_session.specs.internal.Additions.{bound_by, binding_at, binding, bound_or}
 use Rattle.link_session.specs.internal.Chains.{Link, is_on, AreApart, IsWithin, waits_at, FindsWaiting, Waits, bound_to}
-use Rattle.link_session.specs.internal.Counts.{waiting_for, to_bind}
+use Rattle.link_session.specs.{declared.cell.Cell.Cell, declared.cell.Target.Target, declared.state.State.State}
+use Rattle.link_session.specs.{declared.state.State.TheVariants.Defined, declared.mark.Place.Place, declared.mark.Place.TheVariants.InText}
+use Rattle.link_session.specs.{declared.mark.Place.TheVariants.InData, Cells.segment_target, Image.Named, Image.state_at}
+use Rattle.link_session.specs.{internal.Counts.waiting_for, internal.Counts.to_bind, internal.Settled.settled_at}
 use Rattle.link_session.proofs.ChainLemmas.{own_number, other_number}
-use Rattle.link_session.specs.internal.Settled.{settled_at}
+use Rattle.aout_core.specs.declared.symbol.Segment.TheVariants as segments
+use Rattle.link_session.specs.declared.cell.Target.TheVariants as targets
 
 -- how many indices of cells pass the test
 abbrev pub count_where : (ℕ → Bool) → List Cell → ℕ

@@ -1,17 +1,11 @@
 -- What an addition and a withdrawal leave, and why an addition is refused.
-use Rattle.std.proofs.Common.{◌≡◌, ℕ, Bool, true, false, if◌then◌else◌, nat_lt, length, List, [], ◌∷◌, ◌++◌}
-use Rattle.std.proofs.Common.{Option, None, Some, refl, sym, ap}
-use Rattle.aout_core.specs.Refusals.{refused}
+use Rattle.std.proofs.Common.{◌≡◌, ℕ, Bool, true, false, if◌then◌else◌, nat_lt, length, List, [], ◌∷◌, ◌++◌, Option, None, Some, refl, sym}
+use Rattle.std.proofs.Common.{ap}
 use Rattle.aout_core.specs.declared.symbol.Segment.TheVariants.{TextSeg, DataSeg, BssSeg}
-use Rattle.aout_core.specs.Contents.{Contents}
-use Rattle.link_session.specs.declared.entry.AddFault.{AddFault}
+use Rattle.aout_core.specs.{Refusals.refused, Contents.Contents}
 use Rattle.link_session.specs.declared.entry.AddFault.TheVariants.{TextFull, DataFull, BssFull, NamesFull, Memory}
-use Rattle.link_session.specs.Mentions.{externals}
-use Rattle.link_session.specs.Starts.{total}
-use Rattle.link_session.specs.Labelled.{Labelled}
-use Rattle.link_session.specs.Sessions.{IsCause}
-use Rattle.link_session.specs.Limits.{refusal}
-use Rattle.link_session.specs.Edits.{last_of, without_last}
+use Rattle.link_session.specs.{declared.entry.AddFault.AddFault, Mentions.externals, Starts.total, Labelled.Labelled, Sessions.IsCause}
+use Rattle.link_session.specs.{Limits.refusal, Edits.last_of, Edits.without_last}
 
 -- a cause that is not want of memory is the limit that was passed
 pub limit_is : (r : Option AddFault) (cause : AddFault) → IsCause r cause → (cause ≡ Memory refused → ⊥) → r ≡ Some cause

@@ -1,7 +1,6 @@
 -- What an iterator over names gives.
-use Rattle.std.proofs.Common.{length, ap}
+use Rattle.std.proofs.{Common.length, Common.ap, iter.runs.Sources.from_front, iter.runs.Sources.as_is}
 use Rattle.std.specs.Iterator.{YieldsFirst}
-use Rattle.std.proofs.iter.runs.Sources.{from_front, as_is}
 use Rattle.link_session.specs.Image.{Named, GivesInOrder}
 
 -- the iterator of `Session::externals` gives the names one after another

@@ -1,34 +1,21 @@
 -- How many marks there are once chains are bound, and that they are no more than an addition may leave.
-use Rattle.std.proofs.Common.{◌≡◌, ◌≤◌, ◌+◌, ℕ, Bool, cond, List, [], ◌∷◌, ◌++◌, map, length, Option, Some, None}
-use Rattle.std.proofs.Common.{is_some, refl, ap, ◌∙◌, arith, length-append}
-use Rattle.std.specs.Prelude.{filter}
-use Rattle.std.specs.List.{AllByRecursion}
+use Rattle.std.proofs.Common.{◌≡◌, ◌≤◌, ◌+◌, ℕ, Bool, cond, List, [], ◌∷◌, ◌++◌, map, length, Option, Some, None, is_some, refl, ap, ◌∙◌}
+use Rattle.std.proofs.Common.{arith, length-append}
 use Rattle.std.proofs.lemmas.List.{length-map}
-use Rattle.aout_core.specs.declared.symbol.Segment.{Segment}
-use Rattle.aout_core.specs.declared.symbol.Segment.TheVariants as segments
-use Rattle.aout_core.specs.Contents.{Contents}
-use Rattle.link_session.specs.declared.cell.Cell.{Cell}
-use Rattle.link_session.specs.declared.state.State.TheVariants.{Defined}
-use Rattle.link_session.specs.declared.mark.Mark.{Mark}
-use Rattle.link_session.specs.declared.mark.Mark.TheVariants.{CellWas}
-use Rattle.link_session.specs.declared.mark.Place.{Place}
+use Rattle.std.specs.{Prelude.filter, List.AllByRecursion}
+use Rattle.aout_core.specs.{declared.symbol.Segment.Segment, Contents.Contents}
 use Rattle.link_session.specs.Mentions.{Mention, mentions, mentions_in, externals, names_by_first_mention}
-use Rattle.link_session.specs.States.{Definition}
-use Rattle.link_session.specs.Image.{named_states, image}
-use Rattle.link_session.specs.Cells.{cells}
+use Rattle.link_session.specs.Image.{named_states, image, Named, state_at}
 use Rattle.link_session.specs.Bounds.{is_defined_by, waiting_in, most_marks}
-use Rattle.link_session.specs.Sessions.{IsObject}
-use Rattle.link_session.specs.Image.{Named, state_at}
-use Rattle.link_session.specs.internal.Additions.{next_named}
 use Rattle.link_session.specs.internal.Chains.{Link, Waits, cell_at, marks_of}
-use Rattle.link_session.specs.internal.Settled.{settled_at}
 use Rattle.link_session.specs.internal.Counts.{to_bind, NotesWaiting, NotesBound}
-use Rattle.link_session.specs.internal.Restores.{TakesBack}
-use Rattle.link_session.proofs.WellFormedLemmas.{objects_refer}
-use Rattle.link_session.proofs.BoundLemmas.{is_defined_by-awaited}
-use Rattle.link_session.proofs.MarkLemmas.{awaited}
+use Rattle.link_session.specs.{declared.cell.Cell.Cell, declared.state.State.TheVariants.Defined, declared.mark.Mark.Mark}
+use Rattle.link_session.specs.{declared.mark.Mark.TheVariants.CellWas, declared.mark.Place.Place, States.Definition, Cells.cells}
+use Rattle.link_session.specs.{Sessions.IsObject, internal.Additions.next_named, internal.Settled.settled_at, internal.Restores.TakesBack}
 use Rattle.link_session.proofs.AdditionLemmas.{WaitsAmong, rebinding, cells_wait, binding-awaited, next_named-states, well_formed}
-use Rattle.link_session.proofs.CountLemmas.{chain_counted, fewer_to_bind}
+use Rattle.link_session.proofs.{WellFormedLemmas.objects_refer, BoundLemmas.is_defined_by-awaited, MarkLemmas.awaited}
+use Rattle.link_session.proofs.{CountLemmas.chain_counted, CountLemmas.fewer_to_bind}
+use Rattle.aout_core.specs.declared.symbol.Segment.TheVariants as segments
 
 -- the marks of a chain
 pub chain_noted : (ts ds : List Link) (head : Link) (texts datas : List Cell) (k : ℕ) (w : Waits ts ds head texts datas k)

@@ -1,33 +1,20 @@
 -- The image while an object is joined to it.
 use Rattle.std.proofs.Common.{◌≡◌, ℕ, ◌+◌, ◌*◌, ◌≤◌, List, ◌++◌, map, length, refl, ◌∙◌, ap, subst, arith, None}
-use Rattle.std.specs.Prelude.{filter}
-use Rattle.std.specs.Map.{keys_of}
-use Rattle.aout_core.specs.declared.symbol.Symbol.{Symbol}
-use Rattle.aout_core.specs.Contents.{Contents}
-use Rattle.aout_core.specs.WellFormed.{is_external}
-use Rattle.link_session.specs.declared.relocate.Shifts.{Shifts}
-use Rattle.tool_options.specs.NameLists.{new_names}
-use Rattle.link_session.specs.Image.{Image}
-use Rattle.link_session.specs.declared.cell.Cell.{Cell}
-use Rattle.link_session.specs.declared.mark.Mark.{Mark}
-use Rattle.link_session.specs.internal.Chains.{Link}
+use Rattle.std.specs.{Prelude.filter, Map.keys_of}
+use Rattle.aout_core.specs.{declared.symbol.Symbol.Symbol, Contents.Contents, WellFormed.is_external}
 use Rattle.link_session.specs.internal.Settled.{settled_over, places_of, IsCovered}
 use Rattle.link_session.specs.internal.Threads.{Threads, IsThreaded, cut_heads, bound_heads, next_threads, undo_threads}
 use Rattle.link_session.specs.internal.Restores.{Restores, LeavesMarks, TakesBack}
-use Rattle.link_session.specs.internal.Counts.{NotesBound}
-use Rattle.link_session.specs.Undo.{undo}
-use Rattle.link_session.specs.internal.Fields.{sizes_of, with_cells, with_heads, with_own_cells, with_own_threads}
-use Rattle.link_session.specs.internal.Fields.{threads_by, with_heads_back}
-use Rattle.link_session.specs.Image.{Named}
-use Rattle.link_session.specs.internal.Additions.{with_mentions, all_clashes, mention_by, mentions_by, state_marks}
-use Rattle.link_session.specs.internal.Additions.{settled_cell, new_count, next_limit, next_shifts, next_mentions}
-use Rattle.link_session.specs.internal.Additions.{next_named, entered, joined_image}
-use Rattle.link_session.proofs.MentionedLemmas.{length-with_mentions}
-use Rattle.link_session.proofs.LimitLemmas.{new_count-le}
-use Rattle.link_session.proofs.TotalLemmas.{within_limit}
-use Rattle.link_session.proofs.TakenBackLemmas.{taken_back, bound_alone}
+use Rattle.link_session.specs.internal.Fields.{sizes_of, with_cells, with_heads, with_own_cells, with_own_threads, threads_by}
+use Rattle.link_session.specs.internal.Fields.{with_heads_back}
+use Rattle.link_session.specs.internal.Additions.{with_mentions, all_clashes, mention_by, mentions_by, state_marks, settled_cell, new_count}
+use Rattle.link_session.specs.internal.Additions.{next_limit, next_shifts, next_mentions, next_named, entered, joined_image}
+use Rattle.link_session.specs.{declared.relocate.Shifts.Shifts, Image.Image, Image.Named, declared.cell.Cell.Cell, declared.mark.Mark.Mark}
+use Rattle.link_session.specs.{internal.Chains.Link, internal.Counts.NotesBound, Undo.undo}
+use Rattle.tool_options.specs.NameLists.{new_names}
 use Rattle.link_session.proofs.WithdrawalLemmas.{heads_back-after_states, heads_alone_back}
-use Rattle.link_session.proofs.MentionLemmas.{names_of-map}
+use Rattle.link_session.proofs.{MentionedLemmas.length-with_mentions, LimitLemmas.new_count-le, TotalLemmas.within_limit}
+use Rattle.link_session.proofs.{TakenBackLemmas.taken_back, TakenBackLemmas.bound_alone, MentionLemmas.names_of-map}
 
 -- the fields once the mentions are entered
 pub entered-is : (m n : Image) (o f : Contents) (shifts : Shifts) (symbols : List Symbol) (es : Named) (xs : List (List ℕ)) →

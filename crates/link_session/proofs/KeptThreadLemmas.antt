@@ -2,16 +2,12 @@
 use Rattle.std.proofs.Common.{◌≡◌, ℕ, List, [], ◌∷◌, ◌++◌, refl, sym, ap, subst, ◌∙◌}
 use Rattle.std.specs.List.{AllByRecursion}
 use Rattle.aout_core.specs.Contents.{Contents}
-use Rattle.link_session.specs.declared.mark.Mark.{Mark}
-use Rattle.link_session.specs.Image.{image}
-use Rattle.link_session.specs.Sessions.{IsObject}
-use Rattle.link_session.specs.internal.Chains.{heads_back}
-use Rattle.link_session.specs.internal.Threads.{Threads, bound_heads, next_threads, forced_threads, threads_of}
-use Rattle.link_session.specs.internal.Threads.{undo_threads, UndoesThreads, IsThreaded, KeepsThreads}
-use Rattle.link_session.proofs.AdditionLemmas.{joined_image-is}
+use Rattle.link_session.specs.internal.Threads.{Threads, bound_heads, next_threads, forced_threads, threads_of, undo_threads, UndoesThreads}
+use Rattle.link_session.specs.internal.Threads.{IsThreaded, KeepsThreads}
+use Rattle.link_session.specs.{declared.mark.Mark.Mark, Image.image, Sessions.IsObject, internal.Chains.heads_back}
 use Rattle.link_session.proofs.JournalLemmas.{journal_empty, journal_push, journal_pop}
 use Rattle.link_session.proofs.HistoryLemmas.{threads_push, threaded_of}
-use Rattle.link_session.proofs.WithdrawalLemmas.{threads_back}
+use Rattle.link_session.proofs.{AdditionLemmas.joined_image-is, WithdrawalLemmas.threads_back}
 
 -- kept threads hold the chains of the image
 pub kept_threaded : (forced : List (List ℕ)) (os : List Contents) (journal : List (List Mark)) (t : Threads) →

@@ -1,15 +1,11 @@
 -- How many names the entries of an object add, and the limits of an image.
-use Rattle.std.proofs.Common.{◌≡◌, ℕ, ◌≤◌, Bool, true, false, cond, not, ◌&&◌, ◌||◌, is_some, Some}
-use Rattle.std.proofs.Common.{List, [], ◌∷◌, ◌++◌, map, length, refl, ap, arith}
-use Rattle.std.specs.Prelude.{bytes_eq, filter}
-use Rattle.std.specs.List.{list_any}
-use Rattle.std.specs.Map.{keys_of, lookup}
+use Rattle.std.proofs.Common.{◌≡◌, ℕ, ◌≤◌, Bool, true, false, cond, not, ◌&&◌, ◌||◌, is_some, Some, List, [], ◌∷◌, ◌++◌, map, length, refl}
+use Rattle.std.proofs.Common.{ap, arith}
 use Rattle.std.proofs.lemmas.List.{length-map}
-use Rattle.aout_core.specs.declared.symbol.Symbol.{Symbol}
-use Rattle.aout_core.specs.WellFormed.{is_external}
+use Rattle.std.specs.{Prelude.bytes_eq, Prelude.filter, List.list_any, Map.keys_of, Map.lookup}
+use Rattle.aout_core.specs.{declared.symbol.Symbol.Symbol, WellFormed.is_external}
 use Rattle.tool_options.specs.NameLists.{is_among, new_names}
-use Rattle.link_session.specs.Image.{Named}
-use Rattle.link_session.specs.internal.Additions.{external_names, new_count}
+use Rattle.link_session.specs.{Image.Named, internal.Additions.external_names, internal.Additions.new_count}
 use Rattle.tool_options.proofs.NameListLemmas.{is_among-append}
 
 -- a key is found where it is one of the keys

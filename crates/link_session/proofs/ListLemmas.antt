@@ -1,7 +1,6 @@
 -- What holds of all elements, and the elements of longer and of mapped lists.
 use Rattle.std.proofs.Common.{◌≡◌, ℕ, zero, suc, List, [], ◌∷◌, ◌++◌, map, Option, Some, ap}
-use Rattle.std.specs.Prelude.{slice_get, slice_index_or}
-use Rattle.std.specs.List.{AllByRecursion}
+use Rattle.std.specs.{Prelude.slice_get, Prelude.slice_index_or, List.AllByRecursion}
 
 -- what holds of all elements of two lists holds of the two in a row
 pub all_append : {A : Type 0} (P : A → Type 0) (xs ys : List A) → AllByRecursion P xs → AllByRecursion P ys → AllByRecursion P (xs ++ ys)

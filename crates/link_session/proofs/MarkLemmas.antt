@@ -1,17 +1,12 @@
 -- Marks put back in turn, the prefixes of lists that grow, and what cells await.
 use Rattle.std.proofs.Common.{◌≡◌, ℕ, zero, suc, ◌≤◌, List, [], ◌∷◌, ◌++◌, map, take, length, Option, None, refl, ap, arith}
-use Rattle.std.specs.Prelude.{slice_index_or}
 use Rattle.std.proofs.lemmas.List.{length-map, take_at}
-use Rattle.link_session.specs.declared.cell.Cell.{Cell}
-use Rattle.link_session.specs.declared.cell.Target.{Target}
-use Rattle.link_session.specs.declared.cell.Target.TheVariants as targets
-use Rattle.link_session.specs.declared.state.State.{State}
-use Rattle.link_session.specs.declared.mark.Mark.{Mark}
-use Rattle.link_session.specs.Mentions.{Mention}
-use Rattle.link_session.specs.States.{Definition, first_definition}
-use Rattle.link_session.specs.Image.{Image}
-use Rattle.link_session.specs.Undo.{with_state, put_back, put_all_back}
+use Rattle.std.specs.Prelude.{slice_index_or}
+use Rattle.link_session.specs.{declared.cell.Cell.Cell, declared.cell.Target.Target, declared.state.State.State, declared.mark.Mark.Mark}
+use Rattle.link_session.specs.{Mentions.Mention, States.Definition, States.first_definition, Image.Image, Undo.with_state, Undo.put_back}
+use Rattle.link_session.specs.{Undo.put_all_back}
 use Rattle.link_session.proofs.CellLemmas.{rebound, bound_at, bound}
+use Rattle.link_session.specs.declared.cell.Target.TheVariants as targets
 
 -- marks are put back one part after the other
 pub put_all_back-append : (ks ls : List Mark) (m : Image) → put_all_back (ks ++ ls) m ≡ put_all_back ks (put_all_back ls m)

@@ -1,22 +1,16 @@
 -- What marks hold of one place: those of chains and of mentions, and of two lists of marks together.
-use Rattle.std.proofs.Common.{◌≡◌, ℕ, Bool, true, false, not, ◌||◌, ◌&&◌, cond, List, [], ◌∷◌, ◌++◌}
-use Rattle.std.proofs.Common.{nat_eq, nat_lt, refl, sym, ap, ◌∙◌, subst}
+use Rattle.std.proofs.Common.{◌≡◌, ℕ, Bool, true, false, not, ◌||◌, ◌&&◌, cond, List, [], ◌∷◌, ◌++◌, nat_eq, nat_lt, refl, sym, ap, ◌∙◌}
+use Rattle.std.proofs.Common.{subst}
 use Rattle.aout_core.specs.declared.symbol.Segment.{Segment}
-use Rattle.aout_core.specs.declared.symbol.Segment.TheVariants as segments
-use Rattle.link_session.specs.declared.cell.Cell.{Cell}
-use Rattle.link_session.specs.declared.cell.Target.TheVariants.{External}
-use Rattle.link_session.specs.declared.state.State.{State}
-use Rattle.link_session.specs.declared.mark.Mark.{Mark}
-use Rattle.link_session.specs.declared.mark.Mark.TheVariants.{CellWas, StateWas}
-use Rattle.link_session.specs.declared.mark.Place.{Place}
-use Rattle.link_session.specs.Cells.{segment_target}
-use Rattle.link_session.specs.Image.{Named}
 use Rattle.link_session.specs.Marks.{same_place, cells_marked, states_marked}
-use Rattle.link_session.specs.Mentions.{Mention}
 use Rattle.link_session.specs.internal.Additions.{place_in, state_for, with_mention, changes, state_mark, state_marks}
 use Rattle.link_session.specs.internal.Chains.{is_on, AreApart, bound_to, cell_at, marks_of}
 use Rattle.link_session.specs.internal.Restores.{HoldBound, gets_bound, is_waiting}
+use Rattle.link_session.specs.{declared.cell.Cell.Cell, declared.cell.Target.TheVariants.External, declared.state.State.State}
+use Rattle.link_session.specs.{declared.mark.Mark.Mark, declared.mark.Mark.TheVariants.CellWas, declared.mark.Mark.TheVariants.StateWas}
+use Rattle.link_session.specs.{declared.mark.Place.Place, Cells.segment_target, Image.Named, Mentions.Mention}
 use Rattle.link_session.proofs.ChainLemmas.{same_is}
+use Rattle.aout_core.specs.declared.symbol.Segment.TheVariants as segments
 
 -- Two lists of marks together.
 

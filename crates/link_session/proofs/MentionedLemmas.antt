@@ -1,24 +1,18 @@
 -- The names and states after the mentions of an object.
-use Rattle.std.proofs.Common.{◌≡◌, ℕ, zero, suc, ◌+◌, Bool, true, false, cond, ◌||◌, List, [], ◌∷◌, ◌++◌, map, length}
-use Rattle.std.proofs.Common.{refl, sym, ◌∙◌, ap, arith, add-one, append_assoc, append-nil, length-append}
-use Rattle.std.specs.Prelude.{bytes_eq}
-use Rattle.std.specs.Map.{keys_of}
+use Rattle.std.proofs.Common.{◌≡◌, ℕ, zero, suc, ◌+◌, Bool, true, false, cond, ◌||◌, List, [], ◌∷◌, ◌++◌, map, length, refl, sym, ◌∙◌, ap}
+use Rattle.std.proofs.Common.{arith, add-one, append_assoc, append-nil, length-append}
 use Rattle.std.proofs.lemmas.List.{map-append, length-map}
+use Rattle.std.specs.{Prelude.bytes_eq, Map.keys_of}
 use Rattle.indexmap.specs.IndexMap.{insert_entry}
-use Rattle.link_session.specs.declared.state.State.{State}
-use Rattle.link_session.specs.declared.state.State.TheVariants.{Wanted}
-use Rattle.tool_options.specs.NameLists.{is_among, new_names}
 use Rattle.link_session.specs.Mentions.{Mention, names_of, names_by_first_mention, place_of}
-use Rattle.link_session.specs.States.{state, multiple_names}
-use Rattle.link_session.specs.Image.{named_states}
-use Rattle.link_session.specs.Undo.{with_state}
-use Rattle.link_session.specs.internal.Updates.{updated_state, clashes}
-use Rattle.link_session.specs.Image.{Named, state_at, state_in}
+use Rattle.link_session.specs.Image.{named_states, Named, state_at, state_in}
 use Rattle.link_session.specs.internal.Additions.{state_for, place_in, with_mention, with_mentions, all_clashes}
+use Rattle.link_session.specs.{declared.state.State.State, declared.state.State.TheVariants.Wanted, States.state, States.multiple_names}
+use Rattle.link_session.specs.{Undo.with_state, internal.Updates.updated_state, internal.Updates.clashes}
+use Rattle.tool_options.specs.NameLists.{is_among, new_names}
 use Rattle.tool_options.proofs.NameListLemmas.{seen_again, new_names-seen}
-use Rattle.link_session.proofs.MentionLemmas.{is_among-externals, get_place}
 use Rattle.link_session.proofs.UpdateLemmas.{unmentioned, externals_mention, multiples_mention, says_alone}
-use Rattle.link_session.proofs.ListLemmas.{get_mapped}
+use Rattle.link_session.proofs.{MentionLemmas.is_among-externals, MentionLemmas.get_place, ListLemmas.get_mapped}
 
 -- the names stay where a state is replaced
 keys-with_state : (es : Named) (i : ℕ) (s : State) → keys_of (with_state es i s) ≡ keys_of es

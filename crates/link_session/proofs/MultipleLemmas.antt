@@ -1,14 +1,11 @@
 -- The multiples after more mentions.
 use Rattle.std.proofs.Common.{◌≡◌, true, List, [], ◌∷◌, ◌++◌, map, Option, Some, None, refl, ◌∙◌, ap, append_assoc}
+use Rattle.std.proofs.{lemmas.List.map-append, lemmas.Slice.Eq.bytes_eq-Decides, lemmas.List.Elements.filter-append}
 use Rattle.std.specs.Prelude.{bytes_eq, filter}
-use Rattle.std.proofs.lemmas.List.{map-append}
-use Rattle.std.proofs.lemmas.Slice.Eq.{bytes_eq-Decides}
-use Rattle.std.proofs.lemmas.List.Elements.{filter-append}
 use Rattle.aout_core.specs.WellFormed.{first_of}
-use Rattle.link_session.specs.declared.state.State.{State}
-use Rattle.link_session.specs.declared.state.State.TheVariants.{Defined, Wanted}
-use Rattle.link_session.specs.Mentions.{Mention}
 use Rattle.link_session.specs.States.{Definition, definition_by, first_definition, differs, multiple_names}
+use Rattle.link_session.specs.{declared.state.State.State, declared.state.State.TheVariants.Defined}
+use Rattle.link_session.specs.{declared.state.State.TheVariants.Wanted, Mentions.Mention}
 use Rattle.link_session.proofs.StateLemmas.{first_definition-append}
 
 -- a mention among these differs from the first definition as it did, whatever comes later

@@ -1,29 +1,19 @@
 -- The mentions and names of objects after others, and of as long objects in their place.
-use Rattle.std.proofs.Common.{◌≡◌, ℕ, ◌+◌, max, Bool, true, false, cond, ◌||◌, List, [], ◌∷◌, ◌++◌, map, Option}
-use Rattle.std.proofs.Common.{None, refl, sym, ◌∙◌, ap, append_assoc, append-nil, arith}
-use Rattle.std.specs.Prelude.{bytes_eq}
-use Rattle.std.specs.List.{flat_map}
-use Rattle.std.proofs.lemmas.List.Concat.{flat_map-append}
-use Rattle.std.proofs.lemmas.List.{map-append, map-id}
-use Rattle.std.proofs.lemmas.List.Sums.{sum_by-append}
-use Rattle.std.proofs.lemmas.Bool.{or_left, or_right}
-use Rattle.std.proofs.lemmas.Slice.Eq.{bytes_eq-Decides}
-use Rattle.aout_core.specs.declared.symbol.Symbol.{Symbol}
-use Rattle.aout_core.specs.declared.symbol.Segment.{Segment}
+use Rattle.std.proofs.Common.{◌≡◌, ℕ, ◌+◌, max, Bool, true, false, cond, ◌||◌, List, [], ◌∷◌, ◌++◌, map, Option, None, refl, sym, ◌∙◌, ap}
+use Rattle.std.proofs.Common.{append_assoc, append-nil, arith}
+use Rattle.std.proofs.{lemmas.List.Concat.flat_map-append, lemmas.List.map-append, lemmas.List.map-id, lemmas.List.Sums.sum_by-append}
+use Rattle.std.proofs.{lemmas.Bool.or_left, lemmas.Bool.or_right, lemmas.Slice.Eq.bytes_eq-Decides}
+use Rattle.std.specs.{Prelude.bytes_eq, List.flat_map}
 use Rattle.aout_core.specs.declared.symbol.Segment.TheVariants.{Undefined, Absolute, TextSeg, DataSeg, BssSeg, Other}
-use Rattle.aout_core.specs.Contents.{Contents}
-use Rattle.aout_core.specs.Words.{plus, minus}
 use Rattle.aout_core.specs.WellFormed.{first_of, segment_of}
-use Rattle.link_session.specs.declared.state.State.{State}
-use Rattle.link_session.specs.declared.state.State.TheVariants.{Defined, Wanted}
-use Rattle.link_session.specs.Earlier.{with_earlier}
-use Rattle.link_session.specs.Starts.{size_of, own, total, shift}
-use Rattle.tool_options.specs.NameLists.{is_among, new_names}
+use Rattle.aout_core.specs.{declared.symbol.Symbol.Symbol, declared.symbol.Segment.Segment, Contents.Contents, Words.plus, Words.minus}
 use Rattle.link_session.specs.Mentions.{Mention, statement, mention, mentions_in, externals_in, forced_mention, names_of}
-use Rattle.link_session.specs.States.{Definition, first_definition, wanted_size, state_by, state}
-use Rattle.link_session.proofs.EarlierLemmas.{with_earlier-append}
+use Rattle.link_session.specs.{declared.state.State.State, declared.state.State.TheVariants.Defined}
+use Rattle.link_session.specs.{declared.state.State.TheVariants.Wanted, Earlier.with_earlier, Starts.size_of, Starts.own, Starts.total}
+use Rattle.link_session.specs.{Starts.shift, States.Definition, States.first_definition, States.wanted_size, States.state_by, States.state}
+use Rattle.tool_options.specs.NameLists.{is_among, new_names}
+use Rattle.link_session.proofs.{EarlierLemmas.with_earlier-append, MentionLemmas.names_of-map}
 use Rattle.tool_options.proofs.NameListLemmas.{new_names-append, is_among-append, is_among-new_names, new_names-seen, seen_again}
-use Rattle.link_session.proofs.MentionLemmas.{names_of-map}
 
 -- where the segment begins that stands after these objects
 abbrev pub start : List Contents → Segment → ℕ

@@ -1,16 +1,12 @@
 -- How many names an object adds, counted one symbol after the other.
-use Rattle.std.proofs.Common.{◌≡◌, ℕ, Bool, true, false, cond, not, ◌&&◌, ◌||◌, List, [], ◌∷◌, ◌++◌, map, refl}
-use Rattle.std.proofs.Common.{sym, ◌∙◌, ap, subst, length, append_assoc, append-nil}
-use Rattle.std.specs.Prelude.{filter}
-use Rattle.std.specs.Map.{keys_of}
+use Rattle.std.proofs.Common.{◌≡◌, ℕ, Bool, true, false, cond, not, ◌&&◌, ◌||◌, List, [], ◌∷◌, ◌++◌, map, refl, sym, ◌∙◌, ap, subst, length}
+use Rattle.std.proofs.Common.{append_assoc, append-nil}
 use Rattle.std.proofs.lemmas.List.{length-map}
-use Rattle.aout_core.specs.declared.symbol.Symbol.{Symbol}
-use Rattle.aout_core.specs.WellFormed.{is_external}
-use Rattle.link_session.specs.declared.state.State.{State}
-use Rattle.link_session.specs.Image.{Named}
+use Rattle.std.specs.{Prelude.filter, Map.keys_of}
+use Rattle.aout_core.specs.{declared.symbol.Symbol.Symbol, WellFormed.is_external}
+use Rattle.link_session.specs.{declared.state.State.State, Image.Named, internal.Additions.external_names, internal.Additions.new_count}
+use Rattle.link_session.specs.{internal.NewNames.with_entered, internal.NewNames.with_new, internal.NewNames.with_all_new}
 use Rattle.tool_options.specs.NameLists.{is_among, new_names}
-use Rattle.link_session.specs.internal.Additions.{external_names, new_count}
-use Rattle.link_session.specs.internal.NewNames.{with_entered, with_new, with_all_new}
 use Rattle.tool_options.proofs.NameListLemmas.{is_among-append, seen_again, new_names-seen}
 
 -- the new names so far, with those that are left

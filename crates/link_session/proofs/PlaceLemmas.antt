@@ -1,18 +1,11 @@
 -- The place of a name in an image, and the state there.
-use Rattle.std.proofs.Common.{◌≡◌, ℕ, zero, suc, ◌+◌, ◌<◌, ◌≤◌, ◌⊎◌, inl, inr, Bool, true, false, cond, not, List, []}
-use Rattle.std.proofs.Common.{◌∷◌, length, position, Some, None, refl, sym, ◌∙◌, ap, arith, add-one}
-use Rattle.std.specs.Prelude.{bytes_eq, slice_get, filter}
-use Rattle.std.specs.List.{position_or_len}
+use Rattle.std.proofs.Common.{◌≡◌, ℕ, zero, suc, ◌+◌, ◌<◌, ◌≤◌, ◌⊎◌, inl, inr, Bool, true, false, cond, not, List, [], ◌∷◌, length}
+use Rattle.std.proofs.Common.{position, Some, None, refl, sym, ◌∙◌, ap, arith, add-one}
+use Rattle.std.proofs.{lemmas.Bool.le-ltb, lemmas.Bool.lt-ltb, lemmas.Bool.cases_lt, lemmas.List.length-map}
+use Rattle.std.specs.{Prelude.bytes_eq, Prelude.slice_get, Prelude.filter, List.position_or_len, Map.keys_of, Map.lookup}
 use Rattle.indexmap.specs.IndexMap.{insert_entry, set_value_at}
-use Rattle.std.specs.Map.{keys_of, lookup}
-use Rattle.std.proofs.lemmas.Bool.{le-ltb, lt-ltb, cases_lt}
-use Rattle.std.proofs.lemmas.List.{length-map}
-use Rattle.link_session.specs.declared.state.State.{State}
-use Rattle.link_session.specs.declared.state.State.TheVariants.{Wanted}
-use Rattle.link_session.specs.Mentions.{place_of}
-use Rattle.link_session.specs.Undo.{with_state}
-use Rattle.link_session.specs.Image.{Named, state_in, state_at}
-use Rattle.link_session.specs.internal.Additions.{state_for, place_in}
+use Rattle.link_session.specs.{declared.state.State.State, declared.state.State.TheVariants.Wanted, Mentions.place_of, Undo.with_state}
+use Rattle.link_session.specs.{Image.Named, Image.state_in, Image.state_at, internal.Additions.state_for, internal.Additions.place_in}
 
 -- the place at which the code finds a name, or puts it if it is new, is that of the definition
 pub place_is : (name : List ℕ) (names : List (List ℕ)) → position_or_len (bytes_eq name) names ≡ place_of name names

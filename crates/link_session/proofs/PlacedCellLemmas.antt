@@ -1,25 +1,16 @@
 -- The cells of an object by the places of its symbols: they are those by the names.
 use Rattle.std.proofs.Common.{◌≡◌, ℕ, ◌+◌, Bool, true, false, cond, List, [], ◌∷◌, ◌++◌, Option, Some, None, refl, ◌∙◌, ap}
-use Rattle.std.specs.Prelude.{slice_get, ⊤}
-use Rattle.std.specs.List.{AllByRecursion}
-use Rattle.aout_core.specs.declared.symbol.Symbol.{Symbol}
-use Rattle.aout_core.specs.declared.reloc.Reloc.{Reloc}
-use Rattle.aout_core.specs.declared.reloc.Kind.{Kind}
-use Rattle.aout_core.specs.declared.reloc.Kind.TheVariants as kinds
-use Rattle.aout_core.specs.declared.object.ObjectFault.{ObjectFault}
-use Rattle.aout_core.specs.Contents.{Contents}
-use Rattle.aout_core.specs.Words.{plus, minus}
-use Rattle.aout_core.specs.WellFormed.{kind_of, symbol_number, is_pc_relative, is_wanted, kind_fault}
-use Rattle.aout_core.specs.WellFormed.{word_fault, first_bad_word, IsWellFormed}
-use Rattle.link_session.specs.declared.cell.Cell.{Cell}
-use Rattle.link_session.specs.declared.cell.Target.{Target}
-use Rattle.link_session.specs.declared.relocate.Shifts.{Shifts}
-use Rattle.link_session.specs.Cells.{name_target, offset_in, if_pc}
-use Rattle.link_session.specs.Image.{Named, state_at}
+use Rattle.std.specs.{Prelude.slice_get, Prelude.⊤, List.AllByRecursion}
+use Rattle.aout_core.specs.WellFormed.{kind_of, symbol_number, is_pc_relative, is_wanted, kind_fault, word_fault, first_bad_word}
+use Rattle.aout_core.specs.WellFormed.{IsWellFormed}
+use Rattle.aout_core.specs.{declared.symbol.Symbol.Symbol, declared.reloc.Reloc.Reloc, declared.reloc.Kind.Kind}
+use Rattle.aout_core.specs.{declared.object.ObjectFault.ObjectFault, Contents.Contents, Words.plus, Words.minus}
 use Rattle.link_session.specs.internal.Additions.{reference, own_cell, own_cells, all_places, placed_reference, placed_cell, placed_cells}
-use Rattle.link_session.proofs.ListLemmas.{all_split}
-use Rattle.link_session.proofs.PlacedLemmas.{wanted_place}
+use Rattle.link_session.specs.{declared.cell.Cell.Cell, declared.cell.Target.Target, declared.relocate.Shifts.Shifts, Cells.name_target}
+use Rattle.link_session.specs.{Cells.offset_in, Cells.if_pc, Image.Named, Image.state_at}
 use Rattle.link_session.proofs.WellFormedLemmas.{first_of_none, well_formed_parts}
+use Rattle.link_session.proofs.{ListLemmas.all_split, PlacedLemmas.wanted_place}
+use Rattle.aout_core.specs.declared.reloc.Kind.TheVariants as kinds
 
 -- a word of this kind refers to no symbol, or to one that it may refer to
 abbrev IsFit : List Symbol → ℕ → Option Kind → Type 0

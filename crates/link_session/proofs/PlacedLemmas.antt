@@ -1,28 +1,18 @@
 -- The places of an object's symbols among the names.
-use Rattle.std.proofs.Common.{◌≡◌, ℕ, zero, suc, ◌+◌, ◌≤◌, Bool, true, false, cond, ◌&&◌, ◌||◌, eqb, List}
-use Rattle.std.proofs.Common.{[], ◌∷◌, ◌++◌, length, map, refl, sym, ◌∙◌, ap, arith}
-use Rattle.std.specs.Prelude.{bytes_eq, filter, slice_get, slice_index_or}
-use Rattle.std.specs.Map.{keys_of}
+use Rattle.std.proofs.Common.{◌≡◌, ℕ, zero, suc, ◌+◌, ◌≤◌, Bool, true, false, cond, ◌&&◌, ◌||◌, eqb, List, [], ◌∷◌, ◌++◌, length, map, refl}
+use Rattle.std.proofs.Common.{sym, ◌∙◌, ap, arith}
 use Rattle.std.proofs.lemmas.Bool.{or_left, or_right}
-use Rattle.aout_core.specs.declared.symbol.Symbol.{Symbol}
-use Rattle.aout_core.specs.WellFormed.{is_external, masked_type, is_wanted}
-use Rattle.link_session.specs.declared.cell.Cell.{Cell}
-use Rattle.link_session.specs.declared.relocate.Shifts.{Shifts}
-use Rattle.link_session.specs.declared.state.State.{State}
-use Rattle.link_session.specs.declared.state.State.TheVariants.{Wanted}
-use Rattle.tool_options.specs.NameLists.{is_among}
-use Rattle.link_session.specs.Mentions.{Mention, place_of}
-use Rattle.link_session.specs.Cells.{name_in}
-use Rattle.link_session.specs.Image.{Named, state_at}
+use Rattle.std.specs.{Prelude.bytes_eq, Prelude.filter, Prelude.slice_get, Prelude.slice_index_or, Map.keys_of}
+use Rattle.aout_core.specs.{declared.symbol.Symbol.Symbol, WellFormed.is_external, WellFormed.masked_type, WellFormed.is_wanted}
 use Rattle.link_session.specs.internal.Additions.{place_in, with_mention, with_mentions, mention_by, mentions_by, no_place, all_places}
-use Rattle.link_session.specs.internal.Chains.{Link}
-use Rattle.link_session.specs.internal.Settled.{settled_at, settled_over, places_of}
-use Rattle.link_session.specs.internal.Threads.{cut_by_state, cut_heads}
+use Rattle.link_session.specs.{declared.cell.Cell.Cell, declared.relocate.Shifts.Shifts, declared.state.State.State}
+use Rattle.link_session.specs.{declared.state.State.TheVariants.Wanted, Mentions.Mention, Mentions.place_of, Cells.name_in, Image.Named}
+use Rattle.link_session.specs.{Image.state_at, internal.Chains.Link, internal.Settled.settled_at, internal.Settled.settled_over}
+use Rattle.link_session.specs.{internal.Settled.places_of, internal.Threads.cut_by_state, internal.Threads.cut_heads}
+use Rattle.tool_options.specs.NameLists.{is_among}
 use Rattle.tool_options.proofs.NameListLemmas.{is_among-append}
-use Rattle.link_session.proofs.MentionLemmas.{place_of-append}
-use Rattle.link_session.proofs.MentionedLemmas.{keys-with_mention}
-use Rattle.link_session.proofs.NamesLemmas.{unsettled, all_one}
-use Rattle.link_session.proofs.UpdateLemmas.{own_name}
+use Rattle.link_session.proofs.{MentionLemmas.place_of-append, MentionedLemmas.keys-with_mention, NamesLemmas.unsettled}
+use Rattle.link_session.proofs.{NamesLemmas.all_one, UpdateLemmas.own_name}
 
 -- the places as they are noted, one symbol after the other
 abbrev pub noted_places : Shifts → Named → List Symbol → List ℕ

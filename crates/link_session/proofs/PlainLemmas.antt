@@ -1,14 +1,11 @@
 -- A mention that only says that a known name is wanted changes nothing.
-use Rattle.std.proofs.Common.{◌≡◌, ℕ, Bool, true, false, cond, List, [], ◌∷◌, Option, Some, None}
-use Rattle.std.proofs.Common.{is_some, position, refl, sym, ◌∙◌, ap, arith}
-use Rattle.std.specs.Prelude.{bytes_eq, IfSome}
-use Rattle.std.specs.Map.{keys_of, lookup}
+use Rattle.std.proofs.Common.{◌≡◌, ℕ, Bool, true, false, cond, List, [], ◌∷◌, Option, Some, None, is_some, position, refl, sym, ◌∙◌, ap}
+use Rattle.std.proofs.Common.{arith}
+use Rattle.std.specs.{Prelude.bytes_eq, Prelude.IfSome, Map.keys_of, Map.lookup}
 use Rattle.indexmap.specs.IndexMap.{insert_entry}
-use Rattle.link_session.specs.declared.state.State.{State}
-use Rattle.link_session.specs.declared.state.State.TheVariants.{Defined, Wanted}
-use Rattle.link_session.specs.Image.{Named}
-use Rattle.link_session.specs.internal.Updates.{updated_state}
 use Rattle.link_session.specs.internal.Additions.{place_in, state_for, mention_of, with_mention}
+use Rattle.link_session.specs.{declared.state.State.State, declared.state.State.TheVariants.Defined}
+use Rattle.link_session.specs.{declared.state.State.TheVariants.Wanted, Image.Named, internal.Updates.updated_state}
 use Rattle.link_session.proofs.PlaceLemmas.{found_place, known_state}
 
 plain_alone : (s : State) → updated_state s (Wanted 0) ≡ s

@@ -1,16 +1,12 @@
 -- The chains of externals while a cell is put last, in front of its chain, and how many places a chain has.
-use Rattle.std.proofs.Common.{◌≡◌, ◌<◌, ◌≤◌, ◌+◌, ℕ, suc, Bool, true, false, ◌||◌, List, [], ◌∷◌, ◌++◌, length, Some}
-use Rattle.std.proofs.Common.{None, slice_index_or, refl, sym, ap, ◌∙◌, subst, arith, length-append}
+use Rattle.std.proofs.Common.{◌≡◌, ◌<◌, ◌≤◌, ◌+◌, ℕ, suc, Bool, true, false, ◌||◌, List, [], ◌∷◌, ◌++◌, length, Some, None, slice_index_or}
+use Rattle.std.proofs.Common.{refl, sym, ap, ◌∙◌, subst, arith, length-append}
+use Rattle.std.proofs.{Math.Seq.get_or-append_seam, lemmas.List.get_or_append_left}
 use Rattle.std.specs.List.{AllByRecursion}
-use Rattle.std.proofs.Math.Seq.{get_or-append_seam}
-use Rattle.std.proofs.lemmas.List.{get_or_append_left}
-use Rattle.link_session.specs.declared.cell.Cell.{Cell}
-use Rattle.link_session.specs.declared.mark.Place.{Place}
-use Rattle.link_session.specs.declared.mark.Place.TheVariants.{InText, InData}
-use Rattle.link_session.specs.Marks.{same_place}
 use Rattle.link_session.specs.internal.Chains.{Link, link_at, IsChain, is_on, IsWithin, waits_at, FindsWaiting, Waits}
-use Rattle.link_session.proofs.ListLemmas.{all_map}
-use Rattle.link_session.proofs.ChainLemmas.{own_number, other_number}
+use Rattle.link_session.specs.{declared.cell.Cell.Cell, declared.mark.Place.Place, declared.mark.Place.TheVariants.InText}
+use Rattle.link_session.specs.{declared.mark.Place.TheVariants.InData, Marks.same_place}
+use Rattle.link_session.proofs.{ListLemmas.all_map, ChainLemmas.own_number, ChainLemmas.other_number}
 
 -- Links that grow.
 

@@ -1,11 +1,7 @@
 -- Marks put back one by one, the last one first.
 use Rattle.std.proofs.Common.{◌≡◌, ℕ, zero, suc, ◌+◌, ◌-◌, ◌<◌, List, [], ◌∷◌, ◌++◌, take, length, get_or, refl, ◌∙◌, ap, arith, add-one}
-use Rattle.link_session.specs.declared.mark.Mark.{Mark}
-use Rattle.link_session.specs.Image.{Image}
-use Rattle.link_session.specs.Undo.{put_back, put_all_back}
-use Rattle.link_session.specs.internal.Chains.{Link}
-use Rattle.link_session.specs.internal.Threads.{Threads}
-use Rattle.link_session.specs.internal.Fields.{with_heads_back}
+use Rattle.link_session.specs.{declared.mark.Mark.Mark, Image.Image, Undo.put_back, Undo.put_all_back, internal.Chains.Link}
+use Rattle.link_session.specs.{internal.Threads.Threads, internal.Fields.with_heads_back}
 use Rattle.link_session.proofs.ChainBackLemmas.{heads_back-append}
 
 put_front : (ks : List Mark) (n : ℕ) (d : Mark) (m : Image) → n < length ks →

@@ -1,41 +1,27 @@
 -- What a session's fields are worth after an addition and after a withdrawal.
-use Rattle.std.proofs.Common.{◌≡◌, ℕ, suc, ◌-◌, ◌≤◌, List, [], ◌∷◌, ◌++◌, map, length, replicate, Some, None}
-use Rattle.std.proofs.Common.{refl, sym, ◌∙◌, ap, subst, arith, length-append, append-nil}
-use Rattle.std.specs.Prelude.{slice_get, filter}
-use Rattle.std.specs.List.{AllByRecursion}
-use Rattle.std.specs.Map.{keys_of}
+use Rattle.std.proofs.Common.{◌≡◌, ℕ, suc, ◌-◌, ◌≤◌, List, [], ◌∷◌, ◌++◌, map, length, replicate, Some, None, refl, sym, ◌∙◌, ap, subst}
+use Rattle.std.proofs.Common.{arith, length-append, append-nil}
 use Rattle.std.proofs.lemmas.List.{map-append, length-map, same_from_push}
+use Rattle.std.specs.{Prelude.slice_get, Prelude.filter, List.AllByRecursion, Map.keys_of}
 use Rattle.aout_core.specs.Contents.{Contents}
-use Rattle.link_session.specs.declared.state.State.{State}
-use Rattle.link_session.specs.declared.merged.Sizes.{Sizes}
-use Rattle.link_session.specs.declared.session.UndoRecord.{UndoRecord}
-use Rattle.link_session.specs.Earlier.{with_earlier}
-use Rattle.link_session.specs.Labelled.{Labelled, objects}
 use Rattle.link_session.specs.Mentions.{Mention, forced_mention, mentions, externals, names_of}
 use Rattle.link_session.specs.States.{state, multiple_names, differs, first_definition}
-use Rattle.link_session.specs.Image.{Image, image, named_states}
-use Rattle.link_session.specs.Limits.{limit_passed, refusal}
-use Rattle.link_session.specs.Undo.{undo, AreMarksOf, AreMarksOfLast, IsJournal}
-use Rattle.link_session.specs.Sessions.{newest, Adds, IsObject}
-use Rattle.link_session.specs.internal.Fields.{sizes_of, sizes_in, sizes_before, threads_by, with_heads_back}
-use Rattle.link_session.specs.internal.Fields.{HasAtLeast, IsSmall, IsSession}
-use Rattle.link_session.specs.Undo.{marks_in}
+use Rattle.link_session.specs.Undo.{undo, AreMarksOf, AreMarksOfLast, IsJournal, marks_in}
+use Rattle.link_session.specs.internal.Fields.{sizes_of, sizes_in, sizes_before, threads_by, with_heads_back, HasAtLeast, IsSmall}
+use Rattle.link_session.specs.internal.Fields.{IsSession}
 use Rattle.link_session.specs.internal.Additions.{with_mentions, settled_cell, next_limit, next_named, joined_image}
-use Rattle.link_session.specs.internal.Settled.{IsCovered}
-use Rattle.link_session.specs.internal.Chains.{Link}
 use Rattle.link_session.specs.internal.Threads.{Threads, IsThreaded, KeepsThreads, next_threads, next_texts, next_datas}
-use Rattle.link_session.specs.internal.Restores.{TakesBack}
-use Rattle.link_session.proofs.EarlierLemmas.{with_earlier-append}
+use Rattle.link_session.specs.{declared.state.State.State, declared.merged.Sizes.Sizes, declared.session.UndoRecord.UndoRecord}
+use Rattle.link_session.specs.{Earlier.with_earlier, Labelled.Labelled, Labelled.objects, Image.Image, Image.image, Image.named_states}
+use Rattle.link_session.specs.{Limits.limit_passed, Limits.refusal, Sessions.newest, Sessions.Adds, Sessions.IsObject}
+use Rattle.link_session.specs.{internal.Settled.IsCovered, internal.Chains.Link, internal.Restores.TakesBack}
 use Rattle.link_session.proofs.JournalLemmas.{journal_push, journal_pop, journal_empty}
 use Rattle.link_session.proofs.MentionedLemmas.{keys-named_states, with_mentions-named_states}
-use Rattle.link_session.proofs.LimitLemmas.{length-new_names}
 use Rattle.link_session.proofs.TotalLemmas.{refusal-next_limit, image_small, within_before, limit_within}
-use Rattle.link_session.proofs.AdditionLemmas.{joined_image-is}
-use Rattle.link_session.proofs.HistoryLemmas.{image_covered}
-use Rattle.link_session.proofs.FewLemmas.{taken_few}
-use Rattle.link_session.proofs.DifferenceLemmas.{taken_difference}
 use Rattle.link_session.proofs.KeptThreadLemmas.{kept_threaded, forced_kept, kept_push, kept_pop}
-use Rattle.link_session.proofs.ListLemmas.{all_append, all_split}
+use Rattle.link_session.proofs.{EarlierLemmas.with_earlier-append, LimitLemmas.length-new_names, AdditionLemmas.joined_image-is}
+use Rattle.link_session.proofs.{HistoryLemmas.image_covered, FewLemmas.taken_few, DifferenceLemmas.taken_difference, ListLemmas.all_append}
+use Rattle.link_session.proofs.{ListLemmas.all_split}
 
 -- what a session keeps is within the limits: so its sizes and indices fit their types
 pub small : (forced : List (List ℕ)) (es : List Labelled) (undo_records : List UndoRecord) (m : Image) (t : Threads) →

@@ -1,11 +1,9 @@
 -- Where the segments of the next object start.
 use Rattle.std.proofs.Common.{◌≡◌, ◌%◌, List, [], ◌∷◌, ◌++◌, arith}
 use Rattle.std.proofs.lemmas.List.Sums.{sum_by-append}
-use Rattle.aout_core.specs.declared.symbol.Segment.{Segment}
-use Rattle.aout_core.specs.declared.symbol.Segment.TheVariants as segments
-use Rattle.aout_core.specs.Contents.{Contents}
-use Rattle.aout_core.specs.Words.{plus}
+use Rattle.aout_core.specs.{declared.symbol.Segment.Segment, Contents.Contents, Words.plus}
 use Rattle.link_session.specs.Starts.{total, size_of, starts_after, next_starts}
+use Rattle.aout_core.specs.declared.symbol.Segment.TheVariants as segments
 
 next_total : (segment : Segment) (earlier : List Contents) (o : Contents) →
     plus (total segment earlier % 65536) (size_of segment o) ≡ total segment (earlier ++ o ∷ []) % 65536

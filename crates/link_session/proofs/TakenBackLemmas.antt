@@ -1,28 +1,19 @@
 -- The marks of an object's mentions and of the chains that it binds take it back.
 use Rattle.std.proofs.Common.{◌≡◌, List, [], ◌++◌, map, take, length, refl, sym, ap, ◌∙◌, subst, arith, append-nil}
+use Rattle.std.proofs.{Math.Seq.take-length, lemmas.List.length-map, lemmas.List.take_at, lemmas.List.take_all}
 use Rattle.std.specs.List.{AllByRecursion}
-use Rattle.std.proofs.Math.Seq.{take-length}
-use Rattle.std.proofs.lemmas.List.{length-map, take_at, take_all}
 use Rattle.aout_core.specs.Contents.{Contents}
-use Rattle.link_session.specs.declared.cell.Cell.{Cell}
-use Rattle.link_session.specs.declared.mark.Mark.{Mark}
-use Rattle.link_session.specs.declared.state.State.{State}
-use Rattle.link_session.specs.Marks.{cells_marked, states_marked}
-use Rattle.link_session.specs.Mentions.{externals_in}
-use Rattle.link_session.specs.Image.{Image}
-use Rattle.link_session.specs.Undo.{put_all_back, cut_to, undo, IsInside}
-use Rattle.link_session.specs.Image.{Named}
-use Rattle.link_session.specs.internal.Additions.{state_marks, settled_cell, all_clashes, mention_by, next_shifts}
-use Rattle.link_session.specs.internal.Additions.{next_mentions, next_named, joined_image, entered}
-use Rattle.link_session.specs.internal.Chains.{Link, cell_at, heads_back}
-use Rattle.link_session.specs.internal.Counts.{NotesBound}
-use Rattle.link_session.specs.internal.Threads.{bound_heads, next_texts, next_datas}
-use Rattle.link_session.specs.internal.Restores.{Restores, TakesBack, HoldBound}
-use Rattle.link_session.proofs.ListLemmas.{all_append}
-use Rattle.link_session.proofs.MarkedLemmas.{cells_marked-append, states_marked-append, no_cells}
-use Rattle.link_session.proofs.MarkLemmas.{put_all_back-append, cut_front}
-use Rattle.link_session.proofs.BackLemmas.{mentions_back, states_inside, states_few}
-use Rattle.link_session.proofs.WithdrawalLemmas.{heads_back-after_states}
+use Rattle.link_session.specs.internal.Additions.{state_marks, settled_cell, all_clashes, mention_by, next_shifts, next_mentions}
+use Rattle.link_session.specs.internal.Additions.{next_named, joined_image, entered}
+use Rattle.link_session.specs.{declared.cell.Cell.Cell, declared.mark.Mark.Mark, declared.state.State.State, Marks.cells_marked}
+use Rattle.link_session.specs.{Marks.states_marked, Mentions.externals_in, Image.Image, Image.Named, Undo.put_all_back, Undo.cut_to}
+use Rattle.link_session.specs.{Undo.undo, Undo.IsInside, internal.Chains.Link, internal.Chains.cell_at, internal.Chains.heads_back}
+use Rattle.link_session.specs.{internal.Counts.NotesBound, internal.Threads.bound_heads, internal.Threads.next_texts}
+use Rattle.link_session.specs.{internal.Threads.next_datas, internal.Restores.Restores, internal.Restores.TakesBack}
+use Rattle.link_session.specs.{internal.Restores.HoldBound}
+use Rattle.link_session.proofs.{ListLemmas.all_append, MarkedLemmas.cells_marked-append, MarkedLemmas.states_marked-append}
+use Rattle.link_session.proofs.{MarkedLemmas.no_cells, MarkLemmas.put_all_back-append, MarkLemmas.cut_front, BackLemmas.mentions_back}
+use Rattle.link_session.proofs.{BackLemmas.states_inside, BackLemmas.states_few, WithdrawalLemmas.heads_back-after_states}
 
 module _ (m : Image) (o : Contents) where
   abbrev at : List Cell → List Cell → Named → Image

@@ -1,36 +1,23 @@
 -- Sizes, limits and shifts read off an image.
-use Rattle.std.proofs.Common.{◌≡◌, ℕ, ◌+◌, ◌*◌, ◌≤◌, Bool, true, false, cond, List, [], ◌∷◌, ◌++◌, length, Option}
-use Rattle.std.proofs.Common.{Some, None, refl, sym, ◌∙◌, ap, arith, length-append, nat_lt}
-use Rattle.std.specs.List.{flat_map, AllByRecursion}
-use Rattle.std.specs.Map.{keys_of}
-use Rattle.std.proofs.lemmas.Bool.{ltb-false, le-ltb}
-use Rattle.std.proofs.lemmas.List.{length-map}
-use Rattle.std.proofs.lemmas.List.Sums.{sum_by-append}
-use Rattle.std.proofs.lemmas.Slice.Zip.{length-zip}
-use Rattle.aout_core.specs.declared.symbol.Symbol.{Symbol}
-use Rattle.aout_core.specs.declared.symbol.Segment.{Segment}
-use Rattle.aout_core.specs.declared.symbol.Segment.TheVariants as segments
-use Rattle.aout_core.specs.declared.reloc.Reloc.{Reloc}
-use Rattle.aout_core.specs.Contents.{Contents, with_relocation}
-use Rattle.aout_core.specs.WellFormed.{IsWellFormed}
-use Rattle.link_session.specs.declared.entry.AddFault.{AddFault}
+use Rattle.std.proofs.Common.{◌≡◌, ℕ, ◌+◌, ◌*◌, ◌≤◌, Bool, true, false, cond, List, [], ◌∷◌, ◌++◌, length, Option, Some, None, refl, sym}
+use Rattle.std.proofs.Common.{◌∙◌, ap, arith, length-append, nat_lt}
+use Rattle.std.proofs.{lemmas.Bool.ltb-false, lemmas.Bool.le-ltb, lemmas.List.length-map, lemmas.List.Sums.sum_by-append}
+use Rattle.std.proofs.{lemmas.Slice.Zip.length-zip}
+use Rattle.std.specs.{List.flat_map, List.AllByRecursion, Map.keys_of}
+use Rattle.aout_core.specs.{declared.symbol.Symbol.Symbol, declared.symbol.Segment.Segment, declared.reloc.Reloc.Reloc, Contents.Contents}
+use Rattle.aout_core.specs.{Contents.with_relocation, WellFormed.IsWellFormed}
 use Rattle.link_session.specs.declared.entry.AddFault.TheVariants.{TextFull, DataFull, BssFull, NamesFull}
-use Rattle.link_session.specs.declared.state.State.{State}
-use Rattle.link_session.specs.Earlier.{with_earlier}
-use Rattle.link_session.specs.Starts.{total, size_of}
-use Rattle.tool_options.specs.NameLists.{new_names, is_among}
 use Rattle.link_session.specs.Mentions.{Mention, mentions, mentions_in, names_of, externals, externals_in, mention}
-use Rattle.link_session.specs.States.{state}
 use Rattle.link_session.specs.Cells.{cells, cells_in, cell, words_of}
-use Rattle.link_session.specs.Image.{image}
 use Rattle.link_session.specs.Limits.{limit_passed, refusal}
-use Rattle.link_session.specs.Sessions.{IsObject}
-use Rattle.link_session.specs.internal.Fields.{IsSmall}
 use Rattle.link_session.specs.internal.Additions.{external_names, next_limit}
+use Rattle.link_session.specs.{declared.entry.AddFault.AddFault, declared.state.State.State, Earlier.with_earlier, Starts.total}
+use Rattle.link_session.specs.{Starts.size_of, States.state, Image.image, Sessions.IsObject, internal.Fields.IsSmall}
+use Rattle.tool_options.specs.NameLists.{new_names, is_among}
 use Rattle.tool_options.proofs.NameListLemmas.{new_names-seen}
 use Rattle.link_session.proofs.MentionLemmas.{externals_push, is_among-externals, names_of-map}
-use Rattle.link_session.proofs.MentionedLemmas.{keys-named_states}
-use Rattle.link_session.proofs.WellFormedLemmas.{well_formed_parts}
+use Rattle.link_session.proofs.{MentionedLemmas.keys-named_states, WellFormedLemmas.well_formed_parts}
+use Rattle.aout_core.specs.declared.symbol.Segment.TheVariants as segments
 
 -- an object has its relocation words
 pub with_all : (o : Contents) → IsWellFormed o → (size : ℕ) → with_relocation o.header size ≡ size

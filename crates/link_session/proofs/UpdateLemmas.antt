@@ -1,31 +1,23 @@
 -- The states, the names and the multiples after one more mention.
-use Rattle.std.proofs.Common.{◌≡◌, ℕ, ◌+◌, max, Bool, true, false, cond, not, ◌||◌, List, [], ◌∷◌, ◌++◌, map, Option}
-use Rattle.std.proofs.Common.{Some, None, refl, sym, ◌∙◌, ap, arith, add-one, eq-eqb}
-use Rattle.std.specs.Prelude.{bytes_eq, eqb}
+use Rattle.std.proofs.Common.{◌≡◌, ℕ, ◌+◌, max, Bool, true, false, cond, not, ◌||◌, List, [], ◌∷◌, ◌++◌, map, Option, Some, None, refl, sym}
+use Rattle.std.proofs.Common.{◌∙◌, ap, arith, add-one, eq-eqb}
 use Rattle.std.proofs.lemmas.Bool.{and_parts, or_left, or_right, or_parts, eqb-true}
-use Rattle.std.proofs.lemmas.List.{map-append}
-use Rattle.std.proofs.lemmas.List.Sums.{sum_by-append}
-use Rattle.std.proofs.lemmas.Slice.Eq.{bytes_eq-Decides}
-use Rattle.aout_core.specs.declared.symbol.Segment.{Segment}
-use Rattle.aout_core.specs.declared.symbol.Segment.TheVariants as segments
-use Rattle.aout_core.specs.Contents.{Contents}
+use Rattle.std.proofs.{lemmas.List.map-append, lemmas.List.Sums.sum_by-append, lemmas.Slice.Eq.bytes_eq-Decides}
+use Rattle.std.specs.Prelude.{bytes_eq, eqb}
 use Rattle.aout_core.specs.WellFormed.{segment_number, segment_numbered, first_of}
-use Rattle.link_session.specs.declared.state.State.{State}
-use Rattle.link_session.specs.declared.state.State.TheVariants.{Defined, Wanted}
-use Rattle.link_session.specs.Starts.{size_of, total}
-use Rattle.tool_options.specs.NameLists.{is_among, new_names}
+use Rattle.aout_core.specs.{declared.symbol.Segment.Segment, Contents.Contents}
 use Rattle.link_session.specs.Mentions.{Mention, mentions_in, mentions, names_of, names_by_first_mention, place_of}
-use Rattle.link_session.specs.States.{Definition, definition_by, size_wanted_by, first_definition, wanted_size}
-use Rattle.link_session.specs.States.{state_by, state, is_definition, differs, multiple_names}
-use Rattle.link_session.specs.Cells.{cells_in}
-use Rattle.link_session.specs.Image.{named_states, image_by, image}
-use Rattle.link_session.specs.Undo.{with_state}
-use Rattle.link_session.specs.internal.Updates.{updated_state, clashes}
+use Rattle.link_session.specs.States.{Definition, definition_by, size_wanted_by, first_definition, wanted_size, state_by, state}
+use Rattle.link_session.specs.States.{is_definition, differs, multiple_names}
+use Rattle.link_session.specs.{declared.state.State.State, declared.state.State.TheVariants.Defined}
+use Rattle.link_session.specs.{declared.state.State.TheVariants.Wanted, Starts.size_of, Starts.total, Cells.cells_in, Image.named_states}
+use Rattle.link_session.specs.{Image.image_by, Image.image, Undo.with_state, internal.Updates.updated_state, internal.Updates.clashes}
+use Rattle.tool_options.specs.NameLists.{is_among, new_names}
 use Rattle.tool_options.proofs.NameListLemmas.{is_among-append}
 use Rattle.link_session.proofs.MentionLemmas.{mentions_push, names_by_first_mention-append}
 use Rattle.link_session.proofs.StateLemmas.{first_definition-append, wanted_size-append}
-use Rattle.link_session.proofs.CellLemmas.{cells_push}
-use Rattle.link_session.proofs.MultipleLemmas.{multiple_names-append}
+use Rattle.link_session.proofs.{CellLemmas.cells_push, MultipleLemmas.multiple_names-append}
+use Rattle.aout_core.specs.declared.symbol.Segment.TheVariants as segments
 
 -- the state of a name after one more mention
 pub state_mention : (ms : List Mention) (m : Mention) (name : List ℕ) →

@@ -1,21 +1,17 @@
 -- A chain that is bound and marked, place by place.
-use Rattle.std.proofs.Common.{◌≡◌, ◌<◌, ◌≤◌, ◌+◌, ◌||◌, ℕ, Bool, false, cond, List, [], ◌∷◌, ◌++◌, length, Some, None}
-use Rattle.std.proofs.Common.{slice_index_or, sym, ap, ◌∙◌, subst, arith, append_assoc, append-nil, length-append}
-use Rattle.std.specs.List.{AllByRecursion}
+use Rattle.std.proofs.Common.{◌≡◌, ◌<◌, ◌≤◌, ◌+◌, ◌||◌, ℕ, Bool, false, cond, List, [], ◌∷◌, ◌++◌, length, Some, None, slice_index_or, sym}
+use Rattle.std.proofs.Common.{ap, ◌∙◌, subst, arith, append_assoc, append-nil, length-append}
 use Rattle.std.proofs.lemmas.List.{map-append}
+use Rattle.std.specs.List.{AllByRecursion}
 use Rattle.aout_core.specs.declared.symbol.Segment.{Segment}
-use Rattle.link_session.specs.declared.cell.Cell.{Cell}
-use Rattle.link_session.specs.declared.mark.Mark.{Mark}
-use Rattle.link_session.specs.declared.mark.Mark.TheVariants.{CellWas}
-use Rattle.link_session.specs.declared.mark.Place.{Place}
-use Rattle.link_session.specs.declared.mark.Place.TheVariants.{InText, InData}
-use Rattle.link_session.specs.internal.Chains.{Link, link_at, IsChain, is_on, AreApart, IsWithin, EndsWithin, IsBoundTo}
-use Rattle.link_session.specs.internal.Chains.{bound_to, bound_where, text_bound_at, data_bound_at, bound_one, walk}
-use Rattle.link_session.specs.internal.Chains.{cell_at, nowhere, marks_of}
+use Rattle.link_session.specs.internal.Chains.{Link, link_at, IsChain, is_on, AreApart, IsWithin, EndsWithin, IsBoundTo, bound_to}
+use Rattle.link_session.specs.internal.Chains.{bound_where, text_bound_at, data_bound_at, bound_one, walk, cell_at, nowhere, marks_of}
+use Rattle.link_session.specs.{declared.cell.Cell.Cell, declared.mark.Mark.Mark, declared.mark.Mark.TheVariants.CellWas}
+use Rattle.link_session.specs.{declared.mark.Place.Place, declared.mark.Place.TheVariants.InText, declared.mark.Place.TheVariants.InData}
 use Rattle.link_session.proofs.ListLemmas.{all_split}
-use Rattle.link_session.proofs.ChainLemmas.{none_bound, length-bound_where, index_where, bound_where-one, on_inside}
-use Rattle.link_session.proofs.ChainLemmas.{on_last, own_number, other_number, or_false, or_true, not_after, next_ahead}
-use Rattle.link_session.proofs.ChainLemmas.{none_ahead, chain-unique, walk-is, few_places}
+use Rattle.link_session.proofs.ChainLemmas.{none_bound, length-bound_where, index_where, bound_where-one, on_inside, on_last, own_number}
+use Rattle.link_session.proofs.ChainLemmas.{other_number, or_false, or_true, not_after, next_ahead, none_ahead, chain-unique, walk-is}
+use Rattle.link_session.proofs.ChainLemmas.{few_places}
 
 module _ (ts ds : List Link) (head : Link) (segment : Segment) (offset : ℕ) (texts datas : List Cell) (marks : List Mark) where
   -- before the walk no cell is bound

@@ -4,17 +4,11 @@
 -- the state before. Where the segments of an object start, and by how much its addresses are shifted, follows from the whole list
 -- of the objects before it.
 use Rattle.std.specs.Prelude.{◌≡◌, ◌≢◌, ℕ, List, [], ◌∷◌, ◌++◌, Some, slice_get}
-use Rattle.aout_core.specs.declared.symbol.Segment.{Segment}
-use Rattle.aout_core.specs.Contents.{Contents}
-use Rattle.link_session.specs.declared.mark.Mark.{Mark}
-use Rattle.link_session.specs.declared.state.State.{State}
-use Rattle.link_session.specs.Labelled.{Labelled}
-use Rattle.link_session.specs.Mentions.{mentions, externals}
-use Rattle.link_session.specs.States.{state}
-use Rattle.link_session.specs.Marks.{IsDifference, states_marked}
-use Rattle.link_session.specs.Undo.{Kept}
-use Rattle.link_session.specs.Sessions.{Adds, Withdraws}
+use Rattle.aout_core.specs.{declared.symbol.Segment.Segment, Contents.Contents}
 use Rattle.link_session.specs.Starts.{shift, no_starts, starts_after, next_starts, shifts_at, shift_by}
+use Rattle.link_session.specs.{declared.mark.Mark.Mark, declared.state.State.State, Labelled.Labelled, Mentions.mentions}
+use Rattle.link_session.specs.{Mentions.externals, States.state, Marks.IsDifference, Marks.states_marked, Undo.Kept, Sessions.Adds}
+use Rattle.link_session.specs.{Sessions.Withdraws}
 
 -- what is taken away right after an addition is the object that was added, and the session is what it was
 abbrev pub WithdrawLaw : Type 0

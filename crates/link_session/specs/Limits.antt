@@ -4,10 +4,8 @@
 use Rattle.std.specs.Prelude.{ℕ, if◌then◌else◌, nat_lt, List, [], ◌∷◌, ◌++◌, length, Option, Some, None}
 use Rattle.aout_core.specs.declared.symbol.Segment.TheVariants.{TextSeg, DataSeg, BssSeg}
 use Rattle.aout_core.specs.Contents.{Contents}
-use Rattle.link_session.specs.declared.entry.AddFault.{AddFault}
 use Rattle.link_session.specs.declared.entry.AddFault.TheVariants.{TextFull, DataFull, BssFull, NamesFull}
-use Rattle.link_session.specs.Starts.{total}
-use Rattle.link_session.specs.Mentions.{externals}
+use Rattle.link_session.specs.{declared.entry.AddFault.AddFault, Starts.total, Mentions.externals}
 
 -- the first limit that the list of objects passes, if it passes one
 abbrev pub limit_passed : List (List ℕ) → List Contents → Option AddFault

@@ -4,15 +4,9 @@
 -- last ones away. These records define that, and what the marks are.
 use Rattle.std.specs.Prelude.{◌≡◌, ℕ, List, [], ◌∷◌, ◌++◌, Option, Some, None, unwrap_or, String, string_bytes}
 use Rattle.std.specs.declared.alloc.Global.{Global}
-use Rattle.aout_core.specs.Contents.{Contents, Fits}
-use Rattle.aout_core.specs.WellFormed.{IsWellFormed}
-use Rattle.aout_core.specs.Refusals.{refused}
-use Rattle.link_session.specs.declared.entry.AddFault.{AddFault}
-use Rattle.link_session.specs.declared.entry.AddFault.TheVariants.{Memory}
-use Rattle.link_session.specs.declared.mark.Mark.{Mark}
-use Rattle.link_session.specs.Labelled.{Labelled, objects}
-use Rattle.link_session.specs.Edits.{last_of}
-use Rattle.link_session.specs.Undo.{AreMarksOf, Kept}
+use Rattle.aout_core.specs.{Contents.Contents, Contents.Fits, WellFormed.IsWellFormed, Refusals.refused}
+use Rattle.link_session.specs.{declared.entry.AddFault.AddFault, declared.entry.AddFault.TheVariants.Memory, declared.mark.Mark.Mark}
+use Rattle.link_session.specs.{Labelled.Labelled, Labelled.objects, Edits.last_of, Undo.AreMarksOf, Undo.Kept}
 
 -- a file that fits its header and is well formed
 pub record IsObject (o : Contents) : Type 0 where

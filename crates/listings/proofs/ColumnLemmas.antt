@@ -1,15 +1,12 @@
 -- Columns and lines that were written are found again.
 use Rattle.std.proofs.Common.{◌≡◌, ℕ, zero, suc, replicate, ◌≤◌, false, List, [], ◌∷◌, ◌++◌, refl, ◌∙◌, ap, arith, append_assoc, le-ltb}
 use Rattle.std.proofs.Common.{eqb}
-use Rattle.std.proofs.lemmas.Bool.{ne_eqb}
+use Rattle.std.proofs.{lemmas.Bool.ne_eqb, lemmas.List.append-nil}
 use Rattle.std.specs.List.{AllByRecursion}
-use Rattle.std.proofs.lemmas.List.{append-nil}
-use Rattle.listings.specs.Laws.{IsLine}
-use Rattle.listings.proofs.OctalLemmas.{AreDigits, IsNumber}
 use Rattle.listings.specs.Columns.{skip, column, after_column, from_second, from_third, from_fourth, row_of}
-use Rattle.texts.specs.Lines.{lines_in}
-use Rattle.texts.specs.Lines.{text_of}
-use Rattle.listings.specs.Listing.{gap, remarked}
+use Rattle.listings.specs.{Laws.IsLine, Listing.gap, Listing.remarked}
+use Rattle.listings.proofs.OctalLemmas.{AreDigits, IsNumber}
+use Rattle.texts.specs.Lines.{lines_in, text_of}
 
 -- no blank, and no byte below it
 abbrev pub IsInk : List ℕ → Type 0

@@ -1,26 +1,19 @@
 -- A draft stays one of a file, whatever row is read.
-use Rattle.std.proofs.Common.{◌≡◌, ℕ, ◌+◌, ◌*◌, ◌%◌, ◌<◌, Bool, true, false, eqb, eqb-true, List, [], ◌∷◌, ◌++◌}
-use Rattle.std.proofs.Common.{length, refl, sym, ◌∙◌, ap, subst, arith, length-append}
-use Rattle.std.specs.Prelude.{ltb, if◌then◌else◌, Result, Ok, Err}
+use Rattle.std.proofs.Common.{◌≡◌, ℕ, ◌+◌, ◌*◌, ◌%◌, ◌<◌, Bool, true, false, eqb, eqb-true, List, [], ◌∷◌, ◌++◌, length, refl, sym, ◌∙◌, ap}
+use Rattle.std.proofs.Common.{subst, arith, length-append}
 use Rattle.std.proofs.lemmas.Bool.{ltb-true, eq-eqb}
-use Rattle.aout_core.specs.declared.reloc.Reloc.{Reloc}
-use Rattle.aout_core.specs.declared.symbol.Symbol.{Symbol}
-use Rattle.aout_core.specs.Contents.{is_magic, Fits}
-use Rattle.listings.specs.declared.fault.Reason.TheVariants.{WrongAddress, WrongNumber, TooManyWords, TooManySymbols}
-use Rattle.listings.specs.declared.fault.Reason.TheVariants.{OutOfOrder, NoMagic, OddSize}
-use Rattle.listings.specs.declared.fault.Section.{Section}
+use Rattle.std.specs.Prelude.{ltb, if◌then◌else◌, Result, Ok, Err}
+use Rattle.aout_core.specs.{declared.reloc.Reloc.Reloc, declared.symbol.Symbol.Symbol, Contents.is_magic, Contents.Fits}
+use Rattle.aout_core.specs.{Addresses.data_start}
+use Rattle.listings.specs.declared.fault.Reason.TheVariants.{WrongAddress, WrongNumber, TooManyWords, TooManySymbols, OutOfOrder, NoMagic}
+use Rattle.listings.specs.declared.fault.Reason.TheVariants.{OddSize}
 use Rattle.listings.specs.declared.fault.Section.TheVariants.{InHeader, InText, InData, InSymbols}
-use Rattle.listings.specs.declared.fault.Word.{Word}
 use Rattle.listings.specs.declared.fault.Word.TheVariants.{Text, Data, Symbols, Bss, Entry, Unused, Magic, Flag, Unknown}
-use Rattle.listings.specs.Octal.{number}
-use Rattle.listings.specs.Columns.{Row}
-use Rattle.listings.specs.Names.{name_of}
-use Rattle.aout_core.specs.Addresses.{data_start}
 use Rattle.listings.specs.Drafts.{Segment, Draft, empty_draft, finished}
-use Rattle.listings.specs.Reading.{Mistake, ◌>>=◌, in_column, relocs_of, with_word, word_entry, symbol_entry}
-use Rattle.listings.specs.Reading.{entry_in, word_in, rank, only_first, not_last, named_by, named, is_decimal}
-use Rattle.listings.specs.Reading.{is_label, row_by, row_read}
+use Rattle.listings.specs.Reading.{Mistake, ◌>>=◌, in_column, relocs_of, with_word, word_entry, symbol_entry, entry_in, word_in, rank}
+use Rattle.listings.specs.Reading.{only_first, not_last, named_by, named, is_decimal, is_label, row_by, row_read}
 use Rattle.listings.specs.internal.Whole.{IsWhole, IsEmpty, Begins, IsDraft}
+use Rattle.listings.specs.{declared.fault.Section.Section, declared.fault.Word.Word, Octal.number, Columns.Row, Names.name_of}
 
 -- what holds of a value that may be missing
 abbrev Holds : {B : Type 0} → (B → Type 0) → Result B Mistake → Type 0

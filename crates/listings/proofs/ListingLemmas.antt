@@ -1,37 +1,28 @@
 -- The listing of a file says that file.
-use Rattle.std.proofs.Common.{◌≡◌, ℕ, ◌+◌, ◌*◌, ◌%◌, ◌<◌, Bool, true, false, cond, eqb, eqb-true, List}
-use Rattle.std.proofs.Common.{[], ◌∷◌, ◌++◌, length, refl, sym, ◌∙◌, ap, subst, arith}
+use Rattle.std.proofs.Common.{◌≡◌, ℕ, ◌+◌, ◌*◌, ◌%◌, ◌<◌, Bool, true, false, cond, eqb, eqb-true, List, [], ◌∷◌, ◌++◌, length, refl, sym}
+use Rattle.std.proofs.Common.{◌∙◌, ap, subst, arith}
+use Rattle.std.proofs.{lemmas.Bool.ne_eqb, lemmas.List.append-nil}
 use Rattle.std.specs.Prelude.{codes, map, ◌-◌, ◌&&◌, nat_eq, if◌then◌else◌, IsTrue, drop, slice_get, Option, Some, None, Result, Ok, Err}
-use Rattle.std.specs.List.{AllByRecursion, starts_with}
-use Rattle.std.specs.Cmp.Lexicographic.{pointwise}
-use Rattle.std.proofs.lemmas.Bool.{ne_eqb}
-use Rattle.std.proofs.lemmas.List.{append-nil}
-use Rattle.aout_core.specs.declared.reloc.Reloc.{Reloc}
-use Rattle.aout_core.specs.declared.symbol.Symbol.{Symbol}
-use Rattle.aout_core.specs.declared.header.Header.{Header}
+use Rattle.std.specs.{List.AllByRecursion, List.starts_with, Cmp.Lexicographic.pointwise}
 use Rattle.aout_core.specs.Contents.{Contents, is_magic, has_whole_sizes, IsWord, IsSound}
-use Rattle.listings.specs.declared.fault.Reason.{Reason}
-use Rattle.listings.specs.declared.fault.Reason.TheVariants.{NoMagic, OddSize}
+use Rattle.aout_core.specs.{declared.reloc.Reloc.Reloc, declared.symbol.Symbol.Symbol, declared.header.Header.Header, Addresses.data_start}
+use Rattle.aout_core.specs.{declared.part.Part.Part}
 use Rattle.listings.specs.declared.fault.Section.TheVariants.{InText, InData, InSymbols}
-use Rattle.texts.specs.Numbers.{six_digits, octal}
-use Rattle.listings.specs.Octal.{number}
 use Rattle.listings.specs.Columns.{Row, row_of, column, from_third, from_fourth}
-use Rattle.texts.specs.Lines.{lines_in}
-use Rattle.texts.specs.Names.{printable_name}
-use Rattle.aout_core.specs.Addresses.{data_start}
 use Rattle.listings.specs.Drafts.{Segment, Draft, empty_segment, empty_draft, finished}
-use Rattle.listings.specs.Listing.{Remarks, gap, wide, remarked, word_line, word_lines, symbol_lines, named_line}
-use Rattle.listings.specs.Listing.{unusual, note_lines, head_lines, text_lines, data_lines, bss_lines, table_lines}
-use Rattle.listings.specs.Listing.{listing_lines, listing}
+use Rattle.listings.specs.Listing.{Remarks, gap, wide, remarked, word_line, word_lines, symbol_lines, named_line, unusual, note_lines}
+use Rattle.listings.specs.Listing.{head_lines, text_lines, data_lines, bss_lines, table_lines, listing_lines, listing}
 use Rattle.listings.specs.Reading.{◌>>=◌, in_column, named, is_label, row_read, lines_read, file_of, read}
+use Rattle.listings.specs.Laws.{IsLine, IsLabel, AreRemarks}
+use Rattle.listings.specs.{declared.fault.Reason.Reason, declared.fault.Reason.TheVariants.NoMagic}
+use Rattle.listings.specs.{declared.fault.Reason.TheVariants.OddSize, Octal.number}
+use Rattle.texts.specs.{Numbers.six_digits, Numbers.octal, Lines.lines_in, Names.printable_name}
 use Rattle.listings.proofs.OctalLemmas.{IsNumber, octal_again, short_again, octal_digits, short_digits}
 use Rattle.listings.proofs.ColumnLemmas.{IsColumn, ink, number_column, row_two, line_of_column, line_gap, line_last, lines_again}
-use Rattle.aout_core.specs.declared.part.Part.{Part}
-use Rattle.aout_core.specs.declared.part.Part.TheVariants as parts
-use Rattle.listings.specs.Laws.{IsLine, IsLabel, AreRemarks}
 use Rattle.listings.proofs.NameLemmas.{name_column}
-use Rattle.listings.proofs.RowLemmas.{Reads, reads_nil, reads_one, reads_both, reads_more, entry_row, Enters, AreRelocs}
-use Rattle.listings.proofs.RowLemmas.{line_with, line_alone, words_with, words_alone, symbols_read}
+use Rattle.listings.proofs.RowLemmas.{Reads, reads_nil, reads_one, reads_both, reads_more, entry_row, Enters, AreRelocs, line_with}
+use Rattle.listings.proofs.RowLemmas.{line_alone, words_with, words_alone, symbols_read}
+use Rattle.aout_core.specs.declared.part.Part.TheVariants as parts
 
 -- no line has a newline
 abbrev AreLines : List (List ℕ) → Type 0

@@ -2,18 +2,13 @@
 use Rattle.std.proofs.Common.{◌≡◌, ℕ, ◌+◌, ◌<◌, Bool, true, false, eqb, List, [], ◌∷◌, length, refl, sym, ◌∙◌, ap, subst, inl, inr, arith}
 use Rattle.std.specs.Prelude.{Result, Ok, Err, IsOkAnd}
 use Rattle.aout_core.specs.Contents.{Contents, IsSound}
-use Rattle.listings.specs.declared.fault.Fault.{Fault}
-use Rattle.listings.specs.declared.fault.ListingFault.{ListingFault}
-use Rattle.listings.specs.declared.fault.ListingFault.TheVariants.{Memory, Wrong}
-use Rattle.listings.specs.Drafts.{Draft, finished}
-use Rattle.listings.specs.Listing.{Remarks, listing}
-use Rattle.listings.specs.Laws.{AreRemarks}
 use Rattle.listings.specs.Reading.{Mistake, ◌>>=◌, row_read, in_line, lines_read, file_of, read}
 use Rattle.listings.specs.MemoryWanted.{IsEntry, MayRunOutInLines}
-use Rattle.listings.specs.Said.{Says, Gives}
-use Rattle.listings.specs.internal.Lines.{Stops}
-use Rattle.listings.proofs.ListingLemmas.{listing_read}
 use Rattle.listings.specs.Columns.{row_of, first_line, other_lines}
+use Rattle.listings.specs.{declared.fault.Fault.Fault, declared.fault.ListingFault.ListingFault}
+use Rattle.listings.specs.{declared.fault.ListingFault.TheVariants.Memory, declared.fault.ListingFault.TheVariants.Wrong, Drafts.Draft}
+use Rattle.listings.specs.{Drafts.finished, Listing.Remarks, Listing.listing, Laws.AreRemarks, Said.Says, Said.Gives, internal.Lines.Stops}
+use Rattle.listings.proofs.ListingLemmas.{listing_read}
 use Rattle.texts.specs.Lines.{lines_in}
 
 lines_by : (b : ℕ) (bs : List ℕ) (t : Bool) → eqb b 10 ≡ t → lines_in bs ≡ first_line bs ∷ lines_in (other_lines bs) →

@@ -1,27 +1,18 @@
 -- Rows that were written say what was written.
-use Rattle.std.proofs.Common.{◌≡◌, ℕ, ◌+◌, ◌*◌, ◌%◌, ◌<◌, true, false, eqb, List, [], ◌∷◌, ◌++◌, length, refl, sym}
-use Rattle.std.proofs.Common.{◌∙◌, ap, subst, arith, append_assoc, length-append, replicate}
-use Rattle.std.specs.Prelude.{ltb, leb, ◌-◌, Some, None, Result, Ok}
-use Rattle.std.specs.List.{AllByRecursion}
-use Rattle.std.proofs.lemmas.Bool.{lt-ltb, le-leb, ne_eqb, eq-eqb}
-use Rattle.aout_core.specs.declared.reloc.Reloc.{Reloc}
-use Rattle.aout_core.specs.declared.symbol.Symbol.{Symbol}
-use Rattle.aout_core.specs.Contents.{IsWord, IsSymbol}
-use Rattle.listings.specs.declared.fault.Section.TheVariants.{InSymbols}
-use Rattle.texts.specs.Numbers.{six_digits, octal}
-use Rattle.listings.specs.Octal.{number}
-use Rattle.listings.specs.Columns.{row_of, column, from_third, from_fourth}
-use Rattle.texts.specs.Names.{printable_name}
-use Rattle.listings.specs.Names.{name_of}
-use Rattle.listings.specs.Drafts.{Segment, Draft}
-use Rattle.aout_core.specs.declared.part.Part.{Part}
-use Rattle.listings.specs.Laws.{IsLabel, AreRemarks}
+use Rattle.std.proofs.Common.{◌≡◌, ℕ, ◌+◌, ◌*◌, ◌%◌, ◌<◌, true, false, eqb, List, [], ◌∷◌, ◌++◌, length, refl, sym, ◌∙◌, ap, subst, arith}
+use Rattle.std.proofs.Common.{append_assoc, length-append, replicate}
+use Rattle.std.proofs.{lemmas.Bool.lt-ltb, lemmas.Bool.le-leb, lemmas.Bool.ne_eqb, lemmas.Bool.eq-eqb, lemmas.List.append-nil}
+use Rattle.std.specs.{Prelude.ltb, Prelude.leb, Prelude.◌-◌, Prelude.Some, Prelude.None, Prelude.Result, Prelude.Ok, List.AllByRecursion}
+use Rattle.aout_core.specs.{declared.reloc.Reloc.Reloc, declared.symbol.Symbol.Symbol, Contents.IsWord, Contents.IsSymbol}
+use Rattle.aout_core.specs.{declared.part.Part.Part}
 use Rattle.listings.specs.Listing.{Remarks, gap, wide, remarked, word_line, word_lines, symbol_line, symbol_lines}
 use Rattle.listings.specs.Reading.{Mistake, ◌>>=◌, relocs_of, with_word, word_entry, symbol_entry, entry_in, row_read, in_line, lines_read}
+use Rattle.listings.specs.{declared.fault.Section.TheVariants.InSymbols, Octal.number, Columns.row_of, Columns.column, Columns.from_third}
+use Rattle.listings.specs.{Columns.from_fourth, Names.name_of, Drafts.Segment, Drafts.Draft, Laws.IsLabel, Laws.AreRemarks}
+use Rattle.texts.specs.{Numbers.six_digits, Numbers.octal, Names.printable_name}
 use Rattle.listings.proofs.OctalLemmas.{octal_again, short_again, IsNumber, octal_digits, short_digits}
 use Rattle.listings.proofs.ColumnLemmas.{number_column, row_two, row_three, row_four}
 use Rattle.listings.proofs.NameLemmas.{name_column, name_again}
-use Rattle.std.proofs.lemmas.List.{append-nil}
 
 -- these lines, whatever follows them, turn one draft into another
 abbrev pub Reads : Draft → List (List ℕ) → Draft → Type 0

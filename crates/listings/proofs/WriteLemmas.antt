@@ -1,11 +1,9 @@
 -- One more word of a segment is written.
-use Rattle.std.proofs.Common.{◌≡◌, ℕ, zero, suc, ◌+◌, ◌*◌, ◌%◌, ◌<◌, List, [], ◌∷◌, ◌++◌, drop, length, get_or}
-use Rattle.std.proofs.Common.{refl, sym, ◌∙◌, ap, arith, append_assoc, drop-drop}
+use Rattle.std.proofs.Common.{◌≡◌, ℕ, zero, suc, ◌+◌, ◌*◌, ◌%◌, ◌<◌, List, [], ◌∷◌, ◌++◌, drop, length, get_or, refl, sym, ◌∙◌, ap, arith}
+use Rattle.std.proofs.Common.{append_assoc, drop-drop}
+use Rattle.std.proofs.{lemmas.List.drop_more, Math.Seq.drop-length}
 use Rattle.std.specs.Prelude.{Option, slice_get}
-use Rattle.std.proofs.lemmas.List.{drop_more}
-use Rattle.std.proofs.Math.Seq.{drop-length}
-use Rattle.aout_core.specs.declared.reloc.Reloc.{Reloc}
-use Rattle.aout_core.specs.declared.part.Part.{Part}
+use Rattle.aout_core.specs.{declared.reloc.Reloc.Reloc, declared.part.Part.Part}
 use Rattle.texts.specs.Lines.{text_of}
 use Rattle.texts.proofs.LineLemmas.{two_texts}
 use Rattle.listings.specs.Listing.{Remarks, word_line, word_lines}

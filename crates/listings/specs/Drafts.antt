@@ -1,10 +1,7 @@
 -- What has been read of a listing so far, and the file that it makes. (a.out(5))
 use Rattle.std.specs.Prelude.{ℕ, ◌*◌, List, [], length}
-use Rattle.aout_core.specs.declared.reloc.Reloc.{Reloc}
-use Rattle.aout_core.specs.declared.symbol.Symbol.{Symbol}
-use Rattle.aout_core.specs.Contents.{Contents}
-use Rattle.listings.specs.declared.fault.Section.{Section}
-use Rattle.listings.specs.declared.fault.Section.TheVariants.{InHeader}
+use Rattle.aout_core.specs.{declared.reloc.Reloc.Reloc, declared.symbol.Symbol.Symbol, Contents.Contents}
+use Rattle.listings.specs.{declared.fault.Section.Section, declared.fault.Section.TheVariants.InHeader}
 
 pub record Segment : Type 0 where
   pub words : List ℕ

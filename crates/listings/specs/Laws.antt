@@ -1,13 +1,7 @@
 -- The law of listings: reading the listing of a file gives that file. (own choice)
-use Rattle.std.specs.Prelude.{◌≡◌, ℕ, ◌≤◌, List, Ok}
-use Rattle.std.specs.List.{AllByRecursion}
-use Rattle.aout_core.specs.declared.symbol.Symbol.{Symbol}
-use Rattle.aout_core.specs.Contents.{Contents, IsSound}
-use Rattle.aout_core.specs.declared.part.Part.{Part}
-use Rattle.listings.specs.Columns.{row_of}
-use Rattle.listings.specs.Drafts.{Draft}
-use Rattle.listings.specs.Listing.{Remarks, listing}
-use Rattle.listings.specs.Reading.{row_read, read}
+use Rattle.std.specs.{Prelude.◌≡◌, Prelude.ℕ, Prelude.◌≤◌, Prelude.List, Prelude.Ok, List.AllByRecursion}
+use Rattle.aout_core.specs.{declared.symbol.Symbol.Symbol, Contents.Contents, Contents.IsSound, declared.part.Part.Part}
+use Rattle.listings.specs.{Columns.row_of, Drafts.Draft, Listing.Remarks, Listing.listing, Reading.row_read, Reading.read}
 
 -- no newline, and no other byte below the blank
 abbrev pub IsLine : List ℕ → Type 0

@@ -3,18 +3,12 @@
 -- A listing begins and ends with notes, and each note is a line that begins with a slash. A line gives the magic number unless it is
 -- 0407, and another the flag unless it is 0. The words of text and of data follow, the size of bss, the entry point and the unused word
 -- unless they are 0, and the table. A line may end with a remark, and labels may precede the line of a word or follow the last one.
-use Rattle.std.specs.Prelude.{ℕ, ◌+◌, ◌-◌, ◌%◌, eqb, if◌then◌else◌, List, [], ◌∷◌, ◌++◌, drop, map, replicate}
-use Rattle.std.specs.Prelude.{length, Option, Some, None, slice_get, codes}
-use Rattle.aout_core.specs.declared.header.Header.{Header}
-use Rattle.aout_core.specs.declared.reloc.Reloc.{Reloc}
-use Rattle.aout_core.specs.declared.symbol.Symbol.{Symbol}
-use Rattle.aout_core.specs.Contents.{Contents}
-use Rattle.aout_core.specs.declared.part.Part.{Part}
+use Rattle.std.specs.Prelude.{ℕ, ◌+◌, ◌-◌, ◌%◌, eqb, if◌then◌else◌, List, [], ◌∷◌, ◌++◌, drop, map, replicate, length, Option, Some, None}
+use Rattle.std.specs.Prelude.{slice_get, codes}
+use Rattle.aout_core.specs.{declared.header.Header.Header, declared.reloc.Reloc.Reloc, declared.symbol.Symbol.Symbol, Contents.Contents}
+use Rattle.aout_core.specs.{declared.part.Part.Part, Addresses.data_start_in}
+use Rattle.texts.specs.{Numbers.six_digits, Numbers.octal, Names.printable_name, Lines.text_of}
 use Rattle.aout_core.specs.declared.part.Part.TheVariants as parts
-use Rattle.texts.specs.Numbers.{six_digits, octal}
-use Rattle.texts.specs.Names.{printable_name}
-use Rattle.texts.specs.Lines.{text_of}
-use Rattle.aout_core.specs.Addresses.{data_start_in}
 
 -- remarks on a file for people; `read` skips them
 pub record Remarks : Type 0 where

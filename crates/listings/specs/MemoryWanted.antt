@@ -3,11 +3,9 @@
 -- Only words and symbols are kept. So memory is requested for a row of a section that begins with a digit, once the lines before it are
 -- read.
 use Rattle.std.specs.Prelude.{◌≢◌, ◌⊎◌, ℕ, Bool, false, List, [], ◌∷◌, IsOkAnd, IsTrue}
-use Rattle.listings.specs.declared.fault.Section.TheVariants.{InHeader}
-use Rattle.listings.specs.Columns.{Row, row_of}
-use Rattle.texts.specs.Lines.{lines_in}
-use Rattle.listings.specs.Drafts.{Draft, empty_draft}
 use Rattle.listings.specs.Reading.{is_decimal, row_read}
+use Rattle.listings.specs.{declared.fault.Section.TheVariants.InHeader, Columns.Row, Columns.row_of, Drafts.Draft, Drafts.empty_draft}
+use Rattle.texts.specs.Lines.{lines_in}
 
 abbrev pub begins_with_digit : List ℕ → Bool
 begins_with_digit [] = false

@@ -3,10 +3,9 @@
 -- A byte that prints is itself, except the blank and the backslash. A backslash and three octal digits are any byte.
 use Rattle.std.specs.Prelude.{ℕ, ◌+◌, ◌-◌, ◌*◌, nat_lt, eqb, if◌then◌else◌, List, [], ◌∷◌, ◌++◌, take, Result, Ok, Err}
 use Rattle.aout_core.specs.Names.{before_nul}
-use Rattle.listings.specs.declared.fault.Reason.{Reason}
-use Rattle.listings.specs.declared.fault.Reason.TheVariants.{Missing, BadName}
+use Rattle.listings.specs.{declared.fault.Reason.Reason, declared.fault.Reason.TheVariants.Missing}
+use Rattle.listings.specs.{declared.fault.Reason.TheVariants.BadName, Octal.is_digit}
 use Rattle.texts.specs.Names.{is_printable}
-use Rattle.listings.specs.Octal.{is_digit}
 
 -- the bytes of a name, after those of `out`; `left` digits of an escaped byte are still to come, and those before them make `sum`
 abbrev pub bytes_from : List ℕ → ℕ → ℕ → List ℕ → Result (List ℕ) Reason

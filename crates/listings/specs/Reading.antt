@@ -2,28 +2,20 @@
 --
 -- A row that begins with a digit belongs to the section that was opened last. Any other row begins with a word. A row without columns,
 -- one that begins with a slash and a label are skipped. Columns after those that a row needs are not read.
-use Rattle.std.specs.Prelude.{ℕ, ◌+◌, ◌*◌, ◌%◌, Bool, ◌&&◌, ◌||◌, nat_le, nat_lt, nat_eq, eqb, if◌then◌else◌}
-use Rattle.std.specs.Prelude.{List, [], ◌∷◌, ◌++◌, length, Result, Ok, Err, codes}
-use Rattle.std.specs.Cmp.Lexicographic.{pointwise}
-use Rattle.std.specs.List.{starts_with, ends_with}
-use Rattle.aout_core.specs.declared.reloc.Reloc.{Reloc}
-use Rattle.aout_core.specs.declared.symbol.Symbol.{Symbol}
-use Rattle.aout_core.specs.Contents.{Contents, is_magic}
-use Rattle.listings.specs.declared.fault.Reason.{Reason}
-use Rattle.listings.specs.declared.fault.Reason.TheVariants.{WrongAddress, WrongNumber, TooManyWords, TooManySymbols}
-use Rattle.listings.specs.declared.fault.Reason.TheVariants.{NoSection, UnknownWord, OutOfOrder, TooLate, AfterTable}
-use Rattle.listings.specs.declared.fault.Reason.TheVariants.{NoMagic, OddSize}
-use Rattle.listings.specs.declared.fault.Section.{Section}
+use Rattle.std.specs.Prelude.{ℕ, ◌+◌, ◌*◌, ◌%◌, Bool, ◌&&◌, ◌||◌, nat_le, nat_lt, nat_eq, eqb, if◌then◌else◌, List, [], ◌∷◌, ◌++◌, length}
+use Rattle.std.specs.Prelude.{Result, Ok, Err, codes}
+use Rattle.std.specs.{Cmp.Lexicographic.pointwise, List.starts_with, List.ends_with}
+use Rattle.aout_core.specs.{declared.reloc.Reloc.Reloc, declared.symbol.Symbol.Symbol, Contents.Contents, Contents.is_magic}
+use Rattle.aout_core.specs.{Addresses.data_start}
+use Rattle.listings.specs.declared.fault.Reason.TheVariants.{WrongAddress, WrongNumber, TooManyWords, TooManySymbols, NoSection}
+use Rattle.listings.specs.declared.fault.Reason.TheVariants.{UnknownWord, OutOfOrder, TooLate, AfterTable, NoMagic, OddSize}
 use Rattle.listings.specs.declared.fault.Section.TheVariants.{InHeader, InText, InData, InSymbols}
-use Rattle.listings.specs.declared.fault.Word.{Word}
 use Rattle.listings.specs.declared.fault.Word.TheVariants.{Text, Data, Symbols, Bss, Entry, Unused, Magic, Flag, Unknown}
-use Rattle.listings.specs.declared.fault.Fault.{Fault}
-use Rattle.listings.specs.Octal.{number}
 use Rattle.listings.specs.Columns.{Row, row_of, column_place}
-use Rattle.texts.specs.Lines.{lines_in}
-use Rattle.listings.specs.Names.{name_of}
-use Rattle.aout_core.specs.Addresses.{data_start}
 use Rattle.listings.specs.Drafts.{Segment, Draft, empty_draft, finished}
+use Rattle.listings.specs.{declared.fault.Reason.Reason, declared.fault.Section.Section, declared.fault.Word.Word}
+use Rattle.listings.specs.{declared.fault.Fault.Fault, Octal.number, Names.name_of}
+use Rattle.texts.specs.Lines.{lines_in}
 
 -- the number of a column, and what is wrong in it
 abbrev pub Mistake : Type 0

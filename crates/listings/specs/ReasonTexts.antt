@@ -1,9 +1,9 @@
 -- What is said of a wrong line of a listing. (own choice)
 use Rattle.std.specs.Prelude.{ℕ, List, codes}
 use Rattle.listings.specs.declared.fault.Reason.{Reason}
-use Rattle.listings.specs.declared.fault.Reason.TheVariants.{Missing, NotOctal, TooLarge, BadName, WrongAddress}
-use Rattle.listings.specs.declared.fault.Reason.TheVariants.{WrongNumber, TooManyWords, TooManySymbols, NoSection}
-use Rattle.listings.specs.declared.fault.Reason.TheVariants.{UnknownWord, OutOfOrder, TooLate, AfterTable, NoMagic, OddSize}
+use Rattle.listings.specs.declared.fault.Reason.TheVariants.{Missing, NotOctal, TooLarge, BadName, WrongAddress, WrongNumber, TooManyWords}
+use Rattle.listings.specs.declared.fault.Reason.TheVariants.{TooManySymbols, NoSection, UnknownWord, OutOfOrder, TooLate, AfterTable}
+use Rattle.listings.specs.declared.fault.Reason.TheVariants.{NoMagic, OddSize}
 
 abbrev pub reason_text : Reason → List ℕ
 reason_text Missing = codes "a column is missing"

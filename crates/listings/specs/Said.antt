@@ -1,10 +1,8 @@
 -- What `read_listing` returns: the file that a listing describes, unless memory runs out. (own choice)
 use Rattle.std.specs.Prelude.{◌≡◌, Result, Ok, Err}
-use Rattle.aout_core.specs.Contents.{Contents}
-use Rattle.aout_core.specs.Refusals.{refused}
-use Rattle.listings.specs.declared.fault.Fault.{Fault}
-use Rattle.listings.specs.declared.fault.ListingFault.{ListingFault}
-use Rattle.listings.specs.declared.fault.ListingFault.TheVariants.{Memory, Wrong}
+use Rattle.aout_core.specs.{Contents.Contents, Refusals.refused}
+use Rattle.listings.specs.{declared.fault.Fault.Fault, declared.fault.ListingFault.ListingFault}
+use Rattle.listings.specs.{declared.fault.ListingFault.TheVariants.Memory, declared.fault.ListingFault.TheVariants.Wrong}
 
 -- the file of a listing or its first mistake; or memory ran out, which does not follow from the text
 abbrev pub Says : Result Contents ListingFault → Result Contents Fault → Type 0

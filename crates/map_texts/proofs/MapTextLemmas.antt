@@ -1,14 +1,11 @@
 -- The objects of the map, their files, and the names of a part, one after another.
-use Rattle.std.proofs.Common.{◌≡◌, ℕ, ◌<◌, Bool, ◌||◌, ◌⊎◌, inl, inr, List, [], ◌∷◌, ◌++◌, length, map, take, drop}
-use Rattle.std.proofs.Common.{refl, sym, ap, ◌∙◌, append_assoc}
+use Rattle.std.proofs.Common.{◌≡◌, ℕ, ◌<◌, Bool, ◌||◌, ◌⊎◌, inl, inr, List, [], ◌∷◌, ◌++◌, length, map, take, drop, refl, sym, ap, ◌∙◌}
+use Rattle.std.proofs.Common.{append_assoc}
 use Rattle.std.proofs.lemmas.List.{append-nil, map-append, map-id}
 use Rattle.aout_core.specs.Contents.{Contents}
 use Rattle.link_maps.proofs.RecordLemmas.{names_cut}
-use Rattle.link_maps.specs.Records.{by_name, uses_of_name}
-use Rattle.link_maps.specs.Members.{Member, all_of, left_of}
-use Rattle.link_maps.specs.Uses.{Use}
-use Rattle.link_maps.specs.declared.members.Objects.{Objects}
-use Rattle.link_maps.specs.declared.places.Places.{Places}
+use Rattle.link_maps.specs.{Records.by_name, Records.uses_of_name, Members.Member, Members.all_of, Members.left_of, Uses.Use}
+use Rattle.link_maps.specs.{declared.members.Objects.Objects, declared.places.Places.Places}
 use Rattle.link_session.specs.Labelled.{Labelled, objects}
 use Rattle.map_texts.specs.MapTexts.{Mapped, group_text, has_name, member_lines, part_from}
 use Rattle.map_texts.specs.declared.names.Section.{Section}

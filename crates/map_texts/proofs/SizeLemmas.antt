@@ -1,12 +1,9 @@
 -- The order of objects by their sizes.
 use Rattle.std.proofs.Common.{◌≡◌, Bool, true, false, cond, nat_lt, ◌==◌, refl, ap, ◌∙◌}
 use Rattle.std.proofs.lemmas.List.Sorted.{IsStrictWeakOrder-flip, IsStrictWeakOrder-by_number}
-use Rattle.std.specs.Cmp.{IsStrictWeakOrder}
-use Rattle.std.specs.Ordering.{nat_cmp, is_lt}
-use Rattle.std.specs.declared.cmp.Ordering.{Ordering}
 use Rattle.std.specs.declared.cmp.Ordering.TheVariants.{Less, Equal, Greater}
-use Rattle.map_texts.specs.MapTexts.{is_larger}
-use Rattle.map_texts.specs.declared.limits.Sized.{Sized}
+use Rattle.std.specs.{Cmp.IsStrictWeakOrder, Ordering.nat_cmp, Ordering.is_lt, declared.cmp.Ordering.Ordering}
+use Rattle.map_texts.specs.{MapTexts.is_larger, declared.limits.Sized.Sized}
 
 pub larger_order : IsStrictWeakOrder is_larger
 larger_order = IsStrictWeakOrder-flip _ (IsStrictWeakOrder-by_number (λ (s : Sized). s.bytes))

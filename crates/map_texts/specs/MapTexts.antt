@@ -3,46 +3,26 @@
 -- What becomes of the link, the limits, where the segments lie, the names that stay undefined or are multiply defined, the objects, and
 -- all externals. Each name has the objects that define it, make it a common and mention it, with the words that refer to it. If names are
 -- asked for, the text has only what becomes of the link, these externals, and those names that the link does not have.
-use Rattle.std.specs.Prelude.{ℕ, suc, ◌-◌, Bool, true, false, not, ◌||◌, eqb, nat_lt, bytes_eq, if◌then◌else◌, codes, decimal}
-use Rattle.std.specs.Prelude.{List, [], ◌∷◌, ◌++◌, length, map, take, filter, slice_get, Option, Some, None, option_map, Result, Ok, Err}
+use Rattle.std.specs.Prelude.{ℕ, suc, ◌-◌, Bool, true, false, not, ◌||◌, eqb, nat_lt, bytes_eq, if◌then◌else◌, codes, decimal, List, []}
+use Rattle.std.specs.Prelude.{◌∷◌, ◌++◌, length, map, take, filter, slice_get, Option, Some, None, option_map, Result, Ok, Err}
 use Rattle.std.specs.List.{flat_map}
 use Rattle.indexmap.specs.IndexSet.{insert_all}
-use Rattle.aout_core.specs.Contents.{Contents}
-use Rattle.aout_core.specs.declared.header.Header.{Header}
-use Rattle.aout_core.specs.declared.part.Part.{Part}
-use Rattle.aout_core.specs.declared.part.Part.TheVariants.{Text, Data}
-use Rattle.aout_core.specs.declared.symbol.Symbol.{Symbol}
-use Rattle.link_maps.specs.MapLimits.{map_limits}
-use Rattle.link_maps.specs.Members.{Member, all_of, capped, start_in}
+use Rattle.aout_core.specs.{Contents.Contents, declared.header.Header.Header, declared.part.Part.Part, declared.part.Part.TheVariants.Text}
+use Rattle.aout_core.specs.{declared.part.Part.TheVariants.Data, declared.symbol.Symbol.Symbol}
 use Rattle.link_maps.specs.Records.{by_name, is_multiple_in, knowledge_of, row_among, rows_in}
-use Rattle.link_maps.specs.References.{text_of_line}
 use Rattle.link_maps.specs.Uses.{Use, is_common, is_definition, name_of, stays_undefined, telling}
-use Rattle.link_maps.specs.declared.limit_records.LimitRecord.{LimitRecord}
-use Rattle.link_maps.specs.declared.map.LinkMap.{LinkMap}
-use Rattle.link_maps.specs.declared.members.Objects.{Objects}
-use Rattle.link_maps.specs.declared.members.Refused.{Refused}
-use Rattle.link_maps.specs.declared.outcome.Outcome.{Outcome}
-use Rattle.link_maps.specs.declared.places.Places.{Places}
-use Rattle.link_maps.specs.declared.references.Before.{Before}
-use Rattle.link_maps.specs.declared.references.ReferringWord.{ReferringWord}
-use Rattle.link_out.specs.FaultTexts.{link_text}
-use Rattle.link_out.specs.Layouts.{Bases}
-use Rattle.link_out.specs.Outcomes.{report_names}
-use Rattle.link_out.specs.declared.linked.LinkFault.{LinkFault}
-use Rattle.link_out.specs.declared.linked.Linked.{Linked}
-use Rattle.link_out.specs.function.Reports.{status_of}
-use Rattle.link_session.specs.Labelled.{Labelled, objects}
-use Rattle.link_session.specs.FaultTexts.{add_text}
-use Rattle.symtools.specs.NmLists.{in_order}
-use Rattle.symtools.specs.SymbolLines.{letter, value_column}
-use Rattle.texts.specs.Columns.{at_left, at_right}
-use Rattle.texts.specs.Names.{printable_bytes}
-use Rattle.texts.specs.Numbers.{octal, padded_octal, six_digits}
-use Rattle.tool_options.specs.Choices.{Choices}
-use Rattle.tool_options.specs.NameLists.{is_among}
-use Rattle.map_texts.specs.declared.limits.Sized.{Sized}
-use Rattle.map_texts.specs.declared.names.Section.{Section}
+use Rattle.link_maps.specs.{MapLimits.map_limits, Members.Member, Members.all_of, Members.capped, Members.start_in, References.text_of_line}
+use Rattle.link_maps.specs.{declared.limit_records.LimitRecord.LimitRecord, declared.map.LinkMap.LinkMap, declared.members.Objects.Objects}
+use Rattle.link_maps.specs.{declared.members.Refused.Refused, declared.outcome.Outcome.Outcome, declared.places.Places.Places}
+use Rattle.link_maps.specs.{declared.references.Before.Before, declared.references.ReferringWord.ReferringWord}
+use Rattle.link_out.specs.{FaultTexts.link_text, Layouts.Bases, Outcomes.report_names, declared.linked.LinkFault.LinkFault}
+use Rattle.link_out.specs.{declared.linked.Linked.Linked, function.Reports.status_of}
+use Rattle.link_session.specs.{Labelled.Labelled, Labelled.objects, FaultTexts.add_text}
+use Rattle.symtools.specs.{NmLists.in_order, SymbolLines.letter, SymbolLines.value_column}
+use Rattle.texts.specs.{Columns.at_left, Columns.at_right, Names.printable_bytes, Numbers.octal, Numbers.padded_octal, Numbers.six_digits}
+use Rattle.tool_options.specs.{Choices.Choices, NameLists.is_among}
 use Rattle.map_texts.specs.declared.names.Section.TheVariants.{Undefined, Multiple, All, Asked}
+use Rattle.map_texts.specs.{declared.limits.Sized.Sized, declared.names.Section.Section}
 
 -- ---- pieces
 

@@ -1,18 +1,12 @@
 -- A name is multiply defined as often as there are objects of further definitions, so a report's names and objects are pairs.
-use Rattle.std.proofs.Common.{◌≡◌, ℕ, zero, suc, ◌-◌, ◌≤◌, List, [], ◌∷◌, ◌++◌}
-use Rattle.std.proofs.Common.{length, map, take, replicate, zip, Option, Some, None, Result, Ok, Err, IfOk}
-use Rattle.std.proofs.Common.{refl, sym, ap, subst, ◌∙◌, arith, append-nil, length-append}
-use Rattle.std.specs.Prelude.{filter, Vec}
-use Rattle.std.specs.declared.alloc.Global.{Global}
-use Rattle.std.specs.List.{flat_map}
-use Rattle.std.proofs.lemmas.List.{length-map, length-replicate, take_all}
-use Rattle.std.proofs.lemmas.Slice.Zip.{length-zip}
+use Rattle.std.proofs.Common.{◌≡◌, ℕ, zero, suc, ◌-◌, ◌≤◌, List, [], ◌∷◌, ◌++◌, length, map, take, replicate, zip, Option, Some, None}
+use Rattle.std.proofs.Common.{Result, Ok, Err, IfOk, refl, sym, ap, subst, ◌∙◌, arith, append-nil, length-append}
+use Rattle.std.proofs.{lemmas.List.length-map, lemmas.List.length-replicate, lemmas.List.take_all, lemmas.Slice.Zip.length-zip}
+use Rattle.std.specs.{Prelude.filter, Prelude.Vec, declared.alloc.Global.Global, List.flat_map}
 use Rattle.aout_core.specs.Contents.{Contents}
-use Rattle.link_session.specs.Earlier.{with_earlier}
-use Rattle.link_session.specs.Mentions.{Mention, forced_mention, mentions, mentions_in}
-use Rattle.link_session.specs.States.{differs, first_definition, multiple_names}
-use Rattle.link_session.proofs.MentionLemmas.{mentions-append}
-use Rattle.link_session.proofs.MultipleLemmas.{multiple_names-append}
+use Rattle.link_session.specs.{Earlier.with_earlier, Mentions.Mention, Mentions.forced_mention, Mentions.mentions, Mentions.mentions_in}
+use Rattle.link_session.specs.{States.differs, States.first_definition, States.multiple_names}
+use Rattle.link_session.proofs.{MentionLemmas.mentions-append, MultipleLemmas.multiple_names-append}
 use Rattle.link_out.specs.Results.{ReportNames}
 use Rattle.report_objects.specs.declared.places.FindingPlace.{FindingPlace}
 use Rattle.report_objects.specs.Places.{differing, further_among, further_objects, entry_places, finding_places, name_count, named_by_entry}

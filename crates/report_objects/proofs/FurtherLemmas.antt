@@ -1,14 +1,11 @@
 -- What a withdrawal leaves, and the objects of further definitions once one object less is left.
-use Rattle.std.proofs.Common.{◌≡◌, ℕ, zero, suc, ◌+◌, ◌-◌, List, [], ◌∷◌, ◌++◌, length, take, replicate, reverse, Option, Some, None}
-use Rattle.std.proofs.Common.{refl, sym, ap, ◌∙◌, arith, append_assoc, add-one}
-use Rattle.std.specs.Prelude.{IsNone, IfSome, String}
-use Rattle.std.specs.declared.alloc.Global.{Global}
+use Rattle.std.proofs.Common.{◌≡◌, ℕ, zero, suc, ◌+◌, ◌-◌, List, [], ◌∷◌, ◌++◌, length, take, replicate, reverse, Option, Some, None, refl}
+use Rattle.std.proofs.Common.{sym, ap, ◌∙◌, arith, append_assoc, add-one}
 use Rattle.std.proofs.lemmas.List.{take-map, length-append, replicate_more, reverse-append}
 use Rattle.std.proofs.Math.Seq.{take-append_seam}
+use Rattle.std.specs.{Prelude.IsNone, Prelude.IfSome, Prelude.String, declared.alloc.Global.Global}
 use Rattle.aout_core.specs.Contents.{Contents}
-use Rattle.link_session.specs.Labelled.{Labelled, objects}
-use Rattle.link_session.specs.Sessions.{Withdraws, labelled}
-use Rattle.link_session.specs.Undo.{Kept}
+use Rattle.link_session.specs.{Labelled.Labelled, Labelled.objects, Sessions.Withdraws, Sessions.labelled, Undo.Kept}
 use Rattle.report_objects.specs.Places.{differing, further_among}
 
 -- all objects but the last are left

@@ -1,14 +1,12 @@
 -- What an index of names gives for a report.
 use Rattle.std.proofs.Common.{◌≡◌, ℕ, List, [], ◌∷◌, ◌++◌, map, zip, Option, Some, None, IfOk, Result, Ok, Err, refl, ap, subst, ◌∙◌}
-use Rattle.std.specs.Prelude.{Vec}
-use Rattle.std.specs.declared.alloc.Global.{Global}
+use Rattle.std.specs.{Prelude.Vec, declared.alloc.Global.Global}
 use Rattle.aout_core.specs.Contents.{Contents}
 use Rattle.link_session.specs.Labelled.{Labelled, no_object, objects}
 use Rattle.link_out.specs.Results.{ReportNames}
-use Rattle.report_objects.specs.declared.places.FindingPlace.{FindingPlace}
-use Rattle.report_objects.specs.declared.places.Index.{Index}
 use Rattle.report_objects.specs.Places.{entry_places, further_objects, finding_places, further_places, place_of, place_with, places_with}
 use Rattle.report_objects.specs.internal.Numbered.{IsIndex, entry_indexed, indexed, indexed_place, indexed_places}
+use Rattle.report_objects.specs.{declared.places.FindingPlace.FindingPlace, declared.places.Index.Index}
 
 each_same : {A B : Type 0} (f g : A → B) → ((x : A) → f x ≡ g x) → (xs : List A) → map f xs ≡ map g xs
 each_same f g same [] = refl

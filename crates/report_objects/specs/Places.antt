@@ -3,15 +3,12 @@
 -- Objects are numbered from 0, and the largest number of 64 bits means none. A name is of the first object that defines it, or
 -- else of the first that has a symbol of it. A name is multiply defined once for each definition that differs from the first, and each
 -- has the object of this further definition too.
-use Rattle.std.specs.Prelude.{ℕ, zero, suc, ◌+◌, ◌-◌, Bool, true, false, not, ◌&&◌, ◌||◌, eqb, if◌then◌else◌, bytes_eq}
-use Rattle.std.specs.Prelude.{List, [], ◌∷◌, ◌++◌, length, map, replicate, take, zip, Option, Some, None}
+use Rattle.std.specs.Prelude.{ℕ, zero, suc, ◌+◌, ◌-◌, Bool, true, false, not, ◌&&◌, ◌||◌, eqb, if◌then◌else◌, bytes_eq, List, [], ◌∷◌, ◌++◌}
+use Rattle.std.specs.Prelude.{length, map, replicate, take, zip, Option, Some, None}
 use Rattle.std.specs.List.{list_any}
-use Rattle.aout_core.specs.declared.symbol.Symbol.{Symbol}
-use Rattle.aout_core.specs.Contents.{Contents}
 use Rattle.aout_core.specs.WellFormed.{first_of, is_external, masked_type}
-use Rattle.link_session.specs.Labelled.{no_object, number_or_none}
-use Rattle.link_session.specs.Mentions.{mentions}
-use Rattle.link_session.specs.States.{multiple_names}
+use Rattle.aout_core.specs.{declared.symbol.Symbol.Symbol, Contents.Contents}
+use Rattle.link_session.specs.{Labelled.no_object, Labelled.number_or_none, Mentions.mentions, States.multiple_names}
 use Rattle.link_out.specs.Results.{ReportNames}
 use Rattle.report_objects.specs.declared.places.FindingPlace.{FindingPlace}
 

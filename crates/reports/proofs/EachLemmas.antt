@@ -1,9 +1,8 @@
 -- A list encoded item by item, as far as a loop has come.
-use Rattle.std.proofs.Common.{◌≡◌, ℕ, ◌+◌, ◌<◌, ◌≤◌, zero, suc, List, [], ◌∷◌, ◌++◌, length, drop, slice_index_or}
-use Rattle.std.proofs.Common.{Some, append_assoc, append-nil, sym, ap, ◌∙◌, arith, refl}
+use Rattle.std.proofs.Common.{◌≡◌, ℕ, ◌+◌, ◌<◌, ◌≤◌, zero, suc, List, [], ◌∷◌, ◌++◌, length, drop, slice_index_or, Some, append_assoc}
+use Rattle.std.proofs.Common.{append-nil, sym, ap, ◌∙◌, arith, refl}
+use Rattle.std.proofs.{lemmas.List.drop_more, lemmas.Option.slice_get_within, lemmas.Option.get_or_from_slice_get}
 use Rattle.std.specs.Prelude.{slice_get}
-use Rattle.std.proofs.lemmas.List.{drop_more}
-use Rattle.std.proofs.lemmas.Option.{slice_get_within, get_or_from_slice_get}
 use Rattle.reports.specs.Items.{each_from}
 
 module _ {A B : Type 0} (encoded : ℕ → A → List B) (xs : List A) (i : ℕ) (x : A) where

@@ -1,7 +1,6 @@
 -- Lists that are written item by item. (own choice)
 use Rattle.std.specs.Prelude.{ℕ, ◌+◌, List, [], ◌∷◌, ◌++◌, Option, Some, None, slice_get}
-use Rattle.link_session.specs.declared.state.State.{State}
-use Rattle.link_session.specs.Image.{Named}
+use Rattle.link_session.specs.{declared.state.State.State, Image.Named}
 
 -- each item by its index, from this one on
 abbrev pub each_from : {A B : Type 0} → (ℕ → A → List B) → ℕ → List A → List B

@@ -4,24 +4,17 @@
 -- the external names with what is known of each, whose value is an offset, a size or a number, the names that are multiply defined,
 -- and what the addition of the last object overwrote, in order. A string has bytes that print; any other, a quote and a
 -- backslash are `\u00` and two hexadecimal digits.
-use Rattle.std.specs.Prelude.{ℕ, zero, suc, ◌*◌, ◌/◌, ◌%◌, Bool, true, false, ◌&&◌, not, nat_lt, eqb, if◌then◌else◌}
-use Rattle.std.specs.Prelude.{List, [], ◌∷◌, ◌++◌, length, codes, decimal}
-use Rattle.std.specs.Fmt.{digit_glyph}
-use Rattle.std.specs.List.{flat_map}
-use Rattle.aout_core.specs.declared.symbol.Segment.TheVariants as segments
-use Rattle.link_session.specs.declared.cell.Cell.{Cell}
-use Rattle.link_session.specs.declared.cell.Target.{Target}
-use Rattle.link_session.specs.declared.cell.Target.TheVariants as targets
-use Rattle.link_session.specs.declared.mark.Mark.{Mark}
-use Rattle.link_session.specs.declared.mark.Mark.TheVariants.{CellWas, StateWas}
-use Rattle.link_session.specs.declared.mark.Place.{Place}
-use Rattle.link_session.specs.declared.mark.Place.TheVariants.{InText, InData}
-use Rattle.link_session.specs.declared.state.State.{State}
-use Rattle.link_session.specs.declared.state.State.TheVariants.{Defined, Wanted}
-use Rattle.link_session.specs.Image.{Image, Named}
-use Rattle.link_session.specs.Sessions.{newest}
-use Rattle.link_session.specs.Undo.{Kept, image_of}
+use Rattle.std.specs.Prelude.{ℕ, zero, suc, ◌*◌, ◌/◌, ◌%◌, Bool, true, false, ◌&&◌, not, nat_lt, eqb, if◌then◌else◌, List, [], ◌∷◌, ◌++◌}
+use Rattle.std.specs.Prelude.{length, codes, decimal}
+use Rattle.std.specs.{Fmt.digit_glyph, List.flat_map}
+use Rattle.link_session.specs.{declared.cell.Cell.Cell, declared.cell.Target.Target, declared.mark.Mark.Mark}
+use Rattle.link_session.specs.{declared.mark.Mark.TheVariants.CellWas, declared.mark.Mark.TheVariants.StateWas, declared.mark.Place.Place}
+use Rattle.link_session.specs.{declared.mark.Place.TheVariants.InText, declared.mark.Place.TheVariants.InData, declared.state.State.State}
+use Rattle.link_session.specs.{declared.state.State.TheVariants.Defined, declared.state.State.TheVariants.Wanted, Image.Image, Image.Named}
+use Rattle.link_session.specs.{Sessions.newest, Undo.Kept, Undo.image_of}
 use Rattle.reports.specs.Items.{each, name_at}
+use Rattle.aout_core.specs.declared.symbol.Segment.TheVariants as segments
+use Rattle.link_session.specs.declared.cell.Target.TheVariants as targets
 
 abbrev pub json_byte : ℕ → List ℕ
 json_byte b =

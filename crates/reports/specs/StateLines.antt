@@ -5,23 +5,15 @@
 -- defined, and what the addition of the last object overwrote, in order. Words and offsets have six octal digits, and sizes are decimal.
 use Rattle.std.specs.Prelude.{ℕ, ◌*◌, Bool, true, false, eqb, if◌then◌else◌, List, [], ◌∷◌, ◌++◌, codes, decimal}
 use Rattle.aout_core.specs.declared.symbol.Segment.{Segment}
-use Rattle.aout_core.specs.declared.symbol.Segment.TheVariants as segments
-use Rattle.link_session.specs.declared.cell.Cell.{Cell}
-use Rattle.link_session.specs.declared.cell.Target.{Target}
-use Rattle.link_session.specs.declared.cell.Target.TheVariants as targets
-use Rattle.link_session.specs.declared.mark.Mark.{Mark}
-use Rattle.link_session.specs.declared.mark.Mark.TheVariants.{CellWas, StateWas}
-use Rattle.link_session.specs.declared.mark.Place.{Place}
-use Rattle.link_session.specs.declared.mark.Place.TheVariants.{InText, InData}
-use Rattle.link_session.specs.declared.state.State.{State}
-use Rattle.link_session.specs.declared.state.State.TheVariants.{Defined, Wanted}
-use Rattle.link_session.specs.Image.{Image, Named}
-use Rattle.link_session.specs.Labelled.{Labelled}
-use Rattle.link_session.specs.Sessions.{newest}
-use Rattle.link_session.specs.Undo.{Kept, image_of}
-use Rattle.texts.specs.Numbers.{six_digits}
-use Rattle.texts.specs.Names.{printable_name}
+use Rattle.link_session.specs.{declared.cell.Cell.Cell, declared.cell.Target.Target, declared.mark.Mark.Mark}
+use Rattle.link_session.specs.{declared.mark.Mark.TheVariants.CellWas, declared.mark.Mark.TheVariants.StateWas, declared.mark.Place.Place}
+use Rattle.link_session.specs.{declared.mark.Place.TheVariants.InText, declared.mark.Place.TheVariants.InData, declared.state.State.State}
+use Rattle.link_session.specs.{declared.state.State.TheVariants.Defined, declared.state.State.TheVariants.Wanted, Image.Image, Image.Named}
+use Rattle.link_session.specs.{Labelled.Labelled, Sessions.newest, Undo.Kept, Undo.image_of}
+use Rattle.texts.specs.{Numbers.six_digits, Names.printable_name}
 use Rattle.reports.specs.Items.{each, name_at}
+use Rattle.aout_core.specs.declared.symbol.Segment.TheVariants as segments
+use Rattle.link_session.specs.declared.cell.Target.TheVariants as targets
 
 -- what a word refers to, or waits for
 abbrev pub target_text : Named → Target → List ℕ

@@ -1,11 +1,8 @@
 -- What is done, by what the first argument asks to be shown.
 use Rattle.std.proofs.Common.{◌≡◌, ℕ, List, Option, Some, None, refl, sym, ap, subst, inl}
 use Rattle.std.specs.Prelude.{Result, Ok}
-use Rattle.surroundings.specs.declared.shown.Shown.{Shown}
-use Rattle.surroundings.specs.Answer.{Answer}
-use Rattle.surroundings.specs.Answers.{IsShownOr, shows}
-use Rattle.surroundings.specs.Events.{History}
-use Rattle.surroundings.specs.declared.answer.Fault.{Fault}
+use Rattle.surroundings.specs.{declared.shown.Shown.Shown, Answer.Answer, Answers.IsShownOr, Answers.shows, Events.History}
+use Rattle.surroundings.specs.{declared.answer.Fault.Fault}
 
 -- something is shown
 pub is_shown : (program usage : List ℕ) (asked : Option Shown) (shown : Shown) (h : History) (answer : Answer) (rest : Type 0) →

@@ -1,15 +1,9 @@
 -- What a program answers, and what of it goes out. (own choice)
-use Rattle.std.specs.Prelude.{◌≡◌, ◌⊎◌, ℕ, Bool, List, [], ◌++◌, if◌then◌else◌, ◌∷◌, Option}
-use Rattle.aout_core.specs.Refusals.{refused}
-use Rattle.std.specs.Prelude.{Some, None, Result, Ok, Err, bytes_eq, codes}
-use Rattle.surroundings.specs.declared.shown.Shown.{Shown}
-use Rattle.surroundings.specs.declared.shown.Shown.TheVariants.{Help, Version}
-use Rattle.aout_core.specs.Wires.{Latched}
-use Rattle.surroundings.specs.Emits.{PutsUnless}
-use Rattle.surroundings.specs.declared.answer.Fault.{Fault}
-use Rattle.surroundings.specs.declared.answer.Fault.TheVariants.{Answered, Memory}
-use Rattle.surroundings.specs.Answer.{Answer}
-use Rattle.surroundings.specs.Events.{History, Surroundings}
+use Rattle.std.specs.Prelude.{◌≡◌, ◌⊎◌, ℕ, Bool, List, [], ◌++◌, if◌then◌else◌, ◌∷◌, Option, Some, None, Result, Ok, Err, bytes_eq, codes}
+use Rattle.aout_core.specs.{Refusals.refused, Wires.Latched}
+use Rattle.surroundings.specs.{declared.shown.Shown.Shown, declared.shown.Shown.TheVariants.Help, declared.shown.Shown.TheVariants.Version}
+use Rattle.surroundings.specs.{Emits.PutsUnless, declared.answer.Fault.Fault, declared.answer.Fault.TheVariants.Answered}
+use Rattle.surroundings.specs.{declared.answer.Fault.TheVariants.Memory, Answer.Answer, Events.History, Events.Surroundings}
 
 -- with what a program begins a line on a path
 unfoldable pub line_front : List ℕ → List ℕ → List ℕ

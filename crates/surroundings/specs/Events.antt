@@ -3,8 +3,7 @@
 -- No contract can state what a disk holds. It can state what was asked of it: a file was opened, and what its bytes were, or a file
 -- was to be stored, and whether it was. The list of these events, in order, is what a command did.
 use Rattle.std.specs.Prelude.{◌≡◌, ℕ, List, ◌++◌, map, Option, Some, None, ⊤}
-use Rattle.aout_core.specs.Contents.{Contents}
-use Rattle.aout_core.specs.Wires.{Latched}
+use Rattle.aout_core.specs.{Contents.Contents, Wires.Latched}
 use Rattle.surroundings.specs.declared.office.Stored.{Stored}
 
 -- a file could not be opened (`None`), or was, with its bytes if they are known; or a file, or a text, was to be stored

@@ -4,8 +4,7 @@
 -- and `b/./a.o`. Links are not followed.
 use Rattle.std.specs.Prelude.{ℕ, Bool, true, false, ◌&&◌, ◌==◌, if◌then◌else◌, List, [], ◌∷◌, map, Option, Some, None, bytes_eq, codes}
 use Rattle.std.specs.List.{list_any}
-use Rattle.surroundings.specs.Answer.{Answer}
-use Rattle.surroundings.specs.Answers.{failed_at}
+use Rattle.surroundings.specs.{Answer.Answer, Answers.failed_at}
 
 -- a slash (47)
 abbrev pub begins_slash : List ℕ → Bool

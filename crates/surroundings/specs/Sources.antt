@@ -1,9 +1,7 @@
 -- A file that is read whole, and why one is not; and what is reported of a file that is not stored. (own choice)
 use Rattle.std.specs.Prelude.{◌≡◌, ℕ, List, [], ◌∷◌, Option, Some, None, IfSome, codes}
-use Rattle.surroundings.specs.Answers.{HasAnswer, failed_at}
-use Rattle.surroundings.specs.Events.{History, Extends, opened}
-use Rattle.surroundings.specs.declared.answer.Fault.{Fault}
-use Rattle.surroundings.specs.declared.office.Stored.{Stored}
+use Rattle.surroundings.specs.{Answers.HasAnswer, Answers.failed_at, Events.History, Events.Extends, Events.opened}
+use Rattle.surroundings.specs.{declared.answer.Fault.Fault, declared.office.Stored.Stored}
 use Rattle.surroundings.specs.declared.office.Stored.TheVariants as office
 
 -- the file at a path was opened, and these are its bytes

@@ -1,13 +1,12 @@
 -- Marks say which places have been found: with one place more, of the places that are new, and of the places in the text.
 use Rattle.std.proofs.Common.{◌≡◌, ℕ, ◌/◌, ◌%◌, ◌<◌, ◌≤◌, Some, refl, sym, ap, ◌∙◌, inl, inr, arith}
-use Rattle.std.specs.Prelude.{Bool, true, false, not, ◌&&◌, ◌||◌, eqb, nat_lt, if◌then◌else◌, List}
-use Rattle.std.specs.Prelude.{[], ◌∷◌, ◌++◌, length, set, get_or, replicate}
-use Rattle.std.specs.List.{list_any}
 use Rattle.std.proofs.lemmas.Bool.{cases_eq, cases_lt, eq-eqb, ne_eqb}
 use Rattle.std.proofs.lemmas.List.{get_or-set_same, get_or-set_other, get_or_past, get_or-replicate, length-replicate}
 use Rattle.std.proofs.lemmas.List.Folds.{list_any-append, list_any_at}
-use Rattle.suspicions.specs.Reached.{is_new, visited}
-use Rattle.suspicions.specs.internal.Marks.{AreMarks, is_unmarked}
+use Rattle.std.specs.Prelude.{Bool, true, false, not, ◌&&◌, ◌||◌, eqb, nat_lt, if◌then◌else◌, List, [], ◌∷◌, ◌++◌, length, set, get_or}
+use Rattle.std.specs.Prelude.{replicate}
+use Rattle.std.specs.List.{list_any}
+use Rattle.suspicions.specs.{Reached.is_new, Reached.visited, internal.Marks.AreMarks, internal.Marks.is_unmarked}
 
 or-false : (b : Bool) → (b || (false || false)) ≡ b
 or-false true = refl

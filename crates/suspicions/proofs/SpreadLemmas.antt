@@ -1,17 +1,14 @@
 -- The places that lead to more, one after the other.
 use Rattle.std.proofs.Common.{◌≡◌, ℕ, zero, suc, ◌+◌, ◌-◌, ◌<◌, ◌≤◌, refl, sym, ap, ◌∙◌, arith, append_assoc}
+use Rattle.std.proofs.{lemmas.Bool.lt-ltb, lemmas.Bool.le-ltb, lemmas.List.drop_more}
 use Rattle.std.specs.Prelude.{Bool, false, if◌then◌else◌, List, ◌++◌, length, drop, slice_index}
-use Rattle.std.proofs.lemmas.Bool.{lt-ltb, le-ltb}
-use Rattle.std.proofs.lemmas.List.{drop_more}
 use Rattle.aout_core.specs.Contents.{Contents}
 use Rattle.instructions.specs.declared.unix.Decoder.TheVariants.{Unix}
 use Rattle.disassemblies.specs.Starts.{starts, is_start}
 use Rattle.findings.specs.Found.{Found}
-use Rattle.suspicions.specs.declared.evidence.Evidence.{Evidence}
 use Rattle.suspicions.specs.Reached.{leads_to, visited, visited_all, shown, shown_from, spread}
-use Rattle.suspicions.specs.Trust.{past_place, trust}
-use Rattle.suspicions.specs.SureSuspicions.{sure_suspicions_from, sure_trust}
-use Rattle.suspicions.specs.Suspicions.{suspicious_place, suspicious_words}
+use Rattle.suspicions.specs.{declared.evidence.Evidence.Evidence, Trust.past_place, Trust.trust, SureSuspicions.sure_suspicions_from}
+use Rattle.suspicions.specs.{SureSuspicions.sure_trust, Suspicions.suspicious_place, Suspicions.suspicious_words}
 
 -- the next place, and those after it
 first : (e : Evidence) (c : Contents) (more next : ℕ) (found : List ℕ) → next < length found →

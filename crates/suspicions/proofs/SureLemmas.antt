@@ -1,43 +1,34 @@
 -- If nothing is suspicious for sure, an instruction begins at each sure place, its branches are inside, and its pc bits suit its modes.
-use Rattle.std.proofs.Common.{◌≡◌, ℕ, zero, suc, ◌+◌, ◌-◌, ◌*◌, ◌/◌, ◌<◌, ◌≤◌, Option, Some, None}
-use Rattle.std.proofs.Common.{refl, sym, ap, ◌∙◌, subst, inl, inr, arith}
-use Rattle.std.specs.Prelude.{Bool, true, false, not, ◌&&◌, ◌||◌, eqb, nat_lt, if◌then◌else◌, List}
-use Rattle.std.specs.Prelude.{[], ◌∷◌, ◌++◌, length, slice_get, slice_index}
-use Rattle.std.specs.List.{list_any, AllByRecursion, Contains}
+use Rattle.std.proofs.Common.{◌≡◌, ℕ, zero, suc, ◌+◌, ◌-◌, ◌*◌, ◌/◌, ◌<◌, ◌≤◌, Option, Some, None, refl, sym, ap, ◌∙◌, subst, inl, inr}
+use Rattle.std.proofs.Common.{arith}
 use Rattle.std.proofs.lemmas.Bool.{cases_lt, eqb-true, lt-ltb, le-ltb, ltb-false, or_cases}
 use Rattle.std.proofs.lemmas.List.Elements.{Contains-append_left, Contains-append_right}
-use Rattle.aout_core.specs.declared.reloc.Reloc.{Reloc}
-use Rattle.aout_core.specs.Contents.{Contents}
-use Rattle.aout_core.specs.WellFormed.{is_pc_relative}
-use Rattle.instructions.specs.Modes.{counts_from_pc}
-use Rattle.instructions.specs.declared.operand.Operand.{Operand}
+use Rattle.std.specs.Prelude.{Bool, true, false, not, ◌&&◌, ◌||◌, eqb, nat_lt, if◌then◌else◌, List, [], ◌∷◌, ◌++◌, length, slice_get}
+use Rattle.std.specs.Prelude.{slice_index}
+use Rattle.std.specs.List.{list_any, AllByRecursion, Contains}
+use Rattle.aout_core.specs.{declared.reloc.Reloc.Reloc, Contents.Contents, WellFormed.is_pc_relative}
 use Rattle.instructions.specs.declared.operand.Operand.TheVariants.{General, Accumulator, Register, Forward, Backward, Number}
-use Rattle.instructions.specs.declared.instruction.Instruction.{Instruction}
-use Rattle.instructions.specs.declared.line.Line.TheVariants.{Plain, Decoded}
-use Rattle.instructions.specs.declared.unix.Decoder.TheVariants.{Unix}
-use Rattle.instructions.specs.declared.unix.UnixLine.{UnixLine}
-use Rattle.instructions.specs.declared.unix.UnixLine.TheVariants.{Machine, Call}
 use Rattle.instructions.specs.Instructions.{instruction_of, word_count_of}
-use Rattle.instructions.specs.Relocated.{is_relocated}
 use Rattle.instructions.specs.UnixLines.{unix_length, unix_line_at}
+use Rattle.instructions.specs.{Modes.counts_from_pc, declared.operand.Operand.Operand, declared.instruction.Instruction.Instruction}
+use Rattle.instructions.specs.{declared.line.Line.TheVariants.Plain, declared.line.Line.TheVariants.Decoded}
+use Rattle.instructions.specs.{declared.unix.Decoder.TheVariants.Unix, declared.unix.UnixLine.UnixLine}
+use Rattle.instructions.specs.{declared.unix.UnixLine.TheVariants.Machine, declared.unix.UnixLine.TheVariants.Call, Relocated.is_relocated}
 use Rattle.instructions.proofs.UnixLemmas.{unix_short}
-use Rattle.disassemblies.specs.Lines.{unix_line_in}
-use Rattle.disassemblies.specs.Starts.{starts, is_start}
+use Rattle.disassemblies.specs.{Lines.unix_line_in, Starts.starts, Starts.is_start}
 use Rattle.findings.specs.Found.{Found}
 use Rattle.findings.specs.declared.finding.FindingKind.TheVariants.{RelocatedFirstWord, UnsuitablePcBit, BranchOutside}
-use Rattle.suspicions.specs.declared.evidence.Evidence.{Evidence}
-use Rattle.suspicions.specs.declared.evidence.Evidence.TheVariants.{Symbols, Distances}
-use Rattle.suspicions.specs.declared.trust.Trust.{Trust}
-use Rattle.suspicions.specs.Reached.{branch_of, is_reached}
-use Rattle.suspicions.specs.ReachedLaw.{IsReached, Evident, Led}
 use Rattle.suspicions.specs.Trust.{is_sure, is_likely, is_plain, past_place, trust}
-use Rattle.suspicions.specs.Branches.{word_place, has_word_at, enters, entered_by}
-use Rattle.suspicions.specs.Branches.{entered, suspicious_entry, suspicious_target, suspicious_branch}
+use Rattle.suspicions.specs.Branches.{word_place, has_word_at, enters, entered_by, entered, suspicious_entry, suspicious_target}
+use Rattle.suspicions.specs.Branches.{suspicious_branch}
 use Rattle.suspicions.specs.Suspicions.{reloc_place, may_begin, differ, suspicious_bit, suspicious_by, suspicious_lack, suspicious_plain}
 use Rattle.suspicions.specs.Suspicions.{suspicious_operand, suspicious_line, suspicious_at, suspicious_place, suspicious_words}
 use Rattle.suspicions.specs.SureSuspicions.{sure_trust, sure_suspicions_from, sure_suspicions}
 use Rattle.suspicions.specs.SuspicionTexts.{relocated_first_text, pc_bit_in, outside_in}
 use Rattle.suspicions.specs.SureLaw.{SureAreSuspicious, targets, IsInside, AreInside, SureLaw, SuitsMode, SuitsModes, ReachedWordsLaw}
+use Rattle.suspicions.specs.{declared.evidence.Evidence.Evidence, declared.evidence.Evidence.TheVariants.Symbols}
+use Rattle.suspicions.specs.{declared.evidence.Evidence.TheVariants.Distances, declared.trust.Trust.Trust, Reached.branch_of}
+use Rattle.suspicions.specs.{Reached.is_reached, ReachedLaw.IsReached, ReachedLaw.Evident, ReachedLaw.Led}
 use Rattle.suspicions.proofs.ReachLemmas.{reached_places}
 
 nil_parts : (xs ys : List Found) → xs ++ ys ≡ [] → (xs ≡ []) × (ys ≡ [])

@@ -2,17 +2,15 @@
 -- own choice)
 --
 -- The end of the text counts as inside, since another text may follow it. A target within an instruction counts only if that is sure.
-use Rattle.std.specs.Prelude.{ℕ, ◌+◌, ◌-◌, ◌*◌, ◌/◌, Bool, true, not, ◌&&◌, nat_lt, if◌then◌else◌}
-use Rattle.std.specs.Prelude.{List, [], ◌∷◌, length, Option, Some, None}
+use Rattle.std.specs.Prelude.{ℕ, ◌+◌, ◌-◌, ◌*◌, ◌/◌, Bool, true, not, ◌&&◌, nat_lt, if◌then◌else◌, List, [], ◌∷◌, length, Option, Some}
+use Rattle.std.specs.Prelude.{None}
 use Rattle.aout_core.specs.Contents.{Contents}
-use Rattle.instructions.specs.declared.unix.Decoder.TheVariants.{Unix}
-use Rattle.instructions.specs.UnixLines.{unix_length}
+use Rattle.instructions.specs.{declared.unix.Decoder.TheVariants.Unix, UnixLines.unix_length}
 use Rattle.disassemblies.specs.Lines.{unix_line_in}
 use Rattle.findings.specs.declared.finding.FindingKind.TheVariants.{BranchOutside, BranchWithin}
 use Rattle.findings.specs.Found.{Found, found_if}
-use Rattle.suspicions.specs.declared.trust.Trust.{Trust}
-use Rattle.suspicions.specs.Trust.{is_sure, is_likely}
 use Rattle.suspicions.specs.SuspicionTexts.{outside_in, within_in}
+use Rattle.suspicions.specs.{declared.trust.Trust.Trust, Trust.is_sure, Trust.is_likely}
 
 -- the byte of the file that a word of text has
 abbrev pub word_place : ℕ → ℕ

@@ -5,36 +5,25 @@
 -- in a table of addresses that has a name. Distances show it if a line of a sweep begins there, with an operand word that counts from
 -- the pc and is relocated so: no data has one. It is reached too if the line at a place that is reached goes on with it, branches to
 -- it, or jumps or calls there within the text. What is called may not return, and data may follow: distances do not show that it does.
-use Rattle.std.specs.Prelude.{ℕ, zero, suc, ◌+◌, ◌*◌, ◌/◌, ◌%◌, Bool, true, false, not, ◌&&◌, ◌||◌, eqb, nat_lt, if◌then◌else◌}
-use Rattle.std.specs.Prelude.{List, [], ◌∷◌, ◌++◌, length, map, slice_get, slice_index, Option, Some, None}
+use Rattle.std.specs.Prelude.{ℕ, zero, suc, ◌+◌, ◌*◌, ◌/◌, ◌%◌, Bool, true, false, not, ◌&&◌, ◌||◌, eqb, nat_lt, if◌then◌else◌, List, []}
+use Rattle.std.specs.Prelude.{◌∷◌, ◌++◌, length, map, slice_get, slice_index, Option, Some, None}
 use Rattle.std.specs.List.{list_any}
-use Rattle.aout_core.specs.declared.symbol.Symbol.{Symbol}
-use Rattle.aout_core.specs.declared.symbol.Segment.TheVariants.{TextSeg}
-use Rattle.aout_core.specs.declared.reloc.Reloc.{Reloc}
-use Rattle.aout_core.specs.Words.{plus}
-use Rattle.aout_core.specs.Contents.{Contents}
-use Rattle.aout_core.specs.WellFormed.{masked_type, segment_number, is_pc_relative}
-use Rattle.instructions.specs.declared.operation.Operation.{Operation}
-use Rattle.instructions.specs.declared.operation.Operation.TheVariants as operations
-use Rattle.instructions.specs.declared.mode.Addressing.{Addressing}
-use Rattle.instructions.specs.declared.mode.Addressing.TheVariants as ways
-use Rattle.instructions.specs.declared.operand.Operand.{Operand}
-use Rattle.instructions.specs.declared.operand.Operand.TheVariants.{General, Forward, Backward}
-use Rattle.instructions.specs.declared.line.Line.TheVariants.{Plain, Decoded}
-use Rattle.instructions.specs.declared.call.SystemCall.{SystemCall}
-use Rattle.instructions.specs.declared.call.SystemCall.TheVariants as calls
-use Rattle.instructions.specs.declared.unix.Decoder.TheVariants.{Unix}
-use Rattle.instructions.specs.declared.unix.UnixLine.{UnixLine}
-use Rattle.instructions.specs.declared.unix.UnixLine.TheVariants.{Machine, Call}
-use Rattle.instructions.specs.Modes.{addressing, counts_from_pc}
-use Rattle.instructions.specs.Instructions.{jumps, word_count_of}
-use Rattle.instructions.specs.Relocated.{is_relocated}
-use Rattle.instructions.specs.Texts.{number, branch_target, branch_back_target}
-use Rattle.instructions.specs.UnixLines.{unix_length}
-use Rattle.disassemblies.specs.Lines.{unix_line_in}
-use Rattle.disassemblies.specs.Starts.{starts, is_start}
+use Rattle.aout_core.specs.{declared.symbol.Symbol.Symbol, declared.symbol.Segment.TheVariants.TextSeg, declared.reloc.Reloc.Reloc}
+use Rattle.aout_core.specs.{Words.plus, Contents.Contents, WellFormed.masked_type, WellFormed.segment_number, WellFormed.is_pc_relative}
+use Rattle.instructions.specs.{declared.operation.Operation.Operation, declared.mode.Addressing.Addressing}
+use Rattle.instructions.specs.{declared.operand.Operand.Operand, declared.operand.Operand.TheVariants.General}
+use Rattle.instructions.specs.{declared.operand.Operand.TheVariants.Forward, declared.operand.Operand.TheVariants.Backward}
+use Rattle.instructions.specs.{declared.line.Line.TheVariants.Plain, declared.line.Line.TheVariants.Decoded}
+use Rattle.instructions.specs.{declared.call.SystemCall.SystemCall, declared.unix.Decoder.TheVariants.Unix, declared.unix.UnixLine.UnixLine}
+use Rattle.instructions.specs.{declared.unix.UnixLine.TheVariants.Machine, declared.unix.UnixLine.TheVariants.Call, Modes.addressing}
+use Rattle.instructions.specs.{Modes.counts_from_pc, Instructions.jumps, Instructions.word_count_of, Relocated.is_relocated, Texts.number}
+use Rattle.instructions.specs.{Texts.branch_target, Texts.branch_back_target, UnixLines.unix_length}
+use Rattle.disassemblies.specs.{Lines.unix_line_in, Starts.starts, Starts.is_start}
 use Rattle.suspicions.specs.declared.evidence.Evidence.{Evidence}
 use Rattle.suspicions.specs.declared.evidence.Evidence.TheVariants.{Symbols, Distances}
+use Rattle.instructions.specs.declared.operation.Operation.TheVariants as operations
+use Rattle.instructions.specs.declared.mode.Addressing.TheVariants as ways
+use Rattle.instructions.specs.declared.call.SystemCall.TheVariants as calls
 
 -- the line after it is not reached from it
 abbrev pub ends : Operation → Bool

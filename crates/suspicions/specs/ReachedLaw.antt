@@ -2,8 +2,7 @@
 use Rattle.std.specs.Prelude.{◌≡◌, ℕ, ◌/◌, ◌%◌, ◌<◌, Bool, true, false, ◌&&◌, ◌↔◌, eqb, length, Option, Some, None}
 use Rattle.std.specs.List.{list_any}
 use Rattle.aout_core.specs.Contents.{Contents}
-use Rattle.suspicions.specs.declared.evidence.Evidence.{Evidence}
-use Rattle.suspicions.specs.Reached.{leads_to, evident, is_reached}
+use Rattle.suspicions.specs.{declared.evidence.Evidence.Evidence, Reached.leads_to, Reached.evident, Reached.is_reached}
 
 abbrev pub is_place : ℕ → Option ℕ → Bool
 is_place place None = false

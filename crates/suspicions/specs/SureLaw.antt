@@ -1,28 +1,15 @@
 -- What holds of the places of a text in which nothing is suspicious for sure. (own choice)
 use Rattle.std.specs.Prelude.{◌≡◌, ℕ, ◌+◌, ◌*◌, ◌/◌, ◌<◌, ◌≤◌, true, false, List, [], ◌∷◌, length, slice_get, Option, Some, None}
 use Rattle.std.specs.List.{AllByRecursion, Contains}
-use Rattle.aout_core.specs.declared.reloc.Reloc.{Reloc}
-use Rattle.aout_core.specs.Contents.{Contents}
-use Rattle.aout_core.specs.WellFormed.{is_pc_relative}
-use Rattle.instructions.specs.declared.mode.Addressing.{Addressing}
-use Rattle.instructions.specs.declared.operand.Operand.{Operand}
-use Rattle.instructions.specs.declared.operand.Operand.TheVariants.{General}
-use Rattle.instructions.specs.declared.line.Line.TheVariants.{Decoded}
-use Rattle.instructions.specs.declared.unix.Decoder.TheVariants.{Unix}
-use Rattle.instructions.specs.declared.unix.UnixLine.{UnixLine}
-use Rattle.instructions.specs.declared.unix.UnixLine.TheVariants.{Machine}
-use Rattle.instructions.specs.Modes.{addressing, counts_from_pc}
-use Rattle.instructions.specs.Instructions.{word_count_of}
-use Rattle.instructions.specs.Relocated.{is_relocated}
-use Rattle.instructions.specs.UnixLines.{unix_length}
+use Rattle.aout_core.specs.{declared.reloc.Reloc.Reloc, Contents.Contents, WellFormed.is_pc_relative}
+use Rattle.instructions.specs.{declared.mode.Addressing.Addressing, declared.operand.Operand.Operand}
+use Rattle.instructions.specs.{declared.operand.Operand.TheVariants.General, declared.line.Line.TheVariants.Decoded}
+use Rattle.instructions.specs.{declared.unix.Decoder.TheVariants.Unix, declared.unix.UnixLine.UnixLine}
+use Rattle.instructions.specs.{declared.unix.UnixLine.TheVariants.Machine, Modes.addressing, Modes.counts_from_pc}
+use Rattle.instructions.specs.{Instructions.word_count_of, Relocated.is_relocated, UnixLines.unix_length}
 use Rattle.disassemblies.specs.Lines.{unix_line_in}
-use Rattle.suspicions.specs.declared.evidence.Evidence.{Evidence}
-use Rattle.suspicions.specs.declared.evidence.Evidence.TheVariants.{Distances}
-use Rattle.suspicions.specs.Reached.{branch_of}
-use Rattle.suspicions.specs.ReachedLaw.{IsReached}
-use Rattle.suspicions.specs.Trust.{is_plain}
-use Rattle.suspicions.specs.Suspicions.{suspicions}
-use Rattle.suspicions.specs.SureSuspicions.{sure_suspicions}
+use Rattle.suspicions.specs.{declared.evidence.Evidence.Evidence, declared.evidence.Evidence.TheVariants.Distances, Reached.branch_of}
+use Rattle.suspicions.specs.{ReachedLaw.IsReached, Trust.is_plain, Suspicions.suspicions, SureSuspicions.sure_suspicions}
 
 -- what is suspicious for sure is part of what is suspicious
 abbrev pub SureAreSuspicious : Type 0

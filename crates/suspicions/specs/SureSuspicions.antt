@@ -4,11 +4,8 @@
 use Rattle.std.specs.Prelude.{ℕ, ◌+◌, false, ◌||◌, List, [], ◌∷◌, ◌++◌}
 use Rattle.aout_core.specs.Contents.{Contents}
 use Rattle.findings.specs.Found.{Found}
-use Rattle.suspicions.specs.declared.evidence.Evidence.TheVariants.{Symbols}
-use Rattle.suspicions.specs.declared.trust.Trust.{Trust}
-use Rattle.suspicions.specs.Reached.{is_reached}
-use Rattle.suspicions.specs.Trust.{is_sure}
-use Rattle.suspicions.specs.Suspicions.{suspicious_place}
+use Rattle.suspicions.specs.{declared.evidence.Evidence.TheVariants.Symbols, declared.trust.Trust.Trust, Reached.is_reached, Trust.is_sure}
+use Rattle.suspicions.specs.{Suspicions.suspicious_place}
 
 abbrev pub sure_trust : Contents → ℕ → Trust
 sure_trust c place =

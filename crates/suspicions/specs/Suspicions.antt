@@ -8,33 +8,22 @@
 --
 -- At a place to which a sure instruction leads an instruction begins, and it ends within the text. A branch leads into the text or to
 -- its end, and not within an instruction. A branch is checked if it is sure or likely that it is one.
-use Rattle.std.specs.Prelude.{ℕ, ◌+◌, ◌-◌, ◌*◌, Bool, true, false, not, ◌&&◌, ◌||◌, nat_lt, if◌then◌else◌}
-use Rattle.std.specs.Prelude.{List, [], ◌∷◌, ◌++◌, slice_get, Option, Some, None}
-use Rattle.aout_core.specs.declared.reloc.Reloc.{Reloc}
-use Rattle.aout_core.specs.Contents.{Contents}
-use Rattle.aout_core.specs.Encoding.{relocation_at}
-use Rattle.aout_core.specs.WellFormed.{is_pc_relative}
-use Rattle.instructions.specs.declared.mode.Addressing.{Addressing}
-use Rattle.instructions.specs.declared.operand.Operand.{Operand}
-use Rattle.instructions.specs.declared.operand.Operand.TheVariants.{General}
-use Rattle.instructions.specs.declared.instruction.Instruction.{Instruction}
-use Rattle.instructions.specs.declared.line.Line.TheVariants.{Plain, Decoded}
-use Rattle.instructions.specs.declared.unix.Decoder.TheVariants.{Unix}
-use Rattle.instructions.specs.declared.unix.UnixLine.{UnixLine}
-use Rattle.instructions.specs.declared.unix.UnixLine.TheVariants.{Machine, Call}
-use Rattle.instructions.specs.Modes.{addressing, counts_from_pc}
-use Rattle.instructions.specs.Instructions.{instruction_of, word_count_of}
-use Rattle.instructions.specs.Lines.{line_at, line_length}
-use Rattle.instructions.specs.Relocated.{is_relocated}
-use Rattle.disassemblies.specs.Lines.{unix_line_in}
-use Rattle.disassemblies.specs.Starts.{starts, is_start}
+use Rattle.std.specs.Prelude.{ℕ, ◌+◌, ◌-◌, ◌*◌, Bool, true, false, not, ◌&&◌, ◌||◌, nat_lt, if◌then◌else◌, List, [], ◌∷◌, ◌++◌, slice_get}
+use Rattle.std.specs.Prelude.{Option, Some, None}
+use Rattle.aout_core.specs.{declared.reloc.Reloc.Reloc, Contents.Contents, Encoding.relocation_at, WellFormed.is_pc_relative}
+use Rattle.instructions.specs.{declared.mode.Addressing.Addressing, declared.operand.Operand.Operand}
+use Rattle.instructions.specs.{declared.operand.Operand.TheVariants.General, declared.instruction.Instruction.Instruction}
+use Rattle.instructions.specs.{declared.line.Line.TheVariants.Plain, declared.line.Line.TheVariants.Decoded}
+use Rattle.instructions.specs.{declared.unix.Decoder.TheVariants.Unix, declared.unix.UnixLine.UnixLine}
+use Rattle.instructions.specs.{declared.unix.UnixLine.TheVariants.Machine, declared.unix.UnixLine.TheVariants.Call, Modes.addressing}
+use Rattle.instructions.specs.{Modes.counts_from_pc, Instructions.instruction_of, Instructions.word_count_of, Lines.line_at}
+use Rattle.instructions.specs.{Lines.line_length, Relocated.is_relocated}
+use Rattle.disassemblies.specs.{Lines.unix_line_in, Starts.starts, Starts.is_start}
 use Rattle.findings.specs.declared.finding.FindingKind.TheVariants.{RelocatedFirstWord, UnsuitablePcBit, CutInstruction, NoInstruction}
 use Rattle.findings.specs.Found.{Found, found_if}
-use Rattle.suspicions.specs.declared.trust.Trust.{Trust}
-use Rattle.suspicions.specs.Reached.{branch_of}
-use Rattle.suspicions.specs.Trust.{past_place, trust}
 use Rattle.suspicions.specs.Branches.{word_place, suspicious_branch}
 use Rattle.suspicions.specs.SuspicionTexts.{relocated_first_text, pc_bit_in, cut_text, no_instruction_text}
+use Rattle.suspicions.specs.{declared.trust.Trust.Trust, Reached.branch_of, Trust.past_place, Trust.trust}
 
 -- the byte of the file at which the relocation word of a word of text is
 abbrev pub reloc_place : Contents → ℕ → ℕ

@@ -4,15 +4,11 @@
 -- after it with no plain word between them: data mostly has words that begin no instruction.
 use Rattle.std.specs.Prelude.{ℕ, ◌+◌, Bool, true, false, ◌&&◌, ◌||◌, List, [], ◌∷◌, drop}
 use Rattle.aout_core.specs.Contents.{Contents}
-use Rattle.instructions.specs.declared.line.Line.TheVariants.{Plain}
-use Rattle.instructions.specs.declared.unix.Decoder.TheVariants.{Unix}
-use Rattle.instructions.specs.declared.unix.UnixLine.{UnixLine}
-use Rattle.instructions.specs.declared.unix.UnixLine.TheVariants.{Machine}
-use Rattle.disassemblies.specs.Lines.{unix_line_in}
-use Rattle.disassemblies.specs.Starts.{starts, is_start}
-use Rattle.suspicions.specs.declared.evidence.Evidence.TheVariants.{Symbols, Distances}
-use Rattle.suspicions.specs.declared.trust.Trust.{Trust}
-use Rattle.suspicions.specs.Reached.{is_reached}
+use Rattle.instructions.specs.{declared.line.Line.TheVariants.Plain, declared.unix.Decoder.TheVariants.Unix}
+use Rattle.instructions.specs.{declared.unix.UnixLine.UnixLine, declared.unix.UnixLine.TheVariants.Machine}
+use Rattle.disassemblies.specs.{Lines.unix_line_in, Starts.starts, Starts.is_start}
+use Rattle.suspicions.specs.{declared.evidence.Evidence.TheVariants.Symbols, declared.evidence.Evidence.TheVariants.Distances}
+use Rattle.suspicions.specs.{declared.trust.Trust.Trust, Reached.is_reached}
 
 abbrev pub is_sure : Contents → ℕ → Bool
 is_sure c place = is_reached Distances c place

@@ -1,11 +1,8 @@
 -- What a call on a wire leaves, by its answer, and a row of texts of which one more went out.
-use Rattle.std.proofs.Common.{◌≡◌, ℕ, ◌+◌, ◌<◌, List, [], ◌∷◌, ◌++◌, length, take, slice_index_or, Option, Ok, Err}
-use Rattle.std.proofs.Common.{IsTrue, is_ok, Bool, true, false, true≢false, refl, sym, ap, ◌∙◌, subst, append-nil}
-use Rattle.std.specs.List.{flat_map}
-use Rattle.std.specs.Io.KnownBytes.{Appends}
-use Rattle.std.proofs.KnownBytes.{Appends-trans}
-use Rattle.std.proofs.lemmas.Grind.{flat_map-append}
-use Rattle.std.proofs.lemmas.List.{take_more}
+use Rattle.std.proofs.Common.{◌≡◌, ℕ, ◌+◌, ◌<◌, List, [], ◌∷◌, ◌++◌, length, take, slice_index_or, Option, Ok, Err, IsTrue, is_ok, Bool}
+use Rattle.std.proofs.Common.{true, false, true≢false, refl, sym, ap, ◌∙◌, subst, append-nil}
+use Rattle.std.proofs.{KnownBytes.Appends-trans, lemmas.Grind.flat_map-append, lemmas.List.take_more}
+use Rattle.std.specs.{List.flat_map, Io.KnownBytes.Appends}
 
 -- a call that answers a fault wherever the latch is on leaves it off on success
 pub not_failed : {T E : Type 0} (x : T) (e : E) (latch : Bool) → (IsTrue latch → Ok x ≡ Err e) → latch ≡ false

@@ -1,10 +1,8 @@
 -- A stable sort puts a list in the order that insertion gives it.
-use Rattle.std.proofs.Common.{◌≡◌, ℕ, suc, ◌<◌, ◌≤◌, Bool, true, false, true≢false, not, ◌&&◌, cond, List, [], ◌∷◌}
-use Rattle.std.proofs.Common.{length, get_or, filter, refl, sym, ap, ◌∙◌, arith, inl, inr}
-use Rattle.std.proofs.lemmas.Bool.{cond-true, cond-false, cases_Bool}
-use Rattle.std.proofs.lemmas.List.Sorted.{sorted_far}
-use Rattle.std.specs.List.Sorted.{ties, IsSortedBy, IsStableBy}
-use Rattle.std.specs.Cmp.{IsStrictWeakOrder}
+use Rattle.std.proofs.Common.{◌≡◌, ℕ, suc, ◌<◌, ◌≤◌, Bool, true, false, true≢false, not, ◌&&◌, cond, List, [], ◌∷◌, length, get_or, filter}
+use Rattle.std.proofs.Common.{refl, sym, ap, ◌∙◌, arith, inl, inr}
+use Rattle.std.proofs.{lemmas.Bool.cond-true, lemmas.Bool.cond-false, lemmas.Bool.cases_Bool, lemmas.List.Sorted.sorted_far}
+use Rattle.std.specs.{List.Sorted.ties, List.Sorted.IsSortedBy, List.Sorted.IsStableBy, Cmp.IsStrictWeakOrder}
 use Rattle.symtools.specs.NmLists.{inserted, in_order}
 
 module _ {X : Type 0} where

@@ -1,15 +1,12 @@
 -- The texts of nm and size, file by file.
-use Rattle.std.proofs.Common.{◌≡◌, ◌≢◌, ℕ, ◌+◌, ◌<◌, List, [], ◌∷◌, ◌++◌, length, take, drop, filter, slice_index_or}
-use Rattle.std.proofs.Common.{Option, String, string_bytes, ap, sym, ◌∙◌, subst, take-append-drop}
-use Rattle.std.specs.List.{flat_map}
-use Rattle.std.specs.Io.KnownBytes.{Appends}
-use Rattle.std.proofs.lemmas.List.{length-map, map-append, drop_more}
-use Rattle.std.proofs.lemmas.List.Folds.{flat_map-map}
+use Rattle.std.proofs.Common.{◌≡◌, ◌≢◌, ℕ, ◌+◌, ◌<◌, List, [], ◌∷◌, ◌++◌, length, take, drop, filter, slice_index_or, Option, String}
+use Rattle.std.proofs.Common.{string_bytes, ap, sym, ◌∙◌, subst, take-append-drop}
+use Rattle.std.proofs.{lemmas.List.length-map, lemmas.List.map-append, lemmas.List.drop_more, lemmas.List.Folds.flat_map-map}
+use Rattle.std.specs.{List.flat_map, Io.KnownBytes.Appends}
 use Rattle.aout_core.specs.Contents.{Contents}
 use Rattle.tool_options.specs.declared.nm_options.NmOptions.{NmOptions}
-use Rattle.symtools.specs.Files.{by_bytes}
 use Rattle.symtools.specs.NmLists.{ListsUpTo, file_lines, is_shown, nm_text}
-use Rattle.symtools.specs.SizeLines.{file_size_line, size_text}
+use Rattle.symtools.specs.{Files.by_bytes, SizeLines.file_size_line, SizeLines.size_text}
 
 module _ {A : Type 0} where
   -- what stands for a file, one of so many

@@ -1,6 +1,5 @@
 -- Named files: for each the bytes of its path, and its contents. (nm(1), size(1))
-use Rattle.std.specs.Prelude.{ℕ, List, map, string_bytes}
-use Rattle.std.specs.declared.string.String.{String}
+use Rattle.std.specs.{Prelude.ℕ, Prelude.List, Prelude.map, Prelude.string_bytes, declared.string.String.String}
 use Rattle.aout_core.specs.Contents.{Contents}
 
 abbrev pub by_bytes : {A : Type 0} → List (String A × Contents) → List (List ℕ × Contents)

@@ -2,15 +2,10 @@
 --
 -- The symbols that the options ask for, in the order that they ask for, a line each. With several files, the path of each file
 -- is above its lines; by `-o` it comes before each line instead.
-use Rattle.std.specs.Prelude.{◌≡◌, ◌≢◌, ℕ, Option, Bool, not, ◌&&◌, ◌||◌, cond, eqb, nat_lt, if◌then◌else◌}
-use Rattle.std.specs.Prelude.{List, [], ◌∷◌, ◌++◌, filter, reverse, length, codes}
-use Rattle.std.specs.List.{flat_map}
-use Rattle.std.specs.Io.KnownBytes.{Appends}
-use Rattle.std.specs.Cmp.Lexicographic.{slice_cmp}
-use Rattle.std.specs.Ordering.{nat_cmp, is_lt}
-use Rattle.aout_core.specs.declared.symbol.Symbol.{Symbol}
-use Rattle.aout_core.specs.Contents.{Contents}
-use Rattle.aout_core.specs.WellFormed.{is_external}
+use Rattle.std.specs.Prelude.{◌≡◌, ◌≢◌, ℕ, Option, Bool, not, ◌&&◌, ◌||◌, cond, eqb, nat_lt, if◌then◌else◌, List, [], ◌∷◌, ◌++◌, filter}
+use Rattle.std.specs.Prelude.{reverse, length, codes}
+use Rattle.std.specs.{List.flat_map, Io.KnownBytes.Appends, Cmp.Lexicographic.slice_cmp, Ordering.nat_cmp, Ordering.is_lt}
+use Rattle.aout_core.specs.{declared.symbol.Symbol.Symbol, Contents.Contents, WellFormed.is_external}
 use Rattle.tool_options.specs.declared.nm_options.NmOptions.{NmOptions}
 use Rattle.symtools.specs.SymbolLines.{symbol_line, is_shown_undefined}
 

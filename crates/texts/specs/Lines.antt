@@ -1,6 +1,5 @@
 -- The text of a list of lines, and the lines of a text. (own choice)
-use Rattle.std.specs.Prelude.{ℕ, eqb, if◌then◌else◌, List, [], ◌∷◌, ◌++◌}
-use Rattle.std.specs.List.{flat_map}
+use Rattle.std.specs.{Prelude.ℕ, Prelude.eqb, Prelude.if◌then◌else◌, Prelude.List, Prelude.[], Prelude.◌∷◌, Prelude.◌++◌, List.flat_map}
 
 -- each line with its newline
 abbrev pub text_of : List (List ℕ) → List ℕ

@@ -1,8 +1,7 @@
 -- Names seen, and names that are new after them.
 use Rattle.std.proofs.Common.{◌≡◌, ℕ, Bool, true, false, cond, ◌||◌, List, [], ◌∷◌, ◌++◌, refl, ◌∙◌, ap, append_assoc, append-nil, sym}
+use Rattle.std.proofs.{lemmas.List.Folds.list_any-append, lemmas.Slice.Eq.bytes_eq-Decides}
 use Rattle.std.specs.Prelude.{bytes_eq}
-use Rattle.std.proofs.lemmas.List.Folds.{list_any-append}
-use Rattle.std.proofs.lemmas.Slice.Eq.{bytes_eq-Decides}
 use Rattle.tool_options.specs.NameLists.{is_among, new_names}
 
 pub new_names-append : (seen xs ys : List (List ℕ)) → new_names seen (xs ++ ys) ≡ new_names seen xs ++ new_names (seen ++ xs) ys

@@ -3,12 +3,9 @@
 -- The options of ld, by what they mean for a link: the layout of the segments, whether relocation is kept, which local symbols are
 -- kept, the name of the entry point, and whether commons get addresses even if relocation is kept.
 use Rattle.std.specs.Prelude.{ℕ, Bool, true, false, not, ◌||◌, List, Option, Some, None}
-use Rattle.tool_options.specs.declared.options.Layout.{Layout}
-use Rattle.tool_options.specs.declared.options.Layout.TheVariants.{Plain}
-use Rattle.tool_options.specs.declared.options.Keep.{Keep}
-use Rattle.tool_options.specs.declared.options.Keep.TheVariants.{Nothing}
-use Rattle.tool_options.specs.declared.options.OptionFault.{OptionFault}
 use Rattle.tool_options.specs.declared.options.OptionFault.TheVariants.{RelocStrip, RelocLayout}
+use Rattle.tool_options.specs.{declared.options.Layout.Layout, declared.options.Layout.TheVariants.Plain, declared.options.Keep.Keep}
+use Rattle.tool_options.specs.{declared.options.Keep.TheVariants.Nothing, declared.options.OptionFault.OptionFault}
 
 pub record Choices : Type 0 where
   pub layout : Layout

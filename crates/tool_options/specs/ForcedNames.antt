@@ -3,8 +3,7 @@
 -- A forced name is mentioned before all objects, as if an object referred to it. The code keeps the names in an array of 64 slots,
 -- of which the first `count` are filled; contracts see the list of these.
 use Rattle.std.specs.Prelude.{◌≡◌, ℕ, ◌||◌, Bool, cond, nat_lt, List, [], ◌∷◌, ◌++◌, take, length}
-use Rattle.tool_options.specs.NameLists.{new_names, is_among}
-use Rattle.tool_options.specs.declared.forced.Forced.TheInside.{Inside}
+use Rattle.tool_options.specs.{NameLists.new_names, NameLists.is_among, declared.forced.Forced.TheInside.Inside}
 
 abbrev pub forced_of : Inside → List (List ℕ)
 forced_of a = take a.count a.slots

@@ -1,37 +1,28 @@
 -- What a call leaves, by what the library returned.
-use Rattle.std.proofs.Common.{◌≡◌, ◌≢◌, ℕ, Bool, true, false, cond, nat_lt, ◌||◌, List, [], length, Result, Ok}
-use Rattle.std.proofs.Common.{Err, IfOk, IfErr, inl, inr, refl, sym, ap, subst, ◌∙◌, arith}
+use Rattle.std.proofs.Common.{◌≡◌, ◌≢◌, ℕ, Bool, true, false, cond, nat_lt, ◌||◌, List, [], length, Result, Ok, Err, IfOk, IfErr, inl, inr}
+use Rattle.std.proofs.Common.{refl, sym, ap, subst, ◌∙◌, arith}
 use Rattle.std.specs.Prelude.{◌⊎◌, IsErr, IsErrAnd, IsOk, MatchResult, Vec}
 use Rattle.std.specs.declared.alloc.Global.{Global}
-use Rattle.aout_core.specs.Refusals as memory
 use Rattle.aout_core.specs.declared.object.ObjectFault.{ObjectFault}
-use Rattle.aout_core.specs.declared.object.ObjectFault.TheVariants as objects
-use Rattle.library_calls.specs.declared.cause.Cause.{Cause}
-use Rattle.library_calls.specs.declared.cause.Cause.TheVariants.{NoOption, Excluded, LongName, CutNames, ManyNames}
-use Rattle.library_calls.specs.declared.cause.Cause.TheVariants.{TooLong, NoEdit, BadFile, BadObject, NotAdded}
-use Rattle.library_calls.specs.declared.cause.Cause.TheVariants.{NotLinked, BadListing, NotConverted, Memory}
-use Rattle.library_calls.specs.declared.cause.Refusal.{Refusal}
-use Rattle.gnu_objects.specs.declared.refusal.Refusal as gnu
-use Rattle.gnu_objects.specs.declared.refusal.Refusal.TheVariants as refusals
-use Rattle.library_calls.proofs.NumberLemmas.{IsNotMemory, CauseIsNotMemory, not_memory_made, not_memory_reason}
-use Rattle.library_calls.specs.declared.parts.FileLists.{FileLists}
-use Rattle.library_calls.specs.declared.parts.ObjectWord.{ObjectWord}
-use Rattle.library_calls.specs.declared.parts.PartLists.{PartLists}
-use Rattle.library_calls.specs.declared.parts.SymbolRow.{SymbolRow}
-use Rattle.library_calls.specs.declared.remarks_call.RemarkRecord.{RemarkRecord}
-use Rattle.library_calls.specs.declared.remarks_call.Remarks.{Remarks}
-use Rattle.library_calls.specs.declared.state_call.Shown.{Shown}
+use Rattle.library_calls.specs.declared.cause.Cause.TheVariants.{NoOption, Excluded, LongName, CutNames, ManyNames, TooLong, NoEdit}
+use Rattle.library_calls.specs.declared.cause.Cause.TheVariants.{BadFile, BadObject, NotAdded, NotLinked, BadListing, NotConverted, Memory}
 use Rattle.library_calls.specs.Causes.{gnu_number, gnu_word, number_of, object_number, object_word, word_of}
-use Rattle.library_calls.specs.ObjectParts.{Pieces, file_for, made_of, pieces_in}
-use Rattle.library_calls.specs.RemarkAnswers.{Output, remarks_in}
-use Rattle.library_calls.specs.StateAnswers.{Asked, IsShown, states_of}
-use Rattle.v7_c.specs.declared.answer.Answer.{Answer}
-use Rattle.v7_c.specs.declared.answer.Counts.{Counts}
-use Rattle.v7_c.specs.declared.answer.FileHeader.{FileHeader}
+use Rattle.library_calls.specs.{declared.cause.Cause.Cause, declared.cause.Refusal.Refusal, declared.parts.FileLists.FileLists}
+use Rattle.library_calls.specs.{declared.parts.ObjectWord.ObjectWord, declared.parts.PartLists.PartLists}
+use Rattle.library_calls.specs.{declared.parts.SymbolRow.SymbolRow, declared.remarks_call.RemarkRecord.RemarkRecord}
+use Rattle.library_calls.specs.{declared.remarks_call.Remarks.Remarks, declared.state_call.Shown.Shown, ObjectParts.Pieces}
+use Rattle.library_calls.specs.{ObjectParts.file_for, ObjectParts.made_of, ObjectParts.pieces_in, RemarkAnswers.Output}
+use Rattle.library_calls.specs.{RemarkAnswers.remarks_in, StateAnswers.Asked, StateAnswers.IsShown, StateAnswers.states_of}
+use Rattle.library_calls.proofs.NumberLemmas.{IsNotMemory, CauseIsNotMemory, not_memory_made, not_memory_reason}
 use Rattle.v7_c.specs.Left.{BothLeft, FileLeft, LeavesState, Left, PartsLeft, apart_left, both_left, bytes_or, counted_by, counts_of}
 use Rattle.v7_c.specs.Left.{file_left, given, items_of, left, left_at, left_by, no_bytes_at, no_counts, no_header, no_output, of_none}
 use Rattle.v7_c.specs.Left.{output_left, output_of_state, parts_left, pieces_or, put_in, read_left, refused, remarks_or, state_left}
 use Rattle.v7_c.specs.Left.{states_or, wholes_or}
+use Rattle.v7_c.specs.{declared.answer.Answer.Answer, declared.answer.Counts.Counts, declared.answer.FileHeader.FileHeader}
+use Rattle.aout_core.specs.Refusals as memory
+use Rattle.aout_core.specs.declared.object.ObjectFault.TheVariants as objects
+use Rattle.gnu_objects.specs.declared.refusal.Refusal as gnu
+use Rattle.gnu_objects.specs.declared.refusal.Refusal.TheVariants as refusals
 
 no_object_word : (fault : ObjectFault) → object_number fault ≡ 50 → object_word fault ≡ 0
 no_object_word objects.NotAnObject h = refl

@@ -2,15 +2,11 @@
 use Rattle.std.proofs.Common.{◌≡◌, ◌≢◌, ℕ, Bool, true, false, eqb, if◌then◌else◌, Result, Ok, Err, IfOk, IfErr, inl, inr, ap, ◌∙◌}
 use Rattle.std.proofs.lemmas.Bool.{ne_eqb}
 use Rattle.aout_core.specs.Refusals.{refused}
-use Rattle.library_calls.specs.declared.cause.Cause.TheVariants.{Memory, NoOption}
-use Rattle.library_calls.specs.declared.cause.Refusal.{Refusal}
-use Rattle.library_calls.specs.declared.run_call.RunResult.{RunResult}
-use Rattle.library_calls.specs.FileAnswers.{has_bit}
-use Rattle.library_calls.specs.LinkAnswers.{each_of}
-use Rattle.library_calls.specs.MemoryWanted.{LinkMayRunOut, SessionMayRunOut}
 use Rattle.library_calls.specs.RunAnswers.{RunOutput, link_run, results_of, session_run}
-use Rattle.v7_c.specs.declared.run.Request.{Request}
-use Rattle.v7_c.specs.RunLeft.{IsAnswer, is_known, results_or, run_in}
+use Rattle.library_calls.specs.{declared.cause.Cause.TheVariants.Memory, declared.cause.Cause.TheVariants.NoOption}
+use Rattle.library_calls.specs.{declared.cause.Refusal.Refusal, declared.run_call.RunResult.RunResult, FileAnswers.has_bit}
+use Rattle.library_calls.specs.{LinkAnswers.each_of, MemoryWanted.LinkMayRunOut, MemoryWanted.SessionMayRunOut}
+use Rattle.v7_c.specs.{declared.run.Request.Request, RunLeft.IsAnswer, RunLeft.is_known, RunLeft.results_or, RunLeft.run_in}
 
 abbrev link_of : Request → Result RunOutput Refusal
 link_of q = link_run (has_bit q.wants 4) q.options q.entry.now q.forced.now (each_of q.objects.now)

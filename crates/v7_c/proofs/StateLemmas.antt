@@ -1,12 +1,9 @@
 -- The session that a request asks to show.
 use Rattle.std.proofs.Common.{ℕ, Bool, true, false, if◌then◌else◌, Result, Err, refl}
-use Rattle.library_calls.specs.declared.cause.Cause.TheVariants.{NoOption}
-use Rattle.library_calls.specs.declared.cause.Refusal.{Refusal}
-use Rattle.library_calls.specs.LinkAnswers.{each_of}
-use Rattle.library_calls.specs.StateAnswers.{Asked, asked_in}
+use Rattle.library_calls.specs.{declared.cause.Cause.TheVariants.NoOption, declared.cause.Refusal.Refusal, LinkAnswers.each_of}
+use Rattle.library_calls.specs.{StateAnswers.Asked, StateAnswers.asked_in}
 use Rattle.library_calls.proofs.NumberLemmas.{IsNotMemory, not_memory_asked, other}
-use Rattle.v7_c.specs.declared.run.Request.{Request}
-use Rattle.v7_c.specs.StateLeft.{asked_by, is_session}
+use Rattle.v7_c.specs.{declared.run.Request.Request, StateLeft.asked_by, StateLeft.is_session}
 
 not_memory_if : (b : Bool) (r : Result Asked Refusal) → IsNotMemory r →
     IsNotMemory (if b then r else Err (record { cause = NoOption; place = 0 }))

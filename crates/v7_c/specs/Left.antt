@@ -4,25 +4,16 @@
 -- that are needed. A refusal is a number, with the place of what is refused.
 use Rattle.std.specs.declared.alloc.Global.{Global}
 use Rattle.std.specs.Prelude.{◌≡◌, ℕ, ◌||◌, nat_lt, if◌then◌else◌, List, [], ◌++◌, drop, length, Vec, Result, Ok, Err}
-use Rattle.aout_core.specs.Refusals as memory
 use Rattle.aout_core.specs.declared.header.Header.{Header}
-use Rattle.library_calls.specs.declared.cause.Cause.{Cause}
-use Rattle.library_calls.specs.declared.cause.Cause.TheVariants.{Memory}
-use Rattle.library_calls.specs.declared.cause.Refusal.{Refusal}
-use Rattle.library_calls.specs.declared.parts.FileLists.{FileLists}
-use Rattle.library_calls.specs.declared.parts.ObjectWord.{ObjectWord}
-use Rattle.library_calls.specs.declared.parts.PartLists.{PartLists}
-use Rattle.library_calls.specs.declared.parts.SymbolRow.{SymbolRow}
-use Rattle.library_calls.specs.declared.remarks_call.RemarkRecord.{RemarkRecord}
-use Rattle.library_calls.specs.declared.remarks_call.Remarks.{Remarks}
-use Rattle.library_calls.specs.declared.state_call.Shown.{Shown}
-use Rattle.library_calls.specs.Causes.{number_of, word_of}
-use Rattle.library_calls.specs.ObjectParts.{Pieces, Whole, pieces_in, whole_of}
-use Rattle.library_calls.specs.RemarkAnswers.{Output, remarks_in}
-use Rattle.library_calls.specs.StateAnswers.{Asked, IsShown, StateOutput, states_of}
-use Rattle.v7_c.specs.declared.answer.Answer.{Answer}
-use Rattle.v7_c.specs.declared.answer.Counts.{Counts}
-use Rattle.v7_c.specs.declared.answer.FileHeader.{FileHeader}
+use Rattle.library_calls.specs.{declared.cause.Cause.Cause, declared.cause.Cause.TheVariants.Memory, declared.cause.Refusal.Refusal}
+use Rattle.library_calls.specs.{declared.parts.FileLists.FileLists, declared.parts.ObjectWord.ObjectWord}
+use Rattle.library_calls.specs.{declared.parts.PartLists.PartLists, declared.parts.SymbolRow.SymbolRow}
+use Rattle.library_calls.specs.{declared.remarks_call.RemarkRecord.RemarkRecord, declared.remarks_call.Remarks.Remarks}
+use Rattle.library_calls.specs.{declared.state_call.Shown.Shown, Causes.number_of, Causes.word_of, ObjectParts.Pieces, ObjectParts.Whole}
+use Rattle.library_calls.specs.{ObjectParts.pieces_in, ObjectParts.whole_of, RemarkAnswers.Output, RemarkAnswers.remarks_in}
+use Rattle.library_calls.specs.{StateAnswers.Asked, StateAnswers.IsShown, StateAnswers.StateOutput, StateAnswers.states_of}
+use Rattle.v7_c.specs.{declared.answer.Answer.Answer, declared.answer.Counts.Counts, declared.answer.FileHeader.FileHeader}
+use Rattle.aout_core.specs.Refusals as memory
 
 -- these at the beginning of a buffer
 abbrev pub put_in : {A : Type 0} → List A → List A → List A

@@ -1,23 +1,15 @@
 -- What v7_map leaves in the struct of its caller, and its status. (own choice)
-use Rattle.std.specs.Prelude.{◌≡◌, ◌≢◌, ℕ, Bool, true, ◌||◌, ◌&&◌, ◌%◌, not, eqb, nat_lt, nat_le}
-use Rattle.std.specs.Prelude.{if◌then◌else◌, List, length, Result, Ok, Err}
+use Rattle.std.specs.Prelude.{◌≡◌, ◌≢◌, ℕ, Bool, true, ◌||◌, ◌&&◌, ◌%◌, not, eqb, nat_lt, nat_le, if◌then◌else◌, List, length, Result, Ok}
+use Rattle.std.specs.Prelude.{Err}
 use Rattle.aout_core.specs.Refusals.{refused}
-use Rattle.link_maps.specs.declared.limit_records.LimitRecord.{LimitRecord}
-use Rattle.link_maps.specs.declared.map_records.MapRecords.{MapRecords}
-use Rattle.link_maps.specs.declared.name_records.NameRecord.{NameRecord}
-use Rattle.link_maps.specs.declared.records.ObjectRecord.{ObjectRecord}
-use Rattle.link_maps.specs.declared.records.UseRecord.{UseRecord}
-use Rattle.library_calls.specs.declared.cause.Cause.TheVariants.{Memory, NoOption}
-use Rattle.library_calls.specs.declared.cause.Refusal.{Refusal}
-use Rattle.library_calls.specs.declared.map_call.MapHead.{MapHead}
-use Rattle.library_calls.specs.declared.map_call.Mapped.{Mapped}
-use Rattle.library_calls.specs.Causes.{number_of, word_of}
-use Rattle.library_calls.specs.LinkAnswers.{each_of}
+use Rattle.link_maps.specs.{declared.limit_records.LimitRecord.LimitRecord, declared.map_records.MapRecords.MapRecords}
+use Rattle.link_maps.specs.{declared.name_records.NameRecord.NameRecord, declared.records.ObjectRecord.ObjectRecord}
+use Rattle.link_maps.specs.{declared.records.UseRecord.UseRecord}
 use Rattle.library_calls.specs.MapAnswers.{IsMapAnswer, MapMayRunOut, MapOf, map_asked}
-use Rattle.v7_c.specs.Left.{put_in}
-use Rattle.v7_c.specs.declared.map.MapAnswer.{MapAnswer}
-use Rattle.v7_c.specs.declared.map.RecordCounts.{RecordCounts}
-use Rattle.v7_c.specs.declared.run.Request.{Request}
+use Rattle.library_calls.specs.{declared.cause.Cause.TheVariants.Memory, declared.cause.Cause.TheVariants.NoOption}
+use Rattle.library_calls.specs.{declared.cause.Refusal.Refusal, declared.map_call.MapHead.MapHead, declared.map_call.Mapped.Mapped}
+use Rattle.library_calls.specs.{Causes.number_of, Causes.word_of, LinkAnswers.each_of}
+use Rattle.v7_c.specs.{Left.put_in, declared.map.MapAnswer.MapAnswer, declared.map.RecordCounts.RecordCounts, declared.run.Request.Request}
 
 -- the sizes of both structs and the mode are known
 abbrev pub is_known : Request → ℕ → Bool

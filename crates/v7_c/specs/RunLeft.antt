@@ -3,23 +3,16 @@
 -- A request and a result begin with their sizes in bytes. A caller may have shorter ones, without the last fields: a link whose report
 -- is wanted as lines alone does not need them. So it is with the objects of what is reported. Fields that a result lacks stay as they
 -- are; one that lacks a field which every answer fills stays as it is.
-use Rattle.std.specs.Prelude.{◌≡◌, ◌≢◌, ◌⊎◌, ℕ, Bool, true, ◌||◌, ◌&&◌, not, eqb, nat_lt, nat_le}
-use Rattle.std.specs.Prelude.{if◌then◌else◌, List, [], length, Result, Ok, Err}
+use Rattle.std.specs.Prelude.{◌≡◌, ◌≢◌, ◌⊎◌, ℕ, Bool, true, ◌||◌, ◌&&◌, not, eqb, nat_lt, nat_le, if◌then◌else◌, List, [], length, Result}
+use Rattle.std.specs.Prelude.{Ok, Err}
 use Rattle.aout_core.specs.Refusals.{refused}
-use Rattle.library_calls.specs.declared.cause.Cause.TheVariants.{Memory, NoOption}
-use Rattle.library_calls.specs.declared.cause.Refusal.{Refusal}
-use Rattle.library_calls.specs.declared.reported.ReportedName.{ReportedName}
-use Rattle.library_calls.specs.declared.run_call.RunResult.{RunResult}
-use Rattle.report_objects.specs.declared.places.FindingPlace.{FindingPlace}
-use Rattle.library_calls.specs.Causes.{number_of, word_of}
-use Rattle.library_calls.specs.FileAnswers.{has_bit}
-use Rattle.library_calls.specs.LinkAnswers.{each_of}
-use Rattle.library_calls.specs.MemoryWanted.{LinkMayRunOut, SessionMayRunOut}
 use Rattle.library_calls.specs.RunAnswers.{RunOutput, link_run, results_of, session_run}
-use Rattle.v7_c.specs.Left.{put_in}
-use Rattle.v7_c.specs.declared.run.Output.{Output}
-use Rattle.v7_c.specs.declared.run.Request.{Request}
-use Rattle.v7_c.specs.declared.run.RunAnswer.{RunAnswer}
+use Rattle.library_calls.specs.{declared.cause.Cause.TheVariants.Memory, declared.cause.Cause.TheVariants.NoOption}
+use Rattle.library_calls.specs.{declared.cause.Refusal.Refusal, declared.reported.ReportedName.ReportedName}
+use Rattle.library_calls.specs.{declared.run_call.RunResult.RunResult, Causes.number_of, Causes.word_of, FileAnswers.has_bit}
+use Rattle.library_calls.specs.{LinkAnswers.each_of, MemoryWanted.LinkMayRunOut, MemoryWanted.SessionMayRunOut}
+use Rattle.report_objects.specs.declared.places.FindingPlace.{FindingPlace}
+use Rattle.v7_c.specs.{Left.put_in, declared.run.Output.Output, declared.run.Request.Request, declared.run.RunAnswer.RunAnswer}
 
 -- ---- what is asked for
 

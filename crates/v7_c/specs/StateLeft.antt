@@ -1,10 +1,7 @@
 -- The session that v7_state is asked to show, by the request of v7_run. (own choice)
 use Rattle.std.specs.Prelude.{◌≡◌, ℕ, Bool, true, ◌&&◌, eqb, nat_le, if◌then◌else◌, Result, Err}
-use Rattle.library_calls.specs.declared.cause.Cause.TheVariants.{NoOption}
-use Rattle.library_calls.specs.declared.cause.Refusal.{Refusal}
-use Rattle.library_calls.specs.LinkAnswers.{each_of}
-use Rattle.library_calls.specs.MemoryWanted.{StateMayRunOut}
-use Rattle.library_calls.specs.StateAnswers.{Asked, asked_in}
+use Rattle.library_calls.specs.{declared.cause.Cause.TheVariants.NoOption, declared.cause.Refusal.Refusal, LinkAnswers.each_of}
+use Rattle.library_calls.specs.{MemoryWanted.StateMayRunOut, StateAnswers.Asked, StateAnswers.asked_in}
 use Rattle.v7_c.specs.declared.run.Request.{Request}
 
 -- the request has all fields, and asks for a session

@@ -4,18 +4,11 @@ use Rattle.std.proofs.Common.{refl, sym, ap, ◌∙◌, subst, inl, inr, arith}
 use Rattle.std.proofs.lemmas.List.{take_all}
 use Rattle.std.specs.Prelude.{Result, Err, String, bytes_eq, codes, string_bytes, if◌then◌else◌}
 use Rattle.std.specs.declared.alloc.Global.{Global}
-use Rattle.aout_core.specs.Names.{before_nul}
-use Rattle.aout_core.specs.Refusals.{refused}
-use Rattle.surroundings.specs.Answer.{Answer}
-use Rattle.surroundings.specs.Answers.{AnswersOr, says_usage}
-use Rattle.surroundings.specs.Events.{History}
-use Rattle.surroundings.specs.declared.answer.Fault.{Fault}
-use Rattle.surroundings.specs.declared.answer.Fault.TheVariants as faults
-use Rattle.v7_explain.specs.Joined.{usage}
-use Rattle.v7_explain.specs.Maps.{IsMapCall}
+use Rattle.aout_core.specs.{Names.before_nul, Refusals.refused}
+use Rattle.surroundings.specs.{Answer.Answer, Answers.AnswersOr, Answers.says_usage, Events.History, declared.answer.Fault.Fault}
 use Rattle.v7_explain.specs.Runs.{Call, IsCall, map_link, mapping_after}
-use Rattle.v7_explain.specs.Walks.{Folders}
-use Rattle.v7_explain.specs.internal.Takes.{asks_for_name}
+use Rattle.v7_explain.specs.{Joined.usage, Maps.IsMapCall, Walks.Folders, internal.Takes.asks_for_name}
+use Rattle.surroundings.specs.declared.answer.Fault.TheVariants as faults
 
 -- one name more
 pub name_taken : (names words rest : List (List ℕ)) (word name : List ℕ) → words ≡ word ∷ name ∷ rest → asks_for_name words ≡ true →

@@ -1,19 +1,13 @@
 -- Files that are explained one after another, from what comes of those that are left.
-use Rattle.std.proofs.Common.{◌≡◌, ℕ, ◌<◌, ◌+◌, List, ◌∷◌, length, map, drop, get_or, drop-cons, suc, string_bytes, refl, sym, ap}
-use Rattle.std.proofs.Common.{◌∙◌, subst, inl, inr, arith}
-use Rattle.std.specs.Prelude.{Result, Ok, Err, String}
-use Rattle.std.specs.declared.alloc.Global.{Global}
+use Rattle.std.proofs.Common.{◌≡◌, ℕ, ◌<◌, ◌+◌, List, ◌∷◌, length, map, drop, get_or, drop-cons, suc, string_bytes, refl, sym, ap, ◌∙◌}
+use Rattle.std.proofs.Common.{subst, inl, inr, arith}
+use Rattle.std.specs.{Prelude.Result, Prelude.Ok, Prelude.Err, Prelude.String, declared.alloc.Global.Global}
 use Rattle.aout_core.specs.Refusals.{refused}
-use Rattle.surroundings.specs.Answer.{Answer}
-use Rattle.surroundings.specs.Events.{History}
-use Rattle.surroundings.specs.declared.answer.Fault.{Fault}
+use Rattle.surroundings.specs.{Answer.Answer, Events.History, declared.answer.Fault.Fault, Answers.AnswersOr, Answers.failed_at}
+use Rattle.surroundings.specs.{Sources.EndsReading, Sources.ReadsAt, Sources.unread_text}
+use Rattle.v7_explain.specs.{Files.program, Joined.joined, Joined.nothing_said, Runs.Explains, Runs.IsExplaining, Runs.said_of}
+use Rattle.v7_explain.specs.{declared.explaining.Mode.Mode}
 use Rattle.surroundings.specs.declared.answer.Fault.TheVariants as faults
-use Rattle.surroundings.specs.Answers.{AnswersOr, failed_at}
-use Rattle.surroundings.specs.Sources.{EndsReading, ReadsAt, unread_text}
-use Rattle.v7_explain.specs.Files.{program}
-use Rattle.v7_explain.specs.Joined.{joined, nothing_said}
-use Rattle.v7_explain.specs.Runs.{Explains, IsExplaining, said_of}
-use Rattle.v7_explain.specs.declared.explaining.Mode.{Mode}
 
 -- ---- one file
 

@@ -1,8 +1,6 @@
 -- Findings as notes.
 use Rattle.std.proofs.Common.{◌≡◌, ℕ, List, [], ◌∷◌, map, refl, ap}
-use Rattle.findings.specs.Found.{all_found}
-use Rattle.findings.specs.Notes.{finding_note}
-use Rattle.findings.specs.declared.finding.Finding.{Finding}
+use Rattle.findings.specs.{Found.all_found, Notes.finding_note, declared.finding.Finding.Finding}
 use Rattle.v7_explain.specs.Files.{found_notes}
 
 pub notes_found : (word : List ℕ) (fs : List Finding) → map (finding_note word) fs ≡ found_notes word (all_found fs)

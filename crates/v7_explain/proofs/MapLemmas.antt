@@ -1,41 +1,29 @@
 -- The objects of a map as a session takes them, and the map of these.
-use Rattle.std.proofs.Common.{◌≡◌, ◌≢◌, ℕ, Bool, true, false, eqb, List, Option, Some, None, map, refl, sym, ap, ◌∙◌}
-use Rattle.std.proofs.Common.{◌⊎◌, subst, inl, inr, arith}
+use Rattle.std.proofs.Common.{◌≡◌, ◌≢◌, ℕ, Bool, true, false, eqb, List, Option, Some, None, map, refl, sym, ap, ◌∙◌, ◌⊎◌, subst, inl, inr}
+use Rattle.std.proofs.Common.{arith}
 use Rattle.std.proofs.lemmas.Bool.Decides.{nat_tests}
 use Rattle.std.specs.Prelude.{Result, Ok, Err, IfSome, String, Vec, is_some, not}
 use Rattle.std.specs.declared.alloc.Global.{Global}
 use Rattle.aout_core.specs.Refusals.{refused}
 use Rattle.command_words.specs.Calls.{AsksForNone, IsAsked, IsWhole, dashes_in, files_of}
-use Rattle.command_words.specs.declared.fault.WordsFault.TheVariants.{Usage}
-use Rattle.command_words.specs.declared.words.Call.{Call}
 use Rattle.command_words.specs.declared.words.Call.TheVariants.{Ld, Nm, Session, Size, Strip}
-use Rattle.link_maps.specs.Members.{all_of, cause_of}
-use Rattle.link_maps.specs.Rows.{IsOutcome}
+use Rattle.command_words.specs.{declared.fault.WordsFault.TheVariants.Usage, declared.words.Call.Call}
 use Rattle.link_maps.specs.Taking.{Split, split, split_of, with_object}
-use Rattle.link_maps.specs.declared.map.LinkMap.{LinkMap}
-use Rattle.link_maps.specs.declared.members.Objects.{Objects}
-use Rattle.link_maps.specs.declared.members.Refused.{Refused}
-use Rattle.link_maps.specs.declared.outcome.Outcome.{Outcome as Made}
+use Rattle.link_maps.specs.{Members.all_of, Members.cause_of, Rows.IsOutcome, declared.map.LinkMap.LinkMap}
+use Rattle.link_maps.specs.{declared.members.Objects.Objects, declared.members.Refused.Refused, declared.outcome.Outcome.Outcome as Made}
 use Rattle.link_maps.proofs.TakingLemmas.{none_split, none_yet, split_more}
-use Rattle.link_out.specs.Outcomes.{IsLinkOf}
-use Rattle.link_out.specs.declared.linked.LinkFault.{LinkFault}
 use Rattle.link_out.specs.declared.linked.LinkFault.TheVariants.{DoesNotFit, Memory, SymbolNumber, TooManySymbols}
-use Rattle.link_out.specs.declared.linked.Linked.{Linked}
-use Rattle.link_out.specs.function.Link.{Outcome, link}
-use Rattle.link_session.specs.Labelled.{Labelled, objects}
-use Rattle.link_session.specs.Sessions.{nothing_kept}
-use Rattle.link_session.specs.Undo.{Kept}
-use Rattle.surroundings.specs.Answer.{Answer}
-use Rattle.surroundings.specs.Answers.{AnswersOr, says_usage}
-use Rattle.surroundings.specs.Events.{History}
-use Rattle.surroundings.specs.declared.answer.Fault.{Fault}
-use Rattle.surroundings.specs.declared.answer.Fault.TheVariants as faults
+use Rattle.link_out.specs.{Outcomes.IsLinkOf, declared.linked.LinkFault.LinkFault, declared.linked.Linked.Linked, function.Link.Outcome}
+use Rattle.link_out.specs.{function.Link.link}
+use Rattle.link_session.specs.{Labelled.Labelled, Labelled.objects, Sessions.nothing_kept, Undo.Kept}
+use Rattle.surroundings.specs.{Answer.Answer, Answers.AnswersOr, Answers.says_usage, Events.History, declared.answer.Fault.Fault}
 use Rattle.tool_options.specs.Choices.{Choices}
 use Rattle.v7_explain.specs.Joined.{either, nothing_said, usage}
-use Rattle.v7_explain.specs.Maps.{AreTaken, IsMap, IsMapCall, IsMapping, IsTaking, MapsCall, Taken, link_words, map_status}
-use Rattle.v7_explain.specs.Maps.{answer_of, nothing_taken, status_by, status_linked}
+use Rattle.v7_explain.specs.Maps.{AreTaken, IsMap, IsMapCall, IsMapping, IsTaking, MapsCall, Taken, link_words, map_status, answer_of}
+use Rattle.v7_explain.specs.Maps.{nothing_taken, status_by, status_linked}
 use Rattle.v7_explain.specs.internal.Takes.{IsMapAnswer, KeepsSplit, status_made, status_mapped, taken_by, taken_of}
 use Rattle.v7_explain.proofs.TakingLemmas.{taking_memory}
+use Rattle.surroundings.specs.declared.answer.Fault.TheVariants as faults
 
 -- ---- objects that a session takes, up to a limit
 

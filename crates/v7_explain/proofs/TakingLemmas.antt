@@ -1,19 +1,13 @@
 -- Objects that are taken one after another: which there are then, and what comes of the files that are left.
 use Rattle.std.proofs.Common.{◌≡◌, ℕ, List, [], ◌∷◌, ◌++◌, refl, sym, ap, ◌∙◌, subst, inl, inr}
 use Rattle.std.specs.Prelude.{IsOk, Result, Ok, Err, OnOk}
-use Rattle.aout_core.specs.Contents.{Contents}
-use Rattle.aout_core.specs.Refusals.{refused}
+use Rattle.aout_core.specs.{Contents.Contents, Refusals.refused}
 use Rattle.link_session.specs.Labelled.{Labelled}
-use Rattle.surroundings.specs.Answer.{Answer}
-use Rattle.surroundings.specs.Answers.{Faults, failed_at}
-use Rattle.surroundings.specs.Events.{History}
 use Rattle.surroundings.specs.Sources.{EndsReading, ReadsAt, unread_text}
-use Rattle.surroundings.specs.declared.answer.Fault.{Fault}
-use Rattle.surroundings.specs.declared.answer.Fault.TheVariants as faults
-use Rattle.v7_explain.specs.Files.{program}
-use Rattle.v7_explain.specs.Joined.{joined}
+use Rattle.surroundings.specs.{Answer.Answer, Answers.Faults, Answers.failed_at, Events.History, declared.answer.Fault.Fault}
 use Rattle.v7_explain.specs.Maps.{IsTaking, Taken, TakesAt, object_in, with_found}
-use Rattle.v7_explain.specs.internal.Takes.{TakesNext, TakesOne}
+use Rattle.v7_explain.specs.{Files.program, Joined.joined, internal.Takes.TakesNext, internal.Takes.TakesOne}
+use Rattle.surroundings.specs.declared.answer.Fault.TheVariants as faults
 
 -- ---- one after another
 

@@ -1,13 +1,9 @@
 -- Files that are found in folders, folder by folder and name by name.
-use Rattle.std.proofs.Common.{◌≡◌, ℕ, zero, suc, ◌-◌, Bool, true, false, cond, List, [], ◌∷◌, ◌++◌, map}
-use Rattle.std.proofs.Common.{refl, sym, ap, ◌∙◌, subst, arith, string_bytes, is_lt, append_assoc}
-use Rattle.std.proofs.lemmas.List.MinMax.{ranks_by}
-use Rattle.std.proofs.lemmas.Cmp.{nat_list_cmp_total}
+use Rattle.std.proofs.Common.{◌≡◌, ℕ, zero, suc, ◌-◌, Bool, true, false, cond, List, [], ◌∷◌, ◌++◌, map, refl, sym, ap, ◌∙◌, subst, arith}
+use Rattle.std.proofs.Common.{string_bytes, is_lt, append_assoc}
+use Rattle.std.proofs.{lemmas.List.MinMax.ranks_by, lemmas.Cmp.nat_list_cmp_total, lemmas.Result.on_ok_weaker}
 use Rattle.std.specs.Prelude.{Option, Some, None, Result, Ok, Err, OnOk, String, string_cmp}
-use Rattle.std.proofs.lemmas.Result.{on_ok_weaker}
-use Rattle.std.specs.List.{flat_map}
-use Rattle.std.specs.List.Sorted.{IsSortedBy, IsStableBy}
-use Rattle.std.specs.declared.alloc.Global.{Global}
+use Rattle.std.specs.{List.flat_map, List.Sorted.IsSortedBy, List.Sorted.IsStableBy, declared.alloc.Global.Global}
 use Rattle.symtools.proofs.SortLemmas.{in_order-from_sort}
 use Rattle.symtools.specs.NmLists.{in_order, inserted}
 use Rattle.v7_explain.specs.Walks.{Folder, Folders, itself_unless, name_before, path_in, walked, walked_at}

@@ -2,38 +2,24 @@
 -- or a line of an inventory. (own choice)
 --
 -- What goes to standard output comes with lines for standard error and a status: 1 if there is something to report.
-use Rattle.std.specs.Prelude.{ℕ, Bool, true, false, nat_lt, if◌then◌else◌, codes}
-use Rattle.std.specs.Prelude.{List, [], ◌∷◌, ◌++◌, length, map, Option, Some, None, Result, Ok, Err}
+use Rattle.std.specs.Prelude.{ℕ, Bool, true, false, nat_lt, if◌then◌else◌, codes, List, [], ◌∷◌, ◌++◌, length, map, Option, Some, None}
+use Rattle.std.specs.Prelude.{Result, Ok, Err}
 use Rattle.std.specs.List.{flat_map}
-use Rattle.aout_core.specs.Contents.{Contents}
-use Rattle.aout_core.specs.Decoding.{decode, header_in}
-use Rattle.aout_core.specs.WellFormed.{first_object_fault}
-use Rattle.aout_core.specs.declared.file.ReadFault.{ReadFault}
-use Rattle.aout_core.specs.declared.file.ReadFault.TheVariants as faults
-use Rattle.aout_core.specs.declared.header.Header.{Header}
-use Rattle.aout_core.specs.declared.object.ObjectFault.{ObjectFault}
-use Rattle.disassemblies.specs.Columns.{disassembly}
-use Rattle.disassemblies.specs.Starts.{starts}
-use Rattle.findings.specs.Found.{Found}
-use Rattle.findings.specs.Kinds.{kind_text, or_nothing}
-use Rattle.findings.specs.Notes.{byte_text, header_lines, note_text}
-use Rattle.findings.specs.Odd.{odd}
-use Rattle.findings.specs.OtherFiles.{is_of_gnu, likeness}
+use Rattle.aout_core.specs.{Contents.Contents, Decoding.decode, Decoding.header_in, WellFormed.first_object_fault}
+use Rattle.aout_core.specs.{declared.file.ReadFault.ReadFault, declared.header.Header.Header, declared.object.ObjectFault.ObjectFault}
+use Rattle.disassemblies.specs.{Columns.disassembly, Starts.starts}
 use Rattle.findings.specs.Wrong.{is_damaged, wrong_bytes, wrong_in, wrong_words}
+use Rattle.findings.specs.{Found.Found, Kinds.kind_text, Kinds.or_nothing, Notes.byte_text, Notes.header_lines, Notes.note_text, Odd.odd}
+use Rattle.findings.specs.{OtherFiles.is_of_gnu, OtherFiles.likeness}
 use Rattle.instructions.specs.declared.unix.Decoder.TheVariants.{Unix}
 use Rattle.listings.specs.Listing.{listing, note_lines}
-use Rattle.surroundings.specs.Answer.{Answer}
-use Rattle.surroundings.specs.Answers.{line_front, only_errors}
-use Rattle.suspicions.specs.SureSuspicions.{sure_suspicions}
-use Rattle.suspicions.specs.Suspicions.{suspicions}
-use Rattle.texts.specs.Lines.{text_of}
-use Rattle.texts.specs.Numbers.{octal_and_decimal}
-use Rattle.explanations.specs.Dumps.{dump}
+use Rattle.surroundings.specs.{Answer.Answer, Answers.line_front, Answers.only_errors}
+use Rattle.suspicions.specs.{SureSuspicions.sure_suspicions, Suspicions.suspicions}
+use Rattle.texts.specs.{Lines.text_of, Numbers.octal_and_decimal}
 use Rattle.explanations.specs.Inventories.{file_row, refused_row, row_line}
-use Rattle.explanations.specs.Said.{explained, printed}
-use Rattle.explanations.specs.declared.inventory.InventoryRow.{InventoryRow}
-use Rattle.v7_explain.specs.declared.views.View.{View}
-use Rattle.v7_explain.specs.declared.views.View.TheVariants.{Instructions, Rows}
+use Rattle.explanations.specs.{Dumps.dump, Said.explained, Said.printed, declared.inventory.InventoryRow.InventoryRow}
+use Rattle.v7_explain.specs.{declared.views.View.View, declared.views.View.TheVariants.Instructions, declared.views.View.TheVariants.Rows}
+use Rattle.aout_core.specs.declared.file.ReadFault.TheVariants as faults
 
 abbrev pub program : List ℕ
 program = codes "v7-explain"

@@ -1,7 +1,6 @@
 -- Answers of v7-explain, one after another. (own choice)
 use Rattle.std.specs.Prelude.{ℕ, Bool, true, false, max, List, [], ◌++◌, codes}
-use Rattle.surroundings.specs.Answer.{Answer}
-use Rattle.surroundings.specs.Answers.{only_errors}
+use Rattle.surroundings.specs.{Answer.Answer, Answers.only_errors}
 
 abbrev pub usage : List ℕ
 usage =

@@ -3,36 +3,20 @@
 -- The files are those that `ld` takes with the same arguments. Each is read whole before the next one is opened. There is a map if all are
 -- objects; else the answer has a line for each that is not. If names are asked for, the map has only these.
 use Rattle.std.specs.Prelude.{◌≡◌, ◌⊎◌, ℕ, List, [], ◌∷◌, ◌++◌, eqb, map, max, Option, Some, None, Result, Ok, Err, codes, string_bytes}
-use Rattle.aout_core.specs.Contents.{Contents}
-use Rattle.aout_core.specs.Decoding.{decode}
-use Rattle.aout_core.specs.WellFormed.{first_object_fault}
-use Rattle.aout_core.specs.declared.file.ReadFault.{ReadFault}
-use Rattle.aout_core.specs.declared.object.ObjectFault.{ObjectFault}
-use Rattle.aout_core.specs.FaultTexts.{object_text, read_text}
-use Rattle.aout_core.specs.Refusals.{refused}
+use Rattle.aout_core.specs.{Contents.Contents, Decoding.decode, WellFormed.first_object_fault, declared.file.ReadFault.ReadFault}
+use Rattle.aout_core.specs.{declared.object.ObjectFault.ObjectFault, FaultTexts.object_text, FaultTexts.read_text, Refusals.refused}
 use Rattle.command_words.specs.Calls.{AsksForNone, IsAsked, IsWhole, dashes_in, files_of}
-use Rattle.command_words.specs.declared.fault.WordsFault.TheVariants.{Usage}
-use Rattle.command_words.specs.declared.words.Call.{Call}
-use Rattle.command_words.specs.declared.words.Call.TheVariants.{Ld}
-use Rattle.link_maps.specs.Maps.{IsMapOf}
+use Rattle.command_words.specs.{declared.fault.WordsFault.TheVariants.Usage, declared.words.Call.Call, declared.words.Call.TheVariants.Ld}
 use Rattle.link_maps.specs.Taking.{Split, split, split_of}
-use Rattle.link_maps.specs.declared.map.LinkMap.{LinkMap}
-use Rattle.link_maps.specs.declared.members.Objects.{Objects}
-use Rattle.link_out.specs.declared.linked.LinkFault.{LinkFault}
-use Rattle.link_out.specs.function.Link.{Outcome, link}
-use Rattle.link_out.specs.function.Reports.{status_of}
-use Rattle.link_session.specs.declared.entry.AddFault.{AddFault}
-use Rattle.link_session.specs.Labelled.{Labelled, objects}
+use Rattle.link_maps.specs.{Maps.IsMapOf, declared.map.LinkMap.LinkMap, declared.members.Objects.Objects}
+use Rattle.link_out.specs.{declared.linked.LinkFault.LinkFault, function.Link.Outcome, function.Link.link, function.Reports.status_of}
+use Rattle.link_session.specs.{declared.entry.AddFault.AddFault, Labelled.Labelled, Labelled.objects}
 use Rattle.map_texts.specs.MapTexts.{absent_names, map_text, names_map}
-use Rattle.surroundings.specs.Answer.{Answer}
-use Rattle.surroundings.specs.Answers.{AnswersOr, failed_at, only_errors, says_usage}
-use Rattle.surroundings.specs.Events.{History, Extends, opened}
-use Rattle.surroundings.specs.Sources.{ReadsAt, unread_text}
-use Rattle.surroundings.specs.declared.answer.Fault.{Fault}
-use Rattle.surroundings.specs.declared.answer.Fault.TheVariants as faults
+use Rattle.surroundings.specs.{Answer.Answer, Answers.AnswersOr, Answers.failed_at, Answers.only_errors, Answers.says_usage, Events.History}
+use Rattle.surroundings.specs.{Events.Extends, Events.opened, Sources.ReadsAt, Sources.unread_text, declared.answer.Fault.Fault}
 use Rattle.tool_options.specs.Choices.{Choices}
-use Rattle.v7_explain.specs.Files.{line_of, program}
-use Rattle.v7_explain.specs.Joined.{either, joined, nothing_said, usage}
+use Rattle.v7_explain.specs.{Files.line_of, Files.program, Joined.either, Joined.joined, Joined.nothing_said, Joined.usage}
+use Rattle.surroundings.specs.declared.answer.Fault.TheVariants as faults
 
 -- ---- objects
 

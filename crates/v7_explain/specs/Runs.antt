@@ -2,31 +2,24 @@
 --
 -- Each file is read whole and explained before the next one is opened. The answer has what is shown of each, in order, and the largest
 -- status. If memory runs out, that is the answer, and nothing was stored.
-use Rattle.std.specs.Prelude.{◌≡◌, ◌⊎◌, ℕ, Bool, true, false, not, eqb, nat_eq, if◌then◌else◌, bytes_eq, codes}
-use Rattle.std.specs.Prelude.{List, [], ◌∷◌, ◌++◌, take, Option, Some, None, Result, Ok, Err}
+use Rattle.std.specs.Prelude.{◌≡◌, ◌⊎◌, ℕ, Bool, true, false, not, eqb, nat_eq, if◌then◌else◌, bytes_eq, codes, List, [], ◌∷◌, ◌++◌, take}
+use Rattle.std.specs.Prelude.{Option, Some, None, Result, Ok, Err}
 use Rattle.std.specs.List.{starts_with}
-use Rattle.aout_core.specs.Names.{before_nul}
-use Rattle.aout_core.specs.Refusals.{refused}
-use Rattle.surroundings.specs.Answer.{Answer}
-use Rattle.surroundings.specs.Answers.{AnswersOr, AnswersStored, Checks, IsPerformed, IsShownOr}
-use Rattle.surroundings.specs.Answers.{failed_at, only_errors, says_usage, shown_in}
+use Rattle.aout_core.specs.{Names.before_nul, Refusals.refused}
+use Rattle.surroundings.specs.Answers.{AnswersOr, AnswersStored, Checks, IsPerformed, IsShownOr, failed_at, only_errors, says_usage}
+use Rattle.surroundings.specs.Answers.{shown_in}
 use Rattle.surroundings.specs.Events.{History, Extends, Surroundings, opened, written}
-use Rattle.surroundings.specs.Paths.{path_answer}
 use Rattle.surroundings.specs.Sources.{EndsReading, ReadsAt, stored_text, unread_text}
-use Rattle.surroundings.specs.declared.answer.Fault.{Fault}
-use Rattle.surroundings.specs.declared.answer.Fault.TheVariants as faults
-use Rattle.surroundings.specs.declared.office.Stored.{Stored}
+use Rattle.surroundings.specs.{Answer.Answer, Paths.path_answer, declared.answer.Fault.Fault, declared.office.Stored.Stored}
 use Rattle.v7_explain.specs.Files.{checked, inventoried, listed, program, viewed}
 use Rattle.v7_explain.specs.Joined.{either, joined, nothing_said, usage}
-use Rattle.v7_explain.specs.Maps.{IsMapCall}
-use Rattle.v7_explain.specs.Walks.{AreWalked, Folders}
-use Rattle.v7_explain.specs.declared.explaining.Mode.{Mode}
-use Rattle.v7_explain.specs.declared.program.Task.{Task}
 use Rattle.v7_explain.specs.declared.program.Task.TheVariants.{Store, MapLink, Explain}
 use Rattle.v7_explain.specs.declared.explaining.Mode.TheVariants.{Listing, Show, Check, Inventory}
-use Rattle.v7_explain.specs.declared.views.View.TheVariants.{Instructions, Rows}
+use Rattle.v7_explain.specs.{Maps.IsMapCall, Walks.AreWalked, Walks.Folders, declared.explaining.Mode.Mode, declared.program.Task.Task}
+use Rattle.v7_explain.specs.{declared.views.View.TheVariants.Instructions, declared.views.View.TheVariants.Rows}
 use Rattle.explanations.specs.declared.rows.Base.TheVariants.{Octal, Hexadecimal}
 use Rattle.instructions.specs.declared.unix.Decoder.TheVariants.{Pdp11, Unix}
+use Rattle.surroundings.specs.declared.answer.Fault.TheVariants as faults
 
 -- ---- files one after another
 

@@ -1,11 +1,8 @@
 -- The files in folders, folder by folder, in the order of their names. (own choice)
 --
 -- No contract can say what a disk has. Where it is known what each folder has, the files of a walk are determined.
-use Rattle.std.specs.Prelude.{◌≡◌, ℕ, zero, suc, Bool, nat_eq, if◌then◌else◌, codes}
-use Rattle.std.specs.Prelude.{List, [], ◌∷◌, ◌++◌, Option, Some, None}
-use Rattle.std.specs.Cmp.Lexicographic.{slice_cmp}
-use Rattle.std.specs.List.{ends_with, flat_map}
-use Rattle.std.specs.Ordering.{is_lt, nat_cmp}
+use Rattle.std.specs.Prelude.{◌≡◌, ℕ, zero, suc, Bool, nat_eq, if◌then◌else◌, codes, List, [], ◌∷◌, ◌++◌, Option, Some, None}
+use Rattle.std.specs.{Cmp.Lexicographic.slice_cmp, List.ends_with, List.flat_map, Ordering.is_lt, Ordering.nat_cmp}
 use Rattle.symtools.specs.NmLists.{in_order}
 
 -- the names of a folder's files and folders, in any order, and whether these are all

@@ -1,14 +1,8 @@
 -- What the arguments ask for, by what they are read as.
 use Rattle.std.proofs.Common.{◌≡◌, ℕ, List, Some, None, refl, sym, ap, subst, inl, inr}
 use Rattle.std.specs.Prelude.{Result, Ok}
-use Rattle.surroundings.specs.Answer.{Answer}
-use Rattle.surroundings.specs.Answers.{says_usage}
-use Rattle.surroundings.specs.Events.{History}
-use Rattle.surroundings.specs.declared.answer.Fault.{Fault}
-use Rattle.v7_from_gnu.specs.Calls.{call_of}
-use Rattle.v7_from_gnu.specs.Lines.{usage}
-use Rattle.v7_from_gnu.specs.Runs.{IsAnswer, IsCall, IsDone}
-use Rattle.v7_from_gnu.specs.declared.arguments.Call.{Call}
+use Rattle.surroundings.specs.{Answer.Answer, Answers.says_usage, Events.History, declared.answer.Fault.Fault}
+use Rattle.v7_from_gnu.specs.{Calls.call_of, Lines.usage, Runs.IsAnswer, Runs.IsCall, Runs.IsDone, declared.arguments.Call.Call}
 
 -- nothing is asked for
 pub no_call : (words : List (List ℕ)) (h : History) (answer : Answer) → call_of words ≡ None →

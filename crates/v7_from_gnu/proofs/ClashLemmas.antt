@@ -3,8 +3,7 @@ use Rattle.std.proofs.Common.{◌≡◌, ℕ, ◌+◌, ◌<◌, List, [], ◌∷
 use Rattle.std.proofs.lemmas.List.{length-map}
 use Rattle.gnu_objects.specs.Clashes.{clash_among, clash_among_from, clash_in, first_clash, found_first}
 use Rattle.gnu_objects.specs.declared.clash.Clash.{Clash}
-use Rattle.v7_from_gnu.specs.Checks.{bytes_of}
-use Rattle.v7_from_gnu.specs.Jobs.{Target}
+use Rattle.v7_from_gnu.specs.{Checks.bytes_of, Jobs.Target}
 
 abbrev IsBelow : ℕ → Option (ℕ × Clash) → Type 0
 IsBelow n None = Unit {0}

@@ -1,19 +1,13 @@
 -- Files that are converted one after another, and why one is refused.
 use Rattle.std.proofs.Common.{◌≡◌, ◌≢◌, ℕ, Bool, List, [], ◌∷◌, sym, ap, ◌∙◌, subst, inl, inr}
 use Rattle.std.specs.Prelude.{IfErr, IfOk, Result, Ok, Err}
-use Rattle.gnu_objects.specs.Converted.{converted}
-use Rattle.aout_core.specs.Contents.{Contents}
-use Rattle.aout_core.specs.Refusals.{refused}
-use Rattle.gnu_objects.specs.declared.options.Options.{Options}
-use Rattle.gnu_objects.specs.declared.refusal.Refusal.{Refusal}
-use Rattle.gnu_objects.specs.declared.refusal.Refusal.TheVariants as refusals
-use Rattle.surroundings.specs.Answers.{Faults}
-use Rattle.surroundings.specs.declared.answer.Fault.{Fault}
+use Rattle.gnu_objects.specs.{Converted.converted, declared.options.Options.Options, declared.refusal.Refusal.Refusal}
+use Rattle.aout_core.specs.{Contents.Contents, Refusals.refused}
+use Rattle.surroundings.specs.{Answers.Faults, declared.answer.Fault.Fault}
 use Rattle.v7_from_gnu.specs.Converting.{and_then, converted_from, outcome, target_of, target_with, with_names}
-use Rattle.v7_from_gnu.specs.Jobs.{Source, Target}
-use Rattle.v7_from_gnu.specs.Plans.{Plan}
-use Rattle.v7_from_gnu.specs.internal.Lists.{RefusedAs}
+use Rattle.v7_from_gnu.specs.{Jobs.Source, Jobs.Target, Plans.Plan, internal.Lists.RefusedAs}
 use Rattle.v7_from_gnu.proofs.StepLemmas.{step_ends, step_fails}
+use Rattle.gnu_objects.specs.declared.refusal.Refusal.TheVariants as refusals
 
 -- one is not converted
 pub converting_fails : (options : Options) (done : List Target) (all left later : List Source) (source : Source)

@@ -2,12 +2,9 @@
 use Rattle.std.proofs.Common.{◌≡◌, Option, Some, None, refl, inr}
 use Rattle.std.specs.Prelude.{Result, Ok, Err}
 use Rattle.aout_core.specs.Refusals.{refused}
-use Rattle.surroundings.specs.Answer.{Answer}
-use Rattle.surroundings.specs.Answers.{Checks, Faults}
-use Rattle.surroundings.specs.declared.answer.Fault.{Fault}
-use Rattle.surroundings.specs.declared.answer.Fault.TheVariants.{Memory}
-use Rattle.v7_from_gnu.specs.Checks.{first_of}
-use Rattle.v7_from_gnu.specs.Converting.{and_then, unless}
+use Rattle.surroundings.specs.{Answer.Answer, Answers.Checks, Answers.Faults, declared.answer.Fault.Fault}
+use Rattle.surroundings.specs.{declared.answer.Fault.TheVariants.Memory}
+use Rattle.v7_from_gnu.specs.{Checks.first_of, Converting.and_then, Converting.unless}
 
 -- ---- checks
 

@@ -2,14 +2,9 @@
 use Rattle.std.proofs.Common.{◌≡◌, ℕ, ◌<◌, List, [], ◌∷◌, length, drop, get_or, drop-cons, suc, Some, None, refl, sym, ap, ◌∙◌, subst}
 use Rattle.aout_core.specs.Contents.{Contents}
 use Rattle.std.specs.Prelude.{Result}
-use Rattle.surroundings.specs.Answer.{Answer}
-use Rattle.surroundings.specs.Events.{History, Extends, stored}
-use Rattle.surroundings.specs.Sources.{stored_text}
-use Rattle.surroundings.specs.declared.answer.Fault.{Fault}
-use Rattle.surroundings.specs.declared.office.Stored.{Stored}
-use Rattle.surroundings.specs.Answers.{AnswersOr}
-use Rattle.v7_from_gnu.specs.Runs.{IsStoring, not_stored, unless_said}
-use Rattle.v7_from_gnu.specs.Jobs.{Target}
+use Rattle.surroundings.specs.{Answer.Answer, Events.History, Events.Extends, Events.stored, Sources.stored_text}
+use Rattle.surroundings.specs.{declared.answer.Fault.Fault, declared.office.Stored.Stored, Answers.AnswersOr}
+use Rattle.v7_from_gnu.specs.{Runs.IsStoring, Runs.not_stored, Runs.unless_said, Jobs.Target}
 
 -- one is stored
 pub stores_one : (remarks : List ℕ) (old between new : History) (t : Target) (ts : List Target) (what : Stored)

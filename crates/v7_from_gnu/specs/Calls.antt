@@ -2,18 +2,15 @@
 --
 -- The first argument may ask for help or the version. Else arguments that begin with a hyphen have letters of options, up to the first
 -- path; the argument after the letter `o` is a folder. Without a folder there are two paths.
-use Rattle.std.specs.Prelude.{ℕ, ◌==◌, ◌&&◌, true, false, not, nat_eq, nat_lt, if◌then◌else◌, List, []}
-use Rattle.std.specs.Prelude.{◌∷◌, ◌++◌, map, drop, length, Option, Some, None, option_map, codes}
+use Rattle.std.specs.Prelude.{ℕ, ◌==◌, ◌&&◌, true, false, not, nat_eq, nat_lt, if◌then◌else◌, List, [], ◌∷◌, ◌++◌, map, drop, length}
+use Rattle.std.specs.Prelude.{Option, Some, None, option_map, codes}
 use Rattle.std.specs.List.{starts_with}
 use Rattle.aout_core.specs.Words.{letter_of}
-use Rattle.surroundings.specs.declared.shown.Shown.{Shown}
+use Rattle.surroundings.specs.{declared.shown.Shown.Shown, Answers.shown_in}
 use Rattle.gnu_objects.specs.declared.options.Locals.{Locals}
 use Rattle.gnu_objects.specs.declared.options.Locals.TheVariants.{KeepAll, KeepNeeded, KeepNone}
-use Rattle.surroundings.specs.Answers.{shown_in}
-use Rattle.v7_from_gnu.specs.Jobs.{Job}
-use Rattle.v7_from_gnu.specs.declared.arguments.Call.{Call}
-use Rattle.v7_from_gnu.specs.declared.arguments.Call.TheVariants.{Show, Convert}
-use Rattle.v7_from_gnu.specs.declared.arguments.Letters.{Letters}
+use Rattle.v7_from_gnu.specs.{Jobs.Job, declared.arguments.Call.Call, declared.arguments.Call.TheVariants.Show}
+use Rattle.v7_from_gnu.specs.{declared.arguments.Call.TheVariants.Convert, declared.arguments.Letters.Letters}
 
 -- ---- letters
 

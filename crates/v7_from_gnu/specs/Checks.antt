@@ -1,13 +1,9 @@
 -- What is checked before a file is opened, and before one is written: paths, and names of several files. (own choice)
 use Rattle.std.specs.Prelude.{ℕ, Bool, if◌then◌else◌, List, [], ◌∷◌, ◌++◌, map, slice_get, Option, Some, None, bytes_eq, codes}
 use Rattle.std.specs.List.{list_any}
-use Rattle.gnu_objects.specs.Clashes.{clash_among}
-use Rattle.gnu_objects.specs.declared.clash.Clash.{Clash}
-use Rattle.surroundings.specs.Answer.{Answer}
-use Rattle.surroundings.specs.Answers.{failed_at, only_errors}
-use Rattle.surroundings.specs.Paths.{is_among, plain}
-use Rattle.v7_from_gnu.specs.Jobs.{Job, Target}
-use Rattle.v7_from_gnu.specs.Lines.{clash_line, program}
+use Rattle.gnu_objects.specs.{Clashes.clash_among, declared.clash.Clash.Clash}
+use Rattle.surroundings.specs.{Answer.Answer, Answers.failed_at, Answers.only_errors, Paths.is_among, Paths.plain}
+use Rattle.v7_from_gnu.specs.{Jobs.Job, Jobs.Target, Lines.clash_line, Lines.program}
 
 -- the first of two answers, if there is one
 abbrev pub first_of : Option Answer → Option Answer → Option Answer

@@ -2,17 +2,10 @@
 use Rattle.std.specs.Prelude.{ℕ, Bool, if◌then◌else◌, List, [], ◌∷◌, ◌++◌, Option, Some, None, Result, Ok, Err}
 use Rattle.std.specs.List.{flat_map}
 use Rattle.aout_core.specs.Contents.{Contents}
-use Rattle.gnu_objects.specs.Converted.{converted}
-use Rattle.gnu_objects.specs.Remarks.{remarks}
-use Rattle.gnu_objects.specs.declared.options.Locals.{Locals}
-use Rattle.gnu_objects.specs.declared.options.Options.{Options}
-use Rattle.gnu_objects.specs.declared.refusal.Refusal.{Refusal}
-use Rattle.surroundings.specs.Answer.{Answer}
-use Rattle.surroundings.specs.Answers.{only_errors}
-use Rattle.v7_from_gnu.specs.Checks.{clash_from}
-use Rattle.v7_from_gnu.specs.Jobs.{Source, Target}
-use Rattle.v7_from_gnu.specs.Lines.{refusal_line, remark_line}
-use Rattle.v7_from_gnu.specs.Plans.{Plan}
+use Rattle.gnu_objects.specs.{Converted.converted, Remarks.remarks, declared.options.Locals.Locals, declared.options.Options.Options}
+use Rattle.gnu_objects.specs.{declared.refusal.Refusal.Refusal}
+use Rattle.surroundings.specs.{Answer.Answer, Answers.only_errors}
+use Rattle.v7_from_gnu.specs.{Checks.clash_from, Jobs.Source, Jobs.Target, Lines.refusal_line, Lines.remark_line, Plans.Plan}
 
 abbrev pub and_then : {A B : Type 0} → Result A Answer → (A → Result B Answer) → Result B Answer
 and_then (Err answer) next = Err answer

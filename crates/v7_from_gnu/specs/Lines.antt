@@ -4,20 +4,15 @@
 -- backslash are a backslash and three octal digits.
 use Rattle.std.specs.Prelude.{ℕ, List, [], ◌++◌, take, codes, decimal}
 use Rattle.aout_core.specs.FaultTexts.{object_text}
-use Rattle.gnu_objects.specs.Places.{name_there, place_of}
-use Rattle.gnu_objects.specs.declared.clash.Clash.{Clash}
-use Rattle.gnu_objects.specs.declared.refusal.Refusal.{Refusal}
-use Rattle.gnu_objects.specs.declared.refusal.Refusal.TheVariants.{ShortHeader, BadMagic, OddSize, Truncated}
-use Rattle.gnu_objects.specs.declared.refusal.Refusal.TheVariants.{BadStrings, Overlay, BadPlace, Stab, Description}
-use Rattle.gnu_objects.specs.declared.refusal.Refusal.TheVariants.{Linked, TooManySymbols, AlikeNames, StabWord}
+use Rattle.gnu_objects.specs.declared.refusal.Refusal.TheVariants.{ShortHeader, BadMagic, OddSize, Truncated, BadStrings, Overlay, BadPlace}
+use Rattle.gnu_objects.specs.declared.refusal.Refusal.TheVariants.{Stab, Description, Linked, TooManySymbols, AlikeNames, StabWord}
 use Rattle.gnu_objects.specs.declared.refusal.Refusal.TheVariants.{LocalWord, BadWord, Memory}
-use Rattle.gnu_objects.specs.declared.refusal.Size.{Size}
 use Rattle.gnu_objects.specs.declared.refusal.Size.TheVariants.{TextSize, DataSize, BssSize, SymbolSize}
-use Rattle.gnu_objects.specs.declared.remark.Remark.{Remark}
-use Rattle.gnu_objects.specs.declared.remark.Remark.TheVariants.{Cut, Dropped}
-use Rattle.texts.specs.Names.{printable_bytes}
+use Rattle.gnu_objects.specs.{Places.name_there, Places.place_of, declared.clash.Clash.Clash, declared.refusal.Refusal.Refusal}
+use Rattle.gnu_objects.specs.{declared.refusal.Size.Size, declared.remark.Remark.Remark, declared.remark.Remark.TheVariants.Cut}
+use Rattle.gnu_objects.specs.{declared.remark.Remark.TheVariants.Dropped}
+use Rattle.texts.specs.{Names.printable_bytes, Numbers.octal_and_decimal, Numbers.six_digits}
 use Rattle.surroundings.specs.Answers.{line_front}
-use Rattle.texts.specs.Numbers.{octal_and_decimal, six_digits}
 use Rattle.v7_from_gnu.specs.Jobs.{Source}
 
 abbrev pub program : List ℕ

@@ -4,22 +4,13 @@
 -- nothing is stored if one is refused. If memory runs out, that is the answer; it does so after a file was stored only if one was not.
 use Rattle.std.specs.Prelude.{◌≡◌, ◌⊎◌, ℕ, List, [], ◌∷◌, ◌++◌, Option, Some, None, Result, Ok, Err}
 use Rattle.aout_core.specs.Refusals.{refused}
-use Rattle.surroundings.specs.Answer.{Answer}
 use Rattle.surroundings.specs.Answers.{AnswersOr, Checks, Faults, IsPerformed, fault_line, only_errors, says_usage, shows}
 use Rattle.surroundings.specs.Events.{History, Extends, Surroundings, stored}
-use Rattle.surroundings.specs.Sources.{stored_text}
-use Rattle.surroundings.specs.declared.answer.Fault.{Fault}
+use Rattle.surroundings.specs.{Answer.Answer, Sources.stored_text, declared.answer.Fault.Fault, declared.office.Stored.Stored}
+use Rattle.v7_from_gnu.specs.{Calls.call_of, Checks.path_answer, Converting.outcome, Jobs.Conversion, Jobs.Source, Jobs.Target}
+use Rattle.v7_from_gnu.specs.{Lines.program, Lines.usage, Plans.Plan, Readings.IsReading, declared.arguments.Call.Call}
+use Rattle.v7_from_gnu.specs.{declared.arguments.Call.TheVariants.Show, declared.arguments.Call.TheVariants.Convert}
 use Rattle.surroundings.specs.declared.answer.Fault.TheVariants as faults
-use Rattle.surroundings.specs.declared.office.Stored.{Stored}
-use Rattle.v7_from_gnu.specs.Calls.{call_of}
-use Rattle.v7_from_gnu.specs.Checks.{path_answer}
-use Rattle.v7_from_gnu.specs.Converting.{outcome}
-use Rattle.v7_from_gnu.specs.Jobs.{Conversion, Source, Target}
-use Rattle.v7_from_gnu.specs.Lines.{program, usage}
-use Rattle.v7_from_gnu.specs.Plans.{Plan}
-use Rattle.v7_from_gnu.specs.Readings.{IsReading}
-use Rattle.v7_from_gnu.specs.declared.arguments.Call.{Call}
-use Rattle.v7_from_gnu.specs.declared.arguments.Call.TheVariants.{Show, Convert}
 
 -- ---- storing
 

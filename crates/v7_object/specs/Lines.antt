@@ -1,7 +1,6 @@
 -- The lines of v7-object. (own choice)
 use Rattle.std.specs.Prelude.{ℕ, List, ◌++◌, codes, decimal}
-use Rattle.listings.specs.declared.fault.Fault.{Fault}
-use Rattle.listings.specs.ReasonTexts.{reason_text}
+use Rattle.listings.specs.{declared.fault.Fault.Fault, ReasonTexts.reason_text}
 use Rattle.surroundings.specs.Answers.{line_front}
 
 abbrev pub program : List ℕ

@@ -4,20 +4,14 @@
 -- the answer; it does so after a file was to be stored only if it was not stored.
 use Rattle.std.specs.Prelude.{◌≡◌, ◌⊎◌, ℕ, nat_eq, if◌then◌else◌, List, [], ◌∷◌, Option, Some, None, Result, Ok, Err, codes}
 use Rattle.std.specs.List.{starts_with}
-use Rattle.aout_core.specs.Contents.{Contents}
-use Rattle.aout_core.specs.Refusals.{refused}
-use Rattle.listings.specs.Reading.{read}
-use Rattle.listings.specs.declared.fault.Fault.{Fault as Mistake}
-use Rattle.surroundings.specs.Answer.{Answer}
-use Rattle.surroundings.specs.Answers.{AnswersOr, AnswersStored, Checks, Faults, IsPerformed, IsShownOr}
-use Rattle.surroundings.specs.Answers.{only_errors, says_usage, shown_in}
+use Rattle.aout_core.specs.{Contents.Contents, Refusals.refused}
+use Rattle.listings.specs.{Reading.read, declared.fault.Fault.Fault as Mistake}
+use Rattle.surroundings.specs.Answers.{AnswersOr, AnswersStored, Checks, Faults, IsPerformed, IsShownOr, only_errors, says_usage, shown_in}
 use Rattle.surroundings.specs.Events.{History, Extends, Surroundings, stored}
-use Rattle.surroundings.specs.Paths.{path_answer}
 use Rattle.surroundings.specs.Sources.{EndsReading, ReadsAt, stored_text}
-use Rattle.surroundings.specs.declared.answer.Fault.{Fault}
-use Rattle.surroundings.specs.declared.answer.Fault.TheVariants as faults
-use Rattle.surroundings.specs.declared.office.Stored.{Stored}
+use Rattle.surroundings.specs.{Answer.Answer, Paths.path_answer, declared.answer.Fault.Fault, declared.office.Stored.Stored}
 use Rattle.v7_object.specs.Lines.{mistake_line, program, usage}
+use Rattle.surroundings.specs.declared.answer.Fault.TheVariants as faults
 
 -- ---- arguments
 

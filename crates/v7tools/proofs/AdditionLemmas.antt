@@ -1,30 +1,18 @@
 -- What came of adding the file at a path.
-use Rattle.aout_core.specs.Refusals.{refused}
-use Rattle.std.specs.declared.alloc.Global.{Global}
+use Rattle.aout_core.specs.{Refusals.refused, declared.file.ReadFault.ReadFault, declared.object.ObjectFault.ObjectFault, Contents.Contents}
+use Rattle.aout_core.specs.{Decoding.decode, Reading.IsReadOf, Reading.LeavesAfter}
+use Rattle.std.specs.{declared.alloc.Global.Global, Prelude.String, Prelude.string_bytes, Prelude.IfSome, Prelude.IsErrAnd, Prelude.IsOk}
 use Rattle.std.proofs.Common.{◌≡◌, ℕ, List, [], ◌∷◌, ◌++◌, Option, Some, None, Result, Ok, Err, refl, sym, ap, ◌∙◌, subst, inl, inr}
-use Rattle.std.specs.Prelude.{String, string_bytes, IfSome, IsErrAnd, IsOk}
-use Rattle.aout_core.specs.declared.file.ReadFault.{ReadFault}
-use Rattle.aout_core.specs.declared.file.ReadFault.TheVariants as reads
-use Rattle.aout_core.specs.declared.object.ObjectFault.{ObjectFault}
-use Rattle.aout_core.specs.Contents.{Contents}
-use Rattle.aout_core.specs.Decoding.{decode}
-use Rattle.aout_core.specs.Reading.{IsReadOf, LeavesAfter}
-use Rattle.link_session.specs.declared.entry.AddFault.{AddFault}
-use Rattle.link_session.specs.declared.entry.AddFault.TheVariants as adds
-use Rattle.link_session.specs.Limits.{refusal}
-use Rattle.link_session.specs.Labelled.{Labelled, objects}
 use Rattle.link_session.specs.Sessions.{Adds, IsCause, labelled}
-use Rattle.link_session.specs.Undo.{Kept}
+use Rattle.link_session.specs.{declared.entry.AddFault.AddFault, Limits.refusal, Labelled.Labelled, Labelled.objects, Undo.Kept}
 use Rattle.link_session.proofs.EditLemmas.{limit_is, within_limits}
-use Rattle.v7tools.specs.declared.fault.CliFault.{CliFault}
-use Rattle.v7tools.specs.declared.fault.CliFault.TheVariants as faults
+use Rattle.v7tools.specs.{declared.fault.CliFault.CliFault, FaultTexts.fault_of_addition, Loads.read_of, Loads.IsAtPath}
+use Rattle.v7tools.specs.{LinkAnswers.WantsMemory, internal.InputParts.IsCheckOf, internal.StepParts.IsFound, internal.StepParts.IsAddition}
 use Rattle.link_out.specs.Steps.{unless}
 use Rattle.link_out.specs.Inputs.{Cause, bad_file, bad_object, not_added, object_in, kept_with, with_input}
-use Rattle.v7tools.specs.FaultTexts.{fault_of_addition}
-use Rattle.v7tools.specs.Loads.{read_of, IsAtPath}
-use Rattle.v7tools.specs.LinkAnswers.{WantsMemory}
-use Rattle.v7tools.specs.internal.InputParts.{IsCheckOf}
-use Rattle.v7tools.specs.internal.StepParts.{IsFound, IsAddition}
+use Rattle.aout_core.specs.declared.file.ReadFault.TheVariants as reads
+use Rattle.link_session.specs.declared.entry.AddFault.TheVariants as adds
+use Rattle.v7tools.specs.declared.fault.CliFault.TheVariants as faults
 
 -- ---- what was read
 

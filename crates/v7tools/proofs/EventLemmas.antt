@@ -1,17 +1,12 @@
 -- Histories that grow.
-use Rattle.std.specs.declared.alloc.Global.{Global}
+use Rattle.std.specs.{declared.alloc.Global.Global, Prelude.IsErrAnd, Prelude.String, Prelude.string_bytes, List.AllByRecursion}
 use Rattle.std.proofs.Common.{◌≡◌, ℕ, List, [], ◌∷◌, ◌++◌, map, Option, Some, None, Result, Ok, Err, refl, sym, ap, ◌∙◌, subst}
 use Rattle.std.proofs.lemmas.List.{append_assoc, append-nil}
-use Rattle.std.specs.Prelude.{IsErrAnd, String, string_bytes}
-use Rattle.v7tools.specs.declared.fault.CliFault.{CliFault}
-use Rattle.std.specs.List.{AllByRecursion}
-use Rattle.aout_core.specs.Wires.{Latched}
-use Rattle.aout_core.specs.Contents.{Contents}
+use Rattle.v7tools.specs.{declared.fault.CliFault.CliFault, internal.Openings.sources, LinkRuns.StopsAt}
+use Rattle.aout_core.specs.{Wires.Latched, Contents.Contents}
 use Rattle.surroundings.proofs.EventLemmas.{asked_after}
 use Rattle.surroundings.specs.Events.{History, Extends, opened, opens, paths_of, stored}
 use Rattle.surroundings.specs.declared.office.Stored.{Stored}
-use Rattle.v7tools.specs.internal.Openings.{sources}
-use Rattle.v7tools.specs.LinkRuns.{StopsAt}
 
 pub map-append : {A B : Type 0} (f : A → B) (xs ys : List A) → map f (xs ++ ys) ≡ map f xs ++ map f ys
 map-append f [] ys = refl

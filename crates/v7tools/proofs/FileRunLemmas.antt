@@ -1,15 +1,12 @@
 -- Files that are read and stored one after another, and lists of them, from their parts.
-use Rattle.std.specs.declared.alloc.Global.{Global}
+use Rattle.std.specs.{declared.alloc.Global.Global, Prelude.String, Prelude.string_bytes, Prelude.IfSome}
 use Rattle.std.proofs.Common.{◌≡◌, ℕ, List, [], ◌∷◌, ◌++◌, map, Option, Some, Ok, Err, refl, sym, ap, ◌∙◌, subst, inr}
-use Rattle.std.specs.Prelude.{String, string_bytes, IfSome}
-use Rattle.aout_core.specs.Contents.{Contents}
-use Rattle.aout_core.specs.Decoding.{decode}
-use Rattle.aout_core.specs.Strip.{stripped}
+use Rattle.aout_core.specs.{Contents.Contents, Decoding.decode, Strip.stripped}
 use Rattle.surroundings.specs.Events.{Event, History, Extends, Opened, opened, stored}
-use Rattle.v7tools.specs.FileRuns.{AreRead, IsStored, IsLoadAt, IsStripping, Loaded, Reads, ReadsNotAll, strips}
-use Rattle.v7tools.specs.declared.fault.CliFault.{CliFault}
 use Rattle.surroundings.specs.declared.office.Stored.{Stored}
 use Rattle.surroundings.specs.declared.office.Stored.TheVariants.{Kept, NotCreated, Failed}
+use Rattle.v7tools.specs.FileRuns.{AreRead, IsStored, IsLoadAt, IsStripping, Loaded, Reads, ReadsNotAll, strips}
+use Rattle.v7tools.specs.declared.fault.CliFault.{CliFault}
 use Rattle.surroundings.proofs.EventLemmas.{asked_after}
 use Rattle.v7tools.proofs.EventLemmas.{map-append, one_more}
 

@@ -1,21 +1,16 @@
 -- A link over an office, from its parts.
-use Rattle.std.specs.declared.alloc.Global.{Global}
+use Rattle.std.specs.{declared.alloc.Global.Global, Prelude.String, Prelude.string_bytes, List.AllByRecursion}
 use Rattle.std.proofs.Common.{◌≡◌, ℕ, List, [], ◌∷◌, map, Option, Result, Ok, Err, refl, sym, ap, ◌∙◌, subst, inl, inr}
-use Rattle.std.specs.Prelude.{String, string_bytes}
-use Rattle.std.specs.List.{AllByRecursion}
 use Rattle.aout_core.specs.Wires.{Latched}
-use Rattle.link_out.specs.declared.linked.Linked.{Linked}
+use Rattle.link_out.specs.{declared.linked.Linked.Linked, Outcomes.report_names}
 use Rattle.tool_options.specs.Choices.{Choices}
-use Rattle.link_out.specs.Outcomes.{report_names}
-use Rattle.surroundings.specs.Events.{History, Extends, stored}
-use Rattle.v7tools.specs.LinkAnswers.{Input, inputs_of, IsLinkOf}
+use Rattle.surroundings.specs.{Events.History, Events.Extends, Events.stored, declared.office.Stored.Stored}
 use Rattle.v7tools.specs.internal.Openings.{sources, IsOpening, IsWorking, OpensAll}
 use Rattle.v7tools.specs.LinkRuns.{inputs_opened, IsLinkOfFiles, IsLinkRun, ReportsIf}
-use Rattle.v7tools.specs.declared.fault.CliFault.{CliFault}
-use Rattle.v7tools.specs.declared.fault.CliFault.TheVariants as faults
-use Rattle.surroundings.specs.declared.office.Stored.{Stored}
+use Rattle.v7tools.specs.{LinkAnswers.Input, LinkAnswers.inputs_of, LinkAnswers.IsLinkOf, declared.fault.CliFault.CliFault}
 use Rattle.surroundings.proofs.EventLemmas.{asked_after}
 use Rattle.v7tools.proofs.EventLemmas.{paths_opened}
+use Rattle.v7tools.specs.declared.fault.CliFault.TheVariants as faults
 
 module _ {R : Type 0} (remaining : R → Option (List ℕ)) where
   -- the inputs are the files that were opened

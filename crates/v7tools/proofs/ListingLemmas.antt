@@ -1,24 +1,16 @@
 -- Lists that go out entry by entry, and the lines of undefined names.
-use Rattle.std.proofs.Common.{◌≡◌, ℕ, ◌+◌, ◌≤◌, Bool, true, false, cond, List, [], ◌∷◌, ◌++◌, length, take}
-use Rattle.std.proofs.Common.{slice_index_or, Option, Some, refl, sym, ◌∙◌, ap, subst, append-nil}
-use Rattle.std.specs.Prelude.{slice_get, filter}
-use Rattle.std.specs.List.{flat_map}
-use Rattle.std.specs.Io.KnownBytes.{Appends}
-use Rattle.std.proofs.KnownBytes.{Appends-trans}
-use Rattle.std.proofs.lemmas.Grind.{flat_map-append}
-use Rattle.std.proofs.lemmas.List.{take_more, take_all}
+use Rattle.std.proofs.Common.{◌≡◌, ℕ, ◌+◌, ◌≤◌, Bool, true, false, cond, List, [], ◌∷◌, ◌++◌, length, take, slice_index_or, Option, Some}
+use Rattle.std.proofs.Common.{refl, sym, ◌∙◌, ap, subst, append-nil}
 use Rattle.std.proofs.lemmas.Option.{slice_get_within, get_or_from_slice_get}
+use Rattle.std.proofs.{KnownBytes.Appends-trans, lemmas.Grind.flat_map-append, lemmas.List.take_more, lemmas.List.take_all}
+use Rattle.std.specs.{Prelude.slice_get, Prelude.filter, List.flat_map, Io.KnownBytes.Appends}
 use Rattle.aout_core.specs.Wires.{AppendsPrefix}
 use Rattle.aout_core.proofs.PutsLemmas.{front_of_row}
-use Rattle.link_session.specs.Image.{named_states}
-use Rattle.link_session.specs.Labelled.{Labelled, objects}
 use Rattle.link_session.specs.Mentions.{Mention, mentions, names_by_first_mention}
-use Rattle.link_session.specs.States.{state}
-use Rattle.link_out.specs.function.Reports.{is_missing}
-use Rattle.link_out.specs.function.Reports.{line}
+use Rattle.link_session.specs.{Image.named_states, Labelled.Labelled, Labelled.objects, States.state}
+use Rattle.link_out.specs.function.Reports.{is_missing, line}
 use Rattle.link_out.proofs.InOrderLemmas.{named_by}
-use Rattle.v7tools.specs.Answers.{undefined_text}
-use Rattle.v7tools.specs.internal.StepParts.{missing_line}
+use Rattle.v7tools.specs.{Answers.undefined_text, internal.StepParts.missing_line}
 
 is_at : {A : Type 0} (items : List A) (i : ℕ) (item : A) → slice_get items i ≡ Some item → item ≡ slice_index_or items i item
 is_at items i item at = sym (get_or_from_slice_get items i item item at)

@@ -1,33 +1,26 @@
 -- The lines of a script, run one after another on a session.
-use Rattle.aout_core.specs.Refusals.{refused}
-use Rattle.std.proofs.Common.{◌≡◌, ℕ, ◌+◌, max, List, [], ◌∷◌, ◌++◌, Option, Some, None, Result, Ok, Err, refl}
-use Rattle.std.proofs.Common.{sym, ap, ◌∙◌, subst, inl, inr, append_assoc, append-nil, arith}
-use Rattle.std.specs.Prelude.{IfSome, IsSome, IsTrue, ◌⊎◌}
-use Rattle.std.specs.List.{flat_map}
-use Rattle.std.specs.Io.KnownBytes.{Appends, prepend_known}
-use Rattle.std.proofs.KnownBytes.{Appends-nil, Appends-trans}
-use Rattle.std.proofs.lemmas.Grind.{flat_map-append}
-use Rattle.aout_core.specs.Wires.{Latched}
-use Rattle.link_session.specs.Sessions.{nothing_kept}
-use Rattle.link_session.specs.Undo.{Kept}
+use Rattle.aout_core.specs.{Refusals.refused, Wires.Latched}
+use Rattle.std.proofs.Common.{◌≡◌, ℕ, ◌+◌, max, List, [], ◌∷◌, ◌++◌, Option, Some, None, Result, Ok, Err, refl, sym, ap, ◌∙◌, subst, inl}
+use Rattle.std.proofs.Common.{inr, append_assoc, append-nil, arith}
+use Rattle.std.proofs.{KnownBytes.Appends-nil, KnownBytes.Appends-trans, lemmas.Grind.flat_map-append}
+use Rattle.std.specs.{Prelude.IfSome, Prelude.IsSome, Prelude.IsTrue, Prelude.◌⊎◌, List.flat_map, Io.KnownBytes.Appends}
+use Rattle.std.specs.{Io.KnownBytes.prepend_known}
+use Rattle.link_session.specs.{Sessions.nothing_kept, Undo.Kept}
 use Rattle.tool_options.specs.Choices.{Choices}
 use Rattle.surroundings.specs.Events.{History, Extends}
 use Rattle.command_words.specs.Scripts.{Asked, Given, ScriptFault, long_line, many_lines, and_given, given_after}
-use Rattle.texts.specs.Lines.{lines_in}
 use Rattle.command_words.specs.ScriptAnswers.{Answer, WhereKnown, IsNextOf, NamesPath, Progress, Settles, asked_by, lines_of}
-use Rattle.v7tools.specs.SessionRuns.{AreFirst, AreLines, Chains, EndsAfter, IsSessionRun, Ran, StopsAfter}
-use Rattle.v7tools.specs.SessionRuns.{answers_of, events_of, given, lines_asked, worst}
-use Rattle.v7tools.specs.LineRuns.{IsLineOf, LineRun}
-use Rattle.v7tools.specs.internal.SessionParts.{AnswersLine}
-use Rattle.v7tools.specs.ScriptCalls.{returned}
-use Rattle.v7tools.specs.declared.fault.CliFault.{CliFault}
-use Rattle.v7tools.specs.declared.fault.CliFault.TheVariants as faults
-use Rattle.command_words.specs.declared.line_reader.Stop.{Stop}
-use Rattle.command_words.specs.declared.line_reader.Stop.TheVariants as stops
-use Rattle.command_words.specs.declared.lines.Line.{Line}
+use Rattle.command_words.specs.{declared.line_reader.Stop.Stop, declared.lines.Line.Line}
+use Rattle.texts.specs.Lines.{lines_in}
+use Rattle.v7tools.specs.SessionRuns.{AreFirst, AreLines, Chains, EndsAfter, IsSessionRun, Ran, StopsAfter, answers_of, events_of, given}
+use Rattle.v7tools.specs.SessionRuns.{lines_asked, worst}
+use Rattle.v7tools.specs.{LineRuns.IsLineOf, LineRuns.LineRun, internal.SessionParts.AnswersLine, ScriptCalls.returned}
+use Rattle.v7tools.specs.{declared.fault.CliFault.CliFault}
 use Rattle.surroundings.proofs.EventLemmas.{asked_after, nothing_asked}
 use Rattle.v7tools.proofs.EventLemmas.{map-append}
 use Rattle.command_words.proofs.ScriptLemmas.{after_last_line}
+use Rattle.v7tools.specs.declared.fault.CliFault.TheVariants as faults
+use Rattle.command_words.specs.declared.line_reader.Stop.TheVariants as stops
 
 -- ---- one more line
 

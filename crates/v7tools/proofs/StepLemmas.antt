@@ -1,38 +1,27 @@
 -- What the parts of a step say of the whole.
-use Rattle.aout_core.specs.Refusals.{refused as refused_request}
+use Rattle.aout_core.specs.{Refusals.refused as refused_request, Contents.Contents, Decoding.decode, Wires.Latched, Wires.Writes}
 use Rattle.std.specs.declared.alloc.Global.{Global}
-use Rattle.std.proofs.Common.{◌≡◌, ◌↔◌, ℕ, suc, ◌-◌, length, arith, Bool, true, false, List, [], ◌∷◌, ◌++◌, Option}
-use Rattle.std.proofs.Common.{Some, None, Result, Ok, Err, refl, sym, ap, ◌∙◌, subst, ◌⊎◌, inl, inr}
 use Rattle.std.specs.Prelude.{String, string_bytes, codes, slice_get, IfErr, IfOk, IfSome, IsErr, IsTrue}
+use Rattle.std.proofs.Common.{◌≡◌, ◌↔◌, ℕ, suc, ◌-◌, length, arith, Bool, true, false, List, [], ◌∷◌, ◌++◌, Option, Some, None, Result, Ok}
+use Rattle.std.proofs.Common.{Err, refl, sym, ap, ◌∙◌, subst, ◌⊎◌, inl, inr}
 use Rattle.std.proofs.lemmas.Bool.{false_from_ne_true}
-use Rattle.aout_core.specs.declared.file.ReadFault.TheVariants as reads
-use Rattle.aout_core.specs.Contents.{Contents}
-use Rattle.aout_core.specs.Decoding.{decode}
-use Rattle.aout_core.specs.Wires.{Latched, Writes}
 use Rattle.aout_core.proofs.PutsLemmas.{writes_broke_off}
-use Rattle.link_session.specs.Edits.{last_of, without_last}
-use Rattle.link_session.specs.Labelled.{Labelled}
-use Rattle.link_session.specs.Sessions.{Adds, Withdraws}
-use Rattle.link_session.specs.Undo.{Kept}
-use Rattle.link_out.specs.declared.linked.LinkFault.{LinkFault}
-use Rattle.link_out.specs.declared.linked.LinkFault.TheVariants as links
-use Rattle.link_out.specs.function.Link.{Outcome}
+use Rattle.link_session.specs.{Edits.last_of, Edits.without_last, Labelled.Labelled, Sessions.Adds, Sessions.Withdraws, Undo.Kept}
 use Rattle.link_out.specs.Outcomes.{IsLinkOf, outcome_of}
-use Rattle.link_out.specs.declared.linked.Linked.{Linked}
-use Rattle.link_out.specs.function.Reports.{line}
-use Rattle.link_session.proofs.EditLemmas.{last_of-put_last, without_last-put_last}
-use Rattle.v7tools.specs.declared.fault.CliFault.{CliFault}
-use Rattle.v7tools.specs.declared.fault.CliFault.TheVariants as faults
-use Rattle.v7tools.specs.declared.session.commands.Step.{Step}
-use Rattle.v7tools.specs.declared.session.commands.Step.TheVariants.{Refused, ToStore}
 use Rattle.link_out.specs.Inputs.{Cause, cannot_open, bad_file, bad_object, not_added, object_in, kept_with}
+use Rattle.link_out.specs.{declared.linked.LinkFault.LinkFault, function.Link.Outcome, declared.linked.Linked.Linked, function.Reports.line}
+use Rattle.link_session.proofs.EditLemmas.{last_of-put_last, without_last-put_last}
 use Rattle.v7tools.specs.FaultTexts.{cause_text, cli_text, fault_at, fault_of_link}
 use Rattle.v7tools.specs.Answers.{done, refused, Stepped, add_step, withdraw_step, link_step}
-use Rattle.v7tools.specs.LinkAnswers.{WantsMemory}
-use Rattle.v7tools.specs.internal.InputParts.{IsDeviceFault}
-use Rattle.v7tools.specs.internal.StepParts.{IsRefusal, IsAccepted, IsAddition, IsAddOver, IsAddWorking, MakesLink}
-use Rattle.v7tools.specs.internal.StepParts.{RefusesLink, TakesWithdrawal, label_of}
+use Rattle.v7tools.specs.internal.StepParts.{IsRefusal, IsAccepted, IsAddition, IsAddOver, IsAddWorking, MakesLink, RefusesLink}
+use Rattle.v7tools.specs.internal.StepParts.{TakesWithdrawal, label_of}
 use Rattle.v7tools.specs.SessionSteps.{Does, IsAddOn, IsAddBy, IsLinkBy, WithdrawsIf, verdict_of}
+use Rattle.v7tools.specs.{declared.fault.CliFault.CliFault, declared.session.commands.Step.Step}
+use Rattle.v7tools.specs.{declared.session.commands.Step.TheVariants.Refused, declared.session.commands.Step.TheVariants.ToStore}
+use Rattle.v7tools.specs.{LinkAnswers.WantsMemory, internal.InputParts.IsDeviceFault}
+use Rattle.aout_core.specs.declared.file.ReadFault.TheVariants as reads
+use Rattle.link_out.specs.declared.linked.LinkFault.TheVariants as links
+use Rattle.v7tools.specs.declared.fault.CliFault.TheVariants as faults
 
 -- ---- the last object
 

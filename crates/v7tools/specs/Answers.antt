@@ -4,22 +4,15 @@
 -- the fault. A link is answered once it is known what became of its file.
 use Rattle.std.specs.Prelude.{ℕ, ◌+◌, List, [], ◌++◌, Option, Some, None, Result, Ok, Err, codes, decimal}
 use Rattle.std.specs.List.{flat_map}
-use Rattle.aout_core.specs.declared.symbol.Symbol.{Symbol}
-use Rattle.aout_core.specs.declared.file.ReadFault.TheVariants.{Device}
-use Rattle.link_session.specs.declared.state.State.{State}
-use Rattle.link_session.specs.declared.state.State.TheVariants.{Defined, Wanted}
-use Rattle.link_session.specs.Labelled.{Labelled, objects}
-use Rattle.link_session.specs.Mentions.{mentions}
-use Rattle.aout_core.specs.WellFormed.{segment_number}
-use Rattle.link_session.specs.Image.{image}
+use Rattle.aout_core.specs.{declared.symbol.Symbol.Symbol, declared.file.ReadFault.TheVariants.Device, WellFormed.segment_number}
 use Rattle.link_session.specs.Edits.{without_last, last_of}
-use Rattle.link_out.specs.FaultTexts.{link_text}
-use Rattle.link_out.specs.declared.linked.LinkFault.{LinkFault}
-use Rattle.tool_options.specs.Choices.{Choices}
+use Rattle.link_session.specs.{declared.state.State.State, declared.state.State.TheVariants.Defined}
+use Rattle.link_session.specs.{declared.state.State.TheVariants.Wanted, Labelled.Labelled, Labelled.objects, Mentions.mentions, Image.image}
 use Rattle.link_out.specs.function.Reports.{ReportNames, line, report_text, status_of, undefined_names}
-use Rattle.link_out.specs.function.Link.{Outcome, link}
-use Rattle.symtools.specs.SymbolLines.{symbol_line}
 use Rattle.link_out.specs.Inputs.{Cause, cannot_open, bad_file, with_input}
+use Rattle.link_out.specs.{FaultTexts.link_text, declared.linked.LinkFault.LinkFault, function.Link.Outcome, function.Link.link}
+use Rattle.tool_options.specs.Choices.{Choices}
+use Rattle.symtools.specs.SymbolLines.{symbol_line}
 use Rattle.v7tools.specs.FaultTexts.{cause_text, at_file}
 use Rattle.surroundings.specs.declared.office.Stored.{Stored}
 use Rattle.surroundings.specs.declared.office.Stored.TheVariants.{Kept, NotCreated, Failed}

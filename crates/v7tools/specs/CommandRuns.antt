@@ -4,19 +4,14 @@
 -- the status is that of the call, and standard error is left alone. With one it is 2, and the line of the fault goes there.
 use Rattle.std.specs.Prelude.{◌≡◌, ◌⊎◌, ℕ, List, [], map, Option, Result, Ok, Err, string_bytes}
 use Rattle.aout_core.specs.Wires.{Latched}
-use Rattle.symtools.specs.NmLists.{nm_text}
-use Rattle.symtools.specs.SizeLines.{size_text}
+use Rattle.symtools.specs.{NmLists.nm_text, SizeLines.size_text}
 use Rattle.command_words.specs.Calls.{IsAsked, IsWhole, dashes_in, files_of}
 use Rattle.command_words.specs.declared.words.Call.{Call}
 use Rattle.command_words.specs.declared.words.Call.TheVariants.{Ld, Nm, Size, Strip, Session}
-use Rattle.v7tools.specs.Calls.{IsOfWords}
-use Rattle.surroundings.specs.Events.{History, Extends, Surroundings}
-use Rattle.surroundings.specs.Emits.{PutsUnless}
-use Rattle.v7tools.specs.FaultTexts.{fault_line}
 use Rattle.v7tools.specs.FileRuns.{IsListRun, IsStripRun, OnlyWriteFailed, OrMemory}
-use Rattle.v7tools.specs.LinkRuns.{IsLinkRun, Refuses}
-use Rattle.v7tools.specs.SessionRuns.{IsSessionRun}
-use Rattle.v7tools.specs.declared.fault.CliFault.{CliFault}
+use Rattle.v7tools.specs.{Calls.IsOfWords, FaultTexts.fault_line, LinkRuns.IsLinkRun, LinkRuns.Refuses, SessionRuns.IsSessionRun}
+use Rattle.v7tools.specs.{declared.fault.CliFault.CliFault}
+use Rattle.surroundings.specs.{Events.History, Events.Extends, Events.Surroundings, Emits.PutsUnless}
 
 -- a call was run, with a script of these bytes, if they are known
 abbrev pub IsCallRun : {W : Type 0} → (W → Option (List ℕ)) → Option (List ℕ) → Call → History → History →

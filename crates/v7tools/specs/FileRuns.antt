@@ -2,25 +2,19 @@
 --
 -- Each file is opened and read before the next one is opened, and nothing is written or stored before all are read, so that one bad
 -- file leaves all as it was (own choice).
-use Rattle.aout_core.specs.Refusals.{refused}
+use Rattle.aout_core.specs.{Refusals.refused, Contents.Contents, Decoding.decode, Reading.IsReadOf, Strip.stripped, Wires.Latched}
+use Rattle.aout_core.specs.{Wires.Puts}
 use Rattle.std.specs.declared.alloc.Global.{Global}
-use Rattle.std.specs.Prelude.{◌≡◌, ◌≢◌, ◌↔◌, ◌⊎◌, ℕ, List, [], ◌∷◌, ◌++◌, map, Option, Some, None, Result}
-use Rattle.std.specs.Prelude.{Ok, Err, IfErr, IfOk, IfSome, IsTrue, String, string_bytes}
-use Rattle.aout_core.specs.declared.file.ReadFault.TheVariants as reads
-use Rattle.aout_core.specs.Contents.{Contents}
-use Rattle.aout_core.specs.Decoding.{decode}
-use Rattle.aout_core.specs.Reading.{IsReadOf}
-use Rattle.aout_core.specs.Strip.{stripped}
-use Rattle.aout_core.specs.Wires.{Latched, Puts}
-use Rattle.symtools.specs.Files.{by_bytes}
-use Rattle.symtools.specs.NmLists.{ListsUpTo}
+use Rattle.std.specs.Prelude.{◌≡◌, ◌≢◌, ◌↔◌, ◌⊎◌, ℕ, List, [], ◌∷◌, ◌++◌, map, Option, Some, None, Result, Ok, Err, IfErr, IfOk, IfSome}
+use Rattle.std.specs.Prelude.{IsTrue, String, string_bytes}
+use Rattle.symtools.specs.{Files.by_bytes, NmLists.ListsUpTo}
 use Rattle.tool_options.specs.declared.nm_options.NmOptions.{NmOptions}
 use Rattle.surroundings.specs.Events.{Event, History, Extends, Opened, opened, opens, stored}
-use Rattle.v7tools.specs.LinkRuns.{Refuses}
-use Rattle.v7tools.specs.declared.fault.CliFault.{CliFault}
-use Rattle.v7tools.specs.declared.fault.CliFault.TheVariants as faults
 use Rattle.surroundings.specs.declared.office.Stored.{Stored}
 use Rattle.surroundings.specs.declared.office.Stored.TheVariants.{Kept, NotCreated, Failed}
+use Rattle.v7tools.specs.{LinkRuns.Refuses, declared.fault.CliFault.CliFault}
+use Rattle.aout_core.specs.declared.file.ReadFault.TheVariants as reads
+use Rattle.v7tools.specs.declared.fault.CliFault.TheVariants as faults
 
 -- a path with what was read there
 abbrev pub Loaded : Type 0

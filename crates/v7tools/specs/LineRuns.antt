@@ -3,18 +3,15 @@
 -- A line opens at most the file that it names, stores at most the link that it asks for, and has an answer and a status: 0, or 1
 -- if it was refused or its link had something to report.
 use Rattle.std.specs.Prelude.{◌≡◌, ◌⊎◌, ℕ, List, [], ◌∷◌, Option, Some, None, Ok, IfSome}
-use Rattle.link_session.specs.Labelled.{objects}
-use Rattle.link_session.specs.Undo.{Kept}
+use Rattle.link_session.specs.{Labelled.objects, Undo.Kept}
 use Rattle.tool_options.specs.Choices.{Choices}
 use Rattle.link_out.specs.function.Link.{Outcome, link}
-use Rattle.v7tools.specs.Answers.{absent, failing, adding, withdrawing, listing_externals, listing_undefined}
-use Rattle.v7tools.specs.Answers.{anything_else, Verdict, done, refused, Stepped, add_step, input_from}
-use Rattle.v7tools.specs.Answers.{step, link_answer_text, link_status}
-use Rattle.surroundings.specs.Events.{Event, opened, stored}
+use Rattle.v7tools.specs.Answers.{absent, failing, adding, withdrawing, listing_externals, listing_undefined, anything_else, Verdict, done}
+use Rattle.v7tools.specs.Answers.{refused, Stepped, add_step, input_from, step, link_answer_text, link_status}
 use Rattle.v7tools.specs.LinkAnswers.{WantsMemory}
-use Rattle.command_words.specs.Scripts.{Asked, to_add, to_withdraw, for_externals, for_undefined, to_link, for_nothing}
 use Rattle.v7tools.specs.SessionSteps.{AddsIf, IsAddOn, IsLinkBy, WithdrawsIf, without_memory}
-use Rattle.surroundings.specs.declared.office.Stored.{Stored}
+use Rattle.surroundings.specs.{Events.Event, Events.opened, Events.stored, declared.office.Stored.Stored}
+use Rattle.command_words.specs.Scripts.{Asked, to_add, to_withdraw, for_externals, for_undefined, to_link, for_nothing}
 
 -- a line: what it asked for, what it asked of the system, its answer, its status, and what is kept after it
 pub record LineRun : Type 0 where

@@ -1,13 +1,10 @@
 -- What `load` returns for the file at a path, by what `read_file` returns for its bytes. (own choice)
 --
 -- `load` is `read_file` with the path: the path comes back with the file, or is in the fault.
-use Rattle.aout_core.specs.Refusals.{refused}
-use Rattle.std.specs.Prelude.{◌≡◌, ◌≢◌, Result, Ok, Err, String}
-use Rattle.std.specs.declared.alloc.Global.{Global}
-use Rattle.aout_core.specs.declared.file.ReadFault.{ReadFault}
-use Rattle.aout_core.specs.declared.file.ReadFault.TheVariants as reads
-use Rattle.aout_core.specs.Contents.{Contents}
+use Rattle.aout_core.specs.{Refusals.refused, declared.file.ReadFault.ReadFault, Contents.Contents}
+use Rattle.std.specs.{Prelude.◌≡◌, Prelude.◌≢◌, Prelude.Result, Prelude.Ok, Prelude.Err, Prelude.String, declared.alloc.Global.Global}
 use Rattle.v7tools.specs.declared.fault.CliFault.{CliFault}
+use Rattle.aout_core.specs.declared.file.ReadFault.TheVariants as reads
 use Rattle.v7tools.specs.declared.fault.CliFault.TheVariants as faults
 
 -- what `read_file` returned

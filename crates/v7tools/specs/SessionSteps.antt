@@ -3,28 +3,17 @@
 -- A step does what the definition `step` (Answers) gives for the command, by what its path leads to. Two things do not follow from the
 -- command and the session: whether a device failed, and whether there was memory. Here is what each may change, and what goes out.
 use Rattle.std.specs.Prelude.{◌≡◌, ◌⊎◌, ℕ, false, List, Option, Some, None, Result, IfOk, IfSome, IsOk, string_bytes}
-use Rattle.aout_core.specs.Contents.{Contents}
-use Rattle.aout_core.specs.WellFormed.{IsWellFormed}
-use Rattle.aout_core.specs.Wires.{Latched, Writes}
-use Rattle.link_session.specs.Labelled.{Labelled, objects}
-use Rattle.link_session.specs.Sessions.{Adds, Withdraws}
-use Rattle.link_session.specs.Undo.{Kept}
-use Rattle.link_out.specs.declared.linked.LinkFault.{LinkFault}
+use Rattle.aout_core.specs.{Contents.Contents, WellFormed.IsWellFormed, Wires.Latched, Wires.Writes}
+use Rattle.link_session.specs.{Labelled.Labelled, Labelled.objects, Sessions.Adds, Sessions.Withdraws, Undo.Kept}
+use Rattle.link_out.specs.{declared.linked.LinkFault.LinkFault, function.Link.Outcome, function.Link.link, Outcomes.outcome_of}
+use Rattle.link_out.specs.{function.Reports.line, Inputs.Cause, Inputs.kept_with}
 use Rattle.tool_options.specs.Choices.{Choices}
-use Rattle.link_out.specs.function.Link.{Outcome, link}
-use Rattle.link_out.specs.Outcomes.{outcome_of}
-use Rattle.link_out.specs.function.Reports.{line}
-use Rattle.v7tools.specs.declared.fault.CliFault.{CliFault}
-use Rattle.v7tools.specs.declared.session.commands.Command.{Command}
 use Rattle.v7tools.specs.declared.session.commands.Command.TheVariants.{Add, Withdraw, Externals, Undefined, Link, Bad}
-use Rattle.v7tools.specs.declared.session.commands.Step.{Step}
 use Rattle.v7tools.specs.declared.session.commands.Step.TheVariants.{Done, Refused, ToStore}
-use Rattle.link_out.specs.Inputs.{Cause, kept_with}
-use Rattle.v7tools.specs.FaultTexts.{no_memory}
-use Rattle.v7tools.specs.LinkAnswers.{WantsMemory}
-use Rattle.v7tools.specs.Answers.{absent, failing, giving, adding, withdrawing, listing_externals, listing_undefined}
-use Rattle.v7tools.specs.Answers.{anything_else, Verdict, done, refused, to_store, Stepped, add_step, input_from}
-use Rattle.v7tools.specs.Answers.{link_step, step}
+use Rattle.v7tools.specs.Answers.{absent, failing, giving, adding, withdrawing, listing_externals, listing_undefined, anything_else}
+use Rattle.v7tools.specs.Answers.{Verdict, done, refused, to_store, Stepped, add_step, input_from, link_step, step}
+use Rattle.v7tools.specs.{declared.fault.CliFault.CliFault, declared.session.commands.Command.Command, declared.session.commands.Step.Step}
+use Rattle.v7tools.specs.{FaultTexts.no_memory, LinkAnswers.WantsMemory}
 
 -- the verdict on a step that the code returns
 abbrev pub verdict_of : Step → Verdict

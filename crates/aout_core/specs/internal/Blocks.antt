@@ -1,10 +1,8 @@
 -- What waits in a block, on its way to a wire or from one.
 use Rattle.std.specs.Prelude.{◌≡◌, ℕ, ◌+◌, min, List, ◌++◌, length, Option, Result, MatchResult}
 use Rattle.std.specs.Io.KnownBytes.{Appends, Consumes, prepend_known}
-use Rattle.aout_core.specs.declared.file.ReadFault.{ReadFault}
-use Rattle.aout_core.specs.declared.file.ReadFault.TheVariants.{Truncated, Device}
-use Rattle.aout_core.specs.internal.ReadParts.{EndsEarly}
-use Rattle.aout_core.specs.Wires.{AppendsPrefix}
+use Rattle.aout_core.specs.{declared.file.ReadFault.ReadFault, declared.file.ReadFault.TheVariants.Truncated}
+use Rattle.aout_core.specs.{declared.file.ReadFault.TheVariants.Device, internal.ReadParts.EndsEarly, Wires.AppendsPrefix}
 
 -- all the bytes went out but those that wait
 abbrev pub AppendsBut : Option (List ℕ) → Option (List ℕ) → List ℕ → List ℕ → Type 0

@@ -1,11 +1,8 @@
 -- Items that go out or come in, by the device's bytes before and after.
 use Rattle.std.specs.Prelude.{ℕ, List, ◌++◌, Option, Result, Vec}
-use Rattle.std.specs.List.{flat_map}
-use Rattle.std.specs.declared.alloc.Global.{Global}
-use Rattle.std.specs.Io.KnownBytes.{prepend_known}
-use Rattle.aout_core.specs.declared.file.ReadFault.{ReadFault}
+use Rattle.std.specs.{List.flat_map, declared.alloc.Global.Global, Io.KnownBytes.prepend_known}
 use Rattle.aout_core.specs.internal.Blocks.{Awaited, awaited, EndsBefore, PutsBut}
-use Rattle.aout_core.specs.internal.Rows.{TakesRow}
+use Rattle.aout_core.specs.{declared.file.ReadFault.ReadFault, internal.Rows.TakesRow}
 
 -- the end came before all that was awaited, or the device failed
 abbrev pub EndsAwaiting : ReadFault → Awaited → Option (List ℕ) → Option (List ℕ) → Type 0

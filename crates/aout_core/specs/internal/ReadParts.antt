@@ -1,14 +1,10 @@
 -- What the parts of the reader take and return: the header, and the rest after it.
 use Rattle.std.specs.Prelude.{◌≡◌, ℕ, ◌+◌, ◌/◌, ◌<◌, List, [], ◌++◌, length, Option, Result, Ok, Err, IsTrue, false, vec_capacity}
 use Rattle.std.specs.Io.KnownBytes.{Consumes, IsAtEnd, Keeps}
-use Rattle.aout_core.specs.declared.header.Header.{Header}
-use Rattle.aout_core.specs.declared.file.Parts.{Parts}
-use Rattle.aout_core.specs.declared.file.ReadFault.{ReadFault}
 use Rattle.aout_core.specs.declared.file.ReadFault.TheVariants.{ShortHeader, BadMagic, OddSize, Memory, Truncated, Device}
 use Rattle.aout_core.specs.Contents.{Contents, is_magic, has_whole_sizes, with_relocation}
-use Rattle.aout_core.specs.Encoding.{file_length}
-use Rattle.aout_core.specs.Decoding.{header_in, contents_in}
-use Rattle.aout_core.specs.Reading.{IsFileHeader}
+use Rattle.aout_core.specs.{declared.header.Header.Header, declared.file.Parts.Parts, declared.file.ReadFault.ReadFault}
+use Rattle.aout_core.specs.{Encoding.file_length, Decoding.header_in, Decoding.contents_in, Reading.IsFileHeader}
 
 -- sixteen bytes were taken, which encode this header
 pub record TakesHeader (old new : Option (List ℕ)) (h : Header) : Type 0 where

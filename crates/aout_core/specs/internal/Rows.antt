@@ -1,8 +1,6 @@
 -- Items of one width in a row, as the bytes encode them, and what was taken of them.
 use Rattle.std.specs.Prelude.{◌≡◌, ℕ, zero, suc, ◌*◌, List, [], ◌∷◌, ◌++◌, take, drop, length, slice_index, Option}
-use Rattle.aout_core.specs.declared.reloc.Reloc.{Reloc}
-use Rattle.aout_core.specs.Words.{words_in}
-use Rattle.aout_core.specs.internal.Blocks.{Awaited, Takes}
+use Rattle.aout_core.specs.{declared.reloc.Reloc.Reloc, Words.words_in, internal.Blocks.Awaited, internal.Blocks.Takes}
 
 -- so many items, each of so many bytes
 abbrev pub row_in : {A : Type 0} → (List ℕ → A) → ℕ → ℕ → List ℕ → List A

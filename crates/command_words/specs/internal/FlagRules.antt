@@ -1,8 +1,6 @@
 -- The rule of a flag, as tables of flags have it.
-use Rattle.std.specs.Prelude.{ℕ, List}
-use Rattle.std.specs.Borrow.{Bor}
-use Rattle.clap.specs.Walk.{Rule}
-use Rattle.clap.specs.declared.builder.action.ArgAction.TheVariants.{Count}
+use Rattle.std.specs.{Prelude.ℕ, Prelude.List, Borrow.Bor}
+use Rattle.clap.specs.{Walk.Rule, declared.builder.action.ArgAction.TheVariants.Count}
 use Rattle.command_words.specs.Tools.{letter_rule}
 
 -- an id and a letter

@@ -1,12 +1,11 @@
 -- What ends a line of a script, and what was taken of it.
 use Rattle.std.specs.Prelude.{◌≡◌, ◌↔◌, ℕ, Bool, true, List, [], ◌∷◌, ◌++◌, drop, Option, Some, None, Result, Ok, Err}
 use Rattle.std.specs.Io.KnownBytes.{Consumes, IsAtEnd}
-use Rattle.command_words.specs.declared.line_reader.Ending.{Ending}
-use Rattle.command_words.specs.declared.line_reader.Ending.TheVariants as endings
-use Rattle.command_words.specs.declared.line_reader.Stop.{Stop}
-use Rattle.command_words.specs.declared.line_reader.Stop.TheVariants as stops
 use Rattle.command_words.specs.Scripts.{asked, long_line, many_lines}
 use Rattle.command_words.specs.ScriptAnswers.{HasNone, TakesLine, GivesNone, FailsInLine}
+use Rattle.command_words.specs.{declared.line_reader.Ending.Ending, declared.line_reader.Stop.Stop}
+use Rattle.command_words.specs.declared.line_reader.Ending.TheVariants as endings
+use Rattle.command_words.specs.declared.line_reader.Stop.TheVariants as stops
 
 -- a line was read: what ended it, what was left before and after, and its bytes
 abbrev pub EndsLine : Ending → Option (List ℕ) → Option (List ℕ) → List ℕ → Type 0

@@ -2,8 +2,7 @@
 --
 -- A block is 32 values, the first of them a multiple of 32, or 16 less than one. Blocks share so many buckets.
 use Rattle.std.specs.Prelude.{◌≡◌, ℕ, suc, ◌+◌, ◌/◌, ◌%◌, ◌≤◌, eqb, if◌then◌else◌, List, [], ◌∷◌, ◌++◌, drop, slice_get}
-use Rattle.std.specs.List.{flat_map}
-use Rattle.std.specs.Option.{ForSome}
+use Rattle.std.specs.{List.flat_map, Option.ForSome}
 use Rattle.aout_core.specs.declared.symbol.Symbol.{Symbol}
 
 -- the block of a value

@@ -1,10 +1,7 @@
 -- Maps that have the first symbol with each segment and value.
 use Rattle.std.specs.Prelude.{◌≡◌, ℕ, Bool, not, ◌&&◌, ◌||◌, eqb, List, find}
-use Rattle.std.specs.declared.cmp.Ordering.{Ordering}
-use Rattle.std.specs.Ordering.{nat_cmp, ordering_then}
-use Rattle.std.specs.BTreeMap.{BTreeMap, get}
-use Rattle.aout_core.specs.declared.symbol.Symbol.{Symbol}
-use Rattle.aout_core.specs.WellFormed.{masked_type, is_external}
+use Rattle.std.specs.{declared.cmp.Ordering.Ordering, Ordering.nat_cmp, Ordering.ordering_then, BTreeMap.BTreeMap, BTreeMap.get}
+use Rattle.aout_core.specs.{declared.symbol.Symbol.Symbol, WellFormed.masked_type, WellFormed.is_external}
 
 -- the order of the keys: the number of a segment, and a value
 abbrev pub key_cmp : ℕ × ℕ → ℕ × ℕ → Ordering

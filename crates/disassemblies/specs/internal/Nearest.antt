@@ -1,10 +1,8 @@
 -- The greatest value of a segment's symbols near an address.
 use Rattle.std.specs.Prelude.{◌≡◌, ℕ, ◌+◌, ◌<◌, ◌≤◌, false, List, Option, Some, None, find, IsSome}
 use Rattle.std.specs.Ordering.{is_gt, is_lt}
-use Rattle.aout_core.specs.declared.symbol.Symbol.{Symbol}
-use Rattle.aout_core.specs.declared.symbol.Segment.{Segment}
-use Rattle.disassemblies.specs.Naming.{is_at}
-use Rattle.disassemblies.specs.internal.FirstNamed.{key_cmp, has_key}
+use Rattle.aout_core.specs.{declared.symbol.Symbol.Symbol, declared.symbol.Segment.Segment}
+use Rattle.disassemblies.specs.{Naming.is_at, internal.FirstNamed.key_cmp, internal.FirstNamed.has_key}
 
 -- a segment and a value are not after others
 abbrev pub IsUpTo : ℕ × ℕ → ℕ × ℕ → Type 0

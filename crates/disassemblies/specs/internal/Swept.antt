@@ -1,10 +1,8 @@
 -- The lines of a text, each at its first word.
 use Rattle.std.specs.Prelude.{ℕ, ◌-◌, List, [], ◌∷◌, replicate, Option, Some, None}
 use Rattle.aout_core.specs.Contents.{Contents}
-use Rattle.instructions.specs.declared.unix.Decoder.{Decoder}
-use Rattle.instructions.specs.declared.unix.UnixLine.{UnixLine}
-use Rattle.disassemblies.specs.Lines.{unix_line_in}
-use Rattle.disassemblies.specs.Starts.{by_lines}
+use Rattle.instructions.specs.{declared.unix.Decoder.Decoder, declared.unix.UnixLine.UnixLine}
+use Rattle.disassemblies.specs.{Lines.unix_line_in, Starts.by_lines}
 
 -- the first word of a line of so many, and its others
 abbrev pub line_words : UnixLine → ℕ → List (Option UnixLine)

@@ -1,21 +1,16 @@
 -- What is printed keeps to its line.
 use Rattle.std.proofs.Common.{◌≡◌, ℕ, ◌≤◌, Bool, true, false, ltb, List, [], ◌∷◌, ◌++◌, map, refl, arith}
-use Rattle.std.specs.List.{AllByRecursion}
 use Rattle.std.proofs.lemmas.Bool.{ltb-false}
-use Rattle.std.specs.Prelude.{◌*◌, ◌&&◌, eqb, nat_lt, if◌then◌else◌, length}
-use Rattle.aout_core.specs.Contents.{Contents}
-use Rattle.aout_core.specs.declared.part.Part.{Part}
-use Rattle.aout_core.specs.declared.part.Part.TheVariants as parts
+use Rattle.std.specs.{List.AllByRecursion, Prelude.◌*◌, Prelude.◌&&◌, Prelude.eqb, Prelude.nat_lt, Prelude.if◌then◌else◌, Prelude.length}
+use Rattle.aout_core.specs.{Contents.Contents, declared.part.Part.Part}
 use Rattle.listings.specs.Laws.{IsLine, IsLabel, AreRemarks}
-use Rattle.instructions.specs.declared.unix.Decoder.TheVariants.{Unix}
-use Rattle.instructions.specs.UnixLines.{unix_length}
-use Rattle.disassemblies.specs.Lines.{unix_line_in}
+use Rattle.instructions.specs.{declared.unix.Decoder.TheVariants.Unix, UnixLines.unix_length}
+use Rattle.disassemblies.specs.{Lines.unix_line_in, Labels.label_lines, Starts.is_start}
 use Rattle.disassemblies.proofs.StartLemmas.{length_in}
-use Rattle.disassemblies.specs.Labels.{label_lines}
-use Rattle.disassemblies.specs.Starts.{is_start}
 use Rattle.explanations.specs.internal.SilentLabels.{are_labels}
-use Rattle.symtools.specs.SymbolLines.{letter}
 use Rattle.explanations.specs.Said.{printed_byte, printed, word_remark, labels_before, explained}
+use Rattle.symtools.specs.SymbolLines.{letter}
+use Rattle.aout_core.specs.declared.part.Part.TheVariants as parts
 
 append_line : (f g : List ℕ) → IsLine f → IsLine g → IsLine (f ++ g)
 append_line [] g hf hg = hg

@@ -1,26 +1,17 @@
 -- A reader of listings skips each label.
-use Rattle.std.proofs.Common.{◌≡◌, ℕ, ◌+◌, ◌-◌, ◌<◌, ◌≤◌, Bool, true, false, eqb, nat_lt, List, [], ◌∷◌, ◌++◌}
-use Rattle.std.proofs.Common.{length, refl, sym, ◌∙◌, ap, subst, arith, length-append}
+use Rattle.std.proofs.Common.{◌≡◌, ℕ, ◌+◌, ◌-◌, ◌<◌, ◌≤◌, Bool, true, false, eqb, nat_lt, List, [], ◌∷◌, ◌++◌, length, refl, sym, ◌∙◌, ap}
+use Rattle.std.proofs.Common.{subst, arith, length-append}
+use Rattle.std.proofs.{lemmas.Bool.Decides.nat_tests, lemmas.List.append-nil, lemmas.List.drop_at}
 use Rattle.std.specs.Prelude.{nat_le, ◌*◌, ◌&&◌, ◌||◌, if◌then◌else◌, codes, Ok}
-use Rattle.std.specs.Cmp.Lexicographic.{pointwise}
-use Rattle.std.specs.List.{AllByRecursion, flat_map, ends_with}
-use Rattle.std.proofs.lemmas.Bool.Decides.{nat_tests}
-use Rattle.std.proofs.lemmas.List.{append-nil, drop_at}
-use Rattle.aout_core.specs.declared.symbol.Symbol.{Symbol}
-use Rattle.aout_core.specs.declared.symbol.Segment.TheVariants.{TextSeg}
-use Rattle.listings.specs.Columns.{Row, row_of, column, from_fourth}
-use Rattle.listings.specs.Drafts.{Draft}
-use Rattle.listings.specs.Listing.{gap}
-use Rattle.listings.specs.Laws.{IsLabel}
+use Rattle.std.specs.{Cmp.Lexicographic.pointwise, List.AllByRecursion, List.flat_map, List.ends_with}
+use Rattle.aout_core.specs.{declared.symbol.Symbol.Symbol, declared.symbol.Segment.TheVariants.TextSeg, WellFormed.masked_type}
 use Rattle.listings.specs.Reading.{is_decimal, is_label, entry_in, named, row_by}
+use Rattle.listings.specs.{Columns.Row, Columns.row_of, Columns.column, Columns.from_fourth, Drafts.Draft, Listing.gap, Laws.IsLabel}
 use Rattle.listings.proofs.ColumnLemmas.{IsInk, IsColumn, ink as ink_of, row_one, row_three, line_of_column, line_gap}
-use Rattle.texts.specs.Numbers.{octal}
-use Rattle.texts.specs.Names.{escaped}
+use Rattle.texts.specs.{Numbers.octal, Names.escaped}
 use Rattle.instructions.specs.References.{is_plain, is_digit, is_register, assembly_byte, assembly_name}
 use Rattle.instructions.proofs.SplitLemmas.{AreDigits, other_test, octal_is}
-use Rattle.aout_core.specs.WellFormed.{masked_type}
-use Rattle.disassemblies.specs.Naming.{is_at}
-use Rattle.disassemblies.specs.Labels.{label_at, is_within, label_within, label_lines}
+use Rattle.disassemblies.specs.{Naming.is_at, Labels.label_at, Labels.is_within, Labels.label_within, Labels.label_lines}
 
 -- neither a slash nor a digit first
 abbrev Begins : List ℕ → Type 0

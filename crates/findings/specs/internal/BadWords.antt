@@ -1,9 +1,7 @@
 -- Bad relocation words that were collected, as findings.
 use Rattle.std.specs.Prelude.{ℕ, List, ◌++◌, map}
 use Rattle.aout_core.specs.Contents.{Contents}
-use Rattle.findings.specs.declared.wrong.BadWord.{BadWord}
-use Rattle.findings.specs.Found.{Found}
-use Rattle.findings.specs.Texts.{bad_word_text, owner_text}
+use Rattle.findings.specs.{declared.wrong.BadWord.BadWord, Found.Found, Texts.bad_word_text, Texts.owner_text}
 
 abbrev pub bad_text : Contents → BadWord → List ℕ
 bad_text c b = bad_word_text c.symbols b.index b.reloc b.kind ++ owner_text c b.index

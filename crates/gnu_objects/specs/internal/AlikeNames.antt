@@ -2,12 +2,8 @@
 use Rattle.std.specs.Prelude.{◌≡◌, ℕ, Bool, true, ◌&&◌, nat_eq, if◌then◌else◌, List, take, Option, Some, None}
 use Rattle.std.specs.Cmp.Lexicographic.{pointwise}
 use Rattle.indexmap.specs.IndexMap.{IndexMap, get}
-use Rattle.gnu_objects.specs.declared.alike.Equals.{Equals}
-use Rattle.gnu_objects.specs.declared.symbols.GnuSymbol.{GnuSymbol}
-use Rattle.gnu_objects.specs.GnuForm.{name_at}
-use Rattle.gnu_objects.specs.declared.refusal.Refusal.{Refusal}
-use Rattle.gnu_objects.specs.GnuRefusals.{alike_at}
-use Rattle.gnu_objects.specs.Staying.{are_alike, counts, alike_with}
+use Rattle.gnu_objects.specs.{declared.alike.Equals.Equals, declared.symbols.GnuSymbol.GnuSymbol, GnuForm.name_at}
+use Rattle.gnu_objects.specs.{declared.refusal.Refusal.Refusal, GnuRefusals.alike_at, Staying.are_alike, Staying.counts, Staying.alike_with}
 
 -- the last of these that differs from a name
 abbrev pub other_than : List ℕ → Option Equals → Option ℕ

@@ -3,13 +3,9 @@ use Rattle.std.specs.Prelude.{◌≡◌, ℕ, ◌+◌, ◌<◌, ◌^◌, Bool, t
 use Rattle.std.specs.List.{list_any}
 use Rattle.aout_core.specs.Decoding.{header_in}
 use Rattle.indexmap.specs.IndexMap.{IndexMap}
-use Rattle.gnu_objects.specs.declared.alike.Equals.{Equals}
-use Rattle.gnu_objects.specs.declared.clash.Clash.{Clash}
-use Rattle.gnu_objects.specs.declared.symbols.GnuSymbol.{GnuSymbol}
-use Rattle.gnu_objects.specs.GnuForm.{name_at, strings_of, symbols_of}
-use Rattle.gnu_objects.specs.Staying.{counts, alike_with, is_some}
-use Rattle.gnu_objects.specs.Clashes.{first_clash_from, clash_in, found_first}
-use Rattle.gnu_objects.specs.internal.AlikeNames.{found}
+use Rattle.gnu_objects.specs.{declared.alike.Equals.Equals, declared.clash.Clash.Clash, declared.symbols.GnuSymbol.GnuSymbol}
+use Rattle.gnu_objects.specs.{GnuForm.name_at, GnuForm.strings_of, GnuForm.symbols_of, Staying.counts, Staying.alike_with, Staying.is_some}
+use Rattle.gnu_objects.specs.{Clashes.first_clash_from, Clashes.clash_in, Clashes.found_first, internal.AlikeNames.found}
 
 -- the strings and the symbols of a file
 pub record HasTable (bytes strings : List ℕ) (symbols : List GnuSymbol) : Type 0 where

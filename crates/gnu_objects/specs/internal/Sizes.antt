@@ -1,8 +1,6 @@
 -- Headers in which nothing is wrong.
 use Rattle.std.specs.Prelude.{◌≡◌, ℕ, ◌%◌, ◌≤◌, List, None, length, take}
-use Rattle.aout_core.specs.declared.header.Header.{Header}
-use Rattle.aout_core.specs.Decoding.{header_in}
-use Rattle.aout_core.specs.Encoding.{file_length}
+use Rattle.aout_core.specs.{declared.header.Header.Header, Decoding.header_in, Encoding.file_length}
 use Rattle.gnu_objects.specs.GnuRefusals.{header_refusal, strings_refusal}
 
 -- segments of whole words

@@ -1,13 +1,10 @@
 -- Edits that were made, the numbers that reply to them, and the state of a session.
 use Rattle.std.specs.Prelude.{◌≡◌, ℕ, List, [], map}
 use Rattle.link_session.specs.Edits.{Change, addition, withdrawal, kept_after, answer_to, survivors_from, answers_from}
-use Rattle.link_session.specs.Labelled.{objects}
-use Rattle.link_session.specs.Undo.{Kept, IsJournal}
-use Rattle.library_calls.specs.declared.edits.Edit.{Edit}
+use Rattle.link_session.specs.{Labelled.objects, Undo.Kept, Undo.IsJournal}
+use Rattle.library_calls.specs.{declared.edits.Edit.Edit, declared.state_call.Form.Form, SessionAnswers.reply_number}
+use Rattle.library_calls.specs.{StateAnswers.encoded_in}
 use Rattle.library_calls.specs.declared.edits.Edit.TheVariants as edits
-use Rattle.library_calls.specs.declared.state_call.Form.{Form}
-use Rattle.library_calls.specs.SessionAnswers.{reply_number}
-use Rattle.library_calls.specs.StateAnswers.{encoded_in}
 
 -- an object has no label
 abbrev pub change_of : Edit → Change

@@ -5,18 +5,11 @@
 -- has its relocation word. It states what is reported, too. `LinkedExactly` and `LinkedOnce`, both proved, tie it to the function `link`.
 use Rattle.std.specs.Prelude.{◌≡◌, ◌↔◌, ℕ, ◌+◌, ◌*◌, ◌≤◌, true, cond, List, ◌++◌, map, length, Ok}
 use Rattle.std.specs.List.{AllByRecursion}
-use Rattle.aout_core.specs.declared.symbol.Symbol.{Symbol}
 use Rattle.aout_core.specs.declared.symbol.Segment.TheVariants.{TextSeg, DataSeg, BssSeg}
-use Rattle.aout_core.specs.Contents.{Contents}
-use Rattle.link_session.specs.Starts.{total}
-use Rattle.link_session.specs.Sessions.{IsObject}
-use Rattle.link_session.specs.Mentions.{mentions, externals}
+use Rattle.aout_core.specs.{declared.symbol.Symbol.Symbol, Contents.Contents, Addresses.data_start_in}
+use Rattle.link_session.specs.{Starts.total, Sessions.IsObject, Mentions.mentions, Mentions.externals}
 use Rattle.tool_options.specs.Choices.{Choices}
-use Rattle.link_out.specs.Layouts.{magic_of}
-use Rattle.link_out.specs.KeptSymbols.{rows_kept}
-use Rattle.link_out.specs.Results.{Outcome}
-use Rattle.link_out.specs.function.Link.{link}
-use Rattle.aout_core.specs.Addresses.{data_start_in}
+use Rattle.link_out.specs.{Layouts.magic_of, KeptSymbols.rows_kept, Results.Outcome, function.Link.link}
 use Rattle.link_laws.specs.relation.Relocated.{base_in, HoldsObjects, IsEntry}
 pub use Rattle.link_laws.specs.relation.LinkedTable.{shown, undefined_row, row_for, space_for, AreRows, moved_value_in}
 pub use Rattle.link_laws.specs.relation.LinkedTable.{moved_local_in, moved_locals_in}

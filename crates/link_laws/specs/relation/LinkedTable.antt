@@ -5,23 +5,15 @@
 -- locals that are kept are moved with their segments, too.
 use Rattle.std.specs.Prelude.{◌≡◌, ℕ, ◌+◌, ◌%◌, cond, eqb, if◌then◌else◌, List, [], ◌∷◌, map, filter, bytes_eq}
 use Rattle.std.specs.List.{flat_map}
-use Rattle.aout_core.specs.declared.header.Header.{Header}
-use Rattle.aout_core.specs.declared.symbol.Symbol.{Symbol}
-use Rattle.aout_core.specs.declared.symbol.Segment.{Segment}
 use Rattle.aout_core.specs.declared.symbol.Segment.TheVariants.{TextSeg, DataSeg, BssSeg}
-use Rattle.aout_core.specs.Contents.{Contents}
-use Rattle.aout_core.specs.Words.{plus}
-use Rattle.aout_core.specs.WellFormed.{segment_of}
-use Rattle.link_session.specs.declared.state.State.{State}
-use Rattle.link_session.specs.declared.state.State.TheVariants.{Defined, Wanted}
-use Rattle.link_session.specs.Earlier.{with_earlier}
-use Rattle.link_session.specs.Mentions.{Mention}
+use Rattle.aout_core.specs.{declared.header.Header.Header, declared.symbol.Symbol.Symbol, declared.symbol.Segment.Segment}
+use Rattle.aout_core.specs.{Contents.Contents, Words.plus, WellFormed.segment_of, Addresses.data_start_in}
+use Rattle.link_session.specs.{declared.state.State.State, declared.state.State.TheVariants.Defined}
+use Rattle.link_session.specs.{declared.state.State.TheVariants.Wanted, Earlier.with_earlier, Mentions.Mention}
 use Rattle.tool_options.specs.Choices.{Choices, lays_commons}
 use Rattle.link_laws.specs.relation.NameStates.{HasState}
-use Rattle.link_out.specs.KeptSymbols.{is_kept_local}
-use Rattle.link_out.specs.ReservedNames.{etext, edata, end_name}
-use Rattle.aout_core.specs.Addresses.{data_start_in}
 use Rattle.link_laws.specs.relation.Relocated.{base_in, move_in, external_type}
+use Rattle.link_out.specs.{KeptSymbols.is_kept_local, ReservedNames.etext, ReservedNames.edata, ReservedNames.end_name}
 
 abbrev pub shown : List ℕ → ℕ → ℕ → Symbol
 shown name type_bits value = record { name = name; type_bits = type_bits; value = value }

@@ -5,28 +5,16 @@
 -- symbol.
 use Rattle.std.specs.Prelude.{◌≡◌, ◌↔◌, ℕ, ◌+◌, ◌<◌, ◌≤◌, ◌⊎◌, true, false, List, [], ◌∷◌, ◌++◌, filter, length, Some, Err, slice_get}
 use Rattle.std.specs.List.{flat_map, AllByRecursion}
-use Rattle.aout_core.specs.declared.symbol.Symbol.{Symbol}
-use Rattle.aout_core.specs.declared.symbol.Segment.{Segment}
 use Rattle.aout_core.specs.declared.symbol.Segment.TheVariants.{TextSeg, DataSeg, BssSeg}
-use Rattle.aout_core.specs.declared.reloc.Reloc.{Reloc}
-use Rattle.aout_core.specs.declared.reloc.Kind.TheVariants.{External}
-use Rattle.aout_core.specs.Contents.{Contents}
 use Rattle.aout_core.specs.WellFormed.{kind_of, symbol_number}
-use Rattle.link_session.specs.declared.state.State.{State}
-use Rattle.link_session.specs.Starts.{total}
-use Rattle.link_session.specs.Sessions.{IsObject}
-use Rattle.link_session.specs.Mentions.{Mention, mentions, externals, place_of}
-use Rattle.link_session.specs.Cells.{segment_words, segment_relocs}
-use Rattle.link_out.specs.declared.linked.LinkFault.{LinkFault}
+use Rattle.aout_core.specs.{declared.symbol.Symbol.Symbol, declared.symbol.Segment.Segment, declared.reloc.Reloc.Reloc}
+use Rattle.aout_core.specs.{declared.reloc.Kind.TheVariants.External, Contents.Contents}
+use Rattle.link_session.specs.{declared.state.State.State, Starts.total, Sessions.IsObject, Mentions.Mention, Mentions.mentions}
+use Rattle.link_session.specs.{Mentions.externals, Mentions.place_of, Cells.segment_words, Cells.segment_relocs}
 use Rattle.link_out.specs.declared.linked.LinkFault.TheVariants.{DoesNotFit, TooManySymbols, SymbolNumber, Memory}
-use Rattle.tool_options.specs.declared.options.Keep.{Keep}
-use Rattle.tool_options.specs.declared.options.Keep.TheVariants.{Nothing}
-use Rattle.tool_options.specs.Choices.{Choices, lays_commons}
-use Rattle.link_out.specs.Layouts.{data_base}
-use Rattle.link_laws.specs.relation.NameStates.{HasState, IsWanted}
-use Rattle.link_out.specs.KeptSymbols.{is_kept_local}
-use Rattle.link_laws.specs.relation.LinkedTable.{space_for}
-use Rattle.link_out.specs.function.Link.{link}
+use Rattle.link_out.specs.{declared.linked.LinkFault.LinkFault, Layouts.data_base, KeptSymbols.is_kept_local, function.Link.link}
+use Rattle.tool_options.specs.{declared.options.Keep.Keep, declared.options.Keep.TheVariants.Nothing, Choices.Choices, Choices.lays_commons}
+use Rattle.link_laws.specs.{relation.NameStates.HasState, relation.NameStates.IsWanted, relation.LinkedTable.space_for}
 
 -- the commons among these names take so many bytes
 abbrev pub CommonsTake : Choices → List Mention → List (List ℕ) → ℕ → Type 0

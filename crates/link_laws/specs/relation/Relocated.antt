@@ -3,21 +3,15 @@
 -- The header of a linked file determines the addresses of its segments, and its symbols those of the names. To a word that refers to a
 -- segment of its object the distance is added by which that segment was moved, and to one that refers to a name the address of the
 -- name. If the word is relative to the pc, the distance by which its own segment was moved is subtracted. Linking does no more.
-use Rattle.std.specs.Prelude.{◌≡◌, ℕ, ◌+◌, ◌-◌, ◌*◌, ◌/◌, ◌≤◌, ◌⊎◌, false, cond, ◌&&◌, eqb, List, []}
-use Rattle.std.specs.Prelude.{◌∷◌, length, Option, Some, None, slice_get, bytes_eq}
-use Rattle.aout_core.specs.declared.header.Header.{Header}
-use Rattle.aout_core.specs.declared.symbol.Symbol.{Symbol}
-use Rattle.aout_core.specs.declared.symbol.Segment.{Segment}
+use Rattle.std.specs.Prelude.{◌≡◌, ℕ, ◌+◌, ◌-◌, ◌*◌, ◌/◌, ◌≤◌, ◌⊎◌, false, cond, ◌&&◌, eqb, List, [], ◌∷◌, length, Option, Some, None}
+use Rattle.std.specs.Prelude.{slice_get, bytes_eq}
 use Rattle.aout_core.specs.declared.symbol.Segment.TheVariants.{TextSeg, DataSeg, BssSeg}
-use Rattle.aout_core.specs.declared.reloc.Reloc.{Reloc}
-use Rattle.aout_core.specs.declared.reloc.Kind.{Kind}
-use Rattle.aout_core.specs.declared.reloc.Kind.TheVariants as kinds
-use Rattle.aout_core.specs.Contents.{Contents}
-use Rattle.aout_core.specs.Addresses.{data_start_in}
-use Rattle.aout_core.specs.Words.{plus, minus}
 use Rattle.aout_core.specs.WellFormed.{is_external, masked_type, kind_of, is_pc_relative, symbol_number}
-use Rattle.link_session.specs.Starts.{total, own}
-use Rattle.link_session.specs.Cells.{segment_words}
+use Rattle.aout_core.specs.{declared.header.Header.Header, declared.symbol.Symbol.Symbol, declared.symbol.Segment.Segment}
+use Rattle.aout_core.specs.{declared.reloc.Reloc.Reloc, declared.reloc.Kind.Kind, Contents.Contents, Addresses.data_start_in, Words.plus}
+use Rattle.aout_core.specs.{Words.minus}
+use Rattle.link_session.specs.{Starts.total, Starts.own, Cells.segment_words}
+use Rattle.aout_core.specs.declared.reloc.Kind.TheVariants as kinds
 
 -- the address at which a segment begins in core, by the header and the objects' bytes of bss
 abbrev pub base_in : Header → ℕ → Segment → ℕ

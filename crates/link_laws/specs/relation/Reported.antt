@@ -4,15 +4,11 @@
 -- each other name that is undefined. With relocation undefined names are not reported, as a later link may define them. The
 -- entry point is in `IsEntry` of Relocated.
 use Rattle.std.specs.Prelude.{◌≡◌, ◌≢◌, ℕ, ◌⊎◌, true, false, List, [], ◌∷◌, map}
-use Rattle.aout_core.specs.declared.symbol.Segment.{Segment}
-use Rattle.aout_core.specs.Contents.{Contents}
-use Rattle.link_session.specs.declared.state.State.TheVariants.{Defined}
-use Rattle.tool_options.specs.NameLists.{is_among}
-use Rattle.link_session.specs.Mentions.{Mention, mentions, externals}
-use Rattle.tool_options.specs.Choices.{Choices}
+use Rattle.aout_core.specs.{declared.symbol.Segment.Segment, Contents.Contents}
+use Rattle.link_session.specs.{declared.state.State.TheVariants.Defined, Mentions.Mention, Mentions.mentions, Mentions.externals}
+use Rattle.tool_options.specs.{NameLists.is_among, Choices.Choices}
 use Rattle.link_laws.specs.relation.NameStates.{IsFirst, IsWanted}
-use Rattle.link_out.specs.ReservedNames.{reserved_names}
-use Rattle.link_out.specs.Results.{Outcome}
+use Rattle.link_out.specs.{ReservedNames.reserved_names, Results.Outcome}
 
 -- these are the elements for which it holds, in order
 abbrev pub ArePicked : {A : Type 0} → (A → Type 0) → List A → List A → Type 0

@@ -1,9 +1,7 @@
 -- What the code knows of names, as the definitions have it.
-use Rattle.std.specs.Prelude.{List, Option, Some, None}
-use Rattle.std.specs.Borrow.{Bor}
+use Rattle.std.specs.{Prelude.List, Prelude.Option, Prelude.Some, Prelude.None, Borrow.Bor}
 use Rattle.aout_core.specs.declared.symbol.Symbol.{Symbol}
-use Rattle.link_maps.specs.declared.name_records.Known.{Known}
-use Rattle.link_maps.specs.Records.{Knowledge}
+use Rattle.link_maps.specs.{declared.name_records.Known.Known, Records.Knowledge}
 
 abbrev pub lent_rows : Option (Bor (List Symbol)) → Option (List Symbol)
 lent_rows None = None

@@ -1,10 +1,8 @@
 -- The labels of a segment, the highest address first, and the search among them.
 use Rattle.std.specs.Prelude.{◌≡◌, ℕ, Bool, eqb, nat_lt, if◌then◌else◌, List, [], ◌∷◌, filter, Option, Some, None}
 use Rattle.std.specs.List.Sorted.{IsSortedBy}
-use Rattle.aout_core.specs.declared.symbol.Symbol.{Symbol}
-use Rattle.aout_core.specs.declared.symbol.Segment.{Segment}
-use Rattle.aout_core.specs.declared.symbol.Segment.TheVariants.{TextSeg, DataSeg}
-use Rattle.aout_core.specs.WellFormed.{segment_of, segment_number}
+use Rattle.aout_core.specs.{declared.symbol.Symbol.Symbol, declared.symbol.Segment.Segment, declared.symbol.Segment.TheVariants.TextSeg}
+use Rattle.aout_core.specs.{declared.symbol.Segment.TheVariants.DataSeg, WellFormed.segment_of, WellFormed.segment_number}
 use Rattle.symtools.specs.NmLists.{in_order}
 
 abbrev pub is_of : Segment → Symbol → Bool

@@ -1,12 +1,8 @@
 -- The words of an object in lists by symbol, as they are found in one pass.
 use Rattle.std.specs.Prelude.{ℕ, ◌+◌, Bool, if◌then◌else◌, List, [], ◌∷◌, ◌++◌, map, replicate, Some, Vec}
 use Rattle.std.specs.declared.alloc.Global.{Global}
-use Rattle.aout_core.specs.declared.symbol.Symbol.{Symbol}
-use Rattle.aout_core.specs.Contents.{Contents}
-use Rattle.aout_core.specs.WellFormed.{is_external}
-use Rattle.link_maps.specs.declared.references.ReferringWord.{ReferringWord}
-use Rattle.link_maps.specs.References.{references_to}
-use Rattle.link_maps.specs.Uses.{Use}
+use Rattle.aout_core.specs.{declared.symbol.Symbol.Symbol, Contents.Contents, WellFormed.is_external}
+use Rattle.link_maps.specs.{declared.references.ReferringWord.ReferringWord, References.references_to, Uses.Use}
 
 abbrev pub lists_of : List (Vec ReferringWord Global) → List (List ReferringWord)
 lists_of vs = map (λ v. v.items) vs

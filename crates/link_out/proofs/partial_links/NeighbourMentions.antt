@@ -1,24 +1,20 @@
 -- The mentions, names and states of a partial link among neighbours.
 use Rattle.std.proofs.Common.{◌≡◌, ℕ, Bool, true, false, List, [], ◌∷◌, ◌++◌, map, Option, refl, sym, ◌∙◌, ap, append-nil, arith}
-use Rattle.std.specs.Prelude.{bytes_eq}
 use Rattle.std.proofs.lemmas.List.{map-id}
+use Rattle.std.specs.Prelude.{bytes_eq}
 use Rattle.aout_core.specs.declared.symbol.Segment.TheVariants.{Undefined, Absolute, TextSeg, DataSeg, BssSeg, Other}
 use Rattle.aout_core.specs.Contents.{Contents}
-use Rattle.link_session.specs.declared.state.State.{State}
-use Rattle.link_session.specs.declared.state.State.TheVariants.{Defined, Wanted}
-use Rattle.tool_options.specs.NameLists.{new_names}
 use Rattle.link_session.specs.Mentions.{Mention, mentions_in, mentions, forced_mention, names_of, names_by_first_mention}
-use Rattle.link_session.specs.States.{state}
-use Rattle.link_session.specs.internal.Updates.{updated_state}
+use Rattle.link_session.specs.{declared.state.State.State, declared.state.State.TheVariants.Defined}
+use Rattle.link_session.specs.{declared.state.State.TheVariants.Wanted, States.state, internal.Updates.updated_state}
+use Rattle.tool_options.specs.{NameLists.new_names, declared.options.Keep.Keep}
 use Rattle.link_session.proofs.MentionLemmas.{mentions-append, names_of-append, names_of-map}
 use Rattle.link_session.proofs.StateLemmas.{state-append}
-use Rattle.tool_options.specs.declared.options.Keep.{Keep}
+use Rattle.link_session.proofs.NeighbourLemmas.{AreAsLong, as_long_append, as_long_self, blocks_same, blocks-append, mentions_in_same}
+use Rattle.link_session.proofs.NeighbourLemmas.{mentions_after, raised, raise, mentions_in_raised, mentions_after-raised, names_of_raised}
+use Rattle.link_session.proofs.NeighbourLemmas.{forced_front, names_of_forced, names_mentioned_once}
 use Rattle.link_out.proofs.partial_links.PartialLemmas.{partial_file}
 use Rattle.link_out.proofs.partial_links.PartialNames.{HasTable, final_mention, final_alone, final_state, said_once}
-use Rattle.link_session.proofs.NeighbourLemmas.{AreAsLong, as_long_append, as_long_self, blocks_same, blocks-append}
-use Rattle.link_session.proofs.NeighbourLemmas.{mentions_in_same, mentions_after, raised, raise, mentions_in_raised}
-use Rattle.link_session.proofs.NeighbourLemmas.{mentions_after-raised, names_of_raised, forced_front, names_of_forced}
-use Rattle.link_session.proofs.NeighbourLemmas.{names_mentioned_once}
 
 pub state_raised : (bs : List Contents) (ms : List Mention) (name : List ℕ) → state (map (raise bs) ms) name ≡ raised bs (state ms name)
 state_raised bs [] name = refl

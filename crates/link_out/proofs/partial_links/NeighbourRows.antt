@@ -1,27 +1,19 @@
 -- The kept locals of a partial link among others are those of its objects.
-use Rattle.std.proofs.Common.{◌≡◌, ℕ, Bool, true, false, cond, not, ◌&&◌, List, [], ◌∷◌, ◌++◌, map, Option}
-use Rattle.std.proofs.Common.{refl, sym, ◌∙◌, ap, append_assoc, append-nil, arith}
+use Rattle.std.proofs.Common.{◌≡◌, ℕ, Bool, true, false, cond, not, ◌&&◌, List, [], ◌∷◌, ◌++◌, map, Option, refl, sym, ◌∙◌, ap}
+use Rattle.std.proofs.Common.{append_assoc, append-nil, arith}
+use Rattle.std.proofs.{lemmas.List.map-append, lemmas.List.Elements.filter-append}
 use Rattle.std.specs.Prelude.{filter}
-use Rattle.std.proofs.lemmas.List.{map-append}
-use Rattle.std.proofs.lemmas.List.Elements.{filter-append}
-use Rattle.aout_core.specs.declared.symbol.Symbol.{Symbol}
-use Rattle.aout_core.specs.declared.symbol.Segment.{Segment}
 use Rattle.aout_core.specs.declared.symbol.Segment.TheVariants.{Undefined, Absolute, TextSeg, DataSeg, BssSeg, Other}
-use Rattle.aout_core.specs.Contents.{Contents}
-use Rattle.aout_core.specs.Words.{plus}
 use Rattle.aout_core.specs.WellFormed.{is_external, segment_of}
-use Rattle.link_session.specs.Starts.{shift}
-use Rattle.link_session.specs.Mentions.{mentions, names_by_first_mention}
+use Rattle.aout_core.specs.{declared.symbol.Symbol.Symbol, declared.symbol.Segment.Segment, Contents.Contents, Words.plus}
+use Rattle.link_session.specs.{Starts.shift, Mentions.mentions, Mentions.names_by_first_mention}
 use Rattle.tool_options.specs.declared.options.Keep.{Keep}
-use Rattle.link_out.specs.Layouts.{Bases, base}
-use Rattle.link_out.specs.function.Plans.{Plan}
 use Rattle.link_out.specs.function.Tables.{keeps, is_kept_local, moved_value, moved_local, local_rows, external_row, external_rows}
-use Rattle.link_out.specs.laws.PartialLinks.{KeepsNoMore}
+use Rattle.link_out.specs.{Layouts.Bases, Layouts.base, function.Plans.Plan, laws.PartialLinks.KeepsNoMore}
 use Rattle.link_out.proofs.partial_links.PartialLemmas.{external_row_outer, partial_plan, partial_file}
-use Rattle.link_out.proofs.partial_links.PartialNames.{HasTable}
+use Rattle.link_out.proofs.{partial_links.PartialNames.HasTable, partial_links.NeighbourMentions.partial_as_long}
+use Rattle.link_out.proofs.{partial_links.NeighbourCells.based_after}
 use Rattle.link_session.proofs.NeighbourLemmas.{AreAsLong, shift_same, start, shift_raised, blocks, one_for_many}
-use Rattle.link_out.proofs.partial_links.NeighbourMentions.{partial_as_long}
-use Rattle.link_out.proofs.partial_links.NeighbourCells.{based_after}
 
 -- a local moved by a partial link, and then by a link of it after others, and moved at once
 moved_once : (forced : List (List ℕ)) (os : List Contents) (keep : Keep) (entry : Option (List ℕ)) (at : Bases)

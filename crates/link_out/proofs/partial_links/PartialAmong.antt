@@ -1,37 +1,25 @@
 -- A partial link among others, with forced names of its own: it stands for its objects where their definitions stand.
 use Rattle.std.proofs.Common.{◌≡◌, ◌≢◌, ℕ, false, List, [], ◌∷◌, ◌++◌, map, Option, refl, sym, ◌∙◌, ap, subst, arith, append-nil, ◌%◌}
-use Rattle.std.specs.Prelude.{Result, Ok, Err}
-use Rattle.std.specs.List.{AllByRecursion}
 use Rattle.std.proofs.lemmas.List.{append_cancel_left}
-use Rattle.aout_core.specs.declared.symbol.Segment.{Segment}
+use Rattle.std.specs.{Prelude.Result, Prelude.Ok, Prelude.Err, List.AllByRecursion}
 use Rattle.aout_core.specs.declared.symbol.Segment.TheVariants.{Undefined, Absolute, TextSeg, DataSeg, BssSeg, Other}
-use Rattle.aout_core.specs.Contents.{Contents}
-use Rattle.aout_core.specs.Words.{plus}
-use Rattle.aout_core.specs.WellFormed.{IsWellFormed}
-use Rattle.link_session.specs.declared.state.State.TheVariants.{Defined}
-use Rattle.tool_options.specs.NameLists.{new_names}
+use Rattle.aout_core.specs.{declared.symbol.Segment.Segment, Contents.Contents, Words.plus, WellFormed.IsWellFormed}
 use Rattle.link_session.specs.Mentions.{mentions, forced_mention, names_of, names_by_first_mention}
-use Rattle.link_session.specs.States.{state, multiple_names}
-use Rattle.link_session.proofs.ListLemmas.{all_append}
+use Rattle.link_session.specs.{declared.state.State.TheVariants.Defined, States.state, States.multiple_names}
+use Rattle.tool_options.specs.{NameLists.new_names, declared.options.Keep.Keep, declared.options.Keep.TheVariants.Nothing, Choices.Choices}
+use Rattle.link_session.proofs.NeighbourLemmas.{as_long_append, as_long_self, start, forced_front, new_of_new, names_of_forced}
+use Rattle.link_session.proofs.NeighbourLemmas.{mentions_after}
+use Rattle.link_session.proofs.{ListLemmas.all_append, MentionLemmas.names_of-append}
 use Rattle.tool_options.proofs.NameListLemmas.{new_names-append}
-use Rattle.link_session.proofs.MentionLemmas.{names_of-append}
-use Rattle.tool_options.specs.declared.options.Keep.{Keep}
-use Rattle.tool_options.specs.declared.options.Keep.TheVariants.{Nothing}
-use Rattle.tool_options.specs.Choices.{Choices}
 use Rattle.link_out.specs.function.Link.{Outcome, link, linked_file}
 use Rattle.link_out.specs.laws.PartialLinks.{KeepsNoMore, IsPartialLink, without_multiples, IsPart, offset_after, DefinitionsAreKept}
-use Rattle.link_out.specs.declared.linked.LinkFault.{LinkFault}
-use Rattle.link_out.specs.function.Plans.{plan}
+use Rattle.link_out.specs.{declared.linked.LinkFault.LinkFault, function.Plans.plan}
 use Rattle.link_out.proofs.partial_links.PartialLemmas.{partial_file, IsProper, state_is_proper, partly}
-use Rattle.link_out.proofs.partial_links.PartialNames.{HasTable, has_table}
-use Rattle.link_out.proofs.ObjectLemmas.{linked_is_object, allowed_with}
-use Rattle.link_out.proofs.partial_links.SameLinks.{AreAlike, same_link, with_multiples}
-use Rattle.link_session.proofs.NeighbourLemmas.{as_long_append, as_long_self, start, forced_front, new_of_new}
-use Rattle.link_session.proofs.NeighbourLemmas.{names_of_forced, mentions_after}
 use Rattle.link_out.proofs.partial_links.NeighbourMentions.{partial_as_long, names_same, states_same}
 use Rattle.link_out.proofs.partial_links.NeighbourCells.{HoldsAmong, cells_said, neighbour_text, neighbour_data}
-use Rattle.link_out.proofs.OutcomeLemmas.{made_file}
-use Rattle.link_out.proofs.partial_links.NeighbourRows.{same_rows}
+use Rattle.link_out.proofs.{partial_links.PartialNames.HasTable, partial_links.PartialNames.has_table, ObjectLemmas.linked_is_object}
+use Rattle.link_out.proofs.{ObjectLemmas.allowed_with, partial_links.SameLinks.AreAlike, partial_links.SameLinks.same_link}
+use Rattle.link_out.proofs.{partial_links.SameLinks.with_multiples, OutcomeLemmas.made_file, partial_links.NeighbourRows.same_rows}
 
 -- forced names change no state
 pub other_forced : (a b : List (List ℕ)) (xs : List Contents) (name : List ℕ) → state (mentions a xs) name ≡ state (mentions b xs) name

@@ -1,31 +1,21 @@
 -- The options of a partial link, the externals in its table, and what its rows say.
-use Rattle.std.proofs.Common.{◌≡◌, ℕ, ◌/◌, ◌%◌, Bool, true, false, cond, not, eqb, List, [], ◌∷◌, ◌++◌, map}
-use Rattle.std.proofs.Common.{Option, Some, None, refl, sym, ◌∙◌, ap, arith, eqb-true}
-use Rattle.std.specs.Prelude.{bytes_eq, filter}
-use Rattle.std.specs.List.{flat_map, AllByRecursion}
-use Rattle.std.proofs.lemmas.Bool.{and_parts}
-use Rattle.std.proofs.lemmas.List.Elements.{filter-append}
-use Rattle.aout_core.specs.declared.symbol.Symbol.{Symbol}
-use Rattle.aout_core.specs.declared.symbol.Segment.{Segment}
+use Rattle.std.proofs.Common.{◌≡◌, ℕ, ◌/◌, ◌%◌, Bool, true, false, cond, not, eqb, List, [], ◌∷◌, ◌++◌, map, Option, Some, None, refl, sym}
+use Rattle.std.proofs.Common.{◌∙◌, ap, arith, eqb-true}
+use Rattle.std.proofs.{lemmas.Bool.and_parts, lemmas.List.Elements.filter-append}
+use Rattle.std.specs.{Prelude.bytes_eq, Prelude.filter, List.flat_map, List.AllByRecursion}
 use Rattle.aout_core.specs.declared.symbol.Segment.TheVariants.{Undefined, Absolute, TextSeg, DataSeg, BssSeg, Other}
-use Rattle.aout_core.specs.Contents.{Contents}
-use Rattle.aout_core.specs.Words.{plus}
 use Rattle.aout_core.specs.WellFormed.{is_external, segment_of, segment_numbered, first_of}
-use Rattle.link_session.specs.declared.state.State.{State}
-use Rattle.link_session.specs.declared.state.State.TheVariants.{Defined, Wanted}
-use Rattle.link_session.specs.Earlier.{with_earlier}
-use Rattle.link_session.specs.Starts.{shift}
-use Rattle.link_session.specs.Mentions.{Mention, mention, statement, mentions_in, mentions, externals_in}
-use Rattle.link_session.specs.Mentions.{forced_mention, names_by_first_mention}
+use Rattle.aout_core.specs.{declared.symbol.Symbol.Symbol, declared.symbol.Segment.Segment, Contents.Contents, Words.plus}
+use Rattle.link_session.specs.Mentions.{Mention, mention, statement, mentions_in, mentions, externals_in, forced_mention}
+use Rattle.link_session.specs.Mentions.{names_by_first_mention}
 use Rattle.link_session.specs.States.{definition_by, first_definition, wanted_size, state_by, state}
+use Rattle.link_session.specs.{declared.state.State.State, declared.state.State.TheVariants.Defined}
+use Rattle.link_session.specs.{declared.state.State.TheVariants.Wanted, Earlier.with_earlier, Starts.shift}
 use Rattle.link_session.proofs.ListLemmas.{all_append}
-use Rattle.tool_options.specs.declared.options.Keep.{Keep}
-use Rattle.tool_options.specs.Choices.{Choices}
-use Rattle.link_out.specs.Layouts.{Bases, base}
-use Rattle.link_out.specs.function.Plans.{Plan, plan}
+use Rattle.tool_options.specs.{declared.options.Keep.Keep, Choices.Choices}
 use Rattle.link_out.specs.function.Finals.{final, final_by, type_of, waiting}
 use Rattle.link_out.specs.function.Tables.{is_kept_local, moved_local, local_rows, external_row, external_rows}
-use Rattle.link_out.specs.function.Link.{linked_file}
+use Rattle.link_out.specs.{Layouts.Bases, Layouts.base, function.Plans.Plan, function.Plans.plan, function.Link.linked_file}
 use Rattle.link_out.proofs.ObjectLemmas.{relocating}
 
 -- the options of a partial link, its plan and its file: relocation, no laid commons, and a table

@@ -1,22 +1,16 @@
 -- What a partial link tells: each name of its objects once, with its state.
-use Rattle.std.proofs.Common.{◌≡◌, ◌≢◌, ℕ, max, Bool, true, false, cond, ◌||◌, List, [], ◌∷◌, ◌++◌}
-use Rattle.std.proofs.Common.{map, Option, None, refl, sym, ◌∙◌, ap, arith}
-use Rattle.std.specs.Prelude.{bytes_eq, filter}
+use Rattle.std.proofs.Common.{◌≡◌, ◌≢◌, ℕ, max, Bool, true, false, cond, ◌||◌, List, [], ◌∷◌, ◌++◌, map, Option, None, refl, sym, ◌∙◌, ap}
+use Rattle.std.proofs.Common.{arith}
 use Rattle.std.proofs.lemmas.Slice.Eq.{bytes_eq-Decides}
-use Rattle.aout_core.specs.declared.symbol.Symbol.{Symbol}
-use Rattle.aout_core.specs.Contents.{Contents}
-use Rattle.aout_core.specs.WellFormed.{is_external, first_of}
-use Rattle.link_session.specs.declared.state.State.{State}
-use Rattle.link_session.specs.declared.state.State.TheVariants.{Defined, Wanted}
-use Rattle.tool_options.specs.NameLists.{is_among}
+use Rattle.std.specs.Prelude.{bytes_eq, filter}
+use Rattle.aout_core.specs.{declared.symbol.Symbol.Symbol, Contents.Contents, WellFormed.is_external, WellFormed.first_of}
 use Rattle.link_session.specs.Mentions.{Mention, mention, mentions_in, mentions, names_by_first_mention}
 use Rattle.link_session.specs.States.{definition_by, size_wanted_by, state_by, state}
-use Rattle.link_session.specs.internal.Updates.{updated_state}
-use Rattle.link_session.proofs.MentionLemmas.{is_among-externals}
-use Rattle.link_session.proofs.StateLemmas.{state-append}
+use Rattle.link_session.specs.{declared.state.State.State, declared.state.State.TheVariants.Defined}
+use Rattle.link_session.specs.{declared.state.State.TheVariants.Wanted, internal.Updates.updated_state}
+use Rattle.tool_options.specs.{NameLists.is_among, declared.options.Keep.Keep, declared.options.Keep.TheVariants.Nothing}
 use Rattle.link_session.proofs.UpdateLemmas.{says_alone, unmentioned}
-use Rattle.tool_options.specs.declared.options.Keep.{Keep}
-use Rattle.tool_options.specs.declared.options.Keep.TheVariants.{Nothing}
+use Rattle.link_session.proofs.{MentionLemmas.is_among-externals, StateLemmas.state-append}
 use Rattle.link_out.specs.function.Tables.{local_rows, external_row, external_rows, table}
 use Rattle.link_out.proofs.partial_links.PartialLemmas.{partial_plan, partial_file, externals_in_table, row_says, state_is_proper}
 use Rattle.link_out.proofs.RowLemmas.{rows_kept-others}

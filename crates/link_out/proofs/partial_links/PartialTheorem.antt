@@ -1,23 +1,14 @@
 -- The file of a link with relocation is an object, and stands for its objects under the forced names that it was linked with.
 use Rattle.std.proofs.Common.{◌≡◌, ℕ, true, false, List, [], ◌∷◌, ◌++◌, None, sym, ◌∙◌, ap, subst}
-use Rattle.std.specs.Prelude.{Ok}
-use Rattle.std.specs.List.{AllByRecursion}
-use Rattle.aout_core.specs.Contents.{Contents, Fits}
-use Rattle.aout_core.specs.WellFormed.{IsWellFormed}
-use Rattle.link_session.specs.Sessions.{IsObject}
-use Rattle.tool_options.specs.NameLists.{is_among}
-use Rattle.link_session.specs.Mentions.{mentions}
-use Rattle.link_session.specs.States.{multiple_names}
+use Rattle.std.specs.{Prelude.Ok, List.AllByRecursion}
+use Rattle.aout_core.specs.{Contents.Contents, Contents.Fits, WellFormed.IsWellFormed}
+use Rattle.link_session.specs.{Sessions.IsObject, Mentions.mentions, States.multiple_names}
+use Rattle.tool_options.specs.{NameLists.is_among, Choices.Choices, Choices.option_fault}
 use Rattle.link_session.proofs.ListLemmas.{all_map}
-use Rattle.tool_options.specs.Choices.{Choices, option_fault}
-use Rattle.link_out.specs.function.Plans.{plan}
-use Rattle.link_out.specs.function.Link.{Outcome, link}
 use Rattle.link_out.specs.laws.PartialLinks.{KeepsNoMore, IsPartialLink, without_multiples, DefinesNoMultiple}
-use Rattle.link_out.proofs.OutcomeLemmas.{made_file}
-use Rattle.link_out.proofs.FitLemmas.{linked_fits}
-use Rattle.link_out.proofs.ObjectLemmas.{linked_object}
-use Rattle.link_out.proofs.partial_links.PartialAmong.{always_replaces}
-use Rattle.link_out.proofs.partial_links.PartialMultiples.{replaces_among_others}
+use Rattle.link_out.specs.{function.Plans.plan, function.Link.Outcome, function.Link.link}
+use Rattle.link_out.proofs.{OutcomeLemmas.made_file, FitLemmas.linked_fits, ObjectLemmas.linked_object}
+use Rattle.link_out.proofs.{partial_links.PartialAmong.always_replaces, partial_links.PartialMultiples.replaces_among_others}
 
 -- the file of a link with relocation, with or without laid commons, is an object
 pub relocatable_is_object : (forced : List (List ℕ)) (os : List Contents) (o : Choices) (x : Outcome) → AllByRecursion IsWellFormed os →

@@ -1,38 +1,28 @@
 -- Two lists of objects with the same names, states, sizes, cells and kept locals have the same link, but for the multiples.
-use Rattle.std.proofs.Common.{◌≡◌, ℕ, Bool, cond, not, ◌&&◌, eqb, List, ◌++◌, map, length, Option, Some, None}
-use Rattle.std.proofs.Common.{refl, sym, ◌∙◌, ap, take, true, false, [], ◌+◌, ◌*◌, ◌||◌}
+use Rattle.std.proofs.Common.{◌≡◌, ℕ, Bool, cond, not, ◌&&◌, eqb, List, ◌++◌, map, length, Option, Some, None, refl, sym, ◌∙◌, ap, take}
+use Rattle.std.proofs.Common.{true, false, [], ◌+◌, ◌*◌, ◌||◌}
 use Rattle.std.specs.Prelude.{filter, Ok, Err, nat_lt, Result, sum_by}
 use Rattle.std.specs.List.{list_any, AllByRecursion}
-use Rattle.aout_core.specs.declared.symbol.Symbol.{Symbol}
-use Rattle.aout_core.specs.declared.symbol.Segment.{Segment}
 use Rattle.aout_core.specs.declared.symbol.Segment.TheVariants.{TextSeg, DataSeg, BssSeg}
-use Rattle.aout_core.specs.Contents.{Contents}
-use Rattle.aout_core.specs.WellFormed.{IsWellFormed}
-use Rattle.aout_core.specs.Words.{plus}
-use Rattle.link_session.specs.declared.cell.Cell.{Cell}
-use Rattle.link_session.specs.declared.state.State.{State}
-use Rattle.tool_options.specs.NameLists.{is_among}
+use Rattle.aout_core.specs.{declared.symbol.Symbol.Symbol, declared.symbol.Segment.Segment, Contents.Contents, WellFormed.IsWellFormed}
+use Rattle.aout_core.specs.{Words.plus}
 use Rattle.link_session.specs.Mentions.{Mention, mentions, names_by_first_mention, place_of}
-use Rattle.link_session.specs.States as states
-use Rattle.link_session.specs.Cells.{cells}
-use Rattle.link_session.specs.declared.state.State.TheVariants.{Defined, Wanted}
-use Rattle.link_session.proofs.WellFormedLemmas.{objects_refer}
-use Rattle.link_out.specs.declared.linked.LinkFault.{LinkFault}
+use Rattle.link_session.specs.{declared.cell.Cell.Cell, declared.state.State.State, Cells.cells, declared.state.State.TheVariants.Defined}
+use Rattle.link_session.specs.{declared.state.State.TheVariants.Wanted}
+use Rattle.tool_options.specs.{NameLists.is_among, Choices.Choices, Choices.lays_commons}
+use Rattle.link_session.proofs.{WellFormedLemmas.objects_refer, NeighbourLemmas.AreAsLong}
 use Rattle.link_out.specs.declared.linked.LinkFault.TheVariants.{DoesNotFit, TooManySymbols, SymbolNumber}
-use Rattle.tool_options.specs.Choices.{Choices, lays_commons}
-use Rattle.link_out.specs.Layouts.{Bases, bases, magic_of}
 use Rattle.link_out.specs.function.Plans.{Plan, plan, commons_laid, common_size, commons_size, commons_total, common_offset}
 use Rattle.link_out.specs.function.Finals.{Final, final, type_of, final_by, waiting, reserved_or_waiting, bound_at}
-use Rattle.link_out.specs.function.Words.{final_words}
-use Rattle.link_out.specs.function.Tables.{rows_kept, local_rows, external_rows, table, final_relocs}
-use Rattle.link_out.specs.function.Tables.{has_too_large_in, has_number_too_large, external_row}
-use Rattle.link_out.specs.function.Reports.{report_of, is_in_text, entry_word, entry_found_bad, is_undefined}
-use Rattle.link_out.specs.function.Reports.{reserved_taken, undefined_names, reserved_names}
-use Rattle.link_out.specs.function.Link.{Outcome, linked_file, link_by, link}
+use Rattle.link_out.specs.function.Tables.{rows_kept, local_rows, external_rows, table, final_relocs, has_too_large_in}
+use Rattle.link_out.specs.function.Tables.{has_number_too_large, external_row}
+use Rattle.link_out.specs.function.Reports.{report_of, is_in_text, entry_word, entry_found_bad, is_undefined, reserved_taken}
+use Rattle.link_out.specs.function.Reports.{undefined_names, reserved_names}
 use Rattle.link_out.specs.internal.FromCells.{finals, word_of_cell, reloc_of_cell, target_too_large}
-use Rattle.link_out.proofs.CellWordLemmas.{final_words-cells}
-use Rattle.link_out.proofs.CellRelocLemmas.{final_relocs-cells, has_too_large_in-cells}
-use Rattle.link_session.proofs.NeighbourLemmas.{AreAsLong}
+use Rattle.link_out.specs.{declared.linked.LinkFault.LinkFault, Layouts.Bases, Layouts.bases, Layouts.magic_of, function.Words.final_words}
+use Rattle.link_out.specs.{function.Link.Outcome, function.Link.linked_file, function.Link.link_by, function.Link.link}
+use Rattle.link_out.proofs.{CellWordLemmas.final_words-cells, CellRelocLemmas.final_relocs-cells, CellRelocLemmas.has_too_large_in-cells}
+use Rattle.link_session.specs.States as states
 
 -- two plans with the same options and bases, whose mentions give the same names and states
 module _ (o : Choices) (b : Bases) (ms ns : List Mention) (names : names_by_first_mention ms ≡ names_by_first_mention ns)

@@ -3,16 +3,12 @@
 -- A definition is moved with its segment. An undefined name may be one of the three that the linker defines. A common gets an
 -- address in bss if commons are laid out. Any other name stays unbound, and its size is written.
 use Rattle.std.specs.Prelude.{ℕ, ◌+◌, eqb, if◌then◌else◌, List, Option, Some, None, bytes_eq}
-use Rattle.aout_core.specs.declared.symbol.Segment.{Segment}
 use Rattle.aout_core.specs.declared.symbol.Segment.TheVariants.{TextSeg, DataSeg, BssSeg}
-use Rattle.aout_core.specs.Words.{plus}
-use Rattle.link_session.specs.declared.state.State.{State}
-use Rattle.link_session.specs.declared.state.State.TheVariants.{Defined, Wanted}
-use Rattle.aout_core.specs.WellFormed.{segment_number}
-use Rattle.link_session.specs.States.{state}
+use Rattle.aout_core.specs.{declared.symbol.Segment.Segment, Words.plus, WellFormed.segment_number}
+use Rattle.link_session.specs.{declared.state.State.State, declared.state.State.TheVariants.Defined}
+use Rattle.link_session.specs.{declared.state.State.TheVariants.Wanted, States.state}
 use Rattle.tool_options.specs.Choices.{Choices, lays_commons}
-use Rattle.link_out.specs.Layouts.{Bases, base}
-use Rattle.link_out.specs.function.Plans.{Plan, common_offset}
+use Rattle.link_out.specs.{Layouts.Bases, Layouts.base, function.Plans.Plan, function.Plans.common_offset}
 pub use Rattle.link_out.specs.ReservedNames.{etext, edata, end_name}
 
 -- the segment that the name is bound to, if it is bound, its address, and the value that is written

@@ -3,19 +3,13 @@
 -- It is computed from the whole list of objects: each word and each name is looked up in all of it.
 use Rattle.std.specs.Prelude.{ℕ, ◌+◌, ◌*◌, cond, ◌&&◌, if◌then◌else◌, nat_lt, List, [], length, Result, Ok, Err}
 use Rattle.aout_core.specs.declared.symbol.Segment.TheVariants.{TextSeg, DataSeg, BssSeg}
-use Rattle.aout_core.specs.declared.header.Header.{Header}
-use Rattle.aout_core.specs.Contents.{Contents}
-use Rattle.link_session.specs.Labelled.{objects}
-use Rattle.link_session.specs.Undo.{Kept}
-use Rattle.link_session.specs.Starts.{total}
-use Rattle.link_out.specs.declared.linked.LinkFault.{LinkFault}
+use Rattle.aout_core.specs.{declared.header.Header.Header, Contents.Contents}
+use Rattle.link_session.specs.{Labelled.objects, Undo.Kept, Starts.total}
 use Rattle.link_out.specs.declared.linked.LinkFault.TheVariants.{DoesNotFit, TooManySymbols, SymbolNumber}
-use Rattle.tool_options.specs.Choices.{Choices}
-use Rattle.link_out.specs.Layouts.{magic_of}
-use Rattle.link_out.specs.function.Plans.{Plan, plan, commons_laid}
-use Rattle.link_out.specs.function.Words.{final_words}
 use Rattle.link_out.specs.function.Tables.{table, final_relocs, has_number_too_large}
-use Rattle.link_out.specs.function.Reports.{report_of, entry_word}
+use Rattle.link_out.specs.{declared.linked.LinkFault.LinkFault, Layouts.magic_of, function.Plans.Plan, function.Plans.plan}
+use Rattle.link_out.specs.{function.Plans.commons_laid, function.Words.final_words, function.Reports.report_of, function.Reports.entry_word}
+use Rattle.tool_options.specs.Choices.{Choices}
 pub use Rattle.link_out.specs.Results.{Outcome}
 
 abbrev pub linked_header : Plan → List Contents → Header

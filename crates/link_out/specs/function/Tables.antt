@@ -4,20 +4,12 @@
 -- bit, and names the segment that its word is bound to now, or the number in this table of the name that its word still waits for.
 use Rattle.std.specs.Prelude.{ℕ, ◌+◌, ◌*◌, ◌%◌, Bool, false, ◌||◌, nat_lt, List, [], ◌++◌, map, filter, length, Option, Some, None}
 use Rattle.std.specs.List.{flat_map, list_any}
-use Rattle.aout_core.specs.declared.symbol.Symbol.{Symbol}
-use Rattle.aout_core.specs.declared.symbol.Segment.{Segment}
 use Rattle.aout_core.specs.declared.symbol.Segment.TheVariants.{TextSeg, DataSeg, BssSeg}
-use Rattle.aout_core.specs.declared.reloc.Reloc.{Reloc}
-use Rattle.aout_core.specs.Contents.{Contents}
-use Rattle.aout_core.specs.Words.{plus}
-use Rattle.aout_core.specs.WellFormed.{segment_of}
-use Rattle.link_session.specs.Earlier.{with_earlier}
-use Rattle.link_session.specs.Mentions.{names_by_first_mention, place_of}
+use Rattle.aout_core.specs.{declared.symbol.Symbol.Symbol, declared.symbol.Segment.Segment, declared.reloc.Reloc.Reloc, Contents.Contents}
+use Rattle.aout_core.specs.{Words.plus, WellFormed.segment_of}
 use Rattle.link_session.specs.Cells.{Referent, to_segment, to_name, referent, words_of}
-use Rattle.link_out.specs.Layouts.{Bases}
-use Rattle.link_out.specs.function.Plans.{Plan}
-use Rattle.link_out.specs.function.Finals.{final, type_of}
-use Rattle.link_out.specs.function.Words.{move}
+use Rattle.link_session.specs.{Earlier.with_earlier, Mentions.names_by_first_mention, Mentions.place_of}
+use Rattle.link_out.specs.{Layouts.Bases, function.Plans.Plan, function.Finals.final, function.Finals.type_of, function.Words.move}
 pub use Rattle.link_out.specs.KeptSymbols.{begins_with_l, keeps, is_kept_local, rows_kept}
 
 -- a local of text, data or bss moves with its segment

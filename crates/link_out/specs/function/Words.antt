@@ -1,16 +1,9 @@
 -- The words of text and data in the linked file, computed word by word. (ld(1))
-use Rattle.std.specs.Prelude.{ℕ, List, [], map}
-use Rattle.std.specs.List.{flat_map}
-use Rattle.aout_core.specs.declared.symbol.Segment.{Segment}
-use Rattle.aout_core.specs.declared.reloc.Reloc.{Reloc}
-use Rattle.aout_core.specs.Contents.{Contents}
-use Rattle.aout_core.specs.Words.{plus, minus}
-use Rattle.link_session.specs.Earlier.{with_earlier}
-use Rattle.link_session.specs.Starts.{shift}
+use Rattle.std.specs.{Prelude.ℕ, Prelude.List, Prelude.[], Prelude.map, List.flat_map}
+use Rattle.aout_core.specs.{declared.symbol.Segment.Segment, declared.reloc.Reloc.Reloc, Contents.Contents, Words.plus, Words.minus}
 use Rattle.link_session.specs.Cells.{Referent, to_segment, to_name, referent, words_of, if_pc}
-use Rattle.link_out.specs.Layouts.{Bases, base}
-use Rattle.link_out.specs.function.Plans.{Plan}
-use Rattle.link_out.specs.function.Finals.{final}
+use Rattle.link_session.specs.{Earlier.with_earlier, Starts.shift}
+use Rattle.link_out.specs.{Layouts.Bases, Layouts.base, function.Plans.Plan, function.Finals.final}
 
 -- how far a segment of an object moves; absolute addresses stay
 abbrev pub move : Bases → List Contents → Contents → Segment → ℕ

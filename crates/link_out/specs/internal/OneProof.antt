@@ -1,6 +1,5 @@
 -- That a session keeps objects has one proof at most, as a ghost field wants of its fact.
-use Rattle.std.specs.Prelude.{◌≡◌, ◌*◌, List, length, IsTrue}
-use Rattle.std.specs.List.{AllByRecursion, AllByRecursion-prop}
+use Rattle.std.specs.{Prelude.◌≡◌, Prelude.◌*◌, Prelude.List, Prelude.length, Prelude.IsTrue, List.AllByRecursion, List.AllByRecursion-prop}
 use Rattle.std.proofs.Props.{props}
 use Rattle.aout_core.specs.Contents.{Contents, Fits, is_magic, has_whole_sizes, with_relocation}
 use Rattle.aout_core.specs.WellFormed.{IsWellFormed}

@@ -2,8 +2,7 @@
 use Rattle.std.specs.Prelude.{◌≡◌, ℕ, ◌≤◌, true, false, List, length, None}
 use Rattle.aout_core.specs.Contents.{Contents}
 use Rattle.tool_options.specs.Choices.{option_fault}
-use Rattle.link_out.specs.function.Plans.{Plan}
-use Rattle.link_out.specs.function.Tables.{local_rows, table, has_number_too_large}
+use Rattle.link_out.specs.{function.Plans.Plan, function.Tables.local_rows, function.Tables.table, function.Tables.has_number_too_large}
 
 -- the options are allowed, no fault refuses the link, and so many locals are written
 pub record IsPassed (p : Plan) (os : List Contents) (locals : ℕ) : Type 0 where

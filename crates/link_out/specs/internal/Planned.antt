@@ -1,18 +1,12 @@
 -- What the plan in the code means, and the facts on it that the passes of a link hand on.
 use Rattle.std.specs.Prelude.{◌≡◌, ◌≤◌, List, [], cond, Result}
-use Rattle.aout_core.specs.Contents.{Contents}
-use Rattle.aout_core.specs.declared.symbol.Symbol.{Symbol}
-use Rattle.aout_core.specs.declared.symbol.Segment.TheVariants.{TextSeg, DataSeg}
+use Rattle.aout_core.specs.{Contents.Contents, declared.symbol.Symbol.Symbol, declared.symbol.Segment.TheVariants.TextSeg}
+use Rattle.aout_core.specs.{declared.symbol.Segment.TheVariants.DataSeg}
 use Rattle.link_session.specs.Labelled.{objects}
+use Rattle.link_out.specs.{declared.linked.LinkFault.LinkFault, declared.words.Words.Words, declared.relocs.Relocs.Relocs, Layouts.Bases}
+use Rattle.link_out.specs.{function.Plans.Plan, function.Plans.plan_of, function.Words.final_words, function.Tables.table}
+use Rattle.link_out.specs.{function.Tables.local_rows, function.Tables.final_relocs, function.Link.Outcome, function.Link.link_by}
 use Rattle.link_out.specs.declared.plan.Plan as code
-use Rattle.link_out.specs.declared.linked.LinkFault.{LinkFault}
-use Rattle.link_out.specs.declared.words.Words.{Words}
-use Rattle.link_out.specs.declared.relocs.Relocs.{Relocs}
-use Rattle.link_out.specs.Layouts.{Bases}
-use Rattle.link_out.specs.function.Plans.{Plan, plan_of}
-use Rattle.link_out.specs.function.Words.{final_words}
-use Rattle.link_out.specs.function.Tables.{table, local_rows, final_relocs}
-use Rattle.link_out.specs.function.Link.{Outcome, link_by}
 
 -- what a link is computed from
 abbrev pub plan_in : code.Plan → Plan

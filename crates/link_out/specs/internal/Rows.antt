@@ -1,21 +1,13 @@
 -- The kept locals as they follow from the objects' sizes, and the rows of externals as they follow from what becomes of them.
 use Rattle.std.specs.Prelude.{ℕ, ◌+◌, List, [], ◌∷◌, ◌++◌, map, filter, length, zip}
-use Rattle.aout_core.specs.declared.symbol.Symbol.{Symbol}
-use Rattle.aout_core.specs.declared.symbol.Segment.{Segment}
 use Rattle.aout_core.specs.declared.symbol.Segment.TheVariants.{TextSeg, DataSeg, BssSeg}
-use Rattle.aout_core.specs.Contents.{Contents}
-use Rattle.aout_core.specs.Words.{plus}
-use Rattle.aout_core.specs.WellFormed.{segment_of}
-use Rattle.link_session.specs.declared.relocate.Starts.{Starts}
-use Rattle.link_session.specs.declared.relocate.Shifts.{Shifts}
-use Rattle.link_session.specs.Image.{Named}
-use Rattle.link_session.specs.Starts.{next_starts, shifts_at}
-use Rattle.link_session.specs.Starts.{shift_by}
+use Rattle.aout_core.specs.{declared.symbol.Symbol.Symbol, declared.symbol.Segment.Segment, Contents.Contents, Words.plus}
+use Rattle.aout_core.specs.{WellFormed.segment_of}
+use Rattle.link_session.specs.Starts.{next_starts, shifts_at, shift_by}
+use Rattle.link_session.specs.{declared.relocate.Starts.Starts, declared.relocate.Shifts.Shifts, Image.Named}
 use Rattle.tool_options.specs.declared.options.Keep.{Keep}
-use Rattle.link_out.specs.declared.table.Moves.{Moves}
-use Rattle.link_out.specs.Layouts.{Bases, base}
-use Rattle.link_out.specs.function.Finals.{Final, type_of}
-use Rattle.link_out.specs.function.Tables.{is_kept_local}
+use Rattle.link_out.specs.{declared.table.Moves.Moves, Layouts.Bases, Layouts.base, function.Finals.Final, function.Finals.type_of}
+use Rattle.link_out.specs.{function.Tables.is_kept_local}
 
 -- how far the segments of an object move
 abbrev pub moves_by : Bases → Shifts → Moves

@@ -1,11 +1,8 @@
 -- Which numbers of symbols are too large in a file with relocation, by the states of the names alone.
 use Rattle.std.specs.Prelude.{ℕ, ◌+◌, Bool, false, not, ◌&&◌, cond, eqb, List, Option, Some, None, slice_get}
-use Rattle.aout_core.specs.declared.symbol.Segment.{Segment}
-use Rattle.aout_core.specs.declared.symbol.Segment.TheVariants.{BssSeg}
-use Rattle.link_session.specs.declared.cell.Target.{Target}
-use Rattle.link_session.specs.declared.cell.Target.TheVariants.{External}
-use Rattle.link_session.specs.declared.state.State.{State}
-use Rattle.link_session.specs.declared.state.State.TheVariants.{Defined, Wanted}
+use Rattle.aout_core.specs.{declared.symbol.Segment.Segment, declared.symbol.Segment.TheVariants.BssSeg}
+use Rattle.link_session.specs.{declared.cell.Target.Target, declared.cell.Target.TheVariants.External, declared.state.State.State}
+use Rattle.link_session.specs.{declared.state.State.TheVariants.Defined, declared.state.State.TheVariants.Wanted}
 use Rattle.link_out.specs.function.Tables.{number_too_large}
 
 -- the segment that a name is bound to, by whether commons are laid out

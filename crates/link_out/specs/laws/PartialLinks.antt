@@ -4,21 +4,12 @@
 -- have kept.
 use Rattle.std.specs.Prelude.{◌≡◌, ℕ, true, false, List, [], ◌∷◌, ◌++◌, None, Result, Ok, Err}
 use Rattle.std.specs.List.{AllByRecursion}
-use Rattle.aout_core.specs.declared.symbol.Segment.{Segment}
 use Rattle.aout_core.specs.declared.symbol.Segment.TheVariants.{TextSeg, DataSeg, BssSeg}
-use Rattle.aout_core.specs.Contents.{Contents}
-use Rattle.aout_core.specs.Words.{plus}
-use Rattle.aout_core.specs.WellFormed.{IsWellFormed}
-use Rattle.link_session.specs.declared.state.State.TheVariants.{Defined}
-use Rattle.link_session.specs.Starts.{total}
-use Rattle.link_session.specs.Mentions.{mentions}
+use Rattle.aout_core.specs.{declared.symbol.Segment.Segment, Contents.Contents, Words.plus, WellFormed.IsWellFormed}
 use Rattle.link_session.specs.States.{first_definition, multiple_names, state}
-use Rattle.tool_options.specs.NameLists.{is_among}
-use Rattle.link_out.specs.declared.linked.LinkFault.{LinkFault}
-use Rattle.tool_options.specs.declared.options.Keep.{Keep}
-use Rattle.tool_options.specs.Choices.{Choices, option_fault}
-use Rattle.link_out.specs.KeptSymbols.{keeps}
-use Rattle.link_out.specs.function.Link.{Outcome, link}
+use Rattle.link_session.specs.{declared.state.State.TheVariants.Defined, Starts.total, Mentions.mentions}
+use Rattle.tool_options.specs.{NameLists.is_among, declared.options.Keep.Keep, Choices.Choices, Choices.option_fault}
+use Rattle.link_out.specs.{declared.linked.LinkFault.LinkFault, KeptSymbols.keeps, function.Link.Outcome, function.Link.link}
 
 -- a link keeps no local that the other one drops
 abbrev pub KeepsNoMore : Keep → Keep → Type 0

@@ -1,9 +1,7 @@
 -- The law of stripping: a program that is stripped is the program linked without symbols. (ld(1), strip(1))
 use Rattle.std.specs.Prelude.{◌≡◌, ℕ, false, List, Ok}
-use Rattle.aout_core.specs.Contents.{Contents}
-use Rattle.aout_core.specs.Strip.{stripped}
-use Rattle.tool_options.specs.declared.options.Keep.TheVariants.{Nothing}
-use Rattle.tool_options.specs.Choices.{Choices}
+use Rattle.aout_core.specs.{Contents.Contents, Strip.stripped}
+use Rattle.tool_options.specs.{declared.options.Keep.TheVariants.Nothing, Choices.Choices}
 use Rattle.link_out.specs.function.Link.{Outcome, link}
 
 -- a link without relocation, stripped, is the link that keeps no symbols, with the same report

@@ -1,16 +1,10 @@
 -- What binding makes of an image: its cells and heads by the states of names, and what stays.
 use Rattle.std.specs.Prelude.{◌≡◌, ℕ, List, [], ◌∷◌, ◌++◌, map, length}
-use Rattle.link_session.specs.declared.bind.Definition.{Definition}
-use Rattle.link_session.specs.declared.cell.Cell.{Cell}
-use Rattle.link_session.specs.declared.mark.Mark.{Mark}
-use Rattle.link_session.specs.declared.mark.Mark.TheVariants.{CellWas}
-use Rattle.link_session.specs.declared.mark.Place.{Place}
-use Rattle.link_session.specs.declared.merged.Merged.{Merged}
-use Rattle.link_session.specs.Image.{Named, state_at}
 use Rattle.link_session.specs.internal.Chains.{Link, EndsWithin, IsBoundTo, IsWithin, cell_at, text_bound_at, data_bound_at}
 use Rattle.link_session.specs.internal.Fields.{image_in, threads_in, with_cells, with_heads, KeepsCapacity}
-use Rattle.link_session.specs.internal.Settled.{settled_at}
-use Rattle.link_session.specs.internal.Threads.{cut_by_state}
+use Rattle.link_session.specs.{declared.bind.Definition.Definition, declared.cell.Cell.Cell, declared.mark.Mark.Mark}
+use Rattle.link_session.specs.{declared.mark.Mark.TheVariants.CellWas, declared.mark.Place.Place, declared.merged.Merged.Merged}
+use Rattle.link_session.specs.{Image.Named, Image.state_at, internal.Settled.settled_at, internal.Threads.cut_by_state}
 
 -- what is bound: the cells of text and of data, and the heads of the chains
 pub record Bindable : Type 0 where

@@ -1,10 +1,7 @@
 -- How many cells wait for an external, and how many are to be bound.
 use Rattle.std.specs.Prelude.{◌≡◌, ℕ, ◌+◌, is_some, List, filter, length}
-use Rattle.link_session.specs.declared.cell.Cell.{Cell}
-use Rattle.link_session.specs.declared.mark.Mark.{Mark}
-use Rattle.link_session.specs.Image.{Named}
-use Rattle.link_session.specs.internal.Additions.{binding}
-use Rattle.link_session.specs.internal.Chains.{waits_at}
+use Rattle.link_session.specs.{declared.cell.Cell.Cell, declared.mark.Mark.Mark, Image.Named, internal.Additions.binding}
+use Rattle.link_session.specs.{internal.Chains.waits_at}
 
 abbrev pub waiting_for : ℕ → List Cell → List Cell
 waiting_for k cs = filter (λ c. waits_at k c.target) cs

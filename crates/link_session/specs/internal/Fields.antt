@@ -2,23 +2,13 @@
 use Rattle.std.specs.Prelude.{◌≡◌, ℕ, ◌+◌, ◌*◌, ◌≤◌, List, [], ◌++◌, map, drop, length, None, vec_capacity}
 use Rattle.std.specs.List.{AllByRecursion}
 use Rattle.aout_core.specs.Contents.{Contents}
-use Rattle.link_session.specs.declared.cell.Cell.{Cell}
-use Rattle.link_session.specs.declared.mark.Mark.{Mark}
-use Rattle.link_session.specs.declared.relocate.Shifts.{Shifts}
-use Rattle.link_session.specs.declared.merged.Merged.{Merged}
-use Rattle.link_session.specs.declared.merged.Sizes.{Sizes}
-use Rattle.link_session.specs.declared.session.UndoRecord.{UndoRecord}
-use Rattle.link_session.specs.Earlier.{with_earlier}
-use Rattle.link_session.specs.Labelled.{Labelled, objects}
-use Rattle.link_session.specs.Image.{Image, image}
-use Rattle.link_session.specs.Undo.{IsJournal, marks_in}
-use Rattle.link_session.specs.internal.Additions.{own_cells}
 use Rattle.link_session.specs.internal.Chains.{Link, unthreaded, heads_back, AreChained}
-use Rattle.link_session.specs.internal.Counts.{NotesBound}
-use Rattle.link_session.specs.internal.Restores.{LeavesMarks}
 use Rattle.link_session.specs.internal.Threads.{Threads, IsThreaded, KeepsThreads, grown_heads, with_texts, with_datas, cut_threads}
-use Rattle.link_session.specs.Limits.{limit_passed}
-use Rattle.link_session.specs.Sessions.{IsObject}
+use Rattle.link_session.specs.{declared.cell.Cell.Cell, declared.mark.Mark.Mark, declared.relocate.Shifts.Shifts}
+use Rattle.link_session.specs.{declared.merged.Merged.Merged, declared.merged.Sizes.Sizes, declared.session.UndoRecord.UndoRecord}
+use Rattle.link_session.specs.{Earlier.with_earlier, Labelled.Labelled, Labelled.objects, Image.Image, Image.image, Undo.IsJournal}
+use Rattle.link_session.specs.{Undo.marks_in, internal.Additions.own_cells, internal.Counts.NotesBound, internal.Restores.LeavesMarks}
+use Rattle.link_session.specs.{Limits.limit_passed, Sessions.IsObject}
 
 abbrev pub image_in : Merged → Image
 image_in m = record {

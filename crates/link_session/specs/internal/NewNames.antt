@@ -1,7 +1,6 @@
 -- The new names of an object, gathered one symbol after the other.
 use Rattle.std.specs.Prelude.{ℕ, ◌&&◌, not, cond, List, [], ◌∷◌, ◌++◌}
-use Rattle.aout_core.specs.declared.symbol.Symbol.{Symbol}
-use Rattle.aout_core.specs.WellFormed.{is_external}
+use Rattle.aout_core.specs.{declared.symbol.Symbol.Symbol, WellFormed.is_external}
 use Rattle.tool_options.specs.NameLists.{is_among}
 
 -- the names, with one more if it is not among them

@@ -1,12 +1,8 @@
 -- The cells of an object's own words of one segment, and their links.
 use Rattle.std.specs.Prelude.{ℕ, List, length}
 use Rattle.aout_core.specs.declared.reloc.Reloc.{Reloc}
-use Rattle.link_session.specs.declared.cell.Cell.{Cell}
-use Rattle.link_session.specs.declared.relocate.Scope.{Scope}
-use Rattle.link_session.specs.declared.relocate.Words.{Words}
-use Rattle.link_session.specs.Starts.{shift_by}
-use Rattle.link_session.specs.internal.Additions.{placed_cells, place_at}
-use Rattle.link_session.specs.internal.Chains.{Link, threaded}
+use Rattle.link_session.specs.{declared.cell.Cell.Cell, declared.relocate.Scope.Scope, declared.relocate.Words.Words, Starts.shift_by}
+use Rattle.link_session.specs.{internal.Additions.placed_cells, internal.Additions.place_at, internal.Chains.Link, internal.Chains.threaded}
 
 -- the cells of these words of a segment with this shift
 abbrev pub cells_in_scope : Scope → ℕ → List ℕ → List Reloc → List Cell

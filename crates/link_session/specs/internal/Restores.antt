@@ -2,19 +2,11 @@
 use Rattle.std.specs.Prelude.{◌≡◌, ℕ, ◌+◌, ◌≤◌, Bool, true, false, not, ◌&&◌, cond, List, [], ◌∷◌, ◌++◌, map, length}
 use Rattle.std.specs.List.{AllByRecursion}
 use Rattle.aout_core.specs.Contents.{Contents}
-use Rattle.link_session.specs.declared.cell.Cell.{Cell}
-use Rattle.link_session.specs.declared.cell.Target.{Target}
-use Rattle.link_session.specs.declared.cell.Target.TheVariants.{External}
-use Rattle.link_session.specs.declared.mark.Mark.{Mark}
-use Rattle.link_session.specs.declared.mark.Place.{Place}
-use Rattle.link_session.specs.Image.{Image}
-use Rattle.link_session.specs.Undo.{put_all_back, undo, IsInside}
-use Rattle.link_session.specs.Marks.{cells_marked, states_marked}
-use Rattle.link_session.specs.Mentions.{externals_in}
 use Rattle.link_session.specs.internal.Additions.{state_marks, settled_cell, next_mentions, next_named, joined_image}
-use Rattle.link_session.specs.internal.Counts.{to_bind}
-use Rattle.link_session.specs.internal.Threads.{bound_heads}
-use Rattle.link_session.specs.internal.Chains.{Link, cell_at, heads_back}
+use Rattle.link_session.specs.{declared.cell.Cell.Cell, declared.cell.Target.Target, declared.cell.Target.TheVariants.External}
+use Rattle.link_session.specs.{declared.mark.Mark.Mark, declared.mark.Place.Place, Image.Image, Undo.put_all_back, Undo.undo, Undo.IsInside}
+use Rattle.link_session.specs.{Marks.cells_marked, Marks.states_marked, Mentions.externals_in, internal.Counts.to_bind}
+use Rattle.link_session.specs.{internal.Threads.bound_heads, internal.Chains.Link, internal.Chains.cell_at, internal.Chains.heads_back}
 
 abbrev pub is_waiting : Target → Bool
 is_waiting (External i) = true

@@ -1,12 +1,8 @@
 -- Cells once the chains of several names are bound, one after the other.
 use Rattle.std.specs.Prelude.{◌≡◌, ℕ, cond, List, [], ◌∷◌, map}
-use Rattle.aout_core.specs.declared.symbol.Symbol.{Symbol}
-use Rattle.aout_core.specs.Contents.{Contents}
-use Rattle.link_session.specs.declared.cell.Cell.{Cell}
-use Rattle.link_session.specs.Image.{Image}
-use Rattle.link_session.specs.Image.{Named, state_at}
+use Rattle.aout_core.specs.{declared.symbol.Symbol.Symbol, Contents.Contents}
 use Rattle.link_session.specs.internal.Additions.{bound_by, bound_or, settled_cell, place_in, external_names, next_named}
-use Rattle.link_session.specs.internal.Chains.{waits_at}
+use Rattle.link_session.specs.{declared.cell.Cell.Cell, Image.Image, Image.Named, Image.state_at, internal.Chains.waits_at}
 
 -- the cell once the chain of the external is bound, if that is defined
 abbrev pub settled_at : Named → ℕ → Cell → Cell

@@ -1,8 +1,7 @@
 -- What the functions that read rows return: what the definitions give, unless memory ran out.
 use Rattle.std.specs.Prelude.{◌≡◌, Result, Ok, Err}
-use Rattle.listings.specs.declared.fault.RowFault.{RowFault}
-use Rattle.listings.specs.declared.fault.RowFault.TheVariants.{Memory, Wrong}
-use Rattle.listings.specs.Reading.{Mistake}
+use Rattle.listings.specs.{declared.fault.RowFault.RowFault, declared.fault.RowFault.TheVariants.Memory}
+use Rattle.listings.specs.{declared.fault.RowFault.TheVariants.Wrong, Reading.Mistake}
 
 abbrev pub Fails : {Y : Type 0} → RowFault → Result Y Mistake → Type 0
 Fails (Memory _) found = Unit {0}

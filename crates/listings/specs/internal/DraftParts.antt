@@ -1,7 +1,5 @@
 -- The draft of the code, by the lists that it holds.
-use Rattle.listings.specs.declared.draft.SegmentDraft.{SegmentDraft}
-use Rattle.listings.specs.declared.draft.FileDraft.{FileDraft}
-use Rattle.listings.specs.Drafts.{Segment, Draft}
+use Rattle.listings.specs.{declared.draft.SegmentDraft.SegmentDraft, declared.draft.FileDraft.FileDraft, Drafts.Segment, Drafts.Draft}
 
 abbrev pub segment_of : SegmentDraft → Segment
 segment_of s = record { words = s.words.items; relocs = s.relocs.items }

@@ -1,9 +1,7 @@
 -- What the functions that read lines return.
 use Rattle.std.specs.Prelude.{◌≡◌, Result, Ok, Err}
-use Rattle.listings.specs.declared.fault.Fault.{Fault}
-use Rattle.listings.specs.declared.fault.ListingFault.{ListingFault}
-use Rattle.listings.specs.declared.fault.ListingFault.TheVariants.{Memory, Wrong}
-use Rattle.listings.specs.Drafts.{Draft}
+use Rattle.listings.specs.{declared.fault.Fault.Fault, declared.fault.ListingFault.ListingFault}
+use Rattle.listings.specs.{declared.fault.ListingFault.TheVariants.Memory, declared.fault.ListingFault.TheVariants.Wrong, Drafts.Draft}
 
 abbrev pub Stops : ListingFault → Result Draft Fault → Type 0
 Stops (Memory _) found = Unit {0}

@@ -1,9 +1,8 @@
 -- What holds of a draft after each line: its lists fit a file.
 use Rattle.std.specs.Prelude.{◌≡◌, ℕ, ◌%◌, ◌<◌, eqb, if◌then◌else◌, length, IsTrue}
 use Rattle.aout_core.specs.Contents.{is_magic}
-use Rattle.listings.specs.declared.fault.Section.{Section}
 use Rattle.listings.specs.declared.fault.Section.TheVariants.{InHeader, InText, InData, InSymbols}
-use Rattle.listings.specs.Drafts.{Segment, Draft}
+use Rattle.listings.specs.{declared.fault.Section.Section, Drafts.Segment, Drafts.Draft}
 
 -- a relocation word for each word, or none
 pub record IsWhole (flag : ℕ) (s : Segment) : Type 0 where

@@ -2,14 +2,11 @@
 use Rattle.std.specs.Prelude.{◌≡◌, ℕ, Bool, if◌then◌else◌, bytes_eq, List, [], ◌∷◌, ◌++◌, map, zip, Option, Some, None}
 use Rattle.std.specs.List.{list_any}
 use Rattle.indexmap.specs.IndexMap.{IndexMap, get}
-use Rattle.aout_core.specs.declared.symbol.Symbol.{Symbol}
-use Rattle.aout_core.specs.Contents.{Contents}
-use Rattle.aout_core.specs.WellFormed.{first_of}
+use Rattle.aout_core.specs.{declared.symbol.Symbol.Symbol, Contents.Contents, WellFormed.first_of}
 use Rattle.link_session.specs.Labelled.{no_object, number_or_none}
 use Rattle.link_out.specs.Results.{ReportNames}
-use Rattle.report_objects.specs.declared.places.FindingPlace.{FindingPlace}
-use Rattle.report_objects.specs.declared.places.Index.{Index}
 use Rattle.report_objects.specs.Places.{first_from, first_number, shows}
+use Rattle.report_objects.specs.{declared.places.FindingPlace.FindingPlace, declared.places.Index.Index}
 
 module _ {S : Type 0} where
   -- the number of an object for the name of a symbol, if that is looked for

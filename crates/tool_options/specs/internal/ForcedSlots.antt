@@ -1,7 +1,6 @@
 -- The slots of the forced names, which are filled from the front.
 use Rattle.std.specs.Prelude.{◌≡◌, ℕ, List, [], ◌++◌, take, replicate, length}
-use Rattle.tool_options.specs.ForcedNames.{forced_of, AreDifferent}
-use Rattle.tool_options.specs.declared.forced.Forced.TheInside.{Inside}
+use Rattle.tool_options.specs.{ForcedNames.forced_of, ForcedNames.AreDifferent, declared.forced.Forced.TheInside.Inside}
 
 -- so many slots: the names, and empty ones
 abbrev pub filled : ℕ → List (List ℕ) → List (List ℕ)

@@ -1,5 +1,4 @@
-use Rattle.v7_c.specs.Left.{output_of_state, states_or}
-use Rattle.v7_c.specs.StateLeft.{StateOfRequestMayRunOut, asked_by}
+use Rattle.v7_c.specs.{Left.output_of_state, Left.states_or, StateLeft.StateOfRequestMayRunOut, StateLeft.asked_by}
 use Rattle.v7_c.proofs.LeftLemmas.{is_memory_at, leaves_state, output_memory, shown_fault}
 use Rattle.v7_c.proofs.StateLemmas.{not_memory_asked_by}
 use Rattle.v7_c.proofs.v7_state.Goals as goal

@@ -1,7 +1,6 @@
 use Rattle.library_calls.proofs.NumberLemmas.{not_memory_apart}
 use Rattle.library_calls.specs.ObjectParts.{parts_in}
-use Rattle.v7_c.proofs.LeftLemmas.{parts_fault, is_memory}
-use Rattle.v7_c.proofs.LeftLemmas.{apart_memory}
+use Rattle.v7_c.proofs.LeftLemmas.{parts_fault, is_memory, apart_memory}
 use Rattle.v7_c.proofs.v7_take_apart.Goals as goal
 
 pub returns-clause-memory : goal.returns-clause-memory

@@ -1,25 +1,15 @@
 -- Objects that are taken one after another.
 use Rattle.std.specs.Prelude.{◌≡◌, ◌⊎◌, ℕ, Bool, false, bytes_eq, codes, List, [], ◌∷◌, ◌++◌, Option, Some, None, Result, Ok, Err, IfOk}
-use Rattle.aout_core.specs.Contents.{Contents}
-use Rattle.aout_core.specs.Refusals.{refused}
-use Rattle.link_maps.specs.Maps.{IsMapOf}
-use Rattle.link_maps.specs.Members.{all_of}
-use Rattle.link_maps.specs.Taking.{split, split_of}
-use Rattle.link_maps.specs.declared.map.LinkMap.{LinkMap}
-use Rattle.link_maps.specs.declared.members.Objects.{Objects}
-use Rattle.link_maps.specs.declared.outcome.Outcome.{Outcome}
-use Rattle.link_out.specs.Outcomes.{report_names}
-use Rattle.link_out.specs.declared.linked.LinkFault.{LinkFault}
-use Rattle.link_out.specs.declared.linked.Linked.{Linked}
-use Rattle.link_out.specs.function.Reports.{status_of}
+use Rattle.aout_core.specs.{Contents.Contents, Refusals.refused}
+use Rattle.link_maps.specs.{Maps.IsMapOf, Members.all_of, Taking.split, Taking.split_of, declared.map.LinkMap.LinkMap}
+use Rattle.link_maps.specs.{declared.members.Objects.Objects, declared.outcome.Outcome.Outcome}
+use Rattle.link_out.specs.{Outcomes.report_names, declared.linked.LinkFault.LinkFault, declared.linked.Linked.Linked}
+use Rattle.link_out.specs.{function.Reports.status_of}
 use Rattle.link_session.specs.Labelled.{Labelled}
-use Rattle.surroundings.specs.Answer.{Answer}
-use Rattle.surroundings.specs.Events.{History}
-use Rattle.surroundings.specs.declared.answer.Fault.{Fault}
-use Rattle.surroundings.specs.declared.answer.Fault.TheVariants.{Answered, Memory}
+use Rattle.surroundings.specs.{Answer.Answer, Events.History, declared.answer.Fault.Fault, declared.answer.Fault.TheVariants.Answered}
+use Rattle.surroundings.specs.{declared.answer.Fault.TheVariants.Memory}
 use Rattle.tool_options.specs.Choices.{Choices}
-use Rattle.v7_explain.specs.Maps.{Taken, TakesAt, answer_of, with_found}
-use Rattle.v7_explain.specs.Runs.{Call, map_link}
+use Rattle.v7_explain.specs.{Maps.Taken, Maps.TakesAt, Maps.answer_of, Maps.with_found, Runs.Call, Runs.map_link}
 
 abbrev pub taken_of : Objects → Answer → Taken
 taken_of objects said = record { objects = all_of objects; said = said }

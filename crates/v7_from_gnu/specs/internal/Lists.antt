@@ -3,14 +3,9 @@ use Rattle.std.specs.declared.alloc.Global.{Global}
 use Rattle.std.specs.Prelude.{◌≡◌, ◌≢◌, ◌⊎◌, ℕ, List, map, Result, Ok, Err, Vec}
 use Rattle.aout_core.specs.Refusals.{refused}
 use Rattle.gnu_objects.specs.declared.refusal.Refusal.{Refusal}
+use Rattle.surroundings.specs.{Answers.HasAnswer, declared.answer.Fault.Fault, declared.answer.Fault.TheVariants.Memory, Paths.plain}
+use Rattle.v7_from_gnu.specs.{Converting.refusal_answer, Jobs.Source, Jobs.Job}
 use Rattle.gnu_objects.specs.declared.refusal.Refusal.TheVariants as refusals
-use Rattle.surroundings.specs.Answers.{HasAnswer}
-use Rattle.surroundings.specs.declared.answer.Fault.{Fault}
-use Rattle.surroundings.specs.declared.answer.Fault.TheVariants.{Memory}
-use Rattle.v7_from_gnu.specs.Converting.{refusal_answer}
-use Rattle.v7_from_gnu.specs.Jobs.{Source}
-use Rattle.v7_from_gnu.specs.Jobs.{Job}
-use Rattle.surroundings.specs.Paths.{plain}
 
 abbrev pub listed : {A E : Type 0} → Result (Vec A Global) E → Result (List A) E
 listed (Ok v) = Ok v.items

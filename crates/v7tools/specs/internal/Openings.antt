@@ -1,13 +1,10 @@
 -- What is opened before a link is made, and read before a list is written.
-use Rattle.std.specs.declared.alloc.Global.{Global}
 use Rattle.std.specs.Prelude.{◌≡◌, ℕ, false, List, [], map, Option, Result, Ok, Err, String, string_bytes, Vec}
-use Rattle.std.specs.List.{AllByRecursion}
+use Rattle.std.specs.{declared.alloc.Global.Global, List.AllByRecursion}
 use Rattle.aout_core.specs.Wires.{Latched}
 use Rattle.surroundings.specs.Events.{History, Extends, Opened, opens}
-use Rattle.v7tools.specs.declared.fault.CliFault.{CliFault}
+use Rattle.v7tools.specs.{declared.fault.CliFault.CliFault, LinkRuns.StopsAt, FileRuns.Loaded, FileRuns.ReadsAll, FileRuns.ReadsNotAll}
 use Rattle.v7tools.specs.declared.fault.CliFault.TheVariants as faults
-use Rattle.v7tools.specs.LinkRuns.{StopsAt}
-use Rattle.v7tools.specs.FileRuns.{Loaded, ReadsAll, ReadsNotAll}
 
 -- the inputs, with what is known of their bytes
 abbrev pub sources : {R : Type 0} → (R → Option (List ℕ)) → List (String Global × Latched R) → List Opened

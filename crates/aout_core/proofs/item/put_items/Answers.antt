@@ -1,6 +1,5 @@
 use Rattle.std.proofs.Common.{rules}
-use Rattle.aout_core.proofs.OutgoingLemmas.{broke_off}
-use Rattle.aout_core.proofs.ItemLemmas.{few_broke, few_put}
+use Rattle.aout_core.proofs.{OutgoingLemmas.broke_off, ItemLemmas.few_broke, ItemLemmas.few_put}
 use Rattle.aout_core.proofs.item.put_items.Goals as goal
 
 pub loop-few-preserved : goal.loop-few-preserved

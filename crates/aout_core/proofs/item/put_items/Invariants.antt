@@ -1,6 +1,5 @@
 use Rattle.std.proofs.Common.{◌≡◌, ◌/◌, ◌++◌, false}
-use Rattle.std.specs.List.{flat_map}
-use Rattle.std.specs.Slice.Iter.{chunks_rest, chunks_size}
+use Rattle.std.specs.{List.flat_map, Slice.Iter.chunks_rest, Slice.Iter.chunks_size}
 use Rattle.aout_core.proofs.ItemLemmas.{IsPutBut}
 use Rattle.aout_core.proofs.item.put_items.Given as goal
 

@@ -1,8 +1,6 @@
-use Rattle.std.proofs.Common.{subst, sym, List}
+use Rattle.std.proofs.{Common.subst, Common.sym, Common.List, lemmas.List.drop_more}
 use Rattle.std.specs.List.{AllByRecursion}
-use Rattle.std.proofs.lemmas.List.{drop_more}
-use Rattle.aout_core.specs.declared.reloc.Reloc.{Reloc}
-use Rattle.aout_core.specs.Contents.{IsWord}
+use Rattle.aout_core.specs.{declared.reloc.Reloc.Reloc, Contents.IsWord}
 use Rattle.aout_core.proofs.laws.are_reloc_words.Goals as goal
 
 pub loop-reloc-preserved : goal.loop-reloc-preserved

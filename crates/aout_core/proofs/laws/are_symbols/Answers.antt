@@ -1,8 +1,6 @@
-use Rattle.std.proofs.Common.{subst, sym, List}
+use Rattle.std.proofs.{Common.subst, Common.sym, Common.List, lemmas.List.drop_more}
 use Rattle.std.specs.List.{AllByRecursion}
-use Rattle.std.proofs.lemmas.List.{drop_more}
-use Rattle.aout_core.specs.declared.symbol.Symbol.{Symbol}
-use Rattle.aout_core.specs.Contents.{IsSymbol}
+use Rattle.aout_core.specs.{declared.symbol.Symbol.Symbol, Contents.IsSymbol}
 use Rattle.aout_core.proofs.laws.are_symbols.Goals as goal
 
 pub loop-symbol-preserved : goal.loop-symbol-preserved

@@ -1,6 +1,6 @@
 use Rattle.std.proofs.Common.{◌≡◌, eqb, length, sym, ap, ◌∙◌, arith, rules, w8}
-use lib.Count.{count_trailing_zeros}
 use Rattle.std.proofs.lemmas.Simd.{bitmask_splat, leading_from_mask_l, trailing_mask_l}
+use lib.Count.{count_trailing_zeros}
 use Rattle.aout_core.proofs.NameLemmas.{position_or_len-nul}
 use Rattle.aout_core.proofs.name.end_of.Goals as goal
 

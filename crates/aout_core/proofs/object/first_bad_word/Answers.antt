@@ -1,5 +1,4 @@
-use Rattle.std.proofs.Common.{arith}
-use Rattle.std.proofs.lemmas.Grind.{common_steps}
+use Rattle.std.proofs.{Common.arith, lemmas.Grind.common_steps}
 use Rattle.aout_core.proofs.object.first_bad_word.Goals as goal
 
 pub returns-then-is_some : goal.returns-then-is_some

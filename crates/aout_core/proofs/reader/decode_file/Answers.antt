@@ -1,10 +1,7 @@
 use Rattle.std.proofs.Common.{◌≡◌, ◌≤◌, ◌∙◌, ℕ, List, ap, length, length-take, sym, take, take_all, arith, rules}
 use Rattle.std.specs.Prelude.{Result, Ok}
-use Rattle.aout_core.specs.Contents.{Contents}
 use Rattle.aout_core.specs.Decoding.{contents_in, header_in, header_of}
-use Rattle.aout_core.specs.Reading.{IsFileHeader}
-use Rattle.aout_core.specs.Words.{words_in}
-use Rattle.aout_core.specs.declared.file.ReadFault.{ReadFault}
+use Rattle.aout_core.specs.{Contents.Contents, Reading.IsFileHeader, Words.words_in, declared.file.ReadFault.ReadFault}
 use Rattle.aout_core.proofs.ReadLemmas.{decoded}
 use Rattle.aout_core.proofs.reader.decode_file.Goals as goal
 

@@ -1,7 +1,5 @@
 use Rattle.std.proofs.Common.{◌≡◌, rules, subst}
-use Rattle.aout_core.specs.declared.header.Header.{Header}
-use Rattle.aout_core.specs.Parts.{contents_of}
-use Rattle.aout_core.specs.internal.ReadParts.{TakesBody}
+use Rattle.aout_core.specs.{declared.header.Header.Header, Parts.contents_of, internal.ReadParts.TakesBody}
 use Rattle.aout_core.proofs.ReadLemmas.{body_fits}
 use Rattle.aout_core.proofs.reader.read_body.Goals as goal
 

@@ -1,8 +1,6 @@
 use Rattle.std.proofs.Common.{◌≡◌, IfSome, sym, subst, rules}
 use Rattle.std.specs.Prelude.{Result, Err}
-use Rattle.aout_core.specs.declared.file.ReadFault.{ReadFault}
-use Rattle.aout_core.specs.Contents.{Contents}
-use Rattle.aout_core.specs.Reading.{IsReadOf, LeavesAfter}
+use Rattle.aout_core.specs.{declared.file.ReadFault.ReadFault, Contents.Contents, Reading.IsReadOf, Reading.LeavesAfter}
 use Rattle.aout_core.proofs.ReadLemmas.{refused_if_known, read_if_known}
 use Rattle.aout_core.proofs.reader.read_file.Goals as goal
 

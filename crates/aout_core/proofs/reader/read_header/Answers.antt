@@ -1,5 +1,4 @@
-use Rattle.std.proofs.Common.{arith}
-use Rattle.std.proofs.lemmas.Grind.{common_steps}
+use Rattle.std.proofs.{Common.arith, lemmas.Grind.common_steps}
 use Rattle.aout_core.proofs.reader.read_header.Goals as goal
 
 pub returns-then-not-is_magic-clause-value : goal.returns-then-not-is_magic-clause-value

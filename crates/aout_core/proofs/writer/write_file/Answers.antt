@@ -1,14 +1,10 @@
 use Rattle.std.proofs.Common.{◌≡◌, ◌++◌, ◌∙◌, ap, subst, rules}
 use Rattle.std.specs.List.{flat_map}
-use Rattle.aout_core.specs.Words.{all_word_bytes}
 use Rattle.aout_core.specs.Encoding.{header_encoding, reloc_encoding, symbol_encoding, encoding}
-use Rattle.aout_core.specs.Wires.{AppendsPrefix}
-use Rattle.aout_core.specs.internal.Blocks.{AppendsBut}
-use Rattle.aout_core.proofs.PutsLemmas.{writes_in_part}
-use Rattle.aout_core.proofs.OutgoingLemmas.{put_at_last}
-use Rattle.aout_core.proofs.FilePutLemmas.{segments, relocation, broke_in_header, broke_in_segments}
-use Rattle.aout_core.proofs.FilePutLemmas.{broke_in_relocation, broke_in_table, sent_segments, sent_relocation}
-use Rattle.aout_core.proofs.FilePutLemmas.{sent_symbols}
+use Rattle.aout_core.specs.{Words.all_word_bytes, Wires.AppendsPrefix, internal.Blocks.AppendsBut}
+use Rattle.aout_core.proofs.FilePutLemmas.{segments, relocation, broke_in_header, broke_in_segments, broke_in_relocation, broke_in_table}
+use Rattle.aout_core.proofs.FilePutLemmas.{sent_segments, sent_relocation, sent_symbols}
+use Rattle.aout_core.proofs.{PutsLemmas.writes_in_part, OutgoingLemmas.put_at_last}
 use Rattle.aout_core.proofs.writer.write_file.Goals as goal
 
 pub returns-in_err-put : goal.returns-in_err-put

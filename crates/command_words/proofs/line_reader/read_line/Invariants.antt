@@ -1,7 +1,6 @@
 use Rattle.std.proofs.Common.{◌≡◌, ◌≤◌, ◌++◌, false, vec_len, vec_capacity}
 use Rattle.std.specs.Io.KnownBytes.{Consumes, prepend_known}
-use Rattle.command_words.specs.declared.lines.TheConstants.{LINE_LIMIT}
-use Rattle.command_words.specs.ScriptAnswers.{HasLine, HasNone}
+use Rattle.command_words.specs.{declared.lines.TheConstants.LINE_LIMIT, ScriptAnswers.HasLine, ScriptAnswers.HasNone}
 use Rattle.command_words.proofs.line_reader.read_line.Given as goal
 
 abbrev pub invariant-loop : goal.invariant-loop

@@ -1,7 +1,6 @@
 use Rattle.std.proofs.Common.{◌≡◌, sym, ap, ◌∙◌, subst, rules}
 use Rattle.std.specs.Prelude.{codes}
-use Rattle.command_words.specs.Scripts.{asked, to_add, to_link}
-use Rattle.command_words.specs.ScriptAnswers.{NamesPath}
+use Rattle.command_words.specs.{Scripts.asked, Scripts.to_add, Scripts.to_link, ScriptAnswers.NamesPath}
 use Rattle.command_words.proofs.AskedLemmas.{where_err, asked_add, asked_withdraw, asked_externals, asked_undefined, asked_link}
 use Rattle.command_words.proofs.lines.asked_in.Goals as goal
 

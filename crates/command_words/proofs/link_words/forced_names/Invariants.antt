@@ -1,6 +1,5 @@
 use Rattle.std.proofs.Common.{◌≡◌, drop, map}
-use Rattle.clap.specs.Walk.{rows_of}
-use Rattle.clap.specs.Matches.{found_of}
+use Rattle.clap.specs.{Walk.rows_of, Matches.found_of}
 use Rattle.command_words.specs.LinkWords.{forced_asked, with_names}
 use Rattle.command_words.proofs.link_words.forced_names.Given as goal
 

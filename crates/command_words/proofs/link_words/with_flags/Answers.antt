@@ -1,8 +1,7 @@
 use Rattle.std.proofs.Common.{ap, sym, refl, ◌∙◌, ◌+◌, drop, map}
 use Rattle.std.proofs.lemmas.List.{at_drop_more, drop_all}
 use Rattle.clap.specs.Simple.{App, app_of}
-use Rattle.command_words.specs.Tools.{with_rules}
-use Rattle.command_words.specs.internal.FlagRules.{flag_rule}
+use Rattle.command_words.specs.{Tools.with_rules, internal.FlagRules.flag_rule}
 use Rattle.command_words.proofs.ToolLemmas.{adds_rule}
 use Rattle.command_words.proofs.link_words.with_flags.Goals as goal
 

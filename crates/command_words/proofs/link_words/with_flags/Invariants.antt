@@ -1,7 +1,6 @@
 use Rattle.std.proofs.Common.{◌≡◌, drop, map}
 use Rattle.clap.specs.Simple.{app_of}
-use Rattle.command_words.specs.Tools.{with_rules}
-use Rattle.command_words.specs.internal.FlagRules.{flag_rule}
+use Rattle.command_words.specs.{Tools.with_rules, internal.FlagRules.flag_rule}
 use Rattle.command_words.proofs.link_words.with_flags.Given as goal
 
 -- the command so far, with the flags that are left, makes the whole

@@ -1,5 +1,4 @@
-use Rattle.std.proofs.Common.{ap, ◌∙◌}
-use Rattle.std.proofs.lemmas.Result.{IfOk-weaker}
+use Rattle.std.proofs.{Common.ap, Common.◌∙◌, lemmas.Result.IfOk-weaker}
 use Rattle.clap.specs.Simple.{App}
 use Rattle.command_words.specs.Tools.{link_rules, with_rules}
 use Rattle.command_words.proofs.ToolLemmas.{adds_rule}

@@ -1,6 +1,5 @@
-use Rattle.std.proofs.lemmas.Result.{IfOk-weaker}
+use Rattle.std.proofs.{lemmas.Result.IfOk-weaker, Common.ap, Common.◌∙◌}
 use Rattle.clap.specs.Simple.{App}
-use Rattle.std.proofs.Common.{ap, ◌∙◌}
 use Rattle.command_words.specs.Tools.{list_rules, with_rules}
 use Rattle.command_words.proofs.ToolLemmas.{adds_rule}
 use Rattle.command_words.proofs.words.nm_tool.Goals as goal

@@ -1,6 +1,5 @@
 use Rattle.std.proofs.Common.{map, ◌++◌, ◌∙◌, sym, ap, rules}
-use Rattle.std.specs.Prelude.{List, String, string_bytes}
-use Rattle.std.specs.declared.alloc.Global.{Global}
+use Rattle.std.specs.{Prelude.List, Prelude.String, Prelude.string_bytes, declared.alloc.Global.Global}
 use Rattle.clap.specs.Matches.{found_of}
 use Rattle.command_words.specs.declared.words.TheConstants.{FILE}
 use Rattle.command_words.proofs.WordsLemmas.{values_given, no_values_given}

@@ -1,9 +1,7 @@
 use Rattle.std.proofs.Common.{◌≡◌, ◌++◌, drop, map}
 use Rattle.std.specs.Prelude.{string_bytes}
-use Rattle.clap.specs.Matches.{found_of}
-use Rattle.clap.specs.Walk.{rows_of}
-use Rattle.command_words.specs.LinkWords.{values_of}
-use Rattle.command_words.specs.declared.words.TheConstants.{FILE}
+use Rattle.clap.specs.{Matches.found_of, Walk.rows_of}
+use Rattle.command_words.specs.{LinkWords.values_of, declared.words.TheConstants.FILE}
 use Rattle.command_words.proofs.words.owned_files.Given as goal
 
 -- the files so far, with those that are left, make the whole

@@ -1,9 +1,7 @@
-use Rattle.std.proofs.Common.{◌≡◌, ap, sym, rules, ◌∙◌}
-use Rattle.std.proofs.lemmas.Result.{IfOk-weaker}
+use Rattle.std.proofs.{Common.◌≡◌, Common.ap, Common.sym, Common.rules, Common.◌∙◌, lemmas.Result.IfOk-weaker}
 use Rattle.std.specs.Prelude.{codes}
 use Rattle.clap.specs.Simple.{App}
-use Rattle.command_words.specs.Tools.{link_rules, with_rules}
-use Rattle.command_words.specs.internal.ToolApps.{tool_app}
+use Rattle.command_words.specs.{Tools.link_rules, Tools.with_rules, internal.ToolApps.tool_app}
 use Rattle.command_words.proofs.ToolLemmas.{adds_rule, takes_files}
 use Rattle.command_words.proofs.words.tool_named.Goals as goal
 

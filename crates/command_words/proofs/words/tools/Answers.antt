@@ -1,8 +1,6 @@
-use Rattle.std.proofs.Common.{ap, ◌∙◌}
-use Rattle.std.proofs.lemmas.Result.{IfOk-weaker}
+use Rattle.std.proofs.{Common.ap, Common.◌∙◌, lemmas.Result.IfOk-weaker}
 use Rattle.std.specs.Prelude.{map}
-use Rattle.command_words.specs.declared.words.TheConstants.{TOOLS}
-use Rattle.command_words.specs.internal.ToolApps.{tools_added}
+use Rattle.command_words.specs.{declared.words.TheConstants.TOOLS, internal.ToolApps.tools_added}
 use Rattle.command_words.proofs.words.tools.Goals as goal
 
 pub returns : goal.returns

@@ -1,5 +1,4 @@
-use Rattle.std.proofs.Common.{ap, sym, refl, ◌∙◌, map}
-use Rattle.std.proofs.lemmas.List.{drop_all}
+use Rattle.std.proofs.{Common.ap, Common.sym, Common.refl, Common.◌∙◌, Common.map, lemmas.List.drop_all}
 use Rattle.clap.specs.Simple.{app_of}
 use Rattle.command_words.specs.internal.ToolApps.{tools_added}
 use Rattle.command_words.proofs.ToolLemmas.{adds_named}

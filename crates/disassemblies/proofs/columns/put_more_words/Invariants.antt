@@ -1,6 +1,5 @@
 use Rattle.std.proofs.Common.{◌≡◌, ◌++◌, drop, false}
-use Rattle.std.specs.Prelude.{codes}
-use Rattle.std.specs.List.{flat_map}
+use Rattle.std.specs.{Prelude.codes, List.flat_map}
 use Rattle.texts.specs.Numbers.{six_digits}
 use Rattle.disassemblies.proofs.columns.put_more_words.Given as goal
 

@@ -1,9 +1,7 @@
 use Rattle.std.proofs.Common.{◌≡◌, ℕ, List, ◌+◌, ◌*◌, ◌<◌, ◌≤◌, ◌++◌, length, ◌∙◌, ap, arith, rules}
 use Rattle.aout_core.specs.Contents.{Contents}
 use Rattle.instructions.specs.UnixLines.{unix_length}
-use Rattle.disassemblies.specs.Lines.{unix_line_in}
-use Rattle.disassemblies.specs.Columns.{labelled_row, disassembly}
-use Rattle.disassemblies.specs.Labels.{labels}
+use Rattle.disassemblies.specs.{Lines.unix_line_in, Columns.labelled_row, Columns.disassembly, Labels.labels}
 use Rattle.disassemblies.proofs.StartLemmas.{line_more, end_more}
 use Rattle.disassemblies.proofs.columns.put_rows.Goals as goal
 

@@ -1,7 +1,5 @@
 use Rattle.std.proofs.Common.{◌≡◌, ◌-◌, ◌*◌, ◌≤◌, ◌++◌, length, false}
-use Rattle.disassemblies.specs.Labels.{labels}
-use Rattle.disassemblies.specs.Starts.{lines_from}
-use Rattle.disassemblies.specs.Columns.{labelled_row, disassembly}
+use Rattle.disassemblies.specs.{Labels.labels, Starts.lines_from, Columns.labelled_row, Columns.disassembly}
 use Rattle.disassemblies.proofs.columns.put_rows.Given as goal
 
 -- what has been appended, and the lines that are left, are the whole

@@ -1,8 +1,7 @@
 use Rattle.std.proofs.Common.{◌-◌, length}
 use Rattle.std.specs.Prelude.{◌≡◌, ◌%◌, false}
 use Rattle.texts.specs.Lines.{text_of}
-use Rattle.disassemblies.specs.internal.Blocks.{block, bucket_of, Walks}
-use Rattle.disassemblies.specs.Labels.{label_within}
+use Rattle.disassemblies.specs.{internal.Blocks.block, internal.Blocks.bucket_of, internal.Blocks.Walks, Labels.label_within}
 use Rattle.disassemblies.proofs.label.put_block_labels.Given as goal
 
 abbrev pub invariant-loop-symbol : goal.invariant-loop-symbol

@@ -1,9 +1,7 @@
 use Rattle.std.specs.Prelude.{◌%◌}
 use Rattle.texts.specs.Lines.{text_of}
-use Rattle.disassemblies.specs.internal.Blocks.{block, bucket_of}
-use Rattle.disassemblies.specs.Labels.{label_at}
-use Rattle.disassemblies.proofs.BlockLemmas.{no_label_at}
-use Rattle.disassemblies.proofs.ChainLemmas.{walk_begins, walk_goes_on, walk_less}
+use Rattle.disassemblies.specs.{internal.Blocks.block, internal.Blocks.bucket_of, Labels.label_at}
+use Rattle.disassemblies.proofs.{BlockLemmas.no_label_at, ChainLemmas.walk_begins, ChainLemmas.walk_goes_on, ChainLemmas.walk_less}
 use Rattle.disassemblies.proofs.label.put_labels_at.Goals as goal
 
 pub loop-symbol-init : goal.loop-symbol-init

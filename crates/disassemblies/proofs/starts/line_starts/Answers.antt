@@ -1,8 +1,7 @@
 use Rattle.std.proofs.Common.{◌≡◌, [], ◌+◌, ◌<◌, ◌≤◌, length, sym, ◌∙◌, ap, arith, rules}
 use Rattle.std.proofs.lemmas.List.{append-nil}
 use Rattle.instructions.specs.UnixLines.{unix_length}
-use Rattle.disassemblies.specs.Lines.{unix_line_in}
-use Rattle.disassemblies.specs.Starts.{start, starts}
+use Rattle.disassemblies.specs.{Lines.unix_line_in, Starts.start, Starts.starts}
 use Rattle.disassemblies.proofs.StartLemmas.{line_more, end_more}
 use Rattle.disassemblies.proofs.starts.line_starts.Goals as goal
 

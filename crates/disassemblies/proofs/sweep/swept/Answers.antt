@@ -1,10 +1,7 @@
 use Rattle.std.proofs.Common.{◌≡◌, [], ◌+◌, ◌<◌, ◌≤◌, ◌++◌, length, sym, ◌∙◌, ap, arith, rules}
 use Rattle.std.proofs.lemmas.List.{append-nil}
-use Rattle.instructions.specs.declared.unix.Decoder.TheVariants.{Unix}
-use Rattle.instructions.specs.declared.unix.UnixLine.{UnixLine}
-use Rattle.instructions.specs.UnixLines.{unix_length}
-use Rattle.disassemblies.specs.Lines.{unix_line_in}
-use Rattle.disassemblies.specs.internal.Swept.{line_words, swept}
+use Rattle.instructions.specs.{declared.unix.Decoder.TheVariants.Unix, declared.unix.UnixLine.UnixLine, UnixLines.unix_length}
+use Rattle.disassemblies.specs.{Lines.unix_line_in, internal.Swept.line_words, internal.Swept.swept}
 use Rattle.disassemblies.proofs.StartLemmas.{line_more, end_more}
 use Rattle.disassemblies.proofs.sweep.swept.Goals as goal
 

@@ -1,8 +1,6 @@
 use Rattle.std.proofs.Common.{◌≡◌, ◌-◌, ◌≤◌, ◌++◌, [], length}
 use Rattle.instructions.specs.declared.unix.Decoder.TheVariants.{Unix}
-use Rattle.disassemblies.specs.Lines.{unix_line_in}
-use Rattle.disassemblies.specs.Starts.{lines_from}
-use Rattle.disassemblies.specs.internal.Swept.{line_words, swept}
+use Rattle.disassemblies.specs.{Lines.unix_line_in, Starts.lines_from, internal.Swept.line_words, internal.Swept.swept}
 use Rattle.disassemblies.proofs.sweep.swept.Given as goal
 
 -- what has been appended, and what the lines give that are left, are the whole

@@ -1,9 +1,6 @@
 use Rattle.std.proofs.Common.{◌≤◌, sym, subst, arith}
-use Rattle.instructions.specs.declared.unix.Decoder.TheVariants.{Unix}
-use Rattle.instructions.specs.declared.unix.UnixLine.{UnixLine}
-use Rattle.instructions.specs.UnixLines.{unix_length}
-use Rattle.disassemblies.proofs.StartLemmas.{length_in}
-use Rattle.disassemblies.proofs.SweptLemmas.{line_there}
+use Rattle.instructions.specs.{declared.unix.Decoder.TheVariants.Unix, declared.unix.UnixLine.UnixLine, UnixLines.unix_length}
+use Rattle.disassemblies.proofs.{StartLemmas.length_in, SweptLemmas.line_there}
 use Rattle.explanations.proofs.remarks.put_text_labels.Goals as goal
 
 pub overflow_cast-length : goal.overflow_cast-length

@@ -1,8 +1,6 @@
 use Rattle.std.proofs.Common.{List, ℕ, ◌-◌, ◌*◌, ◌++◌, length, subst}
-use Rattle.std.specs.List.{flat_map}
-use Rattle.std.specs.Prelude.{codes}
-use Rattle.texts.specs.Columns.{blanks}
-use Rattle.texts.specs.Texts.{Puts}
+use Rattle.std.specs.{List.flat_map, Prelude.codes}
+use Rattle.texts.specs.{Columns.blanks, Texts.Puts}
 use Rattle.texts.proofs.PutLemmas.{puts_both}
 use Rattle.explanations.specs.Dumps.{address, characters, row_text, word_text, word_width}
 use Rattle.explanations.proofs.rows.put_row.Goals as goal

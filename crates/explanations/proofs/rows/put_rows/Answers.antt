@@ -2,8 +2,8 @@ use Rattle.std.proofs.Common.{◌≡◌, ℕ, List, ◌+◌, ◌*◌, ◌≤◌,
 use Rattle.std.specs.Slice.Iter.{chunks_rest}
 use Rattle.explanations.specs.Dumps.{rows_text}
 use Rattle.explanations.proofs.DumpLemmas.{ComesOff, IsPlace, place_after, same_put, other_put}
-use Rattle.explanations.proofs.rows.put_rows.Goals as goal
 use Rattle.explanations.proofs.rows.put_rows.Goals.{then-eq, else-eq}
+use Rattle.explanations.proofs.rows.put_rows.Goals as goal
 
 pub loop-row-preserved : goal.loop-row-preserved
 loop-row-preserved c =

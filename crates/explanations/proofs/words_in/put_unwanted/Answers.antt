@@ -1,7 +1,6 @@
 use Rattle.std.proofs.Common.{List, ℕ, [], ◌∷◌, ◌++◌, subst}
 use Rattle.std.specs.Prelude.{codes, decimal}
-use Rattle.texts.specs.Names.{printable_name}
-use Rattle.texts.specs.Texts.{Puts}
+use Rattle.texts.specs.{Names.printable_name, Texts.Puts}
 use Rattle.texts.proofs.PutLemmas.{puts_both}
 use Rattle.explanations.proofs.words_in.put_unwanted.Goals as goal
 

@@ -1,7 +1,6 @@
 use Rattle.std.proofs.Common.{List, ℕ, ◌++◌, subst}
 use Rattle.std.specs.Prelude.{codes, decimal}
-use Rattle.texts.specs.Numbers.{six_digits}
-use Rattle.texts.specs.Texts.{Puts}
+use Rattle.texts.specs.{Numbers.six_digits, Texts.Puts}
 use Rattle.texts.proofs.PutLemmas.{puts_both}
 use Rattle.findings.specs.OddTexts.{common_size_text}
 use Rattle.findings.proofs.odd.put_common_size.Goals as goal

@@ -1,6 +1,5 @@
 use Rattle.std.proofs.Common.{◌≡◌, ◌+◌, ◌++◌, drop}
-use Rattle.findings.specs.Wrong.{bad_words}
-use Rattle.findings.specs.internal.BadWords.{all_bad}
+use Rattle.findings.specs.{Wrong.bad_words, internal.BadWords.all_bad}
 use Rattle.findings.proofs.wrong.put_bad.Given as goal
 
 -- the bad words so far, and those that are left

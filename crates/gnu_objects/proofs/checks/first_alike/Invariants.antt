@@ -1,6 +1,5 @@
 use Rattle.std.proofs.Common.{◌≡◌, ◌≤◌, true, length, drop}
-use Rattle.gnu_objects.specs.GnuRefusals.{first_alike}
-use Rattle.gnu_objects.specs.internal.AlikeNames.{FindsAlikeFrom}
+use Rattle.gnu_objects.specs.{GnuRefusals.first_alike, internal.AlikeNames.FindsAlikeFrom}
 use Rattle.gnu_objects.proofs.checks.first_alike.Given as goal
 
 -- the symbols from n on are put in, and the first two of them that are alike are known

@@ -1,8 +1,6 @@
 use Rattle.std.proofs.Common.{◌≡◌, drop, take}
 use Rattle.aout_core.specs.Decoding.{header_in}
-use Rattle.gnu_objects.specs.GnuForm.{strings_of, symbols_of}
-use Rattle.gnu_objects.specs.Clashes.{first_clash_from}
-use Rattle.gnu_objects.specs.internal.Files.{clashes_with}
+use Rattle.gnu_objects.specs.{GnuForm.strings_of, GnuForm.symbols_of, Clashes.first_clash_from, internal.Files.clashes_with}
 use Rattle.gnu_objects.proofs.clash.first_clash_of.Given as goal
 
 -- the symbols so far clash with none

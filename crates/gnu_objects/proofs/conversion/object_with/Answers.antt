@@ -1,8 +1,7 @@
-use Rattle.std.proofs.Common.{subst, sym}
+use Rattle.std.proofs.Common.{subst, sym, length}
 use Rattle.aout_core.specs.Contents.{Fits}
 use Rattle.gnu_objects.proofs.FitsLemmas.{contents_fit}
 use Rattle.gnu_objects.proofs.conversion.object_with.Goals as goal
-use Rattle.std.proofs.Common.{length}
 
 pub from_parts-requires : goal.from_parts-requires
 from_parts-requires c =

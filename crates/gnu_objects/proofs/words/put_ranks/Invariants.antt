@@ -1,6 +1,5 @@
 use Rattle.std.proofs.Common.{◌≡◌, take}
-use Rattle.gnu_objects.specs.Staying.{count}
-use Rattle.gnu_objects.specs.internal.Ranks.{ranks_to}
+use Rattle.gnu_objects.specs.{Staying.count, internal.Ranks.ranks_to}
 use Rattle.gnu_objects.proofs.words.put_ranks.Given as goal
 
 -- the symbols so far are counted

@@ -1,7 +1,6 @@
 use Rattle.laws.proofs.commands.session_law.Goals as goal
-use Rattle.laws.proofs.SameDiskLemmas.{same_disk}
-use Rattle.laws.proofs.LineLawLemmas.{answers_law, lines_law}
-use Rattle.laws.proofs.LinkLineLemmas.{link_line, refused_line}
+use Rattle.laws.proofs.{SameDiskLemmas.same_disk, LineLawLemmas.answers_law, LineLawLemmas.lines_law, LinkLineLemmas.link_line}
+use Rattle.laws.proofs.{LinkLineLemmas.refused_line}
 
 pub returns-clause-lines : goal.returns-clause-lines
 returns-clause-lines g c = lines_law _ _

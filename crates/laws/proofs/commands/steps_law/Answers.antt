@@ -1,6 +1,5 @@
 use Rattle.aout_core.proofs.EncodingLemmas.{decode-encoding}
-use Rattle.link_out.proofs.partial_links.PartialMultiples.{replaces_among_others}
-use Rattle.link_out.proofs.StripLemmas.{strip_law}
+use Rattle.link_out.proofs.{partial_links.PartialMultiples.replaces_among_others, StripLemmas.strip_law}
 use Rattle.laws.proofs.StepLemmas.{link_steps, strip_steps}
 use Rattle.laws.proofs.commands.steps_law.Goals as goal
 

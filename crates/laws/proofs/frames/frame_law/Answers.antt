@@ -1,6 +1,5 @@
 use Rattle.laws.proofs.FrameLinks.{linked_alike, refused_alike, frame_holds}
-use Rattle.laws.proofs.FrameBytes.{bytes_framed}
-use Rattle.laws.proofs.FrameWords.{values_framed}
+use Rattle.laws.proofs.{FrameBytes.bytes_framed, FrameWords.values_framed}
 use Rattle.laws.proofs.frames.frame_law.Goals as goal
 
 pub returns-clause-links : goal.returns-clause-links

@@ -1,7 +1,7 @@
 use Rattle.std.proofs.Common.{◌∷◌, ◌++◌, refl}
 use Rattle.laws.proofs.CoreLemmas.{segments_apart}
-use Rattle.laws.proofs.LoadedLemmas.{spaces_are_one, addresses_fit, words_loaded, words_of_rows, kept_loaded}
-use Rattle.laws.proofs.LoadedLemmas.{bss_zero, common_zero, nothing_else}
+use Rattle.laws.proofs.LoadedLemmas.{spaces_are_one, addresses_fit, words_loaded, words_of_rows, kept_loaded, bss_zero, common_zero}
+use Rattle.laws.proofs.LoadedLemmas.{nothing_else}
 use Rattle.laws.proofs.links.core_law.Goals as goal
 
 pub returns-clause-apart : goal.returns-clause-apart

@@ -1,6 +1,5 @@
-use Rattle.laws.proofs.InstructionLemmas.{instructions_kept, texts_kept}
-use Rattle.laws.proofs.InstructionPlaceLemmas.{instructions_there}
-use Rattle.laws.proofs.OperandPlaceLemmas.{operands_there, jumps_arrive}
+use Rattle.laws.proofs.{InstructionLemmas.instructions_kept, InstructionLemmas.texts_kept, InstructionPlaceLemmas.instructions_there}
+use Rattle.laws.proofs.{OperandPlaceLemmas.operands_there, OperandPlaceLemmas.jumps_arrive}
 use Rattle.laws.proofs.links.instruction_law.Goals as goal
 
 pub returns-clause-instructions : goal.returns-clause-instructions

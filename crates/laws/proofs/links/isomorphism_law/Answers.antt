@@ -1,7 +1,5 @@
-use Rattle.laws.proofs.IsomorphismLists.{orders_renumbered}
-use Rattle.laws.proofs.IsomorphismPlaces.{places_apart, bytes_placed}
-use Rattle.laws.proofs.IsomorphismLemmas.{places_loaded, links_isomorphic}
-use Rattle.laws.proofs.ReorderedMeanings.{referents_kept}
+use Rattle.laws.proofs.{IsomorphismLists.orders_renumbered, IsomorphismPlaces.places_apart, IsomorphismPlaces.bytes_placed}
+use Rattle.laws.proofs.{IsomorphismLemmas.places_loaded, IsomorphismLemmas.links_isomorphic, ReorderedMeanings.referents_kept}
 use Rattle.laws.proofs.links.isomorphism_law.Goals as goal
 
 pub returns-clause-apart : goal.returns-clause-apart

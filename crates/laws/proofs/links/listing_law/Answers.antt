@@ -1,6 +1,5 @@
-use Rattle.laws.proofs.UndefinedListed.{undefined_are_listed, undefined_lines}
-use Rattle.laws.proofs.ExternalsListed.{externals_are_listed, row_lines}
-use Rattle.laws.proofs.SizeSums.{sizes_are_sums}
+use Rattle.laws.proofs.{UndefinedListed.undefined_are_listed, UndefinedListed.undefined_lines, ExternalsListed.externals_are_listed}
+use Rattle.laws.proofs.{ExternalsListed.row_lines, SizeSums.sizes_are_sums}
 use Rattle.laws.proofs.links.listing_law.Goals as goal
 
 pub returns-clause-undefined : goal.returns-clause-undefined

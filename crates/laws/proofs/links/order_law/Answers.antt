@@ -1,8 +1,7 @@
 use Rattle.laws.proofs.ReorderedLinks.{refused_in_order, sizes_kept, reported_alike, entry_found}
 use Rattle.laws.proofs.ReorderedAdditions.{added_in_order, linked_alike}
-use Rattle.laws.proofs.ReorderedMeanings.{referents_kept}
 use Rattle.laws.proofs.IsomorphismLemmas.{orders_keep_meanings, orders_keep_referents}
-use Rattle.laws.proofs.SingleDefinitions.{once_in_any_order}
+use Rattle.laws.proofs.{ReorderedMeanings.referents_kept, SingleDefinitions.once_in_any_order}
 use Rattle.laws.proofs.links.order_law.Goals as goal
 
 pub returns-clause-adds : goal.returns-clause-adds

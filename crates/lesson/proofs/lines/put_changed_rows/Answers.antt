@@ -1,6 +1,5 @@
 use Rattle.std.proofs.Common.{◌++◌, ◌∙◌, ap}
-use Rattle.lesson.specs.Rows.{row_at}
-use Rattle.lesson.specs.Steps.{changed_row, changed_rows}
+use Rattle.lesson.specs.{Rows.row_at, Steps.changed_row, Steps.changed_rows}
 use Rattle.lesson.proofs.ChangeLemmas.{row_compared}
 use Rattle.lesson.proofs.lines.put_changed_rows.Goals as goal
 

@@ -4,8 +4,7 @@ use Rattle.link_session.specs.Undo.{image_of}
 use Rattle.texts.specs.Texts.{Puts}
 use Rattle.texts.proofs.PutLemmas.{puts_both}
 use Rattle.reports.specs.StateLines.{cell_row}
-use Rattle.lesson.specs.Meant.{place_text}
-use Rattle.lesson.specs.Rows.{instruction_text, row_at}
+use Rattle.lesson.specs.{Meant.place_text, Rows.instruction_text, Rows.row_at}
 use Rattle.lesson.proofs.rows.put_word_row.Goals as goal
 
 pub returns : goal.returns

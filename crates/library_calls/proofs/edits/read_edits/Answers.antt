@@ -1,8 +1,6 @@
 use Rattle.std.proofs.Common.{◌≡◌, List, ℕ, Ok, map, get_or, refl, ap, sym, subst, ◌∙◌}
-use Rattle.library_calls.specs.internal.Edited.{change_of}
-use Rattle.library_calls.specs.LinkAnswers.{each_of}
 use Rattle.library_calls.specs.SessionAnswers.{changes_in, first_part, parts_after, with_edit}
-use Rattle.library_calls.specs.MemoryWanted.{MayRunOutForEdit}
+use Rattle.library_calls.specs.{internal.Edited.change_of, LinkAnswers.each_of, MemoryWanted.MayRunOutForEdit}
 use Rattle.library_calls.proofs.EditLemmas.{one_more_edit, one_edit_refused, out_at_edit, out_later_edit}
 use Rattle.library_calls.proofs.edits.read_edits.Goals as goal
 

@@ -1,8 +1,6 @@
 use Rattle.std.proofs.Common.{◌≡◌, ℕ, map, drop}
-use Rattle.library_calls.specs.LinkAnswers.{each_of}
-use Rattle.library_calls.specs.MemoryWanted.{MayRunOutInEdits}
 use Rattle.library_calls.specs.SessionAnswers.{changes_in, with_edits}
-use Rattle.library_calls.specs.internal.Edited.{change_of}
+use Rattle.library_calls.specs.{LinkAnswers.each_of, MemoryWanted.MayRunOutInEdits, internal.Edited.change_of}
 use Rattle.library_calls.proofs.edits.read_edits.Given as goal
 
 -- the changes so far, with those of the edits that are left, make the whole; and memory may run out for each that is left

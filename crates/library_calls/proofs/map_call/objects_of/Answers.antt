@@ -1,8 +1,7 @@
 use Rattle.std.proofs.Common.{ap, inr, ◌∙◌, ◌+◌, ℕ}
 use Rattle.link_session.specs.Labelled.{objects}
 use Rattle.link_maps.specs.Members.{all_of}
-use Rattle.library_calls.specs.LinkAnswers.{each_of}
-use Rattle.library_calls.specs.MapAnswers.{objects_each, with_read}
+use Rattle.library_calls.specs.{LinkAnswers.each_of, MapAnswers.objects_each, MapAnswers.with_read}
 use Rattle.library_calls.proofs.EachLemmas.{more_each, refused_each, out_later_each, out_now_each}
 use Rattle.library_calls.proofs.MapLemmas.{number_more}
 use Rattle.library_calls.proofs.map_call.objects_of.Goals as goal

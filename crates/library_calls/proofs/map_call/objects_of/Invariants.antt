@@ -1,9 +1,8 @@
 use Rattle.std.proofs.Common.{◌≡◌, ℕ, [], drop, length}
 use Rattle.link_session.specs.Labelled.{objects}
 use Rattle.link_maps.specs.Members.{all_of}
-use Rattle.library_calls.specs.LinkAnswers.{each_of, with_each_of}
-use Rattle.library_calls.specs.MapAnswers.{AreTaken, objects_each, with_read}
-use Rattle.library_calls.specs.MemoryWanted.{MayRunOutInEachOf}
+use Rattle.library_calls.specs.{LinkAnswers.each_of, LinkAnswers.with_each_of, MapAnswers.AreTaken, MapAnswers.objects_each}
+use Rattle.library_calls.specs.{MapAnswers.with_read, MemoryWanted.MayRunOutInEachOf}
 use Rattle.library_calls.proofs.map_call.objects_of.Given as goal
 
 -- the objects so far, with those of the parts that are left, make the whole; and memory may run out for each that is left

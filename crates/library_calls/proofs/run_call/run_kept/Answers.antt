@@ -1,6 +1,5 @@
 use Rattle.link_session.specs.Labelled.{objects}
-use Rattle.link_out.specs.Outcomes.{outcome_of}
-use Rattle.link_out.specs.function.Link.{link}
+use Rattle.link_out.specs.{Outcomes.outcome_of, function.Link.link}
 use Rattle.library_calls.proofs.MemoryLemmas.{memory_after_link}
 use Rattle.library_calls.proofs.run_call.run_kept.Goals as goal
 

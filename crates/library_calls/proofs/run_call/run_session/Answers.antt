@@ -1,9 +1,7 @@
 use Rattle.std.proofs.Common.{◌≡◌, map, rules, sym}
 use Rattle.aout_core.specs.Refusals.{refused}
-use Rattle.library_calls.specs.internal.Edited.{change_of}
-use Rattle.library_calls.specs.declared.cause.Cause.TheVariants.{Memory}
-use Rattle.library_calls.specs.LinkAnswers.{each_of}
-use Rattle.library_calls.specs.MemoryWanted.{SessionMayRunOut}
+use Rattle.library_calls.specs.{internal.Edited.change_of, declared.cause.Cause.TheVariants.Memory, LinkAnswers.each_of}
+use Rattle.library_calls.specs.{MemoryWanted.SessionMayRunOut}
 use Rattle.library_calls.proofs.MemoryLemmas.{run_without_memory}
 use Rattle.library_calls.proofs.run_call.run_session.Goals as goal
 

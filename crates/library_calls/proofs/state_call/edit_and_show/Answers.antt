@@ -1,6 +1,5 @@
 use Rattle.std.proofs.Common.{map, ap, ◌∙◌}
-use Rattle.library_calls.specs.internal.Edited.{change_of}
-use Rattle.library_calls.specs.SessionAnswers.{session_status}
+use Rattle.library_calls.specs.{internal.Edited.change_of, SessionAnswers.session_status}
 use Rattle.library_calls.proofs.StateLemmas.{shown_after}
 use Rattle.library_calls.proofs.state_call.edit_and_show.Goals as goal
 

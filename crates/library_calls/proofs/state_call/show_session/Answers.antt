@@ -1,8 +1,6 @@
 use Rattle.std.proofs.Common.{map, ap, subst, sym}
 use Rattle.link_session.specs.Undo.{Kept}
-use Rattle.library_calls.specs.internal.Edited.{change_of}
-use Rattle.library_calls.specs.LinkAnswers.{each_of}
-use Rattle.library_calls.specs.StateAnswers.{Shows, states_of}
+use Rattle.library_calls.specs.{internal.Edited.change_of, LinkAnswers.each_of, StateAnswers.Shows, StateAnswers.states_of}
 use Rattle.library_calls.proofs.StateLemmas.{all_shown, asked}
 use Rattle.library_calls.proofs.state_call.show_session.Goals as goal
 

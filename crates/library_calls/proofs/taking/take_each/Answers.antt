@@ -1,8 +1,7 @@
 use Rattle.std.proofs.Common.{ℕ, List, ◌+◌, drop, length, ap, sym, subst, ◌∙◌}
 use Rattle.std.proofs.lemmas.List.{drop_all}
 use Rattle.link_session.specs.Labelled.{objects}
-use Rattle.library_calls.specs.LinkAnswers.{each_of, with_each, with_first}
-use Rattle.library_calls.specs.MemoryWanted.{MayRunOutInEach}
+use Rattle.library_calls.specs.{LinkAnswers.each_of, LinkAnswers.with_each, LinkAnswers.with_first, MemoryWanted.MayRunOutInEach}
 use Rattle.library_calls.proofs.EachLemmas.{more_each, refused_each, out_later_each, out_now_each, number_kept}
 use Rattle.library_calls.proofs.taking.take_each.Goals as goal
 

@@ -1,7 +1,6 @@
 use Rattle.std.proofs.Common.{◌≡◌, ℕ, drop}
 use Rattle.link_session.specs.Labelled.{objects}
-use Rattle.library_calls.specs.LinkAnswers.{each_of, with_each}
-use Rattle.library_calls.specs.MemoryWanted.{MayRunOutInEach}
+use Rattle.library_calls.specs.{LinkAnswers.each_of, LinkAnswers.with_each, MemoryWanted.MayRunOutInEach}
 use Rattle.library_calls.proofs.taking.take_each.Given as goal
 
 -- the objects so far, with those of the parts that are left, make the whole; and memory may run out for each that is left

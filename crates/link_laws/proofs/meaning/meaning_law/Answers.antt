@@ -1,12 +1,8 @@
-use Rattle.link_laws.proofs.RelocatedLemmas.{words_relocated, objects_fill}
-use Rattle.link_laws.proofs.DefinedLemmas.{definitions_hold}
-use Rattle.link_laws.proofs.SaidLemmas.{multiples_differ}
 use Rattle.link_laws.proofs.UndefinedLemmas.{names_have_addresses, missing_have_no_address}
-use Rattle.link_laws.proofs.ExternalLemmas.{entries_once}
-use Rattle.link_laws.proofs.CommonLemmas.{commons_have_space, commons_apart}
-use Rattle.link_laws.proofs.EntryPointLemmas.{entry_is_found}
+use Rattle.link_laws.proofs.{RelocatedLemmas.words_relocated, RelocatedLemmas.objects_fill, DefinedLemmas.definitions_hold}
+use Rattle.link_laws.proofs.{SaidLemmas.multiples_differ, ExternalLemmas.entries_once, CommonLemmas.commons_have_space}
+use Rattle.link_laws.proofs.{CommonLemmas.commons_apart, EntryPointLemmas.entry_is_found, LayoutLemmas.layouts_differ}
 use Rattle.link_out.proofs.partial_links.PartialTheorem.{may_be_added}
-use Rattle.link_laws.proofs.LayoutLemmas.{layouts_differ}
 use Rattle.link_laws.proofs.meaning.meaning_law.Goals as goal
 
 pub returns-clause-words : goal.returns-clause-words

@@ -1,5 +1,4 @@
-use Rattle.link_laws.proofs.LinkedTheorem.{linked_exactly, linked_once}
-use Rattle.link_laws.proofs.RefusalLemmas.{refused_exactly}
+use Rattle.link_laws.proofs.{LinkedTheorem.linked_exactly, LinkedTheorem.linked_once, RefusalLemmas.refused_exactly}
 use Rattle.link_laws.proofs.relation.linking_law.Goals as goal
 
 pub returns-clause-exactly : goal.returns-clause-exactly

@@ -2,8 +2,7 @@ use Rattle.std.proofs.Common.{◌≡◌, List, [], ◌++◌, map, length, ◌∙
 use Rattle.std.proofs.lemmas.List.{length-map}
 use Rattle.link_session.specs.Labelled.{Labelled, objects}
 use Rattle.symtools.specs.NmLists.{in_order}
-use Rattle.link_maps.specs.Members.{left_of, member_of}
-use Rattle.link_maps.specs.Uses.{Use, uses_from, forced_use, is_before}
+use Rattle.link_maps.specs.{Members.left_of, Members.member_of, Uses.Use, Uses.uses_from, Uses.forced_use, Uses.is_before}
 use Rattle.link_maps.proofs.UseLemmas.{uses_joined}
 use Rattle.link_maps.proofs.gather.gather.Goals as goal
 

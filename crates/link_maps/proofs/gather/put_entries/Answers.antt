@@ -1,5 +1,4 @@
-use Rattle.std.proofs.Common.{length, arith}
-use Rattle.std.proofs.lemmas.Grind.{common_steps}
+use Rattle.std.proofs.{Common.length, Common.arith, lemmas.Grind.common_steps}
 use Rattle.link_maps.specs.Members.{member_of}
 use Rattle.link_maps.proofs.UseLemmas.{uses_more, one_longer}
 use Rattle.link_maps.proofs.gather.put_entries.Goals as goal

@@ -1,7 +1,6 @@
 use Rattle.std.proofs.Common.{◌≡◌, ◌++◌, drop, length, map}
 use Rattle.link_session.specs.Labelled.{objects}
-use Rattle.link_maps.specs.Members.{member_of}
-use Rattle.link_maps.specs.Uses.{uses_from}
+use Rattle.link_maps.specs.{Members.member_of, Uses.uses_from}
 use Rattle.link_maps.proofs.gather.put_entries.Given as goal
 
 -- the objects and the uses so far, and those that are left

@@ -1,5 +1,4 @@
-use Rattle.std.proofs.Common.{rules, of_calls, nat_lt, ◌∙◌}
-use Rattle.std.proofs.lemmas.List.Sorted.{IsPartitionPoint-from_clause}
+use Rattle.std.proofs.{Common.rules, Common.of_calls, Common.nat_lt, Common.◌∙◌, lemmas.List.Sorted.IsPartitionPoint-from_clause}
 use Rattle.aout_core.specs.declared.symbol.Symbol.{Symbol}
 use Rattle.link_maps.proofs.LabelLemmas.{fall_apart, first_at}
 use Rattle.link_maps.proofs.labels.nearest.Goals as goal

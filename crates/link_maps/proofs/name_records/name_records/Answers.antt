@@ -1,8 +1,6 @@
 use Rattle.std.proofs.Common.{◌≡◌, ◌<◌, ◌++◌, List, [], ◌∷◌, length, map, rules, ap, ◌∙◌}
-use Rattle.link_maps.specs.internal.Known.{knowledge}
-use Rattle.link_maps.specs.declared.name_records.NameRecord.{NameRecord}
 use Rattle.link_maps.specs.Records.{by_name, record_of, record_with}
-use Rattle.link_maps.specs.Uses.{name_of}
+use Rattle.link_maps.specs.{internal.Known.knowledge, declared.name_records.NameRecord.NameRecord, Uses.name_of}
 use Rattle.link_maps.proofs.RecordLemmas.{name_of_front, names_cut}
 use Rattle.link_maps.proofs.name_records.name_records.Goals as goal
 

@@ -1,6 +1,5 @@
 use Rattle.std.proofs.Common.{◌≡◌, ◌++◌, length, map}
-use Rattle.link_maps.specs.Records.{by_name, record_of}
-use Rattle.link_maps.specs.internal.Known.{knowledge}
+use Rattle.link_maps.specs.{Records.by_name, Records.record_of, internal.Known.knowledge}
 use Rattle.link_maps.proofs.name_records.name_records.Given as goal
 
 -- the records so far, and those of the names that are left

@@ -1,8 +1,8 @@
 use Rattle.std.proofs.Common.{◌≡◌, ◌+◌, ◌≤◌, ◌<◌, false, length, rules}
 use Rattle.link_maps.specs.Records.{is_same_name}
 use Rattle.link_maps.proofs.RecordLemmas.{last_of_name, last_use}
-use Rattle.link_maps.proofs.records.uses_of_name.Goals as goal
 use Rattle.link_maps.proofs.records.uses_of_name.Goals.{then-loop-last-test+else-is_same_name, else-loop-last-test}
+use Rattle.link_maps.proofs.records.uses_of_name.Goals as goal
 
 pub returns-clause-value : goal.returns-clause-value
 returns-clause-value c =

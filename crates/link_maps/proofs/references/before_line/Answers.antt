@@ -1,8 +1,6 @@
 use Rattle.std.proofs.Common.{sym, subst, ap}
-use Rattle.aout_core.specs.Words.{plus}
-use Rattle.aout_core.specs.declared.part.Part.{Part}
-use Rattle.link_maps.specs.References.{segment_of_part}
-use Rattle.link_maps.specs.internal.Labels.{AreLabels}
+use Rattle.aout_core.specs.{Words.plus, declared.part.Part.Part}
+use Rattle.link_maps.specs.{References.segment_of_part, internal.Labels.AreLabels}
 use Rattle.link_maps.proofs.LabelLemmas.{line_label}
 use Rattle.link_maps.proofs.references.before_line.Goals as goal
 

@@ -1,6 +1,5 @@
 use Rattle.std.proofs.Common.{◌≡◌, drop}
-use Rattle.link_maps.specs.References.{references_in, references_of}
-use Rattle.link_maps.specs.internal.Lists.{lists_of, each_more}
+use Rattle.link_maps.specs.{References.references_in, References.references_of, internal.Lists.lists_of, internal.Lists.each_more}
 use Rattle.link_maps.proofs.references.put_words.Given as goal
 
 -- the words so far, and those that are left

@@ -1,5 +1,4 @@
-use Rattle.std.proofs.Common.{List, ◌++◌, length, sym, ◌∙◌, ap}
-use Rattle.std.proofs.lemmas.Result.{on_ok_weaker}
+use Rattle.std.proofs.{Common.List, Common.◌++◌, Common.length, Common.sym, Common.◌∙◌, Common.ap, lemmas.Result.on_ok_weaker}
 use Rattle.aout_core.specs.declared.symbol.Symbol.{Symbol}
 use Rattle.link_maps.specs.internal.Lists.{lists_of, uses_with}
 use Rattle.link_maps.proofs.ListLemmas.{as_many, uses_put}

@@ -1,8 +1,5 @@
-use Rattle.std.proofs.Common.{rules}
-use Rattle.std.proofs.lemmas.Cmp.{nat_list_cmp_total}
-use Rattle.std.proofs.lemmas.List.MinMax.{ranks_by}
-use Rattle.std.proofs.lemmas.List.Sorted.{answers_always}
-use Rattle.std.proofs.lemmas.Result.{on_ok_weaker}
+use Rattle.std.proofs.{Common.rules, lemmas.Cmp.nat_list_cmp_total, lemmas.List.MinMax.ranks_by, lemmas.List.Sorted.answers_always}
+use Rattle.std.proofs.{lemmas.Result.on_ok_weaker}
 use Rattle.symtools.proofs.SortLemmas.{in_order-from_sort}
 use Rattle.link_maps.specs.Uses.{name_of, is_before}
 use Rattle.link_maps.proofs.uses.sort_by_name.Goals as goal

@@ -1,5 +1,4 @@
-use Rattle.std.proofs.Common.{◌∙◌}
-use Rattle.std.proofs.lemmas.Result.{IfOk-weaker}
+use Rattle.std.proofs.{Common.◌∙◌, lemmas.Result.IfOk-weaker}
 use Rattle.link_out.proofs.FinishLemmas.{names_planned, short_ends}
 use Rattle.link_out.proofs.finals.finals_of.Goals as goal
 

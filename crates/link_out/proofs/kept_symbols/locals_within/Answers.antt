@@ -1,9 +1,8 @@
-use Rattle.std.proofs.Common.{◌≡◌, rules, ◌∙◌, sym}
-use Rattle.std.proofs.lemmas.List.{length-map}
+use Rattle.std.proofs.{Common.◌≡◌, Common.rules, Common.◌∙◌, Common.sym, lemmas.List.length-map}
 use Rattle.link_session.specs.Mentions.{names_by_first_mention}
-use Rattle.tool_options.specs.declared.options.Keep.TheVariants as keeps
 use Rattle.link_out.specs.internal.Planned.{plan_in, objects_in}
 use Rattle.link_out.proofs.RowLemmas.{many_rows, locals_counted, none_counted}
+use Rattle.tool_options.specs.declared.options.Keep.TheVariants as keeps
 use Rattle.link_out.proofs.kept_symbols.locals_within.Goals as goal
 
 pub returns-then-eq-clause-count : goal.returns-then-eq-clause-count

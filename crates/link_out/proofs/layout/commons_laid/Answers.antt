@@ -1,6 +1,5 @@
 use Rattle.std.proofs.Common.{◌∙◌, cond, sym, ap}
-use Rattle.link_session.specs.Labelled.{objects}
-use Rattle.link_session.specs.Mentions.{mentions}
+use Rattle.link_session.specs.{Labelled.objects, Mentions.mentions}
 use Rattle.link_out.specs.function.Plans.{commons_total}
 use Rattle.link_out.proofs.InOrderLemmas.{commons_size-all}
 use Rattle.link_out.proofs.layout.commons_laid.Goals as goal

@@ -1,9 +1,7 @@
 use Rattle.std.proofs.Common.{◌≡◌, ℕ, ◌≤◌, ◌∙◌, length, ap, sym, subst, rules}
 use Rattle.aout_core.specs.Contents.{Fits}
-use Rattle.link_out.specs.function.Tables.{table}
-use Rattle.link_out.specs.internal.Planned.{plan_in, objects_in}
-use Rattle.link_out.proofs.FinishLemmas.{header_planned, linked_parts}
-use Rattle.link_out.proofs.FitLemmas.{linked_fits}
+use Rattle.link_out.specs.{function.Tables.table, internal.Planned.plan_in, internal.Planned.objects_in}
+use Rattle.link_out.proofs.{FinishLemmas.header_planned, FinishLemmas.linked_parts, FitLemmas.linked_fits}
 use Rattle.link_out.proofs.linker.file_of.Goals as goal
 
 pub header-requires-clause-rows : goal.header-requires-clause-rows

@@ -1,8 +1,7 @@
 use Rattle.std.proofs.Common.{◌≡◌, rules}
 use Rattle.std.specs.Prelude.{Err}
 use Rattle.aout_core.specs.Refusals.{refused}
-use Rattle.link_out.specs.declared.linked.Linked.{Linked}
-use Rattle.link_out.specs.declared.linked.LinkFault.TheVariants.{Memory}
+use Rattle.link_out.specs.{declared.linked.Linked.Linked, declared.linked.LinkFault.TheVariants.Memory}
 use Rattle.link_out.proofs.FinishLemmas.{ends_refused, ends_without_memory, ends_linked, ends_object}
 use Rattle.link_out.proofs.linker.finish.Goals as goal
 

@@ -1,5 +1,4 @@
-use Rattle.std.proofs.Common.{arith}
-use Rattle.std.proofs.lemmas.Grind.{common_steps}
+use Rattle.std.proofs.{Common.arith, lemmas.Grind.common_steps}
 use Rattle.link_session.specs.declared.cell.Cell.{Cell}
 use Rattle.link_out.specs.internal.FromCells.{target_too_large}
 use Rattle.link_out.proofs.CellRelocLemmas.{none_at}

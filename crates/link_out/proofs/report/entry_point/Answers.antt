@@ -1,6 +1,5 @@
 use Rattle.std.proofs.Common.{◌∙◌, sym, ap}
-use Rattle.link_out.specs.function.Reports.{entry_word, entry_found_bad}
-use Rattle.link_out.specs.internal.Planned.{plan_in}
+use Rattle.link_out.specs.{function.Reports.entry_word, function.Reports.entry_found_bad, internal.Planned.plan_in}
 use Rattle.link_out.proofs.ReportNameLemmas.{entry_at, entry_nowhere}
 use Rattle.link_out.proofs.report.entry_point.Goals as goal
 

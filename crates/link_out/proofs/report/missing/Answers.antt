@@ -1,6 +1,5 @@
-use Rattle.std.proofs.Common.{rules, tests}
-use Rattle.std.proofs.lemmas.Iterator.{items_from_collect, YieldsList-from_map}
 use Rattle.std.proofs.lemmas.Iterator.Consumers.{YieldsList-at, YieldsList-from_first, YieldsList-from_filter}
+use Rattle.std.proofs.{Common.rules, Common.tests, lemmas.Iterator.items_from_collect, lemmas.Iterator.YieldsList-from_map}
 use Rattle.link_session.specs.Undo.{image_of}
 use Rattle.link_out.specs.function.Reports.{is_missing}
 use Rattle.link_out.proofs.report.missing.Goals as goal

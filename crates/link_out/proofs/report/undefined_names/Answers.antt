@@ -1,7 +1,5 @@
-use Rattle.std.proofs.Common.{◌∙◌, [], cond, sym, ap}
-use Rattle.std.proofs.lemmas.Result.{IfOk-weaker}
-use Rattle.link_session.specs.Labelled.{objects}
-use Rattle.link_session.specs.Mentions.{mentions}
+use Rattle.std.proofs.{Common.◌∙◌, Common.[], Common.cond, Common.sym, Common.ap, lemmas.Result.IfOk-weaker}
+use Rattle.link_session.specs.{Labelled.objects, Mentions.mentions}
 use Rattle.link_out.specs.function.Reports.{undefined_names}
 use Rattle.link_out.proofs.ReportNameLemmas.{missing-in_order}
 use Rattle.link_out.proofs.report.undefined_names.Goals as goal

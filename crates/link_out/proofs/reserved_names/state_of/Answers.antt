@@ -1,6 +1,5 @@
 use Rattle.std.proofs.Common.{◌∙◌, sym}
-use Rattle.link_session.specs.Labelled.{objects}
-use Rattle.link_session.specs.Mentions.{mentions}
+use Rattle.link_session.specs.{Labelled.objects, Mentions.mentions}
 use Rattle.link_out.proofs.ReportNameLemmas.{found_known, missing_known}
 use Rattle.link_out.proofs.reserved_names.state_of.Goals as goal
 

@@ -1,6 +1,5 @@
 use Rattle.std.proofs.Common.{◌≡◌, ◌∙◌, ◌||◌, Bool, ap, sym}
-use Rattle.link_out.specs.internal.Planned.{plan_in, objects_in}
-use Rattle.link_out.specs.function.Tables.{has_number_too_large}
+use Rattle.link_out.specs.{internal.Planned.plan_in, internal.Planned.objects_in, function.Tables.has_number_too_large}
 use Rattle.link_out.proofs.SymbolNumberLemmas.{large_word}
 use Rattle.link_out.proofs.symbol_numbers.has_number_too_large.Goals as goal
 

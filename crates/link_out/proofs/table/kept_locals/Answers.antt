@@ -1,5 +1,4 @@
-use Rattle.std.proofs.Common.{arith, rules}
-use Rattle.std.proofs.lemmas.Grind.{common_steps}
+use Rattle.std.proofs.{Common.arith, Common.rules, lemmas.Grind.common_steps}
 use Rattle.link_out.proofs.RowLemmas.{rows_all}
 use Rattle.link_out.proofs.table.kept_locals.Goals as goal
 

@@ -1,6 +1,5 @@
 use Rattle.std.proofs.Common.{◌≡◌, ◌++◌, drop}
-use Rattle.link_session.specs.Labelled.{objects}
-use Rattle.link_session.specs.Starts.{no_starts}
+use Rattle.link_session.specs.{Labelled.objects, Starts.no_starts}
 use Rattle.link_out.specs.internal.Rows.{rows_from}
 use Rattle.link_out.proofs.table.kept_locals.Given as goal
 

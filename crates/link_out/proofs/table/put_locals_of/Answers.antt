@@ -1,5 +1,4 @@
-use Rattle.std.proofs.Common.{arith}
-use Rattle.std.proofs.lemmas.Grind.{common_steps}
+use Rattle.std.proofs.{Common.arith, lemmas.Grind.common_steps}
 use Rattle.link_out.proofs.table.put_locals_of.Goals as goal
 
 pub loop-symbol-preserved : goal.loop-symbol-preserved

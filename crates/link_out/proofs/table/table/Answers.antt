@@ -1,14 +1,10 @@
 use Rattle.std.proofs.Common.{◌≡◌, ◌∙◌, ◌++◌, ap, sym, rules, List}
 use Rattle.aout_core.specs.declared.symbol.Symbol.{Symbol}
-use Rattle.link_session.specs.Labelled.{objects}
-use Rattle.link_session.specs.Starts.{no_starts}
-use Rattle.link_session.specs.Undo.{image_of}
-use Rattle.tool_options.specs.declared.options.Keep.TheVariants as keeps
-use Rattle.link_out.specs.function.Finals.{Final}
-use Rattle.link_out.specs.function.Tables.{local_rows, external_rows}
-use Rattle.link_out.specs.internal.Planned.{plan_in, objects_in}
-use Rattle.link_out.specs.internal.Rows.{rows_from, rows_with}
+use Rattle.link_session.specs.{Labelled.objects, Starts.no_starts, Undo.image_of}
+use Rattle.link_out.specs.{function.Finals.Final, function.Tables.local_rows, function.Tables.external_rows, internal.Planned.plan_in}
+use Rattle.link_out.specs.{internal.Planned.objects_in, internal.Rows.rows_from, internal.Rows.rows_with}
 use Rattle.link_out.proofs.RowLemmas.{rows_from-local_rows, rows_planned, table_whole}
+use Rattle.tool_options.specs.declared.options.Keep.TheVariants as keeps
 use Rattle.link_out.proofs.table.table.Goals as goal
 
 pub returns : goal.returns

@@ -1,6 +1,5 @@
 use Rattle.std.proofs.Common.{length, ◌+◌}
-use Rattle.link_session.specs.internal.Chains.{walk}
-use Rattle.link_session.specs.internal.Bindings.{BindsTo}
+use Rattle.link_session.specs.{internal.Chains.walk, internal.Bindings.BindsTo}
 use Rattle.link_session.proofs.bind.bind_chain.Given as goal
 
 -- the places after are bound, and those ahead are left

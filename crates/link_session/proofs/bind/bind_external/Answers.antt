@@ -1,11 +1,8 @@
 use Rattle.std.proofs.Common.{◌≡◌, None, List, slice_index_or, slice_set, ap, subst, ◌∙◌, rules}
-use Rattle.std.specs.Vec.{with_items}
 use Rattle.std.proofs.lemmas.List.{with_items_is}
-use Rattle.link_session.specs.declared.bind.Definition.{Definition}
-use Rattle.link_session.specs.declared.state.State.TheVariants.{Defined, Wanted}
-use Rattle.link_session.specs.Image.{state_at}
-use Rattle.link_session.specs.internal.Chains.{Link}
-use Rattle.link_session.specs.internal.Bindings.{BindsTo}
+use Rattle.std.specs.Vec.{with_items}
+use Rattle.link_session.specs.{declared.bind.Definition.Definition, declared.state.State.TheVariants.Defined}
+use Rattle.link_session.specs.{declared.state.State.TheVariants.Wanted, Image.state_at, internal.Chains.Link, internal.Bindings.BindsTo}
 use Rattle.link_session.proofs.BindingLemmas.{none_waits, none_defined, chain_cut, chain_back, chain_bound, chain_few}
 use Rattle.link_session.proofs.bind.bind_external.Goals.{After-begin_chain}
 use Rattle.link_session.proofs.bind.bind_external.Goals as goal

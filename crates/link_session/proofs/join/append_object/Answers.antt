@@ -1,13 +1,9 @@
-use Rattle.std.proofs.Common.{◌≡◌, ◌++◌, List, length, ◌∙◌, ap, rules}
+use Rattle.std.proofs.{Common.◌≡◌, Common.◌++◌, Common.List, Common.length, Common.◌∙◌, Common.ap, Common.rules, lemmas.List.with_items_is}
 use Rattle.std.specs.Vec.{with_items}
-use Rattle.std.proofs.lemmas.List.{with_items_is}
-use Rattle.aout_core.specs.declared.symbol.Segment.TheVariants as segments
-use Rattle.link_session.specs.declared.cell.Cell.{Cell}
 use Rattle.link_session.specs.internal.Additions.{own_cells, placed_cells, place_at}
-use Rattle.link_session.specs.Starts.{shift_by}
-use Rattle.link_session.specs.internal.Chains.{threaded}
-use Rattle.link_session.specs.internal.Threads.{grown_heads}
+use Rattle.link_session.specs.{declared.cell.Cell.Cell, Starts.shift_by, internal.Chains.threaded, internal.Threads.grown_heads}
 use Rattle.link_session.proofs.PlacedCellLemmas.{placed_texts, placed_datas}
+use Rattle.aout_core.specs.declared.symbol.Segment.TheVariants as segments
 use Rattle.link_session.proofs.join.append_object.Goals as goal
 
 pub returns-clause-image : goal.returns-clause-image

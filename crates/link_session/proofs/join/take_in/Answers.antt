@@ -1,19 +1,12 @@
 use Rattle.std.proofs.Common.{ℕ, ◌≡◌, ◌≤◌, ◌+◌, List, length, map, sym, ◌∙◌, ap, subst, arith, rules}
 use Rattle.std.specs.Prelude.{filter, vec_len}
-use Rattle.aout_core.specs.declared.symbol.Symbol.{Symbol}
-use Rattle.aout_core.specs.Contents.{Contents}
-use Rattle.aout_core.specs.WellFormed.{is_external}
-use Rattle.link_session.specs.declared.merged.Sizes.{Sizes}
-use Rattle.link_session.specs.Undo.{undo}
-use Rattle.link_session.specs.Image.{Image}
-use Rattle.link_session.specs.internal.Threads.{Threads, cut_heads}
-use Rattle.link_session.specs.internal.Chains.{AreChained}
+use Rattle.aout_core.specs.{declared.symbol.Symbol.Symbol, Contents.Contents, WellFormed.is_external}
 use Rattle.link_session.specs.internal.Fields.{image_in, threads_in, sizes_of, threads_by, with_heads_back, HasAtLeast}
 use Rattle.link_session.specs.internal.Additions.{next_mentions, state_marks, with_mentions, mentions_by, all_places}
-use Rattle.link_session.specs.internal.Bindings.{Bindable}
-use Rattle.link_session.specs.internal.Settled.{settled_over}
-use Rattle.link_session.proofs.JoinLemmas.{entered-is, few_named, few_new, bound-is, heads-are, marks-are}
-use Rattle.link_session.proofs.JoinLemmas.{undone, joined-is, joined_threads}
+use Rattle.link_session.specs.{declared.merged.Sizes.Sizes, Undo.undo, Image.Image, internal.Threads.Threads, internal.Threads.cut_heads}
+use Rattle.link_session.specs.{internal.Chains.AreChained, internal.Bindings.Bindable, internal.Settled.settled_over}
+use Rattle.link_session.proofs.JoinLemmas.{entered-is, few_named, few_new, bound-is, heads-are, marks-are, undone, joined-is}
+use Rattle.link_session.proofs.JoinLemmas.{joined_threads}
 use Rattle.link_session.proofs.BindingLemmas.{texts_bound, datas_bound, several_texts, several_datas, several_heads}
 use Rattle.link_session.proofs.PlacedLemmas.{settled_places, cut_places}
 use Rattle.link_session.proofs.join.take_in.Goals as goal

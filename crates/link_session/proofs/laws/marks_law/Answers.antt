@@ -1,10 +1,6 @@
 use Rattle.std.proofs.Common.{◌++◌, sym, subst}
-use Rattle.link_session.specs.Laws.{HoldState}
-use Rattle.link_session.specs.Marks.{states_changed}
-use Rattle.link_session.specs.Mentions.{mentions, mentions_in}
-use Rattle.link_session.specs.States.{state}
-use Rattle.link_session.proofs.MentionLemmas.{mentions_push}
-use Rattle.link_session.proofs.ChangedLemmas.{none_changed, first_changed}
+use Rattle.link_session.specs.{Laws.HoldState, Marks.states_changed, Mentions.mentions, Mentions.mentions_in, States.state}
+use Rattle.link_session.proofs.{MentionLemmas.mentions_push, ChangedLemmas.none_changed, ChangedLemmas.first_changed}
 use Rattle.link_session.proofs.laws.marks_law.Goals as goal
 
 pub returns : goal.returns

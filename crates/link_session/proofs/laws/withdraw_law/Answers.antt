@@ -1,5 +1,4 @@
-use Rattle.std.proofs.Common.{◌≡◌, sym, ◌∙◌}
-use Rattle.std.proofs.lemmas.List.{same_from_push}
+use Rattle.std.proofs.{Common.◌≡◌, Common.sym, Common.◌∙◌, lemmas.List.same_from_push}
 use Rattle.link_session.proofs.laws.withdraw_law.Goals as goal
 
 pub returns : goal.returns

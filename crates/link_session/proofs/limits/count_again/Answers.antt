@@ -1,8 +1,7 @@
 use Rattle.std.proofs.Common.{arith}
 use Rattle.std.specs.Map.{keys_of}
 use Rattle.aout_core.specs.WellFormed.{is_external}
-use Rattle.link_session.proofs.PlaceLemmas.{filter_le}
-use Rattle.link_session.proofs.LimitLemmas.{new_count-le}
+use Rattle.link_session.proofs.{PlaceLemmas.filter_le, LimitLemmas.new_count-le}
 use Rattle.link_session.proofs.limits.count_again.Goals as goal
 
 pub overflow_add-count : goal.overflow_add-count

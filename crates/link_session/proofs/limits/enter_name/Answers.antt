@@ -1,7 +1,6 @@
 use Rattle.std.proofs.Common.{ap, ◌∙◌}
 use Rattle.std.specs.Map.{keys_of}
-use Rattle.link_session.specs.declared.state.State.TheVariants.{Wanted}
-use Rattle.link_session.specs.internal.Additions.{mention_of}
+use Rattle.link_session.specs.{declared.state.State.TheVariants.Wanted, internal.Additions.mention_of}
 use Rattle.link_session.proofs.MentionedLemmas.{keys-with_mention}
 use Rattle.link_session.proofs.limits.enter_name.Goals as goal
 

@@ -1,10 +1,8 @@
-use Rattle.std.proofs.Common.{◌+◌, ◌≤◌, length, sym, ◌∙◌, arith}
+use Rattle.std.proofs.{Common.◌+◌, Common.◌≤◌, Common.length, Common.sym, Common.◌∙◌, Common.arith, lemmas.Bool.le-ltb}
 use Rattle.std.specs.Map.{keys_of}
-use Rattle.std.proofs.lemmas.Bool.{le-ltb}
 use Rattle.aout_core.specs.WellFormed.{is_external}
 use Rattle.link_session.specs.internal.Additions.{new_count}
-use Rattle.link_session.proofs.PlaceLemmas.{filter_le}
-use Rattle.link_session.proofs.LimitLemmas.{new_count-le}
+use Rattle.link_session.proofs.{PlaceLemmas.filter_le, LimitLemmas.new_count-le}
 use Rattle.link_session.proofs.limits.names_full.Goals as goal
 
 pub overflow_add-known : goal.overflow_add-known

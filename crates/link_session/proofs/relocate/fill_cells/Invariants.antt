@@ -1,7 +1,5 @@
 use Rattle.std.proofs.Common.{◌≡◌, ◌≤◌, ℕ, ◌+◌, ◌++◌, take, drop, None, slice_index_or}
-use Rattle.link_session.specs.internal.Additions.{place_at}
-use Rattle.link_session.specs.internal.Chains.{threaded}
-use Rattle.link_session.specs.internal.OwnWords.{cells_in_scope}
+use Rattle.link_session.specs.{internal.Additions.place_at, internal.Chains.threaded, internal.OwnWords.cells_in_scope}
 use Rattle.link_session.proofs.relocate.fill_cells.Given as goal
 
 -- the cells, links and heads so far, with those that are left, make the whole; the links that are left lead nowhere

@@ -1,13 +1,9 @@
 use Rattle.std.proofs.Common.{◌≡◌, ◌+◌, ◌≤◌, [], map, length, ap, ◌∙◌, arith, rules}
-use Rattle.std.specs.Prelude.{vec_len, vec_capacity}
 use Rattle.std.proofs.lemmas.List.{length-map}
+use Rattle.std.specs.Prelude.{vec_len, vec_capacity}
 use Rattle.link_session.specs.Mentions.{Mention, forced_mention, names_of}
-use Rattle.link_session.specs.Image.{Named}
-use Rattle.link_session.specs.internal.Additions.{with_mentions}
-use Rattle.link_session.specs.internal.Threads.{grown_heads}
-use Rattle.link_session.proofs.LimitLemmas.{length-new_names}
-use Rattle.link_session.proofs.MentionedLemmas.{length-with_mentions}
-use Rattle.link_session.proofs.HeadLemmas.{grown_none}
+use Rattle.link_session.specs.{Image.Named, internal.Additions.with_mentions, internal.Threads.grown_heads}
+use Rattle.link_session.proofs.{LimitLemmas.length-new_names, MentionedLemmas.length-with_mentions, HeadLemmas.grown_none}
 use Rattle.link_session.proofs.session.enter_forced.Goals as goal
 
 pub grow_heads-requires : goal.grow_heads-requires

@@ -1,7 +1,6 @@
 use Rattle.std.proofs.Common.{◌≡◌, ◌≤◌, drop, length, map}
 use Rattle.indexmap.specs.IndexMap.{spare}
-use Rattle.link_session.specs.Mentions.{forced_mention}
-use Rattle.link_session.specs.internal.Additions.{with_mentions}
+use Rattle.link_session.specs.{Mentions.forced_mention, internal.Additions.with_mentions}
 use Rattle.link_session.proofs.session.force_names.Given as goal
 
 -- the names so far, with those that are left, make the whole

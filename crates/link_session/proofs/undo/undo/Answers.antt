@@ -1,8 +1,6 @@
 use Rattle.std.proofs.Common.{◌+◌, ◌-◌, take, length, ap, sym, ◌∙◌}
-use Rattle.link_session.specs.Image.{Image}
-use Rattle.link_session.specs.Undo.{put_all_back}
-use Rattle.link_session.specs.internal.Threads.{Threads}
 use Rattle.link_session.specs.internal.Fields.{image_in, threads_in, with_heads_back}
+use Rattle.link_session.specs.{Image.Image, Undo.put_all_back, internal.Threads.Threads}
 use Rattle.link_session.proofs.PutBackLemmas.{put_next, head_next}
 use Rattle.link_session.proofs.undo.undo.Goals as goal
 

@@ -1,6 +1,5 @@
 use Rattle.std.proofs.Common.{◌≡◌, ◌-◌, take, length}
-use Rattle.link_session.specs.Undo.{put_all_back}
-use Rattle.link_session.specs.internal.Fields.{image_in, threads_in, with_heads_back}
+use Rattle.link_session.specs.{Undo.put_all_back, internal.Fields.image_in, internal.Fields.threads_in, internal.Fields.with_heads_back}
 use Rattle.link_session.proofs.undo.undo.Given as goal
 
 -- the marks that are left

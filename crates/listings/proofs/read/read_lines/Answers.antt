@@ -1,8 +1,5 @@
-use Rattle.std.proofs.Common.{◌<◌, ◌∙◌, length, arith, rules}
-use Rattle.std.proofs.lemmas.Result.{err_from_is_err_and}
-use Rattle.listings.specs.Columns.{row_of}
-use Rattle.listings.specs.Reading.{row_read}
-use Rattle.listings.specs.internal.DraftParts.{draft_of}
+use Rattle.std.proofs.{Common.◌<◌, Common.◌∙◌, Common.length, Common.arith, Common.rules, lemmas.Result.err_from_is_err_and}
+use Rattle.listings.specs.{Columns.row_of, Reading.row_read, internal.DraftParts.draft_of}
 use Rattle.listings.proofs.DraftLemmas.{row_keeps}
 use Rattle.listings.proofs.ReadLemmas.{lines_on, lines_stop, row_of_line, runs_out_here, runs_out_on}
 use Rattle.listings.proofs.read.read_lines.Goals as goal

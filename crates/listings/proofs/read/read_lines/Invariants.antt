@@ -1,9 +1,6 @@
 use Rattle.std.proofs.Common.{◌≡◌, ◌+◌, ◌≤◌, length}
 use Rattle.texts.specs.Lines.{lines_in}
-use Rattle.listings.specs.internal.DraftParts.{draft_of}
-use Rattle.listings.specs.MemoryWanted.{MayRunOutInLines}
-use Rattle.listings.specs.Reading.{lines_read}
-use Rattle.listings.specs.internal.Whole.{IsDraft}
+use Rattle.listings.specs.{internal.DraftParts.draft_of, MemoryWanted.MayRunOutInLines, Reading.lines_read, internal.Whole.IsDraft}
 use Rattle.listings.proofs.read.read_lines.Given as goal
 
 abbrev pub invariant-loop-rest : goal.invariant-loop-rest

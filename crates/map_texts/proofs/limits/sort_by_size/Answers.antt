@@ -1,6 +1,4 @@
-use Rattle.std.proofs.Common.{rules}
-use Rattle.std.proofs.lemmas.List.Sorted.{answers_always}
-use Rattle.std.proofs.lemmas.Result.{on_ok_weaker}
+use Rattle.std.proofs.{Common.rules, lemmas.List.Sorted.answers_always, lemmas.Result.on_ok_weaker}
 use Rattle.symtools.proofs.SortLemmas.{in_order-from_sort}
 use Rattle.map_texts.specs.MapTexts.{is_larger}
 use Rattle.map_texts.proofs.SizeLemmas.{larger_order, compared}

@@ -1,10 +1,8 @@
 use Rattle.std.proofs.Common.{◌≡◌, ℕ, ◌+◌, ◌-◌, ◌≤◌, List, ◌++◌, length, reverse, take, ap, sym, ◌∙◌, arith}
-use Rattle.std.proofs.lemmas.Grind.{common_steps}
-use Rattle.std.proofs.lemmas.List.{length-take-le, take-take}
+use Rattle.std.proofs.{lemmas.Grind.common_steps, lemmas.List.length-take-le, lemmas.List.take-take}
 use Rattle.link_session.specs.Labelled.{Labelled, objects}
 use Rattle.report_objects.specs.Places.{further_among, further_objects}
-use Rattle.report_objects.proofs.CountLemmas.{as_many}
-use Rattle.report_objects.proofs.FurtherLemmas.{one_less}
+use Rattle.report_objects.proofs.{CountLemmas.as_many, FurtherLemmas.one_less}
 use Rattle.report_objects.proofs.further.further_objects.Goals as goal
 
 pub loop-number-preserved : goal.loop-number-preserved

@@ -1,7 +1,6 @@
 use Rattle.link_out.specs.Outcomes.{report_names}
 use Rattle.link_session.specs.Labelled.{objects}
-use Rattle.report_objects.proofs.CountLemmas.{places_counted}
-use Rattle.report_objects.proofs.PlaceLemmas.{placed}
+use Rattle.report_objects.proofs.{CountLemmas.places_counted, PlaceLemmas.placed}
 use Rattle.report_objects.proofs.places.places_of.Goals as goal
 
 pub returns-clause-value : goal.returns-clause-value

@@ -1,7 +1,6 @@
 use Rattle.std.proofs.Common.{◌++◌, ◌∙◌, sym}
 use Rattle.link_session.specs.Undo.{image_of}
-use Rattle.reports.specs.Items.{each}
-use Rattle.reports.specs.StateJson.{external_json}
+use Rattle.reports.specs.{Items.each, StateJson.external_json}
 use Rattle.reports.proofs.EachLemmas.{one_more_at}
 use Rattle.reports.proofs.json.put_externals.Goals as goal
 

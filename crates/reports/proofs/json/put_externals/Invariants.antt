@@ -1,7 +1,6 @@
 use Rattle.std.proofs.Common.{◌≡◌, ◌++◌, drop, false}
 use Rattle.link_session.specs.Undo.{image_of}
-use Rattle.reports.specs.StateJson.{external_json}
-use Rattle.reports.specs.Items.{each, each_from}
+use Rattle.reports.specs.{StateJson.external_json, Items.each, Items.each_from}
 use Rattle.reports.proofs.json.put_externals.Given as goal
 
 -- what is there, with the items that are left, makes the whole

@@ -3,8 +3,7 @@ use Rattle.std.specs.Prelude.{codes}
 use Rattle.link_session.specs.Undo.{image_of}
 use Rattle.texts.specs.Texts.{Puts}
 use Rattle.texts.proofs.PutLemmas.{puts_both}
-use Rattle.reports.specs.Items.{each}
-use Rattle.reports.specs.StateJson.{external_json, multiple_json}
+use Rattle.reports.specs.{Items.each, StateJson.external_json, StateJson.multiple_json}
 use Rattle.reports.proofs.json.put_lists.Goals as goal
 
 pub returns : goal.returns

@@ -1,8 +1,6 @@
 use Rattle.std.proofs.Common.{◌≡◌, ◌++◌, drop, false}
-use Rattle.link_session.specs.Sessions.{newest}
-use Rattle.link_session.specs.Undo.{image_of}
-use Rattle.reports.specs.StateJson.{listed_mark}
-use Rattle.reports.specs.Items.{each, each_from}
+use Rattle.link_session.specs.{Sessions.newest, Undo.image_of}
+use Rattle.reports.specs.{StateJson.listed_mark, Items.each, Items.each_from}
 use Rattle.reports.proofs.json.put_marks.Given as goal
 
 -- what is there, with the items that are left, makes the whole

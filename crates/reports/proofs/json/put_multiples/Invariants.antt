@@ -1,6 +1,5 @@
 use Rattle.std.proofs.Common.{◌≡◌, ◌++◌, drop, false}
-use Rattle.reports.specs.StateJson.{multiple_json}
-use Rattle.reports.specs.Items.{each, each_from}
+use Rattle.reports.specs.{StateJson.multiple_json, Items.each, Items.each_from}
 use Rattle.reports.proofs.json.put_multiples.Given as goal
 
 -- what is there, with the items that are left, makes the whole

@@ -1,7 +1,6 @@
 use Rattle.std.proofs.Common.{◌++◌, ℕ, List, codes, subst, sym}
 use Rattle.texts.specs.Texts.{Puts}
-use Rattle.link_session.specs.declared.cell.Target.{Target}
-use Rattle.link_session.specs.Undo.{image_of}
+use Rattle.link_session.specs.{declared.cell.Target.Target, Undo.image_of}
 use Rattle.reports.specs.StateJson.{json_name, target_json}
 use Rattle.reports.proofs.json.put_target.Goals as goal
 

@@ -1,8 +1,6 @@
 use Rattle.std.proofs.Common.{ℕ, List, ◌++◌, ◌∙◌, sym}
-use Rattle.link_session.specs.declared.state.State.{State}
-use Rattle.link_session.specs.Undo.{image_of}
-use Rattle.reports.specs.Items.{each}
-use Rattle.reports.specs.StateLines.{external_line}
+use Rattle.link_session.specs.{declared.state.State.State, Undo.image_of}
+use Rattle.reports.specs.{Items.each, StateLines.external_line}
 use Rattle.reports.proofs.EachLemmas.{one_more_at}
 use Rattle.reports.proofs.lines.put_externals.Goals as goal
 

@@ -1,6 +1,5 @@
 use Rattle.std.proofs.Common.{◌≡◌, ◌++◌, drop, false}
-use Rattle.reports.specs.StateLines.{multiple_line}
-use Rattle.reports.specs.Items.{each, each_from}
+use Rattle.reports.specs.{StateLines.multiple_line, Items.each, Items.each_from}
 use Rattle.reports.proofs.lines.put_multiples.Given as goal
 
 -- what is there, with the items that are left, makes the whole

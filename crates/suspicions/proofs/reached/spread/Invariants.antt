@@ -1,6 +1,5 @@
 use Rattle.std.proofs.Common.{◌≡◌, ◌-◌, length}
-use Rattle.suspicions.specs.Reached.{spread}
-use Rattle.suspicions.specs.internal.Marks.{AreMarks}
+use Rattle.suspicions.specs.{Reached.spread, internal.Marks.AreMarks}
 use Rattle.suspicions.proofs.reached.spread.Given as goal
 
 -- what the places that are left lead to, and the marks

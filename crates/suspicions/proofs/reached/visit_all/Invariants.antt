@@ -1,6 +1,5 @@
 use Rattle.std.proofs.Common.{◌≡◌, drop, length}
-use Rattle.suspicions.specs.Reached.{visited_all}
-use Rattle.suspicions.specs.internal.Marks.{AreMarks}
+use Rattle.suspicions.specs.{Reached.visited_all, internal.Marks.AreMarks}
 use Rattle.suspicions.proofs.reached.visit_all.Given as goal
 
 -- what the addresses that are left give, and the marks

@@ -1,7 +1,6 @@
 use Rattle.std.proofs.Common.{◌≡◌, drop, length}
-use Rattle.suspicions.specs.declared.evidence.Evidence.TheVariants.{Distances}
 use Rattle.suspicions.specs.Reached.{visited_all, shown_from, evident}
-use Rattle.suspicions.specs.internal.Marks.{AreMarks}
+use Rattle.suspicions.specs.{declared.evidence.Evidence.TheVariants.Distances, internal.Marks.AreMarks}
 use Rattle.suspicions.proofs.reached.visit_distances.Given as goal
 
 -- what the places that are left give, and the marks

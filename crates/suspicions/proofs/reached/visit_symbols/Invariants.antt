@@ -1,6 +1,5 @@
 use Rattle.std.proofs.Common.{◌≡◌, drop, length, map}
-use Rattle.suspicions.specs.Reached.{named, visited_all}
-use Rattle.suspicions.specs.internal.Marks.{AreMarks}
+use Rattle.suspicions.specs.{Reached.named, Reached.visited_all, internal.Marks.AreMarks}
 use Rattle.suspicions.proofs.reached.visit_symbols.Given as goal
 
 -- what the symbols that are left give, and the marks

@@ -1,6 +1,5 @@
 use Rattle.std.proofs.Common.{◌≡◌, ◌≤◌, length, drop}
-use Rattle.suspicions.specs.Trust.{sure_ahead}
-use Rattle.suspicions.specs.internal.Ahead.{IsAhead}
+use Rattle.suspicions.specs.{Trust.sure_ahead, internal.Ahead.IsAhead}
 use Rattle.suspicions.proofs.trust.sure_ahead.Given as goal
 
 -- what is known of the places from this one on

@@ -1,11 +1,8 @@
 use Rattle.std.proofs.Common.{rules, ℕ, List, ◌++◌, ◌∷◌, [], ◌∙◌, if◌then◌else◌, filter, ap, subst}
-use Rattle.std.specs.List.{flat_map}
-use Rattle.std.specs.Io.KnownBytes.{Appends}
 use Rattle.std.proofs.KnownBytes.{Appends-trans}
-use Rattle.aout_core.specs.Wires.{AppendsPrefix}
-use Rattle.aout_core.specs.declared.symbol.Symbol.{Symbol}
-use Rattle.symtools.specs.SymbolLines.{symbol_line}
-use Rattle.symtools.specs.NmLists.{is_shown, arranged}
+use Rattle.std.specs.{List.flat_map, Io.KnownBytes.Appends}
+use Rattle.aout_core.specs.{Wires.AppendsPrefix, declared.symbol.Symbol.Symbol}
+use Rattle.symtools.specs.{SymbolLines.symbol_line, NmLists.is_shown, NmLists.arranged}
 use Rattle.aout_core.proofs.PutsLemmas.{front_before, front_after, put_broke_off}
 use Rattle.symtools.proofs.listing.list_file.Goals as goal
 

@@ -1,10 +1,8 @@
 use Rattle.std.proofs.Common.{◌++◌, ◌∷◌, [], if◌then◌else◌, length, subst, take, take_all, filter, string_bytes, ap, sym, ◌∙◌}
-use Rattle.std.specs.List.{flat_map}
-use Rattle.std.specs.Io.KnownBytes.{Appends}
 use Rattle.std.proofs.lemmas.Result.{err_from_is_err_and}
+use Rattle.std.specs.{List.flat_map, Io.KnownBytes.Appends}
 use Rattle.aout_core.specs.Wires.{AppendsPrefix}
-use Rattle.symtools.specs.SymbolLines.{symbol_line}
-use Rattle.symtools.specs.NmLists.{is_shown, arranged}
+use Rattle.symtools.specs.{SymbolLines.symbol_line, NmLists.is_shown, NmLists.arranged}
 use Rattle.aout_core.proofs.PutsLemmas.{front_of_row, put_broke_off}
 use Rattle.symtools.proofs.PutsLemmas.{not_failed, row_more}
 use Rattle.symtools.proofs.TextLemmas.{listed, lists_up_to, nm_text-listed}

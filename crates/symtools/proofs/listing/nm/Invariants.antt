@@ -1,6 +1,5 @@
 use Rattle.std.proofs.Common.{◌≡◌, ◌&&◌, not, false, take, length, nat_lt}
-use Rattle.std.specs.List.{flat_map}
-use Rattle.std.specs.Io.KnownBytes.{Appends}
+use Rattle.std.specs.{List.flat_map, Io.KnownBytes.Appends}
 use Rattle.symtools.proofs.TextLemmas.{listed}
 use Rattle.symtools.proofs.listing.nm.Given as goal
 

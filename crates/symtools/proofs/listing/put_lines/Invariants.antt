@@ -1,6 +1,5 @@
 use Rattle.std.proofs.Common.{◌≡◌, false, take, if◌then◌else◌, [], ◌∷◌, ◌++◌}
-use Rattle.std.specs.List.{flat_map}
-use Rattle.std.specs.Io.KnownBytes.{Appends}
+use Rattle.std.specs.{List.flat_map, Io.KnownBytes.Appends}
 use Rattle.symtools.specs.SymbolLines.{symbol_line}
 use Rattle.symtools.proofs.listing.put_lines.Given as goal
 

@@ -1,6 +1,4 @@
-use Rattle.std.proofs.Common.{rules}
-use Rattle.std.proofs.lemmas.List.Sorted.{answers_always}
-use Rattle.std.proofs.lemmas.Result.{on_ok_weaker}
+use Rattle.std.proofs.{Common.rules, lemmas.List.Sorted.answers_always, lemmas.Result.on_ok_weaker}
 use Rattle.symtools.proofs.OrderLemmas.{name_of, sorted_by_name}
 use Rattle.symtools.proofs.listing.sort_by_name.Goals as goal
 

@@ -1,11 +1,9 @@
 use Rattle.std.proofs.Common.{rules, ◌++◌, ◌∷◌, [], if◌then◌else◌, nat_lt, length, subst, take_all, ap, ◌∙◌}
-use Rattle.std.specs.List.{flat_map}
-use Rattle.std.specs.Io.KnownBytes.{Appends}
+use Rattle.std.specs.{List.flat_map, Io.KnownBytes.Appends}
 use Rattle.aout_core.specs.Wires.{AppendsPrefix}
 use Rattle.symtools.specs.SizeLines.{size_line}
 use Rattle.aout_core.proofs.PutsLemmas.{front_of_row, writes_in_part}
-use Rattle.symtools.proofs.PutsLemmas.{row_more}
-use Rattle.symtools.proofs.TextLemmas.{sized, size_text-sized}
+use Rattle.symtools.proofs.{PutsLemmas.row_more, TextLemmas.sized, TextLemmas.size_text-sized}
 use Rattle.symtools.proofs.sizes.size.Goals as goal
 
 pub returns-in_err-put_size-clause-written : goal.returns-in_err-put_size-clause-written

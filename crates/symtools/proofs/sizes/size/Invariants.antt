@@ -1,6 +1,5 @@
 use Rattle.std.proofs.Common.{◌≡◌, false, take, length}
-use Rattle.std.specs.List.{flat_map}
-use Rattle.std.specs.Io.KnownBytes.{Appends}
+use Rattle.std.specs.{List.flat_map, Io.KnownBytes.Appends}
 use Rattle.symtools.proofs.TextLemmas.{sized}
 use Rattle.symtools.proofs.sizes.size.Given as goal
 

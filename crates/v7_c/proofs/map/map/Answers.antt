@@ -1,9 +1,7 @@
 use Rattle.std.proofs.Common.{◌≡◌, ◌<◌, true, false, eqb, nat_le, if◌then◌else◌, Bool, Result, Err, sym, ap, ◌∙◌, arith, le-leb}
 use Rattle.std.proofs.lemmas.Bool.{and_left, and_right, lt-leb}
-use Rattle.library_calls.specs.declared.cause.Cause.TheVariants.{NoOption}
-use Rattle.library_calls.specs.declared.cause.Refusal.{Refusal}
-use Rattle.library_calls.specs.LinkAnswers.{each_of}
-use Rattle.library_calls.specs.MapAnswers.{MapOf, map_asked}
+use Rattle.library_calls.specs.{declared.cause.Cause.TheVariants.NoOption, declared.cause.Refusal.Refusal, LinkAnswers.each_of}
+use Rattle.library_calls.specs.{MapAnswers.MapOf, MapAnswers.map_asked}
 use Rattle.v7_c.specs.MapLeft.{MapLeft, is_answered, is_known, left_in, map_left}
 use Rattle.v7_c.proofs.map.map.Goals as goal
 

@@ -1,10 +1,9 @@
 use Rattle.std.proofs.Common.{rules, ◌≡◌, ◌+◌, drop, map, string_bytes, subst, sym}
 use Rattle.std.specs.Prelude.{Ok, Err}
 use Rattle.aout_core.specs.Refusals.{refused}
-use Rattle.surroundings.specs.declared.answer.Fault.TheVariants as faults
-use Rattle.v7_explain.specs.Joined.{joined, nothing_said}
-use Rattle.v7_explain.specs.Runs.{Explains, IsExplaining}
+use Rattle.v7_explain.specs.{Joined.joined, Joined.nothing_said, Runs.Explains, Runs.IsExplaining}
 use Rattle.v7_explain.proofs.ExplainingLemmas.{explaining_ends, explaining_more, explaining_stops, paths_left}
+use Rattle.surroundings.specs.declared.answer.Fault.TheVariants as faults
 use Rattle.v7_explain.proofs.explaining.explain_each.Goals as goal
 
 pub returns-in-Err : goal.returns-in-Err

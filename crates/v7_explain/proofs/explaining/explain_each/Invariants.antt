@@ -1,9 +1,6 @@
 use Rattle.std.proofs.Common.{Result, drop, map, string_bytes}
-use Rattle.surroundings.specs.Answer.{Answer}
-use Rattle.surroundings.specs.Events.{History}
-use Rattle.surroundings.specs.declared.answer.Fault.{Fault}
-use Rattle.v7_explain.specs.Joined.{nothing_said}
-use Rattle.v7_explain.specs.Runs.{IsExplaining}
+use Rattle.surroundings.specs.{Answer.Answer, Events.History, declared.answer.Fault.Fault}
+use Rattle.v7_explain.specs.{Joined.nothing_said, Runs.IsExplaining}
 use Rattle.v7_explain.proofs.explaining.explain_each.Given as goal
 
 -- what comes of the files that are left comes of all

@@ -1,11 +1,8 @@
 use Rattle.std.proofs.Common.{rules, ◌≡◌, ◌++◌, ◌+◌, ◌-◌, Bool, List, ℕ, drop, map, string_bytes, ap, sym, ◌∙◌}
 use Rattle.std.proofs.lemmas.List.{append-nil, drop_all}
-use Rattle.std.specs.List.{flat_map}
-use Rattle.std.specs.Prelude.{String}
-use Rattle.std.specs.declared.alloc.Global.{Global}
+use Rattle.std.specs.{List.flat_map, Prelude.String, declared.alloc.Global.Global}
 use Rattle.v7_explain.specs.Walks.{Folder, itself_unless, path_in, walked}
-use Rattle.v7_explain.proofs.ExplainingLemmas.{paths_left}
-use Rattle.v7_explain.proofs.WalkLemmas.{found_more, walks_alone, walks_through}
+use Rattle.v7_explain.proofs.{ExplainingLemmas.paths_left, WalkLemmas.found_more, WalkLemmas.walks_alone, WalkLemmas.walks_through}
 use Rattle.v7_explain.proofs.folders.+walk.Goals as goal
 
 pub returns-in-None : goal.returns-in-None

@@ -1,8 +1,7 @@
 use Rattle.std.proofs.Common.{rules, ◌≡◌, ◌++◌, ◌+◌, List, ℕ, drop, map, string_bytes, ap, ◌∙◌}
 use Rattle.std.specs.List.{flat_map}
 use Rattle.v7_explain.specs.Walks.{walked}
-use Rattle.v7_explain.proofs.ExplainingLemmas.{paths_left}
-use Rattle.v7_explain.proofs.WalkLemmas.{found_more}
+use Rattle.v7_explain.proofs.{ExplainingLemmas.paths_left, WalkLemmas.found_more}
 use Rattle.v7_explain.proofs.folders.walk_all.Goals as goal
 
 pub loop-path-preserved : goal.loop-path-preserved

@@ -1,8 +1,7 @@
 use Rattle.std.proofs.Common.{rules, ◌≡◌, [], ◌∷◌, ◌++◌, ap, ◌∙◌, string_bytes, subst}
 use Rattle.std.specs.Prelude.{Ok}
 use Rattle.link_maps.specs.Members.{all_of}
-use Rattle.link_session.specs.Labelled.{Labelled}
-use Rattle.link_session.specs.Sessions.{labelled}
+use Rattle.link_session.specs.{Labelled.Labelled, Sessions.labelled}
 use Rattle.link_maps.proofs.TakingLemmas.{all_more}
 use Rattle.v7_explain.specs.Maps.{object_in}
 use Rattle.v7_explain.proofs.MapLemmas.{keeps_split}

@@ -1,12 +1,9 @@
 use Rattle.std.proofs.Common.{rules, ◌≡◌, ◌+◌, drop, map, string_bytes, subst, sym}
 use Rattle.std.specs.Prelude.{Err}
 use Rattle.aout_core.specs.Refusals.{refused}
+use Rattle.v7_explain.specs.{Joined.nothing_said, Maps.IsTaking, internal.Takes.TakesNext, internal.Takes.taken_by, internal.Takes.taken_of}
+use Rattle.v7_explain.proofs.{ExplainingLemmas.paths_left, TakingLemmas.taking_next, TakingLemmas.taking_out}
 use Rattle.surroundings.specs.declared.answer.Fault.TheVariants as faults
-use Rattle.v7_explain.specs.Joined.{nothing_said}
-use Rattle.v7_explain.specs.Maps.{IsTaking}
-use Rattle.v7_explain.specs.internal.Takes.{TakesNext, taken_by, taken_of}
-use Rattle.v7_explain.proofs.ExplainingLemmas.{paths_left}
-use Rattle.v7_explain.proofs.TakingLemmas.{taking_next, taking_out}
 use Rattle.v7_explain.proofs.map_objects.take_objects.Goals as goal
 
 pub returns-in_err-take_next-clause-taken : goal.returns-in_err-take_next-clause-taken

@@ -1,9 +1,6 @@
 use Rattle.std.proofs.Common.{◌≡◌, Result, drop, map, string_bytes}
-use Rattle.surroundings.specs.Events.{History}
-use Rattle.surroundings.specs.declared.answer.Fault.{Fault}
-use Rattle.v7_explain.specs.Joined.{nothing_said}
-use Rattle.v7_explain.specs.Maps.{IsTaking, Taken}
-use Rattle.v7_explain.specs.internal.Takes.{KeepsSplit, taken_of}
+use Rattle.surroundings.specs.{Events.History, declared.answer.Fault.Fault}
+use Rattle.v7_explain.specs.{Joined.nothing_said, Maps.IsTaking, Maps.Taken, internal.Takes.KeepsSplit, internal.Takes.taken_of}
 use Rattle.v7_explain.proofs.map_objects.take_objects.Given as goal
 
 -- what comes of the files that are left comes of all

@@ -1,7 +1,6 @@
 use Rattle.std.proofs.Common.{rules, ◌≡◌, refl, subst, inl, inr}
 use Rattle.std.specs.Prelude.{true}
-use Rattle.v7_explain.specs.Files.{listed}
-use Rattle.v7_explain.specs.Runs.{IsStoring}
+use Rattle.v7_explain.specs.{Files.listed, Runs.IsStoring}
 use Rattle.v7_explain.proofs.storing.store_listing.Goals as goal
 
 pub returns : goal.returns

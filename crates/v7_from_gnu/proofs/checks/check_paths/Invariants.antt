@@ -1,6 +1,5 @@
 use Rattle.std.proofs.Common.{◌≡◌, [], take, drop}
-use Rattle.v7_from_gnu.specs.Checks.{path_from}
-use Rattle.v7_from_gnu.specs.internal.Lists.{plain_inputs}
+use Rattle.v7_from_gnu.specs.{Checks.path_from, internal.Lists.plain_inputs}
 use Rattle.v7_from_gnu.proofs.checks.check_paths.Given as goal
 
 -- nothing is wrong with the paths so far

@@ -1,7 +1,6 @@
 use Rattle.std.proofs.Common.{◌≡◌, ◌<◌, ◌∙◌, length, Some, ap, inl, subst, sym, rules}
+use Rattle.std.proofs.{lemmas.Bool.false≢true, lemmas.Option.slice_get-get_or}
 use Rattle.std.specs.Prelude.{Err, slice_get}
-use Rattle.std.proofs.lemmas.Bool.{false≢true}
-use Rattle.std.proofs.lemmas.Option.{slice_get-get_or}
 use Rattle.gnu_objects.specs.Clashes.{clash_among}
 use Rattle.surroundings.specs.Answers.{Checks}
 use Rattle.v7_from_gnu.specs.Checks.{bytes_of, clash_found, clash_with}

@@ -1,8 +1,6 @@
 use Rattle.std.proofs.Common.{List, [], Result}
-use Rattle.surroundings.specs.Events.{History}
-use Rattle.surroundings.specs.declared.answer.Fault.{Fault}
-use Rattle.v7_from_gnu.specs.Jobs.{Source}
-use Rattle.v7_from_gnu.specs.Readings.{IsReading}
+use Rattle.surroundings.specs.{Events.History, declared.answer.Fault.Fault}
+use Rattle.v7_from_gnu.specs.{Jobs.Source, Readings.IsReading}
 use Rattle.v7_from_gnu.proofs.reading.read_all.Given as goal
 
 -- what comes of the files that are left comes of all

@@ -1,6 +1,5 @@
 use Rattle.std.proofs.Common.{rules, ◌≡◌, Some, subst}
-use Rattle.surroundings.specs.Sources.{stored_text}
-use Rattle.surroundings.specs.Answers.{AnswersOr}
+use Rattle.surroundings.specs.{Sources.stored_text, Answers.AnswersOr}
 use Rattle.v7_from_gnu.specs.Runs.{not_stored}
 use Rattle.v7_from_gnu.proofs.StoringLemmas.{stops_storing}
 use Rattle.v7_from_gnu.proofs.storing.store_each.Goals as goal

@@ -1,7 +1,5 @@
 use Rattle.std.proofs.Common.{Result, drop}
-use Rattle.surroundings.specs.Answer.{Answer}
-use Rattle.surroundings.specs.Events.{History}
-use Rattle.surroundings.specs.declared.answer.Fault.{Fault}
+use Rattle.surroundings.specs.{Answer.Answer, Events.History, declared.answer.Fault.Fault}
 use Rattle.v7_from_gnu.specs.Runs.{IsStoring}
 use Rattle.v7_from_gnu.proofs.storing.store_each.Given as goal
 

@@ -1,6 +1,5 @@
 use Rattle.std.proofs.Common.{◌∙◌}
-use Rattle.std.specs.Ordering.{nat_cmp}
-use Rattle.std.specs.Cmp.Lexicographic.{slice_cmp}
+use Rattle.std.specs.{Ordering.nat_cmp, Cmp.Lexicographic.slice_cmp}
 use Rattle.aout_core.proofs.NameOrderLemmas.{names_ordered}
 use Rattle.aout_core.proofs.name.NameOrd.cmp.Goals as goal
 

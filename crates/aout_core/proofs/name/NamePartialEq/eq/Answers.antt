@@ -1,6 +1,5 @@
 use Rattle.std.proofs.Common.{◌∙◌}
-use Rattle.std.specs.Prelude.{nat_eq}
-use Rattle.std.specs.Cmp.Lexicographic.{pointwise}
+use Rattle.std.specs.{Prelude.nat_eq, Cmp.Lexicographic.pointwise}
 use Rattle.aout_core.proofs.NameOrderLemmas.{names_alike}
 use Rattle.aout_core.proofs.name.NamePartialEq.eq.Goals as goal
 

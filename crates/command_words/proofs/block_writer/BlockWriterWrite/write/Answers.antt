@@ -1,6 +1,5 @@
-use Rattle.std.proofs.Common.{◌∙◌, take, sym, subst}
+use Rattle.std.proofs.{Common.◌∙◌, Common.take, Common.sym, Common.subst, KnownBytes.append_known-grown, KnownBytes.Keeps-refl}
 use Rattle.std.specs.Io.KnownBytes.{Keeps, append_known}
-use Rattle.std.proofs.KnownBytes.{append_known-grown, Keeps-refl}
 use Rattle.command_words.specs.Blocks.{Blocked}
 use Rattle.command_words.proofs.block_writer.BlockWriterWrite.write.Goals.{then-waiting-eq-BLOCK_SIZE+in_ok-send}
 use Rattle.command_words.proofs.block_writer.BlockWriterWrite.write.Goals.{else-waiting-eq-BLOCK_SIZE}

@@ -1,11 +1,8 @@
 use Rattle.std.proofs.Common.{◌≡◌, ◌∙◌, true, Ok, Err, Some, subst, ap, rules}
-use Rattle.std.specs.Prelude.{IsSome}
+use Rattle.std.specs.{Prelude.IsSome, Io.KnownBytes.prepend_known}
 use Rattle.aout_core.specs.Refusals.{refused}
-use Rattle.std.specs.Io.KnownBytes.{prepend_known}
-use Rattle.command_words.specs.Scripts.{asked}
 use Rattle.command_words.specs.ScriptAnswers.{asked_by, WhereKnown, IsNextOf, NamesPath}
-use Rattle.command_words.specs.declared.line_reader.Stop.TheVariants.{Memory}
-use Rattle.command_words.specs.internal.LineParts.{IsTakenOf}
+use Rattle.command_words.specs.{Scripts.asked, declared.line_reader.Stop.TheVariants.Memory, internal.LineParts.IsTakenOf}
 use Rattle.command_words.proofs.ScriptLemmas.{known_map, failed_as, line_answered, lost_known, stop_known}
 use Rattle.command_words.proofs.line_reader.LineReader.next_line.Goals as goal
 

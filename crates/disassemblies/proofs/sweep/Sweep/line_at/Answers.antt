@@ -1,9 +1,6 @@
 use Rattle.std.proofs.Common.{◌≤◌, ◌+◌, length, sym, subst}
-use Rattle.instructions.specs.declared.unix.Decoder.TheVariants.{Unix}
-use Rattle.instructions.specs.declared.unix.UnixLine.{UnixLine}
-use Rattle.instructions.specs.UnixLines.{unix_length}
-use Rattle.disassemblies.proofs.StartLemmas.{length_in, line_fits}
-use Rattle.disassemblies.proofs.SweptLemmas.{line_there}
+use Rattle.instructions.specs.{declared.unix.Decoder.TheVariants.Unix, declared.unix.UnixLine.UnixLine, UnixLines.unix_length}
+use Rattle.disassemblies.proofs.{StartLemmas.length_in, StartLemmas.line_fits, SweptLemmas.line_there}
 use Rattle.disassemblies.proofs.sweep.Sweep.line_at.Goals as goal
 
 pub returns-in-Some-clause-fits : goal.returns-in-Some-clause-fits

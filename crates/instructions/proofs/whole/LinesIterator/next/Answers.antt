@@ -1,6 +1,5 @@
 use Rattle.std.proofs.Common.{◌≡◌, ◌-◌, ◌<◌, ◌∷◌, length, take, drop, sym, ◌∙◌, ap, arith, rules}
-use Rattle.instructions.specs.declared.line.Line.{Line}
-use Rattle.instructions.specs.Lines.{line_at, line_length, lines}
+use Rattle.instructions.specs.{declared.line.Line.Line, Lines.line_at, Lines.line_length, Lines.lines}
 use Rattle.instructions.proofs.AlikeLemmas.{lines_some}
 use Rattle.instructions.proofs.whole.LinesIterator.next.Goals as goal
 

@@ -1,6 +1,5 @@
 use Rattle.std.proofs.Common.{◌++◌, subst, sym, ap, ◌∙◌}
-use Rattle.std.specs.Prelude.{codes}
-use Rattle.std.specs.List.{flat_map}
+use Rattle.std.specs.{Prelude.codes, List.flat_map}
 use Rattle.aout_core.specs.Wires.{Writes}
 use Rattle.link_out.specs.function.Reports.{undefined_lines}
 use Rattle.aout_core.proofs.PutsLemmas.{writes_both, writes_no_more}

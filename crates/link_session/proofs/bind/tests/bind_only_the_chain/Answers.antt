@@ -1,6 +1,5 @@
 use Rattle.std.proofs.Common.{◌≡◌, ◌<◌, [], ◌∷◌, List, None, length, slice_index_or, refl, ap, arith, rules}
-use Rattle.link_session.specs.declared.mark.Place.TheVariants.{InText}
-use Rattle.link_session.specs.internal.Chains.{Link}
+use Rattle.link_session.specs.{declared.mark.Place.TheVariants.InText, internal.Chains.Link}
 use Rattle.link_session.proofs.bind.tests.bind_only_the_chain.Goals as goal
 
 -- the chain holds cell 2 only

@@ -1,12 +1,8 @@
 use Rattle.std.proofs.Common.{◌*◌, ◌∙◌, length, ap, arith, rules}
 use Rattle.aout_core.specs.declared.symbol.Segment.TheVariants.{DataSeg}
-use Rattle.link_session.specs.Labelled.{objects}
-use Rattle.link_session.specs.Mentions.{mentions}
-use Rattle.link_session.specs.Starts.{total}
-use Rattle.link_session.specs.Undo.{Kept}
 use Rattle.link_session.specs.internal.Fields.{image_in, threads_in, IsSmall}
-use Rattle.link_session.proofs.SessionLemmas.{small}
-use Rattle.link_session.proofs.TotalLemmas.{data_total}
+use Rattle.link_session.specs.{Labelled.objects, Mentions.mentions, Starts.total, Undo.Kept}
+use Rattle.link_session.proofs.{SessionLemmas.small, TotalLemmas.data_total}
 use Rattle.link_session.proofs.session.Session.data_cells.Goals as goal
 
 pub returns-clause-short : goal.returns-clause-short

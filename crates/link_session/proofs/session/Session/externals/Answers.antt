@@ -1,8 +1,6 @@
 use Rattle.std.proofs.Common.{arith, length, ap}
-use Rattle.link_session.specs.Image.{Named}
-use Rattle.link_session.specs.internal.Fields.{image_in, threads_in, IsSmall}
-use Rattle.link_session.proofs.ExternalLemmas.{gives_in_order}
-use Rattle.link_session.proofs.SessionLemmas.{small}
+use Rattle.link_session.specs.{Image.Named, internal.Fields.image_in, internal.Fields.threads_in, internal.Fields.IsSmall}
+use Rattle.link_session.proofs.{ExternalLemmas.gives_in_order, SessionLemmas.small}
 use Rattle.link_session.proofs.session.Session.externals.Goals as goal
 
 pub returns-clause-few : goal.returns-clause-few

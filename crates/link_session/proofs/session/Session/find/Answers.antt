@@ -1,8 +1,6 @@
 use Rattle.std.proofs.Common.{ℕ, List, position, ap, ◌∙◌}
 use Rattle.std.specs.Prelude.{bytes_eq}
-use Rattle.link_session.specs.internal.Fields.{image_in, threads_in}
-use Rattle.link_session.specs.Labelled.{objects}
-use Rattle.link_session.specs.Mentions.{externals}
+use Rattle.link_session.specs.{internal.Fields.image_in, internal.Fields.threads_in, Labelled.objects, Mentions.externals}
 use Rattle.link_session.proofs.SessionLemmas.{externals-fields}
 use Rattle.link_session.proofs.session.Session.find.Goals as goal
 

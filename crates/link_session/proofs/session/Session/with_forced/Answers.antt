@@ -1,8 +1,6 @@
 use Rattle.std.proofs.Common.{◌≡◌, [], ◌≤◌, None, length, map, replicate, sym, ap, subst, rules}
-use Rattle.link_session.specs.Mentions.{forced_mention}
-use Rattle.link_session.specs.internal.Additions.{with_mentions}
-use Rattle.link_session.specs.internal.Threads.{Threads}
 use Rattle.link_session.specs.internal.Fields.{image_in, threads_in, IsSession}
+use Rattle.link_session.specs.{Mentions.forced_mention, internal.Additions.with_mentions, internal.Threads.Threads}
 use Rattle.link_session.proofs.SessionLemmas.{forced_session}
 use Rattle.link_session.proofs.session.Session.with_forced.Goals as goal
 

@@ -1,9 +1,7 @@
 use Rattle.std.proofs.Common.{arith, ◌≡◌, ◌++◌, ◌∷◌, [], ◌∙◌, ap, sym, subst, rules}
 use Rattle.std.proofs.lemmas.Grind.{common_steps}
-use Rattle.link_session.specs.Labelled.{objects}
-use Rattle.link_session.specs.Image.{image}
-use Rattle.link_session.specs.Undo.{undo}
 use Rattle.link_session.specs.internal.Fields.{image_in, threads_in, threads_by, with_heads_back, IsSession}
+use Rattle.link_session.specs.{Labelled.objects, Image.image, Undo.undo}
 use Rattle.link_session.proofs.SessionLemmas.{at_least, kept_sizes, withdrawn_session}
 use Rattle.link_session.proofs.session.Session.withdraw.Goals as goal
 

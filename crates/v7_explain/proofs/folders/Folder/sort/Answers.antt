@@ -1,6 +1,5 @@
 use Rattle.std.proofs.Common.{◌≡◌, OnOk, map, string_bytes, subst}
-use Rattle.v7_explain.specs.Walks.{Folder}
-use Rattle.v7_explain.specs.internal.Walking.{ordered}
+use Rattle.v7_explain.specs.{Walks.Folder, internal.Walking.ordered}
 use Rattle.v7_explain.proofs.WalkLemmas.{sorts}
 use Rattle.v7_explain.proofs.folders.Folder.sort.Goals as goal
 

@@ -1,8 +1,6 @@
 use Rattle.std.proofs.Common.{rules, ◌≡◌, [], ◌∷◌, ◌++◌, map, sym, subst}
-use Rattle.v7tools.specs.internal.Openings.{IsLoading}
-use Rattle.v7tools.specs.FileRuns.{Reads}
-use Rattle.v7tools.proofs.EventLemmas.{passed_on}
-use Rattle.v7tools.proofs.FileRunLemmas.{paths_more, reads_more, stops_reading}
+use Rattle.v7tools.specs.{internal.Openings.IsLoading, FileRuns.Reads}
+use Rattle.v7tools.proofs.{EventLemmas.passed_on, FileRunLemmas.paths_more, FileRunLemmas.reads_more, FileRunLemmas.stops_reading}
 use Rattle.v7tools.proofs.files.commands.load_all.Goals as goal
 
 pub returns-in_err-file : goal.returns-in_err-file

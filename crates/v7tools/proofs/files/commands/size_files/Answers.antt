@@ -1,6 +1,5 @@
 use Rattle.std.proofs.Common.{rules, ◌≡◌, refl, subst, inl, inr}
-use Rattle.symtools.specs.Files.{by_bytes}
-use Rattle.symtools.specs.SizeLines.{size_text}
+use Rattle.symtools.specs.{Files.by_bytes, SizeLines.size_text}
 use Rattle.v7tools.specs.FileRuns.{Lists, OnlyWriteFailed}
 use Rattle.v7tools.proofs.EventLemmas.{passed_on}
 use Rattle.v7tools.proofs.files.commands.size_files.Goals as goal

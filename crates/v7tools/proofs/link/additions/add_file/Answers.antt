@@ -1,6 +1,5 @@
 use Rattle.std.proofs.Common.{sym, subst, ◌∙◌}
-use Rattle.v7tools.specs.FaultTexts.{fault_of_addition}
-use Rattle.v7tools.specs.internal.StepParts.{IsAddition}
+use Rattle.v7tools.specs.{FaultTexts.fault_of_addition, internal.StepParts.IsAddition}
 use Rattle.v7tools.proofs.AdditionLemmas.{carried, addition_made, addition_refused, addition_unread, addition_unchecked, read_object}
 use Rattle.v7tools.proofs.link.additions.add_file.Goals as goal
 

@@ -1,6 +1,6 @@
 use Rattle.std.proofs.Common.{rules, ◌≡◌, [], ◌∷◌, ◌++◌, map, length, Some, None, refl, sym, ap, ◌∙◌, subst, string_bytes}
-use Rattle.std.specs.List.{AllByRecursion}
 use Rattle.std.proofs.lemmas.List.{nil_from_length}
+use Rattle.std.specs.List.{AllByRecursion}
 use Rattle.surroundings.specs.Events.{Extends, opens}
 use Rattle.v7tools.specs.internal.Openings.{sources, IsWorking}
 use Rattle.surroundings.proofs.EventLemmas.{nothing_asked}

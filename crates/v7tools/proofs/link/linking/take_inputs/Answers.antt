@@ -3,9 +3,8 @@ use Rattle.std.proofs.lemmas.List.{nil_from_length}
 use Rattle.v7tools.specs.LinkAnswers.{inputs_of, Input, said_by, TakesAll}
 use Rattle.v7tools.specs.internal.InputParts.{StopsWith}
 use Rattle.link_session.specs.Undo.{Kept}
-use Rattle.v7tools.proofs.AdditionLemmas.{forced_kept}
-use Rattle.v7tools.proofs.AnswerLemmas.{stops_at, takes_accepted}
 use Rattle.v7tools.proofs.StepLemmas.{device_fault, worked_before, worked_unless}
+use Rattle.v7tools.proofs.{AdditionLemmas.forced_kept, AnswerLemmas.stops_at, AnswerLemmas.takes_accepted}
 use Rattle.v7tools.proofs.link.linking.take_inputs.Goals as goal
 
 pub loop-path-init : goal.loop-path-init

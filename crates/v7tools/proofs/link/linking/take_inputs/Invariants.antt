@@ -1,7 +1,6 @@
 use Rattle.std.proofs.Common.{◌≡◌, List}
 use Rattle.link_session.specs.Labelled.{Labelled}
-use Rattle.v7tools.specs.LinkAnswers.{inputs_of, Said, TakesAll}
-use Rattle.v7tools.specs.internal.InputParts.{StopsWith}
+use Rattle.v7tools.specs.{LinkAnswers.inputs_of, LinkAnswers.Said, LinkAnswers.TakesAll, internal.InputParts.StopsWith}
 use Rattle.v7tools.proofs.link.linking.take_inputs.Given as goal
 
 -- the inputs so far are taken; so what becomes of those left, after them, becomes of all

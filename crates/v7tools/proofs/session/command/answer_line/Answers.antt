@@ -1,9 +1,7 @@
 use Rattle.std.proofs.Common.{◌≡◌, sym, rules}
 use Rattle.std.specs.Prelude.{string_bytes}
-use Rattle.command_words.specs.Scripts.{to_link}
-use Rattle.command_words.specs.ScriptAnswers.{asked_by}
-use Rattle.v7tools.proofs.EventLemmas.{passed_on}
-use Rattle.v7tools.proofs.LineRunLemmas.{line_answered, line_cut_short, line_passed}
+use Rattle.command_words.specs.{Scripts.to_link, ScriptAnswers.asked_by}
+use Rattle.v7tools.proofs.{EventLemmas.passed_on, LineRunLemmas.line_answered, LineRunLemmas.line_cut_short, LineRunLemmas.line_passed}
 use Rattle.v7tools.proofs.session.command.answer_line.Goals as goal
 
 pub returns-in_ok-status-in-Link-clause-run : goal.returns-in_ok-status-in-Link-clause-run

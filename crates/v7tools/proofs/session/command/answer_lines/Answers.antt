@@ -1,13 +1,9 @@
 use Rattle.std.proofs.Common.{arith, rules, ◌≡◌, ◌+◌, Option, Some, None, Result, Ok, ap, subst, refl, ◌∙◌}
-use Rattle.command_words.specs.ScriptAnswers.{Answer, Progress, lines_of}
-use Rattle.command_words.specs.declared.lines.Line.{Line}
-use Rattle.v7tools.specs.ScriptCalls.{returned}
-use Rattle.v7tools.specs.SessionRuns.{lines_asked}
-use Rattle.v7tools.specs.declared.fault.CliFault.{CliFault}
-use Rattle.v7tools.proofs.EventLemmas.{passed_on}
-use Rattle.v7tools.proofs.ScriptCallLemmas.{gave_end, gave_line}
-use Rattle.v7tools.proofs.SessionRunLemmas.{all_run, broke_off, left_of, reads_ended, reads_fault}
-use Rattle.v7tools.proofs.SessionRunLemmas.{reads_given, run_up_to, runs_more, runs_none, stays_alone}
+use Rattle.command_words.specs.{ScriptAnswers.Answer, ScriptAnswers.Progress, ScriptAnswers.lines_of, declared.lines.Line.Line}
+use Rattle.v7tools.specs.{ScriptCalls.returned, SessionRuns.lines_asked, declared.fault.CliFault.CliFault}
+use Rattle.v7tools.proofs.SessionRunLemmas.{all_run, broke_off, left_of, reads_ended, reads_fault, reads_given, run_up_to, runs_more}
+use Rattle.v7tools.proofs.SessionRunLemmas.{runs_none, stays_alone}
+use Rattle.v7tools.proofs.{EventLemmas.passed_on, ScriptCallLemmas.gave_end, ScriptCallLemmas.gave_line}
 use Rattle.v7tools.proofs.session.command.answer_lines.Goals as goal
 
 pub loop-init : goal.loop-init

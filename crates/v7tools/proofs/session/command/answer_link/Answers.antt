@@ -3,9 +3,8 @@ use Rattle.link_session.specs.Labelled.{objects}
 use Rattle.link_out.specs.function.Link.{link}
 use Rattle.command_words.specs.Scripts.{to_link}
 use Rattle.v7tools.specs.declared.fault.CliFault.TheVariants.{WriteFailed}
-use Rattle.v7tools.proofs.EventLemmas.{passed_on}
-use Rattle.v7tools.proofs.LineRunLemmas.{answered_from, refused_link, stored_link}
-use Rattle.v7tools.proofs.StepLemmas.{no_value, only_fault, refused_by, refused_with}
+use Rattle.v7tools.proofs.{EventLemmas.passed_on, LineRunLemmas.answered_from, LineRunLemmas.refused_link, LineRunLemmas.stored_link}
+use Rattle.v7tools.proofs.{StepLemmas.no_value, StepLemmas.only_fault, StepLemmas.refused_by, StepLemmas.refused_with}
 use Rattle.v7tools.proofs.session.command.answer_link.Goals as goal
 
 pub returns-in_err-linked-clause-run : goal.returns-in_err-linked-clause-run

@@ -1,8 +1,7 @@
 use Rattle.std.proofs.Common.{ap, sym, ◌∙◌}
 use Rattle.command_words.specs.ScriptAnswers.{Progress}
 use Rattle.link_session.specs.Undo.{Kept}
-use Rattle.v7tools.proofs.EventLemmas.{passed_on}
-use Rattle.v7tools.proofs.SessionRunLemmas.{no_memory}
+use Rattle.v7tools.proofs.{EventLemmas.passed_on, SessionRunLemmas.no_memory}
 use Rattle.v7tools.proofs.session.command.answer_script.Goals as goal
 
 pub returns-in_err-script-clause-run : goal.returns-in_err-script-clause-run

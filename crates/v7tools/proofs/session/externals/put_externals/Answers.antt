@@ -1,10 +1,8 @@
 use Rattle.std.proofs.Common.{ℕ, List, ◌∙◌, sym, subst, arith, rules}
 use Rattle.std.specs.Io.KnownBytes.{Appends}
-use Rattle.aout_core.specs.declared.symbol.Symbol.{Symbol}
-use Rattle.aout_core.specs.Wires.{AppendsPrefix}
+use Rattle.aout_core.specs.{declared.symbol.Symbol.Symbol, Wires.AppendsPrefix}
 use Rattle.aout_core.proofs.PutsLemmas.{writes_in_part}
-use Rattle.link_session.specs.declared.state.State.{State}
-use Rattle.link_session.specs.Undo.{image_of}
+use Rattle.link_session.specs.{declared.state.State.State, Undo.image_of}
 use Rattle.symtools.specs.SymbolLines.{symbol_line}
 use Rattle.v7tools.specs.Answers.{entry_of}
 use Rattle.v7tools.proofs.ListingLemmas.{sent_next, stops_next, sent_all}

@@ -1,6 +1,5 @@
 use Rattle.std.proofs.Common.{◌≡◌, false, take}
-use Rattle.std.specs.List.{flat_map}
-use Rattle.std.specs.Io.KnownBytes.{Appends}
+use Rattle.std.specs.{List.flat_map, Io.KnownBytes.Appends}
 use Rattle.link_session.specs.Undo.{image_of}
 use Rattle.v7tools.specs.internal.StepParts.{missing_line}
 use Rattle.v7tools.proofs.session.externals.put_undefined.Given as goal

@@ -2,8 +2,7 @@ use Rattle.std.proofs.Common.{◌++◌, sym, subst}
 use Rattle.std.specs.Prelude.{codes, decimal}
 use Rattle.aout_core.specs.Wires.{Writes}
 use Rattle.aout_core.proofs.PutsLemmas.{writes_both, writes_no_more}
-use Rattle.link_out.specs.Outcomes.{report_names}
-use Rattle.link_out.specs.function.Reports.{line, status_of}
+use Rattle.link_out.specs.{Outcomes.report_names, function.Reports.line, function.Reports.status_of}
 use Rattle.surroundings.specs.declared.office.Stored.{Stored}
 use Rattle.v7tools.specs.Answers.{link_answer_text}
 use Rattle.v7tools.proofs.session.link_answers.put_link_answer.Goals as goal

@@ -1,12 +1,10 @@
 use Rattle.std.proofs.Common.{Ok, ◌∙◌, ap, refl}
 use Rattle.std.specs.Prelude.{string_bytes}
 use Rattle.link_session.specs.Undo.{Kept}
-use Rattle.v7tools.specs.declared.session.commands.Step.TheVariants.{Done}
-use Rattle.v7tools.specs.Answers.{add_step}
-use Rattle.v7tools.specs.FaultTexts.{cli_text}
+use Rattle.v7tools.specs.{declared.session.commands.Step.TheVariants.Done, Answers.add_step, FaultTexts.cli_text}
 use Rattle.aout_core.proofs.PutsLemmas.{writes_broke_off}
-use Rattle.v7tools.proofs.StepLemmas.{written_whole, added_by, not_added_by, refused_as, no_value, refused_verdict}
-use Rattle.v7tools.proofs.StepLemmas.{label_is, worked_before, worked_after}
+use Rattle.v7tools.proofs.StepLemmas.{written_whole, added_by, not_added_by, refused_as, no_value, refused_verdict, label_is, worked_before}
+use Rattle.v7tools.proofs.StepLemmas.{worked_after}
 use Rattle.v7tools.proofs.session.steps.add.Goals as goal
 
 pub returns-in_err-put_line-in-Ok-clause-step : goal.returns-in_err-put_line-in-Ok-clause-step

@@ -1,7 +1,6 @@
 use Rattle.std.proofs.Common.{Ok, None, Option, Result, refl}
 use Rattle.link_session.specs.Labelled.{objects}
-use Rattle.link_out.specs.declared.linked.Linked.{Linked}
-use Rattle.link_out.specs.function.Link.{link}
+use Rattle.link_out.specs.{declared.linked.Linked.Linked, function.Link.link}
 use Rattle.v7tools.specs.declared.fault.CliFault.{CliFault}
 use Rattle.aout_core.proofs.PutsLemmas.{writes_broke_off}
 use Rattle.v7tools.proofs.StepLemmas.{not_linked, refuses, written_with}

@@ -1,7 +1,6 @@
 use Rattle.std.proofs.Common.{◌≡◌, None, Ok, Err, refl}
 use Rattle.std.specs.Prelude.{string_bytes}
-use Rattle.link_session.specs.Edits.{last_of}
-use Rattle.link_session.specs.Labelled.{objects}
+use Rattle.link_session.specs.{Edits.last_of, Labelled.objects}
 use Rattle.link_out.specs.function.Link.{link}
 use Rattle.v7tools.specs.declared.session.commands.Step.{Step}
 use Rattle.v7tools.specs.declared.session.commands.Step.TheVariants.{Done, Refused}

@@ -1,7 +1,6 @@
 use Rattle.std.proofs.Common.{◌++◌, append_assoc, subst, sym}
-use Rattle.aout_core.specs.Wires.{Writes}
+use Rattle.aout_core.specs.{Wires.Writes, FaultTexts.number_text}
 use Rattle.aout_core.proofs.PutsLemmas.{writes_both, writes_no_more}
-use Rattle.aout_core.specs.FaultTexts.{number_text}
 use Rattle.v7tools.specs.internal.FaultParts.{path_text}
 use Rattle.v7tools.proofs.fault.wording.FaultText.write.Goals as goal
 
