@@ -83,8 +83,8 @@ build/libv7.so: build/$(SOFILE)
 	ln -sf $(SOFILE) build/$(SONAME)
 	ln -sf $(SONAME) build/libv7.so
 
-LIBRARY_CRATES := $(addprefix crates/,aout_core texts link_session tool_options link_out symtools reports listings instructions disassemblies \
-	gnu_objects findings suspicions explanations link_maps report_objects library_calls v7_c)
+LIBRARY_CRATES := $(addprefix crates/,aout_core texts link_session tool_options link_out symtools session_states listings instructions disassemblies \
+	gnu_objects findings suspicions explanations link_maps finding_objects library_calls v7_c)
 crates/v7_c/out/libv7_c.a: crates.txt $(shell find $(LIBRARY_CRATES) -name out -prune -o -type f -print)
 	python3 tests/prove.py v7_c $@
 	touch $@
@@ -217,13 +217,13 @@ check-page-data: build/v7 build/v7-lesson build/v7-explain
 check-page: check-page-data
 	python3 tests/page.py build/v7-lesson build/v7 build/v7-explain page examples/lessons.txt $(PAGE_FILES)
 
-build/v7-lesson: crates/lesson/out/lesson
+build/v7-lesson: crates/v7_lesson/out/v7_lesson
 	mkdir -p build
-	cp crates/lesson/out/lesson build/v7-lesson
+	cp crates/v7_lesson/out/v7_lesson build/v7-lesson
 
-LESSON_CRATES := $(addprefix crates/,aout_core texts surroundings link_session tool_options link_out symtools reports instructions disassemblies lesson)
-crates/lesson/out/lesson: crates.txt $(shell find $(LESSON_CRATES) -name out -prune -o -type f -print)
-	python3 tests/prove.py lesson $@
+LESSON_CRATES := $(addprefix crates/,aout_core texts surroundings link_session tool_options link_out symtools session_states instructions disassemblies v7_lesson)
+crates/v7_lesson/out/v7_lesson: crates.txt $(shell find $(LESSON_CRATES) -name out -prune -o -type f -print)
+	python3 tests/prove.py v7_lesson $@
 	touch $@
 
 # the manual pages: mandoc finds nothing to say of them, but for pages of others that this machine lacks, and their examples, and those
@@ -285,8 +285,8 @@ check-model: build/v7
 # the examples of the manual pages and of the documents come out as shown, and so do the faults of v7-from-gnu and the steps of
 # v7-lesson; the gate leaves the programs that they need
 check-examples: build/v7 build/v7-from-gnu build/v7-object build/v7-explain build/v7-lesson
-	cmp crates/lesson/data/k.o examples/k.o
-	cmp crates/lesson/data/l.o examples/l.o
+	cmp crates/v7_lesson/data/k.o examples/k.o
+	cmp crates/v7_lesson/data/l.o examples/l.o
 	cmp crates/v7_from_gnu/data/squares.gnu examples/squares.gnu
 	cmp crates/v7_object/data/main.lst examples/main.lst
 	sh tests/manual.sh

@@ -22,7 +22,7 @@ import completion  # noqa: E402
 
 TOP = completion.TOP
 # the program of each crate
-PROGRAMS = {"v7": "v7", "v7_from_gnu": "v7-from-gnu", "v7_object": "v7-object", "v7_explain": "v7-explain", "lesson": "v7-lesson"}
+PROGRAMS = {"v7": "v7", "v7_from_gnu": "v7-from-gnu", "v7_object": "v7-object", "v7_explain": "v7-explain", "v7_lesson": "v7-lesson"}
 # the pages, each with the folder of its objects and its objects
 PAGES = {"lesson.html": ("examples", ["main.o", "twice.o", "k.o", "l.o", "double.o"]),
          "program.html": ("examples/total", ["total.o", "say.o", "console.o", "low.o", "limit.o"])}

@@ -15,7 +15,7 @@ import sys
 os.chdir(os.path.join(os.path.dirname(os.path.abspath(__file__)), ".."))
 USES = "crates/library_uses/src"
 LIBRARIES = [
-    "aout_core", "link_session", "tool_options", "link_out", "symtools", "reports", "listings", "instructions", "disassemblies",
+    "aout_core", "link_session", "tool_options", "link_out", "symtools", "session_states", "listings", "instructions", "disassemblies",
     "gnu_objects", "library_calls", "v7tools",
 ]
 # what contracts see of an implementation of a trait; the other ghost members are proofs

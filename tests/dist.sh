@@ -53,7 +53,7 @@ take_objects() {
 take_proved() {
     mkdir -p "$1/build/proved"
     cp "$PROVED"/build/proved/* "$1/build/proved"
-    for path in v7/out/v7 v7_from_gnu/out/v7_from_gnu v7_object/out/v7_object v7_explain/out/v7_explain lesson/out/lesson v7_c/out/libv7_c.a; do
+    for path in v7/out/v7 v7_from_gnu/out/v7_from_gnu v7_object/out/v7_object v7_explain/out/v7_explain v7_lesson/out/v7_lesson v7_c/out/libv7_c.a; do
         [ ! -f "$PROVED/crates/$path" ] || { mkdir -p "$1/crates/${path%/*}" && cp "$PROVED/crates/$path" "$1/crates/$path"; }
     done
 }

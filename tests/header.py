@@ -149,7 +149,7 @@ def places_in_c(header, structs):
 
 def sources():
     """The files of the crates that declare what C sees, by their paths below crates."""
-    paths = [path for crate in ("v7_c", "library_calls", "link_maps", "report_objects") for path in glob.glob(f"{TOP}/crates/{crate}/src/*.rt")]
+    paths = [path for crate in ("v7_c", "library_calls", "link_maps", "finding_objects") for path in glob.glob(f"{TOP}/crates/{crate}/src/*.rt")]
     return {os.path.relpath(path, f"{TOP}/crates"): read(path) for path in paths}
 
 
@@ -426,7 +426,7 @@ PLANTED = [
     ("v7.h", "V7_REMARK_ODD_COMMON = 19", "V7_REMARK_ODD_COMMON = 18"),
     ("library_calls/src/remarks_call.rt", "    pub text: usize,\n    pub text_size: usize,", "    pub text_size: usize,\n    pub text: usize,"),
     ("v7_c/src/lib.rt", "    bss: u32,\n    symbols: &[SymbolRow],", "    symbols: &[SymbolRow],\n    bss: u32,"),
-    ("report_objects/src/places.rt", "    pub further: usize,", "    pub further: u32,"),
+    ("finding_objects/src/places.rt", "    pub further: usize,", "    pub further: u32,"),
     ("v7-sys", "    pub definer: Number,\n    pub next_definer: Number,", "    pub next_definer: Number,\n    pub definer: Number,"),
     ("v7-sys", "    pub state: u32,\n    pub magic: u16,", "    pub state: u16,\n    pub magic: u16,"),
     ("v7-sys", "    pub r#type: u16,", "    pub kind: u16,"),

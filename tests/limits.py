@@ -53,10 +53,10 @@ LIMITS = [
     ("aout_core/src/block.rt", "BLOCK_SIZE", {
         "docs/LINK.md": "| what is read or written at once | {} bytes |",
     }),
-    ("lesson/src/page.rt", "PAGE_LIMIT", {
+    ("v7_lesson/src/page.rt", "PAGE_LIMIT", {
         "docs/LINK.md": "if it has every order of them | {} bytes;",
     }),
-    ("lesson/src/walk.rt", "ALL_ORDERS", {
+    ("v7_lesson/src/walk.rt", "ALL_ORDERS", {
         "docs/LINK.md": "bytes; {} | there is no page",
     }),
 ]

@@ -35,9 +35,9 @@ IDS = [("command_words", "words"), ("command_words", "link_words"), ("instructio
 
 os.chdir(os.path.join(os.path.dirname(os.path.abspath(__file__)), ".."))
 LIBRARIES = [
-    "aout_core", "texts", "surroundings", "link_session", "tool_options", "link_out", "link_laws", "symtools", "reports", "link_maps",
+    "aout_core", "texts", "surroundings", "link_session", "tool_options", "link_out", "link_laws", "symtools", "session_states", "link_maps",
     "command_words", "v7tools", "laws", "gnu_objects", "listings", "instructions", "disassemblies", "findings", "suspicions",
-    "explanations", "map_texts", "report_objects", "library_calls", "v7_c", "v7_from_gnu", "v7_object", "v7_explain",
+    "explanations", "map_texts", "finding_objects", "library_calls", "v7_c", "v7_from_gnu", "v7_object", "v7_explain",
 ]
 IMPORT = re.compile(
     r"^ *(?:pub )?(?:ghost )?use Rattle\.(\w+)\.(specs|proofs)(?:\.([\w.]+?))?(?:\.\{([^}]*)\}|(?: as (\w+))?);?$"

@@ -144,7 +144,7 @@ pub fn listing_law()
 /// - `links`: if it accepts all, there is a link without `-r` in both orders, or the same fault.
 /// - `refuses`: without `-r`, the link of all of them is refused in both orders with the same fault, or in neither.
 /// - `sizes`: two links have the same sizes of text, data, bss and table, so their headers differ at most in the entry point.
-/// - `reports`: two links report the same reserved names, and the same undefined names in some order.
+/// - `session_states`: two links report the same reserved names, and the same undefined names in some order.
 /// - `entry`: if no name is multiply defined, the entry point is found in both orders or in neither.
 /// - `meanings`: if no name is multiply defined, each name means the same in links without `-r` that keep symbols: the same symbol
 ///   of the same object, a common of the same size, or nothing in the objects.

@@ -6,7 +6,7 @@ use Rattle.link_session.specs.{Edits.Change, Edits.answers, Edits.survivors, Lab
 use Rattle.tool_options.specs.Choices.{Choices}
 use Rattle.link_out.specs.{function.Link.Outcome, function.Link.link, function.Reports.report_text, function.Reports.status_of}
 use Rattle.link_out.specs.{Results.ReportNames, Steps.and_then, Steps.refused_as}
-use Rattle.report_objects.specs.{declared.places.FindingPlace.FindingPlace, Places.finding_places}
+use Rattle.finding_objects.specs.{declared.places.FindingPlace.FindingPlace, Places.finding_places}
 use Rattle.library_calls.specs.SessionAnswers.{changes_in, reply_number, session_status}
 use Rattle.library_calls.specs.{declared.cause.Cause.Cause, declared.cause.Cause.TheVariants.NotLinked, declared.cause.Refusal.Refusal}
 use Rattle.library_calls.specs.{declared.reported.ReportedName.ReportedName, declared.run_call.RunResult.RunResult, Causes.at}

@@ -5,7 +5,7 @@
 use Rattle.std.specs.Prelude.{◌≡◌, ℕ, zero, suc, List, map, Result, Ok, Err}
 use Rattle.link_session.specs.Edits.{Change, answers, survivors}
 use Rattle.link_session.specs.{declared.mark.Mark.Mark, Labelled.objects, Undo.Kept, Undo.IsJournal}
-use Rattle.reports.specs.{StateJson.state_json, StateLines.state_lines}
+use Rattle.session_states.specs.{StateJson.state_json, StateLines.state_lines}
 use Rattle.link_out.specs.Steps.{and_then}
 use Rattle.library_calls.specs.SessionAnswers.{changes_in, reply_number, session_status}
 use Rattle.library_calls.specs.{declared.cause.Cause.Cause, declared.cause.Cause.TheVariants.NoOption, declared.cause.Refusal.Refusal}

@@ -18,9 +18,9 @@ use crate::reported::{ReportedName, all_findings, lines_of};
 use crate::requests::{LinkRequest, forced_names, tool_options};
 use crate::taking::take_each;
 use crate::written::bytes_of;
+use finding_objects::{FindingPlace, places_of};
 use link_out::{Linked, Options, Report, finish};
 use link_session::{Forced, Session};
-use report_objects::{FindingPlace, places_of};
 use std::alloc::{AllocError, Global};
 
 /// What a link or a session gives. (ld(1); edits: own choice)

@@ -12,7 +12,7 @@ use crate::edits::{Edit, make_edits, read_edits, session_status};
 use crate::parts::ObjectBytes;
 use crate::requests::forced_names;
 use link_session::Session;
-use reports::{state_json, state_lines};
+use session_states::{state_json, state_lines};
 use std::alloc::Global;
 
 /// How a state is encoded. (own choice)
@@ -78,7 +78,7 @@ fn edit_and_show(
 }
 
 /// Adds and withdraws objects as `run_session` does, and returns what the session then shows. With form 0 these are the
-/// lines of `reports::state_lines`, and with form 1 the JSON of `reports::state_json`. Without edits it shows the
+/// lines of `session_states::state_lines`, and with form 1 the JSON of `session_states::state_json`. Without edits it shows the
 /// forced names. (own choice)
 ///
 /// Errors, the first that applies:

@@ -1,9 +1,9 @@
-//! A use of `reports`.
+//! A use of `session_states`.
 ghost use Rattle.std.specs.Prelude.{◌≡◌, IfOk};
-ghost use Rattle.reports.specs.StateLines.{state_lines};
+ghost use Rattle.session_states.specs.StateLines.{state_lines};
 
 use link_session::Session;
-use reports::state_lines;
+use session_states::state_lines;
 use std::alloc::{AllocError, Global};
 
 /// Withdraws the last object, and shows what is left.

@@ -11,7 +11,7 @@ use Rattle.library_calls.specs.{declared.cause.Cause.TheVariants.Memory, declare
 use Rattle.library_calls.specs.{declared.cause.Refusal.Refusal, declared.reported.ReportedName.ReportedName}
 use Rattle.library_calls.specs.{declared.run_call.RunResult.RunResult, Causes.number_of, Causes.word_of, FileAnswers.has_bit}
 use Rattle.library_calls.specs.{LinkAnswers.each_of, MemoryWanted.LinkMayRunOut, MemoryWanted.SessionMayRunOut}
-use Rattle.report_objects.specs.declared.places.FindingPlace.{FindingPlace}
+use Rattle.finding_objects.specs.declared.places.FindingPlace.{FindingPlace}
 use Rattle.v7_c.specs.{Left.put_in, declared.run.Output.Output, declared.run.Request.Request, declared.run.RunAnswer.RunAnswer}
 
 -- ---- what is asked for

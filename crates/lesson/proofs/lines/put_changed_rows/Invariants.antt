@@ -1,9 +1,0 @@
-use Rattle.std.proofs.Common.{◌≡◌, ◌++◌, drop, false}
-use Rattle.lesson.specs.Steps.{changed_rows}
-use Rattle.lesson.proofs.lines.put_changed_rows.Given as goal
-
--- what is there, with the rows that are left, makes the whole
-abbrev pub invariant-loop-index : goal.invariant-loop-index
-invariant-loop-index l =
-    l.text.is_cut ≡ false → (l.initial.text.is_cut ≡ false)
-    × (l.initial.text.bytes ++ changed_rows l.before l.after ≡ l.text.bytes ++ changed_rows (drop l.index l.before) (drop l.index l.after))

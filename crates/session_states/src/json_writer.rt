@@ -1,0 +1,165 @@
+//! A JSON text that is written value by value.
+ghost use Rattle.std.specs.Prelude.{◌≡◌, ◌++◌, true, false, codes, decimal, IfOk};
+ghost use Rattle.session_states.specs.JsonTexts.{Becomes, bytes_string, list_end, list_start, nothing_written, object_end, object_start, separator, text_string, with_end, with_line_end, with_start, with_value};
+
+use crate::json::{put_json_bytes, put_json_text};
+use itoa::Buffer;
+use std::alloc::{AllocError, Global};
+use std::marker::Model;
+use texts::Text;
+
+/// A JSON text while it is written. It puts a comma between the values of a list, and between the members of an object. Once
+/// memory runs out the text is cut, and `finish` returns the error. (own choice)
+#[derive(Drop)]
+pub struct JsonWriter {
+    text: Text,
+    /// Whether a value was written last.
+    is_after_value: bool,
+}
+
+impl Model for JsonWriter {
+    ghost use Rattle.session_states.specs.JsonTexts.{JsonWritten};
+
+    ghost Value = { JsonWritten };
+
+    ghost view = { λ w. record { json = record { text = w.text.bytes; is_after_value = w.is_after_value }; is_cut = w.text.is_cut } };
+}
+
+fn separator(is_after_value: bool) -> &'static str
+    ensures { result.now ≡ separator is_after_value }
+{
+    if is_after_value { "," } else { "" }
+}
+
+impl JsonWriter {
+    /// An empty text.
+    pub fn new(alloc: Global) -> JsonWriter
+        ensures json { result.json ≡ nothing_written }
+        ensures whole { result.is_cut ≡ false }
+    {
+        JsonWriter {
+            text: Text::new(alloc),
+            is_after_value: false,
+        }
+    }
+
+    /// Adds what comes before a value, and what it starts with.
+    fn start(&mut self, start: &str)
+        ensures { Becomes self.old self.new (λ json. with_start json start.now) }
+    {
+        self.text.put(separator(self.is_after_value));
+        self.text.put(start);
+        self.is_after_value = false;
+    }
+
+    /// Adds what a value ends with.
+    fn end(&mut self, end: &str)
+        ensures { Becomes self.old self.new (λ json. with_end json end.now) }
+    {
+        self.text.put(end);
+        self.is_after_value = true;
+    }
+
+    /// Adds a number.
+    pub fn put_number(&mut self, number: u64)
+        ensures { Becomes self.old self.new (λ json. with_value json (decimal number)) }
+    {
+        self.start(Buffer::new().format(number));
+        self.end("");
+    }
+
+    /// Adds `null`.
+    pub fn put_null(&mut self)
+        ensures { Becomes self.old self.new (λ json. with_value json (codes "null")) }
+    {
+        self.start("null");
+        self.end("");
+    }
+
+    /// Adds a text as a string, with the characters beyond ASCII as they are.
+    pub fn put_text(&mut self, characters: &str)
+        ensures { Becomes self.old self.new (λ json. with_value json (text_string characters.now)) }
+    {
+        self.start("\"");
+        put_json_text(&mut self.text, characters);
+        self.end("\"");
+    }
+
+    /// Adds bytes after a front as a string, each as the character of its number.
+    pub fn put_bytes(&mut self, front: &[u8], bytes: &[u8])
+        ensures { Becomes self.old self.new (λ json.
+            with_value json (bytes_string front.now bytes.now)) }
+    {
+        self.start("\"");
+        put_json_bytes(&mut self.text, front);
+        put_json_bytes(&mut self.text, bytes);
+        self.end("\"");
+    }
+
+    /// Adds the key of a member of an object; its value comes next.
+    pub fn put_key(&mut self, key: &str)
+        ensures { Becomes self.old self.new (λ json.
+            with_start json (text_string key.now ++ codes ":")) }
+    {
+        self.start("\"");
+        put_json_text(&mut self.text, key);
+        self.text.put("\":");
+    }
+
+    /// Adds a number as the key of a member of an object; its value comes next.
+    pub fn put_number_key(&mut self, number: u64)
+        ensures { Becomes self.old self.new (λ json.
+            with_start json (text_string (decimal number) ++ codes ":")) }
+    {
+        self.put_key(Buffer::new().format(number));
+    }
+
+    /// Cuts the text: memory ran out for something that belongs into it.
+    pub fn cut(&mut self, refused: AllocError)
+        ensures { self.new.is_cut ≡ true }
+    {
+        self.text.cut(refused);
+    }
+
+    /// Begins a list.
+    pub fn begin_list(&mut self)
+        ensures { Becomes self.old self.new (λ json. with_start json list_start) }
+    {
+        self.start("[");
+    }
+
+    /// Ends a list.
+    pub fn end_list(&mut self)
+        ensures { Becomes self.old self.new (λ json. with_end json list_end) }
+    {
+        self.end("]");
+    }
+
+    /// Begins an object.
+    pub fn begin_object(&mut self)
+        ensures { Becomes self.old self.new (λ json. with_start json object_start) }
+    {
+        self.start("{");
+    }
+
+    /// Ends an object.
+    pub fn end_object(&mut self)
+        ensures { Becomes self.old self.new (λ json. with_end json object_end) }
+    {
+        self.end("}");
+    }
+
+    /// Adds the end of a line, which JSON passes over.
+    pub fn end_line(&mut self)
+        ensures { Becomes self.old self.new with_line_end }
+    {
+        self.text.put("\n");
+    }
+
+    /// The text that was written. An error, out of memory, if it is cut.
+    pub fn finish(self) -> Result<Vec<u8>, AllocError>
+        ensures { IfOk result (λ text. (self.is_cut ≡ false) × (text.items ≡ self.json.text)) }
+    {
+        self.text.finish()
+    }
+}

@@ -1,0 +1,79 @@
+//! The instructions of the objects' texts.
+ghost use Rattle.std.specs.Prelude.{◌≡◌, ◌<◌, ◌++◌, false, length, IfOk, OnOk};
+ghost use Rattle.instructions.specs.declared.unix.Decoder.TheVariants.{Pdp11};
+ghost use Rattle.disassemblies.specs.Starts.{starts};
+ghost use Rattle.v7_lesson.specs.Instructions.{instruction_at, instructions, merged_instructions};
+
+use crate::row_list::RowList;
+use aout_core::File;
+use disassemblies::{NamedFile, is_start, line_starts, put_line_text, unix_line_in};
+use instructions::{Decoder, Line, UnixLine};
+use link_session::Session;
+use session_states::JsonWriter;
+use std::alloc::{AllocError, Global};
+use texts::Text;
+
+/// The instruction that begins at a place of a file's text, whose lines begin so; an empty text if none does.
+fn instruction_at(alloc: Global, file: &NamedFile<'_>, lines: &[bool], place: usize) -> Text
+    requires lines { lines.now ≡ starts Pdp11 file.now }
+    requires place { place < length file.now.text_words }
+    ensures { result.is_cut ≡ false → result.bytes ≡ instruction_at file.now place }
+{
+    let mut text = Text::new(alloc);
+    if is_start(lines, place)
+        && let UnixLine::Machine(Line::Decoded(..)) = unix_line_in(
+            Decoder::Pdp11,
+            file.file(),
+            place,
+        )
+    {
+        put_line_text(&mut text, Decoder::Pdp11, file, place);
+    }
+    text
+}
+
+/// Adds for each word of a file's text the instruction that begins there; an empty row if none does. An error: out of memory.
+fn push_instructions(alloc: Global, rows: &mut RowList, file: &File) -> Result<(), AllocError>
+    ensures { OnOk result (rows.new ≡ rows.old ++ instructions file.now) }
+{
+    let named = NamedFile::new(alloc, file)?;
+    let starts = line_starts(alloc, Decoder::Pdp11, file)?;
+    for (place, _) in file.text_words().iter().enumerate() {
+        rows.push(instruction_at(alloc, &named, &starts, place))?;
+    }
+    Ok(())
+}
+
+/// The instructions of the objects, for the words of the merged text. An error: out of memory.
+pub(crate) fn merged_instructions(alloc: Global, session: &Session) -> Result<RowList, AllocError>
+    ensures { IfOk result (λ rows. rows ≡ merged_instructions session.now.entries) }
+{
+    let mut all = RowList::new(alloc);
+    for entry in session.entries() {
+        push_instructions(alloc, &mut all, entry.object().file())?;
+    }
+    Ok(all)
+}
+
+/// Adds the instructions of a text, by the indices of their first words.
+pub(crate) fn put_instructions(
+    alloc: Global,
+    out: &mut JsonWriter,
+    file: &File,
+) -> Result<(), AllocError> {
+    let mut texts = RowList::new(alloc);
+    push_instructions(alloc, &mut texts, file)?;
+    out.put_key("instructions");
+    out.begin_object();
+    out.put_key("text");
+    out.begin_object();
+    for (index, text) in texts.rows().iter().enumerate() {
+        if !text.is_empty() {
+            out.put_number_key(index as u64);
+            out.put_bytes(b"", text);
+        }
+    }
+    out.end_object();
+    out.end_object();
+    Ok(())
+}
