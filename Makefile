@@ -4,12 +4,12 @@ PREFIX ?= /usr/local
 # the kits that the gate has passed with; any: another one too
 KITS ?= rattle-kit-13b rattle-kit-13f
 ifneq ($(filter-out clean install install-lib uninstall,$(or $(MAKECMDGOALS),all)),)
-ifneq ($(shell sh tests/kit.sh $(KITS) && echo yes),yes)
+ifneq ($(shell sh tools/kit.sh $(KITS) && echo yes),yes)
 $(error stopped)
 endif
 endif
 
-# tests/prove.py uses all processors by itself
+# tools/prove.py uses all processors by itself
 .NOTPARALLEL:
 .PHONY: all quick demo lib install-lib wheel check-lib dist check-dist test gate recheck wrong-bodies check-wrong-bodies memory room bench simulate \
 	lesson page check-page check-page-data check-manual check-examples check-explain check-cases planted check-model check-streams check-install install \
@@ -23,10 +23,10 @@ build/v7: crates/v7/out/v7
 	mkdir -p build
 	cp crates/v7/out/v7 build/v7
 
-# tests/prove.py proves a program with the libraries under it, side by side where none waits for another, and builds it. The
+# tools/prove.py proves a program with the libraries under it, side by side where none waits for another, and builds it. The
 # gate leaves a proved program too, at the same place
 crates/v7/out/v7: $(SOURCES)
-	python3 tests/prove.py v7 $@
+	python3 -m tools.prove v7 $@
 	touch $@
 
 build/v7-from-gnu: crates/v7_from_gnu/out/v7_from_gnu
@@ -34,7 +34,7 @@ build/v7-from-gnu: crates/v7_from_gnu/out/v7_from_gnu
 	cp crates/v7_from_gnu/out/v7_from_gnu build/v7-from-gnu
 
 crates/v7_from_gnu/out/v7_from_gnu: crates.txt $(shell find crates/aout_core crates/texts crates/surroundings crates/gnu_objects crates/v7_from_gnu -name out -prune -o -type f -print)
-	python3 tests/prove.py v7_from_gnu $@
+	python3 -m tools.prove v7_from_gnu $@
 	touch $@
 
 build/v7-object: crates/v7_object/out/v7_object
@@ -42,7 +42,7 @@ build/v7-object: crates/v7_object/out/v7_object
 	cp crates/v7_object/out/v7_object build/v7-object
 
 crates/v7_object/out/v7_object: crates.txt $(shell find crates/aout_core crates/texts crates/surroundings crates/listings crates/v7_object -name out -prune -o -type f -print)
-	python3 tests/prove.py v7_object $@
+	python3 -m tools.prove v7_object $@
 	touch $@
 
 build/v7-explain: crates/v7_explain/out/v7_explain
@@ -51,7 +51,7 @@ build/v7-explain: crates/v7_explain/out/v7_explain
 
 EXPLAIN_CRATES := $(addprefix crates/,aout_core texts surroundings link_session tool_options link_out symtools command_words gnu_objects listings instructions disassemblies findings suspicions explanations link_maps map_texts v7_explain)
 crates/v7_explain/out/v7_explain: crates.txt $(shell find $(EXPLAIN_CRATES) -name out -prune -o -type f -print)
-	python3 tests/prove.py v7_explain $@
+	python3 -m tools.prove v7_explain $@
 	touch $@
 
 # the linker as a library, for C and for what can call C: include/v7.h. Of the C library it calls no more than `malloc`,
@@ -86,7 +86,7 @@ build/libv7.so: build/$(SOFILE)
 LIBRARY_CRATES := $(addprefix crates/,aout_core texts link_session tool_options link_out symtools session_states listings instructions disassemblies \
 	gnu_objects findings suspicions explanations link_maps finding_objects library_calls v7_c)
 crates/v7_c/out/libv7_c.a: crates.txt $(shell find $(LIBRARY_CRATES) -name out -prune -o -type f -print)
-	python3 tests/prove.py v7_c $@
+	python3 -m tools.prove v7_c $@
 	touch $@
 
 # the libraries, the header, what pkg-config reads, the manual page, and the documents that the header cites; no program is needed
@@ -112,7 +112,7 @@ wheel: lib
 # installs the library into a folder, calls it there with an input for each fault of each call, and compares what the examples in
 # C, C++, Python and Rust link with what v7 links
 check-lib: lib build/v7 build/v7-explain build/v7-object build/v7-from-gnu
-	CC='$(CC)' CXX='$(CXX)' sh tests/library.sh
+	CC='$(CC)' CXX='$(CXX)' sh tests/libv7/library.sh
 
 # the release: packages of what was proved and built, in dist. check-dist makes them twice, in two folders, compares them, and runs
 # them in a folder of Debian that has neither the kit nor make nor Python
@@ -120,17 +120,17 @@ dist:
 	python3 packaging/dist.py
 
 check-dist:
-	sh tests/dist.sh all
+	sh tools/dist.sh all
 
 # all programs, compiled without proof into build/quick, to try them at once
 quick:
-	@python3 tests/compiling.py build/quick
-	@python3 tests/demo.py build/quick/v7
+	@python3 -m tools.compiling build/quick
+	@python3 -m tests.programs.demo build/quick/v7
 	@echo 'Nothing of this is proved: make proves it. next: PATH=$$PWD/build/quick:$$PATH, docs/TUTORIAL.md'
 
 # proves v7, and shows with it a session and a link of two small objects
 demo: build/v7
-	@python3 tests/demo.py build/v7
+	@python3 -m tests.programs.demo build/v7
 	@echo 'Each function of build/v7 is proved. next: make, which proves the other programs; docs/TUTORIAL.md'
 
 # the cases and the tests that are code, by programs that are compiled without any proof: what fails is named, and a pass proves
@@ -140,46 +140,46 @@ test:
 
 # the gate: what has to be trusted, every proof from nothing, the edits that must fail, the tests, the programs' stored runs
 gate:
-	python3 tests/trusted.py
-	python3 tests/refusals.py
-	python3 tests/edits.py
-	python3 tests/index.py
-	python3 tests/quotes.py
-	python3 tests/layers.py
-	python3 tests/limits.py
-	python3 tests/header.py
-	python3 tests/calling.py
-	python3 tests/links.py
-	python3 tests/shape.py
-	python3 tests/gate_times.py rt ci
+	python3 -m tests.texts.trusted
+	python3 -m tests.texts.refusals
+	python3 -m tests.wrong_bodies.edits
+	python3 -m tests.texts.index
+	python3 -m tests.texts.quotes
+	python3 -m tests.texts.layers
+	python3 -m tests.texts.limits
+	python3 -m tests.texts.header
+	python3 -m tests.texts.calling
+	python3 -m tests.texts.links
+	python3 -m tests.texts.shape
+	python3 -m tests.costs.gate_times rt ci
 
 # one claim proved again, and a broken line refused: docs/TRUST.md
 recheck:
-	@sh tests/recheck.sh
+	@sh tools/recheck.sh
 
 # all wrong bodies, which the prover has to refuse, in copies with one for each function; NAMES are the crates whose are tried
 wrong-bodies:
-	python3 tests/wrong_bodies.py $(NAMES)
+	python3 -m tests.wrong_bodies.wrong_bodies $(NAMES)
 
-# those of the crates that have changed since `make wrong-bodies` refused theirs, as tests/wrong-bodies.seen tells; and the script
+# those of the crates that have changed since `make wrong-bodies` refused theirs, as tests/wrong_bodies/wrong-bodies.seen tells; and the script
 # itself, with harmless edits planted among wrong ones
 check-wrong-bodies:
-	python3 tests/wrong_bodies.py -c
-	python3 tests/wrong_bodies.py --try
+	python3 -m tests.wrong_bodies.wrong_bodies -c
+	python3 -m tests.wrong_bodies.wrong_bodies --try
 
 # each program and each call of libv7 with its first request for memory refused, with its second, and so on
 memory: build/v7 build/v7-from-gnu build/v7-object build/v7-explain build/v7-lesson lib
-	python3 tests/memory.py build
+	python3 -m tests.programs.memory build
 
 # the bytes that reading and linking ask for, beside what they need; needs valgrind
 room: build/v7
-	python3 tests/room.py build/v7
+	python3 -m tests.costs.room build/v7
 
 # where valgrind is installed, the instructions of a heavy link and of an object that is added and withdrawn, and how those of each kind of
 # work grow
 bench: build/v7 build/v7-explain build/v7-from-gnu build/v7-object
-	python3 tests/heavy.py build/v7
-	python3 tests/scaling.py build/v7 build/v7-explain build/v7-from-gnu build/v7-object
+	python3 -m tests.costs.heavy build/v7
+	python3 -m tests.costs.scaling build/v7 build/v7-explain build/v7-from-gnu build/v7-object
 
 # links a program of five files, and the one of the lesson "Find the fault", whose first _twice is another one; runs both on SIMH's
 # PDP-11, and compares what they print
@@ -208,14 +208,14 @@ page: build/v7-lesson
 
 # compares what the data of pages hold, and the answers of their lessons, with what v7-lesson, v7 ld and v7 nm print; no browser is needed
 check-page-data: build/v7 build/v7-lesson build/v7-explain
-	python3 tests/page_data.py build/v7-lesson build/v7 build/v7-explain page examples/lessons.txt $(PAGE_FILES)
+	python3 -m tests.page.page_data build/v7-lesson build/v7 build/v7-explain page examples/lessons.txt $(PAGE_FILES)
 
 # opens the page in Chromium, goes through all its states, and compares them with what v7-lesson, v7 ld and v7 nm print; measures
 # its stage with sixteen objects, looks at its layout in many sizes, in Firefox too, takes its lessons by keys, and compares
 # docs/pictures with it. It needs Debian's chromium, chromium-driver and
 # python3-selenium, and firefox-esr for Firefox
 check-page: check-page-data
-	python3 tests/page.py build/v7-lesson build/v7 build/v7-explain page examples/lessons.txt $(PAGE_FILES)
+	python3 -m tests.page.page build/v7-lesson build/v7 build/v7-explain page examples/lessons.txt $(PAGE_FILES)
 
 build/v7-lesson: crates/v7_lesson/out/v7_lesson
 	mkdir -p build
@@ -223,7 +223,7 @@ build/v7-lesson: crates/v7_lesson/out/v7_lesson
 
 LESSON_CRATES := $(addprefix crates/,aout_core texts surroundings link_session tool_options link_out symtools session_states instructions disassemblies v7_lesson)
 crates/v7_lesson/out/v7_lesson: crates.txt $(shell find $(LESSON_CRATES) -name out -prune -o -type f -print)
-	python3 tests/prove.py v7_lesson $@
+	python3 -m tools.prove v7_lesson $@
 	touch $@
 
 # the manual pages: mandoc finds nothing to say of them, but for pages of others that this machine lacks, and their examples, and those
@@ -234,35 +234,35 @@ check-manual: check-examples
 # the programs with standard streams closed, and with words and files of each kind and number; what v7 adds at a terminal; and
 # completion
 check-streams: build/v7 build/v7-from-gnu build/v7-object build/v7-explain build/v7-lesson
-	sh tests/streams.sh
-	python3 tests/terminal.py build/v7
-	python3 tests/completion.py
+	sh tests/programs/streams.sh
+	python3 -m tests.programs.terminal build/v7
+	python3 -m tests.programs.completion
 
 # installs into a folder with a narrow file mask, looks at what is there, and takes it away
 check-install: build/v7 build/v7-from-gnu build/v7-object build/v7-explain build/v7-lesson
-	python3 tests/installed.py make build
+	python3 -m tests.programs.installed make build
 
 # listings of the examples and of 1,000 made objects are turned back, and so are those of other files; 2,000 damaged listings
 # are tried, notes compared with computed ones, and maps with what v7 says of the links; DAMAGED files are tried besides. Each program
 # gets the largest input of each kind
 DAMAGED ?= 0
 check-explain: build/v7 build/v7-explain build/v7-object build/v7-from-gnu build/v7-lesson
-	python3 tests/explain.py build/v7-explain build/v7-object build/v7 $(DAMAGED)
-	python3 tests/listings.py build/v7-explain build/v7-object
-	python3 tests/notes.py build/v7-explain
-	python3 tests/map.py build/v7 build/v7-explain
-	python3 tests/disassembly.py build/v7-explain
-	python3 tests/folders.py build/v7-explain
-	python3 tests/mistakes.py build/v7-explain
-	python3 tests/largest.py build
+	python3 -m tests.oracles.explain build/v7-explain build/v7-object build/v7 $(DAMAGED)
+	python3 -m tests.oracles.listings build/v7-explain build/v7-object
+	python3 -m tests.oracles.notes build/v7-explain
+	python3 -m tests.oracles.map build/v7 build/v7-explain
+	python3 -m tests.oracles.disassembly build/v7-explain
+	python3 -m tests.programs.folders build/v7-explain
+	python3 -m tests.oracles.mistakes build/v7-explain
+	python3 -m tests.programs.largest build
 
 # plays the cases, docs/CASES.md, with the programs: each must come out as written, and each bad case must be refused as bad.errors
 # has it. Samples that are in examples too must be the same there
 check-cases: build/v7 build/v7-from-gnu build/v7-object build/v7-explain build/v7-lesson build/library_uses
-	python3 tests/cases.py -s
-	python3 tests/planted.py -c
-	python3 tests/cases.py -b
-	python3 tests/cases.py
+	python3 -m tests.cases.cases -s
+	python3 -m tests.cases.planted -c
+	python3 -m tests.cases.cases -b
+	python3 -m tests.cases.cases
 
 # the program by which cases show the states of sessions
 build/library_uses: crates/library_uses/out/library_uses
@@ -270,17 +270,17 @@ build/library_uses: crates/library_uses/out/library_uses
 	cp crates/library_uses/out/library_uses build/library_uses
 
 crates/library_uses/out/library_uses: $(SOURCES)
-	python3 tests/prove.py library_uses $@
+	python3 -m tools.prove library_uses $@
 	touch $@
 
 # plants the bugs of docs/internals/PLANTED.md, or those that BUGS names, one after another, and sees that the cases find each: one to two
 # minutes for a bug, with no proof
 planted:
-	python3 tests/planted.py $(BUGS)
+	python3 -m tests.cases.planted $(BUGS)
 
-# compares v7 with a second linker, tests/model.py, on 3,000 random cases, always the same
+# compares v7 with a second linker, tests/oracles/model.py, on 3,000 random cases, always the same
 check-model: build/v7
-	python3 tests/agree.py build/v7
+	python3 -m tests.oracles.agree build/v7
 
 # the examples of the manual pages and of the documents come out as shown, and so do the faults of v7-from-gnu and the steps of
 # v7-lesson; the gate leaves the programs that they need
@@ -289,9 +289,9 @@ check-examples: build/v7 build/v7-from-gnu build/v7-object build/v7-explain buil
 	cmp crates/v7_lesson/data/l.o examples/l.o
 	cmp crates/v7_from_gnu/data/squares.gnu examples/squares.gnu
 	cmp crates/v7_object/data/main.lst examples/main.lst
-	sh tests/manual.sh
-	python3 tests/statuses.py build/v7-from-gnu build/v7-lesson
-	python3 tests/assembler.py build/v7-from-gnu
+	sh tests/programs/manual.sh
+	python3 -m tests.programs.statuses build/v7-from-gnu build/v7-lesson
+	python3 -m tests.oracles.assembler build/v7-from-gnu
 	for program in v7-from-gnu v7-object v7-explain v7-lesson; do \
 		test "$$(build/$$program --version)" = "$$program $(VERSION)" || { echo "$$program --version: not $(VERSION)"; exit 1; }; \
 	done

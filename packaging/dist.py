@@ -2,7 +2,7 @@
 """Makes the packages of a release in dist: v7-VERSION-linux-x86_64.tar.gz, the packages for Debian (v7, libv7-0, libv7-dev and
 python3-v7), the wheel of Python, and SHA256SUMS. The tar and the package v7 have a README of their own, packaging/README.md.
 
-usage: packaging/dist.py           of what tests/prove.py has proved, or proves now
+usage: packaging/dist.py           of what tools/prove.py has proved, or proves now
        packaging/dist.py --kept    of what is in build/proved and crates/v7_c/out, which it does not check: for trials
 
 The programs are linked statically, so they need no library where they run. Two runs for one commit give the same bytes, whatever the
@@ -65,7 +65,7 @@ class Release:
     def prove(self):
         """Proves what is not proved yet."""
         for crate, out in (*((name, name) for name in PROGRAMS), ("v7_c", "libv7_c.a")):
-            run(sys.executable, "tests/prove.py", crate, f"crates/{crate}/out/{out}")
+            run(sys.executable, "-m", "tools.prove", crate, f"crates/{crate}/out/{out}")
 
     def crates(self):
         """The crates of the repository that the programs and libv7 are made of, and the kit's libraries that they use."""

@@ -13,10 +13,11 @@ import tempfile
 import time
 from concurrent.futures import FIRST_COMPLETED, ThreadPoolExecutor, wait
 
-from compiling import CRATES, SECONDS_SILENT, NotCompiled, compile_program
+from tools.compiling import CRATES, SECONDS_SILENT, NotCompiled, compile_program
 
-TOP = os.path.normpath(os.path.join(os.path.dirname(os.path.abspath(__file__)), ".."))
-TEXTS = ["trusted", "refusals", "edits", "index", "quotes", "layers", "limits", "header", "calling", "prose", "links"]
+from tests import TOP
+
+TEXTS = [*(f"texts.{name}" for name in "trusted refusals index quotes layers limits header calling prose links".split()), "wrong_bodies.edits"]
 # for a whole run of one crate, on a machine with other work too
 SECONDS = "1800"
 SIDE_BY_SIDE = 4
@@ -80,7 +81,7 @@ def names_in(path):
 
 def check_names():
     """Each case has a name of its own."""
-    names = [name for path in glob.glob("tests/cases/*.case") for name in names_in(path)]
+    names = [name for path in glob.glob("tests/cases/data/*.case") for name in names_in(path)]
     twice = sorted({name for name in names if names.count(name) > 1})
     if twice:
         raise Failed(f"these names are there twice: {' '.join(twice)}\n")
@@ -96,7 +97,7 @@ def weight(path):
 def shares():
     """The case files in groups that take about the same time."""
     groups = [[] for _ in range(GROUPS)]
-    for path in sorted(glob.glob("tests/cases/*.case"), key=lambda path: -weight(path)):
+    for path in sorted(glob.glob("tests/cases/data/*.case"), key=lambda path: -weight(path)):
         min(groups, key=lambda group: sum(map(weight, group))).append(path)
     return [sorted(group) for group in groups if group]
 
@@ -116,7 +117,7 @@ def play(programs, folder, *words):
     if any(job.exception() for job in programs):
         raise Failed("a program is not compiled\n")
     environment = {**os.environ, "V7_BUILD": folder, "V7_SECONDS": SECONDS}
-    return passes(sys.executable, "tests/cases.py", *words, env=environment)
+    return passes(sys.executable, "-m", "tests.cases.cases", *words, env=environment)
 
 
 def play_share(programs, folder, files):
@@ -168,8 +169,8 @@ def main():
         # nothing that waits comes before what it waits for
         programs = {pool.submit(compiled, name, folder): f"the program {name}" for name in CRATES}
         work = [(f"cases of {' '.join(files)}", play_share, [*programs], folder, files) for files in shares()]
-        work += [(f"tests/{name}.py", passes, sys.executable, f"tests/{name}.py") for name in TEXTS]
-        work += [("samples", passes, sys.executable, "tests/cases.py", "-s"), ("names of cases", check_names)]
+        work += [(name, passes, sys.executable, "-m", f"tests.{name}") for name in TEXTS]
+        work += [("samples", passes, sys.executable, "-m", "tests.cases.cases", "-s"), ("names of cases", check_names)]
         work += [("bad cases", play, [*programs], folder, "-b")]
         tests = sorted(crates_with_tests().items(), key=lambda it: -it[1])
         work += [(f"tests of {name}", run_tests, name, count) for name, count in tests]

@@ -1,0 +1,6 @@
+"""Scripts that look at the code, the documents and the programs: README.md. The modules of other folders are found from here."""
+import os
+import sys
+
+TOP = os.path.dirname(os.path.dirname(os.path.abspath(__file__)))
+sys.path[1:1] = [os.path.join(TOP, folder) for folder in ("packaging/python", "packaging", "examples")]

@@ -1,0 +1,413 @@
+#!/usr/bin/env python3
+"""Plays cases, docs/CASES.md, with the built programs, in real folders and through real pipes.
+
+usage: python3 -m tests.cases.cases [FILE ..]      plays these files, or all of tests/cases
+       python3 -m tests.cases.cases -e FILE ..     prints only the first error of each bad case
+       python3 -m tests.cases.cases -s             compares the samples with the files of examples/
+       python3 -m tests.cases.cases -b             plays bad.cases and bad.words: each error must be the one that bad.errors, or the table, has
+       python3 -m tests.cases.cases -p             plays all with the programs of a package: skips parts that watch a program, and states
+
+Parts with `refuse memory` are skipped too for a program that tools/compiling.py has made: a script starts it, and it has its own malloc.
+The programs are in build/, or in the folder V7_BUILD. A command has 60 seconds, or V7_SECONDS.
+"""
+import collections
+import contextlib
+import difflib
+import glob
+import io
+import os
+import re
+import struct
+import subprocess
+import sys
+import tempfile
+
+from tests import TOP
+from tests.cases import bad_words
+from tests.cases.case_files import SAMPLES, contents, make, sample, sample_path
+from tests.cases.case_format import Mistake, cases_in, encoded, read_case
+from tests.lib.watching import NotWatched, Watch, is_memory
+
+# the folder of the programs
+BUILD = os.environ.get("V7_BUILD") or os.path.join(TOP, "build")
+# how long a command may take
+SECONDS = int(os.environ.get("V7_SECONDS") or 60)
+
+
+def shown(data, most=120):
+    """Bytes as text."""
+    plain = "".join(chr(byte) if 32 <= byte < 127 and byte != 92 else f"\\{byte:03o}" for byte in data[:most])
+    return plain + (f".. ({len(data)} bytes)" if len(data) > most else "")
+
+
+def shown_line(data):
+    return shown(data[:-1]) if data.endswith(b"\n") else shown(data) + "  without a newline"
+
+
+def differ(line, what, expected, came):
+    return Mistake(line, f"{what}\n  wanted: {expected}\n  came:   {came}")
+
+
+# --- what came of a command
+
+def lines_in(data):
+    """The lines of bytes, each with its newline."""
+    return [line for line in re.split(b"(?<=\n)", data) if line]
+
+
+def check_output(line, what, expected, came):
+    """Compares what was written to a stream, line by line."""
+    expected = [(place, part) for place, text in expected for part in lines_in(text)]
+    lines = lines_in(came)
+    for (place, text), found in zip(expected, lines):
+        if found != text:
+            raise differ(place, what, shown_line(text), shown_line(found))
+    if len(expected) > len(lines):
+        raise differ(expected[len(lines)][0], what, shown_line(expected[len(lines)][1]), "no further line")
+    if len(lines) > len(expected):
+        raise differ(line, what, "no further line", shown_line(lines[len(expected)]))
+
+
+def check_status(step, came):
+    line, expected = step.status or (step.line, 0)
+    if came != expected:
+        raise differ(line, "status", expected, came)
+
+
+def first_difference(expected, came):
+    shorter = min(len(expected), len(came))
+    return next((at for at in range(shorter) if expected[at] != came[at]), shorter)
+
+
+def excerpt(data, at):
+    return f"{len(data)} bytes, from byte {at} on: {data[at:at + 16].hex(' ', 2) or 'none'}"
+
+
+def check_bytes(item, expected, came):
+    if expected != came:
+        at = first_difference(expected, came)
+        at -= at % 2
+        raise differ(item.line, os.fsdecode(item.arguments[0]), excerpt(expected, at), excerpt(came, at))
+
+
+MANY = ("unchanged", "absent")
+
+
+def check_described(item, before, after):
+    """Checks what a line says of files."""
+    for name in item.arguments if item.word in MANY else item.arguments[:1]:
+        path = os.fsdecode(name)
+        if item.word == "absent" and name in after:
+            raise Mistake(item.line, f"{path} is there")
+        if item.word != "absent" and name not in after:
+            raise Mistake(item.line, f"{path} is not there")
+        if item.word == "unchanged" and before.get(name) != after[name]:
+            raise Mistake(item.line, f"{path} has changed")
+        if item.word not in MANY:
+            others = {other: data for other, data in after.items() if other != name}
+            check_bytes(item, contents(item, others), after[name])
+
+
+def check_files(step, before, after):
+    described = set()
+    for item in step.files:
+        check_described(item, before, after)
+        described.update(item.arguments if item.word in MANY else item.arguments[:1])
+    for name in sorted((before.keys() | after.keys()) - described):
+        if before.get(name) != after.get(name):
+            how = "has gone" if name not in after else "has changed" if name in before else "has appeared"
+            raise Mistake(step.line, f"{os.fsdecode(name)} {how}, and no line describes it")
+
+
+def check_asked(step, came):
+    line, expected = step.asked
+    if came != expected:
+        raise differ(line, "asked", shown(b", ".join(expected), 2000), shown(b", ".join(came), 2000))
+
+
+# --- commands
+
+def snapshot(directory):
+    """The files of a folder and of those in it, by their paths from there."""
+    files, top = {}, os.fsencode(directory)
+    for at, _, names in os.walk(top):
+        for path in (os.path.join(at, name) for name in names):
+            with open(path, "rb") as file:
+                files[os.path.relpath(path, top)] = file.read()
+    return files
+
+
+def run(line, words, directory, given=b"", environment=None):
+    """Runs a command, of this line, and returns what came of it."""
+    name = os.fsdecode(words[0])
+    path = os.path.join(BUILD, name)
+    if not os.access(path, os.X_OK):
+        raise Mistake(line, f"build/{name} is missing")
+    try:
+        return subprocess.run(words, executable=path, cwd=directory, input=given, capture_output=True,
+                              env=environment or {}, timeout=SECONDS, check=False)
+    except subprocess.TimeoutExpired:
+        raise Mistake(line, f"it does not end within {SECONDS} seconds") from None
+
+
+def planned(item):
+    """The plan of a line, in the words of tests/lib/watching.py."""
+    if item.word == "refuse":
+        return b"refuse", b" ".join(word if isinstance(word, bytes) else str(word).encode() for word in item.arguments)
+    word, name, _, count = item.arguments
+    return word.encode(), name, str(count).encode()
+
+
+def watched(step, plans, directory, given):
+    """Runs a command that is watched, and returns what came of it and what it asked for."""
+    plans = {item.line: planned(item) for item in plans}
+    try:
+        watch = Watch(plans.values())
+        came = run(step.line, step.words, directory, given, watch.environment())
+        requests = watch.requests()
+    except NotWatched as why:
+        raise Mistake(step.line, str(why)) from None
+    for line, plan in plans.items():
+        if is_memory(plan[1]) and plan[1] not in watch.refused:
+            raise Mistake(line, "the command makes fewer requests for memory")
+    return came, requests
+
+
+def play_step(step, plans, directory):
+    """Runs a command, of whose requests some are refused, and checks what comes of it."""
+    before = snapshot(directory)
+    given = b"".join(text for _, text in step.given)
+    if step.asked or plans:
+        came, requests = watched(step, plans, directory, given)
+    else:
+        came, requests = run(step.line, step.words, directory, given), []
+    check_output(step.line, "standard error", step.error, came.stderr)
+    check_output(step.line, "standard output", step.output, came.stdout)
+    check_status(step, came.returncode)
+    check_files(step, before, snapshot(directory))
+    if step.asked:
+        check_asked(step, requests)
+
+
+# --- states of sessions
+
+def forced_in(words):
+    """The names that edits force, each after -u, and the other edits."""
+    names, words = [], list(words)
+    while words[:1] == [b"-u"] and len(words) > 1:
+        names.append(words[1])
+        words = words[2:]
+    return names, words
+
+
+def is_whole(data):
+    """Whether a file with relocation is as long as its header says."""
+    if len(data) < 16:
+        return False
+    _, text, of_data, _, symbols = struct.unpack("<5H", data[:10])
+    return len(data) == 16 + 2 * (text + of_data) + symbols
+
+
+def cannot_be_made(item, word):
+    return Mistake(item.line, f"this edit cannot be made: {shown(word)}")
+
+
+def shown_after(item, names, edits, files):
+    """What `library_uses` prints of a session after these edits."""
+    for word in edits:
+        if word != b"-" and not (word[:1] == b"+" and is_whole(files.get(word[1:], b""))):
+            raise cannot_be_made(item, word)
+    objects = [files[word[1:]] for word in edits if word != b"-"]
+    letters = b"".join(b"w" if word == b"-" else b"a" for word in edits)
+    with tempfile.TemporaryDirectory() as directory:
+        for name, data in enumerate([b"".join(name[:8].ljust(8, b"\0") for name in names), *objects]):
+            with open(os.path.join(directory, str(name)), "wb") as file:
+                file.write(data)
+        paths = [b"%d" % number for number in range(1, len(objects) + 1)]
+        return run(item.line, [b"library_uses", b"state", b"0", letters, *paths], directory)
+
+
+def play_state(item, files):
+    """Compares what a session shows after the edits of a line."""
+    names, edits = forced_in(item.arguments)
+    came = shown_after(item, names, edits, files)
+    if came.returncode or came.stderr:
+        raise differ(item.line, "state", "a state", shown(came.stderr))
+    replies, _, lines = came.stdout.partition(b"\n")
+    for word, reply in zip(edits, replies.decode().strip("[]").split(", ")):
+        if word != b"-" and reply != "0":
+            raise cannot_be_made(item, word)
+    expected = [(line, encoded(line, text)) for line, text in item.block]
+    check_output(item.line, "state", expected, re.sub(b"(?m)^  ", b"", lines))
+
+
+def files_of(part):
+    """The files before the commands. Listings after the commands are read too, so that a bad one is found before the part is played."""
+    folder = {}
+    for item in part.files_before:
+        make(item, folder)
+    for item in (item for step in part.steps for item in step.files):
+        if item.word == "listing":
+            contents(item, folder)
+    return folder
+
+
+def play_states(part, place, directory):
+    """Plays the states before which so many commands come."""
+    for item in part.plans:
+        if item.word == "state" and item.place == place:
+            play_state(item, snapshot(directory))
+
+
+def play_part(part, folder):
+    with tempfile.TemporaryDirectory() as directory:
+        for name, data in folder.items():
+            path = os.path.join(os.fsencode(directory), name)
+            os.makedirs(os.path.dirname(path), exist_ok=True)
+            with open(path, "wb") as file:
+                file.write(data)
+        for place, step in enumerate(part.steps):
+            play_states(part, place, directory)
+            play_step(step, [item for item in part.plans if item.word != "state" and item.place <= place], directory)
+        play_states(part, len(part.steps), directory)
+
+
+# --- cases
+
+def is_script(program):
+    path = os.path.join(BUILD, os.fsdecode(program))
+    if not os.path.exists(path):
+        return False
+    with open(path, "rb") as file:
+        return file.read(2) == b"#!"
+
+
+def reason(part, is_packaged):
+    """Why a part is not played with these programs, or None."""
+    if is_packaged and any(plan.word == "state" for plan in part.plans):
+        return "states of sessions"
+    if is_packaged and (part.plans or any(step.asked for step in part.steps)):
+        return "requests that are watched"
+    refuses_memory = any(plan.word == "refuse" and plan.arguments[0] == "memory" for plan in part.plans)
+    return "requests for memory" if refuses_memory and any(is_script(step.words[0]) for step in part.steps) else None
+
+
+class Run:
+    """All cases of a run, and what came of them."""
+
+    def __init__(self, is_listing_errors=False, is_packaged=False):
+        self.is_listing_errors = is_listing_errors
+        self.is_packaged = is_packaged
+        self.names = {}
+        self.played = self.in_part = self.bad = 0
+        self.skipped = collections.Counter()
+
+    def say(self, text):
+        if not self.is_listing_errors:
+            print(text)
+
+    def play(self, case):
+        reasons = []
+        for part in case.parts:
+            why, folder = reason(part, self.is_packaged), files_of(part)
+            if why:
+                reasons.append(why)
+            else:
+                play_part(part, folder)
+        if len(reasons) == len(case.parts):
+            self.skipped[reasons[0]] += 1
+            self.say(f"skipped {case.name}: {reasons[0]}")
+        else:
+            self.played += 1
+            self.in_part += bool(reasons)
+            self.say(f"ok {case.name}" + (f", but not all: {reasons[0]}" if reasons else ""))
+
+    def take(self, name, lines):
+        """Reads a case and plays it."""
+        try:
+            case = read_case(lines)
+            if case.name in self.names:
+                raise Mistake(case.line, f"a second case {case.name}; the first: {self.names[case.name]}")
+            self.names[case.name] = f"{name}:{case.line}"
+            self.play(case)
+        except Mistake as mistake:
+            self.bad += 1
+            known = next((text[5:] for _, text in lines if text.startswith("case ")), "no case")
+            print(f"{name}:{mistake.line}: {known}: {mistake.text}")
+
+    def file(self, name):
+        try:
+            cases = cases_in(name)
+        except OSError:
+            cases = []
+        for lines in cases:
+            self.take(name, lines)
+        if not cases:
+            self.bad += 1
+            print(f"{name}:1: no such file, or no case in it")
+
+    def summary(self):
+        skipped = "".join(f", {count} for {why}" for why, count in sorted(self.skipped.items()))
+        if self.in_part or self.skipped:
+            skipped = f"; {self.in_part} of them in part; {sum(self.skipped.values())} skipped{skipped}"
+        print(f"{self.played} cases played{skipped}; {self.bad} failed")
+
+
+def check_samples():
+    """Compares the samples that are in examples too: whether they are equal."""
+    names = {os.path.basename(path).replace(".lst", ".o") for path in glob.glob(os.path.join(SAMPLES, "*"))}
+    compared = differing = 0
+    for name in sorted(names):
+        example = os.path.join(TOP, "examples", name)
+        if os.path.exists(example) and sample_path(name):
+            compared += 1
+            with open(example, "rb") as file:
+                if file.read() != sample(0, name):
+                    differing += 1
+                    print(f"the sample {name} is not examples/{name}")
+    print(f"{compared} samples compared with examples/")
+    return differing == 0 and compared > 0
+
+
+def played(words):
+    """The status of a run of these words, and the errors that it prints."""
+    with contextlib.redirect_stdout(io.StringIO()) as printed:
+        status = main(words)
+    return status, re.sub(r"^(ok|skipped|[0-9]+ cases) .*\n", "", printed.getvalue(), flags=re.M)
+
+
+def check_bad():
+    """Plays the bad cases: whether they fail a run, each with the error that bad.errors has."""
+    name = os.path.relpath(os.path.join(SAMPLES, "bad.cases"))
+    with open(os.path.join(SAMPLES, "bad.errors"), encoding="ascii") as file:
+        expected = file.read().replace("bad.cases:", f"{name}:")
+    is_good = len(expected) > 0
+    for words, status in ([name], 1), (["-e", name], 0):
+        ended, came = played(words)
+        for line in difflib.unified_diff(expected.split("\n"), came.split("\n"), "wanted", "came", lineterm="", n=0):
+            print(line)
+        if ended != status:
+            print(f"{' '.join(words)}: status {ended} in place of {status}")
+        is_good = is_good and ended == status and came == expected
+    print(f"{len(re.findall('^[^ ]', expected, re.M))} errors of bad cases compared")
+    count, faults = bad_words.check(played)
+    print("".join(f"{fault}\n" for fault in faults) + f"{count} bad cases of words compared")
+    return is_good and not faults
+
+
+def main(words):
+    if words in (["-s"], ["-b"]):
+        return 0 if {"-s": check_samples, "-b": check_bad}[words[0]]() else 1
+    option = words[0] if words[:1] in (["-e"], ["-p"]) else ""
+    files = words[bool(option):] or sorted(glob.glob(os.path.relpath(os.path.join(SAMPLES, "*.case"))))
+    all_cases = Run(option == "-e", option == "-p")
+    for name in files:
+        all_cases.file(name)
+    if option == "-e":
+        return 0
+    all_cases.summary()
+    return 1 if all_cases.bad or not all_cases.played else 0
+
+
+if __name__ == "__main__":
+    sys.exit(main(sys.argv[1:]))

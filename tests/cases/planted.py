@@ -1,0 +1,248 @@
+#!/usr/bin/env python3
+"""Plants the bugs of docs/internals/PLANTED.md, one after another, and plays the cases with each.
+
+usage: python3 -m tests.cases.planted [BUG ..]    tries the bugs of all rows, or these; an error if a case that the row names does not fail,
+                                    or if one of them fails without a bug
+       python3 -m tests.cases.planted -a BUG ..   plays all cases with each bug, and prints those that fail
+       python3 -m tests.cases.planted -c          looks only whether each edit fits the code, and the table the edits and the cases
+
+A bug CRATE/NAME is an edit of the crate that the prover refuses, as tests/wrong_bodies/edits.py finds it. Any other is an edit of tests/cases/planted/, with
+the path from the top. The rows of tests/programs/largest.py and tests/libv7/largest_library.py count as cases. The bug is made
+in a copy of the sources, and programs are compiled there with no proof: those that use its crate, one after another, as long as a case
+that the row names does not fail. The other programs are those without a bug. libv7 counts as a program.
+"""
+import glob
+import os
+import re
+import shutil
+import subprocess
+import sys
+import tempfile
+from concurrent.futures import ThreadPoolExecutor
+
+from tests import TOP
+from tests.wrong_bodies import edits
+from tests.programs import largest
+from tools.compiling import CRATES, NotCompiled, compile_library, compile_program, uses_of
+
+CASES = os.path.join(TOP, "tests", "cases", "data")
+PAGE = "docs/internals/PLANTED.md"
+ROW = re.compile(r"^\| `([\w/]+)` \| .* \| (.*) \|$")
+# the rows of tests/programs/largest.py, each with the program that it runs as a case has it. A listing is read back by v7-object
+READS_BACK = {"v7-explain": "$ v7-object\n"}
+LARGEST = {f"largest.py: {name}, {kind}": f"$ {name}\n{READS_BACK.get(name, '')}" for name, _, kinds in largest.TABLE for kind in kinds}
+# the rows of tests/libv7/largest_library.py. Importing it would load the library
+with open(os.path.join(TOP, "tests", "libv7", "largest_library.py"), encoding="utf-8") as script:
+    CALLS = re.findall(r'^    \("(v7_[^"]+)", ', script.read(), re.M)
+LARGEST.update({f"largest_library.py: {calls}, {kind}": "$ libv7\n" for calls in CALLS for kind in largest.KINDS})
+# what is compiled, and the crate of each
+COMPILED = {**{name: crate for name, (crate, _) in CRATES.items()}, "libv7": "v7_c"}
+# for a command of a case, on a machine with other work too
+SECONDS = "300"
+# a compilation takes a processor and a gigabyte
+SIDE_BY_SIDE = 2
+
+
+class Fault(Exception):
+    pass
+
+
+def rows():
+    """The bugs of the table, each with the cases that have to fail."""
+    with open(os.path.join(TOP, PAGE), encoding="utf-8") as page:
+        found = [ROW.match(line.strip()) for line in page]
+    return [(row[1], re.findall(r"`([^`]+)`", row[2])) for row in found if row]
+
+
+def changed(bug):
+    """The files that a bug changes, by path, with its edit made."""
+    crate, _, name = bug.rpartition("/")
+    if crate:
+        found = [body.text for body in edits.edits_of(crate) if body.name == name]
+    else:
+        found = [edits.read(f"tests/cases/planted/{name}.edit")]
+    if len(found) != 1:
+        raise Fault(f"crates/{crate} has {len(found)} edits {name}")
+    start = f"crates/{crate}" if crate else "."
+    try:
+        files = edits.changed(edits.pairs(found[0]), start)
+    except edits.Misfit as misfit:
+        raise Fault(str(misfit)) from None
+    return {os.path.normpath(f"{start}/{path}"): text for path, text in files.items()}
+
+
+def below(crate, uses):
+    """A crate, and those of the repository that it uses."""
+    return {crate}.union(*(below(other, uses) for other in uses[crate] if other in uses))
+
+
+def cases_of(paths):
+    """The text of each case in these files."""
+    texts = {}
+    for path in paths:
+        with open(path, encoding="ascii") as lines:
+            for text, name in re.findall(r"^((?:#.*\n)+case (\w+)\n(?:[^#\n].*\n|\n)*)", lines.read(), re.M):
+                texts[name] = text
+    return texts
+
+
+def there_are():
+    """The text of each case, and what each row of largest.py runs."""
+    return {**cases_of(glob.glob(os.path.join(CASES, "*.case"))), **LARGEST}
+
+
+def programs_of(text):
+    """The programs that a case runs. A state is shown by `library_uses`."""
+    found = set(re.findall(r"^\$ (\S+)", text, re.M))
+    return found | {"library_uses"} if re.search(r"^state\b", text, re.M) else found
+
+
+def failed(folder, texts):
+    """Those of these cases, and of these rows of largest.py, that fail with the programs of a folder."""
+    rows_failed = [name for name in texts if name in LARGEST and row_fails(folder, name)]
+    return rows_failed + cases_that_fail(folder, {name: text for name, text in texts.items() if name not in LARGEST})
+
+
+def row_fails(folder, name):
+    """Whether a row of largest.py fails."""
+    script, row = name.split(": ")
+    words = ["tests.libv7.largest_library", row] if script == "largest_library.py" else ["tests.programs.largest", folder, row]
+    module = os.path.join(TOP, "packaging", "python")
+    ran = subprocess.run([sys.executable, "-m", *words], cwd=TOP, stdout=subprocess.PIPE, stderr=subprocess.STDOUT, check=False,
+                         env={**os.environ, "LIBV7": os.path.join(folder, "libv7.so"), "PYTHONPATH": module})
+    said = ran.stdout.decode("utf-8", "replace")
+    if not re.search(r"^(?:programs|libv7): [01] of 1 answers .*\n\Z", said, re.M):
+        raise Fault(said)
+    return ran.returncode != 0
+
+
+def cases_that_fail(folder, texts):
+    if not texts:
+        return []
+    with tempfile.NamedTemporaryFile("w", suffix=".case", encoding="ascii") as file:
+        file.writelines(texts.values())
+        file.flush()
+        ran = subprocess.run([sys.executable, "-m", "tests.cases.cases", file.name], cwd=TOP, stdout=subprocess.PIPE,
+                             stderr=subprocess.STDOUT, env={**os.environ, "V7_BUILD": folder, "V7_SECONDS": SECONDS}, check=False)
+    said = ran.stdout.decode("ascii", "replace")
+    names = re.findall(r"^ok (\w+)", said, re.M) + re.findall(rf"^{file.name}:\d+: (\w+): ", said, re.M)
+    if sorted(names) != sorted(texts) or re.search(r": build/\S+ is missing$", said, re.M):
+        raise Fault(said)
+    return [name for name in texts if not re.search(rf"^ok {name}$", said, re.M)]
+
+
+def sources(top, files):
+    """Copies the sources, some files of which are changed."""
+    shutil.copy(os.path.join(TOP, "crates.txt"), top)
+    for path in glob.glob(os.path.join(TOP, "crates", "*", "src")):
+        shutil.copytree(path, os.path.join(top, os.path.relpath(path, TOP)))
+    for path, code in files.items():
+        with open(os.path.join(top, path), "w", encoding="utf-8") as source:
+            source.write(code)
+
+
+def failing(bug, texts, good, is_whole=False):
+    """Those of these cases that fail with a bug, where `good` is the folder of the programs without one. With `is_whole` all
+    programs that the bug reaches are compiled before the cases are played."""
+    files, uses = changed(bug), uses_of(TOP)
+    crate = next(iter(files)).split(os.sep)[1]
+    using = [name for name in COMPILED if crate in below(COMPILED[name], uses)]
+    counts = {name: sum(name in programs_of(text) for text in texts.values()) for name in using}
+    reached = sorted(filter(counts.get, using), key=lambda name: -counts[name])
+    with tempfile.TemporaryDirectory() as top:
+        sources(top, files)
+        folder = os.path.join(top, "build")
+        shutil.copytree(good, folder, ignore=shutil.ignore_patterns("*.compiled"))
+        found = []
+        for place, program in enumerate(reached, 1):
+            compile_one(top, program, folder)
+            if not is_whole or place == len(reached):
+                found = failed(folder, texts)
+            if len(found) == len(texts):
+                break
+        return found
+
+
+def compile_one(top, name, folder):
+    """Compiles a program or libv7 of the sources at `top`."""
+    if name == "libv7":
+        compile_library(top, folder)
+    else:
+        compile_program(top, name, folder)
+
+
+def programs(folder, names):
+    """Compiles programs without a bug."""
+    os.mkdir(folder)
+    with ThreadPoolExecutor(SIDE_BY_SIDE) as pool:
+        list(pool.map(lambda name: compile_one(TOP, name, folder), names))
+
+
+def check_table():
+    """Whether each edit fits the code, each edit of tests/cases/planted has a row, and each case of a row is there."""
+    table, faults = rows(), []
+    there = there_are()
+    edits = {os.path.basename(path)[:-5] for path in glob.glob(os.path.join(TOP, "tests", "cases", "planted", "*.edit"))}
+    faults += [f"{bug}: no row" for bug in sorted(edits - {bug for bug, _ in table})]
+    for bug, expected in table:
+        faults += [f"{bug}: no case {name}" for name in expected if name not in there] + ([] if expected else [f"{bug}: no case"])
+        try:
+            changed(bug)
+        except (Fault, OSError) as fault:
+            faults.append(f"{bug}: {fault}")
+    print(f"{PAGE} has {len(table)} bugs", *faults, sep="\n")
+    return bool(faults) or not table
+
+
+def list_failing(bugs):
+    """Prints all cases that fail with each bug."""
+    there = cases_of(glob.glob(os.path.join(CASES, "*.case")))
+    with tempfile.TemporaryDirectory() as top:
+        good = os.path.join(top, "good")
+        programs(good, CRATES)
+        for bug in bugs:
+            try:
+                print(f"{bug}: {' '.join(failing(bug, there, good, True))}", flush=True)
+            except (Fault, NotCompiled) as fault:
+                print(f"{bug}: {fault}", flush=True)
+
+
+def try_row(bug, names, there, good):
+    """Plants a bug: what is wrong, if not all cases fail that its row names."""
+    try:
+        found = failing(bug, {name: there[name] for name in names}, good)
+    except (Fault, NotCompiled) as fault:
+        return str(fault)
+    passed = [name for name in names if name not in found] if names else ["no case is named"]
+    return "not found: " + ", ".join(passed) if passed else None
+
+
+def try_rows(table):
+    """Plants the bugs, after the cases are played without one: whether all wanted cases fail, and without a bug none."""
+    there = there_are()
+    wanted = {name: there[name] for _, names in table for name in names}
+    faults = 0
+    with tempfile.TemporaryDirectory() as top, ThreadPoolExecutor(SIDE_BY_SIDE) as pool:
+        good = os.path.join(top, "good")
+        programs(good, set().union(*map(programs_of, wanted.values())))
+        passed = failed(good, wanted)
+        print(f"{len(wanted)} cases without a bug: {'failed: ' + ', '.join(passed) if passed else 'as expected'}", flush=True)
+        faults += bool(passed)
+        for (bug, _), fault in zip(table, pool.map(lambda row: try_row(*row, there, good), table)):
+            print(f"{bug}: {fault or 'found'}", flush=True)
+            faults += bool(fault)
+    print(f"{len(table)} bugs planted, {faults} faults")
+    return faults
+
+
+def main(words):
+    if words[:1] == ["-a"]:
+        return list_failing(words[1:])
+    if words == ["-c"]:
+        return check_table()
+    table = [row for row in rows() if not words or row[0] in words]
+    return 1 if not table or try_rows(table) else 0
+
+
+if __name__ == "__main__":
+    sys.exit(main(sys.argv[1:]))

@@ -1,0 +1,81 @@
+#!/usr/bin/env python3
+"""Runs commands under valgrind, and counts their instructions: what all counts of this project have in common.
+
+A processor copies or clears many bytes by one `rep movsb` or `rep stosb`, and callgrind counts such an instruction once for each
+byte. So glibc is asked to use neither, by ENVIRONMENT. Only counts with the same setting can be compared.
+
+Instructions are no time: a processor does several at once, and waits for memory and for the system. So `milliseconds` gives the least
+time of a processor, of the command and of the system for it, in many runs. Compare it only with runs on the same host.
+
+usage: python3 -m tests.costs.counting COMMAND ..      prints how many instructions the command takes
+"""
+import os
+import re
+import shutil
+import subprocess
+import sys
+import tempfile
+
+ENVIRONMENT = {
+    "GLIBC_TUNABLES": "glibc.cpu.x86_rep_movsb_threshold=0x10000000:glibc.cpu.x86_rep_stosb_threshold=0x10000000",
+}
+
+
+def is_installed():
+    """Whether valgrind is installed; if not, it says so."""
+    if shutil.which("valgrind"):
+        return True
+    print("instructions are counted where valgrind is installed")
+    return False
+
+
+def valgrind(words, folder=None, script=""):
+    """Runs a command under valgrind, whose options come before it, with this input."""
+    environment = {**os.environ, **ENVIRONMENT}
+    return subprocess.run(
+        ["valgrind", *words], cwd=folder, input=script, env=environment, capture_output=True, text=True, check=False
+    )
+
+
+def profiled(command, folder=None, script="", options=()):
+    """Runs a command under callgrind; the run, and the profile as text."""
+    with tempfile.TemporaryDirectory() as own:
+        path = f"{own}/counts"
+        run = valgrind(["--tool=callgrind", f"--callgrind-out-file={path}", *options, *command], folder, script)
+        if not os.path.exists(path):
+            sys.exit(f"valgrind does not run {command[0]}: {run.stderr}")
+        with open(path, encoding="utf-8") as file:
+            return run, file.read()
+
+
+def counted(command, folder=None, script=""):
+    """Runs a command under callgrind; the run, and how many instructions it took."""
+    run, profile = profiled(command, folder, script)
+    return run, int(re.search(r"^summary: (\d+)", profile, re.M)[1])
+
+
+def milliseconds(command, folder=None, runs=60):
+    """The least time of a processor that a command takes in so many runs."""
+    least = None
+    for _ in range(runs):
+        process = subprocess.Popen(command, cwd=folder, stdin=subprocess.DEVNULL, stdout=subprocess.DEVNULL, stderr=subprocess.DEVNULL)
+        _, _, used = os.wait4(process.pid, 0)
+        process.returncode = 0
+        taken = 1000 * (used.ru_utime + used.ru_stime)
+        least = taken if least is None else min(least, taken)
+    return least
+
+
+def main(*command):
+    if not is_installed():
+        return 1
+    run, instructions = counted(command)
+    if run.returncode != 0:
+        sys.stderr.write(run.stderr)
+        return run.returncode
+    print(instructions)
+    return 0
+
+
+if __name__ == "__main__":
+    sys.exit(main(*sys.argv[1:]))

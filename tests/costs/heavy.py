@@ -1,0 +1,107 @@
+#!/usr/bin/env python3
+"""Makes the objects of a heavy link, and counts by valgrind the instructions of linking them, plain and with -i; with the least time
+of a processor in 60 runs. Then counts those of one object more that is added to a session and withdrawn, in a session without objects
+and in one of all these. tests/costs/counting.py says how.
+
+There are 200 objects with 65,000 bytes of text. Each defines 20 names, and 12,869 words refer to names of other objects,
+taken by a sequence of numbers that is the same each time. With -i the objects have 65,000 bytes of data more.
+
+usage: python3 -m tests.costs.heavy PROGRAM
+"""
+import glob
+import os
+import struct
+import sys
+import tempfile
+
+from tests.costs.counting import counted, is_installed, milliseconds
+
+OBJECTS = 200
+NAMES = 20
+WORDS = 32500
+REFERENCES = 12869
+
+
+def numbers():
+    """A sequence of numbers below the number of names of all other objects."""
+    number = 1
+    while True:
+        number = (number * 1103515245 + 12345) % 2**31
+        yield (number >> 8) % ((OBJECTS - 1) * NAMES)
+
+
+def share(total, index):
+    """How much of a total one object has."""
+    return total * (index + 1) // OBJECTS - total * index // OBJECTS
+
+
+def write_object(index, others, has_data):
+    """Writes one object: words that refer to names, words of its own text, and numbers."""
+    first = index * NAMES
+    places = {first + name: name for name in range(NAMES)}
+    symbols = [(name, 0o42, 2 * place) for name, place in places.items()]
+    words, relocs = [], []
+    for _ in range(share(REFERENCES, index)):
+        name = (first + NAMES + next(others)) % (OBJECTS * NAMES)
+        if name not in places:
+            places[name] = len(symbols)
+            symbols.append((name, 0o40, 0))
+        words.append(0)
+        relocs.append(0o10 + 0o20 * places[name])
+    for word in range(len(words), share(WORDS, index)):
+        words.append(2 * (word % 100) if word % 3 == 0 else word)
+        relocs.append(2 if word % 3 == 0 else 0)
+    write(f"{index:03d}.o", words, [7] * (share(WORDS, index) if has_data else 0), relocs, symbols)
+
+
+def write(path, words, data, relocs, symbols):
+    """Writes an object, whose words of data are numbers."""
+    body = [0o407, 2 * len(words), 2 * len(data), 0, 12 * len(symbols), 0, 0, 0, *words, *data, *relocs, *[0] * len(data)]
+    with open(path, "wb") as file:
+        file.write(struct.pack(f"<{len(body)}H", *body))
+        file.writelines(struct.pack("<8sHH", b"n%05d" % name, kind, value) for name, kind, value in symbols)
+
+
+def measure(program, options, has_data):
+    """Links the objects in this folder, and answers what it took."""
+    others = numbers()
+    for index in range(OBJECTS):
+        write_object(index, others, has_data)
+    command = [program, "ld", *options, "-o", "out", *sorted(glob.glob("*.o"))]
+    run, instructions = counted(command)
+    if run.returncode != 0:
+        sys.exit(f"the link ended with status {run.returncode}: {run.stderr}")
+    return f"{instructions} instructions, {milliseconds(command):.2f} ms"
+
+
+def edited(program, path, objects):
+    """The instructions of adding an object to a session of these and withdrawing it: its two lines are repeated 100 and 1,100 times."""
+    counts = []
+    for times in 100, 1100:
+        lines = [*(f"add {name}" for name in objects), *[f"add {path}", "withdraw"] * times]
+        run, instructions = counted([program, "session"], script="".join(f"{line}\n" for line in lines))
+        if run.returncode != 0:
+            sys.exit(f"the session ended with status {run.returncode}: {run.stderr}")
+        counts.append(instructions)
+    return (counts[1] - counts[0]) // 1000
+
+
+def main():
+    program = os.path.abspath(sys.argv[1])
+    if not is_installed():
+        return
+    with tempfile.TemporaryDirectory() as folder:
+        os.chdir(folder)
+        print(f"a link of {OBJECTS} objects with {2 * WORDS} bytes of text and {OBJECTS * NAMES} names:")
+        print(f"plain: {measure(program, [], False)}")
+        print(f"with -i, and {2 * WORDS} bytes of data more: {measure(program, ['-i'], True)}")
+        objects, first = sorted(glob.glob("*.o")), OBJECTS * NAMES
+        write("waiting", [0] * 162, [], [0o10 + 0o20 * (word % 25) for word in range(100)] + [0] * 62, [(first + name, 0o40, 0) for name in range(25)])
+        write("defining", [], [], [], [(first, 0o41, 7)])
+        for path, what in ("waiting", "162 words, 100 of which wait for 25 names"), ("defining", "one name"):
+            counts = [edited(program, path, session) for session in ([], objects)]
+            print(f"an object of {what}, added and withdrawn: {counts[0]} instructions, and {counts[1]} after these objects")
+
+
+if __name__ == "__main__":
+    main()

@@ -1,0 +1,81 @@
+#!/usr/bin/env python3
+"""Counts, by valgrind, the bytes that the program asks for, and fails where it asks for more than it needs.
+
+No contract can say that a list has no more room than it needs where it grows by `reserve`. So objects of more and more
+words and names are listed and linked, and what one word and one name more cost is compared with the sizes of what is
+kept of them. Lists of one object have their room at once, so a list that has twice its room is seen.
+
+usage: python3 -m tests.costs.room PROGRAM
+"""
+import os
+import re
+import struct
+import sys
+import tempfile
+
+from tests.costs.counting import valgrind
+
+# a word and its relocation word as they are read
+READ = 2 + 2
+# its cell, the link of its chain, and the word that is written
+LINKED = 8 + 6 + 2
+# a symbol as it is read
+SYMBOL = 12
+# what is kept of a name while it is linked, at most: its symbol, its place among the externals while its object is added,
+# its entry with name, state and hash, its place in the table of hashes, its head, a mark, its place among the multiply
+# defined, what becomes of it, and its name in the report
+NAME = 102
+# so many names fill a table of hashes, which has room for 7 eighths of a power of two
+FEW, MANY = 1792, 3584
+# what a link of nothing asks for beside a list of sizes of nothing, at most
+FRAME = 10000
+
+
+def write_object(path, words, names):
+    """Writes an object of so many words of text, which are numbers, and of so many undefined names."""
+    header = struct.pack("<8H", 0o407, 2 * words, 0, 0, 12 * names, 0, 0, 0)
+    symbols = b"".join(struct.pack("<8sHH", b"n%06d" % n, 0o40, 0) for n in range(names))
+    with open(path, "wb") as file:
+        file.write(header + bytes(4 * words) + symbols)
+
+
+def asked(program, words, path):
+    """How many bytes the program asks for, all together."""
+    run = valgrind([program, *words, path])
+    return int(re.search(r"([\d,]+) bytes allocated", run.stderr)[1].replace(",", ""))
+
+
+def main():
+    program = os.path.abspath(sys.argv[1])
+    faults = []
+
+    def compare(what, found, expected, exact=True):
+        print(f"{what}: {found}, {'as' if exact else 'at most'} {expected}")
+        if found != expected if exact else found > expected:
+            faults.append(what)
+
+    with tempfile.TemporaryDirectory() as folder:
+        os.chdir(folder)
+        requested = {}
+        for words, names in ((0, 0), (1000, 0), (3000, 0), (0, FEW), (0, MANY)):
+            path = f"{words}-{names}.o"
+            write_object(path, words, names)
+            for tool, options in (("size", ["size"]), ("ld", ["ld", "-s", "-o", "/dev/null"])):
+                requested[tool, words, names] = asked(program, options, path)
+        read = requested["size", 3000, 0] - requested["size", 1000, 0]
+        compare("bytes for 2,000 words that are read", read, 2000 * READ)
+        linked = requested["ld", 3000, 0] - requested["ld", 1000, 0]
+        compare("for 2,000 words that are linked", linked, 2000 * (READ + LINKED))
+        symbols = requested["size", 0, MANY] - requested["size", 0, FEW]
+        compare("for 1,792 symbols that are read", symbols, (MANY - FEW) * SYMBOL)
+        names = requested["ld", 0, MANY] - requested["ld", 0, FEW]
+        compare("for 1,792 names that are linked", names, (MANY - FEW) * NAME, exact=False)
+        frame = requested["ld", 0, 0] - requested["size", 0, 0]
+        compare("for a link of nothing, beside a list of it", frame, FRAME, exact=False)
+    for fault in faults:
+        print(f"fault: {fault}")
+    return 1 if faults else 0
+
+
+if __name__ == "__main__":
+    sys.exit(main())

@@ -1,0 +1,272 @@
+#!/usr/bin/env python3
+"""Counts by valgrind how the instructions of the programs grow with what they are given, and prints an exponent for each.
+
+The last line has what it takes to decode 65,534 bytes of text and to list them, the most that a file can have.
+
+A kind of work is done at four sizes, the largest at least 16 times the smallest. What the same command takes without that
+work, its start and the files before it, is subtracted. The exponent is the slope, by least squares, of the logarithm of the
+instructions over that of the size: 1.00 if twice as much takes twice as long, 2.00 if it takes four times as long.
+
+tests/costs/counting.py says how instructions are counted.
+
+usage: python3 -m tests.costs.scaling V7 V7-EXPLAIN V7-FROM-GNU V7-OBJECT [KIND ..]
+"""
+import math
+import os
+import re
+import struct
+import sys
+import tempfile
+from concurrent.futures import ThreadPoolExecutor
+
+from tests.costs.counting import counted, is_installed, profiled
+from tests.lib.gnu_form import gnu_named
+
+MOST_SYMBOLS = 5461
+DEFINED, WANTED, LOCAL = 0o42, 0o40, 0o2
+PLAIN = [(7, 0)] * 100
+MOST_WORDS = 32767
+# instructions as compilers write them: moves, calls, tests, branches and arithmetic
+CODE = [
+    [0o016500, 4], [0o012746, 0o1000], [0o004767, 0o2000], [0o005726], [0o005700], [0o001403], [0o060401], [0o016567, 6, 0o300],
+    [0o110211], [0o000766], [0o020027, 0o177], [0o103402], [0o005204], [0o072027, 2], [0o000207], [0o010446],
+]
+DECODE = "instructions::line::decode"
+
+
+def names(first, count, kind=DEFINED):
+    """So many symbols with names of their own."""
+    return [(f"n{number:05d}", kind, 0) for number in range(first, first + count)]
+
+
+def long_names(first, count, kind=DEFINED):
+    """The same with names that are cut at eight bytes."""
+    return [(f"{name}_long", kind, value) for name, kind, value in names(first, count, kind)]
+
+
+def reference(number):
+    """A word that refers to the symbol with this number."""
+    return 0, 0o10 + 16 * number
+
+
+def text(count):
+    """So many words of instructions without relocation, in an order that is the same each time."""
+    words, number = [], 1
+    while len(words) < count:
+        number = (number * 1103515245 + 12345) % 2**31
+        words += CODE[(number >> 8) % len(CODE)]
+    return [(word, 0) for word in words[:count]]
+
+
+class Work:
+    """What a command does, in a folder of its own."""
+
+    def __init__(self, programs, folder):
+        self.v7, self.explain, self.from_gnu, self.to_object = programs
+        self.folder = folder
+
+    def object(self, name, words=(), symbols=()):
+        """Writes an object: its text, each word with its relocation word, and its symbols, each with type word and value."""
+        header = (0o407, 2 * len(words), 0, 0, 12 * len(symbols), 0, 0, 0)
+        body = [*header, *(word for word, _ in words), *(reloc for _, reloc in words)]
+        with open(f"{self.folder}/{name}", "wb") as file:
+            file.write(struct.pack(f"<{len(body)}H", *body))
+            for symbol, kind, value in symbols:
+                file.write(struct.pack("<8sHH", symbol.encode(), kind, value))
+        return name
+
+    def gnu_object(self, name, words, symbols):
+        """Writes an object in GNU's form with the same."""
+        rows = [(symbol.encode(), kind, value) for symbol, kind, value in symbols]
+        with open(f"{self.folder}/{name}", "wb") as file:
+            file.write(gnu_named([word for word, _ in words], [reloc for _, reloc in words], rows))
+        return name
+
+    def of_names(self, count, most):
+        """Objects that define so many names in all."""
+        return [self.object(f"n{first}.o", [], names(first, min(most, count - first))) for first in range(0, count, most)]
+
+    def of_words(self, count):
+        """One object more, each of 100 words and 10 names."""
+        return [self.object(f"o{number}.o", PLAIN, names(10 * number, 10)) for number in range(count + 1)]
+
+    def convert(self, *files):
+        os.mkdir(f"{self.folder}/converted")
+        return [self.from_gnu, "-q", "-o", "converted", *files], ""
+
+    def link(self, *files):
+        return [self.v7, "ld", "-s", "-o", "out", *files], ""
+
+    def session(self, lines):
+        return [self.v7, "session"], "".join(f"{line}\n" for line in lines)
+
+    # Each of these answers the command for a size, and the script that it reads; at size 0 the command without the work.
+
+    def objects(self, size):
+        """Links so many objects of 100 words and 10 names."""
+        return self.link(*self.of_words(size))
+
+    def names(self, size):
+        """Links objects with so many names, 3,840 in each."""
+        return self.link(self.object("first.o"), *self.of_names(size, 3840))
+
+    def references(self, size):
+        """Links so many words that refer to 100 names defined before."""
+        words = [reference(number % 100) for number in range(size)]
+        return self.link(self.object("defines.o", [], names(0, 100)), self.object("refers.o", words, names(0, 100, WANTED)))
+
+    def chains(self, size):
+        """Links so many words that wait for one name, which a later object defines."""
+        waits = self.object("waits.o", [reference(0)] * size, names(0, 1, WANTED))
+        return self.link(waits, self.object("defines.o", [], names(0, 1)))
+
+    def scripts(self, size):
+        """Adds an object to a session and withdraws it, so many times."""
+        path = self.object("added.o", [reference(0), (2, 2)], names(0, 1, WANTED))
+        return self.session([f"add {path}", "withdraw"] * size)
+
+    def refused(self, size):
+        """Adds an object with so many new names to a session of 65,532 names, which refuses it."""
+        lines = [f"add {file}" for file in self.of_names(12 * MOST_SYMBOLS, MOST_SYMBOLS)]
+        if size > 0:
+            lines.append(f"add {self.object('refused.o', [], names(70000, size))}")
+        return self.session(lines)
+
+    def nm(self, size):
+        """Lists so many symbols by name."""
+        return [self.v7, "nm", self.object("table.o", [], names(0, size)[::-1])], ""
+
+    def listings(self, size):
+        """Lists so many words that refer to half as many names."""
+        words = [reference(number // 2) for number in range(size)]
+        return [self.explain, self.object("listed.o", words, names(0, size // 2, WANTED))], ""
+
+    def texts(self, size):
+        """Lists so many words of instructions."""
+        return [self.explain, self.object("text.o", text(size))], ""
+
+    def inventory(self, size):
+        """Says in a line what a file of so many words of instructions is."""
+        return [self.explain, "-l", self.object("text.o", text(size))], ""
+
+    def rows(self, size):
+        """Shows so many words in rows."""
+        return [self.explain, "-s", self.object("text.o", text(size))], ""
+
+    def labels(self, size):
+        """Lists so many labels with six words of instructions each."""
+        symbols = [(name, kind, 12 * number) for number, (name, kind, _) in enumerate(names(0, size))]
+        return [self.explain, self.object("labels.o", text(6 * size), symbols)], ""
+
+    def maps(self, size):
+        """Maps the link of so many objects of 100 words and 10 names."""
+        return [self.explain, "-m", *self.of_words(size)], ""
+
+    def mapped(self, size):
+        """Maps the link of one object of so many words and as many symbols: every other one is a label, and each word refers to one
+        of the others, of the first 4,096, since a relocation word has a number of 12 bits."""
+        most = min(size, 4096) // 2
+        words = [reference(2 * (7 * number % most) + 1) for number in range(size)]
+        symbols = [(name, *((WANTED, 0) if number % 2 else (DEFINED, 2 * number))) for number, (name, _, _) in enumerate(names(0, size))]
+        return [self.explain, "-m", self.object("mapped.o", words, symbols)], ""
+
+    def converted(self, size):
+        """Converts so many objects in GNU's form, of 100 words and 10 names, each of which refers to a name of the one before."""
+        files = []
+        for number in range(size + 1):
+            symbols = [*long_names(10 * number, 10), *long_names(10 * max(number - 1, 0), 1, WANTED)]
+            files.append(self.gnu_object(f"o{number}.o", [*PLAIN[1:], reference(10)], symbols))
+        return self.convert(*files)
+
+    def symbols(self, size):
+        """Converts an object in GNU's form of so many symbols, each second one a local, and three words for each. A word refers to
+        one of the others, of the first 4,096 symbols."""
+        rows = [(name, *((LOCAL, 2 * number) if number % 2 else (WANTED, 0))) for number, (name, _, _) in enumerate(long_names(0, size))]
+        most = min(size, 4096) // 2
+        words = [reference(2 * (7 * number % most)) for number in range(3 * size)]
+        return self.convert(self.gnu_object("symbols.o", words, rows))
+
+    def read_back(self, size):
+        """Makes an object of the listing of so many words, each of which refers to a name of its own, up to 4,096."""
+        wanted = names(0, min(size, 4096), WANTED)
+        words = [f"{2 * number:o} 0 {reference(number % 4096)[1]:o}" for number in range(size)]
+        symbols = [f"{number:o} {name} {kind:o} 0" for number, (name, kind, _) in enumerate(wanted)]
+        with open(f"{self.folder}/listing", "w", encoding="ascii") as file:
+            file.write("\n".join(["text", *words, "symbols", *symbols, ""]))
+        return [self.to_object, "listing", "read.o"], ""
+
+
+KINDS = {
+    "objects": [20, 80, 160, 320],
+    "names": [3840, 15360, 30720, 61440],
+    "references": [2000, 8000, 16000, 32000],
+    "chains": [2000, 8000, 16000, 32000],
+    "scripts": [200, 800, 1600, 3200],
+    "refused": [341, 1365, 2730, 5456],
+    "nm": [341, 1365, 2730, 5456],
+    "listings": [512, 2048, 4096, 8192],
+    "texts": [2047, 8191, 16383, MOST_WORDS],
+    "inventory": [2047, 8191, 16383, MOST_WORDS],
+    "rows": [2047, 8191, 16383, MOST_WORDS],
+    "labels": [341, 1365, 2730, MOST_SYMBOLS],
+    "maps": [20, 80, 160, 320],
+    "mapped": [341, 1365, 2730, MOST_SYMBOLS],
+    "converted": [20, 80, 160, 320],
+    "symbols": [341, 1365, 2730, MOST_SYMBOLS],
+    "read_back": [512, 2048, 8192, MOST_WORDS],
+}
+# their status is 1: an addition is refused, or names stay undefined
+REPORTS = ("refused", "mapped")
+
+
+def count(programs, kind, size):
+    """How many instructions a command takes."""
+    with tempfile.TemporaryDirectory() as folder:
+        command, script = getattr(Work(programs, folder), kind)(size)
+        run, instructions = counted(command, folder, script)
+        if run.returncode != (1 if kind in REPORTS and size > 0 else 0):
+            sys.exit(f"{kind} of size {size} ended with status {run.returncode}: {run.stderr}")
+        return instructions
+
+
+def decoding(programs):
+    """How many instructions it takes to decode the longest text once, by what each call of `decode` takes; None without such calls."""
+    with tempfile.TemporaryDirectory() as folder:
+        path = Work(programs, folder).object("text.o", text(MOST_WORDS))
+        run, profile = profiled([programs[1], "-d", path], folder, options=["--compress-strings=no"])
+        calls = re.findall(rf"^cfn={DECODE}\ncalls=(\d+).*\n\S+ (\d+)$", profile, re.M)
+    # a line without a slash in front is a line of the text
+    lines = sum(not line.startswith("/") for line in run.stdout.splitlines())
+    made, cost = (sum(int(it[at]) for it in calls) for at in (0, 1))
+    return cost * lines // made if made else None
+
+
+def slope(points):
+    """The slope of the line nearest to these points."""
+    across, up = (sum(axis) / len(points) for axis in zip(*points))
+    return sum((x - across) * (y - up) for x, y in points) / sum((x - across) ** 2 for x, _ in points)
+
+
+def line(programs, kind):
+    """A kind of work: its exponent, and its instructions at each size."""
+    start, *totals = (count(programs, kind, size) for size in (0, *KINDS[kind]))
+    costs = [(size, total - start) for size, total in zip(KINDS[kind], totals)]
+    exponent = slope([(math.log(size), math.log(cost)) for size, cost in costs])
+    return f"{kind:10} {exponent:5.2f}   " + ", ".join(f"{size:,}: {cost:,}" for size, cost in costs)
+
+
+def main(*words):
+    if not is_installed():
+        return
+    programs, kinds = [os.path.abspath(word) for word in words[:4]], words[4:]
+    print("how instructions grow: the exponent, and the instructions at four sizes")
+    with ThreadPoolExecutor(os.cpu_count()) as pool:
+        for row in pool.map(lambda kind: line(programs, kind), kinds or KINDS):
+            print(row, flush=True)
+    if not kinds:
+        listed = count(programs, "texts", MOST_WORDS) - count(programs, "texts", 0)
+        print(f"{2 * MOST_WORDS:,} bytes of text: {decoding(programs) or 'unknown'} instructions to decode, {listed:,} to list")
+
+
+if __name__ == "__main__":
+    main(*sys.argv[1:])

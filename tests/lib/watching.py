@@ -1,0 +1,68 @@
+"""What a program asks the system for, and how the system refuses it. tests/lib/watch.c is loaded before the program, which has to be
+linked to the C library when it starts."""
+import atexit
+import os
+import shutil
+import subprocess
+import tempfile
+
+SOURCE = os.path.join(os.path.dirname(os.path.abspath(__file__)), "watch.c")
+# the runtime of a program opens this folder when it starts
+FIRST = b"open /"
+
+
+class NotWatched(Exception):
+    """Why a program cannot be watched."""
+
+
+def is_memory(request):
+    return request.startswith(b"memory ")
+
+
+def compiled():
+    """The library, compiled once for all programs, in a folder of its own."""
+    if not hasattr(compiled, "path"):
+        folder = tempfile.mkdtemp()
+        atexit.register(shutil.rmtree, folder)
+        path = os.path.join(folder, "watch.so")
+        words = [os.environ.get("CC") or "cc", "-O1", "-shared", "-fPIC", "-o", path, SOURCE, "-ldl"]
+        try:
+            ran = subprocess.run(words, stdout=subprocess.PIPE, stderr=subprocess.STDOUT, check=False)
+        except OSError as error:
+            raise NotWatched(f"{words[0]}, which compiles tests/lib/watch.c, does not start: {error.strerror}") from None
+        if ran.returncode:
+            raise NotWatched(f"tests/lib/watch.c is not compiled: {os.fsdecode(ran.stdout)}")
+        compiled.path = path
+    return compiled.path
+
+
+class Watch:
+    """Watches one run of a program."""
+
+    def __init__(self, plans):
+        """Each plan is `refuse` and a request, or `read` or `write`, a file, and after how many bytes that fails. The request for memory
+        of number 7 is `memory 7`."""
+        self.library = compiled()
+        self.list = os.path.join(os.path.dirname(self.library), f"list{os.getpid()}")
+        self.plans, self.refused = plans, []
+
+    def environment(self):
+        lines = [word for plan in self.plans for word in (*plan, b"")[:3]]
+        return {"LD_PRELOAD": self.library, "WATCH_LIST": self.list, "WATCH_PLAN": b"".join(word + b"\n" for word in lines)}
+
+    def requests(self):
+        """The requests in order. Equal reads or writes that follow each other are one, and reads of standard input are left out. Those
+        for memory that were refused are then in `refused`."""
+        if not os.path.exists(self.list):
+            raise NotWatched("tests/lib/watch.c is not loaded")
+        with open(self.list, "rb") as file:
+            lines = file.read().split(b"\n")[1:-1]
+        os.remove(self.list)
+        self.refused = [*filter(is_memory, lines)]
+        lines = [line for line in lines if line not in self.refused]
+        found = []
+        for line in lines[1:] if lines[:1] == [FIRST] else lines:
+            is_again = found[-1:] == [line] and line.startswith((b"read ", b"write "))
+            if line != b"read stdin" and not is_again:
+                found.append(line)
+        return found

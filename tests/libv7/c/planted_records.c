@@ -1,0 +1,81 @@
+/* v7_map and v7_run with a fault in a field of their records, beside the real ones under other names: PLANT=map_name.value changes the
+ * first byte of the value of every name of a map. PLANT=short_map and PLANT=short_result write all of a struct that has fewer fields.
+ * tests/libv7/library.sh makes libraries of it. */
+#include <stddef.h>
+#include <stdlib.h>
+#include <string.h>
+
+#include "v7.h"
+
+uint32_t real_v7_map(const struct v7_request *request, struct v7_map *map);
+uint32_t real_v7_run(const struct v7_request *request, struct v7_result *result);
+
+struct field {
+    const char *name;
+    size_t at;
+};
+
+#define FIELD(record, name) {#record "." #name, offsetof(struct v7_##record, name)}
+
+static const struct field heads[] = {
+    FIELD(map_head, text_end),  FIELD(map_head, data_start), FIELD(map_head, data_end), FIELD(map_head, bss_start),
+    FIELD(map_head, bss_end),   FIELD(map_head, place),      FIELD(map_head, fault),    FIELD(map_head, state),
+    FIELD(map_head, magic),     FIELD(map_head, entry_point), FIELD(map_head, entry_name), {0, 0}};
+static const struct field objects[] = {
+    FIELD(map_object, text),      FIELD(map_object, data),      FIELD(map_object, bss),     FIELD(map_object, symbols),
+    FIELD(map_object, text_size), FIELD(map_object, data_size), FIELD(map_object, bss_size), {0, 0}};
+static const struct field names[] = {
+    FIELD(map_name, name),  FIELD(map_name, definer), FIELD(map_name, next_definer), FIELD(map_name, user),
+    FIELD(map_name, state), FIELD(map_name, type),    FIELD(map_name, value),        {0, 0}};
+static const struct field uses[] = {
+    FIELD(map_use, address), FIELD(map_use, object), FIELD(map_use, name),   FIELD(map_use, label),       FIELD(map_use, kind),
+    FIELD(map_use, offset),  FIELD(map_use, line),   FIELD(map_use, beyond), FIELD(map_use, is_labelled), {0, 0}};
+static const struct field limits[] = {FIELD(map_limit, used), FIELD(map_limit, most), FIELD(map_limit, kind), {0, 0}};
+static const struct field findings[] = {FIELD(finding, name), FIELD(finding, kind), {0, 0}};
+static const struct field places[] = {FIELD(finding_place, first), FIELD(finding_place, further), {0, 0}};
+
+static void plant(const struct field *field, void *records, size_t count, size_t size)
+{
+    const char *name = getenv("PLANT");
+    size_t i;
+
+    for (; name && field->name; field++)
+        for (i = 0; strcmp(field->name, name) == 0 && i < count; i++)
+            ++((unsigned char *)records)[i * size + field->at];
+}
+
+static int is_planted(const char *name)
+{
+    const char *plant = getenv("PLANT");
+
+    return plant && strcmp(plant, name) == 0;
+}
+
+uint32_t v7_map(const struct v7_request *request, struct v7_map *map)
+{
+    uint32_t status = real_v7_map(request, map);
+
+    if (is_planted("short_map"))
+        map->limit_count = 0;
+    if (map->size < sizeof *map || map->fault)
+        return status;
+    plant(heads, &map->head, 1, sizeof map->head);
+    plant(objects, map->objects, map->object_count, sizeof *map->objects);
+    plant(names, map->names, map->name_count, sizeof *map->names);
+    plant(uses, map->uses, map->use_count, sizeof *map->uses);
+    plant(limits, map->limits, map->limit_count, sizeof *map->limits);
+    return status;
+}
+
+uint32_t v7_run(const struct v7_request *request, struct v7_result *result)
+{
+    uint32_t status = real_v7_run(request, result);
+
+    if (is_planted("short_result"))
+        result->report_size = 0;
+    if (result->size < sizeof *result || result->fault)
+        return status;
+    plant(findings, result->findings, result->finding_count, sizeof *result->findings);
+    plant(places, result->places, result->place_count, sizeof *result->places);
+    return status;
+}

@@ -1,0 +1,155 @@
+/* Makes each call of libv7 in a thread with 32,768 bytes of stack, with an object at its limits and with a list of 200 objects. A call
+ * that needs more ends the program at the guard page. tests/libv7/library.sh compiles and runs it. */
+#include <pthread.h>
+#include <stdio.h>
+#include <stdlib.h>
+#include <string.h>
+
+#include "v7.h"
+
+enum { STACK = 32768, WORDS = 32767, SYMBOLS = 5461, COUNT = 200, ROOM = 1 << 23 };
+
+static struct v7_word text[WORDS], data[WORDS];
+static struct v7_symbol symbols[SYMBOLS];
+static struct v7_slice slices[COUNT];
+static struct v7_finding findings[SYMBOLS];
+static struct v7_finding_place places[SYMBOLS];
+static unsigned char *objects, *room, *more, *replies, edits[COUNT];
+static size_t objects_size, count;
+static unsigned calls, results;
+
+static void called(uint32_t status, const struct v7_answer *answer)
+{
+    calls++;
+    results += status != 2;
+    if (answer->fault == V7_NO_ROOM || answer->fault == V7_NO_MEMORY)
+        exit(3);
+}
+
+static struct v7_request asked(uint32_t mode, uint32_t options)
+{
+    struct v7_request request = {sizeof request, mode, options, V7_REPORT | V7_FINDINGS | V7_PLACES, {0, 0}, {0, 0}, slices, count, {edits, count}};
+
+    return request;
+}
+
+static void run(uint32_t mode, uint32_t options)
+{
+    struct v7_request request = asked(mode, options);
+    struct v7_result result = {sizeof result, 0, 0, 0, 0, 0, room, ROOM, more, ROOM, 0, 0, findings, SYMBOLS, replies, COUNT, 0, places, SYMBOLS};
+    uint32_t status = v7_run(&request, &result);
+    struct v7_answer answer = {result.fault, result.word, result.place, 0, 0};
+
+    called(status, &answer);
+}
+
+/* the map, by two calls: for how many records there are, and for them */
+static void show_map(uint32_t options)
+{
+    struct v7_request request = asked(V7_LINK, options);
+    struct v7_map map;
+    struct v7_answer answer = {0, 0, 0, 0, 0};
+    uint32_t status;
+
+    memset(&map, 0, sizeof map);
+    map.size = sizeof map;
+    v7_map(&request, &map);
+    map.objects = malloc((map.object_room = map.object_count) * sizeof *map.objects);
+    map.names = malloc((map.name_room = map.name_count) * sizeof *map.names);
+    map.uses = malloc((map.use_room = map.use_count) * sizeof *map.uses);
+    map.limits = malloc((map.limit_room = map.limit_count) * sizeof *map.limits);
+    status = v7_map(&request, &map);
+    answer.fault = map.fault;
+    called(status, &answer);
+    free(map.objects);
+    free(map.names);
+    free(map.uses);
+    free(map.limits);
+}
+
+static void *call_all(void *unused)
+{
+    struct v7_answer answer;
+    struct v7_counts counts;
+    struct v7_header header;
+    struct v7_request request = asked(V7_SESSION, 0);
+    uint32_t option;
+
+    called(v7_check(objects, objects_size, &answer), &answer);
+    called(v7_strip(objects, objects_size, room, ROOM, &answer), &answer);
+    called(v7_nm(V7_NM_BY_VALUE, objects, objects_size, room, ROOM, &answer), &answer);
+    called(v7_size(objects, objects_size, room, ROOM, &answer), &answer);
+    called(v7_disassemble(objects, objects_size, room, ROOM, &answer), &answer);
+    called(v7_list(objects, objects_size, more, ROOM, &answer), &answer);
+    called(v7_from_listing(more, answer.size, room, ROOM, &answer), &answer);
+    called(v7_from_gnu(0, objects, objects_size, room, ROOM, &answer), &answer);
+    /* all remarks are made, and then their sizes told */
+    if (v7_remarks(objects, objects_size, more, 0, NULL, 0, &answer) == 2 && answer.fault != V7_NO_ROOM)
+        exit(3);
+    calls++;
+    results++;
+    called(v7_disassemble_words(0, (const uint16_t *)objects, objects_size / 2, room, ROOM, &answer), &answer);
+    for (option = 0; option < 128; option = 2 * option + (option == 0)) {
+        run(V7_LINK, option);
+        run(V7_SESSION, option);
+        show_map(option);
+    }
+    called(v7_state(V7_LINES, &request, replies, COUNT, room, ROOM, &answer), &answer);
+    called(v7_state(V7_JSON, &request, replies, COUNT, room, ROOM, &answer), &answer);
+    called(v7_read(objects, objects_size, &header, text, WORDS, data, WORDS, symbols, SYMBOLS, &counts, &answer), &answer);
+    called(v7_take_apart(objects, objects_size, text, WORDS, data, WORDS, symbols, SYMBOLS, &counts, &answer), &answer);
+    called(v7_make(text, counts.text, data, counts.data, counts.bss, symbols, counts.symbols, room, ROOM, &answer), &answer);
+    return unused;
+}
+
+static void call_in_thread(void)
+{
+    pthread_attr_t attributes;
+    pthread_t thread;
+
+    if (pthread_attr_init(&attributes) || pthread_attr_setstacksize(&attributes, STACK) ||
+        pthread_create(&thread, &attributes, call_all, NULL) || pthread_join(thread, NULL))
+        exit(2);
+}
+
+/* an object with so many words that refer to its symbols in turn, appended to the objects */
+static void append(size_t words, size_t names, unsigned number)
+{
+    struct v7_answer answer;
+    size_t i;
+
+    for (i = 0; i < words; i++) {
+        text[i].value = (uint16_t)i;
+        text[i].reloc = V7_REFERS_TO(i % (names < 4096 ? names : 4096));
+    }
+    for (i = 0; i < names; i++) {
+        symbols[i].type = V7_UNDEFINED + V7_EXTERNAL;
+        symbols[i].value = words < WORDS && i % 3 == 0 ? 2 : 0;
+        sprintf((char *)symbols[i].name, "%x", (unsigned)(number * 20 + i) & 0xfffff);
+    }
+    if (v7_make(text, words, data, 0, 0, symbols, names, objects + objects_size, ROOM - objects_size, &answer) != 0)
+        exit(2);
+    slices[number] = (struct v7_slice){objects + objects_size, answer.size};
+    objects_size += answer.size;
+}
+
+int main(void)
+{
+    objects = malloc(ROOM);
+    room = malloc(ROOM);
+    more = malloc(ROOM);
+    replies = malloc(COUNT);
+    if (!objects || !room || !more || !replies)
+        return 2;
+    memset(edits, V7_ADD, sizeof edits);
+    count = 1;
+    append(WORDS, SYMBOLS, 0);
+    call_in_thread();
+    objects_size = 0;
+    for (count = 0; count < COUNT; count++)
+        append(150, 25, (unsigned)count);
+    edits[COUNT - 1] = V7_WITHDRAW;
+    call_in_thread();
+    printf("%u calls, %u with a result\n", calls, results);
+    return calls != 78 || results < 72;
+}

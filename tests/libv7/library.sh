@@ -1,0 +1,324 @@
+#!/bin/sh
+# libv7 as a caller has it: installed into a folder, and found by pkg-config. Its two libraries must show the calls of v7.h and
+# nothing else, and the header must compile as C99, C++98 and C++17. tests/libv7/c/faults.c calls the library with an input for each fault of
+# each call. The examples in C, C++, Python and Rust are compiled, link objects of examples/ as the program does, with the same
+# file, report and status, and run sessions, which compare by themselves. The library and the program link the objects of the large
+# benchmark. What is in C runs under AddressSanitizer and valgrind too. The commands of docs/LIBRARY.md are run. The wheel of Python
+# is installed into a fresh environment.
+# What is missing of the compilers, Python and these two is skipped, and named.
+#
+# usage: CC=cc CXX=c++ CALLS=20000 CASES='500 100 500' tests/libv7/library.sh        with so many random calls, and links, sessions and maps for
+#                                                                              the comparison with tests/oracles/model.py
+set -u
+cd "$(dirname "$0")/../.."
+top=$PWD
+room=$(mktemp -d)
+trap 'rm -rf "$room"' EXIT
+make -s install-lib PREFIX="$room/installed" LIBDIR="$room/installed/lib" INCLUDEDIR="$room/installed/include" DESTDIR= || exit 1
+cd "$room"
+cp "$top"/examples/*.o .
+$top/build/v7 ld -s -o bad.o main.o >/dev/null
+failed=0
+if command -v pkg-config >/dev/null; then
+    PKG_CONFIG_PATH=$room/installed/lib/pkgconfig
+    export PKG_CONFIG_PATH
+    compiles=$(pkg-config --cflags v7)
+    links=$(pkg-config --libs v7)
+    version=$(pkg-config --modversion v7)
+else
+    echo "skipped: pkg-config is not there"
+    compiles=-I$room/installed/include
+    links="-L$room/installed/lib -lv7"
+    version=$(sed -n 's/^Version: //p' installed/lib/pkgconfig/v7.pc)
+fi
+archive=$room/installed/lib/libv7.a
+library=$room/installed/lib/libv7.so.0
+
+fail() {
+    echo "$1"
+    failed=1
+}
+
+# the names that a library shows, and those that the header declares
+sed -n 's/^uint32_t \(v7_[a-z_]*\)(.*/\1/p' installed/include/v7.h | sort >declared
+[ -s declared ] || fail "v7.h declares no call"
+nm -D --defined-only "$library" | awk '{ print $NF }' | sort | diff declared - || fail "libv7.so.0 shows something else than v7.h declares"
+nm -g --defined-only "$archive" | awk 'NF == 3 { print $3 }' | sort | diff declared - || fail "libv7.a shows something else than v7.h declares"
+readelf -d "$library" | grep -q 'Library soname: \[libv7.so.0\]' || fail "the soname of libv7.so.0 is another"
+[ "$(readlink "$library")" = "libv7.so.0.$version" ] && [ "$(readlink installed/lib/libv7.so)" = libv7.so.0 ] ||
+    fail "libv7.so and libv7.so.0 are not links to libv7.so.0.$version"
+for page in $(grep -o 'docs/[A-Z]*\.md' installed/include/v7.h); do
+    [ -s "installed/share/doc/v7/$page" ] || fail "v7.h cites $page, which is not installed"
+done
+echo "$(wc -l <declared) calls shown by both libraries"
+
+# the header alone, as C and as C++; each number of a fault has a text of its own; and the version is that of v7.pc
+cat >header.c <<'END'
+#include "v7.h"
+#include <stdio.h>
+#include <string.h>
+
+int main(void)
+{
+    static const unsigned faults[] = {0, 1, 2, 3, 4, 5, 6, 7, 11, 12, 13, 14, 21, 22, 23, 24, 31, 32, 33, 34, 35, 41, 42, 43, 50, 60,
+                                      61, 62, 63, 64, 65, 66, 67, 68, 69, 70, 71, 72, 73, 74, 75, 81, 82, 83, 84, 85, 86, 87, 88, 89, 90};
+    unsigned i, j;
+
+    if (V7_REFERS_TO(0) != 010 || V7_REFERS_TO(4095) != 0177770 || V7_REFERS_TO(1) + V7_FROM_PC != 031)
+        return 1;
+    for (i = 0; i < sizeof faults / sizeof *faults; i++)
+        for (j = 0; j < i; j++)
+            if (strcmp(v7_strerror(faults[i]), v7_strerror(faults[j])) == 0)
+                return 2;
+    puts(V7_VERSION);
+    if (strcmp(v7_strerror(V7_NOTHING), "nothing to withdraw") != 0)
+        return 3;
+    return strcmp(v7_strerror(8), "unknown fault") != 0 || strcmp(v7_strerror(90), "unknown fault") != 0;
+}
+END
+cp header.c header.cpp
+# compiles it with these words, and runs it
+header() {
+    "$@" -pedantic -Wall -Wextra -Werror $compiles -o header && ./header >header.txt || fail "v7.h does not compile, or is wrong: $*"
+    echo "$version" | cmp -s - header.txt || fail "the version of v7.h is not that of v7.pc"
+    echo "v7.h: $*"
+}
+header $CC -std=c99 header.c
+header $CC -std=c11 header.c
+$CC -std=c89 $compiles -fsyntax-only header.c 2>&1 | grep -q 'v7.h needs C99' || fail "v7.h does not say that it needs C99"
+if command -v $CXX >/dev/null; then
+    header $CXX -std=c++98 header.cpp
+    header $CXX -std=c++17 header.cpp
+else
+    echo "skipped: $CXX is not there"
+fi
+
+# the objects of one link are linked by the program and by a command, which prints the line of each file first
+link_both() {
+    name=$1
+    command=$2
+    shift 2
+    rm -f ours theirs
+    $top/build/v7 ld -o theirs "$@" >theirs.txt 2>/dev/null
+    theirs=$?
+    $command ours "$@" >ours.txt 2>faults.txt
+    ours=$?
+    [ $ours -eq $theirs ] || fail "$name: the status is $ours and not $theirs for $*"
+    [ $theirs -eq 2 ] || cmp theirs ours || fail "$name: another file for $*"
+    [ $theirs -eq 2 ] || grep -v '^[^ ]*\.o: [0-9]' ours.txt | cmp theirs.txt - || fail "$name: another report for $*"
+}
+
+# all links by one command
+links() {
+    link_both "$1" "$2" main.o twice.o count.o
+    link_both "$1" "$2" main.o count.o
+    link_both "$1" "$2" a.o b.o c.o
+    link_both "$1" "$2" k.o l.o
+    link_both "$1" "$2" main.o main.o
+    link_both "$1" "$2" main.o bad.o
+    echo "$1: 6 links compared"
+}
+
+# a session, which compares by itself
+session() {
+    name=$1
+    shift
+    if "$@" >session.txt; then
+        echo "$name: a session compared"
+    else
+        cat session.txt
+        fail "$name: the session differs"
+    fi
+}
+
+# compiles the calls with each fault, with these further words for the compiler, as a program of this name
+faults() {
+    to=$1
+    shift
+    $CC -std=c99 -Wall -Wextra -Werror "$@" -o "$to" $compiles "$top/tests/libv7/c/faults.c" "$top/tests/libv7/c/calls.c" \
+        -Wl,--wrap=malloc -Wl,--wrap=realloc -Wl,--wrap=free "$archive" || exit 1
+}
+
+# runs them
+faulty() {
+    name=$1
+    shift
+    if "$@" >faulty.txt 2>&1; then
+        echo "$name: each fault: $(cat faulty.txt)"
+    else
+        cat faulty.txt
+        fail "$name: an answer differs"
+    fi
+}
+
+faults faults -O2
+faulty C ./faults
+$CC -std=c99 -O2 -Wall -Wextra -Werror -o random_calls $compiles "$top/tests/libv7/c/random_calls.c" \
+    -Wl,--wrap=malloc -Wl,--wrap=realloc -Wl,--wrap=free "$archive" || exit 1
+./random_calls "${CALLS:-20000}" || fail "a random call differs"
+# with a library that writes past the end of a short struct they fail
+${OBJCOPY:-objcopy} --redefine-sym v7_map=real_v7_map --redefine-sym v7_run=real_v7_run "$archive" planted.a
+$CC -std=c99 -O2 -Wall -Wextra -Werror -o random_planted $compiles "$top/tests/libv7/c/random_calls.c" "$top/tests/libv7/c/planted_records.c" \
+    -Wl,--wrap=malloc -Wl,--wrap=realloc -Wl,--wrap=free planted.a || exit 1
+PLANT=nothing ./random_planted 100 >planted.txt || { cat planted.txt; fail "a random call differs without a fault"; }
+for plant in short_result short_map; do
+    ! (PLANT=$plant ./random_planted 100) >planted.txt 2>&1 || fail "$plant is not found"
+done
+# links, sessions and maps beside each other
+$CC -std=c99 -O2 -Wall -Wextra -Werror -o runs $compiles "$top/tests/libv7/c/runs.c" "$archive" || exit 1
+./runs "${RUNS:-20000}" main.o twice.o count.o a.o b.o c.o k.o l.o || fail "v7_run differs"
+$CC -std=c99 -O2 -Wall -Wextra -Werror -pthread -o stack $compiles "$top/tests/libv7/c/stack.c" "$archive" || exit 1
+./stack >stack.txt && echo "32,768 bytes of stack: $(cat stack.txt)" || fail "a call needs more than 32,768 bytes of stack: $(cat stack.txt)"
+# the program of v7(3) lists what v7 nm lists, and refuses what is not a file
+awk '/^\.Bd -literal/ { getline; on = /^#include/ } /^\.Ed/ { on = 0 } on { gsub(/\\e/, "\\"); print }' "$top/man/v7.3" >list.c
+$CC -std=c99 -O2 -Wall -Wextra -Werror -o list $compiles list.c "$archive" || exit 1
+./list <main.o >ours.txt && "$top/build/v7" nm main.o | cmp - ours.txt || fail "the program of v7(3) lists something else"
+./list <list.c 2>ours.txt
+[ $? -eq 2 ] && echo "bad magic number" | cmp - ours.txt || fail "the program of v7(3) does not refuse a file"
+echo "the program of v7(3) lists what v7 nm lists"
+$CC -O2 -Wall -o by_c $compiles "$top/examples/c/link.c" "$archive" || exit 1
+$CC -O2 -Wall -o ran_by_c $compiles "$top/examples/c/session.c" "$archive" || exit 1
+links C ./by_c
+# the toy assembler: both definitions of a name and the use of an undefined one have a line, or without a source an address
+$CC -std=c99 -O2 -Wall -Wextra -Werror -o toy $compiles "$top/examples/c/toy.c" "$archive" || exit 1
+cp "$top"/examples/c/toy_*.txt .
+printf '_twice:\n    return\n' >toy_again.txt
+./toy ours toy_main.txt toy_twice.txt >toy.txt 2>&1 && ./toy theirs toy_main.txt twice.o >>toy.txt 2>&1
+./toy ours toy_main.txt toy_twice.txt toy_again.txt twice.o >>toy.txt 2>&1
+./toy ours toy_main.txt main.o >>toy.txt 2>&1
+cat >toy.wanted <<'END'
+toy_twice.txt:2: _twice is defined here
+toy_again.txt:1: _twice is defined here again
+twice.o at 000000: _twice is defined here again
+END
+head -3 toy.txt | cmp -s - toy.wanted && grep -q '^toy_main\.txt:3: _twice is not defined$' toy.txt && grep -q '^main\.o at 0000.*: _twice is not defined$' toy.txt ||
+    { cat toy.txt; fail "the toy assembler shows other places"; }
+# the map from records is that of v7-explain, made or refused
+$CC -std=c99 -O2 -Wall -Wextra -Werror -o map_by_c $compiles "$top/examples/c/map.c" "$archive" || exit 1
+PYTHONPATH=$top python3 -m tests.oracles.map "$top/build/v7" "$top/build/v7-explain" ./map_by_c "${MAPS:-1000}" || fail "the map from records differs"
+# it names what it cannot read or write
+./by_c out missing.o 2>&1 | grep -q '^missing\.o: ' || fail "the example in C says nothing of a file that is not there"
+./by_c missing/out main.o 2>&1 | grep -q '^missing/out: ' || fail "the example in C says nothing of a file that it cannot write"
+./by_c 2>&1 | grep -q '^usage: ' || fail "the example in C says nothing of missing arguments"
+session C ./ran_by_c
+$CC -O2 -Wall -o by_shared $compiles "$top/examples/c/link.c" $links || exit 1
+$CC -O2 -Wall -o ran_by_shared $compiles "$top/examples/c/session.c" $links || exit 1
+LD_LIBRARY_PATH=$room/installed/lib${LD_LIBRARY_PATH:+:$LD_LIBRARY_PATH}
+export LD_LIBRARY_PATH
+links "C with libv7.so" ./by_shared
+session "C with libv7.so" ./ran_by_shared
+if command -v $CXX >/dev/null; then
+    for standard in c++98 c++17; do
+        $CXX -std=$standard -O2 -pedantic -Wall -Wextra -Werror -o by_cpp $compiles "$top/examples/cpp/link.cpp" $links || exit 1
+        links "C++ ($standard)" ./by_cpp
+    done
+fi
+# what docs/LIBRARY.md shows: each block whose first line begins with one of these programs, in a copy of the examples
+cp -r "$top/examples" page
+"$top/build/v7" ld -o theirs main.o twice.o count.o
+run_shown() {
+    awk -v first="$1" '/^    / { if (!inside) on = index($0, "    " first " ") == 1; inside = 1; if (on) print; next } { inside = 0 }' \
+        "$top/docs/LIBRARY.md" >shown.sh
+    [ -s shown.sh ] || fail "docs/LIBRARY.md shows no command of $1"
+    rm -f page/program
+    (cd page && LIBV7=$library PYTHONPATH=$top/packaging/python sh -e ../shown.sh) >/dev/null && cmp theirs page/program || fail "docs/LIBRARY.md: the commands of $1"
+    echo "docs/LIBRARY.md: the commands of $1"
+}
+if command -v pkg-config >/dev/null; then
+    for program in cc c++ python3 rustc; do
+        command -v $program >/dev/null && run_shown $program
+    done
+fi
+if $CC -g -fsanitize=address -o by_asan $compiles "$top/examples/c/link.c" "$archive" 2>/dev/null; then
+    $CC -g -fsanitize=address -o ran_by_asan $compiles "$top/examples/c/session.c" "$archive" || exit 1
+    faults faults_asan -g -fsanitize=address
+    faulty "C with AddressSanitizer" ./faults_asan
+    links "C with AddressSanitizer" ./by_asan
+    session "C with AddressSanitizer" ./ran_by_asan
+else
+    echo "skipped: AddressSanitizer is not there"
+fi
+if command -v valgrind >/dev/null; then
+    faulty "C with valgrind" valgrind -q --error-exitcode=9 --leak-check=full ./faults
+    links "C with valgrind" "valgrind -q --error-exitcode=9 --leak-check=full ./by_c"
+    session "C with valgrind" valgrind -q --error-exitcode=9 --leak-check=full ./ran_by_c
+else
+    echo "skipped: valgrind is not there"
+fi
+if command -v python3 >/dev/null; then
+    LIBV7=$library
+    PYTHONDONTWRITEBYTECODE=1
+    export LIBV7 PYTHONDONTWRITEBYTECODE
+    links Python "env PYTHONPATH=$top/packaging/python python3 $top/examples/python/link.py"
+    session Python env "PYTHONPATH=$top/packaging/python" python3 "$top/examples/python/session.py"
+    PYTHONPATH=$top python3 -m tests.libv7.library "$top/include/v7.h" || fail "Python: a check fails"
+    PYTHONPATH=$top python3 -m tests.libv7.library_programs "$top/build" "$top/examples" "${CHANGED:-40}" ||
+        fail "a program and the library differ"
+    PYTHONPATH=$top python3 -m tests.libv7.agree_library ${CASES:-500 100 500} || fail "the model differs"
+    PYTHONPATH=$top python3 -m tests.libv7.largest_library || fail "the largest inputs"
+    # a library with a fault in one field of all records of a map, of findings, or of their objects
+    $CC -std=c99 -O2 -Wall -Wextra -Werror -shared -fPIC -o planted.so $compiles "$top/tests/libv7/c/planted_records.c" -Wl,--whole-archive planted.a \
+        -Wl,--no-whole-archive || exit 1
+    plants=$(grep -o 'FIELD([a-z_]*, [a-z_]*)' "$top/tests/libv7/c/planted_records.c" | sed -n '/(record, name)/d; s/FIELD(\(.*\), \(.*\))/\1.\2/p')
+    # whether the model differs from it
+    differs() {
+        ! LIBV7=./planted.so PLANT=$1 PYTHONPATH=$top python3 -m tests.libv7.agree_library 60 0 60 >planted.txt 2>&1
+    }
+    ! differs nothing || { cat planted.txt; fail "the model differs from the library without a fault in its records"; }
+    for plant in $plants; do
+        differs "$plant" || fail "a fault in $plant is not found"
+    done
+    echo "a fault in each of $(echo "$plants" | wc -l) fields of the records of maps and findings is found"
+    if command -v mypy >/dev/null; then
+        MYPYPATH=$top/packaging/python mypy --strict --cache-dir="$room/mypy" "$top/packaging/python/v7.py" ||
+            fail "Python: mypy does not take the type hints"
+        MYPYPATH=$top/packaging/python mypy --cache-dir="$room/mypy" "$top"/examples/python/*.py || fail "Python: mypy does not take the examples"
+        ! MYPYPATH=$top/packaging/python mypy --cache-dir="$room/mypy" "$top/tests/libv7/wrong_types.py" >wrong.txt &&
+            test "$(grep -c ': error: .* has incompatible type' wrong.txt)" -eq "$(grep -c '^v7' "$top/tests/libv7/wrong_types.py")" ||
+            { cat wrong.txt; fail "Python: mypy takes a wrong type"; }
+    else
+        echo "skipped: mypy is not there"
+    fi
+    mkdir heavy
+    PYTHONPATH=$top python3 -m tests.costs.heavy_library "$top/build/v7" heavy || fail "the large benchmark"
+    unset LIBV7
+    # the wheel, in an environment that has nothing else
+    if python3 -m venv fresh 2>/dev/null; then
+        (cd "$top" && python3 packaging/python/backend.py "$room" >/dev/null) || fail "Python: no wheel is made"
+        mkdir wheel
+        cp "$top"/examples/python/*.py wheel
+        PYTHONPATH=$top python3 -m tests.libv7.wheel v7-*.whl || fail "Python: the wheel is not as an index wants it"
+        fresh/bin/pip install -q --no-index --disable-pip-version-check v7-*.whl || fail "Python: the wheel is not installed"
+        links "Python, from the wheel" "env -u LD_LIBRARY_PATH fresh/bin/python wheel/link.py"
+        session "Python, from the wheel" env -u LD_LIBRARY_PATH fresh/bin/python wheel/session.py
+        fresh/bin/pip install -q --no-index --disable-pip-version-check --force-reinstall "$top/packaging/python" ||
+            fail "Python: packaging/python is not installed by pip"
+        session "Python, installed by pyproject.toml" env -u LD_LIBRARY_PATH fresh/bin/python wheel/session.py
+    else
+        echo "skipped: python3 has no venv"
+    fi
+else
+    echo "skipped: python3 is not there"
+fi
+if command -v rustc >/dev/null; then
+    echo "$(rustc --version)"
+    rustc -O -o by_rust -L "$room/installed/lib" -l v7 "$top/examples/rust/link.rs" || exit 1
+    rustc -O -o ran_by_rust -L "$room/installed/lib" -l v7 "$top/examples/rust/session.rs" || exit 1
+    links Rust ./by_rust
+    session Rust ./ran_by_rust
+else
+    echo "skipped: rustc is not there"
+fi
+# the crates of Rust, in a copy, without any other crate
+if command -v cargo >/dev/null; then
+    cp -r "$top/packaging/rust" crates
+    for manifest in crates/Cargo.toml crates/v7-sys/Cargo.toml; do
+        grep -q "^version = \"$version\"" $manifest || fail "$manifest has another version"
+    done
+    grep -q "^v7-sys = .*version = \"=$version\"" crates/Cargo.toml || fail "the crate v7 wants another v7-sys"
+    LIBV7_DIR=$room/installed/lib cargo build -q --offline --release --example link --manifest-path crates/Cargo.toml || exit 1
+    links "Rust by the crate v7" crates/target/release/examples/link
+else
+    echo "skipped: cargo is not there"
+fi
+exit $failed

@@ -1,0 +1,577 @@
+#!/usr/bin/env python3
+"""Compares v7 with the second linker, tests/oracles/model.py, on random files.
+
+    python3 -m tests.oracles.agree build/v7 [LINKS SESSIONS DAMAGED]
+
+A case is some files and some commands, which both run in a folder of their own. After each
+command the status, standard output, standard error and every byte of every file are compared.
+The number of a case gives its files and commands, so each run is the same. At the first
+difference the files are kept under build/differs, and the command is printed.
+"""
+import io
+import multiprocessing
+import os
+import random
+import re
+import shlex
+import shutil
+import struct
+import subprocess
+import sys
+import tempfile
+from collections import Counter
+from dataclasses import dataclass
+from itertools import zip_longest
+from pathlib import Path
+
+from tests.oracles import model
+
+RESERVED = [b'_etext', b'_edata', b'_end']
+NAMES = RESERVED + [b'_main', b'_a', b'_b', b'_c', b'_d', b'_longname', b'_longname2', b'L1',
+                    b'Lx', b'L', b'l1', b'a', b'x.o', b'', b'_a b', b'\xff_a', b'_\x01']
+MENTION, ABSOLUTE, TEXT, DATA, BSS, EXTERNAL = 0, 1, 2, 3, 4, 0o40
+KINDS = (0, 0, 0, 2, 4, 6)
+NUMBERS = (0, 1, 2, 5, 0o20000, 0o77776, 0o100000, 0o177776, 0o177777)
+
+TIME_LIMIT = 100
+
+# What has to occur at least once in a whole run; it is printed how many cases have it.
+LOADS = ['cannot open', 'read error', 'short header', 'bad magic number', 'odd size', 'truncated']
+OBJECTS = ['not an object', 'no relocation', 'bad relocation at word N',
+           'bad symbol number at word N']
+LIMITS = ['text full', 'data full', 'bss full', 'names full', 'does not fit', 'too many symbols',
+          'symbol number too large']
+REPORTS = ['Multiply defined', 'Entry point not in text', 'Undefined:']
+ANSWERS = ['added', 'withdrew', 'linked 0', 'linked 1', 'bad command', 'nothing to withdraw',
+           'cannot create', 'write error', 'line too long', 'too many lines', 'usage']
+EXPECTED = {
+    'link': [*REPORTS, *LOADS, *OBJECTS, *LIMITS, 'usage', 'cannot create', 'write error'],
+    'session': [*ANSWERS, *REPORTS, *LOADS, *OBJECTS, *LIMITS],
+    'damaged': [*LOADS[2:], *OBJECTS],
+}
+
+
+@dataclass
+class Case:
+    files: dict                         # bytes by path; None for a folder
+    commands: list                      # pairs of arguments and standard input
+
+
+# Objects
+
+def pack(text=(), data=(), bss=0, symbols=(), magic=0o407, flag=0, entry=0, unused=0, tail=b''):
+    """A file. Text and data are pairs of a word and a relocation word."""
+    words = [word for word, _ in (*text, *data)]
+    if flag == 0:
+        words += [relocation for _, relocation in (*text, *data)]
+    header = struct.pack('<8H', magic, 2 * len(text), 2 * len(data), bss, 12 * len(symbols),
+                         entry, unused, flag)
+    table = b''.join(struct.pack('<8sHH', *symbol) for symbol in symbols)
+    return header + struct.pack(f'<{len(words)}H', *words) + table + tail
+
+
+def symbol_of(rng, names, starts):
+    """A random symbol of an object whose text, data, bss and end are at the starts."""
+    name = rng.choice(names)
+    kind = rng.choices([MENTION, ABSOLUTE, TEXT, DATA, BSS, 0o24, 0o37, rng.randrange(32)],
+                       [8, 2, 4, 3, 2, 1, 1, 1])[0]
+    if kind == MENTION:
+        value = rng.choice([0, 0, 0, 1, 2, 3, 4, 10, rng.randrange(200)])
+    elif kind in (TEXT, DATA, BSS):
+        begin, end = starts[kind - TEXT], starts[kind - TEXT + 1]
+        value = rng.choice([begin, begin, end, rng.randint(begin, end), rng.choice(NUMBERS)])
+    else:
+        value = rng.choice(NUMBERS)
+    external = EXTERNAL if rng.random() < 0.65 else 0
+    high = rng.choice([0o100, 0o1000, 0o100000]) if rng.random() < 0.05 else 0
+    if rng.random() < 0.05:
+        name = name[:7] + b'\0' + b'junk'[:max(0, 7 - len(name))]
+    return name, kind | external | high, value
+
+
+def word_of(rng, named):
+    """A random word and its relocation word; `named` are the numbers that it may name."""
+    word = rng.choice([rng.choice(NUMBERS), rng.randrange(0x10000)])
+    pc = rng.random() < 0.35
+    if named and rng.random() < 0.4:
+        return word, rng.choice(named) * 16 + 0o10 + pc
+    high = rng.randrange(0x1000) * 16 if rng.random() < 0.1 else 0
+    return word, high + rng.choice(KINDS) + pc
+
+
+def object_of(rng, names, **header):
+    """A random object that is whole."""
+    counts = [rng.choice([0, 1, 2, 3, rng.randrange(12)]) for _ in range(2)]
+    bss = 2 * rng.choice([0, 0, 1, 2, rng.randrange(20)])
+    starts = [0, 2 * counts[0], 2 * sum(counts), 2 * sum(counts) + bss]
+    symbols = [symbol_of(rng, names, starts) for _ in range(rng.choice([0, 1, 2, 4, 6, 9]))]
+    named = [number for number, symbol in enumerate(symbols) if symbol[1] & 0o77 == EXTERNAL]
+    text, data = ([word_of(rng, named) for _ in range(count)] for count in counts)
+    if rng.random() < 0.1:
+        header = {'entry': rng.choice(NUMBERS), 'unused': rng.choice(NUMBERS), **header}
+    tail = b'more' if rng.random() < 0.1 else b''
+    return pack(text, data, bss, symbols, tail=tail, **header)
+
+
+def program_of(rng, names):
+    """A file that is whole, and perhaps no object."""
+    return object_of(rng, names, magic=rng.choice([0o405, 0o407, 0o407, 0o410, 0o411]),
+                     flag=rng.choice([0, 0, 1, 1, 2, 0o177777]))
+
+
+def bad_object_of(rng, names):
+    """An object with a bad relocation word."""
+    symbols = [symbol_of(rng, names, [0, 4, 6, 8]) for _ in range(rng.randrange(4))]
+    pairs = [word_of(rng, []) for _ in range(3)]
+    bad = rng.choice([0o12, 0o14, 0o16, 0o10 + 16 * rng.randrange(5), 0o10 + 16 * len(symbols)])
+    pairs[rng.randrange(3)] = (0, bad + rng.randrange(2))
+    if rng.random() < 0.3:
+        pairs[rng.randrange(3)] = (0, rng.choice([0o12, 0o10 + 16 * rng.randrange(100)]))
+    return pack(pairs[:2], pairs[2:], 2, symbols)
+
+
+def damage(rng, contents):
+    """Cut, or with other bytes, or with another word in its header."""
+    contents = bytearray(contents)
+    if len(contents) < 16:
+        return bytes(contents)
+    way = rng.choice(['cut', 'bytes', 'header', 'header', 'relocation', 'none'])
+    if way == 'cut':
+        ends = [16, len(contents) - 1, len(contents) - 2, len(contents) - 12]
+        del contents[max(0, rng.choice([rng.randrange(17), rng.randrange(len(contents) + 1),
+                                        rng.choice(ends)])):]
+    elif way == 'bytes':
+        for _ in range(rng.randint(1, 3)):
+            contents[rng.choice([rng.randrange(16), rng.randrange(len(contents))])] = (
+                rng.choice([0, 1, 7, 8, 255, rng.randrange(256)]))
+    elif way == 'header':
+        old = struct.unpack_from('<8H', contents)
+        place = rng.choice([0, 1, 2, 3, 4, 0, 4, rng.randrange(8)])
+        new = rng.choice([0, 1, 2, 12, old[place] + 1, old[place] + 2, old[place] - 2,
+                          old[place] + 12, old[place] - 12, 0o405, 0o407, 0o410, 0o411, 0o177545,
+                          0xffff, 0xfffe])
+        struct.pack_into('<H', contents, 2 * place, new % 0x10000)
+    elif way == 'relocation' and len(contents) > 20:
+        _, text, data = struct.unpack_from('<3H', contents)
+        place = 16 + text + data + 2 * rng.randrange(max(1, (text + data) // 2))
+        if place + 2 <= len(contents):
+            new = rng.choice([rng.randrange(16), 0o10 + 16 * rng.randrange(10), 0o12, 0xffff])
+            struct.pack_into('<H', contents, place, new)
+    return bytes(contents)
+
+
+# Arguments
+
+def link_options(rng, names):
+    """Options of ld and session, as lists of arguments that may come in any order."""
+    letters = rng.choice(['', '', 'r', 'r', 'rd', 'n', 'i', 's'])
+    letters += rng.choice(['', '', 'x', 'X', 'xX', 'X']) + rng.choice(['', '', '', 'd'])
+    if 'r' not in letters and rng.random() < 0.1:
+        letters += 's'
+    options = [['-' + letters]] if letters else []
+    if letters and rng.random() < 0.5:
+        options = [['-' + letter] for letter in letters]
+    plain = [name for name in names if b'\xff' not in name and not name.startswith(b'-')]
+    plain += [b'_missing', '_\xe9\xe9\xe9\xe9'.encode(), b'=']
+    if rng.random() < 0.35:
+        options.append(valued(rng, 'e', rng.choice(plain + [b'_etext', b'_main'])))
+    for _ in range(rng.choice([0, 0, 0, 1, 1, 2, 3])):
+        options.append(valued(rng, 'u', rng.choice(plain + RESERVED)))
+    if rng.random() < 0.03:
+        count, form = rng.choice([63, 64, 65, 66]), rng.choice([b'_f%d', b'_f%d', b'_forced%d'])
+        options += [valued(rng, 'u', form % number) for number in range(count)]
+    if rng.random() < 0.02:
+        wrong = [['-z'], ['-u'], ['-e', '-s'], ['-rn'], ['-rs'], ['-ni'], ['-ri'], ['-l'], ['--x'],
+                 ['-s='], ['-e='], ['-ea', '-ea'], ['-oother'], [b'-u\xff']]
+        options.append(rng.choice(wrong))
+    return options
+
+
+def valued(rng, letter, value):
+    """An option with a value, in one of its forms."""
+    option = b'-' + letter.encode()
+    form = rng.randrange(4)
+    if not value or value.startswith(b'='):
+        form = 2
+    if form == 0:
+        return [option + value]
+    return [option + b'=' + value] if form == 1 else [option, value]
+
+
+def arguments_of(rng, options, paths):
+    """Options and paths, mixed; the paths stay in order."""
+    words = [list(option) for option in options]
+    rng.shuffle(words)
+    if rng.random() < 0.2:
+        ended = ['--'] if rng.random() < 0.5 else []
+        return [word for option in words for word in option] + ended + paths
+    places = sorted(rng.randint(0, len(words)) for _ in paths)
+    for place, path in reversed(list(zip(places, paths))):
+        words.insert(place, [path])
+    return [word for option in words for word in option]
+
+
+def nm_options(rng):
+    return ['-' + letter for letter in 'gnopru' if rng.random() < 0.25]
+
+
+# Cases
+
+def link_case(rng, number):
+    if number % 8 == 0:
+        return limit_case(rng, number // 8)
+    if number % 100 == 50:
+        return usage_case(rng)
+    names = rng.sample(NAMES, rng.choice([2, 3, 5, 8]))
+    files = {f'{place}.o': object_of(rng, names)
+             for place in range(rng.choice([1, 2, 2, 3, 3, 4, 5]))}
+    paths = list(files)
+    if rng.random() < 0.1:
+        paths.append(rng.choice(paths))
+    if rng.random() < 0.15:
+        files.update(bad=bad_file_of(rng, names), folder=None)
+        for _ in range(rng.choice([1, 1, 2])):
+            bad = rng.choice(['bad', 'bad', 'bad', 'missing', 'folder'])
+            paths.insert(rng.randint(0, len(paths)), bad)
+    options = link_options(rng, names)
+    output = rng.choices(['out', 'a.out', 'nowhere/out', rng.choice(list(files)), '', '/dev/full'],
+                         [80, 10, 2, 6, 1, 1])[0]
+    if output != 'a.out':
+        options.append(valued(rng, 'o', output.encode()))
+    linked = output if output != '/dev/full' else 'out'
+    listed = rng.choice([[linked], paths])
+    commands = [['ld', *arguments_of(rng, options, paths)],
+                ['nm', *arguments_of(rng, [[option] for option in nm_options(rng)], listed)],
+                ['size', *rng.choice([listed, listed if linked != 'a.out' else []])]]
+    if rng.random() < 0.5:
+        commands.append(['ld', *arguments_of(rng, link_options(rng, names), [linked, *paths[:1]])])
+    if rng.random() < 0.3:
+        commands += [['strip', *listed], ['size', linked]]
+    return Case(files, [(command, b'') for command in commands])
+
+
+def usage_case(rng):
+    """Arguments that are no command, or nearly none."""
+    commands = [[], [''], ['foo'], ['LD', '0.o'], ['-s', 'ld', '0.o'], ['ld'], ['ld', '-s'],
+                ['strip'], ['strip', '-s', '0.o'], ['size', '-g', '0.o'], ['nm', '-s', '0.o'],
+                ['nm', '-g-', '0.o'], ['nm', '-gnopru', '0.o', '0.o'], ['nm', '--', '-g'],
+                ['nm', '0.o', '--', '0.o'], ['nm', '-g', '--', '--'], ['size', '-'],
+                ['size', '', '0.o'], ['ld', '-o'], ['ld', '0.o', '-o'], ['ld', '0.o', '-e'],
+                ['ld', '-o', '-', '0.o'], ['size', b'\xff'], ['ld', '0.o', '-o', '--', 'out'],
+                ['ld', '-so', 'out', '0.o'], ['session', '0.o'], ['session', '-o', 'out'],
+                ['ld', '-os', '0.o'], ['ld', '-o=', '0.o'], ['strip', '--']]
+    commands = [*rng.sample(commands, 6), *rng.sample(commands, 6)]
+    return Case({'0.o': object_of(rng, NAMES[:5])}, [(command, b'') for command in commands])
+
+
+def bad_file_of(rng, names):
+    """A file that is often no object."""
+    return rng.choice([bad_object_of, program_of, damaged_object])(rng, names)
+
+
+def damaged_object(rng, names):
+    return damage(rng, object_of(rng, names))
+
+
+def zeros(size):
+    return [(0, 0)] * (size // 2)
+
+
+def many(prefix, count, kind=EXTERNAL, value=0):
+    return [(prefix + b'%d' % number, kind, value) for number in range(count)]
+
+
+def near(rng, number):
+    """An even number near this one, within one word."""
+    return min(0xfffe, max(0, number + rng.choice([-2, 0, 0, 2])))
+
+
+def limit_case(rng, number):
+    """Objects that come near a limit, or pass one or two."""
+    make = [full_case, fit_case, fit_case, symbols_case, numbers_case][number % 5]
+    objects, options = names_case(rng, number // 40) if number % 40 == 3 else make(rng)
+    files = {f'{place}.o': contents for place, contents in enumerate(objects)}
+    if rng.random() < 0.15:
+        files[f'{len(files)}.o'] = rng.choice([b'short', bad_file_of(rng, NAMES)])
+    return Case(files, [(['ld', *options, '-o', 'out', *files], b''), (['size', 'out'], b'')])
+
+
+def full_case(rng):
+    """Segments of two or three objects that together come near 65,534 bytes."""
+    sizes = {'text': [0, 0, 0], 'data': [0, 0, 0], 'bss': [0, 0, 0]}
+    for name in rng.sample(list(sizes), rng.choice([1, 1, 2, 3])):
+        first = 2 * rng.randrange(0x8000)
+        sizes[name] = [first, near(rng, 0xfffe - first), rng.choice([0, 0, 2])]
+        rng.shuffle(sizes[name])
+    objects = [pack(zeros(text), zeros(data), bss) for text, data, bss in zip(*sizes.values())]
+    return objects, rng.choice([[], ['-i'], ['-i'], ['-n'], ['-r']])
+
+
+def fit_case(rng):
+    """A program that ends near 65,536; some have too many symbols too."""
+    option = rng.choice(['-n', '-i', '-r', '-rd', '-s', '-X'])
+    text = rng.choice([0, 2, 0o20000, 0o20002, 0o17776, 0o160000, 0o157776, 0o160002,
+                       2 * rng.randrange(0x4000)])
+    start = {'-n': (text + 0o17777) // 0o20000 * 0o20000, '-i': 0}.get(option, text)
+    common = rng.choice([0, 0, 1, 2, 3, 2 * rng.randrange(0x1000) + 1, 0xffff])
+    common_size = 0 if option == '-r' else (common + 1) // 2 * 2
+    data = 2 * rng.randrange(max(1, 0x10000 - start - common_size) // 2 + 1) % 0x8000
+    bss = near(rng, max(0, 0xfffe - start - common_size - data))
+    symbols = [(b'_c', EXTERNAL, common), (b'_t', EXTERNAL | TEXT, 0),
+               (b'_d', EXTERNAL | DATA, text)]
+    more = []
+    if rng.random() < 0.15:
+        more = many(b'L', 5461 - len(symbols) + rng.randrange(2), kind=ABSOLUTE)
+    words = [(0, 0o10)] + zeros(data)[1:] if data else []
+    return [pack(zeros(text), words, bss, symbols), pack(symbols=more)], [option]
+
+
+def symbols_case(rng):
+    """A table of nearly 5,461 symbols; with -r a word may name one whose number is too large."""
+    local, hidden = rng.randrange(2000), rng.randrange(2000)
+    external = 5461 - local - hidden + rng.choice([-1, 0, 0, 1, 1, 2, hidden, local + hidden])
+    symbols = many(b'l', local, ABSOLUTE) + many(b'_', external)
+    first, second = symbols[:4500], symbols[4500:] + many(b'L', hidden, ABSOLUTE)
+    named = [number for number, symbol in enumerate(first[:4096]) if symbol[1] == EXTERNAL]
+    words = [(0, 0o10 + 16 * rng.choice([named[0], named[-1]]))] * rng.randrange(2)
+    options = ['-r', '-r', '-rX', '-X', '-x', '-s', '-rx', '-n']
+    return [pack([], words, 0, first), pack(symbols=second)], [rng.choice(options)]
+
+
+def numbers_case(rng):
+    """With -r, words that refer to symbols with numbers near 4,095."""
+    local = rng.choice([0, 1, 2, 100, 3000])
+    first = many(b'L', local, ABSOLUTE) + many(b'_', 4095 - local + rng.choice([-1, 0, 1]))
+    second = [(b'_x', EXTERNAL, 0), (b'_y', EXTERNAL, rng.choice([0, 3])), (b'_z', EXTERNAL, 0)]
+    words = [word_of(rng, [0, 1, 2]) for _ in range(rng.randrange(3))]
+    third = [(b'_y', EXTERNAL | DATA, 0)] if rng.random() < 0.3 else []
+    objects = [pack(symbols=first), pack(words[:1], words[1:], 0, second), pack(symbols=third)]
+    return objects, [rng.choice(['-r', '-r', '-rd', '-rx', '-rX'])]
+
+
+def names_case(rng, number):
+    """65,532 names of twelve objects, and two to four more; from number 3 on bss is full too."""
+    objects = [pack(symbols=many(b'_%x.' % place, 5461)) for place in range(12)]
+    more = 2 + number % 3
+    forced = [f'-u_f{number}' for number in range(rng.randrange(more))]
+    objects.append(pack(bss=2, symbols=many(b'_0.', 10) + many(b'_y', more - len(forced))))
+    return [pack(bss=0xfffe if number > 2 else 0), *objects], ['-s', *forced]
+
+
+def session_case(rng, number):
+    if number in (300, 301, 302):
+        script = b'x\n' * (999699 + number) + b'x' * (4097 if number == 301 else 1)
+        return Case({}, [(['session'], script)])
+    if number == 200:
+        files = {f'{place}.o': contents for place, contents in enumerate(names_case(rng, 0)[0])}
+        files['last.o'] = pack(symbols=many(b'_z', 10))
+        lines = [*(f'add {path}' for path in files), 'withdraw', 'add last.o', 'link out']
+        return Case(files, [(['session', '-s'], '\n'.join(lines).encode())])
+    names = rng.sample(NAMES, rng.choice([3, 5, 8]))
+    files = {f'{place}.o': object_of(rng, names) for place in range(rng.randint(2, 6))}
+    good = list(files)
+    files.update(bad=bad_file_of(rng, names), worse=bad_file_of(rng, names), folder=None)
+    if rng.random() < 0.25:
+        for place, name in enumerate(['big', 'large']):
+            files[name] = large_object(rng, place)
+            good.append(name)
+    options = link_options(rng, names)
+    lines = [session_line(rng, good) for _ in range(rng.choice([1, 5, 10, 20, 40]))]
+    if rng.random() < 0.02:
+        lines.insert(rng.randrange(len(lines)), b'add ' + b'x' * rng.choice([4092, 4093]))
+    script = b'\n'.join(lines) + rng.choice([b'\n', b'\n', b'\n', b''])
+    paths = ['1.o'] if rng.random() < 0.01 else []
+    return Case(files, [(['session', *arguments_of(rng, options, paths)], script)])
+
+
+def large_object(rng, place):
+    """An object that nearly fills a segment, or a table."""
+    way = rng.choice([0, 1, 2, 3, 3, 3, 4, 4])
+    size = rng.choice([65534, 65532])
+    if way < 3:
+        return [pack(zeros(size)), pack(data=zeros(size)), pack(bss=size)][way]
+    if way == 3:
+        return pack([(0, 0o10 + 16 * 4095)], symbols=many(b'_%d' % place, 4096))
+    return pack(bss=2, symbols=many(b'_%d' % place, 5461, rng.choice([EXTERNAL, ABSOLUTE])))
+
+
+def session_line(rng, good):
+    way = rng.choices(['add', 'withdraw', 'externals', 'undefined', 'link', 'refused', 'bad'],
+                      [10, 4, 2, 2, 4, 2, 1])[0]
+    if way == 'add':
+        return b'add ' + rng.choice(good).encode()
+    if way == 'link':
+        return b'link ' + rng.choices([b'out', b'other', rng.choice(good).encode()], [8, 4, 1])[0]
+    if way == 'refused':
+        return rng.choice([b'add bad', b'add bad', b'add worse', b'add missing', b'add folder',
+                           b'link nowhere/out', b'link folder', b'link /dev/full', b'add ',
+                           b'link ', b'add  0.o'])
+    if way == 'bad':
+        return rng.choice([b'', b' ', b'add', b'link', b'withdraw ', b'withdraw\r', b'Externals',
+                           b'undefined x', b'add\t0.o', b'\xff', b'add \xff', b'# a', b'quit',
+                           b'add 0.o\r', b'adds 0.o', b'add a\0b', b'link a\0b'])
+    return way.encode()
+
+
+def damaged_case(rng, number):
+    names = rng.sample(NAMES, rng.choice([3, 6]))
+    base = object_of(rng, names) if number % 2 else program_of(rng, names)
+    files = {'d.o': damage(rng, base), 'good.o': object_of(rng, names)}
+    if rng.random() < 0.5:
+        files['d.o'] = damage(rng, files['d.o'])
+    paths = rng.choice([['d.o'], ['d.o', 'good.o'], ['good.o', 'd.o']])
+    option = rng.choice([[], ['-r'], ['-s'], ['-n'], ['-i'], ['-x']])
+    commands = [['ld', *option, '-o', 'out', *paths], ['nm', *nm_options(rng), *paths],
+                ['size', *paths], ['strip', *paths], ['nm', '-p', *paths], ['size', *paths]]
+    script = b'add good.o\nadd d.o\nexternals\nundefined\nlink linked\n'
+    return Case(files, [(['session', *option], script)] + [(command, b'') for command in commands])
+
+
+CASES = {'link': link_case, 'session': session_case, 'damaged': damaged_case}
+
+
+def case_of(kind, number):
+    return CASES[kind](random.Random(f'{kind} {number}'), number)
+
+
+# Comparison
+
+def contents(folder):
+    return {path.name: None if path.is_dir() else path.read_bytes() for path in folder.iterdir()}
+
+
+def fill(folder, files):
+    folder.mkdir(parents=True)
+    for name, data in files.items():
+        if data is None:
+            (folder / name).mkdir()
+        else:
+            (folder / name).write_bytes(data)
+
+
+def run_v7(v7, folder, arguments, script):
+    try:
+        done = subprocess.run([v7, *arguments], cwd=folder, input=script, capture_output=True,
+                              timeout=TIME_LIMIT)
+    except subprocess.TimeoutExpired:
+        return f'no end in {TIME_LIMIT} seconds', b'', b''
+    return done.returncode, done.stdout, done.stderr
+
+
+def run_model(folder, arguments, script):
+    os.chdir(folder)
+    try:
+        return model.run(arguments, io.BytesIO(script))
+    except Exception as failure:        # the model itself is wrong: this differs from any status
+        return repr(failure), b'', b''
+
+
+def differences(results, folders):
+    """What differs, as lines."""
+    lines = []
+    if results[0][0] != results[1][0]:
+        lines.append(f'status: v7 {results[0][0]}, model {results[1][0]}')
+    for name, *written in zip(('standard output', 'standard error'), *(r[1:] for r in results)):
+        pairs = zip_longest(*(text.split(b'\n') for text in written))
+        for number, (ours, theirs) in enumerate(pairs, 1):
+            if ours != theirs:
+                lines.append(f'{name}, line {number}: v7 {ours}, model {theirs}')
+                break
+    for name in sorted({**folders[0], **folders[1]}):
+        ours, theirs = (folder.get(name, 'not there') for folder in folders)
+        if isinstance(ours, bytes) and isinstance(theirs, bytes) and ours != theirs:
+            same = len(os.path.commonprefix([ours, theirs]))
+            lines.append(f'file {name}: {len(ours)} and {len(theirs)} bytes, {same} equal')
+        elif ours != theirs:
+            lines.append(f'file {name}: v7 and model do not both have it')
+    return lines
+
+
+def texts_of(tool, result):
+    """The texts of EXPECTED that a command wrote."""
+    _, output, error = result
+    for line in (error + (output if tool in ('ld', 'session') else b'')).splitlines():
+        line = re.sub(r'word \d+$', 'word N', line.decode(errors='replace'))
+        answer = re.match(r'(added|withdrew|linked) .*?( [01])?$', line)
+        if answer:
+            yield answer[1] + (answer[2] or '' if answer[1] == 'linked' else '')
+        else:
+            yield line.rpartition(': ')[2]
+
+
+def compare(v7, case, root=None):
+    """The statuses and texts of the case; and what differs: lines, command, files before."""
+    statuses, texts = Counter(), set()
+    with tempfile.TemporaryDirectory(dir=root) as parent:
+        folders = [Path(parent, 'v7'), Path(parent, 'model')]
+        for folder in folders:
+            fill(folder, case.files)
+        before = case.files
+        for arguments, script in case.commands:
+            results = [run_v7(v7, folders[0], arguments, script),
+                       run_model(folders[1], arguments, script)]
+            after = [contents(folder) for folder in folders]
+            lines = differences(results, after)
+            if lines:
+                return statuses, texts, (lines, arguments, script, before, *after)
+            statuses[results[0][0]] += 1
+            texts.update(texts_of(arguments[0] if arguments else '', results[0]))
+            before = after[0]
+        os.chdir('/')
+    return statuses, texts, None
+
+
+def work(job):
+    v7, root, kind, number = job
+    return (kind, number), compare(v7, case_of(kind, number), root)
+
+
+def show(v7, kind, number, difference):
+    """Keeps the files, and prints the command and what differs."""
+    lines, arguments, script, before, *after = difference
+    kept = Path('build/differs', f'{kind}-{number}')
+    shutil.rmtree(kept, ignore_errors=True)
+    for name, files in zip(('before', 'again', 'v7', 'model'), (before, before, *after)):
+        fill(kept / name, files)
+    (kept / 'script').write_bytes(script)
+    words = [os.path.relpath(v7, kept / 'again'), *map(os.fsdecode, arguments)]
+    print(f'{kind} {number} differs:')
+    print(f'    cd {kept}/again &&', ' '.join(map(shlex.quote, words)), '<../script')
+    print(f'The files before this are in {kept}/before, and those after it in v7 and model there:')
+    for line in lines:
+        print(f'    {line}')
+
+
+def main():
+    v7 = os.path.abspath(sys.argv[1])
+    given = [int(count) for count in sys.argv[2:]]
+    counts = dict(zip(CASES, given or [2000, 500, 500]))
+    seen, statuses = ({kind: Counter() for kind in counts} for _ in range(2))
+    with tempfile.TemporaryDirectory(prefix='agree.') as root, multiprocessing.Pool() as pool:
+        jobs = [(v7, root, kind, number) for kind in counts for number in range(counts[kind])]
+        jobs.sort(key=lambda job: job[-1] / counts[job[-2]])        # the kinds take turns
+        results = pool.imap(work, jobs, chunksize=4)
+        for compared, ((kind, number), (ended, texts, difference)) in enumerate(results, 1):
+            if difference:
+                show(v7, kind, number, difference)
+                print(f'after {compared} cases')
+                pool.terminate()
+                pool.join()
+                return 1
+            seen[kind].update(texts)
+            statuses[kind].update(ended)
+    missing = []
+    for kind, count in counts.items():
+        print(f'{count} {kind} cases agree, in {sum(statuses[kind].values())} commands:',
+              ', '.join(f'{number} with status {status}'
+                        for status, number in sorted(statuses[kind].items())))
+        print('   ', ', '.join(f'{text} {seen[kind][text]}' for text in EXPECTED[kind]))
+        missing += [f'{kind}: {text}' for text in EXPECTED[kind] if not seen[kind][text]]
+    if missing and not given:
+        print('never seen:', ', '.join(missing))
+        return 1
+    return 0
+
+
+if __name__ == '__main__':
+    sys.exit(main())

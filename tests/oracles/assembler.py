@@ -1,0 +1,74 @@
+#!/usr/bin/env python3
+"""Compares what examples/asm.py makes with what GNU's assembler and `v7-from-gnu` made of the same source, byte for byte, and with the
+objects that were written by hand; and each of its messages with the line and the column of the mistake.
+
+usage: python3 -m tests.oracles.assembler FROM_GNU
+"""
+import os
+import subprocess
+import sys
+import tempfile
+
+import asm
+from tests import TOP
+
+EXAMPLES = os.path.join(TOP, "examples")
+
+
+# sources that both assemblers take, and sources whose objects were written by hand with the same order of names
+GNU = ["main", "twice", "cstart", "squares"]
+BY_HAND = ["main", "twice", "count", "double"]
+
+MISTAKES = [
+    ("\tmovv r0, r1\n", "1:2: there is no instruction movv"),
+    ("\tclr r0\n\t.skip 2\n", "2:2: there is no instruction or directive .skip"),
+    ("\tmov r0\n", "1:2: mov has 2 operands"),
+    ("\tclr r0, r1\n", "1:2: clr has 1 operand"),
+    ("\tmov 2(r8), r0\n", "1:6: r8 is no register"),
+    ("\tjsr 2, x\n", "1:6: 2 is no register"),
+    ("\tmov $9, r0\n", "1:6: 9 is no octal number: a decimal one has a point at its end"),
+    ("\tmov $x + y, r0\n", "1:6: x + y is no expression"),
+    ("\tmov $x +, r0\n", "1:6: a number is expected after +"),
+    ("x:\tclr r0\nx:\tclr r1\n", "2:1: x is defined twice"),
+    ("\tbr y\n", "1:5: y is no label of this file"),
+    ("x:\t.space 1000\n\tbr x\n", "2:5: it is too far for a branch"),
+    ("\tjmp 1f\n", "1:6: there is no such label 1"),
+    ("\t.data\n\t.byte 1\n\t.word 2\n", "3:8: a word begins at an odd offset: .even is missing"),
+    ("\t.byte 1\n\tclr r0\n", "2:2: an instruction begins at an odd offset: .even is missing"),
+    ("\t.bss\n\tclr r0\n", "2:2: bss has no instructions"),
+    ("\t.comm x\n", "1:2: .comm has 2 operands"),
+    ("\t.comm x, y\n", "1:11: y is not a number"),
+    ("\t.asciz text\n", '1:9: a text is expected, as "text" or <text>'),
+    (". = x\n", "1:5: a place is moved by .=.+N"),
+]
+
+
+def faults_of(from_gnu, room):
+    """What is not as it should be."""
+    for name, stored in [(name, "") for name in GNU] + [(name, os.path.join(EXAMPLES, f"{name}.o")) for name in BY_HAND]:
+        if not stored:
+            stored = os.path.join(room, f"{name}.o")
+            subprocess.run([from_gnu, os.path.join(EXAMPLES, f"{name}.gnu"), stored], check=True, stderr=subprocess.DEVNULL)
+        with open(os.path.join(EXAMPLES, f"{name}.s"), encoding="ascii") as source, open(stored, "rb") as other:
+            if asm.assembled(source.read()) != other.read():
+                yield f"{name}.s: another object than {stored}"
+    for source, wanted in MISTAKES:
+        path = os.path.join(room, "mistake.s")
+        with open(path, "w", encoding="ascii") as out:
+            out.write(source)
+        done = subprocess.run([sys.executable, os.path.join(EXAMPLES, "asm.py"), path], capture_output=True, text=True)
+        if (done.returncode, done.stderr) != (1, f"{path}:{wanted}\n") or os.path.exists(path[:-2] + ".o"):
+            yield f"{source!r}: {done.stderr}  wanted: {wanted}"
+
+
+def main():
+    with tempfile.TemporaryDirectory() as room:
+        faults = list(faults_of(os.path.abspath(sys.argv[1]), room))
+    for fault in faults:
+        print(fault)
+    print(f"{len(GNU) + len(BY_HAND)} objects and {len(MISTAKES)} mistakes of examples/asm.py were compared")
+    return 1 if faults else 0
+
+
+if __name__ == "__main__":
+    sys.exit(main())

@@ -1,0 +1,497 @@
+#!/usr/bin/env python3
+"""Compares the map of `v7-explain -m` with what `v7 ld`, `v7 nm` and `v7 size` say of the same objects.
+
+usage: python3 -m tests.oracles.map V7 V7-EXPLAIN [MAP [LINKS]]
+
+MAP is another program that prints maps, examples/c/map.c: of each link it must print the same. LINKS are so many in place of 200.
+
+The links are those of a few lists of objects in examples/, and 200 that are made, the same in each run: objects of some
+words, with names that are defined, wanted as commons and referred to. Who defines a name, who wants it, and which words
+of an object refer to it are known from the objects as they were made. The instruction of each such word is what
+tests/oracles/disassembly.py makes of the object's words. What is used of each limit is counted in the objects and in the linked
+file. 60 further links are refused, some because a file can't be read. Of each made link, and of 51 that are refused, there is
+a map of some names too (-y), with names that are too long, absent or asked for twice.
+"""
+import os
+import random
+import struct
+import subprocess
+import sys
+import tempfile
+
+from tests import TOP
+from tests.oracles import disassembly
+
+EXAMPLES = os.path.join(TOP, "examples")
+
+OPTIONS = [[], ["-n"], ["-i"], ["-r"], ["-r", "-d"], ["-x"], ["-X"], ["-s"], ["-u", "_forced"], ["-e", "_a"], ["-d"]]
+NAMES = ["_a", "_b", "_c", "_main", "_long_na", "x", "_forced", "_end", "_etext", "Lx"]
+# first words of one to three words, one that begins no instruction, and words like those of operands
+WORDS = [0o000207, 0o005200, 0o004767, 0o004737, 0o012700, 0o016167, 0o016767, 0o012737, 0o013737, 0o170006, 2, 0o177772, 0o177776]
+
+
+def run(*words):
+    """Status, standard output and standard error of a command."""
+    done = subprocess.run(words, capture_output=True, check=False)
+    return done.returncode, done.stdout.decode("latin-1"), done.stderr.decode("latin-1")
+
+
+def explain(*words):
+    """The same of the map of a link, which another program has to print too."""
+    came = run(EXPLAIN, "-m", *words)
+    for program in MAP:
+        if came[2] == "":
+            check(f"{' '.join(words)}: by records", run(program, *words), came)
+    return came
+
+
+class RandomObject:
+    """An object: how many words it has of text, data and bss; symbols as name, type word and value; each reference is a word, a
+    symbol's number and the bit of the pc; and the words of its text, if they are not 0."""
+
+    def __init__(self, text, data, bss, symbols, references, words=()):
+        self.text, self.data, self.bss, self.symbols, self.references = text, data, bss, symbols, references
+        relocation = [0] * (text + data)
+        for word, number, pc in references:
+            relocation[word] = 0o10 + 16 * number + pc
+        table = [(name.encode("latin-1").ljust(8, b"\0"), kind, value) for name, kind, value in symbols]
+        in_data = [0] * data
+        self.file = disassembly.File(list(words) or [0] * text, relocation[:text], table, 0o407, in_data, relocation[text:], 2 * bss)
+
+    def write(self, path):
+        with open(path, "wb") as file:
+            file.write(self.file.encoded())
+
+
+def random_object(dice):
+    """An object of few words, in which a name stands once."""
+    text, data, bss = dice.randrange(9), dice.randrange(4), dice.randrange(4)
+    symbols = []
+    for name in dice.sample(NAMES, dice.randrange(7)):
+        kind = dice.choice([0o40, 0o40, 0o40, 0o40, 0o41, 0o42, 0o43, 0o44, 2, 1])
+        segment = kind & 0o37
+        value = {0: dice.choice([0, 0, 2, 3, 6]), 1: dice.randrange(65536)}.get(segment)
+        if value is None:
+            start, size = [(0, text), (text, data), (text + data, bss)][segment - 2]
+            value = 2 * (start + dice.randrange(size + 1))
+        symbols.append((name, kind, value))
+    expected = [number for number, symbol in enumerate(symbols) if symbol[1] == 0o40]
+    references = [(word, dice.choice(expected), dice.randrange(2)) for word in range(text + data) if expected and dice.randrange(2)]
+    return RandomObject(text, data, bss, symbols, references, [dice.choice(WORDS) for _ in range(text)])
+
+
+# what follows a title in its line, and the first line of a part that begins with one of titles
+COLUMNS = {"Limits": "              used      of    left", "Segments": "    from     end   bytes"}
+FIRST_LINES = {"Objects": "    text  bytes    data  bytes     bss  bytes", "Largest objects": "     text    data     bss     all  symbols"}
+
+
+def parts(text):
+    """The parts of a map: the lines of each by its title, those before the first by an empty one."""
+    found = {}
+    for block in text.split("\n\n"):
+        title, *lines = block.rstrip("\n").split("\n")
+        name = title.split("  ")[0] if found else ""
+        if found:
+            check("a title", title, name + COLUMNS.get(name, ""))
+            check(f"the first line of {name}", lines[:1], [FIRST_LINES.get(name, lines[0])])
+        found[name] = lines if found else [title] + lines
+    return found
+
+
+def names_in(lines):
+    """The names of a part: for each its line, its lists by their labels, and the lines of words by the objects that use the name."""
+    names = {}
+    name = item = ""
+    for line in lines:
+        if line.startswith(16 * " "):
+            names[name][2].setdefault(item.split(" ")[0], []).append(line.strip())
+        elif line.startswith("    ") and not line.startswith("       "):
+            item = line[16:]
+            names[name][1].setdefault(line[:16].strip(), []).append(item)
+        else:
+            name = line[9:]
+            names[name] = (line, {}, {})
+    return names
+
+
+def check(what, found, expected):
+    if found != expected:
+        print(f"{what}: the map has\n  {found}\nand not\n  {expected}")
+        sys.exit(1)
+
+
+def listed(objects, says, item):
+    """The objects of which a symbol says something, as a list of the map has them, by name."""
+    lists = {}
+    for place, given in enumerate(objects):
+        for number, symbol in enumerate(given.symbols):
+            if symbol[1] & 0o40 and says(symbol):
+                count = sum(1 for _, to, _ in given.references if to == number)
+                lists.setdefault(symbol[0], []).append(item(f"{place}.o", symbol, count))
+    return lists
+
+
+def check_lists(what, names, objects):
+    """The lists of the externals are those of the objects as they were made."""
+    defined = listed(objects, lambda s: s[1] & 0o37, lambda path, s, n: path)
+    commons = listed(objects, lambda s: s[1] == 0o40 and s[2], lambda path, s, n: f"{path} ({s[2]})")
+    used = listed(objects, lambda s: s[1] == 0o40, lambda path, s, n: f"{path} ({n})")
+    for name, (_, lists, _) in names.items():
+        expected = {
+            "defined in": defined.get(name, [])[:1],
+            "again in": defined.get(name, [])[1:],
+            "common in": commons.get(name, []),
+            "used in": used.get(name, []),
+        }
+        if lists.get("used in", [])[:1] == ["-u"]:
+            expected["used in"] = ["-u"] + expected["used in"]
+        check(f"{what}: {name}", lists, {label: items for label, items in expected.items() if items})
+
+
+def label_before(given, segment, address):
+    """The nearest name that an object gives to an address of a segment, and how far it is; of several the first of the table."""
+    before = [(value, name) for name, kind, value in given.symbols if kind & 0o37 == segment and value <= address]
+    if not before:
+        return ""
+    near = max(value for value, _ in before)
+    name = next(name for value, name in before if value == near)
+    return f"  {name}+{address - near:o}" if near < address else f"  {name}"
+
+
+def word_line(given, starts, word):
+    """The line of a word of an object, whose text and data begin at these addresses."""
+    if word >= given.text:
+        return f"data {starts['data'] + 2 * (word - given.text):06o}{label_before(given, 3, 2 * word)}"
+    owner = given.file.owner(word)
+    first = word if owner is None else owner
+    before = label_before(given, 2, 2 * first) or f"  {starts['text'] + 2 * first:06o}"
+    return f"text {starts['text'] + 2 * word:06o}{before}: {given.file.line(first)[1]}"
+
+
+def check_words(what, names, found, objects, asked=None):
+    """The words of each name, or of the names that are asked for, are those of the objects as they were made, each with its address,
+    label and instruction."""
+    expected = {}
+    for place, (row, given) in enumerate(zip(found["Objects"][1:], objects)):
+        starts = {"text": int(row.split()[0], 8), "data": int(row.split()[2], 8)}
+        for number, symbol in enumerate(given.symbols):
+            lines = [word_line(given, starts, word) for word, to, _ in given.references if to == number]
+            if lines and (asked is None or symbol[0] in asked):
+                expected.setdefault(symbol[0], {})[f"{place}.o"] = lines
+    check(f"{what}: words", {name: words for name, (_, _, words) in names.items() if words}, expected)
+    return sum(len(lines) for words in expected.values() for lines in words.values())
+
+
+def check_asked(what, dice, command, objects, whole):
+    """The map of some names has what the objects have of these, after what becomes of the link. `command` has the options and the
+    paths, and `whole` the status, the parts and the lines of the externals of the whole map."""
+    words = [dice.choice(NAMES + ["_none", "_long_name", "_absent_name"]) for _ in range(dice.randrange(1, 6))]
+    status, text, errors = run(EXPLAIN, "-m", *(it for word in words for it in ("-y", word)), *command)
+    check(f"{what}: standard error of some names", errors, "")
+    asked = list(dict.fromkeys(word[:8] for word in words))
+    known = {name for given in objects for name, kind, _ in given.symbols if kind & 0o40} | ({"_forced"} if "-u" in command else set())
+    absent = [f"  {name}: not mentioned" for name in asked if name not in known]
+    link_status, found, externals = whole
+    check(f"{what}: status of some names", status, 1 if absent else link_status)
+    some = parts(text)
+    check(f"{what}: parts of some names", (list(some), some[""]), (["", "Externals"], found[""]))
+    lines = some["Externals"]
+    there = len(lines) - len(absent)
+    check(f"{what}: absent names", lines[there:], absent)
+    names = names_in(lines[:there])
+    check(f"{what}: some names", [line for line, _, _ in names.values()], [line for line in externals if line[9:] in asked])
+    check_lists(f"{what}: some names", names, objects)
+    check_words(f"{what}: some names", names, found, objects, asked)
+
+
+def check_report(what, found, report):
+    """The undefined names and those multiply defined are those of the report."""
+    lines = report.split("\n")
+    multiples = {line.split(": ")[0] for line in lines if line.endswith(": Multiply defined")}
+    undefined = set(lines[lines.index("Undefined:") + 1:-1]) if "Undefined:" in lines else set()
+    check(f"{what}: multiples", set(names_in(found.get("Multiply defined", []))), multiples)
+    return undefined
+
+
+class File:
+    """An object or a linked file, as far as limits need it."""
+
+    def __init__(self, data):
+        self.magic, self.text, self.data, self.bss, table, self.entry, _, flag = struct.unpack("<8H", data[:16])
+        segments = 0 if flag else self.text + self.data
+        at = 16 + self.text + self.data
+        self.relocation = struct.unpack_from(f"<{segments // 2}H", data, at)
+        symbols = (struct.unpack_from("<8sHH", data, at + segments + place) for place in range(0, table, 12))
+        self.symbols = [(name.split(b"\0")[0], kind) for name, kind, _ in symbols]
+
+
+def file_at(path):
+    with open(path, "rb") as file:
+        return File(file.read())
+
+
+def limit(label, used, most):
+    """A line of the limits; docs/LINK.md has them all."""
+    left = f"{most - used:>8}" if used <= most else f"{used - most:>8} over"
+    return f"  {label:<14}{used:>8}{most:>8}{left}"
+
+
+def sum_limits(objects):
+    """The limits of all objects together."""
+    sums = [sum(sizes) for sizes in zip(*((o.text, o.data, o.bss) for o in objects))]
+    return [limit(label, used, 65534) for label, used in zip(("text", "data", "bss"), sums)]
+
+
+def end_of(options, sizes):
+    """Where a link ends: with -n data begins at the next multiple of 020000, and with -i at 0."""
+    text = sizes["text"]
+    data = -(-text // 8192) * 8192 if "-n" in options else 0 if "-i" in options else text
+    return data + sizes["data"] + sizes["commons"] + sizes["bss"]
+
+
+def limits_of(options, paths, linked, end):
+    """The limits of a link that is made: of its objects, of its end, of the linked file, and of its names."""
+    objects = [file_at(path) for path in paths]
+    names = {name for o in objects for name, kind in o.symbols if kind & 0o40} | ({b"_forced"} if "-u" in options else set())
+    number = max((reloc >> 4 for reloc in linked.relocation if reloc & 0o16 == 0o10), default=0)
+    lines = [*sum_limits(objects), limit("end of bss", end, 65535), limit("symbols", len(linked.symbols), 5461)]
+    return lines + [limit("symbol number", number, 4095)] * ("-r" in options) + [limit("externals", len(names), 65535)]
+
+
+def counted(paths):
+    return f"{len(paths)} object{'s' if len(paths) > 1 else ''}"
+
+
+def check_head(what, found, paths, report, linked):
+    """What becomes of a link that is made: whether there is something to report, the magic number, and the entry point."""
+    lines = [f"Link of {counted(paths)}: made, with {'something' if report else 'nothing'} to report"]
+    lines.append(f"  magic 0{linked.magic:o}, entry point {linked.entry:06o}")
+    lines += [f"  entry point not in text: {line.split(':')[0]}" for line in report.split("\n") if line.endswith("Entry point not in text")]
+    check(f"{what}: head", found[""], lines)
+
+
+def check_segments(what, found, options, paths, linked):
+    """Each segment begins where the one before it ends, but for data, which begins by the options; commons are in the bss of the file."""
+    objects = [file_at(path) for path in paths]
+    bss = sum(o.bss for o in objects)
+    sizes = [("text", linked.text), ("data", linked.data), ("commons", linked.bss - bss), ("bss", bss)]
+    lines, at = [], 0
+    for name, size in sizes:
+        if name == "data" and "-n" in options:
+            at = -(-at // 8192) * 8192
+        if name == "data" and "-i" in options:
+            at = 0
+        lines.append(f"  {name:8}{at:06o}  {at + size:06o}{size:>8}")
+        at += size
+    check(f"{what}: segments", found["Segments"], lines)
+
+
+def check_map(what, options, paths):
+    """The map of a link that is made agrees with the link. Returns its externals."""
+    status, text, errors = explain(*options, *paths)
+    check(f"{what}: standard error", errors, "")
+    linked, report, _ = run(V7, "ld", *options, "-o", "out", *paths)
+    check(f"{what}: status", status, linked)
+    check(f"{what}: columns", [line for line in text.split("\n") if len(line) > 80], [])
+    found = parts(text)
+    undefined = check_report(what, found, report)
+    if "-r" not in options:
+        check(f"{what}: undefined", set(names_in(found.get("Undefined", []))), undefined)
+    plain = run(V7, "size", "out")[1].split("=")[0]
+    text_size, data_size, bss_size = (int(size) for size in plain.split("+"))
+    segments = {line.split()[0]: line.split()[1:] for line in found["Segments"]}
+    sizes = {name: int(row[2]) for name, row in segments.items()}
+    check(f"{what}: sizes", [sizes["text"], sizes["data"], sizes["commons"] + sizes["bss"]], [text_size, data_size, bss_size])
+    run(V7, "ld", *[word for word in options if word not in ("-s", "-X")], "-x", "-o", "bare", *paths)
+    out = file_at("out")
+    check_head(what, found, paths, report, out)
+    check_segments(what, found, options, paths, out)
+    check(f"{what}: limits", found["Limits"], limits_of(options, paths, out, end_of(options, sizes)))
+    names = names_in(found.get("Externals", []))
+    check(f"{what}: externals", [line for line, _, _ in names.values()], run(V7, "nm", "-g", "bare")[1].split("\n")[:-1])
+    return names, found
+
+
+def check_places(what, found, objects):
+    """The segments of each object follow those of the object before it."""
+    begins = {line.split()[0]: int(line.split()[1], 8) for line in found["Segments"]}
+    at = [begins["text"], begins["data"], begins["bss"]]
+    rows = [line.split() for line in found["Objects"][1:]]
+    for place, (row, given) in enumerate(zip(rows, objects)):
+        sizes = [2 * given.text, 2 * given.data, 2 * given.bss]
+        expected = [field for start, size in zip(at, sizes) for field in (f"{start:06o}", str(size))]
+        check(f"{what}: object {place}", row, expected + [f"{place}.o"])
+        at = [start + size for start, size in zip(at, sizes)]
+    check(f"{what}: objects", len(rows), len(objects))
+
+
+def check_examples():
+    lists = [["main", "twice", "count"], ["main", "count"], ["a", "b"], ["a", "b", "c"], ["k", "l"], ["main", "main"],
+             ["main", "twice", "count", "print", "start"]]
+    for names in lists:
+        for options in OPTIONS:
+            paths = [os.path.join(EXAMPLES, f"{name}.o") for name in names]
+            short = [f"{name}.o" for name in names]
+            for path, link in zip(paths, short):
+                if not os.path.exists(link):
+                    os.symlink(path, link)
+            check_map(f"{' '.join(options + short)}", options, short)
+    return len(lists) * len(OPTIONS)
+
+
+def check_random(number):
+    dice = random.Random(number)
+    objects = [random_object(dice) for _ in range(dice.randrange(1, 7))]
+    paths = [f"{place}.o" for place in range(len(objects))]
+    for path, given in zip(paths, objects):
+        given.write(path)
+    options = dice.choice(OPTIONS)
+    what = f"link {number} {' '.join(options)}"
+    names, found = check_map(what, options, paths)
+    check_lists(what, names, objects)
+    check_places(what, found, objects)
+    status = run(V7, "ld", *options, "-o", "out", *paths)[0]
+    check_asked(what, dice, options + paths, objects, (status, found, run(V7, "nm", "-g", "bare")[1].split("\n")[:-1]))
+    return check_words(what, names, found, objects)
+
+
+LETTERS = {0o41: "A", 0o42: "T", 0o43: "D", 0o44: "B"}
+# an object that a link has no place for, the fault, and options with which it has none
+TOO_MUCH = [
+    (RandomObject(0, 0, 0, [("_huge", 0o40, 65534)], []), "does not fit", [[], ["-n"], ["-i"], ["-x"], ["-s"], ["-u", "_forced"], ["-r", "-d"]]),
+    (RandomObject(32767, 0, 0, [], []), "text full", OPTIONS),
+    (RandomObject(0, 0, 0, [(f"L{number}", 1, 0) for number in range(5461)], []), "too many symbols", [[], ["-n"], ["-i"], ["-u", "_forced"]]),
+]
+
+
+def line_without_address(objects, name):
+    """The line of a name in a link that has no addresses, by the first definition, or else by a common."""
+    symbols = [symbol for given in objects for symbol in given.symbols if symbol[0] == name and symbol[1] & 0o40]
+    defined = [LETTERS[kind] for _, kind, _ in symbols if kind & 0o37]
+    return f"       {(defined + ['C' for _, _, value in symbols if value] + ['U'])[0]} {name}"
+
+
+def check_random_refused(number):
+    """A link of objects that are made, and of one too many. Returns how many words are placed."""
+    dice = random.Random(1000 + number)
+    objects = [random_object(dice) for _ in range(dice.randrange(1, 5))] + [RandomObject(1, 1, 0, [("_b", 0o40, 0)], [(0, 0, 0)])]
+    more, fault, choices = TOO_MUCH[number % len(TOO_MUCH)]
+    objects.insert(dice.randrange(len(objects) + 1), more)
+    paths = [f"{place}.o" for place in range(len(objects))]
+    for path, given in zip(paths, objects):
+        given.write(path)
+    options = dice.choice(choices)
+    what = f"refused link {number} {' '.join(options)}"
+    status, _, errors = run(V7, "ld", *options, "-o", "out", *paths)
+    check(f"{what}: ld", (status, fault in errors), (2, True))
+    status, text, errors = explain(*options, *paths)
+    check(f"{what}: status", (status, errors), (1, ""))
+    found = parts(text)
+    check(f"{what}: fault", found[""][0].split(" at")[0], f"Link of {counted(paths)}: refused, {fault}")
+    names = names_in(found["Externals"])
+    check_lists(what, names, objects)
+    expected = [line_without_address(objects, name) for name in names]
+    if fault == "too many symbols":
+        run(V7, "ld", *options, "-x", "-o", "bare", *paths)
+        expected = run(V7, "nm", "-g", "bare")[1].split("\n")[:-1]
+    check(f"{what}: externals", [line for line, _, _ in names.values()], expected)
+    check_asked(what, dice, options + paths, objects, (1, found, expected))
+    return check_words(what, names, found, objects)
+
+
+def check_refused(what, objects, fault, lines):
+    """A link that is refused: the fault is that of ld, and the map has these lines."""
+    paths = [f"{place}.o" for place in range(len(objects))]
+    for path, given in zip(paths, objects):
+        given.write(path)
+    check(f"{what}: fault", fault in run(V7, "ld", "-o", "out", *paths)[2], True)
+    status, text, _ = explain(*paths)
+    check(f"{what}: status", status, 1)
+    for line in [fault] + lines:
+        check(f"{what}: {line}", line in text, True)
+
+
+def largest_of(objects):
+    """The lines of the ten largest objects, the largest first, and of equal ones the first."""
+    rows = []
+    for place, given in enumerate(objects):
+        sizes = [2 * given.text, 2 * given.data, 2 * given.bss]
+        rows.append((sum(sizes), place, [*sizes, sum(sizes), len(given.symbols)]))
+    rows.sort(key=lambda row: (-row[0], row[1]))
+    return ["     text    data     bss     all  symbols"] + [
+        f"  {row[0]:>7}{row[1]:>8}{row[2]:>8}{row[3]:>8}{row[4]:>9}  {place}.o" for _, place, row in rows[:10]]
+
+
+def check_sizes(what, objects):
+    """The limits of objects whose link is refused, and the largest of them."""
+    found = parts(explain(*[f"{place}.o" for place in range(len(objects))])[1])
+    sizes = [File(struct.pack("<8H", 0o407, 2 * o.text, 2 * o.data, 2 * o.bss, 0, 0, 0, 1) + bytes(2 * (o.text + o.data)))
+             for o in objects]
+    check(f"{what}: limits", found["Limits"][:3], sum_limits(sizes))
+    check(f"{what}: largest objects", found["Largest objects"], largest_of(objects))
+
+
+def check_many_refused():
+    """Twelve objects of other sizes, but for two that are equal, with too much text, data and bss in turn."""
+    for segment in range(3):
+        objects = []
+        for place in range(12):
+            sizes = [3 * place % 11, 5 * place % 13, 7 * place % 17]
+            sizes[segment] += 4000 + 100 * (place % 11)
+            objects.append(RandomObject(*sizes, [("_x", 0o40, 0)] * (place % 3), []))
+        what = "twelve objects"
+        check_refused(what, objects, ["text full", "data full", "bss full"][segment], [])
+        check_sizes(what, objects)
+
+
+def check_unread():
+    """Files that are no objects have status 1; with one that can't be opened, the status is 2."""
+    with open("short.o", "wb") as file:
+        file.write(b"\7\1")
+    RandomObject(1, 0, 0, [], []).write("0.o")
+    short, missing = "v7-explain: short.o: short header\n", "v7-explain: missing.o: cannot open\n"
+    check("no file", run(EXPLAIN, "-m", "short.o", "0.o"), (1, "", short))
+    check("a missing file", run(EXPLAIN, "-m", "0.o", "missing.o"), (2, "", missing))
+    check("a missing file first", run(EXPLAIN, "-m", "missing.o", "short.o"), (2, "", missing + short))
+
+
+def all_refused():
+    half = RandomObject(16000, 0, 0, [("_x", 0o40, 0)], [(0, 0, 0)])
+    data = RandomObject(0, 16000, 10, [("_x", 0o40, 7)], [])
+    more = RandomObject(0, 1000, 0, [], [])
+    # 32,000 of text, 34,000 of data, a common of 8 and 20 of bss end at 66,028
+    check_refused("does not fit", [half, data, more], "does not fit",
+                  ["  end of bss       66028   65535     493 over\n",
+                   "        0   32000      20   32020        1  1.o\n",
+                   "  commons 200720  200730       8\n",
+                   "    used in     0.o (1)\n                text 000000  000000: 000000 / _x\n    used in     1.o (0)\n"])
+    # three times 32,000 of text
+    check_refused("text full", [half, half, half], "text full",
+                  ["  text             96000   65534   30466 over\n", "  2.o\n",
+                   "  175000  32000  000000      0  000000      0  2.o\n",
+                   "\nUndefined\n       U _x\n    used in     0.o (1)\n                text 000000  000000: 000000 / _x\n"
+                   "    used in     1.o (1)\n                text 076400  076400: 000000 / _x\n"
+                   "    used in     2.o (1)\n                text 175000  175000: 000000 / _x\n"])
+    symbols = RandomObject(0, 0, 0, [(f"L{number}", 1, 0) for number in range(5461)], [])
+    check_refused("too many symbols", [symbols, RandomObject(0, 0, 0, [("_x", 0o41, 8)], [])], "too many symbols",
+                  ["000010 A _x\n    defined in  1.o\n"])
+    check_many_refused()
+    check_unread()
+    return 9
+
+
+def main():
+    examples = check_examples()
+    words = sum(check_random(link) for link in range(LINKS))
+    words += sum(check_random_refused(link) for link in range(51))
+    refused = 51 + all_refused()
+    print(f"{examples} maps of examples, {LINKS} of made links and {refused} of refused ones agree with ld, nm and size; {words} words are placed; "
+          f"{LINKS + 51} maps of some names have what the objects have of these")
+
+
+if __name__ == "__main__":
+    V7, EXPLAIN, *MAP = (os.path.abspath(path) for path in sys.argv[1:4])
+    LINKS = int(sys.argv[4]) if len(sys.argv) > 4 else 200
+    with tempfile.TemporaryDirectory() as folder:
+        os.chdir(folder)
+        main()

@@ -1,0 +1,159 @@
+"""The map of a link by the second linker, tests/oracles/model.py: what `link_map` of the module v7 has to give. The lines of text are those of
+tests/oracles/disassembly.py."""
+from tests.oracles import disassembly
+from tests.oracles import model
+import v7
+
+FULL = {text: number for number, text in v7.FAULTS.items() if 30 < number < 35 or 40 < number < 50}
+
+
+def text(name):
+    return name.decode("latin-1")
+
+
+class Laid:
+    """The layout of a link, whether it fits or not, and the link or why there is none."""
+
+    def __init__(self, merged, arguments):
+        link = model.Link.__new__(model.Link)
+        link.merged, link.letters, link.entry = merged, arguments.letters, arguments.entry
+        self.is_placed = True
+        try:
+            link.lay_out()
+        except model.Refused:
+            self.is_placed = False
+        self.start, self.common_start, self.bss, self.symbol_of = link.start, link.common_start, link.bss, link.symbol
+        self.fault, self.link = 0, None
+        try:
+            self.link = model.Link(merged, arguments)
+        except model.Refused as refused:
+            self.fault = FULL[str(refused)]
+
+    def segments(self, sizes):
+        data = self.start[model.DATA]
+        return sizes[model.TEXT], data, data + sizes[model.DATA], self.start[model.BSS], self.common_start + self.bss
+
+
+def line_starts(file):
+    """For each byte of an object's text, where its line begins."""
+    words, relocation = map(list, zip(*file.words[model.TEXT])) if file.words[model.TEXT] else ([], [])
+    symbols = [(symbol.name.ljust(8, b"\0"), symbol.type, symbol.value) for symbol in file.symbols]
+    shown, starts, place = disassembly.File(words, relocation, symbols), {}, 0
+    while place < len(words):
+        length = shown.line(place)[0]
+        for offset in range(2 * place, 2 * (place + length)):
+            starts[offset] = 2 * place
+        place += length
+    return starts
+
+
+def label_before(file, segment, address):
+    """The nearest label up to an address, and the bytes beyond it."""
+    best = None
+    for symbol in file.symbols:
+        if symbol.segment == segment and symbol.value <= address and (best is None or best.value < symbol.value):
+            best = symbol
+    return (text(best.name), address - best.value) if best else (None, 0)
+
+
+def words_of(file, object_number, name_number, number, at):
+    """The words of an object that refer to the symbol of this number."""
+    starts = line_starts(file)
+    for segment, kind in ((model.TEXT, v7.TEXT_WORD), (model.DATA, v7.DATA_WORD)):
+        for place, (_, relocation) in enumerate(file.words[segment]):
+            if relocation & model.KIND == model.NAMED and relocation // model.NUMBER == number:
+                line = starts[2 * place] if segment == model.TEXT else 2 * place
+                label, beyond = label_before(file, segment, (line + file.start(segment)) % model.WORD)
+                yield v7.MapUse(object_number, name_number, kind, at[segment] + 2 * place, 2 * place, line, label, beyond)
+
+
+def kind_of(symbol):
+    if symbol.kind != model.UNDEFINED:
+        return v7.DEFINES
+    return v7.MAKES_COMMON if symbol.value else v7.WANTS
+
+
+class Names:
+    """The names and the uses of a map."""
+
+    def __init__(self, files, forced, places, merged, laid):
+        self.files, self.places, self.merged, self.laid = files, places, merged, laid
+        self.uses_of = {name: [(None, None, model.Symbol(name, model.EXTERNAL, 0))] for name in forced}
+        for place, file in enumerate(files):
+            for number, symbol in enumerate(file.symbols):
+                if symbol.type & model.EXTERNAL:
+                    self.uses_of.setdefault(symbol.name, []).append((place, number, symbol))
+        self.names = [self.name(name) for name in sorted(self.uses_of)]
+        self.uses = [use for number, name in enumerate(sorted(self.uses_of)) for use in self.uses_by(name, number)]
+
+    def name(self, name):
+        uses = self.uses_of[name]
+        definitions = [use for use in uses if use[2].kind != model.UNDEFINED]
+        commons = [use for use in uses if use[2].kind == model.UNDEFINED and use[2].value]
+        shown, state = (definitions + commons + uses)[0][2], 0
+        if self.laid and self.laid.is_placed:
+            shown, state = self.laid.symbol_of(self.merged.externals[name]), v7.NAME_IS_PLACED
+        if not definitions and not commons and name not in model.RESERVED:
+            state += v7.NAME_IS_UNDEFINED
+        taken = self.laid and self.laid.link and name in model.RESERVED and (definitions or commons)
+        if name in self.merged.multiples or taken:
+            state += v7.NAME_IS_MULTIPLE
+        users = [use for use in uses if use[0] is not None and use not in definitions]
+        first, further, user = (found[place][0] if len(found) > place else None for found, place in ((definitions, 0), (definitions, 1), (users, 0)))
+        return v7.MapName(text(name), first, further, user, state, shown.type, shown.value)
+
+    def uses_by(self, name, number):
+        for place, symbol_number, symbol in self.uses_of[name]:
+            kind = v7.FORCES if place is None else kind_of(symbol)
+            yield v7.MapUse(place, number, kind, 0, symbol.value, 0, None, 0)
+            if place is not None:
+                yield from words_of(self.files[place], place, number, symbol_number, self.places[place])
+
+
+def limits_of(files, arguments, merged, laid):
+    rows = [(segment, sum(file.size(segment) for file in files), model.SEGMENT_LIMIT) for segment in model.SEGMENTS]
+    rows = [(number, used, most) for number, (_, used, most) in enumerate(rows, 1)]
+    if laid:
+        rows.append((4, laid.common_start + laid.bss, model.END_LIMIT))
+        if laid.link:
+            rows.append((5, len(laid.link.file.symbols), model.SYMBOLS_LIMIT))
+            if "r" in arguments.letters:
+                numbers = [word // model.NUMBER for pairs in laid.link.file.words.values() for _, word in pairs if word & model.KIND == model.NAMED]
+                rows.append((6, max(numbers, default=0), model.NUMBER_LIMIT))
+        rows.append((7, len(merged.externals), model.NAMES_LIMIT))
+    return [v7.MapLimit(*row) for row in rows]
+
+
+def map_of(objects, arguments):
+    """The map of a link, or why there is none and the number of the object."""
+    files = []
+    for place, data in enumerate(objects):
+        try:
+            files.append(model.read_object(data))
+        except model.Refused as refused:
+            return str(refused), place
+    merged, fault, refused_at = model.Merged([], arguments.forced), 0, 0
+    for place, file in enumerate(files):
+        try:
+            merged = model.Merged([*merged.objects, file], merged.forced)
+        except model.Refused as refused:
+            fault, refused_at = FULL[str(refused)], place
+            break
+    laid = None if fault else Laid(merged, arguments)
+    at, places = dict(laid.start) if laid else dict.fromkeys(model.SEGMENTS, 0), []
+    for file in files:
+        places.append(dict(at))
+        for segment in model.SEGMENTS:
+            at[segment] += file.size(segment)
+    found = Names(files, arguments.forced, places, merged, laid)
+    rows = [v7.MapObject(*(place[segment] for segment in model.SEGMENTS), len(file.symbols), *(file.size(segment) for segment in model.SEGMENTS))
+            for file, place in zip(files, places)]
+    limits = limits_of(files, arguments, merged, laid)
+    if not laid:
+        return v7.Map(1, fault, refused_at, (0,) * 5, 0, 0, None, rows, found.names, found.uses, limits)
+    segments = laid.segments(merged.sizes)
+    if not laid.link:
+        return v7.Map(1, laid.fault, 0, segments, 0, 0, None, rows, found.names, found.uses, limits)
+    link = laid.link
+    entry = text(link.entry) if link.entry is not None and not link.has_entry else None
+    return v7.Map(1 if link.report else 0, 0, 0, segments, link.magic, link.file.entry, entry, rows, found.names, found.uses, limits)

@@ -1,0 +1,425 @@
+#!/usr/bin/env python3
+"""Compares the notes of v7-explain, with all their numbers, and its inventory with those computed here by docs/FORMAT.md and
+v7-explain(1).
+
+usage: notes.py V7_EXPLAIN
+
+The files are made, the same in each run: objects whose numbers lie at the edges of their ranges and beside them, one file cut
+at each byte, objects with 15 to 18 bad relocation words, files with other magic numbers, flags and sizes, files of other forms, and
+objects of instructions.
+"""
+import os
+import random
+import re
+import struct
+import subprocess
+import sys
+import tempfile
+
+from tests.oracles.disassembly import File as Text
+from tests.oracles.suspicions import DOUBT, suspicions
+
+PROGRAMS = {0o405: "an overlay", 0o407: "a program", 0o410: "a program, pure text", 0o411: "a program, separate text and data"}
+KINDS = {0o405: "overlay", 0o407: "program 0407", 0o410: "program 0410", 0o411: "program 0411"}
+MAGICS = {0o405: "overlay", 0o407: "normal, data after text", 0o410: "text can be shared, data at a multiple of 020000",
+          0o411: "text and data in spaces of their own"}
+# the first bytes of other files, what is said of them, and their kinds in an inventory
+MEMBERS = "take its members out with the ar of its system"
+FORMS = [(b"\x7fELF", "this is an ELF file, of another system", "ELF"),
+         (b"\x65\xff", f"this is an archive (0177545); {MEMBERS}", "archive"),
+         (b"\x6d\xff", f"this is an old archive (0177555); {MEMBERS}", "archive"),
+         (b"!<arch>", "this is an archive; take its members out with ar", "archive")]
+SEGMENTS = {2: "text", 3: "data", 4: "bss"}
+# types of symbols, without the external bit
+TYPES = (0, 1, 2, 3, 4, 0o24, 0o37)
+# of bad relocation words so many are shown one by one
+MOST_BAD = 16
+dice = random.Random(42)
+
+
+def shown(name):
+    """A name as notes have it."""
+    return "".join(chr(c) if 32 < c < 127 and c != 92 else "\\%03o" % c for c in name) or "\\000"
+
+
+class File:
+    """What the bytes of a file say, by its header."""
+
+    def __init__(self, data):
+        self.data = data
+        self.magic, self.text, self.data_size, self.bss, *more = struct.unpack("<8H", data[:16])
+        self.table, self.entry, self.unused, self.flag = more
+        segments = self.text + self.data_size
+        self.data_at = 16 + self.text
+        self.relocation_at = 16 + segments
+        self.symbols_at = self.relocation_at + (segments if self.flag == 0 else 0)
+        self.end = self.symbols_at + self.table
+
+    def word(self, at):
+        return struct.unpack_from("<H", self.data, at)[0]
+
+    def words(self):
+        """Address, value and relocation word of each word that is relocated."""
+        for at in range(0, self.text + self.data_size if self.flag == 0 else 0, 2):
+            yield at, self.word(16 + at), self.word(self.relocation_at + at)
+
+    def symbols(self):
+        """Name, bytes of the name, type word and value of each symbol."""
+        fields = (struct.unpack_from("<8sHH", self.data, at) for at in range(self.symbols_at, self.end, 12))
+        return [(field.split(b"\0")[0], field, kind, value) for field, kind, value in fields]
+
+    def ranges(self):
+        """The address at which each segment begins, and that at which it ends, which counts as inside."""
+        data = {0o410: -(-self.text // 8192) * 8192, 0o411: 0}.get(self.magic, self.text)
+        bss = data + self.data_size
+        return {"text": (0, self.text), "data": (data, bss), "bss": (bss, bss + self.bss)}
+
+
+def owner_said(text, place):
+    """The instruction that has a word as an operand word, if it is one of text."""
+    first = text.owner(place) if place < len(text.words) else None
+    return "" if first is None else f"; the instruction at {2 * first:06o} is {text.line(first)[1]}"
+
+
+def is_undefined(kind):
+    return kind & 0o77 == 0o40
+
+
+def bad_sizes(file):
+    for at, part, size in ((2, "text", file.text), (4, "data", file.data_size), (6, "bss", file.bss)):
+        if size % 2:
+            yield at, f"odd size: {part} has 0{size:o} ({size}) bytes, which are no whole words"
+    if file.table % 12:
+        yield 8, f"odd size: the symbol table has 0{file.table:o} ({file.table}) bytes, and a symbol 12"
+
+
+def cut_off(file):
+    size = len(file.data)
+    ends = (file.data_at, file.relocation_at, file.symbols_at, file.end)
+    for end, part in zip(ends, ("text", "data", "the relocation", "the symbol table")):
+        if size < end:
+            yield size, f"truncated: the file ends here, in {part}; by its header it has 0{file.end:o} ({file.end}) bytes"
+            return
+
+
+def text_of(file):
+    """The text of an object, with its relocation words and its symbols."""
+    relocated = [(word, reloc) for at, word, reloc in file.words() if at < file.text]
+    return Text([word for word, _ in relocated], [reloc for _, reloc in relocated], [field[1:] for field in file.symbols()])
+
+
+def bad_words(file):
+    symbols, text = file.symbols(), text_of(file)
+    for at, _, reloc in file.words():
+        number = reloc >> 4
+        if reloc & 0o16 > 0o10:
+            said = f"bad relocation at word {at // 2}: {reloc:o} has none of the kinds 0, 2, 4, 6 and 10"
+        elif reloc & 0o16 < 0o10 or number < len(symbols) and is_undefined(symbols[number][2]):
+            continue
+        elif number < len(symbols):
+            name, _, kind, _ = symbols[number]
+            said = f"symbol {number} of {len(symbols)}, {shown(name)} of type {kind:o}, and not an undefined external, 40"
+            said = f"bad symbol number at word {at // 2}: {reloc:o} refers to {said}"
+        else:
+            said = f"symbol {number}, and the table has {len(symbols)}, counted from 0"
+            said = f"bad symbol number at word {at // 2}: {reloc:o} refers to {said}"
+        yield file.relocation_at + at, said + owner_said(text, at // 2)
+
+
+def wrong(data):
+    """What is wrong with a file, each with its byte; and the file, if it is one."""
+    if len(data) < 16:
+        return [(len(data), "short header: the file ends here, and a header has 16 bytes")], None
+    file = File(data)
+    if file.magic not in PROGRAMS:
+        return [(0, f"bad magic number: {file.magic:06o}, and not 000405, 000407, 000410 or 000411")], None
+    notes = list(bad_sizes(file)) or list(cut_off(file))
+    if notes:
+        return notes, None
+    if file.magic != 0o407 or file.flag:
+        return [], file
+    notes = list(bad_words(file))
+    more = len(notes) - MOST_BAD
+    if more > 0:
+        notes[MOST_BAD:] = [(file.relocation_at, f"and {more} more such relocation words")]
+    return notes, file
+
+
+def kind(file, is_damaged):
+    """What a file is, or None if it is damaged."""
+    if file.magic == 0o407 and file.flag == 0:
+        return None if is_damaged else "an object"
+    table = "" if file.table else ", no symbols"
+    refused = "relocation removed, so ld cannot link it again" if file.flag else "not of magic number 407, so ld cannot link it"
+    return f"{PROGRAMS[file.magic]}{table}; {refused}"
+
+
+def form(data):
+    """What a file is that has no magic number of ours, and its kind in an inventory, if that is known."""
+    if not data:
+        return "the file is empty", "other"
+    for begin, said, kind_said in FORMS:
+        if data.startswith(begin):
+            return said, kind_said
+    if all(byte in b"\n\r\t" or 32 <= byte < 127 for byte in data):
+        return "this is text", "text"
+    if len(data) > 1 and 256 * data[0] + data[1] in PROGRAMS:
+        return "a magic number with its bytes swapped: each word has its low byte first", "other"
+    return None, "other"
+
+
+def has_no_magic(data):
+    return len(data) < 16 or File(data).magic not in PROGRAMS
+
+
+def header_said(data):
+    """The words of a header by name."""
+    file = File(data)
+    words = [(file.magic, "magic: " + MAGICS.get(file.magic, "none that a file begins with"))]
+    sizes = (("text", file.text), ("data", file.data_size), ("bss", file.bss), ("the symbol table", file.table))
+    words += [(size, f"size of {part}: {size} bytes") for part, size in sizes]
+    words += [(file.entry, "entry point"), (file.unused, "unused"), (file.flag, f"flag: {'no relocation' if file.flag else 'relocation is present'}")]
+    return [f"{2 * place:03o}  {word:06o}  {said}" for place, (word, said) in enumerate(words)]
+
+
+def odd_header(file):
+    if file.entry and file.flag == 0:
+        yield 10, f"the entry point of an object, {file.entry:06o}, is ignored"
+    if file.unused:
+        yield 12, f"the unused word, {file.unused:06o}, is ignored"
+    more = len(file.data) - file.end
+    if more:
+        yield file.end, f"0{more:o} ({more}) bytes after the symbol table are not read"
+
+
+def odd_words(file):
+    for at, word, reloc in file.words():
+        address = at if at < file.text else (file.ranges()["data"][0] + at - file.text) % 65536
+        if reloc > 0o17 and reloc & 0o16 < 0o10:
+            yield file.relocation_at + at, f"relocation word {reloc:06o} of the word at {address:06o}: bits above 17 are ignored"
+        segment = {2: "text", 4: "data", 6: "bss"}.get(reloc & 0o16)
+        if segment:
+            begin, end = file.ranges()[segment]
+            to = (word + address + 2) % 65536 if reloc & 1 else word
+            if not begin <= to <= end:
+                yield file.relocation_at + at, (f"the word at {address:06o} is of kind {segment} and refers to {to:06o}; "
+                                                f"{segment} lies from {begin:06o} to {end:06o}")
+
+
+def odd_symbol(file, number, symbol, first):
+    """What is odd of a symbol, if the first one of its name has this number."""
+    name, field, kind, value = symbol
+    if not name:
+        yield 0, "has an empty name"
+    elif not all(32 < c < 127 for c in name):
+        yield 0, "has bytes in its name that do not print"
+    if field.rstrip(b"\0") != name:
+        yield 0, "has bytes after the NUL of its name, which are ignored"
+    if first < number:
+        yield 0, f"has the name of symbol {first}; names are equal in eight bytes"
+    if kind > 0o77:
+        yield 8, f"has type {kind:06o}, of which the bits above 77 are ignored"
+    if kind & 0o37 not in TYPES:
+        yield 8, f"has type {kind:06o}, which the format does not have; it is taken as absolute"
+    if is_undefined(kind) and value % 2:
+        yield 10, f"is undefined with value {value:06o}: a common of {value} bytes, rounded up to even"
+    segment = SEGMENTS.get(kind & 0o37)
+    if segment:
+        begin, end = file.ranges()[segment]
+        if not begin <= value <= end:
+            yield 10, f"of {segment} has value {value:06o}, and {segment} lies from {begin:06o} to {end:06o}"
+
+
+def odd_of(file):
+    """What is odd of a file, each with its byte; what is suspicious in its text comes last, and is given alone too."""
+    odd, firsts = [*odd_header(file), *odd_words(file)], {}
+    for number, symbol in enumerate(file.symbols()):
+        at, title = file.symbols_at + 12 * number, f"symbol {number} {shown(symbol[0])}"
+        found = odd_symbol(file, number, symbol, firsts.setdefault(symbol[0], number))
+        odd += [(at + place, f"{title} {text}") for place, text in found]
+    parts = {"word": 16, "relocation": file.relocation_at}
+    suspicious = [(parts[part] + 2 * place, text) for part, place, text in suspicions(text_of(file))]
+    return odd + suspicious, suspicious
+
+
+def at_byte(found):
+    return [f"byte 0{at:o} ({at}): {text}" for at, text in found]
+
+
+def notes_of(data):
+    """What a file is, and all that is wrong or odd, in the order of a listing; and what `-c` says of it: what is wrong, or odd in
+    instructions for sure."""
+    found, file = wrong(data)
+    if file is None:
+        said = [text for text in (form(data)[0],) if text and has_no_magic(data)]
+        return [f"wrong: {note}" for note in at_byte(found)] + said, at_byte(found) + said
+    what, (odd, suspicious) = kind(file, found), odd_of(file)
+    refused = at_byte(found) or ([what] if what != "an object" else at_byte(note for note in suspicious if DOUBT not in note[1]))
+    notes = [what] if what else []
+    return notes + [f"wrong: {note}" for note in at_byte(found)] + [f"odd: {note}" for note in at_byte(odd)], refused
+
+
+def lines_of(path, data):
+    """All notes of a listing: the path with the size, what the file is, its header, and the others."""
+    notes, _ = notes_of(data)
+    title = f"{path}: 0{len(data):o} ({len(data)}) bytes"
+    if wrong(data)[1] is None:
+        known = has_no_magic(data) and form(data)[0]
+        return [title] + (header_said(data) if len(data) >= 16 and not known else []) + notes
+    first = 0 if notes and notes[0].startswith(("wrong", "odd")) else 1
+    return [title, *notes[:first], *header_said(data), *notes[first:]]
+
+
+def condition(data):
+    """What an inventory says is wrong or odd."""
+    notes = notes_of(data)[0]
+    damaged = [int(note.split()[2], 8) for note in notes if note.startswith("wrong")]
+    odd = sum(note.startswith("odd") for note in notes)
+    return f"damaged at {min(damaged):06o}" if damaged else f"{odd} odd" if odd else "ok"
+
+
+def inventory_of(path, data):
+    """The line of a file in an inventory, unless it has the form of GNU's assembler."""
+    kind_said, numbers, said = form(data)[1], ["-"] * 5, "-"
+    if not has_no_magic(data):
+        file = File(data)
+        is_object = file.magic == 0o407 and file.flag == 0
+        kind_said, said = "object" if is_object else KINDS[file.magic], condition(data)
+        numbers[:3] = [file.text, file.data_size, file.bss]
+        if wrong(data)[1]:
+            symbols = list(file.symbols())
+            numbers[3:] = [len(symbols), sum(kind & 0o77 == 0o40 and not value for _, _, kind, value in symbols)]
+    return f"{kind_said:12}" + "".join(f"{number:>7}" for number in numbers) + f"  {said:17}  {path}"
+
+
+def near(edges):
+    return max(0, dice.choice(edges) + dice.choice([-2, -1, 0, 1, 2])) % 65536
+
+
+def random_symbol(edges):
+    name = dice.choice([b"_a", b"_b", b"Lc", b"", b"eight_by", b"a\\b", b"\x7f", b" x", b"~", b"_a\0z", b"!"])
+    kind = dice.choice([0o40, 0o40, 0o40, 0, 1, 2, 3, 4, 0o41, 0o42, 0o43, 0o44, 0o24, 0o37, 0o77, 0o100, 0o101, 0o140])
+    kind = dice.choice([kind, kind, kind, dice.randrange(65536)])
+    return struct.pack("<8sHH", name, kind, dice.choice([0, 1, 2, near(edges)]))
+
+
+def random_reloc(count):
+    number = dice.choice([0, 1, count - 1, count, 4095]) % 4096
+    external = 16 * number + 0o10
+    return dice.choice([0, 1, 2, 3, 4, 5, 6, 7, 0o10, 0o11, 0o12, 0o20, 0o26, external, external + 1, dice.randrange(65536)])
+
+
+def random_file(text, data, magic=0o407, flag=0):
+    """A file of so many words, most of whose numbers lie at the ends of segments."""
+    bss = 2 * dice.randrange(5)
+    edges = [0, 2 * text, 2 * (text + data), 2 * (text + data) + bss]
+    count = dice.randrange(6)
+    words = [near(edges) for _ in range(text + data)]
+    # a word that is relative to the pc has the distance
+    words = [(word - 2 * at - 2) % 65536 if dice.randrange(2) else word for at, word in enumerate(words)]
+    words += [random_reloc(count) for _ in range(text + data if flag == 0 else 0)]
+    header = [magic, 2 * text, 2 * data, bss, 12 * count, dice.choice([0, 0, 2]), dice.choice([0, 0, 1]), flag]
+    symbols = b"".join(random_symbol(edges) for _ in range(count))
+    return struct.pack("<%dH" % (8 + len(words)), *header, *words) + symbols + bytes(dice.choice([0, 0, 0, 1, 9]))
+
+
+# first words, and how many operand words or arguments they have
+CODE = [(0o016700, 1), (0o004767, 1), (0o026767, 2), (0o005077, 1), (0o012700, 1), (0o010100, 0), (0o005200, 0), (0o000207, 0)]
+CODE += [(0o000012, 0), (0o104404, 2), (0o104401, 0), (0o104001, 0), (0o000167, 1), (0o000137, 1), (0o000004, 0)]
+
+
+def random_code():
+    """An object of instructions: many branches, operand words that are relocated or not, and text symbols or none."""
+    words, relocation = [], []
+    for _ in range(dice.randrange(1, 16)):
+        offset = dice.choice([dice.randrange(-8, 9), dice.randrange(-8, 9), dice.randrange(-128, 128)]) % 256
+        branch = (dice.choice([0o000400, 0o001000, 0o001400, 0o100000]) + offset, 0)
+        first, more = dice.choice([branch, branch, (0o077000 + dice.randrange(12), 0), *CODE])
+        words += [first] + [near([0, 2 * len(words)]) for _ in range(more)]
+        relocation += [dice.choice([0] * 30 + [2, 9])] + [dice.choice([9, 9, 9, 0, 2, 3, 5, 8]) for _ in range(more)]
+    count = len(words) - dice.choice([0, 0, 0, 1, 2])
+    places = [2 * dice.randrange(len(words)) for _ in range(dice.randrange(3))]
+    symbols = [(b"_x", 0o40, 0), *((b"L%d" % place, dice.choice([2, 0o42]), place) for place in places)]
+    return Text(words[:count], relocation[:count], symbols).encoded()
+
+
+def files():
+    whole = random_file(3, 2)
+    yield from (whole[:size] for size in range(len(whole) + 1))
+    for bad in range(15, 19):
+        yield struct.pack("<8H", 0o407, 2 * bad, 4, 0, 0, 0, 0, 0) + bytes(2 * bad + 4) + b"\x0a\0" * bad + bytes(4)
+        yield struct.pack("<8H", 0o407, 4, 2 * bad, 0, 0, 0, 0, 0) + bytes(2 * bad + 4) + b"\x0a\0" * (bad + 2)
+    for at in range(2, 10, 2):
+        for size in (1, 3, 13, 255):
+            yield whole[:at] + struct.pack("<H", size) + whole[at + 2:]
+    for magic in (*PROGRAMS, 0o404, 0o406, 0o412, 0, 65535):
+        yield from (random_file(text, 1, magic, flag) for text in (0, 1, 2) for flag in (0, 1, 65535))
+    for begin in (*(begin for begin, _, _ in FORMS), b"text\r\n\t", b"text\x1b", b"text\x7f", b"\1\7", b"\1\4", b"\1\6"):
+        yield from (begin, begin + bytes(12) + b"and more", begin + b" and more of it, all of them text")
+    # text and data of more than 65,536 bytes, the last words of which have relocation words of text and of data
+    yield struct.pack("<8H", 0o407, 40000, 40000, 0, 0, 0, 0, 0) + bytes(159996) + b"\x22\0\x05\0"
+    yield from (random_file(dice.randrange(9), dice.randrange(5)) for _ in range(1000))
+    yield from (random_code() for _ in range(1000))
+
+
+def explained(paths):
+    """The notes of each file, in order."""
+    done = subprocess.run([EXPLAIN, *paths], stdout=subprocess.PIPE, stderr=subprocess.PIPE, check=False)
+    assert (done.returncode, done.stderr) == (1, b""), (done.returncode, done.stderr)
+    notes = []
+    for line in re.findall(r"^/ (.*)$", done.stdout.decode("ascii"), re.M):
+        if re.match(r"f\d+\.o: ", line):
+            notes.append([])
+        notes[-1].append(line)
+    return notes
+
+
+def checked(paths):
+    """What `-c` says of each file."""
+    done = subprocess.run([EXPLAIN, "-c", *paths], stdout=subprocess.PIPE, stderr=subprocess.PIPE, check=False)
+    assert (done.returncode, done.stdout) == (1, b""), done
+    lines = {path: [] for path in paths}
+    for line in done.stderr.decode("ascii").splitlines():
+        path, _, text = line.removeprefix("v7-explain: ").partition(": ")
+        lines[path].append(text)
+    return lines
+
+
+def inventoried(paths):
+    """The line of each file in an inventory."""
+    done = subprocess.run([EXPLAIN, "-l", *paths], stdout=subprocess.PIPE, stderr=subprocess.PIPE, check=False)
+    assert (done.returncode, done.stderr) == (0, b""), done
+    return done.stdout.decode("ascii").splitlines()
+
+
+def compare(path, data, found, expected):
+    if found != expected:
+        print(f"{path}, {data.hex()}:", *found, "and not", *expected, sep="\n  ")
+        sys.exit(1)
+
+
+def main():
+    datas = list(files())
+    paths = [f"f{number}.o" for number in range(len(datas))]
+    for path, data in zip(paths, datas):
+        with open(path, "wb") as file:
+            file.write(data)
+    found, refused, inventory = explained(paths), checked(paths), inventoried(paths)
+    assert len(found) == len(inventory) == len(datas), (len(found), len(inventory), len(datas))
+    count = 0
+    for path, data, notes, line in zip(paths, datas, found, inventory):
+        expected, why = lines_of(path, data), notes_of(data)[1]
+        count += len(expected)
+        compare(path, data, notes, expected)
+        compare(f"-c {path}", data, refused[path], why)
+        alone = subprocess.run([EXPLAIN, "-c", path], stderr=subprocess.DEVNULL, check=False).returncode
+        compare(f"-c {path}", data, [alone], [1 if why else 0])
+        compare(f"-l {path}", data, [line], [inventory_of(path, data)])
+    print(f"{count} notes of {len(datas)} files compared, and {len(datas)} lines of an inventory")
+
+
+if __name__ == "__main__":
+    EXPLAIN = os.path.abspath(sys.argv[1])
+    with tempfile.TemporaryDirectory() as folder:
+        os.chdir(folder)
+        main()

@@ -1,0 +1,418 @@
+#!/usr/bin/env python3
+"""Opens the page of the lesson in Chromium, from the disk, and compares what it shows, in every state, with what `v7-lesson`
+prints for the same objects, and the addresses with what `v7 ld` and `v7 nm` say. Then it looks at the layout in many sizes,
+takes the tour and the lessons by keys alone, and measures the stage with the sixteen compiled objects of tests/page/data and with the
+examples: layout and stage in Firefox too, if it is installed. The pictures of docs/pictures are compared with the page. Faults are
+planted (tests/page/page_planted.py), and have to be found.
+
+usage: python3 -m tests.page.page [-p|-s|-r] LESSON V7 EXPLAIN PAGE QUESTIONS FILE...     PAGE is the folder with the scripts and the styles; five FILEs
+       -p plants faults alone, -s measures the stage alone, and -r looks at the rest
+"""
+import os
+import random
+import re
+import statistics
+import sys
+import tempfile
+import traceback
+from itertools import permutations
+
+from tests.page import page_data
+from tests.page import page_pictures
+from tests.page.page_browser import Chromium, Firefox, Keys, firefox
+from tests.page.page_data import LAYOUTS, Tools, faults, made_objects, object_of, program_files, program_in_c, same, sixteen_objects, words_of
+from tests.page.page_layout import look_everywhere, look_in_firefox
+from tests.page.page_planted import plant_all
+from tests.page.page_stage import SIZES, WHOLE, first, response as click_times, stage
+from tests.page.page_use import use_all
+
+# what the page shows, as lines of text; a word is its segment and the texts of its parts
+READ = """
+const text = (element) => element ? element.textContent : "";
+const part = (element, name) => text(element.querySelector(`.${name}`));
+const all = (selector, of) => [...document.querySelectorAll(selector)].map(of);
+const one = (id) => { const element = document.getElementById(id); return element.checkVisibility() ? element.textContent : ""; };
+return {
+    words: all(".word:not(.spot):not(.cut-off)", (row) => ({
+        segment: row.id.split("-")[0], number: Number(row.id.split("-")[1]),
+        ...Object.fromEntries(["offset", "value", "pc", "place", "instruction", "bound-name", "sum", "of", "was", "tag"].map((name) => [name, part(row, name)])),
+        isInside: row.classList.contains("inside"), string: part(row, "string"),
+        target: part(row, "target") || (part(row, "instruction") || part(row, "string") || row.classList.contains("inside") ? "a number" : "") })),
+    bss: text(document.querySelector("#bss .size")),
+    names: all(".name:not(.cut)", (row) => [text(row.querySelector("b")), part(row, "state"), part(row, "address")]),
+    marks: all(".overwrote .was", text), sums: all(".overwrote .sum", text),
+    done: all(".undone .was", text), undone: all(".undone .sum", text),
+    table: one("table"), report: one("report"), step: one("status"), refused: document.querySelector("#note.refused") ? one("note") : "", note: one("note"),
+    hash: location.hash, focus: document.activeElement.id };
+"""
+
+class Page(Chromium):
+    """The page in Chromium; at the end it has made no errors and loaded no files."""
+
+    # the whole image is shown before it is read
+    shows_all = True
+
+    def read(self):
+        if self.shows_all:
+            self.run(WHOLE)
+        return self.run(READ)
+
+    def quit(self):
+        faults.extend(f"the console: {message}" for message in self.errors())
+        same("files that the page loads", self.run("return performance.getEntriesByType('resource').length"), 0)
+        super().quit()
+
+
+def lines_on(shown):
+    """What the page shows, as the lines that `v7-lesson` has: these have no place for a word that waits."""
+    places = ["" if word["target"].startswith("waits for ") else word["place"].replace("\u2212", "-") for word in shown["words"]]
+    lines = [words_of(f"{word['segment']} {word['offset']} {word['value']} {word['pc']} {word['target']} {place}")
+             + (f" / {word['instruction']}" if word["instruction"] else "") for word, place in zip(shown["words"], places)]
+    lines += [f"bss {shown['bss']}"] if shown["bss"] else []
+    lines += [f"name {name}: {known}" for name, known, _ in shown["names"]]
+    lines += [words_of(f"mark {mark}") for mark in shown["marks"]]
+    return lines if shown["words"] or shown["names"] else ["nothing"]
+
+
+def sum_of(text):
+    """The numbers of a computation, and whether it is right."""
+    numbers = [int(number, 8) for number in re.findall(r"[0-7]{6}", text)]
+    first, second, *minus, final = numbers
+    return second, (first + second - sum(minus)) % 65536 == final, final
+
+
+def compare_sums(shown, what):
+    """A binding adds the name's place to the word; putting it back subtracts the place."""
+    for text in shown["sums"]:
+        same(f"{what}: {text}", ("+" in text, sum_of(text)[1]), (True, True))
+    for text in shown["undone"]:
+        now, place, was = (int(number, 8) for number in re.findall(r"[0-7]{6}", text))
+        same(f"{what}: {text}", ("\u2212" in text, was), (True, (now - place) % 65536))
+
+
+def compare_state(tools, page, what, step, files):
+    shown = page.read()
+    same(what, lines_on(shown), tools.step(step, files))
+    compare_sums(shown, what)
+    return shown
+
+
+def compare_words(shown, linked, what):
+    """Each word with its address, its final value and the computation of this."""
+    header = linked["header"]
+    addresses = {line[9:]: line[:6] for line in linked["table"].splitlines() if line[7] not in "UC"}
+    data = {0o407: header[1], 0o410: (header[1] + 8191) // 8192 * 8192, 0o411: 0}[header[0]]
+    for word in shown["words"]:
+        place = f"{what}: {word['segment']} {word['number']}"
+        final = linked["segments"][word["segment"]][word["number"] // 2]
+        address = word["number"] + (data if word["segment"] == "data" else 0)
+        same(place, (word["offset"], word["value"]), (f"{address:06o}", f"{final:06o}"))
+        if not word["sum"]:
+            same(place, word["target"], "a number")
+            continue
+        added, is_right, end = sum_of(word["sum"])
+        same(f"{place}: {word['sum']}", (is_right, end), (True, final))
+        if word["of"] in addresses:
+            same(f"{place}: the address of {word['of']}", f"{added:06o}", addresses[word["of"]])
+
+
+def compare_addresses(tools, page, what, files):
+    """The four links of what is there; the last key puts the addresses away."""
+    for key, (layout, options) in zip("pnir", LAYOUTS.items()):
+        page.type(key)
+        shown, linked = page.read(), tools.link(options, files)
+        where = f"{what}, {layout}"
+        if "refused" in linked:
+            same(where, shown["refused"], f"refused: {linked['refused']}")
+            continue
+        compare_words(shown, linked, where)
+        same(f"{where}: table", shown["table"] + "\n", linked["table"] or "empty\n")
+        same(f"{where}: report", shown["report"].rstrip("\n") + "\n", linked["report"])
+        for name, _, address in shown["names"]:
+            line = [line for line in linked["table"].splitlines() if line[9:] == name and line[7].isupper()]
+            if address and line:
+                same(f"{where}: {name}", address, "no address" if line[0][7] in "UC" else line[0][:6])
+    page.type("a")
+
+
+def compare_tags(shown, what, marks, tag):
+    """The words with a tag are those of which the marks tell."""
+    parts = [mark.split() for mark in marks]
+    wanted = {(part[0], part[1]) for part in parts if part[0] in ("text", "data") and part[2] == "was"}
+    tagged = {(word["segment"], f"{word['number']:06o}") for word in shown["words"] if word["tag"] == tag}
+    same(f"{what}: {tag}", tagged, wanted)
+
+
+def walk(tools, page, files, chosen):
+    """All lists that begin with these: each is reached by a key, compared, and left by a key."""
+    here = [files[number] for number in chosen]
+    if chosen:
+        what = " ".join(os.path.basename(file) for file in here)
+        shown = compare_state(tools, page, f"add {what}", len(here), here)
+        compare_tags(shown, f"add {what}", shown["marks"], "bound")
+        compare_addresses(tools, page, what, here)
+    for number in range(len(files)):
+        if number not in chosen:
+            page.type(str(number + 1))
+            walk(tools, page, files, chosen + [number])
+            longer = here + [files[number]]
+            page.type("w")
+            what = f"withdraw {' '.join(os.path.basename(file) for file in longer)}"
+            shown = compare_state(tools, page, what, len(longer) + 1, longer)
+            wanted = [line.removeprefix("mark ") for line in tools.step(len(longer), longer) if line.startswith("mark ")]
+            same(f"{what}: put back", [words_of(line) for line in shown["done"]], wanted)
+            compare_tags(shown, what, shown["done"], "put back")
+
+
+def program(tools, files):
+    """Five objects in their order, with words that refer to each segment of their own."""
+    page = Page(tools.page_of(files, "program.html"))
+    for number in range(1, len(files) + 1):
+        here = files[:number]
+        what = " ".join(os.path.basename(file) for file in here)
+        page.type(str(number))
+        compare_state(tools, page, what, number, here)
+        compare_addresses(tools, page, what, here)
+    page.quit()
+
+
+def every_state(tools, page, files):
+    """Each list of five objects, reached by its address: the words, names and marks."""
+    orders = [order for count in range(1, 6) for order in permutations(range(5), count)]
+    for order in orders:
+        page.run("location.hash = arguments[0]", "objects=" + ",".join(str(number + 1) for number in order))
+        page.wait("return view.list.join() === arguments[0]", ",".join(map(str, order)))
+        compare_state(tools, page, f"the list {order}", len(order), [files[number] for number in order])
+    same("lists of five objects", len(orders), 325)
+
+
+def clicks(tools, page, files):
+    """The lesson by clicks: two objects, both taken back, steps back and forth, and an address that is kept."""
+    page.open("")
+    page.click("add1")
+    compare_state(tools, page, "click add1", 1, files[:1])
+    page.click("add2")
+    added = compare_state(tools, page, "click add2", 2, files[:2])
+    same("what is marked", [word["tag"] for word in added["words"]], ["", "", "", "bound", "", "new", "new"])
+    page.click("withdraw")
+    compare_state(tools, page, "click withdraw", 3, files[:2])
+    page.click("back")
+    page.wait("return location.hash === '#objects=1,2'")
+    page.click("back")
+    page.wait("return location.hash === '#objects=1'")
+    page.click("forth")
+    page.wait("return location.hash === '#objects=1,2'")
+    same("step forth", lines_on(page.read()), lines_on(added))
+    page.click("addresses")
+    page.click("layout1")
+    kept = page.read()
+    same("address", kept["hash"], "#objects=1,2&addresses=-n")
+    page.open(kept["hash"])
+    same("a page that is opened at a kept address", page.read(), {**kept, "focus": ""})
+    page.click("decimal")
+    same("decimal", [word["value"] for word in page.read()["words"]], [f"{int(word['value'], 8):\u2007>5}" for word in kept["words"]])
+
+
+def by_keyboard(tools, page, files):
+    """Without a pointer: the tabulator reaches each button, and Enter presses it."""
+    page.open("")
+    for _ in range(60):
+        page.type(Keys.TAB)
+        if page.read()["focus"] == "add2":
+            break
+    page.type(Keys.ENTER)
+    compare_state(tools, page, "Enter", 1, files[1:2])
+    page.type("1", Keys.ARROW_LEFT)
+    page.wait("return location.hash === '#objects=2'")
+    page.type(Keys.ARROW_RIGHT)
+    page.wait("return location.hash === '#objects=2,1'")
+    compare_state(tools, page, "1, and arrows", 2, [files[1], files[0]])
+
+
+def large(tools, files):
+    """Objects of thousands of words: the page has the words that changed, and folds others."""
+    words = [(number % 1000, 0o10 if number % 1500 == 700 else 0) for number in range(6000)]
+    given = []
+    for number in range(5):
+        path = os.path.join(tools.room, f"large{number}.o")
+        with open(path, "wb") as out:
+            out.write(object_of(words, [("_twice", 0o40, 0), (f"_f{number}", 0o42, 0)]))
+        given.append(path)
+    given[4] = files[1]
+    path = tools.page_of(given, "large.html")
+    same("bytes of large objects", os.path.getsize(path) <= 5_000_000, True)
+    page = Page(path)
+    page.type("1", "5")
+    shown = page.run(READ)
+    same("what changed", sorted(word["number"] for word in shown["words"] if word["tag"] == "bound"), [1400, 4400, 7400, 10400])
+    same("words that are not folded", 4 < len(shown["words"]) < 100, True)
+    page.quit()
+
+
+# what is clicked in which state, to see how long the page takes
+CLICKS = {"an object": ("objects=1,2,3,4", "#add5"), "Withdraw": ("objects=1,2,3,4,5", "#withdraw"), "Addresses": ("objects=1,2,3,4,5", "#addresses"),
+          "a word": ("objects=1,2,3,4,5", ".word.bound"), "a name": ("objects=1,2,3,4,5", ".name"), "a fold": ("objects=1,2,3,4,5", ".fold")}
+
+
+def response(page):
+    """Prints the processor's time for each click, with the two frames after it: the middle of five."""
+    times = []
+    for what, (state, selector) in CLICKS.items():
+        taken = []
+        for _ in range(5):
+            page.open("#" + state)
+            page.settle()
+            before = page.busy()
+            page.run("document.querySelector(arguments[0]).click()", selector)
+            page.settle()
+            taken.append(page.busy() - before)
+        times.append(f"{what} {statistics.median(taken):.0f}")
+    print("milliseconds of the processor for a click, with five objects of 500 words: " + ", ".join(times), flush=True)
+
+
+def five_of_500(tools):
+    """Each word of five objects of 500 words can be reached, in the image and in each link; what changed is never folded."""
+    given = made_objects(tools, 5, 500)
+    path = tools.page_of(given, "five.html")
+    same("bytes of five objects of 500 words", os.path.getsize(path) <= 5_000_000, True)
+    page = Page(path)
+    for order in ("1,2,3,4,5", "5,3,1", "2,4"):
+        here = [given[int(number) - 1] for number in order.split(",")]
+        page.open(f"#objects={order}")
+        marks = [mark.split() for mark in page.read()["marks"]]
+        changed = {(part[0], part[1]) for part in marks if part[0] in ("text", "data") and part[2] == "was"}
+        page.open(f"#objects={order}")
+        bound = {(word["segment"], word["offset"].split()[-1]) for word in page.run(READ)["words"] if word["tag"] == "bound"}
+        counted = page.run("return [...document.querySelectorAll('.more-line')].reduce((sum, row) => sum + Number(row.textContent.match(/and (\\d+) other/)?.[1] ?? 0), 0)")
+        same(f"{order}: what changed is shown, or counted", (bound <= changed, len(bound) + counted), (True, len(changed)))
+        page.run("document.querySelector('#rest .fold').click()")
+        same(f"{order}: a click on a fold shows the words of its object", len(page.run(READ)["words"]) >= 500, True)
+        same(f"{order}: folds that are left", page.run(WHOLE), 0)
+        shown = compare_state(tools, page, f"five objects, {order}", len(here), here)
+        same(f"{order}: words", len(shown["words"]), 500 * len(here))
+        compare_addresses(tools, page, f"five objects, {order}", here)
+    response(page)
+    page.quit()
+    return path
+
+
+def full(tools, files):
+    """A link of a full segment is refused, with the text that the programs have."""
+    page = Page(tools.page_of([page_data.full(tools, files), files[3]], "full.html"))
+    page.shows_all = False
+    page.type("1", "2")
+    compare_addresses(tools, page, "full.o l.o", [os.path.join(tools.room, "full.o"), files[3]])
+    page.quit()
+
+
+def stages(tools, default, files, compiled, many):
+    """The stage of four pages, in both browsers. Of all steps that bind words nine of ten are whole in view."""
+    given, seed = program_in_c(files), random.randrange(10_000)
+    made = made_objects(tools, 8, 60, seed)
+    pages = ((default, files, "the default page"), (tools.page_of(given, "stage.html"), given, "a program in C"), (compiled, many, "sixteen objects"),
+             (tools.page_of(made, "made.html"), made, f"eight objects of seed {seed}"))
+    page = Page()
+    counts = [stage(tools, page, path, given, LAYOUTS, same, what) for path, given, what in pages]
+    steps, whole = (sum(both) for both in zip(*counts))
+    print(f"{whole} of {steps} steps are whole in view at 1366 x 768", flush=True)
+    same("steps whole in view, nine of ten", 10 * whole >= 9 * steps, True)
+    page.load(compiled)
+    click_times(page, first(len(many)))
+    page.quit()
+    if not firefox():
+        print("not measured in Firefox, as it is not installed: Debian's package is firefox-esr")
+        return
+    for zoom, sizes in ((1, SIZES[:-1]), (2, SIZES[-1:])):
+        page = Firefox(zoom)
+        try:
+            for path, given, what in pages:
+                stage(tools, page, path, given, LAYOUTS, same, what, sizes)
+            page.load(compiled)
+            click_times(page, first(len(many)))
+        finally:
+            page.quit()
+
+
+def layouts(tools, default, files, five, compiled):
+    """The layout of four pages, in all sizes and in both browsers."""
+    program_page = tools.page_of(files, "program.html")
+    pages = {"the default page": default, "five objects": program_page, "five of 500 words": five, "sixteen objects": compiled}
+    page = Page()
+    counts = look_everywhere(page, pages, faults)
+    page.quit()
+    print("looked at in Chromium: " + ", ".join(f"{count} {name}" for name, count in sorted(counts.items())), flush=True)
+    same("nothing was counted of", [name for name, count in counts.items() if count == 0], [])
+    if firefox():
+        counts = look_in_firefox(pages, faults)
+        print("looked at in Firefox: " + ", ".join(f"{count} {name}" for name, count in sorted(counts.items())), flush=True)
+        same("nothing was counted in Firefox of", [name for name, count in counts.items() if count == 0], [])
+
+
+def planted(tools, default, questions, files, compiled, many):
+    """Each fault that is planted is found."""
+    page = Page(default)
+    count = plant_all(tools, page, default, questions, files, compiled, many, LAYOUTS, same)
+    page.quit()
+    print(f"{count} faults were planted", flush=True)
+
+
+def compare_states(tools, files, default):
+    """Each state of five objects, and of some larger ones."""
+    page = Page(tools.page_of(files[:4]))
+    clicks(tools, page, files)
+    by_keyboard(tools, page, files)
+    page.open("")
+    walk(tools, page, files[:4], [])
+    page.quit()
+    page = Page(default)
+    every_state(tools, page, files)
+    page_pictures.compare(page, same)
+    page.quit()
+    program(tools, program_files(files))
+    large(tools, files)
+    full(tools, files)
+    print(f"{page_data.compared} things of states were compared", flush=True)
+
+
+def check(tools, only, questions, files):
+    """All that is looked at, or a part of it."""
+    default = tools.page_of(files, "default.html", questions)
+    many = sixteen_objects()
+    compiled = tools.page_of(many, "sixteen.html")
+    print(f"bytes of sixteen objects: {os.path.getsize(compiled)}")
+    if only in ("", "-p"):
+        planted(tools, default, questions, files, compiled, many)
+    if only in ("", "-s"):
+        stages(tools, default, files, compiled, many)
+    if only in ("", "-r"):
+        check_rest(tools, default, files, compiled)
+
+
+def check_rest(tools, default, files, compiled):
+    """The page's use, all states, and the layout."""
+    given = program_in_c(files)
+    program_page = tools.page_of(given, "course.html", os.path.join(os.path.dirname(given[0]), "lessons.txt"))
+    page = Page(default)
+    use_all(tools, page, default, program_page, compiled, [(default, files), (program_page, given), (compiled, sixteen_objects())], same)
+    page.quit()
+    compare_states(tools, files, default)
+    layouts(tools, default, program_files(files), five_of_500(tools), compiled)
+
+
+def main():
+    only = sys.argv[1] if sys.argv[1] in ("-p", "-s", "-r") else ""
+    lesson, v7, explain, page_folder, questions, *files = sys.argv[2 if only else 1:]
+    with tempfile.TemporaryDirectory() as room:
+        try:
+            check(Tools(lesson, v7, explain, page_folder, room), only, questions, files)
+        except (Exception, KeyboardInterrupt) as error:  # the faults that were found are printed all the same
+            faults.append(f"{type(error).__name__}: {error}")
+            traceback.print_exc()
+    print(f"{page_data.compared} things were compared")
+    for fault in faults[:20]:
+        print(fault)
+    return 1 if faults else 0
+
+
+if __name__ == "__main__":
+    sys.exit(main())

@@ -1,0 +1,273 @@
+"""The page in a browser: in Chromium by python3-selenium, and in Firefox by its own remote protocol, Marionette."""
+import base64
+import json
+import os
+import shutil
+import socket
+import subprocess
+import sys
+import tempfile
+import time
+
+SYSTEM = "/usr/bin/python3"
+PACKAGES = "Debian's packages are chromium, chromium-driver and python3-selenium"
+
+try:
+    from selenium import webdriver
+    from selenium.common.exceptions import SessionNotCreatedException
+    from selenium.webdriver.chrome.service import Service
+    from selenium.webdriver.common.action_chains import ActionChains
+    from selenium.webdriver.common.keys import Keys
+except ImportError:
+    if os.path.exists(SYSTEM) and os.path.realpath(sys.executable) != os.path.realpath(SYSTEM):
+        os.execv(SYSTEM, [SYSTEM, "-m", sys.modules["__main__"].__spec__.name, *sys.argv[1:]])  # the system's Python has the package, if another one comes first
+    sys.exit(f"not run, as python3-selenium is missing; {PACKAGES}")
+
+if not all(os.path.exists(path) for path in ("/usr/bin/chromium", "/usr/bin/chromedriver")):
+    sys.exit(f"not run, as chromium or chromedriver is missing; {PACKAGES}")
+
+# how long a browser may take, in seconds, where the machine does other work too
+PATIENCE = 300
+# two frames later the page has been laid out and drawn
+SETTLED = "const done = arguments[arguments.length - 1]; requestAnimationFrame(() => requestAnimationFrame(() => done()));"
+
+
+def wait_for(page, script, *words):
+    """Waits until a script gives true."""
+    end = time.monotonic() + PATIENCE
+    while not page.run(script, *words):
+        if time.monotonic() > end:
+            raise TimeoutError(f"{page.name} does not come to: {script} {words}")
+        time.sleep(0.02)
+
+
+class Chromium:
+    name = "Chromium"
+    # it tells how much of the processor the page has taken
+    counts_processor = True
+
+    def __init__(self, path="", width=1366, height=768, text=16):
+        """`text` is the size of text that the browser is set to, in pixels."""
+        options = webdriver.ChromeOptions()
+        options.add_experimental_option("prefs", {"webkit": {"webprefs": {"default_font_size": text}}})
+        for word in ("--headless=new", "--no-sandbox", "--disable-dev-shm-usage", "--disable-gpu", "--disable-ipc-flooding-protection"):
+            options.add_argument(word)
+        options.set_capability("goog:loggingPrefs", {"browser": "ALL"})
+        self.driver = self.begin(options)
+        self.driver.set_script_timeout(PATIENCE)
+        self.driver.execute_cdp_cmd("Performance.enable", {"timeDomain": "threadTicks"})
+        self.size(width, height)
+        if path:
+            self.load(path)
+
+    def begin(self, options):
+        """Starts the browser. The driver gives up after a minute, which a busy machine can need for other work: then once more."""
+        end = time.monotonic() + PATIENCE
+        while True:
+            try:
+                return webdriver.Chrome(service=Service("/usr/bin/chromedriver"), options=options)
+            except SessionNotCreatedException:
+                if time.monotonic() > end:
+                    raise
+
+    def load(self, path):
+        self.url = "file://" + path
+        self.open("")
+
+    def open(self, address):
+        self.driver.get("about:blank")
+        self.driver.get(self.url + address)
+
+    def size(self, width, height, scale=1):
+        metrics = {"width": width, "height": height, "deviceScaleFactor": scale, "mobile": False}
+        self.driver.execute_cdp_cmd("Emulation.setDeviceMetricsOverride", metrics)
+        self.settle()
+
+    def before_loading(self, script):
+        """Runs a script in each page before its own ones; gives what ends this."""
+        return self.driver.execute_cdp_cmd("Page.addScriptToEvaluateOnNewDocument", {"source": script})["identifier"]
+
+    def as_before(self, identifier):
+        self.driver.execute_cdp_cmd("Page.removeScriptToEvaluateOnNewDocument", {"identifier": identifier})
+
+    def media(self, medium="", scheme="light"):
+        features = [{"name": "prefers-color-scheme", "value": scheme}]
+        self.driver.execute_cdp_cmd("Emulation.setEmulatedMedia", {"media": medium, "features": features})
+        self.settle()
+
+    def run(self, script, *words):
+        return self.driver.execute_script(script, *words)
+
+    def wait(self, script, *words):
+        wait_for(self, script, *words)
+
+    def settle(self):
+        self.driver.execute_async_script(SETTLED)
+
+    def type(self, *keys):
+        for key in keys:
+            ActionChains(self.driver, duration=0).send_keys(key).perform()
+
+    def click(self, name):
+        self.driver.find_element("id", name).click()
+
+    def press_at(self, x, y):
+        """Presses the mouse at a spot of the window."""
+        for kind in ("mousePressed", "mouseReleased"):
+            self.driver.execute_cdp_cmd("Input.dispatchMouseEvent", {"type": kind, "x": x, "y": y, "button": "left", "clickCount": 1})
+
+    def back(self):
+        self.driver.back()
+
+    def forward(self):
+        self.driver.forward()
+
+    def picture(self, path):
+        self.driver.save_screenshot(path)
+
+    def paper(self):
+        """The page as it is printed, as PDF."""
+        printed = self.driver.execute_cdp_cmd("Page.printToPDF", {"preferCSSPageSize": True, "printBackground": True})
+        return base64.b64decode(printed["data"])
+
+    def roles(self):
+        """The accessibility tree, as pairs of a role and a name."""
+        nodes = self.driver.execute_cdp_cmd("Accessibility.getFullAXTree", {})["nodes"]
+        return [(node.get("role", {}).get("value", ""), node.get("name", {}).get("value", "")) for node in nodes if not node["ignored"]]
+
+    def live(self):
+        """What the accessibility tree has in the place that is announced."""
+        nodes = {node["nodeId"]: node for node in self.driver.execute_cdp_cmd("Accessibility.getFullAXTree", {})["nodes"]}
+        status = next(node for node in nodes.values() if node.get("role", {}).get("value") == "status")
+        texts, waiting = [], [status]
+        while waiting:
+            node = waiting.pop()
+            waiting += [nodes[child] for child in reversed(node.get("childIds", [])) if child in nodes]
+            if node.get("role", {}).get("value") == "StaticText":
+                texts.append(node["name"]["value"])
+        return " ".join(" ".join(texts).split())
+
+    def busy(self):
+        """How many milliseconds of the processor the page has taken, with its layout and its drawing."""
+        metrics = self.driver.execute_cdp_cmd("Performance.getMetrics", {})["metrics"]
+        return 1000 * next(metric["value"] for metric in metrics if metric["name"] == "TaskDuration")
+
+    def errors(self):
+        return [entry["message"] for entry in self.driver.get_log("browser") if entry["level"] == "SEVERE"]
+
+    def quit(self):
+        self.driver.quit()
+
+
+def firefox():
+    """Where Firefox is installed, if it is."""
+    return shutil.which("firefox-esr") or shutil.which("firefox")
+
+
+class Firefox:
+    """The same for Firefox, as far as it is needed. Its window is at least 500 pixels wide, so the page is a frame in it."""
+
+    name = "Firefox"
+    counts_processor = False
+
+    def __init__(self, zoom=1):
+        self.home = tempfile.mkdtemp()
+        with socket.socket() as free:
+            free.bind(("127.0.0.1", 0))
+            port = free.getsockname()[1]
+        with open(os.path.join(self.home, "user.js"), "w", encoding="ascii") as out:
+            out.write(f'user_pref("marionette.port", {port});\nuser_pref("layout.css.devPixelsPerPx", "{zoom}");\n')
+            out.write('user_pref("browser.shell.checkDefaultBrowser", false);\nuser_pref("security.fileuri.strict_origin_policy", false);\n')
+        self.window = self.framed = (0, 0)
+        words = [firefox(), "--headless", "--marionette", "--no-remote", "--profile", self.home]
+        self.process = subprocess.Popen(words, stdout=subprocess.DEVNULL, stderr=subprocess.DEVNULL, env={**os.environ, "HOME": self.home})
+        self.socket, self.rest, self.number = self.reach(port), b"", 0
+        self.receive()
+        self.send("WebDriver:NewSession", {"timeouts": {"script": 1000 * PATIENCE}})
+
+    def reach(self, port):
+        end = time.monotonic() + PATIENCE
+        while time.monotonic() < end and self.process.poll() is None:
+            try:
+                return socket.create_connection(("127.0.0.1", port))
+            except OSError:
+                time.sleep(0.2)
+        raise OSError("Firefox does not answer")
+
+    def receive(self):
+        while b":" not in self.rest:
+            self.rest += self.socket.recv(65536)
+        count, _, self.rest = self.rest.partition(b":")
+        while len(self.rest) < int(count):
+            self.rest += self.socket.recv(65536)
+        text, self.rest = self.rest[:int(count)], self.rest[int(count):]
+        return json.loads(text)
+
+    def send(self, command, words):
+        self.number += 1
+        text = json.dumps([0, self.number, command, words]).encode()
+        self.socket.sendall(str(len(text)).encode() + b":" + text)
+        _, _, fault, result = self.receive()
+        if fault:
+            raise RuntimeError(f"{command}: {fault['error']}: {fault['message']}")
+        return result
+
+    def load(self, path):
+        self.url = "file://" + path
+
+    def show(self, width, height):
+        """Opens the page in a window, or a frame, that is so wide."""
+        self.window = width, height
+        self.open("")
+
+    def size(self, width, height, scale=1):
+        """The size of the frame that the next page is opened in. A dot is what `zoom` of the browser makes it."""
+        self.window = width, height
+
+    def open(self, address):
+        width, height = self.window
+        path = os.path.join(self.home, "frame.html")
+        with open(path, "w", encoding="ascii") as out:
+            out.write(f'<body style="margin: 0"><iframe src="{self.url}{address}" style="width: {width}px; height: {height}px; border: 0"></iframe>')
+        if self.window != self.framed:
+            self.send("WebDriver:SetWindowRect", {"width": max(width + 40, 500), "height": height + 120})
+            self.framed = self.window
+        self.send("WebDriver:Navigate", {"url": "file://" + path})
+        self.send("WebDriver:SwitchToFrame", {"id": 0})
+        if self.run("window.focus(); return innerWidth") != width:
+            raise RuntimeError(f"the frame is not {width} wide")
+
+    def type(self, *keys):
+        acts = [{"type": kind, "value": key} for key in keys for kind in ("keyDown", "keyUp")]
+        self.send("WebDriver:PerformActions", {"actions": [{"type": "key", "id": "keys", "actions": acts}]})
+
+    def press_at(self, x, y):
+        """Presses the mouse at a spot of the page."""
+        move = {"type": "pointerMove", "x": round(x), "y": round(y), "duration": 0, "origin": "viewport"}
+        acts = [move, {"type": "pointerDown", "button": 0}, {"type": "pointerUp", "button": 0}]
+        self.send("WebDriver:PerformActions", {"actions": [{"type": "pointer", "id": "mouse", "parameters": {"pointerType": "mouse"}, "actions": acts}]})
+
+    def busy(self):
+        """The clock, in milliseconds."""
+        return 1000 * time.monotonic()
+
+    def run(self, script, *words):
+        """Runs a script where the page's own scripts run; Marionette would run it where it sees none of their variables."""
+        text = f"JSON.stringify((function () {{ {script}\n }}).apply(null, {json.dumps(words)}) ?? null)"
+        value = self.send("WebDriver:ExecuteScript", {"script": "return window.eval(arguments[0]);", "args": [text]})["value"]
+        return json.loads(value)
+
+    def wait(self, script, *words):
+        wait_for(self, script, *words)
+
+    def settle(self):
+        self.send("WebDriver:ExecuteAsyncScript", {"script": SETTLED, "args": []})
+
+    def picture(self, path):
+        with open(path, "wb") as out:
+            out.write(base64.b64decode(self.send("WebDriver:TakeScreenshot", {"full": False})["value"]))
+
+    def quit(self):
+        self.process.terminate()
+        self.process.wait()
+        shutil.rmtree(self.home, ignore_errors=True)

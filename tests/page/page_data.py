@@ -1,0 +1,503 @@
+#!/usr/bin/env python3
+"""Compares the data of a page, which no browser has to show, with the programs: in each state its words, names and marks with what
+`v7-lesson` prints; its links with what `v7 ld` writes and `v7 nm` prints; the places that words mean with what both say; what it has of
+each object with the object and the listing beside it; and the answers of its lessons. Wrong files of questions have to be refused.
+
+usage: python3 -m tests.page.page_data LESSON V7 EXPLAIN PAGE QUESTIONS FILE...     PAGE is the folder with the scripts and the styles; five FILEs
+"""
+import os
+import re
+import struct
+import subprocess
+import sys
+import tempfile
+from itertools import permutations
+
+from tests.page.page_lessons import bad_questions, lesson_answers, questions_of_all_kinds, remarks, states_in
+from tests.page.page_objects import FILES as COMPILED, PLACE, object_like_c, object_of_compiled
+
+LAYOUTS = {"plain": [], "-n": ["-n"], "-i": ["-i"], "-r": ["-r"]}
+WORD = 0o200000
+PARTS = ("text", "data")
+SEGMENTS = ("a number", "text", "data", "bss")
+KINDS = ("undefined", "common", "text", "data", "bss", "number")
+# how many numbers of a state a name, a group of words, a local symbol and a word have
+NAME, GROUP, LOCAL, PLACES = 2 + 2 * 4, 3 + 2 * 4, 4, 1 + 4
+PLACE_KINDS = ("same", "nowhere", "text", "data", "bss", "text-end", "data-end", "bss-end", "text-beyond", "data-beyond", "bss-beyond", "common", "outside")
+
+faults = []
+compared = 0
+
+
+def same(what, shown, wanted):
+    global compared
+    compared += 1
+    if shown != wanted:
+        faults.append(f"{what}\n  the page: {shown}\n  wanted:   {wanted}")
+
+
+def words_of(line):
+    return " ".join(line.split())
+
+
+class Tools:
+    """The programs that the page is compared with."""
+
+    def __init__(self, lesson, v7, explain, page, room):
+        self.lesson, self.v7, self.explain, self.page, self.room = (os.path.abspath(path) for path in (lesson, v7, explain, page, room))
+
+    def page_of(self, files, name="lesson.html", questions=""):
+        path = os.path.join(self.room, name)
+        with open(path, "wb") as out:
+            subprocess.run([self.lesson, "-p", self.page, *(["-q", questions] if questions else []), *files], stdout=out, check=True)
+        return path
+
+    def steps(self, files):
+        """The lines of all steps, each without its first."""
+        done = subprocess.run([self.lesson, *files], capture_output=True, text=True, check=True)
+        steps = re.split(r"^(?:add|withdraw) .*\n", done.stdout, flags=re.M)[1:]
+        return [[words_of(line) for line in step.splitlines()] for step in steps]
+
+    def step(self, number, files):
+        """The lines of a step, after the first."""
+        return self.steps(files)[number - 1] if files else ["nothing"]
+
+    def listing(self, file):
+        """A file as v7-explain lists it."""
+        return subprocess.run([self.explain, file], capture_output=True, text=True).stdout
+
+    def map_of(self, files):
+        return subprocess.run([self.explain, "-m", *files], capture_output=True, text=True).stdout
+
+    def calls(self, files):
+        """The places of the calls that the map of a link lists: it has those of their operands, one word after them."""
+        return [int(offset, 8) - 2 for offset in re.findall(r"text ([0-7]{6}) .*: jsr pc,", self.map_of(files))]
+
+    def uses(self, files):
+        """For each name how many words refer to it, by the map of a link."""
+        uses, name = {}, ""
+        for line in self.map_of(files).partition("\nExternals\n")[2].splitlines():
+            found = re.match(r"[0-7 ]{6} [A-Za-z] (\S+)$", line)
+            name = found[1] if found else name
+            used = re.match(r"    (?:used in    )? +\S+ \((\d+)\)$", line) if "common in" not in line else None
+            uses[name] = uses.get(name, 0) + (int(used[1]) if used else 0)
+        return uses
+
+    def nm(self, file):
+        return subprocess.run([self.v7, "nm", "-p", file], capture_output=True, text=True, check=True).stdout
+
+    def link(self, options, files):
+        """The words and the header of a link, its table as `nm -p` has it, its report; or why it is refused."""
+        out = os.path.join(self.room, "linked")
+        done = subprocess.run([self.v7, "ld", *options, "-o", out, *files], capture_output=True, text=True)
+        if done.returncode == 2:
+            return {"refused": done.stderr.strip().split(": ", 1)[1]}
+        with open(out, "rb") as file:
+            data = file.read()
+        header = struct.unpack_from("<8H", data)
+        text = struct.unpack_from(f"<{header[1] // 2}H", data, 16)
+        words = struct.unpack_from(f"<{header[2] // 2}H", data, 16 + header[1])
+        return {"header": header, "segments": {"text": text, "data": words}, "table": self.nm(out), "report": done.stdout or "nothing to report\n"}
+
+
+# ---- what a page holds
+def pairs(flat, count=2):
+    return [flat[at:at + count] for at in range(0, len(flat), count)]
+
+
+def target_of(number, names):
+    """What a word refers to: the number of a segment, or -1 and a name; and whether relative to the pc."""
+    half = number // 2
+    return (half, "", number % 2 == 1) if half < 4 else (-1, names[half - 4], number % 2 == 1)
+
+
+def own_target(target):
+    """The same of a word of an object, where a name is written out."""
+    return (-1, target[1:], target[0] == "p") if isinstance(target, str) else target_of(target, [])
+
+
+class State:
+    """A state of a page, of which the data have the difference from the state before it."""
+
+    def __init__(self, objects, record, before):
+        self.objects, self.list, self.record = objects, record["list"], record
+        self.fronts = [*before.fronts, record["front"]] if before else []
+        self.names = [*(before.names if before else []), *record["newNames"]]
+        for key in ("names", "groups", "locals", "places"):
+            changed, added = record[key]
+            numbers = [*(getattr(before, f"{key}_now") if before else []), *added]
+            for at, number in pairs(changed):
+                numbers[at] = number
+            setattr(self, f"{key}_now", numbers)
+        self.words = self.words_in_order()
+
+    def words_in_order(self):
+        """Each word of the image: its segment and offset, and what the page has of it."""
+        found, group_start, reference_start = {}, 0, 0
+        for number, front in zip(self.list, self.fronts):
+            one, place = self.objects[number], 0
+            for which, part in enumerate(PARTS):
+                references = {index: (group, meant) for index, group, meant in pairs(one[f"{part}References"], 3)}
+                for index, value in enumerate(one[part]):
+                    word = {"object": number, "index": index, "given": value, "value": value, "meant": value, "target": (0, "", False)}
+                    if index in references:
+                        group, meant = references[index]
+                        numbers = self.groups_now[group_start + GROUP * group:][:GROUP]
+                        places = self.places_now[reference_start + PLACES * place:][:PLACES]
+                        word = {**word, "value": (value + numbers[0]) % WORD, "meant": (meant + numbers[1]) % WORD, "target": target_of(numbers[2], self.names),
+                                "sums": pairs(numbers[3:]), "places": places}
+                        place += 1
+                    found[part, front[which] + 2 * index] = word
+            group_start += GROUP * (len(one["groups"]) // 2)
+            reference_start += PLACES * place
+        return {key: found[key] for key in sorted(found, key=lambda key: (PARTS.index(key[0]), key[1]))}
+
+    def size(self, segment):
+        sizes = self.record["sizes"]
+        return sizes[2] if segment == 3 else 2 * sizes[segment - 1] if segment else 0
+
+    def symbol(self, index, layout):
+        """The value and the letter of a name in a link."""
+        value, letter = self.names_now[NAME * index + 2 + 2 * layout:][:2]
+        return value, chr(letter)
+
+    def lines(self):
+        """The state as `v7-lesson` prints it."""
+        lines = [self.line(*key, word) for key, word in self.words.items()]
+        lines += [f"bss {self.size(3)} bytes"] if self.size(3) else []
+        lines += [f"name {name}: {known_as(*self.names_now[NAME * i:NAME * i + 2])}" for i, name in enumerate(self.names)]
+        lines += [f"name {name}: multiply defined" for name in self.record["multiples"]]
+        lines += [mark_line(mark) for mark in self.record["marks"]]
+        return lines or ["nothing"]
+
+    def line(self, part, offset, word):
+        kind, name, pc = word["target"]
+        said = f"waits for {name}" if kind < 0 else SEGMENTS[kind] + self.place_text(kind, word["meant"], pc)
+        instruction = self.objects[word["object"]]["instructions"]["text"].get(str(word["index"])) if part == "text" else None
+        return words_of(f"{part} {offset:06o} {word['value']:06o} {'pc' if pc else ''} {said}") + (f" / {instruction}" if instruction else "")
+
+    def place_text(self, kind, meant, pc):
+        if kind == 0:
+            return f" {meant:06o}" if pc else ""
+        return f" - {WORD - meant:o}" if meant >= WORD // 2 and meant > self.size(kind) else f" {meant:06o}"
+
+    def table(self, layout):
+        """The symbol table of a link, as `nm -p` prints it."""
+        owned = [line for number in self.list for line in self.objects[number]["symbols"] if line[7] == line[7].lower()]
+        lines = [f"{self.locals_now[LOCAL * i + layout]:06o} {line[7:]}" for i, line in enumerate(owned)]
+        for i, name in enumerate(self.names):
+            value, letter = self.symbol(i, layout)
+            lines.append(f"{'      ' if letter == 'U' else f'{value:06o}'} {letter} {name}")
+        return "".join(f"{line}\n" for line in lines)
+
+
+def known_as(kind, number):
+    name = KINDS[kind]
+    return name if name == "undefined" else f"a common of {number} bytes" if name == "common" else f"{'the number' if name == 'number' else name} {number:06o}"
+
+
+def mark_line(mark):
+    if mark[0] == "name":
+        return f"mark {mark[1]} was {known_as(*mark[2:4])}"
+    kind, name, pc = own_target(mark[3])
+    return words_of(f"mark {mark[0]} {mark[1]:06o} was {mark[2]:06o} {'pc' if pc else ''} {f'waits for {name}' if kind < 0 else SEGMENTS[kind]}")
+
+
+def states_of(data):
+    """The states of a page, by their lists."""
+    found = {}
+    for record in data["states"]:
+        if "refused" not in record:
+            key = tuple(record["list"])
+            found[key] = State(data["objects"], record, found.get(key[:-1]))
+    return found
+
+
+# ---- what it is compared with
+def sizes_of(lines):
+    """The sizes of the merged segments in bytes, from the lines of `v7-lesson`."""
+    words = {part: [line for line in lines if line.startswith(part + " ")] for part in PARTS}
+    bss = [line for line in lines if line.startswith("bss ")]
+    return {"text": 2 * len(words["text"]), "data": 2 * len(words["data"]), "bss": int(bss[0].split()[1]) if bss else 0}
+
+
+def place_in_image(line, sizes):
+    """The place that the word of a line of `v7-lesson` means in the image: its kind and its offset."""
+    found = re.match(r"(text|data) ([0-7]{6}) ([0-7]{6}) (pc )?(text|data|bss|a number|waits for \S+)", line)
+    value = int(found[3], 8)
+    meant = (value + int(found[2], 8) + 2) % WORD if found[4] else value
+    segment = found[5]
+    if segment not in sizes:
+        return ("outside", meant) if found[4] and segment == "a number" else ("nowhere", 0)
+    if meant < sizes[segment]:
+        return segment, meant if segment == "bss" else meant - meant % 2
+    return f"{segment}-end" if meant == sizes[segment] else f"{segment}-beyond", meant
+
+
+def place_in_link(linked, base, is_text, meant):
+    """The place at an address of a link."""
+    magic, text, data, bss = linked["header"][:4]
+    ends = {"text": (0, text), "data": (base, base + data), "bss": (base + data + linked["commons"], base + data + bss)}
+    is_here = {"text": is_text or magic != 0o411, "data": not (magic == 0o411 and is_text), "bss": not (magic == 0o411 and is_text)}
+    for part, (start, end) in ends.items():
+        if is_here[part] and start <= meant < end:
+            return part, meant - start if part == "bss" else (meant - start) // 2 * 2
+    if is_here["bss"] and base + data <= meant < base + data + linked["commons"]:
+        return "common", meant
+    for part, (start, end) in ends.items():
+        if (part == "text") == is_text and meant == end and (part == "text" or start < end):
+            return f"{part}-end", meant
+    return "outside", meant
+
+
+def compare_link(state, layout, name, linked, what):
+    """The words of a link, its table and report, and the places that its words mean."""
+    record = state.record["links"][layout]
+    if "refused" in linked:
+        return same(f"{what}: refused", record.get("refused"), linked["refused"])
+    header = linked["header"]
+    base = {0o407: header[1], 0o410: (header[1] + 8191) // 8192 * 8192, 0o411: 0}[header[0]]
+    same(f"{what}: table", state.table(layout), linked["table"])
+    same(f"{what}: report", (record["report"] or "nothing to report").rstrip("\n") + "\n", linked["report"])
+    bases = record["bases"]
+    same(f"{what}: where segments begin and end", [*bases[:3], bases[4]], [header[1], base, base + header[2], base + header[2] + header[3]])
+    linked["commons"] = bases[3] - bases[2]
+    laid = sum(state.names_now[NAME * i + 1] + state.names_now[NAME * i + 1] % 2 for i in range(len(state.names)) if state.names_now[NAME * i] == 1)
+    same(f"{what}: bytes of commons", linked["commons"], 0 if name == "-r" else laid)
+    letters = {line[9:]: line[7] for line in linked["table"].splitlines() if line[7].isupper()}
+    for (part, offset), word in state.words.items():
+        final = linked["segments"][part][offset // 2]
+        plus, minus = word["sums"][layout] if "sums" in word else (0, 0)
+        same(f"{what}: {part} {offset:o}", (word["given"] + plus - minus) % WORD, final)
+        if "places" not in word:
+            continue
+        kind, of, pc = word["target"]
+        is_text = kind == 1 or (kind == 0 and pc) or (kind < 0 and letters.get(of) == "T")
+        has_place = kind > 0 or (kind == 0 and pc) or (kind < 0 and letters.get(of) not in ("U", "C"))
+        meant = (final + offset + (base if part == "data" else 0) + 2) % WORD if pc else final
+        wanted = place_in_link(linked, base, is_text, meant) if has_place else ("nowhere", 0)
+        same(f"{what}: {part} {offset:o} means", place_said(word["places"], layout), wanted)
+    return None
+
+
+def place_said(places, layout):
+    """The place that the page has for a word, in the image, or in a link."""
+    number = places[0] if layout < 0 or not places[1 + layout] else places[1 + layout]
+    kind = PLACE_KINDS[1:][number // WORD] if number < WORD else PLACE_KINDS[number // WORD + 1]
+    return kind, 0 if kind == "nowhere" else number % WORD
+
+
+def compare_states(tools, files, data, what):
+    """All states of a page; the links of those with at most two objects, and of the others those in the order of the files."""
+    states, seen = states_of(data), set()
+    for order in [key for key in states if not any(key == other[:-1] for other in states)]:
+        steps = tools.steps([files[number] for number in order])
+        for count in range(1, len(order) + 1):
+            key = order[:count]
+            if key in seen:
+                continue
+            seen.add(key)
+            state, lines, here = states[key], steps[count - 1], [files[number] for number in key]
+            same(f"{what}, {key}: the image", state.lines(), lines)
+            sizes = sizes_of(lines)
+            in_image = {(line.split()[0], int(line.split()[1], 8)): place_in_image(line, sizes) for line in lines if line.startswith(PARTS)}
+            for place, word in state.words.items():
+                if "places" in word:
+                    same(f"{what}, {key}: {place} means", place_said(word["places"], -1), in_image.get(place))
+            for layout, (name, options) in enumerate(LAYOUTS.items() if count <= 2 or list(key) == sorted(key) else ()):
+                compare_link(state, layout, name, tools.link(options, here), f"{what}, {key}, {name}")
+    same(f"states of {what}", len(seen), len([key for key in states if key]))
+
+
+# ---- objects
+def lines_of_listing(path, start, part, words):
+    """The source that a listing has beside the words of a segment, by their indices."""
+    found, here = {}, ""
+    for line in open(path, encoding="utf-8").read().splitlines() if os.path.exists(path) else []:
+        if line.strip() in (*PARTS, "symbols"):
+            here = line.strip()
+        fields = line.split(None, 3)
+        if here == part and len(fields) == 4 and all(re.fullmatch("[0-7]+", field) for field in fields[:2]):
+            index = (int(fields[0], 8) - start) // 2
+            if 0 <= index < len(words) and words[index] == int(fields[1], 8):
+                found[str(index)] = fields[3].strip()
+    return found
+
+
+def texts_of(words, relocs):
+    """The texts of data, as the page has them: the index after each, how many words it has, and its bytes."""
+    is_byte = lambda byte: byte in (0, 9, 10) or 32 <= byte < 127
+    found, length = [], 0
+    for index, (word, reloc) in enumerate(zip([*words, 0], [*relocs, 0])):
+        if index < len(words) and reloc & 0o17 == 0 and word % 256 >= 9 and is_byte(word % 256) and is_byte(word // 256):
+            length += 1
+            continue
+        if length >= 2:
+            found += [index, length, struct.pack(f"<{length}H", *words[index - length:index]).decode("latin-1")]
+        length = 0
+    return found
+
+
+def compare_objects(tools, files, data):
+    """What the page has of each object is what its file and the listing beside it have."""
+    for path, one in zip(files, data["objects"]):
+        with open(path, "rb") as file:
+            stored = file.read()
+        sizes = struct.unpack_from("<3H", stored, 2)
+        text, words = (list(struct.unpack_from(f"<{size // 2}H", stored, 16 + before)) for size, before in ((sizes[0], 0), (sizes[1], sizes[0])))
+        relocs = struct.unpack_from(f"<{sizes[1] // 2}H", stored, 16 + 2 * sizes[0] + sizes[1])
+        same(f"{path}: words", (one["text"], one["data"], one["bss"]), (text, words, sizes[2]))
+        same(f"{path}: symbols", one["symbols"], tools.nm(path).splitlines())
+        same(f"{path}: texts", one["texts"], texts_of(words, relocs))
+        listing = re.sub(r"\.o$", ".lst", path)
+        wanted = {part: lines_of_listing(listing, start, part, held) for part, start, held in (("text", 0, text), ("data", sizes[0], words))}
+        same(f"{path}: source", one.get("source"), wanted if os.path.exists(listing) else None)
+
+
+# ---- files that are refused, and counts
+def object_of(words, symbols):
+    """An object of text words with their relocation words and of symbols."""
+    text = struct.pack(f"<{len(words)}H", *(word for word, _ in words)) + struct.pack(f"<{len(words)}H", *(bits for _, bits in words))
+    table = b"".join(struct.pack("<8sHH", name.encode(), kind, value) for name, kind, value in symbols)
+    return struct.pack("<8H", 0o407, 2 * len(words), 0, 0, len(table), 0, 0, 0) + text + table
+
+
+def written(path, content):
+    with open(path, "wb") as out:
+        out.write(content)
+    return path
+
+
+def made_objects(tools, count, size, seed=0):
+    """Objects of so many words that are made from a seed."""
+    return [written(os.path.join(tools.room, f"made{size}-{number}.o"), object_like_c(number, size, count, seed)) for number in range(count)]
+
+
+def refusals(tools, files):
+    """Bad files, and a page that is too large: the fault's own text, no page, status 2."""
+    with open(files[0], "rb") as source:
+        cut = written(os.path.join(tools.room, "cut.o"), source.read()[:-5])
+    for path, text in ((cut, "truncated"), (os.path.join(tools.room, "nothing.o"), "cannot open"), (tools.lesson, "bad magic number")):
+        done = subprocess.run([tools.lesson, "-p", tools.page, files[0], path], capture_output=True, text=True)
+        same(f"{path}", (done.returncode, done.stdout, done.stderr), (2, "", f"v7-lesson: {path}: {text}\n"))
+    for words in ([], ["-p"], ["-p", tools.page], ["-p", tools.page, "-q", files[0]], ["-n", files[0]], ["-n", "0", files[0]], ["-n", "3", files[0]],
+                  ["-x", files[0]]):
+        done = subprocess.run([tools.lesson, *words], capture_output=True, text=True)
+        same(f"v7-lesson {words}", (done.returncode, done.stdout, done.stderr[:11]), (2, "", "v7-lesson: "))
+
+
+def largest_page(tools, files):
+    """A page of at most 5,000,000 bytes is written, and one of some bytes more is not: the text of a lesson fills both."""
+    path = os.path.join(tools.room, "long.txt")
+    room = 5_000_000 - os.path.getsize(tools.page_of(files[:1], "short.html", written(path, b"lesson One\nsay 1\n")))
+    for more, status in ((1, 0), (2, 2)):
+        written(path, b"lesson One\nsay " + b"1" * (room + more) + b"\n")
+        done = subprocess.run([tools.lesson, "-p", tools.page, "-q", path, files[0]], capture_output=True, text=True)
+        same(f"a page of {4_999_999 + more} bytes", (done.returncode, len(done.stdout.encode()), done.stderr),
+             (status, 0 if status else 5_000_000, "v7-lesson: the page would have more than 5000000 bytes\n" if status else ""))
+
+
+def full(tools, files):
+    """An object is refused, with the text that the programs have."""
+    path = written(os.path.join(tools.room, "full.o"), object_of([(0, 0)] * 32_767, []))
+    data, _ = states_in(tools.page_of([path, files[0]], "full.html"))
+    refused = [(state["list"], state["object"], state["refused"]) for state in data["states"] if "refused" in state]
+    same("refused", refused, [([0], [1], "text full"), ([1], [0], "text full")])
+    return path
+
+
+def counts(tools, files):
+    """How many lists a page has."""
+    for count, lists in ((1, 1), (2, 4), (4, 64), (5, 325), (6, 6)):
+        given = [files[number % len(files)] for number in range(count)]
+        data, size = states_in(tools.page_of(given, "counted.html"))
+        reached = [tuple(state["list"]) for state in data["states"] if state["list"]]
+        orders = [order for n in range(1, count + 1) for order in permutations(range(count), n)]
+        if count > 5:
+            orders = [tuple(range(n)) for n in range(1, count + 1)]
+        same(f"lists of {count} objects", (len(reached), sorted(reached)), (lists, sorted(orders)))
+        same(f"bytes of {count} objects", size <= 5_000_000, True)
+
+
+def scripts(folder):
+    """The scripts are short, and so are their functions; no name is declared by two of them, as one script would be lost."""
+    total, declared = 0, []
+    for name in sorted(os.listdir(folder)):
+        if name.endswith(".js"):
+            with open(os.path.join(folder, name), encoding="utf-8") as file:
+                lines = file.read().splitlines()
+            total += len(lines)
+            names = [re.match(r"(?:const|let|class|function) (\w+|\[[\w, ]+\]|\{[\w, ]+\})", line) for line in lines]
+            declared += [word for found in names if found for word in re.findall(r"\w+", found[1])]
+            starts = [i for i, line in enumerate(lines) if re.match(r"function |const \w+ = \(.*=> \{$", line)]
+            long = [lines[start] for start in starts if lines[start:].index("}" if lines[start].startswith("function") else "};") >= 39]
+            same(f"long functions of {name}", (long, len(starts) > 0), ([], True))
+    same("names that are declared twice", (sorted({name for name in declared if declared.count(name) > 1}), len(declared) > 200), ([], True))
+    same("lines of scripts", (total < 2361, total > 0), (True, True))
+
+
+# ---- all of it
+def program_files(files):
+    """Five objects of one program."""
+    return [os.path.join(os.path.dirname(files[0]), name) for name in ("start.o", "print.o", "main.o", "twice.o", "count.o")]
+
+
+def program_in_c(files):
+    """The objects of a program in C, with one that has a fault."""
+    return [os.path.join(os.path.dirname(files[0]), "total", name) for name in ("total.o", "say.o", "console.o", "low.o", "limit.o")]
+
+
+def same_objects(folder):
+    """The objects of a folder are what the assembler makes of the compiler's files beside them."""
+    names = [name[:-2] for name in sorted(os.listdir(folder)) if name.endswith(".s")]
+    for name in names:
+        with open(os.path.join(folder, f"{name}.o"), "rb") as stored:
+            same(f"{folder}/{name}.o", stored.read() == object_of_compiled(folder, name), True)
+    same(f"objects of {folder}", len(names) > 0, True)
+
+
+def sixteen_objects():
+    """The paths of the sixteen objects of tests/page/data."""
+    same_objects(PLACE)
+    return [os.path.join(PLACE, f"{name}.o") for name in COMPILED]
+
+
+def check_data(tools, questions, files):
+    """All that needs no browser."""
+    scripts(tools.page)
+    refusals(tools, files)
+    largest_page(tools, files)
+    full(tools, files)
+    bad_questions(tools, files, same)
+    questions_of_all_kinds(tools, files, same)
+    counts(tools, files)
+    given, many = program_in_c(files), sixteen_objects()
+    same_objects(os.path.dirname(given[0]))
+    of_c = os.path.join(os.path.dirname(given[0]), "lessons.txt")
+    for what, held, of, least in (("the class example", files, questions, (9, 12)), ("a program in C", given, of_c, (2, 6)),
+                                  ("a program", program_files(files), "", ()), ("sixteen objects", many, "", ())):
+        path = tools.page_of(held, "data.html", of)
+        data, size = states_in(path)
+        compare_objects(tools, held, data)
+        compare_states(tools, held, data, what)
+        print(f"{what}: {len(data['states'])} states, {compared} things so far", flush=True)
+        if of:
+            lesson_answers(tools, path, held, LAYOUTS, same, *least)
+        if what == "a program in C":
+            remarks(tools, path, held, same)
+        if what == "sixteen objects":
+            same("bytes of sixteen objects", size <= 500_000, True)
+
+
+def main():
+    lesson, v7, explain, page_folder, questions, *files = sys.argv[1:]
+    with tempfile.TemporaryDirectory() as room:
+        check_data(Tools(lesson, v7, explain, page_folder, room), questions, files)
+    print(f"{compared} things of pages were compared, without a browser")
+    for fault in faults[:20]:
+        print(fault)
+    return 1 if faults else 0
+
+
+if __name__ == "__main__":
+    sys.exit(main())

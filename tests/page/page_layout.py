@@ -1,0 +1,251 @@
+"""Looks at where things are on the page of the lesson: arrows, text in its frames, badges."""
+from tests.page.page_browser import Chromium, Firefox
+
+# faults of the layout that is shown, as texts, and how many things were looked at
+LOOK = r"""
+const faults = [], counts = { arrows: 0, lines: 0, texts: 0, badges: 0, crossings: 0 };
+const fault = (text) => { if (faults.length < 30) faults.push(text); };
+const near = (one, other, far = 3) => Math.abs(one - other) <= far;
+const image = document.getElementById("image");
+const seen = (element) => element.checkVisibility({ visibilityProperty: true }) && element.getClientRects().length > 0;
+const middle = (box) => (box.top + box.bottom) / 2;
+const spot = (path, length) => path.getPointAtLength(length).matrixTransform(path.getScreenCTM());
+const rowBox = (id) => document.getElementById(id).getBoundingClientRect();
+
+// the boxes of all text of an element, line by line
+function textBoxes(element) {
+    const boxes = [];
+    const walker = document.createTreeWalker(element, NodeFilter.SHOW_TEXT);
+    for (let node = walker.nextNode(); node; node = walker.nextNode()) {
+        if (!node.data.trim() || !seen(node.parentElement)) continue;
+        const range = document.createRange();
+        range.selectNodeContents(node);
+        for (const box of range.getClientRects()) if (box.width > 1) boxes.push({ box, node, text: node.data.trim() });
+    }
+    return boxes;
+}
+
+const words = textBoxes(image);
+words.sort((a, b) => a.box.top - b.box.top);
+function crosses(path, name) {
+    const total = path.getTotalLength();
+    const [first, last] = [spot(path, 0), spot(path, total)];
+    const box = path.getBoundingClientRect();
+    const near = words.filter((word) => word.box.bottom > box.top && word.box.top < box.bottom && word.box.right > box.left && word.box.left < box.right);
+    counts.crossings += 1;
+    for (let at = 0; near.length > 0 && at <= total; at += 3) {
+        const point = spot(path, at);
+        for (const { box, text } of near) {
+            if (point.x > box.left + 1 && point.x < box.right - 1 && point.y > box.top + 1 && point.y < box.bottom - 1) return fault(`${name} crosses ${text}`);
+        }
+    }
+}
+
+const lanes = new Set();
+if (seen(image)) for (const arrow of document.querySelectorAll("g.arrow")) {
+    if (!seen(arrow.querySelector(".line"))) continue;
+    counts.arrows += 1;
+    const [line, head] = [arrow.querySelector(".line"), arrow.querySelector(".head")];
+    const [from, to] = [rowBox(arrow.dataset.from), rowBox(arrow.dataset.to)];
+    const [start, tip, end] = [spot(line, 0), spot(head, 0), spot(line, line.getTotalLength())];
+    const name = `the arrow ${arrow.dataset.from} to ${arrow.dataset.to}`;
+    if (!near(start.y, middle(from)) || !near(start.x, from.right)) fault(`${name} starts at ${start.x},${start.y} and not at ${from.right},${middle(from)}`);
+    const isDown = !/Q/.test(line.getAttribute("d"));
+    const edge = tip.y < middle(to) ? to.top : to.bottom;
+    if (isDown ? !near(tip.y, edge) || !near(tip.x, end.x) || tip.x < from.right || tip.x > to.right : !near(tip.y, middle(to)) || !near(tip.x, to.right) || !near(end.y, middle(to))) fault(`${name} ends at ${tip.x},${tip.y} and not at ${to.right},${middle(to)}`);
+    crosses(line, name);
+    crosses(head, name);
+    if (!isDown) lanes.add(Math.round(Number(line.getAttribute("d").match(/Q ([\d.]+)/)[1])));
+}
+if (lanes.size > 8) fault(`${lanes.size} lanes`);
+for (const chain of document.querySelectorAll("g.chain")) {
+    if (!seen(chain.querySelector(".dash"))) continue;
+    const [line, ...ticks] = chain.querySelectorAll(".dash");
+    const rows = chain.dataset.rows.split(" ");
+    if (ticks.length !== rows.length) fault("a dashed line of too few words");
+    rows.forEach((id, i) => {
+        counts.lines += 1;
+        const box = rowBox(id);
+        const [start, end] = [spot(ticks[i], 0), spot(ticks[i], ticks[i].getTotalLength())];
+        if (!near(start.y, middle(box)) || !near(end.y, middle(box)) || end.x > box.left) fault(`the dashed line of ${id} is at ${end.x},${end.y}`);
+        crosses(ticks[i], `the dashed line of ${id}`);
+    });
+    crosses(line, "a dashed line");
+}
+
+// no text leaves its frame, and none covers another
+const FRAMES = ".word, .fold, .name, .mark, .card, button, .segment > h3, .owner, pre, #guide, .bar, #legend, #welcome, #note, .refused";
+for (const frame of document.querySelectorAll(FRAMES)) {
+    if (!seen(frame)) continue;
+    const outer = frame.getBoundingClientRect();
+    if (frame.closest(".adds, .maps")) continue;
+    const column = (frame.closest(".stage, main, .side, .known, header") ?? document.body).getBoundingClientRect();
+    if (outer.right > column.right + 1) fault(`${frame.id || frame.className} is wider than its column`);
+    for (const { box, text } of textBoxes(frame)) {
+        counts.texts += 1;
+        const scrolls = frame.scrollHeight > frame.clientHeight + 1 && getComputedStyle(frame).overflowY === "auto";
+        if (box.left < outer.left - 1 || box.right > outer.right + 1) fault(`"${text}" leaves ${frame.id || frame.className} by the side`);
+        if (!scrolls && (box.top < outer.top - 1 || box.bottom > outer.bottom + 1)) fault(`"${text}" leaves ${frame.id || frame.className}`);
+    }
+}
+function apart(boxes, what) {
+    boxes.sort((a, b) => a.box.top - b.box.top);
+    for (let i = 0; i < boxes.length; i++) {
+        for (let j = i + 1; j < boxes.length && boxes[j].box.top < boxes[i].box.bottom - 2; j++) {
+            const [one, other] = [boxes[i].box, boxes[j].box];
+            if (one.left < other.right - 1 && other.left < one.right - 1) fault(`${what} "${boxes[i].text}" and "${boxes[j].text}" overlap`);
+        }
+    }
+}
+// what has been scrolled out of its part of the page is not seen
+function isClipped(element) {
+    const room = element.closest(".stage, .names, .side, .known")?.getBoundingClientRect();
+    const box = element.getBoundingClientRect();
+    return room !== undefined && (box.top < room.top || box.bottom > room.bottom);
+}
+const badges = [...document.querySelectorAll(".page .tag, .page .badge, .page kbd, .page .label")].filter((badge) => seen(badge) && !isClipped(badge));
+counts.badges = badges.length;
+apart(badges.map((badge) => ({ box: badge.getBoundingClientRect(), text: badge.textContent })), "the badges");
+for (const row of document.querySelectorAll(".word, .name, .card .head, .mark")) if (seen(row)) apart(textBoxes(row), "the texts");
+// nothing that can be pressed is covered
+for (const button of document.querySelectorAll("button, summary, input")) {
+    const box = button.getBoundingClientRect();
+    const [x, y] = [(box.left + box.right) / 2, (box.top + box.bottom) / 2];
+    if (!seen(button) || isClipped(button) || button.closest(".adds") || x < 0 || y < 0 || x > innerWidth || y > innerHeight) continue;
+    counts.pressed = (counts.pressed ?? 0) + 1;
+    const above = document.elementFromPoint(x, y);
+    if (!above || !(button.contains(above) || above.contains(button) && !above.matches("#main, .page, body"))) fault(`${button.textContent.trim() || button.id} is covered by ${above?.id || above?.className}`);
+}
+const root = document.documentElement;
+if (root.scrollWidth > root.clientWidth + 1) fault(`the page is ${root.scrollWidth} wide, and the window ${root.clientWidth}`);
+const main = document.getElementById("main");
+if (main.scrollWidth > main.clientWidth + 1) fault("the image is wider than its column");
+return { faults, counts };
+"""
+
+def look(page, what, faults, counts):
+    """Looks at what is shown; adds to the faults, and to the counts."""
+    add(page.run(LOOK), what, faults, counts)
+
+
+# widths, heights and scales of a window in Chromium; a zoom of 200 % at 1280 is a window of 640 pixels, each of two dots
+SIZES = [(390, 844, 1), (820, 1180, 1), (1280, 720, 1), (1920, 1080, 1), (640, 360, 2)]
+FIREFOX_WIDTHS = [390, 820, 1280, 1920]
+
+# of each page the states that are looked at
+STATES = {
+    "the default page": ["", "objects=1", "objects=1,2", "objects=1&withdrawn=2", "objects=3,4", "objects=4,3,1,2,5&addresses=-n", "objects=3,4&withdrawn=1",
+                         "objects=1,2&addresses=-r&numbers=decimal", "tour=1", "objects=1,2&tour=4", "objects=1&lesson=1&done=1",
+                         "objects=1,2,5&addresses=plain&lesson=5&done=4"],
+    "five objects": ["objects=1", "objects=1,2", "objects=1,2,3,4,5", "objects=1,2,3,4,5&addresses=-i", "objects=1,2,3,4&withdrawn=5"],
+    "five of 500 words": ["objects=1", "objects=1,2,3,4,5", "objects=5,4,3,2,1&addresses=plain", "objects=1,2,3,4&withdrawn=5"],
+    "sixteen objects": [f"objects={','.join(map(str, range(1, count + 1)))}" for count in (1, 2, 4, 7, 16)]
+    + ["objects=1,2,3,4,5,6,7,8,9,10&addresses=-r", "objects=1,2,3,4,5,6,7,8,9&withdrawn=10"],
+}
+# names and words that are chosen besides, each in the last state but one of its page
+CHOSEN = {"the default page": ["name _count", "text-6"], "five objects": ["name left", "text-2", "text-46"], "five of 500 words": ["name _errno", "name csv"],
+          "sixteen objects": ["name csv", "name _say", "text-0", "name _here"]}
+CHOOSE = "choose(arguments[0], true);"
+GO = "location.hash = arguments[0] || '#'; return true;"
+THERE = "return location.hash.replace('#', '') === arguments[0] && hashOf(view) === arguments[0]"
+
+# gives each word of text an instruction, as long as they come; how many of them are shown
+INSTRUCTIONS = """
+for (const object of DATA.objects) object.instructions = { text: object.text.map((_, index) => index % 3 === 1 ? "" : "movb *-177776(r5),*_longname+177776(r4)") };
+document.querySelectorAll(".given").forEach((words, i) => { words.open = true; showListing(words, DATA.objects[i]); });
+showAll();
+return document.querySelectorAll(".instruction").length;
+"""
+
+# on paper nothing is drawn, and each word that refers to something says to what
+PAPER = r"""
+const faults = [];
+const drawn = [...document.querySelectorAll("#drawing")].filter((element) => element.checkVisibility()).length;
+if (drawn) faults.push("arrows are on the paper");
+for (const row of document.querySelectorAll(".word:not(.spot):not(.cut-off)")) {
+    const word = wordAt(stateNow(), row.id.split("-")[0], Number(row.id.split("-")[1]));
+    const said = [...row.querySelectorAll(".target, .place")].filter((part) => part.checkVisibility()).map((part) => part.textContent).join("");
+    if (word.kind > 0 && !said.startsWith(SEGMENTS[word.kind] + " ")) faults.push(`${row.id} says ${said}`);
+    if (word.kind < 0 && !said.includes(word.name)) faults.push(`${row.id} says ${said}`);
+}
+return { faults, counts: { printed: document.querySelectorAll(".word").length } };
+"""
+
+
+def add(seen, what, faults, counts):
+    faults.extend(f"{what}: {text}" for text in seen["faults"])
+    for name, count in seen["counts"].items():
+        counts[name] = counts.get(name, 0) + count
+
+
+def look_at_states(page, name, what, faults, counts):
+    for state in STATES[name]:
+        page.run(GO, state)
+        page.wait(THERE, state)
+        look(page, f"{name}, {what}, {state}", faults, counts)
+    page.run(GO, STATES[name][2])
+    page.wait(THERE, STATES[name][2])
+    for key in CHOSEN[name]:
+        page.run(CHOOSE, key)
+        look(page, f"{name}, {what}, {key}", faults, counts)
+
+
+def look_on_paper(page, name, faults, counts):
+    """As it is printed, upright and across: the window has the width of the paper less its margins."""
+    for width in (703, 1032):
+        page.size(width, 1000)
+        page.media("print")
+        for state in STATES[name]:
+            if "addresses" not in state and "objects" in state:
+                page.run(GO, state)
+                page.wait(THERE, state)
+                look(page, f"{name}, {width} on paper, {state}", faults, counts)
+                add(page.run(PAPER), f"{name} on paper, {state}", faults, counts)
+        page.media("")
+    pages = page.paper().count(b"/Type /Page\n") + page.paper().count(b"/Type /Page ")
+    counts["sheets"] = counts.get("sheets", 0) + pages
+
+
+def look_with_instructions(page, path, faults, counts):
+    """The longest instruction beside each word of text, in the image, in a link and in the objects."""
+    page.load(path)
+    for width, height, scale in SIZES:
+        page.size(width, height, scale)
+        for state in ("#objects=1,2", "#objects=4,3,1,2,5&addresses=-n"):
+            page.open(state)
+            counts["instructions"] = counts.get("instructions", 0) + page.run(INSTRUCTIONS)
+            page.settle()
+            look(page, f"instructions, {width} wide, {state}", faults, counts)
+
+
+def look_everywhere(page, pages, faults):
+    counts = {}
+    look_with_instructions(page, pages["the default page"], faults, counts)
+    for name, path in pages.items():
+        page.load(path)
+        for width, height, scale in SIZES:
+            page.size(width, height, scale)
+            look_at_states(page, name, f"{width} wide", faults, counts)
+        page.open("")
+        look_on_paper(page, name, faults, counts)
+    large = Chromium(text=32)
+    for name, path in pages.items():
+        large.load(path)
+        look_at_states(large, name, "text of 200 %", faults, counts)
+    large.quit()
+    return counts
+
+
+def look_in_firefox(pages, faults):
+    counts = {}
+    for zoom, widths in ((1, FIREFOX_WIDTHS), (2, [640])):
+        page = Firefox(zoom)
+        try:
+            for name, path in pages.items():
+                page.load(path)
+                for width in widths:
+                    page.show(width, 800)
+                    look_at_states(page, name, f"{width} wide in Firefox, zoom {zoom}", faults, counts)
+        finally:
+            page.quit()
+    return counts

@@ -1,0 +1,165 @@
+"""Plants faults into the page of the lesson, one after another, and prints whether what tests/page/page.py measures finds each. Without
+the fault the same measure has to find nothing."""
+import os
+import re
+import subprocess
+import tempfile
+
+from tests.page import page_pictures
+from tests.page.page_layout import look
+from tests.page.page_lessons import lesson_answers
+from tests.page.page_stage import STEP, VIEW, choices, compare_ends, compare_given, first, moved
+from tests.page.page_use import old_browser
+
+# scripts that plant a fault into the page that is shown, and the measure that has to find it
+STAGE = {
+    "an arrow one row off": ("ends", "const original = idOfPlace; idOfPlace = (number) => original(Math.floor(number / WORD) === 1 ? number + 2 : number);"),
+    "an arrow to the title of its segment": ("ends", "idOfPlace = ((real) => (number) => real(number).replace(/^data-\\d+$/, 'data'))(idOfPlace);"),
+    "an instruction dropped": ("view", "document.querySelector('.word.bound .instruction').remove();"),
+    "a name dropped": ("view", "document.querySelector('.place-line .label').remove();"),
+    "a word left out of its group": ("step", "groupsOf = ((real) => (state, keys) => real(state, keys.slice(1)))(groupsOf); showChosen(true);"),
+    "a count that is one less": ("step", "counted = ((real) => (number, what) => real(what === 'other word' ? number - 1 : number, what))(counted); showChosen(true);"),
+    "an old value dropped": ("view", "document.querySelector('.word.bound .was').remove();"),
+    "the sentence dropped": ("view", "document.getElementById('note').textContent = '';"),
+    "a reference left out": ("choice", "chosenReferences = ((real) => (state) => real(state).slice(1))(chosenReferences);"),
+    "an arrow left out": ("choice", "bundles = ((real) => (state, all) => real(state, all.filter((one) => one.id !== all[0].id)))(bundles);"),
+    "a row moved by 2 pixels": ("moved", "document.getElementById('withdraw').addEventListener('click', () => { document.getElementById('image').style.paddingTop = '2px'; });"),
+    "the number of the object dropped": ("given", "targetParts = ((real) => (state, word) => real(state, word).filter((part) => part[1] !== 'given-word'))(targetParts);"),
+    "a button moved by 2 pixels": ("moved", "document.getElementById('withdraw').addEventListener('click', () => { document.getElementById('withdraw').style.marginLeft = '2px'; });"),
+}
+LAYOUT = {
+    "an arrow 5 pixels lower": "document.querySelector('g.arrow .line').setAttribute('transform', 'translate(0 5)');",
+    "an arrow head 7 pixels higher": "document.querySelector('g.arrow .head').setAttribute('transform', 'translate(0 -7)');",
+    "an arrow over the words": "const path = document.querySelector('g.arrow .line'); const d = path.getAttribute('d').split(' '); "
+    "path.setAttribute('d', `M ${d[1]} ${d[2] - 9} h -400 h 400 ` + d.slice(3).join(' '));",
+    "a text that leaves its frame": "document.querySelector('.word .meaning').style.cssText = 'position: relative; left: 60rem';",
+    "badges that overlap": "for (const tag of document.querySelectorAll('.tag')) tag.style.cssText = 'position: fixed; top: 9rem; left: 9rem';",
+    "a word that is wider than the page": "document.querySelector('.word').style.width = '300rem';",
+}
+LABEL_AS_PROPERTY = "addEventListener('DOMContentLoaded', () => { if (typeof showAll === 'undefined') return; withAttributes = (element, all) => { for (const name in all) element[name === 'id' ? 'id' : name.replace(/-(.)/, (_, c) => c.toUpperCase())] = all[name]; return element; }; showAll(); });"
+
+
+class Found:
+    """The faults that a measure finds."""
+
+    def __init__(self):
+        self.faults = []
+
+    def same(self, what, shown, wanted):
+        if shown != wanted:
+            self.faults.append(what)
+
+
+def on_stage(tools, page, files, layouts, kind, script):
+    """What a measure of the stage finds with five of the objects."""
+    found = Found()
+    page.size(1366, 768)
+    page.open("#" + first(5))
+    page.settle()
+    page.run("(0, eval)(arguments[0])", script)
+    if kind == "ends":
+        page.run("showChosen(true)")
+        compare_ends(tools, page, files, layouts, found.same, 5)
+    elif kind == "view":
+        found.same("in view", [name for name, is_seen in page.run(VIEW).items() if name != "count" and not is_seen], [])
+    elif kind == "step":
+        seen = page.run(STEP)
+        found.same("words in view, or counted", seen["there"] + seen["more"], seen["words"])
+    elif kind == "given":
+        compare_given(page, files, found.same)
+    elif kind == "choice":
+        choices(page, found.same, "a choice", ["name _next", "name _say", "text-0"], tools.uses(files))
+    else:
+        page.run("document.getElementById('withdraw').focus()")
+        found.same("moved", moved(page)[0], [])
+    return found.faults
+
+
+def on_layout(page, script):
+    """What is wrong with the layout of the default page."""
+    faults = []
+    page.size(1280, 720)
+    page.open("#objects=1,2")
+    page.run(script)
+    look(page, "the layout", faults, {})
+    return faults
+
+
+# ---- answer keys
+def refused_key(tools, questions, files, room, change):
+    """What v7-lesson says of the lessons with a changed text."""
+    with open(questions, encoding="utf-8") as file:
+        text = file.read()
+    path = os.path.join(room, "key.txt")
+    with open(path, "w", encoding="utf-8") as out:
+        out.write(change(text))
+    done = subprocess.run([tools.lesson, "-p", tools.page, "-q", path, *files], capture_output=True, text=True)
+    return [done.stderr] if done.returncode else []
+
+
+def wrong_answers(tools, default, files, layouts, room, change):
+    """What is wrong with the answers that a page has, where its data were changed."""
+    found = Found()
+    with open(default, encoding="utf-8") as file:
+        text = file.read()
+    path = os.path.join(room, "answers.html")
+    with open(path, "w", encoding="utf-8") as out:
+        out.write(change(text))
+    lesson_answers(tools, path, files, layouts, found.same)
+    return found.faults
+
+
+def with_key(text):
+    """A key that is wrong for the first question of what changes."""
+    return re.sub(r"^(ask changes Which word changes when twice.o is added\?)$", r"\1\nword text 4", text, count=1, flags=re.M)
+
+
+def with_right_key(text):
+    return with_key(text).replace("word text 4", "word text 6", 1)
+
+
+def with_answer(text):
+    """The first answer of what changes is another word."""
+    return re.sub(r'\["changes","text",\d+\]', '["changes","text",4]', text, count=1)
+
+
+# ---- pictures
+def other_picture(page, folder, name):
+    """Whether a picture of the page without objects differs from one of docs/pictures."""
+    page_pictures.make(page, folder)
+    different = page_pictures.difference(page, f"{folder}/first.png", f"{page_pictures.PICTURES}/{name}.png")
+    return [name] if different > page_pictures.LIMIT else []
+
+
+def labels(page, default, more):
+    """What is wrong with roles and labels in an old browser."""
+    found = Found()
+    old_browser(page, default, found.same, more)
+    return found.faults
+
+
+def all_faults(tools, page, default, questions, files, compiled, many, layouts, room):
+    """Each fault, with what finds it where it is planted, and where it is not."""
+    yield "a label set as a property", lambda is_planted: labels(page, default, LABEL_AS_PROPERTY if is_planted else "")
+    yield "a wrong answer key", lambda is_planted: refused_key(tools, questions, files, room, with_key if is_planted else with_right_key)
+    yield "a wrong answer in the page", lambda is_planted: wrong_answers(tools, default, files, layouts, room, with_answer if is_planted else str)
+    for what, script in LAYOUT.items():
+        yield what, lambda is_planted, script=script: on_layout(page, script if is_planted else "")
+    page.load(default)
+    yield "a picture of another state", lambda is_planted: other_picture(page, room, "bound" if is_planted else "first")
+    for what, (kind, script) in STAGE.items():
+        page.load(compiled)
+        yield what, lambda is_planted, kind=kind, script=script: on_stage(tools, page, many[:5], layouts, kind, script if is_planted else "")
+
+
+def plant_all(tools, page, default, questions, files, compiled, many, layouts, same):
+    """Plants each fault, and prints whether it is found."""
+    count = 0
+    with tempfile.TemporaryDirectory() as room:
+        for what, measure in all_faults(tools, page, default, questions, files, compiled, many, layouts, room):
+            without, planted = measure(False), measure(True)
+            print(f"planted: {what}: {'found' if planted else 'NOT FOUND'}{f': {planted[0].strip()[:90]}' if planted else ''}", flush=True)
+            same(f"planted: {what}, without the fault", without, [])
+            same(f"planted: {what}", len(planted) > 0, True)
+            count += 1
+    return count

@@ -1,0 +1,537 @@
+"""Uses the page of the lesson as a student does: the first view, the tour and the lessons by keys, steps back, marks, folds."""
+import re
+
+from tests.page.page_browser import Keys
+
+FIRST = """
+const text = (selector) => {
+    const element = document.querySelector(selector);
+    return element?.checkVisibility() ? element.textContent.trim() : "";
+};
+return { title: text("h1"), titles: document.querySelectorAll("h1").length, lead: text(".lead"), legend: document.querySelectorAll(".legend li").length,
+    action: text("#first"), tour: text("#menu button"), status: text("#status"), border: getComputedStyle(document.getElementById("status")).borderStyle };
+"""
+# how far texts differ from what is behind them: the smallest contrast, and where
+CONTRAST = r"""
+const rgb = (text) => text.match(/[\d.]+/g).map(Number);
+const light = (rgb) => rgb.slice(0, 3).map((c) => c / 255).map((c) => c <= 0.03928 ? c / 12.92 : ((c + 0.055) / 1.055) ** 2.4).reduce((s, c, i) => s + c * [0.2126, 0.7152, 0.0722][i], 0);
+function paper(element) {
+    for (let at = element; at; at = at.parentElement) {
+        const color = rgb(getComputedStyle(at).backgroundColor);
+        if (color.length === 3 || color[3] === 1) return color;
+    }
+    return [255, 255, 255];
+}
+let least = [99, ""], count = 0;
+for (const element of document.querySelectorAll("body *")) {
+    if (![...element.childNodes].some((node) => node.nodeType === 3 && node.data.trim()) || !element.checkVisibility() || element.closest("svg, script")) continue;
+    const [one, other] = [light(rgb(getComputedStyle(element).color)), light(paper(element))];
+    const contrast = (Math.max(one, other) + 0.05) / (Math.min(one, other) + 0.05);
+    count += 1;
+    if (contrast < least[0]) least = [contrast, element.textContent.slice(0, 30)];
+}
+return { contrast: least[0], where: least[1], count, paper: rgb(getComputedStyle(document.body).backgroundColor) };
+"""
+FOCUS = "const e = document.activeElement; return e.id || e.className || e.tagName;"
+# what the tabulator stops at, in order
+STOPS = """
+return [...document.querySelectorAll("button, summary, [tabindex]")].filter((e) => e.checkVisibility() && e.tabIndex >= 0).length;
+"""
+
+
+def first_view(page, same):
+    page.open("")
+    seen = page.run(FIRST)
+    same("the title", (seen["title"], seen["titles"]), ("What a linker does", 1))
+    same("sentences of the first view", len(re.findall(r"[.:] |\.$", seen["lead"])) >= 2, True)
+    same("lines of the legend", seen["legend"], 6)
+    same("the first action", (seen["action"], seen["tour"]), ("Add main.o", "Take the tour, 5 steps"))
+    same("the status does not look like a button", seen["border"], "none")
+    same("the words of the page are not nothing", page.run("return document.body.innerText.includes('nothing\\n')"), False)
+    page.click("first")
+    same("the first action adds main.o", page.run("return [location.hash, document.getElementById('status').textContent]"), ["#objects=1", "Added main.o"])
+
+
+def roles(page, same):
+    """Names and roles, as the browser tells them to a reader of the screen."""
+    page.open("#objects=1,2")
+    tree = page.roles()
+    for role, name in (("heading", "What a linker does"), ("heading", "Objects"), ("heading", "Names"), ("heading", "Marks"), ("button", "One step back"),
+                       ("button", "One step forward"), ("button", "Addresses of a link with -n"), ("button", "Addresses of a partial link, with -r"),
+                       ("button", "Decimal numbers"), ("button", "Shortcut keys"), ("region", "Objects"), ("main", ""), ("region", "Names and marks"),
+                       ("listbox", "Merged image"), ("listbox", "Names"), ("listbox", "Marks"), ("region", "main.o"), ("region", "twice.o"),
+                       ("option", "_twice text 000012 undefined changed"), ("group", "text 14 bytes"), ("status", "")):
+        same(f"the {role} {name}", (role, name) in tree, True)
+    same("the option of a word", [name for role, name in tree if role == "option" and name == "text 000006 000002 pc _twice = text 000012 , was 177770 waits for _twice, bound"] != [], True)
+    same("buttons without a name", [pair for pair in tree if pair[0] in ("button", "option", "listbox", "region") and not pair[1].strip()], [])
+    same("one place that is announced", page.run("return document.querySelectorAll('[aria-live], [role=status], [role=alert], [role=log]').length"), 1)
+    page.run("window.kept = document.getElementById('live')")
+    page.type("w")
+    same("what is announced", page.run("return [kept === document.getElementById('live'), kept.isConnected, kept.textContent.slice(0, 33)]"), [True, True, "Withdrew twice.o: 1 word put back"])
+    page.open("")
+    page.run("document.getElementById('first').focus()")
+    page.type(Keys.ENTER)
+    same("the focus after the first button", page.run("return document.activeElement.id"), "image")
+
+
+def stops(page, compiled, same):
+    """Image, names and marks are one stop each; arrow keys move inside."""
+    page.load(compiled)
+    page.open("#objects=1,2,3,4,5,6,7,8,9,10,11,12,13,14,15,16")
+    same("stops of sixteen objects", page.run(STOPS) < 60, True)
+    same("stops in the image", page.run("return document.querySelectorAll('#image [tabindex], #image button').length"), 0)
+    same("a tenth object has no key", page.run("return [...document.querySelectorAll('.card')].map((card) => card.querySelectorAll('kbd').length)"), [1] * 9 + [0] * 7)
+    page.run("document.getElementById('image').focus()")
+    rows = page.run("return [...document.querySelectorAll('#image [role=option]')].map((row) => row.id)")
+    page.type(Keys.HOME)
+    same("Home", page.run("return document.getElementById('image').getAttribute('aria-activedescendant')"), rows[0])
+    page.type(Keys.ARROW_DOWN)
+    same("arrow down", page.run("return document.querySelector('#image .active').id"), rows[1])
+    word = page.run("return [...document.querySelectorAll('#image [role=option]')].findIndex((row) => row.className.includes('word'))")
+    page.type(Keys.HOME, *[Keys.ARROW_DOWN] * word)
+    same("arrow down chooses", page.run("return document.querySelector('#image [aria-selected=true]').id"), rows[word])
+    page.run("choose('', false)")
+    page.run("const rows = rowsIn('image'); active.image = rows[rows.findIndex((row) => row.className.includes('fold')) - 1].id; setActive();")
+    page.type(Keys.ARROW_DOWN)
+    before = page.run("return document.querySelectorAll('.word').length")
+    page.type(Keys.ENTER)
+    same("Enter opens a fold", page.run("return document.querySelectorAll('.word').length") > before, True)
+
+
+def keys(page, default, same):
+    """Keys with Caps Lock, and switched off."""
+    page.load(default)
+    event = "document.dispatchEvent(new KeyboardEvent('keydown', { key: arguments[0], shiftKey: arguments[1], ctrlKey: arguments[2], bubbles: true }));"
+    page.type("1", "2")
+    page.run(event, "W", False, False)
+    same("w with Caps Lock", page.run("return location.hash"), "#objects=1&withdrawn=2")
+    page.run(event, "W", True, False)
+    page.run(event, "w", False, True)
+    same("W with Shift, and w with Control", page.run("return location.hash"), "#objects=1&withdrawn=2")
+    page.click("keys")
+    page.type("w")
+    same("keys that are off", page.run("return [location.hash, document.getElementById('keys').getAttribute('aria-pressed')]"), ["#objects=1&withdrawn=2", "false"])
+    page.click("keys")
+    page.type("w")
+    same("keys that are on again", page.run("return location.hash"), "#withdrawn=1")
+
+
+def history(page, default, same):
+    """The browser's Back and Forward are steps, and so are the page's buttons after them."""
+    page.load(default)
+    page.type("1", "2", "5")
+    page.back()
+    page.wait("return location.hash === '#objects=1,2'")
+    same("Back", page.run("return [view.list.length, document.getElementById('back').getAttribute('aria-disabled'), document.getElementById('forth').getAttribute('aria-disabled')]"), [2, "false", "false"])
+    page.click("back")
+    page.wait("return location.hash === '#objects=1'")
+    same("step back after Back", page.run("return view.list"), [0])
+    page.forward()
+    page.wait("return location.hash === '#objects=1,2'")
+    page.click("forth")
+    page.wait("return location.hash === '#objects=1,2,5'")
+    same("Forward, and a step forward", page.run("return view.list"), [0, 1, 4])
+    same("the last step", page.run("return document.getElementById('forth').getAttribute('aria-disabled')"), "true")
+
+
+def press(page, name):
+    """Goes to a button by the tabulator, and presses it."""
+    for _ in range(60):
+        if page.run(FOCUS) == name:
+            page.type(Keys.ENTER)
+            return True
+        page.type(Keys.TAB)
+    return False
+
+
+def tour(page, default, same):
+    """Five steps, by keys alone, and dismissed by Escape."""
+    page.load(default)
+    for _ in range(30):
+        page.type(Keys.TAB)
+        if page.run("return document.activeElement.textContent") == "Take the tour, 5 steps":
+            break
+    page.type(Keys.ENTER)
+    told = []
+    for number in range(1, 6):
+        page.wait("return new URLSearchParams(location.hash.slice(1)).get('tour') === arguments[0]", str(number))
+        told.append(page.run("return document.querySelector('#guide .says').textContent"))
+        same(f"the tour at {number}", page.run("return document.querySelectorAll('.toured').length"), 1)
+        if number < 5:
+            same(f"the tour, next at {number}", press(page, "next"), True)
+    same("steps of the tour", (len(set(told)), min(map(len, told)) > 60), (5, True))
+    page.back()
+    page.wait("return new URLSearchParams(location.hash.slice(1)).get('tour') === '4'")
+    page.type(Keys.ESCAPE)
+    same("the tour is dismissed", page.run("return [document.getElementById('guide').hidden, location.hash]"), [True, "#objects=1,2"])
+
+
+# the keys that answer the open question rightly: a digit that chooses, or the digits of a number
+RIGHT = """
+const wait = nextStep();
+if (wait.kind === "value" || (wait.kind === "where" && wait.number !== null)) return [...wait.number.toString(8)];
+return [wait.kind === "where" ? "n" : String(1 + choicesOf(wait).findIndex((choice) => choice.isRight))];
+"""
+WRONG = "return choicesOf(nextStep()).findIndex((choice) => !choice.isRight) + 1;"
+
+
+def take_step(page, what, same):
+    """Answers a question by keys, if one is open, and makes the step. Returns what the page has said, and how many keys it took."""
+    done, asked = page.run("return [view.done, nextStep().ask]")
+    strokes, said = 0, []
+    if asked:
+        keys = page.run(RIGHT)
+        same(f"{what}: the question is announced", asked in page.run("return document.getElementById('live').textContent"), True)
+        page.type(*keys)
+        strokes += 1
+        if page.run("return document.activeElement.id") == "number":
+            page.type(Keys.ENTER)
+            strokes += 1
+        said.append(page.run("return document.getElementById('live').textContent"))
+    page.type(Keys.ENTER)
+    page.wait("return view.done === arguments[0]", done + 1)
+    said.append(page.run("return document.getElementById('live').textContent"))
+    if asked:
+        same(f"{what}: the answer", page.run("return document.querySelector('#guide .is-right')?.textContent.slice(0, 5)"), "Right")
+        same(f"{what}: keys", strokes + 1 <= 3, True)
+        same(f"{what}: the answer is announced", "You chose" in said[0], True)
+    told = page.run("return GUIDES[view.guide].steps[view.done].says")
+    same(f"{what}: what is said", [text for text in told if text not in said[-1]], [])
+    return bool(asked)
+
+
+def announced(page, log):
+    """Adds what the accessibility tree has in its live place to a log, if it has changed."""
+    text = page.live()
+    if not log or log[-1] != text:
+        log.append(text)
+
+
+# what a lesson has to say from this step to the next one: what comes before the answer, and what comes after it
+SENTENCES = """
+const wait = nextStep();
+return [...GUIDES[view.guide].steps[view.done].says, ...(wait && wait.ask ? [wait.ask, ...choicesOf(wait).map(({ text }) => text)] : [])];
+"""
+
+
+def logged(page, number, same):
+    """A lesson by keys: the log of the accessibility tree has each sentence of it in order, with choices, answers and verdicts."""
+    page.open(f"#lesson={number}&done=0")
+    log, wanted = [], []
+    announced(page, log)
+    for _ in range(page.run("return GUIDES[view.guide].steps.length - 1")):
+        wanted += page.run(SENTENCES)
+        done, asked = page.run("return [view.done, nextStep().ask]")
+        if asked:
+            page.type(*page.run(RIGHT))
+            if page.run("return document.activeElement.id") == "number":
+                page.type(Keys.ENTER)
+            announced(page, log)
+            wanted.append("You chose ")
+        page.type(Keys.ENTER)
+        page.wait("return view.done === arguments[0]", done + 1)
+        announced(page, log)
+        wanted += ["Right: "] if asked else []
+    wanted += page.run(SENTENCES)
+    text, at, missing = " ".join(log), 0, []
+    for sentence in wanted:
+        found = text.find(" ".join(sentence.split()), at)
+        missing += [sentence] if found < 0 else []
+        at = max(at, found)
+    same(f"lesson {number}: what the log of the accessibility tree does not have in order", missing, [])
+    return len(wanted)
+
+
+def log_of_lessons(page, paths, same):
+    count = 0
+    for path in paths:
+        page.load(path)
+        count += sum(logged(page, number, same) for number in range(1, page.run("return GUIDES.length")))
+    print(f"{count} sentences, choices and verdicts of lessons are in the log of the accessibility tree, in order", flush=True)
+
+
+def by_keys(page, path, same):
+    """All lessons of a page and its practice by keys alone, with the right answers. Returns how many questions they have."""
+    page.load(path)
+    asked = 0
+    titles = page.run("return GUIDES.map(({ title }) => title)")
+    page.run("document.getElementById('guides').focus()")
+    page.type(Keys.ENTER)
+    same("the menu", page.run("return document.querySelectorAll('#guide button').length"), len(titles))
+    for number in range(1, len(titles)):
+        page.open(f"#lesson={number}&done=0")
+        for done in range(page.run("return GUIDES[view.guide].steps.length - 1")):
+            asked += take_step(page, f"{titles[number]}, step {done + 1}", same)
+    return asked
+
+
+def lessons(page, default, program, same):
+    """The lessons of two pages by keys alone; then a wrong answer."""
+    asked = by_keys(page, program, same), by_keys(page, default, same)
+    same("questions that were answered", (asked[0] >= 12, asked[1] >= 20), (True, True))
+    print(f"{sum(asked)} questions were answered by keys, each with at most three strokes", flush=True)
+    page.open("#objects=1&lesson=1&done=1")
+    page.type("w", "2", "p", "a", Keys.ARROW_LEFT)
+    same("keys under an open question", page.run("return [view.list, view.layout, view.done]"), [[0], -1, 1])
+    page.open("#objects=1&lesson=1&done=1")
+    page.type(str(page.run(WRONG)))
+    same("the reason of a wrong answer", page.run("return [document.querySelector('#guide .reason').textContent.length > 20, document.getElementById('live').textContent.includes(document.querySelector('#guide .reason').textContent)]"), [True, True])
+    page.type("q")
+    same("q, from the question", page.run("return document.activeElement.id"), "image")
+    page.type("q")
+    same("q, back to the question", page.run("return document.getElementById('guide').contains(document.activeElement)"), True)
+    page.click("next")
+    same("a wrong answer", page.run("return document.querySelector('#guide .is-wrong').textContent").startswith("You chose"), True)
+    page.back()
+    page.wait("return view.done === 1")
+    same("Back in a lesson", page.run("return [view.list, document.querySelector('#guide .ask').textContent.slice(0, 10)]"), [[0], "Why is the"])
+
+
+# the wrong answers of the open question, each with the reason that the page gives, and the list that is there
+WRONG_ANSWERS = """
+const wait = nextStep();
+if (!wait?.ask) return [];
+const wrong = choicesOf(wait).filter((one) => !one.isRight);
+const known = namesOf(stateNow()).find(({ name }) => name === wait.name);
+const numbers = { value: [wait.before, wait.number + 2], where: [known?.number ?? 2, (wait.number ?? 0) + 2, 0] }[wait.kind] ?? [];
+for (const number of new Set(numbers)) if (number !== wait.number) wrong.push({ text: octal(number), number, isRight: false });
+return wrong.map((given) => [wait.kind, wait.act?.[0] ?? "", given.text, reasonOf(given, wait), view.list, known ? [known.kind, known.number] : null, wait.before ?? null]);
+"""
+
+
+def reason_wanted(kind, act, text, lines, known, before):
+    """How the reason of a wrong answer begins, or what it has, by what `v7-lesson` says of the state."""
+    if kind in ("word", "changes") and text != "no word":
+        line = next(line for line in lines if line.startswith(text + " "))
+        waits = re.search(r"waits for (\S+)", line)
+        if kind == "changes" and act == "withdraw" and not waits:
+            return "The addition of "
+        return f"It waits for {waits[1]}" if waits else "It is a number" if "a number" in line and " pc " not in line else "refers to "
+    if kind == "changes":
+        return "will change"
+    if kind == "name":
+        return f"{text} is "
+    if kind == "value" and int(text, 8) == before:
+        return "That is what the word is now"
+    if kind == "where" and known and act == "link" and text.isdigit() and int(text, 8) == known[1] and known[0] in ("text", "data", "bss"):
+        return f"That is its offset in {known[0]}"
+    return ""
+
+
+def reasons(tools, page, paths, same):
+    """Each wrong answer has a reason, which follows from the state; each question has a choice that is wrong."""
+    count = 0
+    for path, files in paths:
+        page.load(path)
+        for guide in range(1, page.run("return GUIDES.length")):
+            for done in range(page.run("return GUIDES[arguments[0]].steps.length - 1", guide)):
+                page.run("goTo(arguments[0], arguments[1])", guide, done)
+                wrong = page.run(WRONG_ANSWERS)
+                same(f"lesson {guide}, question {done + 1}: a wrong answer", not page.run("return isAsked()") or len(wrong) > 0, True)
+                for kind, act, text, reason, here, known, before in wrong:
+                    lines = tools.step(len(here), [files[number] for number in here])
+                    wanted = reason_wanted(kind, act, text, lines, known, before)
+                    same(f"lesson {guide}, question {done + 1}, {text}: {reason}", (len(reason) > 15, wanted in reason, "undefined" in reason and kind != "name"), (True, True, False))
+                    count += 1
+    print(f"{count} wrong answers have a reason", flush=True)
+    same("wrong answers", count >= 97, True)
+
+
+NUMBERS = {"12": 10, "10.": 10, "0xa": 10, "0x0A": 10, "9": 9, "-2": 65534, "177776": 65534, "0o12": 10, "x": None, "1g": None}
+
+
+def numbers(page, default, same):
+    """Numbers in octal, decimal and hexadecimal."""
+    page.load(default)
+    for text, number in NUMBERS.items():
+        seen = page.run("const number = numberOf(arguments[0]); return Number.isNaN(number) ? null : number", text)
+        same(f"the number {text}", seen, number)
+    page.open("#objects=1,2&numbers=decimal")
+    same("numbers of a page in decimal", page.run("return ['016', '16', '16.'].map(numberOf)"), [14, 16, 16])
+    page.open("#objects=1&numbers=decimal&lesson=1&done=1")
+    same("a lesson is in octal", page.run("return [byId('decimal').getAttribute('aria-disabled'), document.querySelector('#image .offset').textContent, numberOf('16')]"), ["true", "000000", 14])
+
+
+def leads(page, default, same):
+    """Marks lead to their words, names to theirs; the bar stays; the image fills its column."""
+    page.load(default)
+    page.size(1280, 300)
+    page.open("#objects=1,2")
+    page.run("document.getElementById('main').scrollTop = 10000; document.querySelector('#marks [data-key=text-6]').click()")
+    seen = page.run("const box = document.getElementById('text-6').getBoundingClientRect(); const bar = document.getElementById('top').getBoundingClientRect();"
+                    "return [document.querySelector('#image [aria-selected=true]').id, box.top >= bar.bottom - 1 && box.bottom <= innerHeight + 1]")
+    same("a mark leads to its word", seen, ["text-6", True])
+    same("and shows its arrow", page.run("return [...document.querySelectorAll('g.arrow')].map((arrow) => arrow.dataset.from)"), ["text-6"])
+    page.run("document.querySelector('#names [data-key=\"name _count\"]').click()")
+    same("a name shows no arrow but its own", page.run("return document.querySelectorAll('g.arrow').length"), 0)
+    for width, height in ((390, 500), (820, 500), (1280, 500)):
+        page.size(width, height)
+        page.open("#objects=1,2,3,4,5")
+        page.run("window.scrollTo(0, 400); document.getElementById('main').scrollTop = 400;")
+        top = page.run("return ['h1', '#status', '#withdraw', '#back'].map((s) => document.querySelector(s).getBoundingClientRect()).every((b) => b.top >= 0 && b.bottom <= innerHeight)")
+        same(f"the bar stays, {width} wide", top, True)
+    page.size(390, 844)
+    page.open("")
+    same("on a phone the objects are folded", page.run("return [...document.querySelectorAll('.card')].filter((card) => card.checkVisibility()).length"), 0)
+    page.click("first")
+    for number in (2, 3, 4):
+        seen = page.run("const button = document.querySelector('#adds button:not([aria-disabled=true])'), box = button.getBoundingClientRect(); button.click(); return box.top >= 0 && box.bottom <= innerHeight")
+        same(f"on a phone the buttons stay, {number}", (seen, page.run("return view.list.length")), (True, number))
+        same(f"on a phone the image is seen, {number}", page.run("const box = document.querySelector('.word.new, .word.bound').getBoundingClientRect(); return box.top < innerHeight && box.bottom > 0"), True)
+    page.size(1366, 768)
+    page.open("#objects=1,2,3,4")
+    fill = page.run("const row = document.querySelector('.word').getBoundingClientRect(), main = document.getElementById('main').getBoundingClientRect(); return row.width / main.width")
+    same("the image fills its column", fill > 0.6, True)
+
+
+def texts(page, default, same):
+    """Places before a segment, instructions, zoom, dark and light."""
+    page.load(default)
+    page.open("#objects=3,4")
+    same("a place before a segment", page.run("return document.querySelector('#text-2 .place').textContent"), " \u2212 2")
+    page.open("#objects=1")
+    page.run("DATA.objects[0].instructions = { text: ['mov _count,r0', '', 'jsr pc,_twice', '', 'rts pc'] }; showAll();")
+    same("instructions in the place of numbers", page.run("return [...document.querySelectorAll('#image .meaning')].map((e) => e.textContent.trim())"),
+         ["_main: mov _count,r0", "waits for _count", "jsr pc,_twice", "waits for _twice", "rts pc"])
+    page.type("p")
+    same("instructions beside sums", page.run("return [...document.querySelectorAll('#image .meaning')].map((e) => e.textContent.trim())")[:2],
+         ["_main: mov _count,r0", "177774 + 000012 = 000006 _count"])
+    page.run("document.querySelector('.given').open = false; document.querySelector('.given').open = true;")
+    page.wait("return document.querySelector('.listing') !== null")
+    same("instructions in an object", page.run("return [...document.querySelectorAll('.card')[0].querySelectorAll('.listing tr')].map((e) => e.lastChild.textContent)"),
+         ["text", "mov _count,r0", "_count / entry 2, from 004", "jsr pc,_twice", "_twice / entry 1, from 010", "rts pc"])
+    page.open("#objects=1,2")
+    same("why a word changed", page.run("return document.getElementById('note').textContent"),
+         "The word at text 000006 waited for _twice. This is at 000012 now, so the linker added it: 177770 + 000012 = 000002, the distance from 000010 to 000012.")
+    page.type("w")
+    same("why a word was put back", "waits for _twice again, so 000012 was subtracted from it: 000002 \u2212 000012 = 177770." in page.run("return document.getElementById('note').textContent"), True)
+    css = page.run("return document.querySelector('style').textContent")
+    same("no size follows the window's width", re.findall(r"[\d.]+(?:vw|vi|vmin|vmax)\b", css), [])
+    same("sizes of text in pixels", re.findall(r"font(?:-size)?:[^;]*\dpx", css), [])
+    sizes = []
+    for width, scale in ((1280, 1), (640, 2)):
+        page.size(width, 720 // scale, scale)
+        page.open("#objects=1,2")
+        sizes.append(page.run("return parseFloat(getComputedStyle(document.querySelector('.word')).fontSize) * devicePixelRatio"))
+    same("zoom of 200 % makes text twice as large", sizes[1], 2 * sizes[0])
+    page.size(1366, 768)
+    for scheme in ("light", "dark"):
+        page.media("", scheme)
+        for state in ("", "#objects=1,2", "#objects=1&withdrawn=2", "#objects=1&lesson=1&done=1"):
+            page.open(state)
+            seen = page.run(CONTRAST)
+            same(f"contrast, {scheme}, {state}: {seen['where']}", (seen["contrast"] >= 4.5, seen["count"] > 30, max(seen["paper"][:3]) < 60), (True, True, scheme == "dark"))
+    page.media("", "light")
+
+
+# takes away what Firefox ESR 102 or Chromium 100 lack, of all that a script could call; roles and labels are no properties then
+OLD = r"""
+for (const name of ["toSorted", "toReversed", "toSpliced", "with", "group", "groupToMap", "fromAsync"]) { delete Array.prototype[name]; delete Array[name]; }
+for (const name of ["findLast", "findLastIndex"]) delete Array.prototype[name];
+delete Element.prototype.checkVisibility;
+for (const name of Object.getOwnPropertyNames(Element.prototype)) if (/^(aria[A-Z]|role$)/.test(name)) delete Element.prototype[name];
+for (const name of ["union", "intersection", "difference", "symmetricDifference", "isSubsetOf"]) delete Set.prototype[name];
+delete Object.groupBy; delete Map.groupBy; delete Promise.withResolvers; delete URL.canParse; delete String.prototype.isWellFormed;
+delete Element.prototype.setHTMLUnsafe; delete HTMLElement.prototype.showPopover; delete Document.prototype.startViewTransition;
+"""
+OLD_SEEN = """
+const rows = [...document.querySelectorAll("#image .word")];
+choose("text-6", true);
+return { rows: rows.length, roles: rows.filter((row) => row.getAttribute("role") === "option" && row.getAttribute("aria-label")).length,
+    chosen: document.querySelectorAll("#image [aria-selected=true]").length, groups: document.querySelectorAll("#image [role=group][aria-label]").length,
+    arrows: document.querySelectorAll("g.arrow").length, sentence: document.getElementById("note").textContent.length > 20 };
+"""
+
+
+def old_browser(page, default, same, more=""):
+    """The oldest browsers, by taking away what they lack: words have roles and labels, and can be chosen."""
+    kept = page.before_loading(OLD + more)
+    page.load(default)
+    page.open("#objects=1,2")
+    page.type("3", "w")
+    same("steps in an old browser", page.run("return view.list.length"), 2)
+    page.type("w", "2")
+    wanted = {"rows": 7, "roles": 7, "chosen": 1, "groups": 1, "arrows": 1, "sentence": True}
+    same("an old browser", page.run(OLD_SEEN), wanted)
+    page.as_before(kept)
+    page.load(default)
+
+
+def presenter(page, default, same):
+    """Large words for a projector: at least 28 pixels, two objects in view, no legend."""
+    page.load(default)
+    page.size(1920, 1080)
+    page.open("#objects=1,2")
+    page.type("l")
+    page.settle()
+    seen = page.run("const size = (name) => parseFloat(getComputedStyle(document.querySelector(name)).fontSize); const stage = document.getElementById('stage').getBoundingClientRect();"
+                    "return [size('#image .word'), size('#note'), document.getElementById('legend').checkVisibility(), [...document.querySelectorAll('#image .word')].every((row) => row.getBoundingClientRect().bottom <= stage.bottom)]")
+    same("words for a projector", (seen[0] >= 28, seen[1] >= 24, seen[2:]), (True, True, [False, True]))
+    page.size(1366, 768)
+
+
+def paper(page, default, same):
+    """A lesson on paper, without answers and with them."""
+    page.load(default)
+    page.run("window.print = () => {}")
+    page.open("#lesson=2&done=0")
+    page.run("window.print = () => { window.printed = document.body.classList.contains('handout'); }")
+    texts = []
+    for name in ("handout", "answers"):
+        page.click(name)
+        texts.append(page.run("return document.getElementById('paper').textContent"))
+    asked = page.run("return GUIDES[2].steps.filter((step) => step.ask).map((step) => step.ask)")
+    same("the handout is printed", page.run("return [window.printed, document.body.classList.contains('handout'), view.guide, view.done]"), [True, False, 2, 0])
+    same("questions on paper", [ask for ask in asked for text in texts if ask not in text], [])
+    page.click("handout")
+    first, last = page.run("const parts = [...document.querySelectorAll('#paper > *')]; const asked = parts.filter((part) => part.querySelector('.ask'));"
+                           "return [asked[0].querySelector('.ask').textContent.slice(0, 3), asked.map((part) => part.nextElementSibling?.tagName ?? '')]")
+    same("the first question on paper, and what follows a question", (first, "TABLE" in last), ("1. ", False))
+    same("pc and places on paper", page.run("return [...document.querySelectorAll('#paper tr')].map((row) => row.textContent)")[1], "text000002177774pcwaits for _count")
+    same("answers on paper", ("Answer: text 000006" in texts[1], "Answer: text 000006" in texts[0]), (True, False))
+
+
+def motion(page, default, same):
+    """An object moves from its card to its segments, unless the system asks for less motion."""
+    page.load(default)
+    page.size(1366, 768)
+    for value, count in (("no-preference", 1), ("reduce", 0)):
+        page.driver.execute_cdp_cmd("Emulation.setEmulatedMedia", {"features": [{"name": "prefers-reduced-motion", "value": value}]})
+        page.open("")
+        same(f"what moves, {value}", page.run("addObject(0); return document.querySelectorAll('.flying').length"), count)
+    page.media("")
+
+
+def distances(page, program, same):
+    """A distance is one within a segment, or in a link; elsewhere the page says that a link makes it."""
+    page.load(program)
+    page.size(1366, 768)
+    page.open("#objects=1,2,3,5")
+    words = page.run("return allReferences(stateNow()).filter((one) => one.to).map((one) => [one.id, wordOf(stateNow(), one.id)]).filter(([, word]) => word.pc).map(([id, word]) => [id, SEGMENTS[word.kind] === word.part])")
+    for word, is_one in words:
+        for key, isTold in (("a", True), ("a", is_one)):
+            page.type(key)
+            page.run("choose(arguments[0], true)", word)
+            said = page.run("return chosenText(stateNow())")
+            same(f"the distance of {word}: {said}", ("holds the distance" in said, "comes with a link" in said), (isTold, not isTold))
+    same("words with and without a distance", {is_one for _, is_one in words}, {True, False})
+
+
+def use_all(tools, page, default, program, compiled, pages, same):
+    first_view(page, same)
+    roles(page, same)
+    stops(page, compiled, same)
+    keys(page, default, same)
+    history(page, default, same)
+    tour(page, default, same)
+    lessons(page, default, program, same)
+    log_of_lessons(page, (program, default), same)
+    numbers(page, default, same)
+    leads(page, default, same)
+    texts(page, default, same)
+    presenter(page, default, same)
+    paper(page, default, same)
+    motion(page, default, same)
+    old_browser(page, default, same)
+    distances(page, program, same)
+    reasons(tools, page, pages, same)

@@ -1,0 +1,135 @@
+#!/usr/bin/env python3
+"""Tries the completion in bash, and in zsh where it is installed: commands, options with their meaning, and files by kind.
+
+usage: python3 -m tests.programs.completion [FOLDER]      of the completion in this folder, or made now by packaging/completion.py
+
+What is wanted is written by hand, or read of the manual: its options.
+"""
+import os
+import pty
+import re
+import select
+import shutil
+import subprocess
+import sys
+import tempfile
+import time
+
+from tests.programs import terminal
+
+TOP = terminal.TOP
+# zsh loads its completion, which takes a while on a machine with other work
+SECONDS = 60
+# what is typed, and what bash offers; ? before it asks for the list, as two tabs do
+WANTED = [
+    ("v7 ", ["ld", "nm", "session", "size", "strip", "help", "--help", "--version"]),
+    ("v7 s", ["session", "size", "strip"]),
+    ("v7 help st", ["strip"]),
+    ("?v7 --", ["--help  (Shows how to call it)", "--version  (Shows the version)"]),
+    ("v7 ld --", ["--help"]),
+    ("v7 ld ma", ["main.o"]),
+    ("v7 ld -o pri", ["print.lst", "print.o", "print.s"]),
+    ("v7 ld -e ma", []),
+    ("v7 session ma", []),
+    ("v7 nm squ", ["squares.gnu", "squares.s"]),
+    ("v7 size -x ru", ["rust"]),
+    ("v7-explain -o main", ["main.lst"]),
+    ("v7-explain tr", ["transcript.md"]),
+    ("v7-object main", ["main.lst"]),
+    ("v7-from-gnu -o c", ["c", "cpp"]),
+    ("v7-lesson twi", ["twice.o"]),
+    ("v7-lesson -n 1 -q less", ["lessons.txt"]),
+    ("?v7-lesson -n", ["-n"]),
+]
+# options that are not in a list of the manual
+BESIDE = {"v7-explain": {"-R", "-y"}}
+ASK = r"""
+. "$1"; shift
+COMP_TYPE=$1; shift
+COMP_WORDS=("$@") COMP_CWORD=$(($# - 1))
+_v7
+printf '%s\n' "${COMPREPLY[@]}"
+"""
+
+
+def bash(file, typed):
+    """What bash offers after what is typed."""
+    words = typed.lstrip("?").split(" ")
+    kind = "63" if typed.startswith("?") else "9"
+    ran = subprocess.run(["bash", "-c", ASK, "bash", file, kind, *words], stdout=subprocess.PIPE, stderr=subprocess.STDOUT, check=True, text=True)
+    return [line for line in ran.stdout.split("\n") if line]
+
+
+def options_of(page):
+    """The options in the lists of a page of the manual."""
+    with open(f"{TOP}/man/{page}.1", encoding="utf-8") as file:
+        heads = re.findall(r"^\.It (Fl \w\b.*)$", file.read(), re.M)
+    return {f"-{letter}" for head in heads for letter in re.findall(r"Fl (\w)\b", head)}
+
+
+def check_bash(file):
+    count = 0
+    for typed, wanted in WANTED:
+        terminal.expect(f"bash: {typed}", sorted(bash(file, typed)), sorted(wanted))
+    for command in ("v7 ld", "v7 nm", "v7-explain", "v7-from-gnu", "v7-lesson"):
+        offered = bash(file, f"?{command} -")
+        wanted = options_of(command.replace(" ", "-")) | BESIDE.get(command, set())
+        terminal.expect(f"bash: {command}", {line.split(" ")[0] for line in offered if not line.startswith("--")}, wanted)
+        terminal.holds(f"bash: {command}: a meaning for each", all(re.fullmatch(r"\S+  \(\w.{8,}\)", line) for line in offered))
+        terminal.expect(f"bash: {command}: without the list", bash(file, f"{command} -"), [line.split(" ")[0] for line in offered])
+        count += len(offered)
+    return count
+
+
+def zsh(folder, typed, wanted):
+    """Which of the patterns that are wanted zsh does not show after what is typed and two tabs."""
+    process, master = pty.fork()
+    if process == 0:
+        os.environ.update(TERM="dumb", PS1="> ", COLUMNS="200")
+        os.execvp("zsh", ["zsh", "-f", "-i"])
+    os.write(master, f"stty cols 200; fpath=({folder} $fpath); autoload -U compinit; compinit -D -u; print READ''Y\n".encode())
+    came, is_sent, left, until = b"", False, wanted, time.monotonic() + SECONDS
+    while left and time.monotonic() < until and select.select([master], [], [], 1 + until - time.monotonic())[0]:
+        came += os.read(master, 65536)
+        if not is_sent and b"READY" in came:
+            came, is_sent = b"", True
+            os.write(master, typed.encode() + b"\t\t")
+        shown = re.sub(r"\x1b\[[0-9;?]*\w", "", came.decode("utf-8", "replace"))
+        left = [pattern for pattern in left if not re.search(pattern, shown, re.M)]
+    os.write(master, b"\3exit\n")
+    os.close(master)
+    os.waitpid(process, 0)
+    return left
+
+
+def check_zsh(folder):
+    def explained(names):
+        return [rf"^(-. +)?{name} +(-. +)?-- \w" for name in sorted(names)]
+
+    for typed, wanted in (("v7 ld -", explained(options_of("v7-ld"))), ("v7 ", explained(terminal.TOOLS)), ("v7 ld ma", ["v7 ld main.o"]),
+                          ("v7-explain -", explained(options_of("v7-explain") | BESIDE["v7-explain"]))):
+        terminal.expect(f"zsh: {typed}: not shown", zsh(folder, typed, wanted), [])
+
+
+def main(words):
+    with tempfile.TemporaryDirectory() as made:
+        folder = os.path.abspath(words[0]) if words else made
+        if not words:
+            subprocess.run([sys.executable, f"{TOP}/packaging/completion.py", folder], check=True)
+        shutil.copytree(f"{TOP}/examples", f"{made}/examples")
+        os.chdir(f"{made}/examples")
+        count = check_bash(f"{folder}/v7.bash")
+        shells = "bash"
+        if shutil.which("zsh"):
+            check_zsh(folder)
+            shells = "bash and zsh"
+        os.chdir(TOP)
+    if terminal.failed:
+        sys.exit(f"{len(terminal.failed)} completions differ")
+    print(f"completion in {shells}: {len(WANTED)} lines, and {count} options with their meaning")
+
+
+if __name__ == "__main__":
+    if len(sys.argv) > 2:
+        sys.exit(__doc__)
+    main(sys.argv[1:])

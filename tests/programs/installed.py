@@ -1,0 +1,122 @@
+#!/usr/bin/env python3
+"""Looks at what is installed: no link of a document or a page is dead, and lines of prose have at most 100 columns.
+
+usage: python3 -m tests.programs.installed look FOLDER      what is below this folder, or a file
+       python3 -m tests.programs.installed make BUILD       installs the programs of BUILD by packaging/installed.py, as `make install` does, into a new
+                                           folder, with the mask 077; looks, calls a program as another user, and uninstalls
+
+A file FOO.gz may be in place of FOO, as on Debian.
+"""
+import glob
+import html.parser
+import os
+import re
+import subprocess
+import sys
+import tempfile
+
+import installed
+from tests import TOP
+
+NOBODY = 65534
+
+
+class Page(html.parser.HTMLParser):
+    """The links and the names of a page."""
+
+    def __init__(self, text):
+        super().__init__()
+        self.links, self.names = [], set()
+        self.feed(text)
+
+    def handle_starttag(self, tag, attrs):
+        for key, value in attrs:
+            if key in ("href", "src"):
+                self.links.append(value)
+            elif key in ("id", "name"):
+                self.names.add(value)
+
+
+def names_in(path):
+    """The places in a file that a link can name."""
+    text = installed.read(path)
+    if path.endswith(".html"):
+        return Page(text).names
+    return {re.sub(r"[^\w\- ]", "", name.lower()).replace(" ", "-") for name in re.findall(r"^#+ (.*)$", text, re.M)}
+
+
+def links_of(path):
+    text = installed.read(path)
+    if path.endswith(".html"):
+        return Page(text).links
+    return [target + (heading or "") for line, is_prose in installed.prose(text) if is_prose
+            for _, _, target, heading in installed.LINK.findall(line)]
+
+
+def dead_in(path):
+    """The links of a file that lead nowhere."""
+    for link in links_of(path):
+        target, _, heading = link.partition("#")
+        if re.match(r"[a-z]+:", target):
+            continue
+        place = os.path.normpath(os.path.join(os.path.dirname(path), target)) if target else path
+        if not os.path.exists(place) and not os.path.exists(place + ".gz"):
+            yield f"{path}: no file {link}"
+        elif heading and heading not in names_in(place):
+            yield f"{path}: no place {link}"
+
+
+def wide_in(path):
+    """The lines of prose that are too wide. A word alone may be."""
+    for number, (line, is_prose) in enumerate(installed.prose(installed.read(path)), 1):
+        if is_prose and len(line) > installed.WIDTH and not line.startswith(("|", "#", "!")) and " " in line.strip():
+            yield f"{path}:{number}: {len(line)} columns"
+
+
+def look(folder):
+    """The faults below a folder, and how many files and links were looked at."""
+    paths = [folder] if os.path.isfile(folder) else glob.glob(f"{folder}/**", recursive=True)
+    pages = [path for path in paths if path.endswith((".md", ".html")) and os.path.isfile(path)]
+    faults = [fault for path in pages for fault in dead_in(path)]
+    faults += [fault for path in pages if path.endswith(".md") for fault in wide_in(path)]
+    return faults, len(pages), sum(len(links_of(path)) for path in pages)
+
+
+def make(build):
+    """Installs, looks and uninstalls. The faults."""
+    os.umask(0o077)
+    script = f"{TOP}/packaging/installed.py"
+    with tempfile.TemporaryDirectory() as room:
+        os.chmod(room, 0o755)
+        stage, dest = f"{room}/stage", f"{room}/dest"
+        subprocess.run([sys.executable, script, "put", build, f"{stage}/usr/local"], check=True)
+        subprocess.run([sys.executable, script, "copy", stage, dest, "/usr/local"], check=True)
+        root = f"{dest}/usr/local"
+        faults, pages, links = look(root)
+        closed = [path for path in glob.glob(f"{root}/**", recursive=True) if not os.stat(path).st_mode & 0o004]
+        faults += [f"others cannot read {path}" for path in closed]
+        for program in installed.PROGRAMS.values():
+            how = {"user": NOBODY, "group": NOBODY, "extra_groups": []} if os.getuid() == 0 else {}
+            ran = subprocess.run([f"{root}/bin/{program}", "--version"], stdout=subprocess.PIPE, stderr=subprocess.STDOUT, check=False, text=True, **how)
+            faults += [] if ran.returncode == 0 or program == "v7" and ran.stdout == "v7: usage\n" else [f"{program}: {ran.stdout}"]
+        there = {os.path.relpath(path, root) for path in glob.glob(f"{root}/**", recursive=True)}
+        has_html = installed.has_tools()
+        for wanted in ("share/doc/v7/lesson.html", "share/doc/v7/docs/TUTORIAL.html", "share/doc/v7/man/v7.1.html", "share/man/man1/v7-ld.1",
+                       "share/bash-completion/completions/v7-explain", "share/zsh/site-functions/_v7"):
+            faults += [] if wanted in there or wanted.endswith(".html") and not has_html else [f"{wanted} is not installed"]
+        subprocess.run([sys.executable, script, "remove", dest, "/usr/local"], check=True)
+        left = glob.glob(f"{dest}/**", recursive=True) if os.path.exists(dest) else []
+        faults += [f"left: {path}" for path in left]
+    return faults, pages, links
+
+
+def main(words):
+    if len(words) != 2 or words[0] not in ("look", "make"):
+        sys.exit(__doc__)
+    faults, pages, links = look(words[1]) if words[0] == "look" else make(words[1])
+    print("\n".join(faults) or f"what is installed: {pages} documents and pages with {links} links, none of them dead")
+    return 1 if faults else 0
+
+
+if __name__ == "__main__":
+    sys.exit(main(sys.argv[1:]))

@@ -1,0 +1,477 @@
+#!/usr/bin/env python3
+"""Calls each program with the largest input of each kind, and expects an answer. tests/libv7/largest_library.py does so for libv7.
+
+A contract cannot say that memory is found, so a body that answers `no memory` from some size on is proved. Here it fails. What is
+expected is computed from the inputs: links, lists and sessions by tests/oracles/model.py, instructions by tests/oracles/disassembly.py, notes by
+tests/oracles/notes.py, and the rest below.
+
+usage: largest.py FOLDER [ROW ..]      with the programs v7, v7-explain, v7-object, v7-from-gnu and v7-lesson in the folder. All rows
+                                       of the table are tried, or these: 'v7-explain -m, objects'
+"""
+import itertools
+import multiprocessing
+import os
+import re
+import struct
+import subprocess
+import sys
+import tempfile
+
+from tests.oracles import agree
+from tests.oracles import map as maps
+from tests.oracles import model
+from tests.oracles import notes
+from tests.oracles.disassembly import NOP, File, in_listing
+from tests.lib.gnu_form import gnu_named
+
+WORDS = model.SEGMENT_LIMIT // 2
+SYMBOLS, NAMES, NUMBERS = model.SYMBOLS_LIMIT, model.NAMES_LIMIT, model.NUMBER_LIMIT + 1
+OBJECTS = 1000
+WANTED, NUMBER, LABEL, LOCAL = 0o40, 0o41, 0o42, 0o2
+FORCED = [f"-u_f{number}" for number in range(model.FORCED_LIMIT)]
+BAD_KIND, BAD_NUMBER = 0o12, 0o10 + 16 * 4000
+SECONDS = 300
+
+
+# --- inputs
+
+def named(count, kind=WANTED, value=0, first=0):
+    """So many symbols with names of their own."""
+    return [(b"n%05d\0\0" % number, kind, value) for number in range(first, first + count)]
+
+
+def file_of(text=0, data=0, symbols=(), relocs=(0,), word=NOP, bss=0, magic=0o407, flag=0):
+    """A file of so many equal words, whose relocation words take turns."""
+    def relocated(count):
+        return None if flag else [relocs[place % len(relocs)] for place in range(count)]
+    return File([word] * text, relocated(text), list(symbols), magic, [word] * data, relocated(data), bss)
+
+
+def referring():
+    """A file of references to as many names as a relocation word can number."""
+    return file_of(WORDS, WORDS, named(NUMBERS), [0o10 + 16 * number for number in range(NUMBERS)], 0)
+
+
+def split(kind):
+    """Files that have all names of a session together."""
+    firsts = range(0, NAMES, SYMBOLS)
+    return [file_of(symbols=named(min(SYMBOLS, NAMES - first), kind, 0, first)) for first in firsts]
+
+
+def chained():
+    """Files of two words: the first refers to a name of the file before, the second to a common of all. Each defines one more name anew."""
+    labels = named(OBJECTS, LABEL)
+    same = named(1, WANTED, 4, OBJECTS)
+    return [file_of(2, 0, [labels[place], *named(1, first=(place - 1) % OBJECTS), *same, *named(1, NUMBER, place, OBJECTS + 1)], [0o30, 0o50], 0)
+            for place in range(OBJECTS)]
+
+
+KINDS = {
+    "text": [file_of(WORDS)],
+    "data": [file_of(0, WORDS)],
+    "text and data": [file_of(WORDS, WORDS)],
+    "bss": [file_of(bss=model.SEGMENT_LIMIT)],
+    "undefined names": [file_of(symbols=named(SYMBOLS))],
+    "numbers": [file_of(symbols=named(SYMBOLS, NUMBER, 8))],
+    "labels": [file_of(1, 0, named(SYMBOLS, LABEL))],
+    "locals": [file_of(1, 0, named(SYMBOLS, LOCAL))],
+    "commons": [file_of(symbols=named(SYMBOLS, WANTED, 2))],
+    "equal names": [file_of(symbols=named(1, NUMBER, 8) + named(1, NUMBER, 9) * (SYMBOLS - 1))],
+    "references": [referring()],
+    "references, then definitions": [referring(), file_of(symbols=named(NUMBERS, NUMBER, 8))],
+    "symbol numbers over 4,095": [file_of(symbols=named(NUMBERS)), file_of(1, 1, named(1, first=NUMBERS), [0o10], 0)],
+    "odd words": [file_of(WORDS, WORDS, (), [0o22], 0o177776)],
+    "odd symbols": [file_of(symbols=[(b"a b\1\0\0\0\0", 0o377, 1)] * SYMBOLS)],
+    "bad relocation": [file_of(9, WORDS, (), [BAD_KIND])],
+    "bad symbol numbers": [file_of(9, WORDS, named(9), [BAD_NUMBER])],
+    "undefined names of a session": split(WANTED),
+    "definitions of a session": split(NUMBER),
+    "objects": chained(),
+}
+for magic in model.NORMAL, model.PURE, model.SPLIT, model.OVERLAY:
+    for flag in 0, 1:
+        KINDS[f"magic 0{magic:o}, flag {flag}"] = [file_of(WORDS, WORDS, named(SYMBOLS, NUMBER), magic=magic, flag=flag)]
+ALONE = [kind for kind, files in KINDS.items() if len(files) == 1]
+# what the last addition overwrites: words that are bound, and names that are defined
+MARKS = {"references, then definitions": 2 * WORDS + NUMBERS, "objects": 1 + 1}
+GOOD = [kind for kind in KINDS if not kind.startswith(("bad", "magic"))] + ["magic 0407, flag 0"]
+
+
+def encoded(kind):
+    """The bytes of each file, by its path."""
+    return {f"{place}.o": file.encoded() for place, file in enumerate(KINDS[kind])}
+
+
+def merged(files):
+    """The files as the model has them."""
+    return model.Merged([model.read_object(file) for file in files], ())
+
+
+# --- what is found
+
+class Unlike(Exception):
+    """What an answer should be."""
+
+
+def check(what, found, wanted):
+    if found != wanted:
+        raise Unlike(f"{what}: {str(found)[:200]} and not {str(wanted)[:200]}")
+
+
+def check_lines(what, found, wanted):
+    for number, (one, other) in enumerate(zip(found, wanted), 1):
+        check(f"{what}, line {number}", one, other)
+    check(f"{what}, lines", len(found), len(wanted))
+
+
+def answer(program, *words):
+    """The status of a program, and its outputs."""
+    done = subprocess.run([os.path.join(FOLDER, program), *words], capture_output=True, timeout=SECONDS, check=False)
+    return done.returncode, done.stdout.decode("latin-1"), done.stderr.decode("latin-1")
+
+
+def written(files):
+    for path, data in files.items():
+        with open(path, "wb") as file:
+            file.write(data)
+    return list(files)
+
+
+def read(path):
+    with open(path, "rb") as file:
+        return file.read()
+
+
+# --- v7
+
+def commands(paths):
+    """What v7 does with files; the last command changes them."""
+    script = [*(f"add {path}" for path in paths), "externals", "undefined", "link out", *["withdraw"] * (len(paths) + 1)]
+    yield ["session", "-s"], "\n".join(script).encode()
+    # the model merges all objects again for each of them
+    for options in ([], ["-r"], ["-i"], ["-s"], ["-x"], ["-n"], FORCED) if len(paths) < 3 else (["-s"],):
+        yield ["ld", *options, "-o", "out", *paths], b""
+    for options in ([], ["-g"], ["-no"], ["-p"], ["-r"], ["-u"]) if len(paths) < 3 else ([], ["-no"]):
+        yield ["nm", *options, *paths], b""
+    yield ["size", *paths], b""
+    yield ["strip", *paths], b""
+
+
+def longest(word, path):
+    """The longest line of a session with a path, which has empty names between its slashes."""
+    start = f"{word} ."
+    return start + (model.LINE_LIMIT - len(start) - len(path)) * "/" + path
+
+
+def played(files, done):
+    """Each command does what the model does."""
+    difference = agree.compare(os.path.join(FOLDER, "v7"), agree.Case(files, done))[2]
+    if difference:
+        raise Unlike(f"{' '.join(difference[1][:3])}: {'; '.join(difference[0])}")
+
+
+def by_v7(kind):
+    files = encoded(kind)
+    played(files, list(commands(list(files))))
+
+
+def longest_lines(kind):
+    """Lines of the most bytes."""
+    script = [longest("add", "0.o"), "withdraw", longest("add", "0.o"), longest("link", "out")]
+    played(encoded(kind), [(["session"], "\n".join(script).encode())])
+
+
+# --- v7-explain and v7-object
+
+def check_notes(data, status, text):
+    """The notes of a listing, and the status that they lead to."""
+    wanted, _ = notes.notes_of(data)
+    found = re.findall(r"^/ ((?:wrong: |odd: |an? ).*)$", text, re.M)
+    check_lines("notes", found, wanted)
+    check("status", status, int(any(note.startswith("wrong") for note in wanted)))
+
+
+def listed(kind):
+    """The listing has all notes and all lines of the text, and makes the file again."""
+    (file,), (data,) = KINDS[kind], encoded(kind).values()
+    paths = written(encoded(kind))
+    status, text, errors = answer("v7-explain", *paths)
+    check("errors", errors, "")
+    check_notes(data, status, text)
+    lines = [line for line in text.split("\n") if not line.startswith("/")]
+    check_lines("text", lines[lines.index("text") + 1:lines.index("data")], file.listing())
+    with open("listing", "w", encoding="ascii") as listing:
+        listing.write(text)
+    check("v7-object", answer("v7-object", "listing", "again"), (0, "", ""))
+    check("the file again", read("again"), data)
+    if status == 0:
+        check("-o", answer("v7-explain", "-o", "stored", *paths), (0, "", ""))
+        check("the listing that is stored", read("stored").decode("ascii"), text)
+
+
+def listed_together(kind):
+    """Each file has its listing."""
+    status, text, errors = answer("v7-explain", *written(encoded(kind)))
+    check("status", (status, errors), (0, ""))
+    check("titles", re.findall(r"^/ (\d+\.o): 0", text, re.M), list(encoded(kind)))
+    words = sum(len(file.words) for file in KINDS[kind])
+    check("words", len(re.findall(r"^[0-7]{6}  [0-7]{6}  ", text, re.M)), words)
+    symbols = sum(len(file.symbols) for file in KINDS[kind])
+    check("symbols", len(re.findall(r"^[0-7]+ +\S+ +[0-7]+  [0-7]{6}  [A-Za-z]$", text, re.M)), symbols)
+
+
+# what is not an a.out file, and what its note has
+OTHER_FILES = {
+    "text": (b"a line of text\n" * 100000, "this is text"),
+    "archive": (b"!<arch>\n" + bytes(1000000), "this is an archive"),
+    "ELF file": (b"\x7fELF" + bytes(1000000), "this is an ELF file"),
+    "object of GNU's assembler": (gnu_named([NOP] * WORDS, [0] * WORDS, [(b"n", WANTED, 0)] * 8191), "v7-from-gnu"),
+}
+
+
+def recognized(kind):
+    """A file that is damaged as an a.out file, and what it is."""
+    data, note = OTHER_FILES[kind]
+    status, text, errors = answer("v7-explain", *written({"file": data}))
+    check("answer", (status, errors, "\n/ wrong: " in text, note in text), (1, "", True, True))
+
+
+def checked(kind):
+    """What v7 ld says of each file, or nothing."""
+    files = encoded(kind)
+    refused = [f"v7-explain: {path}: {text}\n" for path, data in files.items() for text in notes.notes_of(data)[1]]
+    check("answer", answer("v7-explain", "-c", *written(files)), (int(bool(refused)), "", "".join(refused)))
+
+
+def shown(kind):
+    """The instructions of each file, without arguments of system calls and with them."""
+    files = written(encoded(kind))
+    for option, knows_calls in (("-p", False), ("-d", True)):
+        status, text, errors = answer("v7-explain", option, *files)
+        check("errors", errors, "")
+        lines = [line for line in text.split("\n")[:-1] if not line.startswith("/")]
+        for file in KINDS[kind]:
+            file.knows_calls = knows_calls
+        check_lines("instructions", lines, [line for file in KINDS[kind] for line in file.disassembly()])
+        check("status", status, int(kind.startswith("bad")))
+
+
+def rows(words, start, letter):
+    """Words in rows of eight, as `-s` and `-x` show them."""
+    def at(place):
+        return f"{place % 65536:06o}" if letter == "s" else f"{place % 65536:04x}"
+
+    def line(row):
+        numbers = [f" {word:06o}" if letter == "s" else f" {word % 256:02x} {word // 256:02x}" for word in row]
+        text = b"".join(struct.pack("<H", word) for word in row)
+        shown_text = "".join(chr(byte) if 32 <= byte < 127 else "." for byte in text)
+        return f"{''.join(numbers):{56 if letter == 's' else 48}}  {shown_text}"
+
+    for row, alike in itertools.groupby(tuple(words[place:place + 8]) for place in range(0, len(words), 8)):
+        more = len(list(alike)) - 1
+        yield f"{at(start)} {line(row)}"
+        if more == 1:
+            yield f"/ {at(start + 16)}: the row before, once"
+        elif more:
+            yield f"/ {at(start + 16)} to {at(start + 16 * more)}: the row before, {more} times"
+        start += 16 * (more + 1)
+
+
+def dumped(data, letter):
+    """The lines of a file in a dump, without its notes."""
+    file = notes.File(data)
+    start = {0o410: (file.text + 8191) // 8192 * 8192, 0o411: 0}.get(file.magic, file.text)
+    for name, size, begin, place in (("text", file.text, 0, 16), ("data", file.data_size, start, file.data_at)):
+        yield f"/ {name}: {size} bytes from {begin % 65536:0{6 if letter == 's' else 4}{'o' if letter == 's' else 'x'}}"
+        yield from rows(struct.unpack_from(f"<{size // 2}H", data, place), begin, letter)
+
+
+def shown_in_rows(kind):
+    """Text and data of each file in rows."""
+    files = encoded(kind)
+    for letter in "sx":
+        status, text, errors = answer("v7-explain", f"-{letter}", *written(files))
+        check("errors", errors, "")
+        lines = [line for line in text.split("\n")[:-1] if not re.match(r"/ (\d+\.o: 0|an? |wrong: )", line)]
+        check_lines(f"rows of -{letter}", lines, [line for data in files.values() for line in dumped(data, letter)])
+        check("status", status, int(kind.startswith("bad")))
+
+
+def inventoried(kind):
+    """A line for each file."""
+    files = encoded(kind)
+    lines = [notes.inventory_of(path, data) + "\n" for path, data in files.items()]
+    check("answer", answer("v7-explain", "-l", *written(files)), (0, "".join(lines), ""))
+
+
+def linked(files, letters):
+    """The link of files, or why it is refused."""
+    try:
+        return model.Link(merged(files), model.Arguments(set(letters), {}, [])), None
+    except model.Refused as refused:
+        return None, str(refused)
+
+
+def mapped(kind):
+    """The map has each object, each external, and each word that refers to one; with -y, each external that is asked for."""
+    files = encoded(kind)
+    together, paths = merged(files.values()), written(files)
+    places = sum(reloc & 0o16 == 0o10 for file in KINDS[kind] for reloc in file.relocation + file.data_relocation)
+    for letters in "", "r", "i", "s":
+        status, text, errors = answer("v7-explain", "-m", *(f"-{letter}" for letter in letters), *paths)
+        link, fault = linked(files.values(), letters)
+        check(f"-m {letters}", (status, errors), (int(link is None or bool(link.report)), ""))
+        found = maps.parts(text)
+        said = f"refused, {fault}" if fault else f"made, with {'something' if link.report else 'nothing'} to report"
+        check(f"-m {letters}", found[""][0], f"Link of {len(files)} object{'s' if len(files) > 1 else ''}: {said}")
+        check(f"-m {letters}, objects", [line.split()[-1] for line in found["Objects"][1:]], paths)
+        names = maps.names_in(found.get("Externals", []))
+        check(f"-m {letters}, externals", list(names), [in_listing(name) for name in sorted(together.externals)])
+        words = sum(len(lines) for _, _, places in names.values() for lines in places.values())
+        check(f"-m {letters}, words", words, places)
+    asked = sorted(name for name in together.externals if name.isascii())[::4]
+    status, text, errors = answer("v7-explain", "-m", *(word for name in [b"_absent", *asked] for word in ("-y", name)), *paths)
+    check("-m -y", (status, errors), (1, ""))
+    lines = maps.parts(text)["Externals"]
+    check("-m -y, an absent name", lines[-1], "  _absent: not mentioned")
+    check("-m -y, externals", list(maps.names_in(lines[:-1])), [in_listing(name) for name in asked])
+
+
+def object_made(kind):
+    """A listing that is written here makes the file."""
+    (file,), (data,) = KINDS[kind], encoded(kind).values()
+    start = {model.PURE: -(-2 * len(file.words) // model.PAGE) * model.PAGE, model.SPLIT: 0}.get(file.magic, 2 * len(file.words))
+    sections = [(0, file.words, file.relocation), (start, file.data, file.data_relocation)]
+    lines = [f"magic {file.magic:o}", f"flag {int(file.relocation is None)}"]
+    for title, (start, words, relocs) in zip(("text", "data"), sections):
+        last = ["" if relocs is None else f" {reloc:o}" for reloc in relocs or words]
+        lines += [title, *(f"{(start + 2 * place) % 65536:o} {word:o}{last[place]}" for place, word in enumerate(words))]
+    lines += [f"bss {file.bss:o}", "symbols", "/" + 100000 * " remark"]
+    for number, (name, of, value) in enumerate(file.symbols):
+        lines.append(f"{number:o} {in_listing(name)} {of:o} {value:o}")
+    written({"listing": "\n".join(lines).encode()})
+    check("answer", answer("v7-object", "listing", "made"), (0, "", ""))
+    check("the file", read("made"), data)
+
+
+# --- v7-lesson
+
+def taught(kind):
+    """The last addition, with each word and each name, and how many marks it leaves; and nothing after all are withdrawn."""
+    files = encoded(kind)
+    together, paths = merged(files.values()), written(files)
+    status, text, errors = answer("v7-lesson", "-n", str(len(paths)), *paths)
+    check("status", (status, errors), (0, ""))
+    lines = text.split("\n")[:-1]
+    check("title", lines[0], f"add {paths[-1]}")
+    for segment, words in (("text", [file.words for file in KINDS[kind]]), ("data", [file.data for file in KINDS[kind]])):
+        found = [line.split()[1] for line in lines if line.startswith(f"  {segment} ")]
+        check_lines(segment, found, [f"{2 * place:06o}" for place in range(sum(map(len, words)))])
+    names = re.findall(r"^  name (\S+): (?!multiply)", text, re.M)
+    check_lines("names", names, [*map(in_listing, together.externals)])
+    check("multiples", len(re.findall("^  name .*: multiply defined$", text, re.M)), len(together.multiples))
+    check("marks", len(re.findall("^  mark ", text, re.M)), MARKS.get(kind, 0))
+    last = str(2 * len(paths))
+    check("the end", answer("v7-lesson", "-n", last, *paths), (0, f"withdraw {paths[0]}\n  nothing\n", ""))
+
+
+# --- v7-from-gnu
+
+def long_named(count, kind, first=0):
+    """Names that are cut at eight bytes. The last of 5,461 begins before the place 65,536, and so it has a number."""
+    return [(name.rstrip(b"\0") + b"xx_lo", of, value) for name, of, value in named(count, kind, 0, first)]
+
+
+def cut(rows):
+    return [(name[:8], kind, value) for name, kind, value in rows]
+
+
+GNU_FILES = {
+    "text": ([0o240] * WORDS, [0] * WORDS, []),
+    "references": ([0] * WORDS, [0o10 + 16 * (place % NUMBERS) for place in range(WORDS)], named(NUMBERS)),
+    "long names": ([], [], long_named(SYMBOLS, WANTED)),
+    "locals": ([], [], named(SYMBOLS, NUMBER) + named(8191 - SYMBOLS, LOCAL)),
+    "symbols for a debugger": ([], [], [(b"x", 0o144, 0)] * (8191 - SYMBOLS) + named(SYMBOLS)),
+}
+
+
+def to_convert(kind):
+    """A file in GNU's form, the lines of names that are cut, and the object that it becomes without locals and symbols for a debugger."""
+    words, relocs, rows = GNU_FILES[kind]
+    data = gnu_named(words, relocs, [(name.rstrip(b"\0"), of, value) for name, of, value in rows])
+    kept = [row for row in rows if row[1] not in (LOCAL, 0o144)]
+    told = [f"v7-from-gnu: in: {name.decode()} is cut to {name[:8].decode()}\n" for name, _, _ in kept if len(name) > 8]
+    return data, "".join(told), agree.pack(list(zip(words, relocs)), symbols=cut(kept))
+
+
+def converted(kind):
+    """The object of GNU's form becomes that of the Seventh Edition."""
+    data, told, made = to_convert(kind)
+    written({"in": data})
+    check("answer", answer("v7-from-gnu", "-SX", "in", "out"), (0, "", told))
+    check("the object", read("out"), made)
+
+
+# files that are converted together: many, and those that have the names of a session
+GNU_LISTS = {
+    "objects": [long_named(1, LABEL, place + 1) + long_named(1, WANTED, place) for place in range(OBJECTS)],
+    "names of a session": [long_named(SYMBOLS, NUMBER, first) for first in range(0, NAMES - SYMBOLS, SYMBOLS)],
+}
+
+
+def converted_together(kind):
+    """All files are converted to a folder."""
+    files = {f"{place}.o": rows for place, rows in enumerate(GNU_LISTS[kind])}
+    written({path: gnu_named([NOP], [0], rows) for path, rows in files.items()})
+    os.mkdir("out")
+    check("answer", answer("v7-from-gnu", "-q", "-o", "out", *files), (0, "", ""))
+    for path, rows in files.items():
+        check(path, read(f"out/{path}"), agree.pack([(NOP, 0)], symbols=cut(rows)))
+
+
+# --- the table
+
+TABLE = [
+    ("v7", by_v7, [*KINDS]),
+    ("v7 session", longest_lines, ["references"]),
+    ("v7-explain", listed, ALONE),
+    ("v7-explain of many", listed_together, ["objects", "definitions of a session"]),
+    ("v7-explain of other files", recognized, [*OTHER_FILES]),
+    ("v7-explain -c", checked, [*KINDS]),
+    ("v7-explain -d", shown, [*KINDS]),
+    ("v7-explain -l", inventoried, [*KINDS]),
+    ("v7-explain -s", shown_in_rows, [*KINDS]),
+    ("v7-explain -m", mapped, GOOD),
+    ("v7-object", object_made, ALONE),
+    ("v7-lesson", taught, GOOD),
+    ("v7-from-gnu", converted, [*GNU_FILES]),
+    ("v7-from-gnu -o", converted_together, [*GNU_LISTS]),
+]
+
+
+def fault_of(row):
+    """What is wrong with the answer to a kind of input, in a folder of its own."""
+    name, call, kind = row
+    with tempfile.TemporaryDirectory() as folder:
+        os.chdir(folder)
+        try:
+            call(kind)
+        except Exception as unlike:  # also what a script cannot read of a wrong answer
+            return f"{name}, {kind}: {str(unlike) or repr(unlike)}"
+        finally:
+            os.chdir("/")
+    return None
+
+
+def main(what, table, wanted=()):
+    """Tries all rows, or those that are wanted, and prints what is wrong; whether there is something."""
+    rows = [(name, call, kind) for name, call, kinds in table for kind in kinds if not wanted or f"{name}, {kind}" in wanted]
+    with multiprocessing.Pool() as pool:
+        faults = [fault for fault in pool.imap(fault_of, rows, chunksize=1) if fault]
+    print(*faults, f"{what}: {len(rows) - len(faults)} of {len(rows)} answers to the largest inputs of {len(KINDS)} kinds as computed", sep="\n")
+    return int(bool(faults))
+
+
+if __name__ == "__main__":
+    FOLDER = os.path.abspath(sys.argv[1])
+    sys.exit(main("programs", TABLE, sys.argv[2:]))

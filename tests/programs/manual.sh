@@ -1,0 +1,106 @@
+#!/bin/sh
+# Runs the examples of the manual pages and of the documents, and compares what is shown with what comes. The examples of a
+# page are its displays, and those of a document its blocks that are indented by four blanks or more; of both, only those
+# whose first line begins with "$ ". There a line after "$ " is typed to the shell, a line after "> " to the program, and all
+# others are what is shown, standard error too. Each file has a new copy of the folder examples, and its commands run in one
+# shell, so that each sees what those before it left. Commands that need a program which is not installed are counted.
+#
+# usage: tests/programs/manual.sh [FILE...]       the programs have to be in build
+set -u
+cd "$(dirname "$0")/../.."
+top=$PWD
+for program in v7 v7-from-gnu v7-object v7-explain v7-lesson; do
+    [ -x build/$program ] || { echo "build/$program is missing: make build/$program makes it"; exit 2; }
+done
+[ $# -gt 0 ] || set -- man/*.1 man/*.5 README.md CONTRIBUTING.md examples/*.md docs/*.md docs/*/*.md
+room=$(mktemp -d)
+trap 'rm -rf "$room"' EXIT
+PATH=$top/build:$PATH
+export PATH
+LC_ALL=C
+export LC_ALL
+
+# the lines of the blocks with examples, and an empty line after each block
+blocks() {
+    case $1 in
+    *.md)
+        awk '/^    / {
+                if (!inside) { inside = 1; match($0, /^ +/); indent = RLENGTH; runs = substr($0, indent + 1) ~ /^\$ / }
+                if (runs) print substr($0, indent + 1)
+                next
+            }
+            { if (inside && runs) print ""; inside = 0 }' "$1"
+        ;;
+    *)
+        awk '/^\.Bd -literal/ { inside = 1; first = 1; next }
+            /^\.Ed/ { if (runs) print ""; inside = 0; runs = 0; next }
+            inside { if (first) { runs = /^\$ /; first = 0 } gsub(/\\&/, ""); gsub(/\\e/, "\\"); if (runs) print }' "$1"
+        ;;
+    esac
+}
+
+# for each command a file N.typed, N.input and N.shown in the room
+commands() {
+    rm -f "$room"/*.typed "$room"/*.input "$room"/*.shown
+    blocks "$1" | awk -v room="$room" '
+        function name(kind) { return sprintf("%s/%03d.%s", room, n, kind) }
+        /^\$ / { if (n) close(name("shown")); n++; print substr($0, 3) >name("typed"); close(name("typed"))
+                 printf "" >name("input"); printf "" >name("shown"); next }
+        n == 0 || /^$/ { next }
+        /^> / { print substr($0, 3) >name("input"); next }
+        { print >name("shown") }'
+}
+
+# runs them in a copy of examples
+run() {
+    rm -rf "$room/build" "$room/examples"
+    mkdir "$room/build"
+    cp -r "$top/examples" "$room/examples"
+    cd "$room/examples" || exit 2
+    status=0
+    ran=0
+    for typed in "$room"/*.typed; do
+        [ -e "$typed" ] || break
+        part=${typed%.typed}
+        line=$(cat "$typed")
+        case $line in
+        "sh simulate.sh "*) needed=pdp11 ;;
+        "pdp11-aout-as "*) needed=pdp11-aout-as ;;
+        "make "*) needed=make ;;
+        *) needed=sh ;;
+        esac
+        command -v "$needed" >/dev/null || { echo "$1: not run, as $needed is missing: $line"; skipped=$((skipped + 1)); continue; }
+        (exit $status)
+        eval "$line" <"$part.input" >"$part.came" 2>&1
+        status=$?
+        ran=$((ran + 1))
+        if ! diff "$part.shown" "$part.came" >"$part.diff"; then
+            echo "$1: $line"
+            cat "$part.diff"
+            failed=1
+        fi
+    done
+    cd "$top" || exit 2
+}
+
+# a page of the manual, on a terminal of 80 columns: groff has nothing to say
+formats() {
+    command -v groff >/dev/null && command -v man >/dev/null || { echo "$1: not formatted, as man or groff is missing"; return; }
+    MANWIDTH=80 man --warnings -l "$1" >/dev/null 2>"$room/warnings"
+    [ ! -s "$room/warnings" ] || { cat "$room/warnings"; echo "$1: groff warns"; failed=1; }
+}
+
+failed=0
+count=0
+skipped=0
+for page in man/*.[1-9]; do
+    [ ! -e "$page" ] || formats "$page"
+done
+for file in "$@"; do
+    commands "$file"
+    run "$file"
+    echo "$file: $ran commands"
+    count=$((count + ran))
+done
+echo "$count commands of $# files were run, and $skipped were not"
+exit $failed

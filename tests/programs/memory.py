@@ -1,0 +1,257 @@
+#!/usr/bin/env python3
+"""Refuses one request for memory after another to each program, and judges what comes of it. tests/libv7/memory_library.py does so for libv7.
+
+usage: python3 -m tests.programs.memory FOLDER [CALL ..]      with the programs v7, v7-explain, v7-object, v7-from-gnu and v7-lesson, and libv7.so, in
+                                             the folder. All calls of the table are tried, or these: 'v7 nm'
+
+A call is run as it is, and then with its first request refused, with its second, and so on, until a run makes fewer requests. For each
+call a line has their number, and how many of the runs came out as if nothing had been refused. In any other run the answer has to be
+`no memory`, in its place:
+
+- The status is 2, and the line of the fault is all of standard error. Standard output has the answers for the files before.
+- Nothing is stored, and each file is as it was.
+- A session answers a line by `no memory`, and goes on as if that line were not there. A withdrawal is made whatever is refused. If
+  there is no memory for the line itself, the session ends with the fault. What came before it is done.
+- A later request is not refused at an earlier place.
+"""
+import os
+import re
+import subprocess
+import sys
+import tempfile
+import time
+from dataclasses import dataclass, field
+
+from tests import TOP
+from tests.cases.case_files import sample
+from tests.cases.cases import snapshot
+from tests.lib.watching import Watch, compiled
+
+SECONDS = 60
+NO_MEMORY = b"no memory\n"
+# the line of the fault, of a program that says where it was
+FAULTS = {"v7-lesson": r"v7-lesson: (.+: )?no memory\n"}
+
+
+class Wrong(Exception):
+    """What is wrong in a run."""
+
+
+@dataclass
+class Call:
+    """A command, the files that it needs, and what it reads. Its answer for a file begins as `begins` says; without that, all of its
+    answer is one."""
+    name: str
+    words: list
+    files: dict
+    begins: bytes = rb"\A"
+    script: list = field(default_factory=list)
+
+
+@dataclass
+class Ran:
+    """What came of a run: its files are those of the folder after it."""
+    status: int
+    output: bytes
+    error: bytes
+    files: dict
+    was_refused: bool = False
+
+
+# --- the calls
+
+def example(name):
+    with open(os.path.join(TOP, "examples", name), "rb") as file:
+        return file.read()
+
+
+def examples(*names):
+    return {os.fsencode(os.path.basename(name)): example(name) for name in names}
+
+
+def samples(*names):
+    return {name: sample(0, name) for name in names}
+
+
+OBJECTS = examples("main.o", "twice.o", "count.o")
+COMMONS = samples(b"k.o", b"c.o", b"d.o")
+GNU = examples("main.gnu", "twice.gnu", "squares.gnu")
+SCRIPT = ["add main.o", "add k.o", "undefined", "withdraw", "add twice.o", "link half", "add count.o", "externals", "link whole", "withdraw",
+          "withdraw", "add count.o", "add none.o", "link again"]
+
+
+def calls():
+    """Each call once, of few and small files."""
+    objects = [*map(os.fsdecode, OBJECTS)]
+    yield Call("v7 ld", ["v7", "ld", "-o", "out", "-e", "_main", *objects, "k.o"], {**OBJECTS, **COMMONS})
+    yield Call("v7 ld -r -u", ["v7", "ld", "-r", "-d", "-X", "-u", "_z", "-o", "out", "c.o", "k.o"], COMMONS)
+    yield Call("v7 ld, a report", ["v7", "ld", "-i", "-o", "out", "main.o", "main.o"], OBJECTS)
+    yield Call("v7 nm", ["v7", "nm", *objects], OBJECTS, rb"(?m)^\S+:$")
+    yield Call("v7 nm -p -r", ["v7", "nm", "-pr", "main.o", "d.o"], {**OBJECTS, **COMMONS}, rb"(?m)^\S+:$")
+    yield Call("v7 size", ["v7", "size", *objects], OBJECTS, rb"(?m)^")
+    yield Call("v7 strip", ["v7", "strip", *objects], OBJECTS)
+    yield Call("v7 session", ["v7", "session", "-d"], {**OBJECTS, **COMMONS}, script=SCRIPT)
+    yield Call("v7 session -r -u", ["v7", "session", "-r", "-u", "_z"], {**OBJECTS, **COMMONS}, script=SCRIPT)
+    listed = {**OBJECTS, **examples("total/say.o")}
+    for letter in "", "-c", "-d", "-p", "-s", "-x", "-l":
+        yield Call(f"v7-explain {letter}".rstrip(), ["v7-explain", *letter.split(), "main.o", "say.o"], listed)
+    yield Call("v7-explain -o", ["v7-explain", "-o", "out", "say.o"], listed)
+    yield Call("v7-explain -l -R", ["v7-explain", "-l", "-R", "in"], {b"in/a.o": example("main.o"), b"in/b/c.o": example("total/say.o")})
+    yield Call("v7-explain -m", ["v7-explain", "-m", "-y", "_count", "main.o", "twice.o", "k.o"], {**OBJECTS, **COMMONS})
+    yield Call("v7-object", ["v7-object", "main.lst", "out"], examples("main.lst"))
+    yield Call("v7-from-gnu", ["v7-from-gnu", "squares.gnu", "out"], GNU)
+    yield Call("v7-from-gnu -o", ["v7-from-gnu", "-o", "made", *map(os.fsdecode, GNU)], {**GNU, b"made/old": b""})
+    lessons = {**examples("k.o", "l.o"), b"questions": b"lesson A\nadd k.o\nask Which name?\nname _x\n"}
+    yield Call("v7-lesson", ["v7-lesson", "k.o", "l.o"], lessons, rb"(?m)^\w+ \S+\.o$")
+    yield Call("v7-lesson -c", ["v7-lesson", "-c", "k.o", "l.o"], lessons, rb"(?m)^\w+ \S+\.o$")
+    yield Call("v7-lesson -p", ["v7-lesson", "-p", os.path.join(TOP, "page"), "-q", "questions", "k.o"], lessons)
+
+
+# --- runs
+
+class Player:
+    """Runs the commands of a call in a folder that has its files before each run."""
+
+    def __init__(self, programs, folder, call):
+        self.program = os.path.join(programs, call.words[0])
+        self.folder, self.call = folder, call
+        self.there = {}
+
+    def restore(self):
+        """Makes the files as they are before the call."""
+        for path in self.there.keys() - self.call.files.keys():
+            os.remove(os.path.join(os.fsencode(self.folder), path))
+        for path, data in self.call.files.items():
+            if self.there.get(path) != data:
+                place = os.path.join(os.fsencode(self.folder), path)
+                os.makedirs(os.path.dirname(place), exist_ok=True)
+                with open(place, "wb") as file:
+                    file.write(data)
+
+    def run(self, script=None, number=0):
+        """What comes of a run that reads this script, or that of the call, and has the request of this number refused."""
+        self.restore()
+        watch = Watch([(b"refuse", b"memory %d" % number)])
+        lines = "".join(f"{line}\n" for line in (self.call.script if script is None else script))
+        ran = subprocess.run(self.call.words, executable=self.program, cwd=self.folder, input=lines.encode(), capture_output=True,
+                             env=watch.environment(), timeout=SECONDS, check=False)
+        watch.requests()
+        self.there = snapshot(self.folder)
+        return Ran(ran.returncode, ran.stdout, ran.stderr, self.there, bool(watch.refused))
+
+
+# --- what is right
+
+def expect(what, wanted, came):
+    if wanted != came:
+        raise Wrong(f"{what}: {came!r} in place of {wanted!r}"[:400])
+
+
+def expect_files(wanted, came):
+    others = sorted(path for path in wanted.keys() | came.keys() if wanted.get(path) != came.get(path))
+    if others:
+        raise Wrong(f"files that are other than wanted, or not wanted: {os.fsdecode(b' '.join(others))}")
+
+
+class Command:
+    """Judges the runs of a command by the run in which nothing is refused."""
+
+    def __init__(self, player):
+        self.player, self.call = player, player.call
+        self.whole = player.run()
+        if self.whole.status > 1 or self.whole.was_refused:
+            raise Wrong(f"status {self.whole.status} although nothing is refused: {self.whole.error!r}")
+        self.beginnings = [found.start() for found in re.finditer(self.call.begins, self.whole.output)]
+
+    def place(self, ran):
+        """Judges a run in which a request was refused: how far it went."""
+        expect("status", 2, ran.status)
+        if not re.fullmatch(FAULTS.get(self.call.words[0], rf"{self.call.words[0]}: no memory\n"), os.fsdecode(ran.error)):
+            raise Wrong(f"standard error: {ran.error!r}")
+        if not self.whole.output.startswith(ran.output) or len(ran.output) not in self.beginnings:
+            raise Wrong(f"standard output has a part of an answer: {ran.output[-80:]!r}")
+        expect_files(self.call.files, ran.files)
+        return len(ran.output)
+
+
+class Session(Command):
+    """Judges the runs of a session by sessions without one of its lines, or cut before it."""
+
+    def __init__(self, player):
+        super().__init__(player)
+        script, self.refused, self.ended = self.call.script, {}, {}
+        before = [player.run(script[:number]) for number in range(len(script))]
+        for number, line in enumerate(script):
+            answered = before[number].output
+            self.ended.setdefault(answered, (number, before[number].files))
+            if line != "withdraw":
+                rest = player.run(script[:number] + script[number + 1:])
+                self.refused[answered + NO_MEMORY + rest.output[len(answered):]] = (number, rest.files)
+
+    def place(self, ran):
+        if ran.status == 1 and ran.output in self.refused:
+            number, files = self.refused[ran.output]
+            expect("standard error", b"", ran.error)
+        elif ran.output in self.ended:
+            number, files = self.ended[ran.output]
+            expect("status and standard error", (2, b"v7: " + NO_MEMORY), (ran.status, ran.error))
+        else:
+            raise Wrong(f"status {ran.status}, and answers as of no session without a line: {ran.output!r}")
+        expect_files(files, ran.files)
+        return number
+
+
+def refuse_all(player):
+    """Refuses one request after another: how many there are, how many runs came out as the first, and what was wrong in others."""
+    judge = (Session if player.call.script else Command)(player)
+    number, same, last, faults = 1, 0, None, []
+    while (ran := player.run(number=number)).was_refused:
+        try:
+            if (ran.status, ran.output, ran.error, ran.files) == (judge.whole.status, judge.whole.output, judge.whole.error, judge.whole.files):
+                same += 1
+            else:
+                place = judge.place(ran)
+                if last is not None and place < last:
+                    raise Wrong(f"the place {place} comes before {last}")
+                last = place
+        except Wrong as wrong:
+            faults.append(f"request {number}: {wrong}")
+        number += 1
+    if number == 1 or last is None:
+        faults.append("no request was refused")
+    return number - 1, same, faults
+
+
+def try_call(programs, call):
+    """Prints a line for a call, and what is wrong: how much that is."""
+    begun = time.monotonic()
+    with tempfile.TemporaryDirectory() as folder:
+        try:
+            requests, same, faults = refuse_all(Player(programs, folder, call))
+        except Wrong as wrong:
+            requests, same, faults = 0, 0, [str(wrong)]
+    print(f"{call.name}: {requests} requests" + (f", {same} of them not needed" if same else "") + f", {time.monotonic() - begun:.0f} s")
+    for fault in faults[:10]:
+        print(f"  {fault}")
+    print(f"  {len(faults) - 10} faults more\n" if len(faults) > 10 else "", end="", flush=True)
+    return len(faults)
+
+
+def try_library(programs):
+    """Has tests/libv7/memory_library.py refuse the requests of libv7: how much is wrong."""
+    environment = {**os.environ, "LD_PRELOAD": compiled(), "LIBV7": os.path.join(programs, "libv7.so"),
+                   "PYTHONPATH": os.path.join(TOP, "packaging", "python")}
+    return subprocess.run([sys.executable, "-m", "tests.libv7.memory_library", compiled()], env=environment, check=False).returncode
+
+
+def main(programs, *names):
+    programs = os.path.abspath(programs)
+    faults = sum(try_call(programs, call) for call in calls() if not names or call.name in names)
+    if not names or "libv7" in names:
+        faults += try_library(programs)
+    print(f"requests for memory refused one after another: {faults or 'no'} faults")
+    return 1 if faults else 0
+
+
+if __name__ == "__main__":
+    sys.exit(main(*sys.argv[1:]))

@@ -1,0 +1,274 @@
+#!/usr/bin/env python3
+"""Compares the statuses and the lines of v7-from-gnu, for each reason to refuse an object, and those of v7-lesson, for each step.
+
+usage: statuses.py V7_FROM_GNU LESSON
+
+The object in GNU's form is made here; one byte of it at a time is changed. v7-from-gnu(1) lists the reasons.
+"""
+import os
+import re
+import struct
+import subprocess
+import sys
+import tempfile
+
+from tests import TOP
+from tests.lib.gnu_form import gnu_named, gnu_object, symbol
+
+EXAMPLES = os.path.join(TOP, "examples")
+
+FROM_GNU, LESSON = (os.path.abspath(path) for path in sys.argv[1:3])
+
+
+def v7_named(words, relocation, rows):
+    """The object of the Seventh Edition with these words and rows."""
+    header = [0o407, 2 * len(words), 0, 0, 12 * len(rows), 0, 0, 0]
+    numbers = struct.pack(f"<{8 + 2 * len(words)}H", *header, *words, *relocation)
+    return numbers + b"".join(struct.pack("<8sHH", *row) for row in rows)
+
+
+# relocation at 022 to 024, symbols at 026 to 055, the length of the strings at 056
+GOOD = gnu_object([0o177774], [0o51], [symbol(4, 0o42, 0), symbol(7, 3, 2), symbol(9, 0o40, 0)], b"_f\0x\0_g\0")
+# as a C compiler makes it: a function whose rare part is a local, and a call of a routine that divides
+WORDS = [0o4767, 2, 0o207, 0o4767, 0o177770, 0o207]
+DIVIDED = [0, 0, 0, 0, 0o71, 0]
+ROWS = [(b"_regtail.part.0", 2, 6), (b"_regtail", 0o42, 0), (b"L2", 2, 4), (b"___udivmodhi4", 0o40, 0)]
+COMPILED = gnu_named(WORDS, DIVIDED, ROWS)
+OTHER = gnu_named([0o207], [0], [(b"___udivmodsi4", 0o42, 0)])
+LOCALS = "v7-from-gnu: in.gnu: the local _regtail.part.0 is dropped, being equal to _regtail in eight bytes\n"
+CUT = "v7-from-gnu: in.gnu: ___udivmodhi4 is cut to ___udivm\n"
+ALIKE = gnu_object([], [], [symbol(4, 0o41, 1), symbol(15, 0o41, 2)], b"_function1\0_function2\0")
+
+# a byte of the object, what it becomes, the option, and the byte of the file and the reason
+CHANGES = [
+    (0, 8, [], "byte 00 (0): magic number 000410 and not 000407"),
+    (2, 3, [], "byte 02 (2): odd size of text"),
+    (4, 1, [], "byte 04 (4): odd size of data"),
+    (6, 1, [], "byte 06 (6): odd size of bss"),
+    (8, 20, [], "byte 010 (8): odd size of the symbol table"),
+    (8, 40, [], "byte 070 (56): truncated"),
+    (46, 13, [], "byte 070 (56): truncated"),
+    (46, 3, [], "byte 054 (44): the strings have a length under 4"),
+    (25, 1, [], "byte 024 (20): symbol 0 belongs to an overlay: _f"),
+    (41, 2, [], "byte 044 (36): symbol 2 belongs to an overlay: _g"),
+    (22, 3, [], "byte 024 (20): symbol 0 has its name at no place of the strings"),
+    (28, 1, [], "byte 034 (28): symbol 1 has a description, and is not for a debugger: x"),
+    (30, 12, [], "byte 034 (28): symbol 1 has its name at no place of the strings"),
+    (32, 0o144, [], "byte 034 (28): symbol 1 is for a debugger, and -S drops such: x"),
+    (40, 0o144, ["-S"], "byte 022 (18): word 0 refers to a symbol for a debugger"),
+    (18, 0o31, ["-x"], "byte 022 (18): word 0 refers to a local that is dropped: x"),
+    (18, 0o31, ["-X"], "byte 022 (18): bad symbol number at word 0"),
+    (18, 0o52, [], "byte 022 (18): bad relocation at word 0"),
+    (18, 0o31, [], "byte 022 (18): bad symbol number at word 0"),
+]
+USAGE = "usage: v7-from-gnu [-SXxq] IN OUT\n       v7-from-gnu [-SXxq] -o FOLDER FILE...\n       v7-from-gnu --help | --version\n"
+failed = []
+
+
+def run(*words):
+    """Status, standard output and standard error of a command."""
+    done = subprocess.run(words, capture_output=True, text=True, check=False)
+    return done.returncode, done.stdout, done.stderr
+
+
+def expect(what, found, wanted):
+    if found != wanted:
+        print(f"{what}: {found} and not {wanted}")
+        failed.append(what)
+
+
+def converts(what, data, options, line):
+    """The bytes are refused with this line and nothing is written, or without a line they are converted."""
+    with open("in.gnu", "wb") as file:
+        file.write(data)
+    wanted = (1, "", f"v7-from-gnu: in.gnu: {line}\n") if line else (0, "", "")
+    expect(what, run(FROM_GNU, *options, "in.gnu", "out.o"), wanted)
+    expect(f"{what}: written", os.path.exists("out.o"), not line)
+    if os.path.exists("out.o"):
+        os.remove("out.o")
+
+
+def becomes(what, data, options, told, wanted):
+    """The bytes are converted to these, with these lines on standard error."""
+    with open("in.gnu", "wb") as file:
+        file.write(data)
+    expect(what, run(FROM_GNU, *options, "in.gnu", "out.o"), (0, "", told))
+    with open("out.o", "rb") as file:
+        expect(f"{what}: written", file.read(), wanted)
+    os.remove("out.o")
+
+
+def check_compiled():
+    """What a C compiler makes: locals that go, and names that are cut. Returns how many objects were tried."""
+    cut = [row for row in ROWS if row[0] != b"_regtail.part.0"]
+    alone = [row for row in cut if row[1] >= 0o40]
+    whole = v7_named(WORDS, [0, 0, 0, 0, 0o51, 0], cut)
+    bare = v7_named(WORDS, [0, 0, 0, 0, 0o31, 0], alone)
+    becomes("compiled", COMPILED, [], LOCALS + CUT, whole)
+    becomes("compiled, quiet", COMPILED, ["-q"], "", whole)
+    becomes("without locals that no word needs", COMPILED, ["-X"], CUT, bare)
+    becomes("without locals", COMPILED, ["-x"], CUT, bare)
+    becomes("both letters", COMPILED, ["-Xxq"], "", bare)
+    # two locals that are equal in eight bytes both go; a name of eight bytes is not cut
+    rows = [(b"_longname.0", 2, 0), (b"_longname.1", 2, 2), (b"_eight_8", 0o42, 4), (b"_eight_8", 2, 4)]
+    names = ["_longname.0", "_longname.1"]
+    told = "".join(f"v7-from-gnu: in.gnu: the local {one} is dropped, being equal to {other} in eight bytes\n"
+                   for one, other in (names, names[::-1]))
+    becomes("two locals alike", gnu_named(WORDS, [0] * 6, rows), [], told, v7_named(WORDS, [0] * 6, rows[2:]))
+    return 6
+
+
+def linked(entry, flag):
+    """The words of COMPILED with an entry point and a flag, as a linker leaves them."""
+    text = struct.pack("<8H6H", 0o407, 12, 0, 0, 0, entry, 0, flag, *WORDS)
+    return text if flag else text + struct.pack("<6H", *[0] * 6)
+
+
+def check_linked():
+    """A file without relocation is refused if it has an entry point. Returns how many were tried."""
+    line = "byte 012 (10): entry point 000006 and no relocation: this is a linked program"
+    converts("a linked program", linked(6, 1), [], line)
+    becomes("no entry point", linked(0, 1), [], "", v7_named(WORDS, [0] * 6, []))
+    converts("an entry point and relocation", linked(6, 0), [], "")
+    return 3
+
+
+def check_folder():
+    """Several files, which are written to a folder or not at all. Returns how many commands were tried."""
+    for folder in "one", "two", "to":
+        os.mkdir(folder)
+    for path, data in (("one/a.o", COMPILED), ("one/b.o", OTHER), ("two/a.o", GOOD), ("two/c.o", GOOD)):
+        with open(path, "wb") as file:
+            file.write(data)
+    line = "v7-from-gnu: one/b.o: ___udivmodsi4 is equal in eight bytes to ___udivmodhi4 of one/a.o\n"
+    expect("two names alike", run(FROM_GNU, "-o", "to", "one/a.o", "one/b.o"), (1, "", line))
+    expect("a file between them", run(FROM_GNU, "-o", "to", "one/a.o", "two/c.o", "one/b.o"), (1, "", line))
+    line = "v7-from-gnu: two/a.o: a second file of this name\n"
+    expect("two files of one name", run(FROM_GNU, "-o", "to", "one/a.o", "two/c.o", "two/a.o"), (2, "", line))
+    line = "v7-from-gnu: missing.o: cannot open\n"
+    expect("a file that is missing", run(FROM_GNU, "-o", "to", "two/a.o", "missing.o"), (2, "", line))
+    expect("nothing is written", os.listdir("to"), [])
+    line = "v7-from-gnu: one/b.o: ___udivmodsi4 is cut to ___udivm\n"
+    expect("two files", run(FROM_GNU, "-xo", "to", "two/a.o", "one/b.o"), (0, "", line))
+    expect("both are written", sorted(os.listdir("to")), ["a.o", "b.o"])
+    with open("to/b.o", "rb") as file:
+        expect("the second file", file.read(), v7_named([0o207], [0], [(b"___udivmodsi4", 0o42, 0)]))
+    expect("no such folder", run(FROM_GNU, "-q", "-o", "no", "two/a.o"), (2, "", "v7-from-gnu: no/a.o: cannot create\n"))
+    for words in ["-o"], ["-o", "to"], ["-oo", "to", "two/a.o"], ["-ox", "to", "two/a.o"], ["-"], ["-", "out.o"], ["-y", "in.gnu", "out.o"]:
+        expect(f"{words}", run(FROM_GNU, *words), (2, "", USAGE))
+    return 13
+
+
+def check_order():
+    """Paths are compared, then all files are read, then converted, and then their names are compared: the first fault of the first of these
+    steps is reported. Returns how many commands were tried."""
+    os.mkdir("three")
+    with open("three/c.o", "wb") as file:
+        file.write(OTHER)
+    alike = "___udivmodsi4 is equal in eight bytes to ___udivmodhi4 of one/a.o"
+    rows = [
+        (("one/a.o", "two/c.o", "three/c.o"), 2, "three/c.o: a second file of this name"),
+        (("two/c.o", "one/a.o", "three/c.o"), 2, "three/c.o: a second file of this name"),
+        (("one/a.o", "one/b.o", "missing.o"), 2, "missing.o: cannot open"),
+        (("missing.o", "one/a.o", "one/b.o"), 2, "missing.o: cannot open"),
+        (("one/a.o", "one/b.o", "three/c.o"), 1, f"one/b.o: {alike}"),
+    ]
+    for paths, status, line in rows:
+        expect(f"{paths}", run(FROM_GNU, "-q", "-o", "to", *paths), (status, "", f"v7-from-gnu: {line}\n"))
+    return len(rows)
+
+
+def check_refusals():
+    """All reasons; returns how many objects were tried."""
+    converts("good", GOOD, [], "")
+    for at, byte, options, line in CHANGES:
+        converts(f"byte {at} as {byte}", GOOD[:at] + bytes([byte]) + GOOD[at + 1:], options, line)
+    converts("a dropped symbol", GOOD[:32] + b"\144" + GOOD[33:], ["-S"], "")
+    converts("15 bytes", GOOD[:15], [], "byte 017 (15): short header")
+    names = "_function1 and _function2"
+    converts("alike", ALIKE, [], f"byte 030 (24): symbols 0 and 1 have names that are equal in eight bytes: {names}")
+    many = [symbol(4, 0o41, 0)] * 5461
+    converts("the most symbols", gnu_object([], [], many, b"_f\0"), [], "")
+    line = "byte 010 (8): 5462 symbols stay, and a table has 5461 at most"
+    converts("a symbol too many", gnu_object([], [], many + many[:1], b"_f\0"), [], line)
+    expect("no file", run(FROM_GNU, "missing", "out.o"), (2, "", "v7-from-gnu: missing: cannot open\n"))
+    expect("no folder", run(FROM_GNU, "in.gnu", "out.o")[0], 1)
+    with open("good.gnu", "wb") as file:
+        file.write(GOOD)
+    expect("no folder", run(FROM_GNU, "good.gnu", "missing/out.o"), (2, "", "v7-from-gnu: missing/out.o: cannot create\n"))
+    expect("a word", run(FROM_GNU, "good.gnu"), (2, "", USAGE))
+    return len(CHANGES) + 9
+
+
+def check_steps(*names):
+    """Each step alone is that part of all steps, and there are two for each object. Returns how many there are."""
+    paths = [os.path.join(EXAMPLES, name) for name in names]
+    status, text, _ = run(LESSON, *paths)
+    steps = re.split(r"^(?=add |withdraw )", text, flags=re.M)[1:]
+    expect(f"{names}: status and steps", (status, len(steps)), (0, 2 * len(names)))
+    for number, step in enumerate(steps, 1):
+        expect(f"{names}: step {number}", run(LESSON, "-n", str(number), *paths), (0, step, ""))
+    more = str(len(steps) + 1)
+    expect(f"{names}: step {more}", run(LESSON, "-n", more, *paths), (2, "", f"v7-lesson: there are {len(steps)} steps\n"))
+    expect(f"{names}: step 0", run(LESSON, "-n", "0", *paths)[0:2], (2, ""))
+    return len(steps)
+
+
+def rows_in(step):
+    """The rows of a step by their kinds, and by their places in these."""
+    rows = {kind: [] for kind in ("text", "data", "bss", "name", "multiple")}
+    for line in step.splitlines()[1:]:
+        kind = "multiple" if line.endswith(": multiply defined") else line.split()[0]
+        rows.setdefault(kind, []).append(line[1:])
+    return {(kind, place): line for kind in list(rows)[:5] for place, line in enumerate(rows[kind])}
+
+
+def changes(before, after):
+    """What a step changed, as v7-lesson -c has it, from the states before and after it."""
+    old, new = rows_in(before), rows_in(after)
+    text = after.splitlines()[0] + "\n"
+    for key in sorted({*old, *new}, key=lambda it: (("text", "data", "bss", "name", "multiple").index(it[0]), it[1])):
+        if old.get(key) != new.get(key):
+            text += "".join(sign + rows[key] + "\n" for sign, rows in (("-", old), ("+", new)) if key in rows)
+    return text
+
+
+def check_changes(*names):
+    """With -c, each step has the rows that differ from those of the step before. Returns how many steps there are."""
+    paths = [os.path.join(EXAMPLES, name) for name in names]
+    steps = re.split(r"^(?=add |withdraw )", run(LESSON, *paths)[1], flags=re.M)
+    wanted = [changes(before, after) for before, after in zip(["begin\n", *steps[1:]], steps[1:])]
+    expect(f"{names}: changes", run(LESSON, "-c", *paths), (0, "".join(wanted), ""))
+    for number, step in enumerate(wanted, 1):
+        expect(f"{names}: changes of step {number}", run(LESSON, "-c", "-n", str(number), *paths), (0, step, ""))
+        expect(f"{names}: changes of step {number}", run(LESSON, "-n", str(number), "-c", *paths), (0, step, ""))
+    return len(wanted)
+
+
+def check_lesson():
+    """Help, the version, and arguments that are refused by one line. Returns how many were tried."""
+    usage = "v7-lesson: usage: v7-lesson [-c] [-n STEP] FILE..., or v7-lesson -p FOLDER [-q QUESTIONS] FILE... >PAGE\n"
+    synopsis = ("usage: v7-lesson [-c] [-n STEP] FILE...\n       v7-lesson -p FOLDER [-q QUESTIONS] FILE... >PAGE\n"
+                "       v7-lesson --help | --version\n")
+    with open(os.path.join(os.path.dirname(EXAMPLES), "include", "v7.h"), encoding="utf-8") as header:
+        version = re.search(r'^#define V7_VERSION "(.*)"', header.read(), re.M)[1]
+    expect("--help", run(LESSON, "--help"), (0, synopsis, ""))
+    expect("--version", run(LESSON, "--version"), (0, f"v7-lesson {version}\n", ""))
+    refused = ([], ["-c"], ["-n"], ["-n", "1"], ["-c", "-n", "1"], ["-n", "1", "-c"], ["-c", "-n", "0", "k.o"], ["-z", "k.o"], ["-n", "x", "k.o"], ["-p"], ["-p", "page"], ["-p", "page", "-q"],
+               ["-p", "page", "-q", "lessons.txt"], [b"\xe9.o"], ["-n", "1", "--help", b"\xe9.o"])
+    for arguments in refused:
+        expect(f"{arguments}", run(LESSON, *arguments), (2, "", usage))
+    later = os.path.join(EXAMPLES, "k.o"), "-n"
+    expect("an option after a file", run(LESSON, *later)[2], "v7-lesson: -n: cannot open\n")
+    return 3 + len(refused)
+
+
+with tempfile.TemporaryDirectory() as room:
+    os.chdir(room)
+    objects = check_refusals() + check_compiled() + check_linked() + check_folder() + check_order()
+    shown = check_steps("k.o", "l.o") + check_steps("main.o", "twice.o", "count.o") + check_steps("a.o")
+    shown += check_changes("k.o", "l.o") + check_changes("main.o", "twice.o", "double.o", "count.o", "k.o", "l.o", "print.o", "start.o")
+    asked = check_lesson()
+    if failed:
+        sys.exit(1)
+    print(f"v7-from-gnu: {objects} lines and statuses compared; v7-lesson: {shown} steps, {asked} lines")

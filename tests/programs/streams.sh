@@ -1,0 +1,271 @@
+#!/bin/sh
+# Runs the program with standard streams closed, and compares its files, faults and statuses: what goes to a closed stream
+# is a write error, what is read from one is a read error, and no file that a command opens takes the place of one. Then its
+# words: one that is not UTF-8 is refused, empty ones and blanks are words as others, and there may be many. Then as many
+# files as may be open, and more. Last, the same of the programs beside v7.
+#
+# usage: tests/programs/streams.sh       the programs are in build/, or in the folder V7_BUILD
+set -u
+cd "$(dirname "$0")/../.."
+build=${V7_BUILD:-$PWD/build}
+v7=$build/v7
+for program in v7 v7-explain v7-object v7-from-gnu v7-lesson; do
+    [ -x "$build/$program" ] || { echo "$build/$program is missing: make builds it"; exit 2; }
+done
+room=$(mktemp -d)
+trap 'rm -rf "$room"' EXIT
+cp examples/*.o examples/squares.gnu "$room"
+cd "$room" || exit 2
+failed=0
+
+# the run just before ended with this status, and this is what the file `fault` holds
+expect() {
+    [ "$status" -eq "$2" ] && [ "$(cat fault)" = "$3" ] && return
+    echo "$1: status $status and '$(cat fault)', not $2 and '$3'"
+    failed=1
+}
+
+# two files are the same
+same() {
+    cmp "$1" "$2" || failed=1
+}
+
+# what the program writes with its streams open
+"$v7" ld -o reported main.o count.o >report 2>fault; status=$?
+expect 'ld with a report' 1 ''
+"$v7" ld -o whole main.o twice.o count.o >report 2>fault; status=$?
+expect 'ld without one' 0 ''
+cp whole stripped
+"$v7" strip stripped 2>fault; status=$?
+expect 'strip' 0 ''
+
+# a word that is not UTF-8
+"$v7" nm "$(printf '\377')" >answers 2>fault; status=$?
+expect 'a word that is not UTF-8' 2 'v7: usage'
+same answers /dev/null
+
+# empty words, and words of blanks
+cp main.o kept
+"$v7" ld -o "" main.o twice.o count.o >answers 2>fault; status=$?
+expect 'an empty output' 2 'v7: : cannot create'
+same main.o kept
+"$v7" ld -o out main.o "" twice.o >answers 2>fault; status=$?
+expect 'an empty input' 2 'v7: : cannot open'
+"$v7" nm "" main.o >answers 2>fault; status=$?
+expect 'an empty file of nm' 2 'v7: : cannot open'
+"$v7" "" nm main.o >answers 2>fault; status=$?
+expect 'an empty tool' 2 'v7: usage'
+"$v7" nm '  ' >answers 2>fault; status=$?
+expect 'a file of blanks' 2 'v7:   : cannot open'
+"$v7" ' nm' main.o >answers 2>fault; status=$?
+expect 'a tool after a blank' 2 'v7: usage'
+same answers /dev/null
+"$v7" ld -o ' ' main.o twice.o count.o >answers 2>fault; status=$?
+expect 'an output of a blank' 0 ''
+same ' ' whole
+[ ! -e out ] || { echo 'a link that was refused has stored a file'; failed=1; }
+
+# a line, so many times
+repeated() {
+    yes "$2" | head -n "$1"
+}
+
+# 1,000 words
+"$v7" size $(repeated 999 main.o) >answers 2>fault; status=$?
+expect '1,000 words' 0 ''
+repeated 999 'main.o: 10+0+0 = 10b = 012b' | cmp - answers || failed=1
+
+# an input of nothing, so many times beside three others; the limit of open files is the first word, as far as it can be had
+printf '\007\001\000\000\000\000\000\000\000\000\000\000\000\000\000\000' >empty.o
+link_many() {
+    (ulimit -n "$1" 2>limits && exec "$v7" ld -o out main.o twice.o count.o $(repeated "$2" empty.o)) >answers 2>fault
+}
+
+# one link of 1,000 files, where so many may be open
+if (ulimit -n 2048) 2>limits; then
+    link_many 2048 997; status=$?
+    expect 'a link of 1,000 files' 0 ''
+    same out whole
+    rm out
+else
+    echo "a link of 1,000 files was not tried: no more than $(ulimit -n) may be open"
+fi
+
+# more files than may be open: no output is made
+link_many 64 97; status=$?
+expect 'too many files' 2 'v7: empty.o: cannot open'
+[ ! -e out ] || { echo 'too many files: an output is there'; failed=1; }
+
+# the folder that is to hold standard input can't be opened: two streams are open, and no more may be
+(ulimit -n 1 && exec "$v7" nm main.o) <&- >answers 2>fault; status=$?
+expect 'no folder to hold a stream' 2 'v7: /: cannot open'
+same answers /dev/null
+
+# a device that is full
+if [ -c /dev/full ]; then
+    for tool in nm size; do
+        "$v7" $tool main.o >/dev/full 2>fault; status=$?
+        expect "$tool, device full" 2 'v7: write error'
+    done
+    printf 'add main.o\nlink out\n' | "$v7" session >/dev/full 2>fault; status=$?
+    expect 'session, device full' 2 'v7: write error'
+    [ ! -e out ] || { echo 'session, device full: it went on'; failed=1; }
+    printf 'link /dev/full\nwithdraw\n' | "$v7" session >answers 2>fault; status=$?
+    expect 'session, a link to a full device' 1 ''
+    printf '/dev/full: write error\nnothing to withdraw\n' | cmp - answers || failed=1
+fi
+
+# standard output closed
+"$v7" ld -o out main.o count.o >&- 2>fault; status=$?
+expect 'ld with a report, output closed' 2 'v7: write error'
+same out reported
+"$v7" ld -o out main.o twice.o count.o >&- 2>fault; status=$?
+expect 'ld without one, output closed' 0 ''
+same out whole
+"$v7" strip out >&- 2>fault; status=$?
+expect 'strip, output closed' 0 ''
+same out stripped
+for tool in nm size; do
+    "$v7" $tool main.o >&- 2>fault; status=$?
+    expect "$tool, output closed" 2 'v7: write error'
+done
+rm out
+printf 'add main.o\nlink out\n' | "$v7" session >&- 2>fault; status=$?
+expect 'session, output closed' 2 'v7: write error'
+[ ! -e out ] || { echo 'session, output closed: it went on'; failed=1; }
+
+# standard input closed
+"$v7" session <&- >answers 2>fault; status=$?
+expect 'session, input closed' 2 'v7: script read error'
+same answers /dev/null
+"$v7" ld -o out main.o count.o <&- >answers 2>fault; status=$?
+expect 'ld, input closed' 1 ''
+same out reported
+printf 'Undefined:\n_twice\n' | cmp - answers || failed=1
+
+# the programs beside v7: what goes to a closed stream, or to a device that is full, is a write error
+PATH=$build:$PATH
+v7-explain main.o >listing 2>fault; status=$?
+expect 'v7-explain' 0 ''
+v7-from-gnu squares.gnu converted 2>fault; status=$?
+expect 'v7-from-gnu' 0 ''
+for letter in '' -d -l -s -x -m; do
+    v7-explain $letter main.o >&- 2>fault; status=$?
+    expect "v7-explain $letter, output closed" 2 'v7-explain: write error'
+done
+v7-explain -c reported >&- 2>fault; status=$?
+expect 'v7-explain -c, output closed' 1 'v7-explain: reported: a program; relocation removed, so ld cannot link it again'
+v7-lesson main.o >&- 2>answers; status=$?
+: >fault
+expect 'v7-lesson, output closed' 2 ''
+if [ -c /dev/full ]; then
+    v7-explain main.o >/dev/full 2>fault; status=$?
+    expect 'v7-explain, device full' 2 'v7-explain: write error'
+    v7-explain -o /dev/full main.o >answers 2>fault; status=$?
+    expect 'v7-explain -o, device full' 2 'v7-explain: /dev/full: write error'
+    v7-lesson main.o >/dev/full 2>answers; status=$?
+    : >fault
+    expect 'v7-lesson, device full' 2 ''
+fi
+
+# with a closed stream, or with none, they store the same
+: >fault
+for closed in 0 1 2 all; do
+    case $closed in
+        0) v7-explain -o stored main.o <&- >answers 2>fault && v7-object listing made <&- >>answers 2>>fault \
+            && v7-from-gnu squares.gnu out <&- >>answers 2>>fault; status=$? ;;
+        1) v7-explain -o stored main.o >&- 2>fault && v7-object listing made >&- 2>>fault \
+            && v7-from-gnu squares.gnu out >&- 2>>fault; status=$? ;;
+        2) v7-explain -o stored main.o >answers 2>&- && v7-object listing made >>answers 2>&- \
+            && v7-from-gnu squares.gnu out >>answers 2>&-; status=$? ;;
+        *) v7-explain -o stored main.o <&- >&- 2>&- && v7-object listing made <&- >&- 2>&- \
+            && v7-from-gnu squares.gnu out <&- >&- 2>&-; status=$? ;;
+    esac
+    expect "stored, closed: $closed" 0 ''
+    same stored listing
+    same made main.o
+    same out converted
+    rm -f stored made out
+done
+v7-explain -c reported >answers 2>&-; status=$?
+expect 'v7-explain -c, error closed' 1 ''
+v7-object main.o out >answers 2>&-; status=$?
+expect 'v7-object, error closed' 1 ''
+v7-from-gnu main.o out >answers 2>&-; status=$?
+expect 'v7-from-gnu, error closed' 1 ''
+[ ! -e out ] || { echo 'a file that was refused is stored'; failed=1; }
+
+# words that are not UTF-8, and 1,000 of them
+for program in v7-explain v7-object v7-from-gnu v7-lesson; do
+    "$program" "$(printf '\377')" x >answers 2>errors; status=$?
+    : >fault
+    expect "$program, a word that is not UTF-8" 2 ''
+    grep -q "usage: $program" errors || { echo "$program, a word that is not UTF-8: $(cat errors)"; failed=1; }
+    same answers /dev/null
+done
+v7-explain -l $(repeated 999 main.o) >answers 2>fault; status=$?
+expect 'v7-explain, 1,000 words' 0 ''
+repeated 999 "$(v7-explain -l main.o)" | cmp - answers || failed=1
+
+# a file that is larger than the memory that there is can be read, but there is no memory for it
+dd if=/dev/null of=large bs=1 seek=300000000 2>answers
+if (ulimit -v 200000 && exec v7-explain main.o) >answers 2>fault; then
+    for words in 'v7-explain large' 'v7-explain -c large' 'v7-explain -o out large' 'v7-explain -m large' 'v7-object large out' 'v7-from-gnu large out'; do
+        (ulimit -v 200000 && exec $words) >answers 2>fault; status=$?
+        expect "$words, with little memory" 2 "${words%% *}: no memory"
+        same answers /dev/null
+    done
+fi
+[ ! -e out ] || { echo 'with little memory a file is stored'; failed=1; }
+rm large
+
+# standard error closed, and all three
+: >fault
+"$v7" ld -o out main.o count.o >answers 2>&-; status=$?
+expect 'ld, error closed' 1 ''
+same out reported
+"$v7" strip out none.o >answers 2>&-; status=$?
+expect 'strip, error closed' 2 ''
+same out reported
+"$v7" ld -o out main.o twice.o count.o <&- >&- 2>&-; status=$?
+expect 'ld, all closed' 0 ''
+same out whole
+"$v7" ld -o out main.o count.o <&- >&- 2>&-; status=$?
+expect 'ld with a report, all closed' 2 ''
+same out reported
+
+# a file that is opened first has the lowest descriptor that is free: it is none of those three, which are held. To ask for
+# a descriptor by a path the system has to have /dev/fd
+[ -d /dev/fd ] || exit $failed
+rm out
+"$v7" ld -o out main.o /dev/fd/0 <&- >answers 2>fault; status=$?
+expect 'descriptor 0' 2 'v7: /dev/fd/0: read error'
+"$v7" ld -o out main.o /dev/fd/1 >&- 2>fault; status=$?
+expect 'descriptor 1' 2 'v7: /dev/fd/1: read error'
+: >fault
+"$v7" ld -o out main.o /dev/fd/2 >answers 2>&-; status=$?
+expect 'descriptor 2' 2 ''
+for descriptor in 0 1 2; do
+    "$v7" ld -o out main.o /dev/fd/$descriptor <&- >&- 2>&-; status=$?
+    expect "descriptor $descriptor, all closed" 2 ''
+done
+# the other programs hold them too
+v7-explain main.o /dev/fd/0 <&- >answers 2>fault; status=$?
+expect 'v7-explain, descriptor 0' 2 'v7-explain: /dev/fd/0: read error'
+v7-explain -o out /dev/fd/1 >&- 2>fault; status=$?
+expect 'v7-explain, descriptor 1' 2 'v7-explain: /dev/fd/1: read error'
+v7-object /dev/fd/0 out <&- >answers 2>fault; status=$?
+expect 'v7-object, descriptor 0' 2 'v7-object: /dev/fd/0: read error'
+v7-from-gnu /dev/fd/1 out >&- 2>fault; status=$?
+expect 'v7-from-gnu, descriptor 1' 2 'v7-from-gnu: /dev/fd/1: read error'
+: >fault
+for descriptor in 0 1 2; do
+    v7-explain /dev/fd/$descriptor <&- >&- 2>&-; status=$?
+    expect "v7-explain, descriptor $descriptor, all closed" 2 ''
+    v7-object /dev/fd/$descriptor out <&- >&- 2>&-; status=$?
+    expect "v7-object, descriptor $descriptor, all closed" 2 ''
+    v7-from-gnu /dev/fd/$descriptor out <&- >&- 2>&-; status=$?
+    expect "v7-from-gnu, descriptor $descriptor, all closed" 2 ''
+done
+[ ! -e out ] || { echo 'a file that is opened took the place of a stream'; failed=1; }
+exit $failed

@@ -1,0 +1,448 @@
+#!/usr/bin/env python3
+"""Plays v7 at a terminal: help, the version, why arguments are refused, and a session with prompt, help, list, hints and quit. Then it runs the
+same commands through pipes, where each byte and status has to be that of the specification.
+
+usage: python3 -m tests.programs.terminal V7
+       python3 -m tests.programs.terminal -p [FILE]  plants one fault after another in a copy of the code, or those in files of this name, compiles v7
+                                    without proof, and sees that this script finds each: two minutes for a fault
+
+The terminal is a pseudo-terminal, by the module `pty`. What is expected here is written by hand: the lines of v7(1) and of
+v7-session(1). Options are those of the manual pages. Random command lines, always the same, show that a reason is given for those
+that v7 refuses, and for no others.
+"""
+import os
+import pty
+import random
+import re
+import select
+import shutil
+import subprocess
+import sys
+import tempfile
+
+from tests import TOP
+
+TOOLS = ["ld", "nm", "session", "size", "strip"]
+SECONDS = 10
+RANDOM_LINES = 400
+# a program with a fault is left at the first difference
+IS_PLANTED = "V7_PLANTED" in os.environ
+
+# arguments that are refused, and the lines that follow `v7: usage` at a terminal
+REASONS = [
+    (["xx"], "there is no command xx"),
+    (["-o"], "there is no command -o"),
+    ([""], "there is no command "),
+    (["ld"], "ld: it needs a file"),
+    (["ld", "-s"], "ld: it needs a file"),
+    (["strip"], "strip: it needs a file"),
+    (["ld", "-z", "a.o"], "ld: there is no option -z"),
+    (["ld", "-rz", "-y", "a.o"], "ld: there is no option -z"),
+    (["ld", "-\u00e9", "a.o"], "ld: there is no option -\u00e9"),
+    (["nm", "-x"], "nm: there is no option -x"),
+    (["size", "-x"], "size: there is no option -x"),
+    (["strip", "-s", "a.o"], "strip: there is no option -s"),
+    (["session", "-o", "x"], "session: there is no option -o"),
+    (["ld", "-lc", "a.o"], "ld: there is no option -l, as v7 reads no archives"),
+    (["ld", "--strip", "a.o"], "ld: there is no option --strip"),
+    (["ld", "a.o", "-o"], "ld: -o needs a file"),
+    (["ld", "-o", "-s", "a.o"], "ld: -o needs a file"),
+    (["ld", "-o", "-", "a.o"], "ld: -o needs a file"),
+    (["ld", "-o", "--", "a.o"], "ld: -o needs a file"),
+    (["ld", "-su", "-r", "a.o"], "ld: -u needs a name"),
+    (["session", "-e"], "session: -e needs a name"),
+    (["ld", "-o", "x", "-oy", "a.o"], "ld: -o takes one file"),
+    (["ld", "-e", "x", "-e", "x", "a.o"], "ld: -e takes one name"),
+    (["ld", "-rs", "a.o"], "ld: -r and -s exclude each other"),
+    (["ld", "-s", "-X", "a.o", "-r"], "ld: -s and -r exclude each other"),
+    (["ld", "-ni", "a.o"], "ld: -n and -i exclude each other"),
+    (["ld", "-r", "-n", "a.o"], "ld: -r and -n exclude each other"),
+    (["session", "-ir"], "session: -i and -r exclude each other"),
+    (["session", "a.o"], "session: it takes no file, and was given a.o"),
+    (["ld", *(f"-ux{number}" for number in range(65)), "a.o"], "ld: -u takes at most 64 different names"),
+    (["ld", "-rs", "-z", "--no"], "ld: -r and -s exclude each other"),
+    ([b"nm", b"\xe9"], "an argument is not UTF-8"),
+]
+# arguments that ask for help
+HELP = [([], None), (["help"], None), (["help", "all"], None), (["--help"], None), (["ld", "-r", "--help"], "ld")]
+HELP += [(words, tool) for tool in TOOLS for words in ([tool, "--help"], ["help", tool])]
+
+COMMANDS = """add PATH, withdraw, externals, undefined and link PATH are the commands;
+list shows the objects, help this text, and quit ends the session
+"""
+# what is typed in a session at a terminal, with what is shown after it; lines are typed one by one
+SESSION = [
+    ("add main.o", "added main.o\n"),
+    ("undefined", "_twice\n"),
+    ("help", COMMANDS),
+    ("?", COMMANDS),
+    ("", ""),
+    ("  ", ""),
+    (" help ", COMMANDS),
+    ("list", "main.o\n"),
+    ("add twice.o", "added twice.o\n"),
+    ("add " + "x" * 600, "x" * 600 + ": cannot open\n"),
+    (" list ", "main.o\ntwice.o\n"),
+    ("link program", "linked program 0\n"),
+    ("withdraw", "withdrew twice.o\n"),
+    ("add added", "added: cannot open\n"),
+    ("list", "main.o\n"),
+    ("withdraw", "withdrew main.o\n"),
+    ("withdraw", "nothing to withdraw\n"),
+    ("list", "no object is added\n"),
+]
+# lines that are not commands, and the hint for each
+HINTS = [
+    ("withdrew", "Do you mean withdraw?"),
+    ("helper", "Do you mean help?"),
+    ("undo", "Do you mean withdraw?"),
+    ("UNDEF", "Do you mean undefined?"),
+    ("Add x", "Commands are in small letters: add x"),
+    ("HELP", "Commands are in small letters: help"),
+    (" add x", "A command begins its line: add x"),
+    ("link", "link needs a path: link PATH"),
+    ("Link ", "link needs a path: link PATH"),
+    ("add\tx", "add has one blank after it: add PATH"),
+    ("withdraw now", "withdraw has nothing after it"),
+    ("quit now", "quit has nothing after it"),
+    ("\x1b[A", "For arrow keys, start the session by rlwrap v7 session"),
+    ("x", "help shows the commands"),
+    ("twice.o", "help shows the commands"),
+]
+SESSION += [(line, f"bad command\n{hint}\n") for line, hint in HINTS]
+OWN = ["help", "?", "list", ""]
+ENDINGS = ["quit", "exit", " quit ", None]
+ONE = "end of the session: 1 command, status 0: each was done, and no link had anything to report\n"
+REFUSED = "a line was refused, or a link had something to report"
+DONE = "each was done, and no link had anything to report"
+
+# faults to plant: a file, a text that is there once, and what takes its place
+PLANTED = [
+    ("v7/src/main.rt", "rt.stdin().is_terminal(), words", "true, words"),
+    ("v7/src/main.rt", "    if rt.stderr().is_terminal() {", "    if rt.stdout().is_terminal() {"),
+    ("v7/src/main.rt", "InvalidData && rt.stderr().is_terminal()", "InvalidData"),
+    ("v7/src/terminal.rt", "            prompts.end(status);\n", ""),
+    ("v7/src/terminal.rt", "    put_hint(rt, fault);\n", ""),
+    ("v7/src/terminal/lines.rt", "        CliFault::BadFile(_, ReadFault::Device) => return,\n", ""),
+    ("v7/src/terminal/pages.rt", "  -d         with -r, lays out commons too\n", ""),
+    ("v7/src/terminal/pages.rt", "(Cause::NoTool, \"help\" | \"--help\")", "(Cause::NoTool, \"--help\")"),
+    ("v7/src/terminal/lines.rt", "letter == b'o'", "letter != b'o'"),
+    ("v7/src/terminal/lines.rt", "Cause::Excluded(one, other) => {", "Cause::Excluded(other, one) => {"),
+    ("v7/src/terminal/lines.rt", "place.saturating_add(1)", "place"),
+    ("v7/src/terminal/prompts.rt", "b\"\" => Typed::Nothing,", "b\"\" => Typed::Line,"),
+    ("v7/src/terminal/prompts.rt", "b\"quit\" | b\"exit\"", "b\"exit\""),
+    ("v7/src/terminal/prompts.rt", "line.trim_ascii()", "line.trim_ascii_end()"),
+    ("v7/src/terminal/prompts.rt", "self.given = self.given.saturating_add(n);", "self.given = self.line.len();"),
+    ("v7/src/terminal/prompts.rt", "self.lines.saturating_add(1)", "self.lines"),
+    ("v7/src/terminal/prompts.rt", "answer.is_addition && ", ""),
+    ("v7/src/terminal/prompts.rt", "        self.settle()?;\n", ""),
+    ("v7/src/terminal/near.rt", "rest.len() > 1 && ", ""),
+    ("v7/src/terminal/pages.rt", "Tool::named(named.as_str())", "Tool::named(help.as_str())"),
+]
+
+failed = []
+
+
+def expect(what, came, wanted):
+    if came != wanted:
+        print(f"{what}:\n  came   {came!r}\n  wanted {wanted!r}")
+        failed.append(what)
+        if IS_PLANTED:
+            sys.exit(f"not as expected: {what}")
+
+
+def holds(what, is_true):
+    expect(what, bool(is_true), True)
+
+
+# --- running
+
+def plain(data):
+    """What a terminal shows, as text: it turns each newline into two characters."""
+    return data.replace(b"\r\n", b"\n").decode("utf-8", "surrogateescape")
+
+
+def read_to(master, ends):
+    """Reads from the terminal until what was read ends so, nobody can write any more, or nothing comes for a while."""
+    came = b""
+    while not (ends and came.endswith(ends)) and select.select([master], [], [], SECONDS)[0]:
+        try:
+            data = os.read(master, 65536)
+        except OSError:
+            break
+        if not data:
+            break
+        came += data
+    return plain(came)
+
+
+class Terminal:
+    """A program whose streams with these numbers are a terminal, without echo. The others are pipes."""
+
+    def __init__(self, words, streams=(0, 1, 2)):
+        self.master, slave = pty.openpty()
+        subprocess.run(["stty", "-echo"], stdin=slave, check=True)
+        pipe = subprocess.PIPE
+        kinds = [slave if number in streams else pipe for number in range(3)]
+        self.process = subprocess.Popen([V7, *words], stdin=kinds[0], stdout=kinds[1], stderr=kinds[2])
+        os.close(slave)
+
+    def type(self, line):
+        os.write(self.master, line.encode() + b"\n")
+
+    def end_input(self):
+        os.write(self.master, b"\4")
+
+    def shown(self, ends=None):
+        return read_to(self.master, ends)
+
+    def ended(self):
+        """What the terminal shows to the end, what the pipe of standard output has, that of standard error, and the status."""
+        rest = self.shown()
+        try:
+            output, error = self.process.communicate(timeout=SECONDS)
+        except subprocess.TimeoutExpired:
+            self.process.kill()
+            output, error = self.process.communicate()
+        os.close(self.master)
+        return rest, plain(output or b""), plain(error or b""), self.process.returncode
+
+
+def at_terminal(words):
+    """What standard error shows at a terminal, what standard output gives to a pipe, and the status."""
+    shown, output, _, status = Terminal(words, (0, 2)).ended()
+    return shown, output, status
+
+
+def through_pipes(words, script=b""):
+    ran = subprocess.run([V7, *words], input=script, stdout=subprocess.PIPE, stderr=subprocess.PIPE, timeout=SECONDS, check=False)
+    return plain(ran.stderr), plain(ran.stdout), ran.returncode
+
+
+def without_input(words):
+    """Standard error is a terminal, and standard input is empty."""
+    terminal = Terminal(words, (2,))
+    terminal.process.stdin.close()
+    terminal.process.stdin = None
+    shown, output, _, status = terminal.ended()
+    return shown, output, status
+
+
+# --- help and version
+
+def options_of(tool):
+    """The options of a tool in its manual page, each with its argument."""
+    with open(f"{TOP}/man/v7-{tool}.1", encoding="utf-8") as page:
+        items = re.findall(r"^\.It Fl (\w)(?: Ar (\w+))?", page.read(), re.M)
+    return {f"-{letter} {argument.upper()}".strip() for letter, argument in items}
+
+
+def check_page(words, tool, page):
+    """A page has the usage, each option of the manual and no other one, two examples that run, and where the manual is."""
+    named = f"v7 {tool}" if tool else "v7"
+    holds(f"{words}: usage", page.startswith(f"usage: {named} "))
+    manual = f"v7-{tool}" if tool else "v7"
+    holds(f"{words}: manual", page.endswith(f"The manual is {manual}(1): man {manual}\n") and os.path.exists(f"{TOP}/man/{manual}.1"))
+    shown = {option.strip() for option in re.findall(r"^  (-\w(?: [A-Z]+)?)  ", page, re.M)}
+    expect(f"{words}: options", shown, options_of(tool) if tool not in (None, "session") else set())
+    if tool is None:
+        expect(f"{words}: commands", re.findall(r"^  (\w+)  +\w", page, re.M), TOOLS)
+    examples = re.findall(r"^  (v7 .*)$", page.partition("examples:\n")[2], re.M)
+    expect(f"{words}: examples", len(examples), 2)
+    holds(f"{words}: 80 columns", all(len(line) <= 80 for line in page.split("\n")))
+    return examples
+
+
+def check_help():
+    """Help and version go to standard output if standard error is a terminal."""
+    examples = set()
+    for words, tool in HELP:
+        shown, page, status = at_terminal(words)
+        expect(f"{words}: standard error and status", (shown, status), ("", 0))
+        examples.update(check_page(words, tool, page))
+    with open(f"{TOP}/include/v7.h", encoding="utf-8") as header:
+        version = re.search(r'^#define V7_VERSION "(.*)"', header.read(), re.M)[1]
+    expect("--version", at_terminal(["--version"]), ("", f"v7 {version}\n", 0))
+    for command in sorted(examples):
+        ran = subprocess.run(["sh", "-c", command], env={**os.environ, "PATH": f"{os.path.dirname(V7)}:{os.environ['PATH']}"},
+                             stdin=subprocess.DEVNULL, stdout=subprocess.DEVNULL, stderr=subprocess.PIPE, check=False)
+        expect(f"example: {command}", (ran.returncode, ran.stderr), (0, b""))
+    for words in [words for words, _ in HELP] + [["--version"]]:
+        expect(f"{words}: through pipes", through_pipes(words), ("v7: usage\n", "", 2))
+    return len(HELP) + 1
+
+
+# --- why arguments are refused
+
+def check_reasons():
+    for words, reason in REASONS:
+        where = "v7 --help lists the commands"
+        if words[0] in TOOLS:
+            where = f"v7 {words[0]} --help shows how to call it"
+        expect(f"{words}", at_terminal(words), (f"v7: usage\n{reason}\n{where}\n", "", 2))
+        expect(f"{words}: through pipes", through_pipes(words), ("v7: usage\n", "", 2))
+    return len(REASONS)
+
+
+WORDS = ["-r", "-s", "-x", "-X", "-n", "-i", "-d", "-o", "-e", "-u", "-g", "-p", "-z", "-", "--", "--long", "", "-rs", "-xXd", "-gn", "-upr",
+         "-ofile", "-o=", "-e=x", "-uname", "-u=name", "-=", "-1", "-o1", "-r=1", "missing", "=", "-\u00e9", "x-y", "ld", "-ro", "-du"]
+
+
+def check_random():
+    """At a terminal the first line and the status are those through pipes, and two lines more come if it is `v7: usage`. The files
+    do not exist, and a session has no lines, so nothing else is written."""
+    choice = random.Random(1979)
+    refused = 0
+    for _ in range(RANDOM_LINES):
+        words = [choice.choice(TOOLS)] + [choice.choice(WORDS) for _ in range(choice.randrange(1, 6))]
+        error, output, status = through_pipes(words)
+        shown, shown_output, shown_status = without_input(words)
+        is_usage = error == "v7: usage\n"
+        refused += is_usage
+        expect(f"{words}: output and status", (shown_output, shown_status), (output, status))
+        expect(f"{words}: first line", shown[:len(error)], error)
+        expect(f"{words}: more lines, {shown!r}", shown[len(error):].count("\n"), 2 if is_usage else 0)
+    return refused
+
+
+# --- a hint after a fault
+
+def check_hints():
+    """A file that is not an a.out file, and one that is not an object; but not a file that cannot be opened, read or linked."""
+    hints = [(["size", "transcript.md"], "v7: transcript.md: bad magic number\n", "v7-explain transcript.md says what this file is\n"),
+             (["ld", "-o", "out", "ab.out"], "v7: ab.out: no relocation\n", "v7-explain ab.out says what this file is\n"),
+             (["nm", "missing.o"], "v7: missing.o: cannot open\n", ""),
+             (["nm", "/tmp"], "v7: /tmp: read error\n", ""),
+             (["ld", "-o", "no/out", "k.o", "l.o"], "v7: no/out: cannot create\n", "")]
+    for words, line, hint in hints:
+        expect(f"{words}", at_terminal(words), (line + hint, "", 2))
+        expect(f"{words}: through pipes", through_pipes(words), (line, "", 2))
+    return len(hints)
+
+
+# --- a session
+
+def play(typed, ending):
+    """A session in which lines are typed, each after the prompt; its last part, and its status."""
+    terminal = Terminal(["session"])
+    expect("the first prompt", terminal.shown(b"v7> "), COMMANDS + "v7> ")
+    for line, answer in typed:
+        terminal.type(line)
+        expect(f"session: {line[:20]}", terminal.shown(b"v7> "), answer + "v7> ")
+    if ending is None:
+        terminal.end_input()
+    else:
+        terminal.type(ending)
+    shown, _, _, status = terminal.ended()
+    return shown, status
+
+
+def summary(ending, count, status):
+    said = REFUSED if status else DONE
+    return ("\n" if ending is None else "") + f"end of the session: {count} commands, status {status}: {said}\n"
+
+
+def check_session():
+    """Each ending; a session without a fault; a session whose streams are not both a terminal."""
+    count = sum(line.strip() not in OWN for line, _ in SESSION)
+    for ending in ENDINGS:
+        expect(f"{ending}: end", play(SESSION, ending), (summary(ending, count, 1), 1))
+        done = SESSION[:2] + SESSION[8:9]
+        expect(f"{ending}: end without a fault", play(done, ending), (summary(ending, 3, 0), 0))
+    expect("one command", play(SESSION[:1], "quit"), (ONE, 0))
+    # lines that are typed ahead, and a last one without a newline
+    terminal = Terminal(["session"])
+    terminal.shown(b"v7> ")
+    os.write(terminal.master, b"add k.o\n\nwithdraw\nundefined\4\4")
+    shown, _, _, status = terminal.ended()
+    expect("typed ahead", (shown.replace("v7> ", ""), status), ("added k.o\nwithdrew k.o\n\n" + summary("", 3, 0), 0))
+    check_mixed()
+    return 2 * len(ENDINGS) + 4
+
+
+def check_mixed():
+    """A script from a pipe has no prompt; nor has a terminal, if standard error is a pipe."""
+    script = "".join(line + "\n" for line, _ in SESSION) + "quit\n"
+    answers = "".join("bad command\n" if line.strip() in OWN else answer for line, answer in SESSION[:-len(HINTS)])
+    answers += "bad command\n" * (len(HINTS) + 1)
+    expect("session: through pipes", through_pipes(["session"], script.encode()), ("", answers, 1))
+    terminal = Terminal(["session"], (1, 2))
+    terminal.process.stdin.write(script.encode())
+    terminal.process.stdin.close()
+    terminal.process.stdin = None
+    shown, _, _, status = terminal.ended()
+    expect("session: a script to a terminal", (shown, status), (answers, 1))
+    terminal = Terminal(["session"], (0, 1))
+    os.write(terminal.master, b"help\nadd k.o\n\4")
+    shown, _, error, status = terminal.ended()
+    expect("session: standard error is a pipe", (shown, error, status), ("bad command\nadded k.o\n", "", 1))
+
+
+def run_all():
+    """Plays everything in a copy of the examples; returns what is counted."""
+    with tempfile.TemporaryDirectory() as folder:
+        shutil.copytree(f"{TOP}/examples", f"{folder}/examples")
+        os.chdir(f"{folder}/examples")
+        with open("commands.txt", "w", encoding="utf-8") as script:
+            script.write("add main.o\n")
+        counts = (check_help(), check_reasons(), check_random(), check_hints(), check_session())
+        os.chdir(TOP)
+    return counts
+
+
+def code_of(file):
+    with open(f"{TOP}/crates/{file}", encoding="utf-8") as source:
+        return source.read()
+
+
+def check_planted():
+    """Each fault fits the code: its text is there once."""
+    for file, old, _ in PLANTED:
+        expect(f"a fault to plant in {file}: {old.strip()}", code_of(file).count(old), 1)
+
+
+def found_in(file, old, new):
+    """The end of what this script says of a program with a fault; None if it finds nothing."""
+    from compiling import compile_program
+    with tempfile.TemporaryDirectory() as top:
+        for name in ("crates.txt", "HANDLES"):
+            shutil.copy(f"{TOP}/{name}", top)
+        shutil.copytree(f"{TOP}/crates", f"{top}/crates", ignore=shutil.ignore_patterns("out"))
+        with open(f"{top}/crates/{file}", "w", encoding="utf-8") as source:
+            source.write(code_of(file).replace(old, new))
+        compile_program(top, "v7", top)
+        ran = subprocess.run([sys.executable, "-m", "tests.programs.terminal", f"{top}/v7"], env={**os.environ, "V7_PLANTED": "1"}, stdout=subprocess.PIPE,
+                             stderr=subprocess.STDOUT, text=True, check=False)
+    return ran.stdout.rstrip().split("\n")[-1] if ran.returncode else None
+
+
+def plant(name):
+    """Plants the faults in files whose names end so; the status is 1 if one is not found."""
+    check_planted()
+    if failed:
+        sys.exit(f"{len(failed)} of the faults to plant do not fit the code")
+    missed, planted = 0, [fault for fault in PLANTED if fault[0].endswith(name)]
+    for file, old, new in planted:
+        said = found_in(file, old, new)
+        print(f"{'found' if said else 'NOT FOUND'}: {file}: {old.strip()} -> {new.strip()}: {said}", flush=True)
+        missed += not said
+    print(f"{len(planted) - missed} of {len(planted)} planted faults are found")
+    return 1 if missed or not planted else 0
+
+
+def main():
+    check_planted()
+    counts = run_all()
+    if failed:
+        sys.exit(f"{len(failed)} of what a terminal shows differs")
+    print("at a terminal: {} pages, {} reasons, {} refused of {} random lines, {} hints, {} sessions".format(
+        *counts[:3], RANDOM_LINES, *counts[3:]))
+
+
+if __name__ == "__main__":
+    if sys.argv[1:2] == ["-p"] and len(sys.argv) <= 3:
+        sys.exit(plant("".join(sys.argv[2:])))
+    if len(sys.argv) != 2:
+        sys.exit(__doc__)
+    V7 = os.path.abspath(sys.argv[1])
+    main()

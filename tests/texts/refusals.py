@@ -1,0 +1,54 @@
+#!/usr/bin/env python3
+"""Looks that memory is refused by the system alone: no line of a crate makes an `AllocError`, an `AllocFailed` or an error of the kind
+`OutOfMemory`, and none is unsafe. A fault that says `no memory` holds a `Refused`, which is made of such an error: so a request was
+refused. It first tries itself on planted lines, those that it has to find and those that it must not.
+
+usage: python3 -m tests.texts.refusals      status 1 if it finds a line, or judges a planted one wrongly"""
+import glob
+import os
+import re
+import sys
+
+# the field of `Refused`, and what tells a refusal by its kind alone: errors of `io` and of clap
+KNOWN = [
+    "crates/aout_core/src/refused.rt: error: AllocError,",
+    "crates/aout_core/src/refused.rt: io::ErrorKind::OutOfMemory => Some(Refused { error: AllocError }),",
+    "crates/command_words/src/fault.rt: ErrorKind::OutOfMemory => WordsFault::Memory(Refused::from(AllocError)),",
+]
+# tests make faults of each kind, and devices that fail in each way
+TESTS = ("crates/device_tests/", "crates/fixtures/")
+# the name of a type: what a result, a conversion or an `Option` may hold, what a function takes or returns, whose function is called
+TYPE = re.compile(r"(, |From<|Option<)AllocError>|-> AllocError\b|for AllocError \{|\bfn .*\w: AllocError\b|AllocError::from\b")
+MADE = re.compile(r"\bAllocError\b|\bAllocFailed\s*\{|\b(from|new)\(.*\bOutOfMemory\b|\bunsafe\s*\{|\bunsafe (fn|impl)\b")
+BAD = """Err(AllocError)|let error = AllocError;|None => return Err(AllocError),|found.ok_or(AllocError)?|f(bytes, AllocError)
+Refused { error: AllocError }|AllocFailed { value: 1 }|use std::alloc::AllocError as Full;|Fault::from(AllocError)|error: AllocError,
+io::Error::from(io::ErrorKind::OutOfMemory)|io::Error::new(ErrorKind::OutOfMemory, "")|if bad { AllocError } else { error }
+unsafe { f() }|unsafe impl Allocator for None {|fn f() -> Result<(), AllocError> { Err(AllocError) }|type Full = AllocError;"""
+GOOD = """fn f(alloc: Global) -> Result<u8, AllocError>|impl From<AllocError> for Fault {|fn from(error: AllocError) -> Fault {
+Err(error) => Err(error),|refused: Option<AllocError>,|Err(AllocError::from(refused))|use std::alloc::{AllocError, Global};
+// Err(AllocError)|) -> (Link, Result<(), AllocError>)|impl<T: Drop> From<AllocFailed<T>> for Fault {|impl From<Refused> for AllocError {
+#[unsafe(no_mangle)]|ghost use Rattle.std.specs.declared.alloc.AllocError.{AllocError};|if error.kind() == io::ErrorKind::OutOfMemory {"""
+
+
+def makes(line, path=""):
+    """Whether a line makes the error of a request for memory, and is not known."""
+    code = line.split("//")[0].strip()
+    if f"{path}: {code}" in KNOWN or re.match(r"ghost |(pub )?use (?!.*AllocError as)", code):
+        return False
+    return bool(MADE.search(TYPE.sub("", code)))
+
+
+def main():
+    wrong = [f"planted and not found: {line}" for line in re.split(r"[|\n]", BAD) if not makes(line)]
+    wrong += [f"planted and found: {line}" for line in re.split(r"[|\n]", GOOD) if makes(line)]
+    for path in sorted(glob.glob("crates/*/src/**/*.rt", recursive=True)):
+        if path.startswith(TESTS):
+            continue
+        with open(path, encoding="utf-8") as file:
+            wrong += [f"{path}:{number}: {line.strip()}" for number, line in enumerate(file, 1) if makes(line, path)]
+    print("\n".join(wrong) or "no line makes the error of a request for memory")
+    return 1 if wrong else 0
+
+
+if __name__ == "__main__":
+    sys.exit(main())

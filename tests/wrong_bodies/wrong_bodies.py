@@ -1,0 +1,593 @@
+#!/usr/bin/env python3
+"""Has the prover refuse the wrong bodies of crates, many of them in one copy of the crate.
+
+usage: python3 -m tests.wrong_bodies.wrong_bodies [-j N] [CRATE ..]   tries all edits of these crates, or of all, and notes in
+                                                 tests/wrong_bodies/wrong-bodies.seen each crate whose edits are all refused
+       python3 -m tests.wrong_bodies.wrong_bodies [-j N] CRATE/EDIT ..  tries these edits alone, and notes nothing
+       python3 -m tests.wrong_bodies.wrong_bodies [-j N] -c           tries those of the crates that have changed since they were noted; an
+                                                 error if the file does not tell which those are
+       python3 -m tests.wrong_bodies.wrong_bodies [-j N] --try        tries this script: tests/wrong_bodies/wrong_bodies_tried.py
+
+A wrong body is an edit in must-fail/ or in the file wrong-bodies of a crate: tests/wrong_bodies/edits.py has its form. A copy has at most one edit for
+each function. It is checked once, by the kit's `rattle`, with the libraries below it as `rt lib` proves them, or as the gate
+left them, and over what `rt check` of the crate left, or else its earlier copies. For each edit, the script then reads whether the
+prover refuses the function itself. If it only says that the function calls another one that is not proved, the edit goes into a later
+copy without the edits of that one. An edit outside of functions, as of a constant or a definition, has a copy for itself.
+
+It is an error if an edit does not fit its crate, if the prover cannot read the text that it makes, if its function is proved,
+or if the function is refused for what it calls alone. It is an error too if the function is refused only for its shape: the
+proof names a goal or a step that is gone, so another goal may lack its answer. Then the script checks the function with the edit and
+without it, both times without what is written of its proof, and the refusal counts if the edit has a goal open and the right body none
+of its kind: of a clause at any return, or else of its name.
+
+N copies are checked side by side, two if it is not given. The last line has how many edits are refused, and the minutes.
+"""
+import hashlib
+import os
+import re
+import resource
+import shutil
+import subprocess
+import sys
+import tempfile
+import threading
+import time
+from concurrent.futures import ThreadPoolExecutor
+
+from tests.wrong_bodies import edits
+from tools import prove
+
+SEEN = "tests/wrong_bodies/wrong-bodies.seen"
+FUNCTION = re.compile(r'( *)(?:pub(?:\(\w+\))? )?(?:const |unsafe |extern "C" )*fn (\w+)')
+BLOCK = re.compile(r"( *)(?:pub(?:\(\w+\))? )?(impl|trait|mod)\b(.*)\{$")
+# what the prover says of a place, and what that says only of the form of a proof or of a name that is gone
+PLACE = re.compile(r"(?:note: )?(?:\./)?((?:src|specs|proofs)/[^:\s]+):(\d+):\d+: (.*)")
+SHAPE = re.compile(r"has no field|is not in scope|has no `|was not admitted|cannot be named from here")
+UNREAD = re.compile(r"is not in scope|has no field|is no name|operand is missing|expected the end|cannot continue")
+CALLED = re.compile(r"`([^`]+)`")
+# a goal that has no answer, and that no search proves
+OPEN = re.compile(r"it is not proved that .*?\(`([^`]+)`\)")
+# the way to a return in the name of its goal, as `then-one-other` in `returns-then-one-other-clause-first`
+WAY = re.compile(r"^returns.*?(?=-clause-|$)")
+# what is between two words of a source, and what has to stay as it is: a text, a character, and a comment after code
+BETWEEN = re.compile(r"""(?P<blank>\s*\n\s*(?://[^\n]*(?:\n\s*|\Z))*|\s+)
+    |\bb?r(?P<marks>\#*)".*?"(?P=marks)|"(?:\\.|[^"\\])*"|'(?:\\.[^'\n]*|[^'\\\n])'|(?://|--)[^\n]*""", re.S | re.X)
+# names that are imported from below one path
+IMPORTS = re.compile(r"^((?:pub )?use \S+\.)\{([^}]*)\}$")
+
+
+class Untold(Exception):
+    """Why the script cannot tell which crates have changed."""
+
+
+def plain(text):
+    """A type or a trait without its lifetimes, arguments and paths."""
+    while re.search(r"<[^<>]*>", text):
+        text = re.sub(r"<[^<>]*>", "", text)
+    return text.replace("&", "").split("::")[-1].strip()
+
+
+def suffix(trait):
+    """What the prover puts behind the name of a type for a trait: `FromAllocError` for `From<AllocError>`."""
+    arguments = re.fullmatch(r"[^<]*<(.*)>", trait.strip())
+    return plain(trait) + (plain(arguments[1]) if arguments else "")
+
+
+class Function:
+    """A function of a source: its name as the prover has it, its lines, and what the names of its closures begin with."""
+
+    def __init__(self, module, block, name, first, last):
+        self.name, self.first, self.last = "::".join([*module, *block, name]), first, last
+        self.inner = "::".join([*module, *block, "fn", name, ""]), "::".join([*module, "fn", *block, name, ""])
+
+    def is_named(self, name):
+        """Whether the prover means it, or a closure in it, by a name."""
+        return name == self.name or name.startswith(self.inner)
+
+    def __eq__(self, other):
+        return isinstance(other, Function) and self.name == other.name
+
+    def __hash__(self):
+        return hash(self.name)
+
+
+def block_of(lines, number, depth):
+    """The block of a type or a trait that a line of some depth is in, if there is one, and the modules in its file."""
+    block, inside = [], []
+    for line in reversed(lines[:number]):
+        found = BLOCK.match(line)
+        if not found or len(found[1]) >= depth:
+            continue
+        depth, kind, head = len(found[1]), found[2], re.sub(r"\bwhere\b.*", "", found[3])
+        if kind == "mod":
+            inside.insert(0, head.strip())
+            continue
+        if kind == "impl":
+            head = re.sub(r"^<(?:[^<>]|<[^<>]*>)*>", "", head)
+        trait, _, owner = head.rpartition(" for ")
+        owner = plain(owner.split(":")[0] if kind == "trait" else owner)
+        block = [owner[:1].upper() + owner[1:] + (suffix(trait) if trait else "")]
+    return block, inside
+
+
+def functions_of(path, text):
+    """The functions of a source, as rt fmt lays it out."""
+    lines = text.split("\n")
+    module = [] if path in ("src/lib.rt", "src/main.rt") else path[len("src/"):-len(".rt")].split("/")
+    for at, line in enumerate(lines):
+        found = FUNCTION.match(line)
+        if found:
+            ends = (other for other in range(at, len(lines)) if lines[other] == found[1] + "}")
+            block, inside = block_of(lines, at, len(found[1]))
+            yield Function([*module, *inside], block, found[2], at + 1, next(ends, at) + 1)
+
+
+def changed_lines(text, old, new):
+    """The lines of a text that change if an old text becomes a new one."""
+    start = len(os.path.commonprefix([old, new]))
+    end = len(old) - len(os.path.commonprefix([old[start:][::-1], new[start:][::-1]]))
+    at = text.index(old)
+    return text.count("\n", 0, at + start) + 1, text.count("\n", 0, at + max(start, end)) + 1
+
+
+class Edit:
+    """A wrong body, with the function that it changes. None: it changes something else, and is tried alone."""
+
+    def __init__(self, folder, body):
+        self.folder, self.name = folder, body.name
+        self.waited, self.function, self.alone = False, None, False
+        try:
+            self.changes = edits.pairs(body.text)
+            self.misfit = ""
+            edits.changed(self.changes, folder)
+            self.function = self.found()
+        except edits.Misfit as misfit:
+            self.misfit = str(misfit)
+
+    def found(self):
+        """The one function that has all that the edit changes, if there is one."""
+        files = {file for file, _, _ in self.changes}
+        file = min(files)
+        if len(files) > 1 or not file.startswith("src/"):
+            return None
+        text = edits.read(f"{self.folder}/{file}")
+        functions, found = list(functions_of(file, text)), set()
+        for _, old, new in self.changes:
+            if text.count(old) != 1:
+                return None
+            first, last = changed_lines(text, old, new)
+            around = [it for it in functions if it.first <= first and last <= it.last]
+            found.add(around[-1] if around else None)
+            text = text.replace(old, new)
+        return found.pop() if len(found) == 1 else None
+
+    @property
+    def files(self):
+        return {file for file, _, _ in self.changes}
+
+    def has(self, file, line):
+        """Whether a place is in the function that the edit changes, or in a file of an edit with no function."""
+        return file in self.files and (not self.function or self.function.first <= line <= self.function.last)
+
+
+class Answer:
+    """What the prover says of a copy."""
+
+    def __init__(self, crate, status, text):
+        lines = text.rstrip("\n").split("\n")
+        self.status, self.last, self.lines = status, lines[-1], lines
+        self.verdicts, self.places = {}, []
+        for line in lines:
+            said = re.match(rf"fn {crate}::(\S+): (.*)", line)
+            place = PLACE.match(line)
+            if said:
+                self.verdicts[said[1]] = said[2]
+            elif place and (": error" in line or "it is not proved" in line):
+                self.places.append((place[1], int(place[2]), place[3]))
+
+    @property
+    def is_told(self):
+        """Whether the prover came to an end."""
+        return self.last.startswith("logic=")
+
+    def unread(self, files):
+        """The places that the prover cannot read, where an edit that only makes a statement false reads well."""
+        for file, line, text in self.places:
+            found = re.match(r"error(?:\[[^\]]*\])?: (`[^`]*`: )?(.*)", text)
+            if found and (file in files or file.startswith(("src/", "specs/"))):
+                if not found[1] or UNREAD.search(re.sub(CALLED, "", found[2])):
+                    yield file, line, text
+
+    def names(self, function):
+        """What the prover calls a function, and the closures in it."""
+        return list(filter(function.is_named, self.verdicts))
+
+    def complaints(self, edit):
+        """What it says in a function and in its proof; of an edit with no function, all that it says."""
+        if not edit.function:
+            return [text for _, _, text in self.places]
+        folders = tuple(f"proofs/{name.replace('::', '/')}/" for name in self.names(edit.function))
+        return [text for file, line, text in self.places if file.startswith(folders) or edit.has(file, line)]
+
+    def others_refused(self, chosen):
+        """The functions that are refused for themselves although no edit of the copy changes them."""
+        for name, said in self.verdicts.items():
+            folder = f"proofs/{name.replace('::', '/')}/"
+            told = "did not prove" in said or any(file.startswith(folder) for file, _, _ in self.places)
+            if told and said != "proved" and not any(it.function.is_named(name) for it in chosen):
+                yield name
+
+    def open_goals(self, function):
+        """The kinds of the goals of a function that are not proved. A condition that changes has other names for the ways to its returns."""
+        folders = tuple(f"proofs/{name.replace('::', '/')}/" for name in self.names(function))
+        found = set()
+        for name in self.names(function):
+            _, searched, goals = self.verdicts[name].partition("`search` did not prove ")
+            found.update(CALLED.findall(goals.split(";")[0]) if searched else [])
+        for file, _, text in self.places:
+            answered = file.startswith(folders) and not SHAPE.search(text)
+            named = re.match(r"error: `([^`]*)`: ", text) if answered else OPEN.match(text)
+            found.update([named[1]] if named else [])
+        return {WAY.sub("returns", goal) for goal in found}
+
+    def judge(self, edit):
+        """What the answer says of an edit: proved, refused, shape, callee; and a line that shows it."""
+        told = self.complaints(edit)
+        if edit.function:
+            names = self.names(edit.function)
+            said = [self.verdicts[name] for name in names if self.verdicts[name] != "proved"]
+            if names and not said:
+                return "proved", ""
+            searched = [text for text in said if "did not prove" in text]
+            if not told and not searched:
+                return "callee", (said or ["it has no verdict"])[0]
+        elif self.status == 0:
+            return "proved", ""
+        else:
+            searched = [text for text in self.verdicts.values() if "did not prove" in text]
+        shape = [text for text in told if SHAPE.search(text)]
+        telling = [text for text in told if text not in shape] + searched
+        if shape and edit.function:
+            # an answer is for a goal that is gone, so the goal in its place has none: what tells is an answer that fails
+            telling = [text for text in telling if text.startswith("error: ")]
+        return ("refused", telling[0]) if telling else ("shape", (shape or [self.last])[0])
+
+    def waits_for(self, function, crate):
+        """The names of the functions that are not proved and that a function calls, also by others."""
+        reached, ahead = set(), self.names(function)
+        while ahead:
+            name = ahead.pop()
+            for called in CALLED.findall(self.verdicts.get(name, "")):
+                called = called[len(crate) + 2:] if called.startswith(f"{crate}::") else called
+                if called in self.verdicts and called not in reached:
+                    reached.add(called)
+                    ahead.append(called)
+        return reached
+
+
+def run(words, folder):
+    """Runs a command in a folder. Its status, what it prints, and the seconds of a processor that it takes."""
+    how = {"stdin": subprocess.DEVNULL, "stdout": subprocess.PIPE, "stderr": subprocess.STDOUT}
+    with subprocess.Popen(words, cwd=folder, **how) as process:
+        said = process.stdout.read().decode(errors="replace")
+        _, status, used = os.wait4(process.pid, 0)
+        process.returncode = os.WEXITSTATUS(status) if os.WIFEXITED(status) else -os.WTERMSIG(status)
+    return process.returncode, said, used.ru_utime + used.ru_stime
+
+
+class Trial:
+    """The edits of a crate, tried in copies."""
+
+    def __init__(self, crate, kit, slots, only):
+        self.crate, self.kit, self.slots = crate, kit, slots
+        self.folder = f"crates/{crate.name}"
+        found = [Edit(self.folder, body) for body in edits.edits_of(crate.name)]
+        self.kept = None
+        self.edits = [it for it in found if not only or {crate.name, f"{crate.name}/{it.name}"} & only]
+        self.results, self.apart, self.copies, self.seconds = {}, set(), 0, 0
+
+    def check(self, texts, without=()):
+        """Checks a copy of the crate with these texts and without some folders of proofs, over what `rt check` of the crate left, or
+        else the copies before it."""
+        with self.slots, tempfile.TemporaryDirectory(prefix="wrong-body-") as copy:
+            kept, left = self.kept, f"{self.folder}/out/incremental"
+            if os.path.isdir(left):
+                kept = shutil.copytree(left, f"{copy}/out/incremental")
+            for part in ("src", "specs", "proofs"):
+                if os.path.isdir(f"{self.folder}/{part}"):
+                    shutil.copytree(f"{self.folder}/{part}", f"{copy}/{part}")
+            for path in without:
+                shutil.rmtree(f"{copy}/{path}", ignore_errors=True)
+            for path, text in texts.items():
+                with open(f"{copy}/{path}", "w", encoding="utf-8") as file:
+                    file.write(text)
+            status, said, seconds = run([*self.kit.check(self.crate), "--incremental", kept], copy)
+        self.copies += 1
+        self.seconds += seconds
+        return Answer(self.crate.name, status, said)
+
+    def end(self, edit, fault, line=""):
+        """Notes what came of an edit, and prints it."""
+        self.results[edit.name] = fault
+        line = re.sub(r"\s+", " ", line)[:150]
+        print(f"{self.crate.name}/{edit.name}: {fault or 'refused'}{': ' + line if line else ''}", flush=True)
+
+    def next_copy(self, waiting):
+        """As many of the edits that wait as one copy can have, and the texts of its files."""
+        chosen, texts = [], {}
+        for edit in waiting:
+            if chosen and (edit.alone or chosen[0].alone):
+                continue
+            pairs = {frozenset((edit.function, it.function)) for it in chosen}
+            if pairs & self.apart or any(len(pair) == 1 for pair in pairs):
+                continue
+            try:
+                texts = edits.changed(edit.changes, self.folder, texts)
+            except edits.Misfit:
+                continue
+            chosen.append(edit)
+        return chosen, texts
+
+    def run(self):
+        """Tries all edits, and says whether each is refused."""
+        for edit in self.edits:
+            edit.alone = edit.function is None
+            if edit.misfit:
+                self.end(edit, "it cannot be made", edit.misfit)
+        waiting = sorted((it for it in self.edits if not it.misfit), key=lambda it: it.alone)
+        with tempfile.TemporaryDirectory(prefix="wrong-bodies-") as self.kept:
+            while waiting:
+                chosen, texts = self.next_copy(waiting)
+                before = self.seconds
+                answer = self.check(texts)
+                took = f"{self.seconds - before:.0f} seconds of a processor"
+                print(f"{self.crate.name}: copy {self.copies}, {len(chosen)} edits, {took}", flush=True)
+                for name in [] if chosen[0].alone else answer.others_refused(chosen):
+                    print(f"{self.crate.name}: copy {self.copies}: {name} is refused too, and no edit changes it", flush=True)
+                again = [it for it in chosen if not self.has_ended(it, chosen, answer)]
+                waiting = sorted(again + [it for it in waiting if it not in chosen], key=lambda it: it.alone)
+        return not any(self.results.values())
+
+    def has_ended(self, edit, chosen, answer):
+        """Notes what a copy says of an edit. Whether it is the last word on it."""
+        single, unread = len(chosen) == 1, list(answer.unread({file for it in chosen for file in it.files}))
+        mine = [text for file, line, text in unread if edit.has(file, line)]
+        if unread or not answer.is_told:
+            if mine or single:
+                self.end(edit, "the prover cannot read it, or does not tell", (mine or answer.lines[-3:])[0])
+            edit.alone = edit.alone or not any(it.has(file, line) for it in chosen for file, line, _ in unread)
+            return bool(mine or single)
+        word, line = answer.judge(edit)
+        if word == "callee":
+            return self.has_ended_for_callee(edit, chosen, answer, line)
+        if word == "shape":
+            self.without_proof(edit, line)
+        else:
+            self.end(edit, "" if word == "refused" else "NOT REFUSED: its function is proved", line)
+        return True
+
+    def has_ended_for_callee(self, edit, chosen, answer, line):
+        """Has an edit wait for a copy without the edits of what it calls, or of all others. Whether there was none of them."""
+        if len(chosen) == 1:
+            self.end(edit, "NOT REFUSED for itself", line)
+            return True
+        below = answer.waits_for(edit.function, self.crate.name)
+        others = [it for it in chosen if it is not edit and below & set(answer.names(it.function))]
+        self.apart |= {frozenset((edit.function, it.function)) for it in others}
+        edit.alone, edit.waited = not others, True
+        print(f"{self.crate.name}/{edit.name}: waits for another copy: {line[:150]}", flush=True)
+        return False
+
+    def without_proof(self, edit, line):
+        """Compares the goals that are open with an edit and without it if nothing is written of the proof."""
+        function = edit.function
+        if not function:
+            self.end(edit, "refused only for its shape", line)
+            return
+        folders = [f"proofs/{'/'.join(it)}" for it in self.proofs_of(function)]
+        right, wrong = self.check({}, folders), self.check(edits.changed(edit.changes, self.folder), folders)
+        more = wrong.open_goals(function) - right.open_goals(function)
+        if wrong.is_told and more:
+            self.end(edit, "", f"without its proof `{min(more)}` is open, and not with the right body")
+        else:
+            self.end(edit, "refused only for its shape: change a value, and keep the names", line)
+
+    def proofs_of(self, function):
+        """The folders with proofs of a function, as lists of names."""
+        for at, _, files in os.walk(f"{self.folder}/proofs"):
+            names = os.path.relpath(at, f"{self.folder}/proofs").split(os.sep)
+            if files and function.is_named("::".join(names)):
+                yield names
+
+
+class Kit(prove.Kit):
+    """The kit, as a copy of a crate is checked with it."""
+
+    def check(self, crate):
+        words = [self.rattle, "check", *self.words(crate), *self.logic, "--jobs", "1"]
+        return words + ["--crate-type", "staticlib"] * crate.is_static
+
+
+def has_libraries(crates, place):
+    """Has `rt lib` prove libraries, lowest first, or find them proved, as after the gate, and names them in a folder. Whether all are."""
+    for crate in crates:
+        status, said, _ = run(["rt", "lib"], f"crates/{crate.name}")
+        if status:
+            print(said)
+            return False
+        os.symlink(os.path.abspath(f"crates/{crate.name}/out/rlib/{crate.name}.rlib"), f"{place}/{crate.name}.rlib")
+    return True
+
+
+def without_comments(text):
+    """A text of definitions without the lines that are comments: no contract is weaker for these."""
+    return "\n".join(line for line in text.split("\n") if not re.match(r"\s*(//|--)", line))
+
+
+def on_one_blank(text):
+    """A text of code with one blank for what is between two words: blanks, line ends and lines of comments; and with nothing for that
+    after `(` or before `)`. So a line that is broken says the same. Texts and characters stay as they are, and a comment after code
+    goes to the end of its line as before."""
+    def plain(found):
+        around = found.string[found.start() - 1:found.start()], found.string[found.end():found.end() + 1]
+        if found["blank"]:
+            return "" if around[0] == "(" or around[1] == ")" else " "
+        return f"{found[0]}\n" if found[0].startswith(("//", "--")) else found[0]
+    return BETWEEN.sub(plain, f"\n{text}").strip()
+
+
+def on_one_line(text):
+    """A text of definitions with each statement on one line, and each name that is imported, sorted: the same however imports are put
+    together. What begins four columns or more to the right of a statement goes on with it there, so a line that is broken says the
+    same."""
+    lines, imported, begun = [], [], 0
+    for line in filter(str.strip, text.split("\n")):
+        found = IMPORTS.match(line)
+        if found:
+            imported += [found[1] + name.strip() for name in found[2].split(",")]
+            continue
+        depth = len(line) - len(line.lstrip())
+        if lines and depth >= begun + 4:
+            lines[-1] += " " + line.strip()
+            continue
+        lines.append(line)
+        begun = depth
+    return "\n".join(sorted(imported) + lines)
+
+
+def digest(crate):
+    """The digest of the code and the definitions of a crate, without comments and wherever lines are broken, and of its edits."""
+    whole = hashlib.sha256()
+    paths = [f"{at}/{file}" for part in ("src", "specs") for at, _, files in os.walk(f"crates/{crate}/{part}") for file in files]
+    texts = [(os.path.relpath(path, f"crates/{crate}"), edits.read(path)) for path in paths]
+    texts += [(f"edits/{body.name}", body.text) for body in edits.edits_of(crate)]
+    for name, text in sorted(texts):
+        if name.endswith(".rt"):
+            text = on_one_blank(text)
+        elif name.endswith(".antt"):
+            text = on_one_line(without_comments(text))
+        whole.update(f"{name}\n{text}\n".encode())
+    return whole.hexdigest()
+
+
+def with_edits():
+    """The crates that have edits."""
+    return [crate for crate in sorted(os.listdir("crates")) if edits.edits_of(crate)]
+
+
+def noted():
+    """The digest of each crate in the file of those that have passed."""
+    if not os.path.exists(SEEN):
+        raise Untold("it is missing")
+    found = {}
+    for number, line in enumerate(edits.read(SEEN).splitlines(), 1):
+        words = re.fullmatch(r"(\w+) ([0-9a-f]{64})", line)
+        if not words or words[1] in found:
+            raise Untold(f"line {number} is not the name of a crate and its digest, or has a crate again")
+        found[words[1]] = words[2]
+    return found
+
+
+def have_changed():
+    """The crates whose digest is another one than the file has."""
+    was, crates = noted(), with_edits()
+    lacking, gone = set(crates) - set(was), set(was) - set(crates)
+    if lacking or gone:
+        raise Untold("; ".join([f"it lacks {it}" for it in sorted(lacking)] + [f"{it} has no edits" for it in sorted(gone)]))
+    return [crate for crate in crates if digest(crate) != was[crate]]
+
+
+def note(passed):
+    """Writes the digests of crates whose edits are all refused, by name; those of other crates stay."""
+    try:
+        found = noted()
+    except Untold:
+        found = {}
+    found.update(passed)
+    with open(SEEN, "w", encoding="utf-8") as file:
+        file.writelines(f"{crate} {found[crate]}\n" for crate in with_edits() if crate in found)
+
+
+def try_edits(names, jobs, only=()):
+    """Tries the edits of crates, or only some, once the libraries below are proved. The trials, and whether all edits are
+    refused, by crate."""
+    with tempfile.TemporaryDirectory(prefix="wrong-bodies-") as place:
+        kit, crates = Kit(place), {it.name: it for it in prove.crates_under(*names)}
+        needed = {below for name in names for below in crates[name].below}
+        slots = threading.Semaphore(jobs)
+        trials = {name: Trial(crates[name], kit, slots, only) for name in names}
+        if not has_libraries([it for it in crates.values() if it in needed], place):
+            return trials, dict.fromkeys(names, False)
+        with ThreadPoolExecutor(len(names)) as pool:
+            ran = {name: pool.submit(trials[name].run) for name in names}
+        return trials, {name: it.result() for name, it in ran.items()}
+
+
+def minutes():
+    """The minutes of a processor that this process and those that it started have taken."""
+    used = [resource.getrusage(who) for who in (resource.RUSAGE_SELF, resource.RUSAGE_CHILDREN)]
+    return sum(it.ru_utime + it.ru_stime for it in used) / 60
+
+
+def whole(names, jobs, only=()):
+    """Tries the edits of crates, or only some, and prints a summary. The digests of the crates whose edits are all refused."""
+    was = {name: digest(name) for name in names}
+    begun = time.monotonic()
+    trials, passed = try_edits(names, jobs, only)
+    for name, trial in trials.items():
+        failed = [edit for edit, fault in trial.results.items() if fault]
+        fault = "" if passed[name] else f": FAILED: {' '.join(failed) or 'a library below it is not proved'}"
+        print(f"{name}: {len(trial.results) - len(failed)} of {len(trial.edits)} refused, in {trial.copies} copies, "
+              f"{trial.seconds:.0f} seconds of a processor{fault}")
+    results = [not fault for trial in trials.values() for fault in trial.results.values()]
+    copies = sum(trial.copies for trial in trials.values())
+    print(f"{sum(results)} of {sum(len(it.edits) for it in trials.values())} wrong bodies refused, in {copies} copies of "
+          f"{len(names)} crates: {minutes():.0f} minutes of a processor, {(time.monotonic() - begun) / 60:.0f} by the clock")
+    return {name: was[name] for name in names if passed[name]}
+
+
+def changed_alone(jobs):
+    """Tries the edits of the crates that have changed. The status to end with."""
+    try:
+        names = have_changed()
+    except Untold as why:
+        print(f"{SEEN} does not tell which crates have changed: {why}. `make wrong-bodies` writes it", file=sys.stderr)
+        return 1
+    print(f"changed since their wrong bodies were refused: {' '.join(names) or 'no crate'}", flush=True)
+    return 0 if not names or len(whole(names, jobs)) == len(names) else 1
+
+
+def named(names, jobs):
+    """Tries the edits of crates, or those that are named CRATE/EDIT. The status to end with."""
+    known = {f"{crate}/{body.name}" for crate in with_edits() for body in edits.edits_of(crate)}
+    strange = set(names) - known - set(with_edits())
+    if strange:
+        print(f"no crate with edits, or no edit: {' '.join(sorted(strange))}", file=sys.stderr)
+        return 2
+    crates = sorted({name.split("/")[0] for name in names}) or with_edits()
+    only = set(names) if any("/" in name for name in names) else set()
+    passed = whole(crates, jobs, only)
+    if not only:
+        note(passed)
+    return 0 if len(passed) == len(crates) else 1
+
+
+def main(words):
+    if "-h" in words or "--help" in words:
+        print(__doc__.strip())
+        return 0
+    if not shutil.which("rt"):
+        print("rt, the command of the Rattle kit, is not on the PATH", file=sys.stderr)
+        return 2
+    os.chdir(prove.ROOT)
+    jobs = int(words[words.index("-j") + 1]) if "-j" in words else 2
+    if "--try" in words:
+        import wrong_bodies_tried
+        return wrong_bodies_tried.main(jobs)
+    if "-c" in words:
+        return changed_alone(jobs)
+    return named([word for at, word in enumerate(words) if not word.startswith("-") and words[at - 1:at] != ["-j"]], jobs)
+
+
+if __name__ == "__main__":
+    sys.exit(main(sys.argv[1:]))

@@ -1,0 +1,1 @@
+"""Scripts that build, prove and release: README.md."""

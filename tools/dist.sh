@@ -1,0 +1,291 @@
+#!/bin/sh
+# Checks the packages of a release.
+#
+# usage: tools/dist.sh all                     builds them twice, compares them, and runs them: `make check-dist`
+#        tools/dist.sh twice FOLDER            builds them twice, and leaves them in FOLDER/one and FOLDER/two
+#        tools/dist.sh run DIST                runs the packages of the folder DIST
+#        OBJECTS=FOLDER tools/dist.sh ..       a trial: takes the objects of programs and libv7_c.a from this folder, and proves nothing
+#        PROVED=CHECKOUT tools/dist.sh ..      begins with what tools/prove.py has left in this checkout, and proves only what has changed
+#        BASE=FOLDER tools/dist.sh ..          copies Debian's base from this folder, which debootstrap has made, as make_debian does
+#
+# The two builds are of one commit, in two folders, with two file masks, languages and time zones; by two users, if the first is root;
+# and on two dates, if faketime is installed.
+#
+# To run the packages, a folder with Debian's base is made by debootstrap, from the mirror of this machine; with a C compiler and
+# pkg-config, and without the kit, make and Python. Once the package for Debian is installed there, and once the tar is unpacked.
+# Both times the README of the release, the examples of the manual pages, the tutorial, the page for restorers, the cases, and the C
+# example with both libraries are run there; before that, the commands of README, and the C example with libv7-0 and libv7-dev
+# alone. What drives the cases, tests/cases/cases.py, runs outside. It skips those that watch a program, since the programs of a package are
+# linked statically. The module of python3-v7 and the wheel run outside too. Wanted: root, Debian's debootstrap and lintian.
+set -u
+cd "$(dirname "$0")/.."
+top=$PWD
+version=$(sed -n 's/^#define V7_VERSION "\(.*\)"/\1/p' include/v7.h)
+name=v7-$version-linux-x86_64
+work=$(mktemp -d)
+chmod 755 "$work"
+trap 'umount "$work/debian/proc" "$work/debian/sys" 2>/dev/null; rm -rf --one-file-system "$work"' EXIT
+failed=0
+
+fail() {
+    echo "$1"
+    failed=1
+}
+
+stop() {
+    echo "$1" >&2
+    exit 2
+}
+
+# --- two builds
+
+# puts objects that were not proved in place of proved ones
+take_objects() {
+    mkdir -p "$1/build/proved" "$1/crates/v7_c/out"
+    cp "$OBJECTS"/*.o "$1/build/proved"
+    cp "$OBJECTS/libv7_c.a" "$1/crates/v7_c/out"
+    for crate in $(sed -n 's/^\([a-z0-9_]*\).*:.*/\1/p' "$1/crates.txt"); do
+        echo "not proved: compiled for a trial of the packages" >"$1/build/proved/$crate.verdict"
+    done
+}
+
+# puts what was proved, and built of it, where tools/prove.py looks for it; what has other sources it proves again
+take_proved() {
+    mkdir -p "$1/build/proved"
+    cp "$PROVED"/build/proved/* "$1/build/proved"
+    for path in v7/out/v7 v7_from_gnu/out/v7_from_gnu v7_object/out/v7_object v7_explain/out/v7_explain v7_lesson/out/v7_lesson v7_c/out/libv7_c.a; do
+        [ ! -f "$PROVED/crates/$path" ] || { mkdir -p "$1/crates/${path%/*}" && cp "$PROVED/crates/$path" "$1/crates/$path"; }
+    done
+}
+
+# a clone, and its packages, which are made with this file mask by the words that follow
+build() {
+    to=$1
+    mask=$2
+    shift 2
+    git clone -q "$top" "$to" || exit 1
+    [ -z "${PROVED:-}" ] || take_proved "$to"
+    if [ -n "${OBJECTS:-}" ]; then
+        take_objects "$to"
+        make="python3 packaging/dist.py --kept"
+    else
+        make="make dist"
+    fi
+    [ "$(id -u)" -ne 0 ] || [ "$1" = sh ] || chown -R 65534:65534 "$to"
+    (cd "$to" && umask "$mask" && "$@" "$make") || { echo "no packages were built in $to"; exit 1; }
+}
+
+twice() {
+    date=
+    command -v faketime >/dev/null && date="faketime -f +400d" || echo "skipped: faketime is not there, so both builds are of today"
+    user=
+    [ "$(id -u)" -ne 0 ] && echo "skipped: not root, so both builds are by one user" || user="setpriv --reuid=65534 --regid=65534 --clear-groups"
+    build "$work/one" 022 sh -c
+    build "$work/another/folder" 077 env -u MAKEFLAGS TMPDIR=/tmp HOME="$work/another" DONT_FAKE_MONOTONIC=1 TZ=Asia/Tokyo LC_ALL=C.UTF-8 $user $date sh -c
+    for folder in one another/folder; do
+        (cd "$work/$folder/dist" && sha256sum -c --quiet SHA256SUMS) || fail "$folder: SHA256SUMS is wrong"
+    done
+    if diff -r "$work/one/dist" "$work/another/folder/dist"; then
+        echo "two builds are equal:"
+        cat "$work/one/dist/SHA256SUMS"
+    else
+        fail "two builds differ"
+    fi
+    mkdir -p "$1"
+    cp -r "$work/one/dist" "$1/one"
+    cp -r "$work/another/folder/dist" "$1/two"
+}
+
+# --- a folder with Debian
+
+debian=$work/debian
+
+# Debian's base, from the mirror of this machine
+make_debian() {
+    if [ -n "${BASE:-}" ]; then
+        cp -a "$BASE" "$debian" || stop "BASE is not a folder that can be copied"
+    else
+        mirror=$(apt-get indextargets --format '$(REPO_URI) $(CODENAME)' 'Created-By: Packages' | head -1)
+        debootstrap --variant=minbase --include=gcc,libc6-dev,pkg-config "${mirror#* }" "$debian" "${mirror% *}" >"$work/debootstrap.txt" 2>&1 ||
+            { tail -20 "$work/debootstrap.txt"; stop "debootstrap failed"; }
+    fi
+    for absent in python3 make rt; do
+        [ ! -e "$debian/usr/bin/$absent" ] || fail "the folder has $absent"
+    done
+}
+
+# runs a command in the folder, with these programs first
+inside() {
+    chroot "$debian" env -i PATH="$programs:/usr/sbin:/usr/bin:/sbin:/bin" HOME=/root PKG_CONFIG_PATH="$config" LD_LIBRARY_PATH="$libraries" "$@"
+}
+
+# the commands of README, as printed
+readme() {
+    awk '/^## How to get it/ { on = 1 } on && /^    / { found = 1; print substr($0, 5); next } found { exit }' README.md >"$work/readme.sh"
+    [ -s "$work/readme.sh" ] || fail "README.md has no commands"
+    rm -rf "$debian/tmp/readme"
+    mkdir "$debian/tmp/readme"
+    cp "$dist"/* "$work/readme.sh" "$debian/tmp/readme"
+    inside sh -euc 'cd /tmp/readme && . ./readme.sh' >"$work/readme.txt" 2>&1 || fail "the commands of README.md fail"
+    tail -1 "$work/readme.txt" | grep -q '^14+2+0 = 16b = 020b$' || { fail "the commands of README.md print something else"; cat "$work/readme.txt"; }
+    echo "README.md: $(wc -l <"$work/readme.sh") lines were run"
+}
+
+# the README of the release: the paths that it names are there
+own_readme() {
+    page=$debian$share/doc/v7/README.md
+    [ -s "$page" ] && ! grep -q '@VERSION@' "$page" || { fail "the release has no README of its own"; return; }
+    for path in $(sed -n 's/^| `\([a-z][^`]*\)` .*/\1/p' "$page"); do
+        [ -e "$debian${share%/share}/$path" ] || fail "README.md of the release names $path, which is not there"
+    done
+    [ -e "$(dirname "$page")/NOTICE" ] || [ -e "$(dirname "$page")/copyright" ] || fail "there is neither NOTICE nor copyright"
+    grep -q '<script' "$(dirname "$page")/lesson.html" || fail "lesson.html is not the page of the lesson"
+    echo "README.md of the release: $(grep -c '^|' "$page") rows of paths and links"
+}
+
+# no link of what is installed is dead, and completion is that of the programs
+web() {
+    for folder in "$debian${share%/share}/README.md" "$debian$share/doc/v7" "$debian$share/doc/libv7-dev"; do
+        [ ! -e "$folder" ] || python3 -m tests.programs.installed look "$folder" || fail "a link of the release is dead"
+    done
+    python3 packaging/completion.py "$work/completion" && cmp "$work/completion/v7.bash" "$debian$share/bash-completion/completions/v7-explain" &&
+        find "$debian$share/zsh" -name _v7 -exec cmp "$work/completion/_v7" {} + || fail "the completion is another one"
+    python3 -m tests.programs.completion "$work/completion" || fail "completion fails"
+}
+
+# the processors that both READMEs name: the programs have instructions of x86-64-v2, and none of a later level
+processors() {
+    grep -q 'x86-64-v2' README.md && grep -q 'x86-64-v2' "$page" || fail "a README does not name the processors"
+    find "$debian${share%/share}/lib" -path '*/v7/*.o' -exec objdump -d --no-show-raw-insn {} + >"$work/instructions.txt"
+    grep -qw 'ptest' "$work/instructions.txt" || fail "no program needs x86-64-v2"
+    later='v[a-z0-9]+|andn|bextr|bls(i|r|msk)|bzhi|lzcnt|movbe|mulx|pdep|pext|rorx|sarx|shlx|shrx'
+    ! grep -E "$(printf '\t')($later)[lq]?( |\$)" "$work/instructions.txt" || fail "a program needs more than x86-64-v2"
+    echo "the programs run on x86-64-v2: $(wc -l <"$work/instructions.txt") lines were read"
+}
+
+# the first commands of the README of the release, which are typed in the folder of the archive, and then a link
+first_link() {
+    awk '/^## The first link/ { on = 1 } on && /^    / { found = 1; print substr($0, 5); next } found { exit }' "$page" >"$debian/tmp/first.sh"
+    [ "$(wc -l <"$debian/tmp/first.sh")" -eq 2 ] || fail "README.md of the release has no first commands"
+    inside sh -euc 'cd "$0" && rm -rf /tmp/home && mkdir /tmp/home && HOME=/tmp/home && . /tmp/first.sh && test "$PWD" = /tmp/home/v7-examples &&
+        v7 ld -o program main.o twice.o count.o && v7 size program' "${share%/share}" >"$work/first.txt" 2>&1
+    [ "$(cat "$work/first.txt")" = '14+2+0 = 16b = 020b' ] || { cat "$work/first.txt"; fail "the first commands of the README of the release fail"; }
+    echo "README.md of the release: $(wc -l <"$debian/tmp/first.sh") lines were run"
+}
+
+# the examples of the manual pages that are installed, and the tutorial
+manual() {
+    rm -rf "$debian/tmp/manual"
+    mkdir -p "$debian/tmp/manual/tests/programs" "$debian/tmp/manual/build"
+    cp tests/programs/manual.sh "$debian/tmp/manual/tests/programs"
+    inside sh -euc 'cd /tmp/manual && mkdir man && cp "$1"/man/man[15]/v7* man && { gunzip -q man/*.gz 2>/dev/null || :; }
+        cp -r "$1/doc/v7/examples" . && for program in v7 v7-from-gnu v7-object v7-explain v7-lesson; do ln -s "$(command -v $program)" build; done
+        sh tests/programs/manual.sh man/* "$1/doc/v7/README.md" "$1/doc/v7/docs/TUTORIAL.md" "$1/doc/v7/docs/RESTORING.md"' sh "$share" || fail "an example of the manual or the tutorial differs"
+}
+
+# the cases, driven from outside: each program is a script that runs it in the folder
+cases() {
+    mkdir -p "$work/cases/build"
+    cp -r tests "$work/cases"
+    cp -r examples "$work/cases"
+    for program in v7 v7-from-gnu v7-object v7-explain v7-lesson; do
+        path=$(inside sh -c 'command -v "$0"' $program)
+        cat >"$work/cases/build/$program" <<END
+#!/bin/sh
+exec /usr/sbin/chroot "$debian" /bin/sh -c 'cd "\$0" && shift 0 && exec "\$@"' "\${PWD#"$debian"}" "$path" "\$@"
+END
+        chmod 755 "$work/cases/build/$program"
+    done
+    (cd "$work/cases" && TMPDIR=$debian/tmp PYTHONDONTWRITEBYTECODE=1 python3 -m tests.cases.cases -p >"$work/cases.txt") || fail "a case differs"
+    grep -v '^ok \|^skipped ' "$work/cases.txt"
+}
+
+# the C example against the installed header, with the shared library and with the other
+library() {
+    inside sh -euc 'cd /tmp && rm -rf library && mkdir library && cd library && cp "$1"/doc/v7/examples/*.o . &&
+        cc -o shared "$1/doc/v7/examples/c/link.c" $(pkg-config --cflags --libs v7) &&
+        cc -o alone "$1/doc/v7/examples/c/link.c" $(pkg-config --cflags v7) $(pkg-config --libs-only-L v7) -Wl,-Bstatic -lv7 -Wl,-Bdynamic &&
+        cc -o session "$1/doc/v7/examples/c/session.c" $(pkg-config --cflags --libs v7) &&
+        ./session >/dev/null && ./shared one main.o twice.o count.o >/dev/null && ./alone two main.o twice.o count.o >/dev/null &&
+        v7 ld -o three main.o twice.o count.o && cmp one three && cmp two three && test "$(pkg-config --modversion v7)" = "$2"' \
+        sh "$share" "$version" || fail "the C example fails"
+    echo "the C example was compiled and run with both libraries"
+}
+
+# the C example with libv7-0 and libv7-dev alone, and the documents that the header cites
+library_alone() {
+    inside dpkg -i "/tmp/libv7-0_${version}_amd64.deb" "/tmp/libv7-dev_${version}_amd64.deb" >"$work/dpkg.txt" 2>&1 ||
+        { cat "$work/dpkg.txt"; fail "dpkg does not install the library"; }
+    inside sh -euc 'cd /tmp && rm -rf alone && mkdir alone && cd alone && doc=/usr/share/doc/libv7-dev && cp $doc/examples/*.o . &&
+        cc -o link $doc/examples/c/link.c $(pkg-config --cflags --libs v7) && ./link program main.o twice.o count.o >/dev/null &&
+        for page in $(grep -o "docs/[A-Z]*\.md" /usr/include/v7.h); do test -s $doc/$page; done && ! command -v v7' ||
+        fail "libv7-dev alone does not do"
+    cmp "$debian/tmp/alone/program" "$debian/tmp/readme/$name/share/doc/v7/examples/program" || fail "another program with libv7-dev alone"
+    echo "the C example was compiled and run with libv7-0 and libv7-dev alone"
+}
+
+# the module of Python in its package and in the wheel, outside of the folder
+python() {
+    for deb in "$dist"/python3-v7_*.deb "$dist"/libv7-0_*.deb; do
+        dpkg-deb -x "$deb" "$work/python"
+    done
+    PYTHONPATH=$work/python/usr/lib/python3/dist-packages LD_LIBRARY_PATH=$work/python/usr/lib/x86_64-linux-gnu \
+        python3 examples/python/session.py >"$work/session.txt" || fail "python3-v7 does not do"
+    python3 -m tests.libv7.wheel "$dist"/*.whl || fail "the wheel is not right"
+    python3 -m venv "$work/fresh" && "$work/fresh/bin/pip" install -q --no-index --disable-pip-version-check "$dist"/*.whl &&
+        "$work/fresh/bin/python" examples/python/session.py | cmp - "$work/session.txt" &&
+        (cd examples && "$work/fresh/bin/python" python/link.py "$work/linked" main.o twice.o count.o >/dev/null) || fail "the wheel does not do"
+    echo "Python: a session with python3-v7, and the examples with the wheel in a fresh environment"
+}
+
+# lintian finds nothing in a package
+clean() {
+    lintian --fail-on error,warning --tag-display-limit 0 "$1" >"$work/lintian.txt" 2>&1 || { cat "$work/lintian.txt"; fail "lintian: $1"; }
+    echo "lintian: nothing in $(basename "$1")"
+}
+
+# all of these with what is installed
+try_all() {
+    echo "--- $1"
+    own_readme
+    web
+    processors
+    first_link
+    manual
+    cases
+    library
+}
+
+run_packages() {
+    dist=$(cd "$1" && pwd)
+    [ "$(id -u)" -eq 0 ] || stop "root is needed to change the root folder"
+    (cd "$dist" && sha256sum -c --quiet SHA256SUMS) || fail "SHA256SUMS is wrong"
+    command -v lintian >/dev/null || fail "lintian is not there"
+    for deb in "$dist"/*.deb; do
+        clean "$deb"
+    done
+    python
+    make_debian
+    programs=/usr/local/bin share=/usr/share config= libraries=
+    readme
+    cp "$dist"/*_amd64.deb "$debian/tmp"
+    library_alone
+    inside dpkg -i "/tmp/v7_${version}_amd64.deb" >"$work/dpkg.txt" 2>&1 || { cat "$work/dpkg.txt"; fail "dpkg does not install the package"; }
+    try_all "the packages for Debian"
+    inside dpkg -r v7 libv7-dev libv7-0 >"$work/dpkg.txt" 2>&1 || { cat "$work/dpkg.txt"; fail "dpkg does not remove the packages"; }
+    tar xzf "$dist/$name.tar.gz" -C "$debian/opt"
+    programs=/opt/$name/bin share=/opt/$name/share config=/opt/$name/lib/pkgconfig libraries=/opt/$name/lib
+    try_all "the tar"
+}
+
+case ${1:-} in
+all)
+    twice "$work/dists"
+    [ $failed -eq 0 ] && run_packages "$work/dists/one"
+    ;;
+twice) twice "$2" ;;
+run) run_packages "$2" ;;
+*) stop "usage: tools/dist.sh all | twice FOLDER | run DIST" ;;
+esac
+[ $failed -eq 0 ] && echo "the packages are right"
+exit $failed
