@@ -1,9 +1,31 @@
-# v7: see README.md. The command `rt` of the Rattle kit has to be on the PATH.
+# v7: see README.md. The command `rt` of the Rattle kit has to be on the PATH, but for what needs no kit.
+#
+#: make            proves and builds the five programs into build/                             kit         40 minutes
+#: make quick      compiles them without proof into build/quick, and shows a session          kit          2 minutes
+#: make lib wheel  proves and builds libv7, and makes its wheel of Python                      kit         30 minutes
+#: make dist       makes the packages of a release in dist/                                    kit         60 minutes
+#: make page       makes the page of the lesson, build/lesson.html; `lesson` prints its steps  kit         10 minutes
+#: make install install-lib uninstall clean                                                    the builds
+#:
+#: make which CHANGED=PATH    which tests and crates a change concerns; or SINCE=COMMIT         Python      seconds
+#: make check-text            texts, names, limits and quotes, compared with the code          Python, cc   1 minute
+#: make test                  cases and tests with programs that are not proved                kit          5 minutes
+#: make gate                  proves everything, and tries the wrong bodies of must-fail/      kit         60 minutes
+#: make check                 all that CI runs: the gate, and tests of the proved programs     tools/needs 90 minutes
+#: make check-all             this, all wrong bodies, planted bugs, the page and the release   tools/needs  6 hours
+#: make check-wrong-bodies    has the prover refuse those of changed crates, or of NAMES=CRATE kit         minutes to 2 hours
+#: make planted               plants BUGS=NAME, or all, and sees that tests find them          kit          1 minute each
+#: make demo                  proves v7, and shows a session and a link with it                kit         10 minutes
+#: make recheck               proves one claim again, and shows how a broken line is refused   kit          2 minutes
+#: make bench                 counts instructions, times and memory                            valgrind     5 minutes
+#: make help                  shows this. `python3 -m tests list` names each test of a tier, `python3 -m tests NAME` runs it
 PREFIX ?= /usr/local
 
 # the kits that the gate has passed with; any: another one too
 KITS ?= rattle-kit-13b rattle-kit-13f
-ifneq ($(filter-out clean install install-lib uninstall,$(or $(MAKECMDGOALS),all)),)
+# what proves and compiles nothing
+LIGHT := check-text clean help uninstall which
+ifneq ($(filter-out $(LIGHT) install install-lib,$(or $(MAKECMDGOALS),all)),)
 ifneq ($(shell sh tools/kit.sh $(KITS) && echo yes),yes)
 $(error stopped)
 endif
@@ -11,48 +33,26 @@ endif
 
 # tools/prove.py uses all processors by itself
 .NOTPARALLEL:
-.PHONY: all quick demo lib install-lib wheel check-lib dist check-dist test gate recheck wrong-bodies check-wrong-bodies memory room bench simulate \
-	lesson page check-page check-page-data check-manual check-examples check-explain check-cases planted check-model check-streams check-install install \
-	uninstall clean
+.SECONDEXPANSION:
+.PHONY: all quick lib wheel dist lesson page install install-lib uninstall clean help which check-text test gate check check-all \
+	check-wrong-bodies planted demo recheck bench
 
-all: build/v7 build/v7-from-gnu build/v7-object build/v7-explain build/v7-lesson
+PROGRAMS := $(addprefix build/,v7 v7-from-gnu v7-object v7-explain v7-lesson)
+all: $(PROGRAMS)
 
-SOURCES := crates.txt $(shell find crates -name out -prune -o -type f -print)
-
-build/v7: crates/v7/out/v7
+# a proved program, which `make gate` leaves too, at the same place
+$(PROGRAMS) build/library_uses: build/%: crates/$$(subst -,_,$$*)/out/$$(subst -,_,$$*)
 	mkdir -p build
-	cp crates/v7/out/v7 build/v7
+	cp $< $@
 
-# tools/prove.py proves a program with the libraries under it, side by side where none waits for another, and builds it. The
-# gate leaves a proved program too, at the same place
-crates/v7/out/v7: $(SOURCES)
-	python3 -m tools.prove v7 $@
+# tools/prove.py proves a crate with the libraries under it, side by side where none waits for another, and builds it
+ifneq ($(filter-out $(LIGHT),$(or $(MAKECMDGOALS),all)),)
+crate_of = $(word 2,$(subst /, ,$@))
+PROVED := $(foreach crate,v7 v7_from_gnu v7_object v7_explain v7_lesson library_uses,crates/$(crate)/out/$(crate)) crates/v7_c/out/libv7_c.a
+$(PROVED): crates.txt $$(shell python3 -m tools.prove --sources $$(crate_of))
+	python3 -m tools.prove $(crate_of) $@
 	touch $@
-
-build/v7-from-gnu: crates/v7_from_gnu/out/v7_from_gnu
-	mkdir -p build
-	cp crates/v7_from_gnu/out/v7_from_gnu build/v7-from-gnu
-
-crates/v7_from_gnu/out/v7_from_gnu: crates.txt $(shell find crates/aout_core crates/texts crates/surroundings crates/gnu_objects crates/v7_from_gnu -name out -prune -o -type f -print)
-	python3 -m tools.prove v7_from_gnu $@
-	touch $@
-
-build/v7-object: crates/v7_object/out/v7_object
-	mkdir -p build
-	cp crates/v7_object/out/v7_object build/v7-object
-
-crates/v7_object/out/v7_object: crates.txt $(shell find crates/aout_core crates/texts crates/surroundings crates/listings crates/v7_object -name out -prune -o -type f -print)
-	python3 -m tools.prove v7_object $@
-	touch $@
-
-build/v7-explain: crates/v7_explain/out/v7_explain
-	mkdir -p build
-	cp crates/v7_explain/out/v7_explain build/v7-explain
-
-EXPLAIN_CRATES := $(addprefix crates/,aout_core texts surroundings link_session tool_options link_out symtools command_words gnu_objects listings instructions disassemblies findings suspicions explanations link_maps map_texts v7_explain)
-crates/v7_explain/out/v7_explain: crates.txt $(shell find $(EXPLAIN_CRATES) -name out -prune -o -type f -print)
-	python3 -m tools.prove v7_explain $@
-	touch $@
+endif
 
 # the linker as a library, for C and for what can call C: include/v7.h. Of the C library it calls no more than `malloc`,
 # `realloc` and `free`, through an object of the kit's c/liblibc_c.a. Both libraries hold that object, and show only the calls of
@@ -83,12 +83,6 @@ build/libv7.so: build/$(SOFILE)
 	ln -sf $(SOFILE) build/$(SONAME)
 	ln -sf $(SONAME) build/libv7.so
 
-LIBRARY_CRATES := $(addprefix crates/,aout_core texts link_session tool_options link_out symtools session_states listings instructions disassemblies \
-	gnu_objects findings suspicions explanations link_maps finding_objects library_calls v7_c)
-crates/v7_c/out/libv7_c.a: crates.txt $(shell find $(LIBRARY_CRATES) -name out -prune -o -type f -print)
-	python3 -m tools.prove v7_c $@
-	touch $@
-
 # the libraries, the header, what pkg-config reads, the manual page, and the documents that the header cites; no program is needed
 STAGE := build/stage
 install-lib: lib
@@ -109,87 +103,18 @@ install-lib: lib
 wheel: lib
 	python3 packaging/python/backend.py build
 
-# installs the library into a folder, calls it there with an input for each fault of each call, and compares what the examples in
-# C, C++, Python and Rust link with what v7 links
-check-lib: lib build/v7 build/v7-explain build/v7-object build/v7-from-gnu
-	CC='$(CC)' CXX='$(CXX)' sh tests/libv7/library.sh
-
-# the release: packages of what was proved and built, in dist. check-dist makes them twice, in two folders, compares them, and runs
-# them in a folder of Debian that has neither the kit nor make nor Python
+# the release: packages of what was proved and built, in dist
 dist:
 	python3 packaging/dist.py
 
-check-dist:
-	sh tools/dist.sh all
-
-# all programs, compiled without proof into build/quick, to try them at once
 quick:
 	@python3 -m tools.compiling build/quick
-	@python3 -m tests.programs.demo build/quick/v7
+	@V7_BUILD=build/quick python3 -m tests.programs.demo
 	@echo 'Nothing of this is proved: make proves it. next: PATH=$$PWD/build/quick:$$PATH, docs/TUTORIAL.md'
 
-# proves v7, and shows with it a session and a link of two small objects
 demo: build/v7
-	@python3 -m tests.programs.demo build/v7
+	@python3 -m tests.programs.demo
 	@echo 'Each function of build/v7 is proved. next: make, which proves the other programs; docs/TUTORIAL.md'
-
-# the cases and the tests that are code, by programs that are compiled without any proof: what fails is named, and a pass proves
-# nothing
-test:
-	@python3 tests/unproved.py
-
-# the gate: what has to be trusted, every proof from nothing, the edits that must fail, the tests, the programs' stored runs
-gate:
-	python3 -m tests.texts.trusted
-	python3 -m tests.texts.refusals
-	python3 -m tests.wrong_bodies.edits
-	python3 -m tests.texts.index
-	python3 -m tests.texts.quotes
-	python3 -m tests.texts.layers
-	python3 -m tests.texts.limits
-	python3 -m tests.texts.header
-	python3 -m tests.texts.calling
-	python3 -m tests.texts.links
-	python3 -m tests.texts.shape
-	python3 -m tests.costs.gate_times rt ci
-
-# one claim proved again, and a broken line refused: docs/TRUST.md
-recheck:
-	@sh tools/recheck.sh
-
-# all wrong bodies, which the prover has to refuse, in copies with one for each function; NAMES are the crates whose are tried
-wrong-bodies:
-	python3 -m tests.wrong_bodies.wrong_bodies $(NAMES)
-
-# those of the crates that have changed since `make wrong-bodies` refused theirs, as tests/wrong_bodies/wrong-bodies.seen tells; and the script
-# itself, with harmless edits planted among wrong ones
-check-wrong-bodies:
-	python3 -m tests.wrong_bodies.wrong_bodies -c
-	python3 -m tests.wrong_bodies.wrong_bodies --try
-
-# each program and each call of libv7 with its first request for memory refused, with its second, and so on
-memory: build/v7 build/v7-from-gnu build/v7-object build/v7-explain build/v7-lesson lib
-	python3 -m tests.programs.memory build
-
-# the bytes that reading and linking ask for, beside what they need; needs valgrind
-room: build/v7
-	python3 -m tests.costs.room build/v7
-
-# where valgrind is installed, the instructions of a heavy link and of an object that is added and withdrawn, and how those of each kind of
-# work grow
-bench: build/v7 build/v7-explain build/v7-from-gnu build/v7-object
-	python3 -m tests.costs.heavy build/v7
-	python3 -m tests.costs.scaling build/v7 build/v7-explain build/v7-from-gnu build/v7-object
-
-# links a program of five files, and the one of the lesson "Find the fault", whose first _twice is another one; runs both on SIMH's
-# PDP-11, and compares what they print
-simulate: build/v7
-	for twice in twice.o 'double.o twice.o'; do \
-		(cd examples && ../build/v7 ld -e _start -o ../build/doubled main.o $$twice count.o print.o start.o || test $$? -eq 1) || exit 1; \
-		sh examples/simulate.sh build/doubled >build/doubled.txt || exit 1; \
-		cat build/doubled.txt; \
-		echo '21 doubled is 42' | cmp - build/doubled.txt || exit 1; \
-	done
 
 # adds the objects FILES to a session one by one and takes them out again, and shows each state; docs/teaching/LESSON.md
 lesson: build/v7-lesson
@@ -206,98 +131,53 @@ page: build/v7-lesson
 	mv build/lesson.new build/lesson.html
 	$(if $(FILES),,build/v7-lesson -p page -q $(PROGRAM)/lessons.txt $(PROGRAM_FILES) >build/program.new && mv build/program.new build/program.html)
 
-# compares what the data of pages hold, and the answers of their lessons, with what v7-lesson, v7 ld and v7 nm print; no browser is needed
-check-page-data: build/v7 build/v7-lesson build/v7-explain
-	python3 -m tests.page.page_data build/v7-lesson build/v7 build/v7-explain page examples/lessons.txt $(PAGE_FILES)
+help:
+	@sed -n 's/^#: \{0,1\}//p' Makefile
 
-# opens the page in Chromium, goes through all its states, and compares them with what v7-lesson, v7 ld and v7 nm print; measures
-# its stage with sixteen objects, looks at its layout in many sizes, in Firefox too, takes its lessons by keys, and compares
-# docs/pictures with it. It needs Debian's chromium, chromium-driver and
-# python3-selenium, and firefox-esr for Firefox
-check-page: check-page-data
-	python3 -m tests.page.page build/v7-lesson build/v7 build/v7-explain page examples/lessons.txt $(PAGE_FILES)
+which:
+	@python3 -m tests which $(or $(CHANGED),$$({ git diff --name-only $(or $(SINCE),HEAD); git ls-files -o --exclude-standard; } | sort -u))
 
-build/v7-lesson: crates/v7_lesson/out/v7_lesson
-	mkdir -p build
-	cp crates/v7_lesson/out/v7_lesson build/v7-lesson
+check-text:
+	@python3 -m tests text
 
-LESSON_CRATES := $(addprefix crates/,aout_core texts surroundings link_session tool_options link_out symtools session_states instructions disassemblies v7_lesson)
-crates/v7_lesson/out/v7_lesson: crates.txt $(shell find $(LESSON_CRATES) -name out -prune -o -type f -print)
-	python3 -m tools.prove v7_lesson $@
-	touch $@
+# a pass proves nothing
+test:
+	@python3 -m tests test
 
-# the manual pages: mandoc finds nothing to say of them, but for pages of others that this machine lacks, and their examples, and those
-# of the documents, come out as shown
-check-manual: check-examples
-	cd man && mandoc -T lint *.1 *.3 *.5 | { ! grep -v 'lacks .* entry, run makewhatis\|referenced manual not found'; }
+# every proof from nothing, the wrong bodies of must-fail/, the tests, the programs' stored runs
+gate: check-text
+	python3 -m tests.costs.gate_times rt ci
 
-# the programs with standard streams closed, and with words and files of each kind and number; what v7 adds at a terminal; and
-# completion
-check-streams: build/v7 build/v7-from-gnu build/v7-object build/v7-explain build/v7-lesson
-	sh tests/programs/streams.sh
-	python3 -m tests.programs.terminal build/v7
-	python3 -m tests.programs.completion
+# the cheapest first, so that a fault shows early. The gate leaves the programs that the tests of `check` run
+check: quick test gate check-wrong-bodies
+	$(MAKE) all lib build/library_uses
+	python3 -m tests check
 
-# installs into a folder with a narrow file mask, looks at what is there, and takes it away
-check-install: build/v7 build/v7-from-gnu build/v7-object build/v7-explain build/v7-lesson
-	python3 -m tests.programs.installed make build
+check-all: check
+	python3 -m tests all
+	$(MAKE) check-wrong-bodies NAMES=all
+	$(MAKE) planted
 
-# listings of the examples and of 1,000 made objects are turned back, and so are those of other files; 2,000 damaged listings
-# are tried, notes compared with computed ones, and maps with what v7 says of the links; DAMAGED files are tried besides. Each program
-# gets the largest input of each kind
-DAMAGED ?= 0
-check-explain: build/v7 build/v7-explain build/v7-object build/v7-from-gnu build/v7-lesson
-	python3 -m tests.oracles.explain build/v7-explain build/v7-object build/v7 $(DAMAGED)
-	python3 -m tests.oracles.listings build/v7-explain build/v7-object
-	python3 -m tests.oracles.notes build/v7-explain
-	python3 -m tests.oracles.map build/v7 build/v7-explain
-	python3 -m tests.oracles.disassembly build/v7-explain
-	python3 -m tests.programs.folders build/v7-explain
-	python3 -m tests.oracles.mistakes build/v7-explain
-	python3 -m tests.programs.largest build
+# those of the crates that have changed since theirs were refused, as tests/wrong_bodies/wrong-bodies.seen tells, and the script itself,
+# with harmless edits planted among wrong ones; or those of the crates NAMES
+check-wrong-bodies:
+	python3 -m tests.wrong_bodies.wrong_bodies $(or $(filter-out all,$(NAMES)),$(if $(NAMES),,-c))
+	$(if $(NAMES),,python3 -m tests.wrong_bodies.wrong_bodies --try)
 
-# plays the cases, docs/CASES.md, with the programs: each must come out as written, and each bad case must be refused as bad.errors
-# has it. Samples that are in examples too must be the same there
-check-cases: build/v7 build/v7-from-gnu build/v7-object build/v7-explain build/v7-lesson build/library_uses
-	python3 -m tests.cases.cases -s
-	python3 -m tests.cases.planted -c
-	python3 -m tests.cases.cases -b
-	python3 -m tests.cases.cases
-
-# the program by which cases show the states of sessions
-build/library_uses: crates/library_uses/out/library_uses
-	mkdir -p build
-	cp crates/library_uses/out/library_uses build/library_uses
-
-crates/library_uses/out/library_uses: $(SOURCES)
-	python3 -m tools.prove library_uses $@
-	touch $@
-
-# plants the bugs of docs/internals/PLANTED.md, or those that BUGS names, one after another, and sees that the cases find each: one to two
-# minutes for a bug, with no proof
+# the bugs of docs/internals/PLANTED.md, one after another
 planted:
 	python3 -m tests.cases.planted $(BUGS)
 
-# compares v7 with a second linker, tests/oracles/model.py, on 3,000 random cases, always the same
-check-model: build/v7
-	python3 -m tests.oracles.agree build/v7
+recheck:
+	@sh tools/recheck.sh
 
-# the examples of the manual pages and of the documents come out as shown, and so do the faults of v7-from-gnu and the steps of
-# v7-lesson; the gate leaves the programs that they need
-check-examples: build/v7 build/v7-from-gnu build/v7-object build/v7-explain build/v7-lesson
-	cmp crates/v7_lesson/data/k.o examples/k.o
-	cmp crates/v7_lesson/data/l.o examples/l.o
-	cmp crates/v7_from_gnu/data/squares.gnu examples/squares.gnu
-	cmp crates/v7_object/data/main.lst examples/main.lst
-	sh tests/programs/manual.sh
-	python3 -m tests.programs.statuses build/v7-from-gnu build/v7-lesson
-	python3 -m tests.oracles.assembler build/v7-from-gnu
-	for program in v7-from-gnu v7-object v7-explain v7-lesson; do \
-		test "$$(build/$$program --version)" = "$$program $(VERSION)" || { echo "$$program --version: not $(VERSION)"; exit 1; }; \
-	done
+bench: build/v7 build/v7-explain build/v7-from-gnu build/v7-object
+	python3 -m tests.costs.heavy
+	python3 -m tests.costs.room
+	python3 -m tests.costs.scaling
 
 # the programs, and what the package v7 has besides; uninstall takes away what install and install-lib have put there
-install: build/v7 build/v7-from-gnu build/v7-object build/v7-explain build/v7-lesson
+install: $(PROGRAMS)
 	rm -rf $(STAGE)
 	python3 packaging/installed.py put build $(STAGE)$(PREFIX)
 	python3 packaging/installed.py copy $(STAGE) '$(DESTDIR)' $(PREFIX)

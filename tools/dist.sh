@@ -1,14 +1,14 @@
 #!/bin/sh
 # Checks the packages of a release.
 #
-# usage: tools/dist.sh all                     builds them twice, compares them, and runs them: `make check-dist`
+# usage: tools/dist.sh all                     builds them twice, compares them, and runs them: `sh tools/dist.sh all`
 #        tools/dist.sh twice FOLDER            builds them twice, and leaves them in FOLDER/one and FOLDER/two
 #        tools/dist.sh run DIST                runs the packages of the folder DIST
 #        OBJECTS=FOLDER tools/dist.sh ..       a trial: takes the objects of programs and libv7_c.a from this folder, and proves nothing
 #        PROVED=CHECKOUT tools/dist.sh ..      begins with what tools/prove.py has left in this checkout, and proves only what has changed
 #        BASE=FOLDER tools/dist.sh ..          copies Debian's base from this folder, which debootstrap has made, as make_debian does
 #
-# The two builds are of one commit, in two folders, with two file masks, languages and time zones; by two users, if the first is root;
+# The two builds are of one commit, in two folders, with two file masks, languages and time zones. They are by two users, if the first is root,
 # and on two dates, if faketime is installed.
 #
 # To run the packages, a folder with Debian's base is made by debootstrap, from the mirror of this machine; with a C compiler and
@@ -17,6 +17,8 @@
 # example with both libraries are run there; before that, the commands of README, and the C example with libv7-0 and libv7-dev
 # alone. What drives the cases, tests/cases/cases.py, runs outside. It skips those that watch a program, since the programs of a package are
 # linked statically. The module of python3-v7 and the wheel run outside too. Wanted: root, Debian's debootstrap and lintian.
+#
+# tier: all, 7000 seconds; words: all; for: packaging tools/dist.sh; needs: debootstrap lintian faketime
 set -u
 cd "$(dirname "$0")/.."
 top=$PWD

@@ -1,5 +1,7 @@
-#!/usr/bin/env python3
-"""Proves a program or a library for C with the libraries under it, and builds it: `prove.py NAME FILE`.
+"""Proves a program or a library for C with the libraries under it, and builds it.
+
+usage: python3 -m tools.prove NAME FILE
+       python3 -m tools.prove --sources NAME      prints the files that it is proved of
 
 Libraries that do not wait for each other are proved side by side. Each is proved from nothing, by the kit's `rattle` with the
 words of the gate, and the crates above it read its statements and not its proofs. These are kept in build/proved, packed, since
@@ -12,7 +14,6 @@ elsewhere a line for each crate, and at least one every ten seconds.
 """
 import hashlib
 import os
-import re
 import shutil
 import subprocess
 import sys
@@ -22,17 +23,14 @@ import threading
 import time
 from concurrent.futures import ThreadPoolExecutor
 
-ROOT = os.path.abspath(os.path.join(os.path.dirname(os.path.abspath(__file__)), ".."))
+from tests.lib.files import TOP, read, write
+from tests.lib.rattle import FUNCTION, crates_in
+
 KEPT = "build/proved"
 # more jobs of one check seldom help
 MOST_JOBS = 8
 # of a processor for a function, until this run has a rate of its own; and between two lines where no terminal is
 SECONDS_EACH, SECONDS_SILENT = 3, 10
-
-
-def read(path):
-    with open(path, encoding="utf-8") as file:
-        return file.read()
 
 
 def asked(*words):
@@ -54,8 +52,7 @@ class Crate:
 
     def functions(self):
         """How many functions its sources have."""
-        pattern = re.compile(r"^ *(?:pub(?:\(crate\))? )?fn ", re.M)
-        return sum(len(pattern.findall(read(file))) for file in self.files if file.endswith(".rt"))
+        return sum(len(FUNCTION.findall(read(file))) for file in self.files if file.endswith(".rt"))
 
     def functions_to_end(self):
         """How many functions the longest chain has that ends with it."""
@@ -64,11 +61,7 @@ class Crate:
 
 def crates_under(*names):
     """The crates of these names and those below them, lowest first."""
-    lines, crates = {}, {}
-    for line in read("crates.txt").split("\n"):
-        if line.strip() and not line.startswith("#"):
-            head, _, uses = line.partition(":")
-            lines[head.split()[0]] = head.split()[1:], uses.split()
+    lines, crates = crates_in(TOP), {}
 
     def add(name):
         head, uses = lines[name]
@@ -84,7 +77,7 @@ def crates_under(*names):
 
 
 class Kit:
-    """The kit's commands, and the words that they take. What libraries leave for the crates above stands in a folder."""
+    """The kit's commands, and the words that they take. What libraries leave for the crates above is in a folder."""
 
     def __init__(self, place):
         self.place = place
@@ -243,8 +236,7 @@ class Proving:
         if crate.is_program:
             shutil.copyfile(f"{self.kit.place}/{crate.name}.o", f"{kept}.o")
         for kind, text in (("verdict", verdict + "\n"), ("stamp", stamp)):
-            with open(f"{kept}.{kind}", "w", encoding="utf-8") as file:
-                file.write(text)
+            write(f"{kept}.{kind}", text)
 
     def prove(self, crate):
         """Proves a crate once those that it waits for are proved, unless it is proved already. Whether it is."""
@@ -277,11 +269,14 @@ class Proving:
 
 
 def main(name, file):
+    if name == "--sources":
+        print(*(path for crate in crates_under(file) for path in crate.files), sep="\n")
+        return 0
     if not shutil.which("rt"):
         print("rt, the command of the Rattle kit, is not on the PATH", file=sys.stderr)
         return 1
     file = os.path.abspath(file)
-    os.chdir(ROOT)
+    os.chdir(TOP)
     for folder in (KEPT, os.path.dirname(file)):
         os.makedirs(folder, exist_ok=True)
     with tempfile.TemporaryDirectory() as place:

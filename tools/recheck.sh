@@ -1,6 +1,8 @@
 #!/bin/sh
 # Proves one claim again: that a withdrawal takes an addition back. Then it breaks one line of the code, in a copy, and shows
 # how the prover refuses it. docs/TRUST.md shows what it prints.
+#
+# tier: check, 120 seconds; for: crates/link_session docs/TRUST.md
 set -u
 cd "$(dirname "$0")/.."
 edit=crates/link_session/must-fail/withdraw_leaves_names.edit

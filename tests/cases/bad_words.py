@@ -1,4 +1,4 @@
-"""A bad case for each word and mark of the form of cases, and for each place: tests/cases/data/bad.words has them. What may stand at a place
+"""A bad case for each word and mark of the form of cases, and for each place: tests/cases/data/bad.words has them. What may come at a place
 has a case with a wrong form there, unless it has no form that can be wrong, and one whose statement is false."""
 import os
 import re

@@ -3,6 +3,7 @@ import os
 import re
 
 from tests.cases.case_format import Mistake, encoded, numbered
+from tests.lib.files import read_bytes
 
 SAMPLES = os.path.join(os.path.dirname(__file__), "data")
 
@@ -103,8 +104,7 @@ def sample(line, name):
     path = sample_path(name)
     if path is None:
         raise Mistake(line, f"neither in the folder nor a sample: {os.fsdecode(name)}")
-    with open(path, "rb") as file:
-        data = file.read()
+    data = read_bytes(path)
     if not path.endswith(".lst"):
         return data
     return listed([(line, text) for text in data.decode("ascii").split("\n")])

@@ -1,14 +1,18 @@
-#!/usr/bin/env python3
 """Plays cases, docs/CASES.md, with the built programs, in real folders and through real pipes.
 
 usage: python3 -m tests.cases.cases [FILE ..]      plays these files, or all of tests/cases
        python3 -m tests.cases.cases -e FILE ..     prints only the first error of each bad case
-       python3 -m tests.cases.cases -s             compares the samples with the files of examples/
+       python3 -m tests.cases.cases -s             compares the samples, and the data of stored runs, with examples/, and the names of cases
        python3 -m tests.cases.cases -b             plays bad.cases and bad.words: each error must be the one that bad.errors, or the table, has
        python3 -m tests.cases.cases -p             plays all with the programs of a package: skips parts that watch a program, and states
 
 Parts with `refuse memory` are skipped too for a program that tools/compiling.py has made: a script starts it, and it has its own malloc.
 The programs are in build/, or in the folder V7_BUILD. A command has 60 seconds, or V7_SECONDS.
+
+tier: text, 1 seconds; words: -s; for: tests/cases/data examples
+tier: test, 20 seconds; programs: v7 v7-explain v7-object v7-from-gnu v7-lesson library_uses; words: -b; for: tests/cases docs/CASES.md
+tier: check, 120 seconds; programs: v7 v7-explain v7-object v7-from-gnu v7-lesson library_uses; for: tests/cases docs/CASES.md
+tier: check, 20 seconds; programs: v7 v7-explain v7-object v7-from-gnu v7-lesson library_uses; words: -b; for: tests/cases docs/CASES.md
 """
 import collections
 import contextlib
@@ -22,7 +26,7 @@ import subprocess
 import sys
 import tempfile
 
-from tests import TOP
+from tests.lib.files import TOP, read, read_bytes, write
 from tests.cases import bad_words
 from tests.cases.case_files import SAMPLES, contents, make, sample, sample_path
 from tests.cases.case_format import Mistake, cases_in, encoded, read_case
@@ -221,8 +225,7 @@ def shown_after(item, names, edits, files):
     letters = b"".join(b"w" if word == b"-" else b"a" for word in edits)
     with tempfile.TemporaryDirectory() as directory:
         for name, data in enumerate([b"".join(name[:8].ljust(8, b"\0") for name in names), *objects]):
-            with open(os.path.join(directory, str(name)), "wb") as file:
-                file.write(data)
+            write(os.path.join(directory, str(name)), data)
         paths = [b"%d" % number for number in range(1, len(objects) + 1)]
         return run(item.line, [b"library_uses", b"state", b"0", letters, *paths], directory)
 
@@ -264,8 +267,7 @@ def play_part(part, folder):
         for name, data in folder.items():
             path = os.path.join(os.fsencode(directory), name)
             os.makedirs(os.path.dirname(path), exist_ok=True)
-            with open(path, "wb") as file:
-                file.write(data)
+            write(path, data)
         for place, step in enumerate(part.steps):
             play_states(part, place, directory)
             play_step(step, [item for item in part.plans if item.word != "state" and item.place <= place], directory)
@@ -361,12 +363,27 @@ def check_samples():
         example = os.path.join(TOP, "examples", name)
         if os.path.exists(example) and sample_path(name):
             compared += 1
-            with open(example, "rb") as file:
-                if file.read() != sample(0, name):
-                    differing += 1
-                    print(f"the sample {name} is not examples/{name}")
+            if read_bytes(example) != sample(0, name):
+                differing += 1
+                print(f"the sample {name} is not examples/{name}")
+    for path in glob.glob(f"{TOP}/crates/*/data/*.[ogl]*"):
+        example = os.path.join(TOP, "examples", os.path.basename(path))
+        if os.path.exists(example):
+            compared += 1
+            if read_bytes(example) != read_bytes(path):
+                differing += 1
+                print(f"{path} is not {example}")
     print(f"{compared} samples compared with examples/")
     return differing == 0 and compared > 0
+
+
+def check_names():
+    """Whether each case has a name of its own, and stands where it is played."""
+    stray = glob.glob(f"{TOP}/tests/*.case") + glob.glob(f"{TOP}/tests/cases/*.*st") + glob.glob(f"{TOP}/tests/cases/*.case")
+    names = [name for path in glob.glob(os.path.join(SAMPLES, "*.case")) for name in re.findall(r"^case (\S+)", read(path), re.M)]
+    twice = sorted({name for name in names if names.count(name) > 1})
+    print(*(f"there twice: {name}" for name in twice), *(f"not in tests/cases/data: {path}" for path in stray), f"{len(names)} names of cases", sep="\n")
+    return not stray and not twice
 
 
 def played(words):
@@ -379,8 +396,7 @@ def played(words):
 def check_bad():
     """Plays the bad cases: whether they fail a run, each with the error that bad.errors has."""
     name = os.path.relpath(os.path.join(SAMPLES, "bad.cases"))
-    with open(os.path.join(SAMPLES, "bad.errors"), encoding="ascii") as file:
-        expected = file.read().replace("bad.cases:", f"{name}:")
+    expected = read(os.path.join(SAMPLES, "bad.errors")).replace("bad.cases:", f"{name}:")
     is_good = len(expected) > 0
     for words, status in ([name], 1), (["-e", name], 0):
         ended, came = played(words)
@@ -397,7 +413,7 @@ def check_bad():
 
 def main(words):
     if words in (["-s"], ["-b"]):
-        return 0 if {"-s": check_samples, "-b": check_bad}[words[0]]() else 1
+        return 0 if {"-s": lambda: check_samples() and check_names(), "-b": check_bad}[words[0]]() else 1
     option = words[0] if words[:1] in (["-e"], ["-p"]) else ""
     files = words[bool(option):] or sorted(glob.glob(os.path.relpath(os.path.join(SAMPLES, "*.case"))))
     all_cases = Run(option == "-e", option == "-p")

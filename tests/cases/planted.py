@@ -1,4 +1,3 @@
-#!/usr/bin/env python3
 """Plants the bugs of docs/internals/PLANTED.md, one after another, and plays the cases with each.
 
 usage: python3 -m tests.cases.planted [BUG ..]    tries the bugs of all rows, or these; an error if a case that the row names does not fail,
@@ -10,6 +9,8 @@ A bug CRATE/NAME is an edit of the crate that the prover refuses, as tests/wrong
 the path from the top. The rows of tests/programs/largest.py and tests/libv7/largest_library.py count as cases. The bug is made
 in a copy of the sources, and programs are compiled there with no proof: those that use its crate, one after another, as long as a case
 that the row names does not fail. The other programs are those without a bug. libv7 counts as a program.
+
+tier: text, 1 seconds; words: -c; for: docs/internals/PLANTED.md tests/cases/planted
 """
 import glob
 import os
@@ -21,6 +22,7 @@ import tempfile
 from concurrent.futures import ThreadPoolExecutor
 
 from tests import TOP
+from tests.lib.files import write
 from tests.wrong_bodies import edits
 from tests.programs import largest
 from tools.compiling import CRATES, NotCompiled, compile_library, compile_program, uses_of
@@ -106,10 +108,9 @@ def failed(folder, texts):
 def row_fails(folder, name):
     """Whether a row of largest.py fails."""
     script, row = name.split(": ")
-    words = ["tests.libv7.largest_library", row] if script == "largest_library.py" else ["tests.programs.largest", folder, row]
-    module = os.path.join(TOP, "packaging", "python")
+    words = ["tests.libv7.largest_library" if script == "largest_library.py" else "tests.programs.largest", row]
     ran = subprocess.run([sys.executable, "-m", *words], cwd=TOP, stdout=subprocess.PIPE, stderr=subprocess.STDOUT, check=False,
-                         env={**os.environ, "LIBV7": os.path.join(folder, "libv7.so"), "PYTHONPATH": module})
+                         env={**os.environ, "LIBV7": os.path.join(folder, "libv7.so"), "V7_BUILD": folder})
     said = ran.stdout.decode("utf-8", "replace")
     if not re.search(r"^(?:programs|libv7): [01] of 1 answers .*\n\Z", said, re.M):
         raise Fault(said)
@@ -132,13 +133,12 @@ def cases_that_fail(folder, texts):
 
 
 def sources(top, files):
-    """Copies the sources, some files of which are changed."""
+    """Copies the sources, with some of the files changed."""
     shutil.copy(os.path.join(TOP, "crates.txt"), top)
     for path in glob.glob(os.path.join(TOP, "crates", "*", "src")):
         shutil.copytree(path, os.path.join(top, os.path.relpath(path, TOP)))
     for path, code in files.items():
-        with open(os.path.join(top, path), "w", encoding="utf-8") as source:
-            source.write(code)
+        write(os.path.join(top, path), code)
 
 
 def failing(bug, texts, good, is_whole=False):

@@ -1,10 +1,9 @@
-#!/usr/bin/env python3
 """Runs commands under valgrind, and counts their instructions: what all counts of this project have in common.
 
 A processor copies or clears many bytes by one `rep movsb` or `rep stosb`, and callgrind counts such an instruction once for each
 byte. So glibc is asked to use neither, by ENVIRONMENT. Only counts with the same setting can be compared.
 
-Instructions are no time: a processor does several at once, and waits for memory and for the system. So `milliseconds` gives the least
+Instructions do not show the time: a processor does several at once, and waits for memory and for the system. So `milliseconds` gives the least
 time of a processor, of the command and of the system for it, in many runs. Compare it only with runs on the same host.
 
 usage: python3 -m tests.costs.counting COMMAND ..      prints how many instructions the command takes

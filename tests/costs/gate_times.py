@@ -1,4 +1,3 @@
-#!/usr/bin/env python3
 """Runs the gate, and then prints what it took: minutes of a processor for each crate, and from which minute to which.
 
 usage: python3 -m tests.costs.gate_times rt ci

@@ -1,20 +1,17 @@
-#!/usr/bin/env python3
 """Makes the objects of a heavy link, and counts by valgrind the instructions of linking them, plain and with -i; with the least time
 of a processor in 60 runs. Then counts those of one object more that is added to a session and withdrawn, in a session without objects
 and in one of all these. tests/costs/counting.py says how.
 
 There are 200 objects with 65,000 bytes of text. Each defines 20 names, and 12,869 words refer to names of other objects,
 taken by a sequence of numbers that is the same each time. With -i the objects have 65,000 bytes of data more.
-
-usage: python3 -m tests.costs.heavy PROGRAM
 """
 import glob
-import os
 import struct
 import sys
-import tempfile
 
 from tests.costs.counting import counted, is_installed, milliseconds
+from tests.lib.files import room, write
+from tests.lib.programs import program
 
 OBJECTS = 200
 NAMES = 20
@@ -51,35 +48,34 @@ def write_object(index, others, has_data):
     for word in range(len(words), share(WORDS, index)):
         words.append(2 * (word % 100) if word % 3 == 0 else word)
         relocs.append(2 if word % 3 == 0 else 0)
-    write(f"{index:03d}.o", words, [7] * (share(WORDS, index) if has_data else 0), relocs, symbols)
+    write_parts(f"{index:03d}.o", words, [7] * (share(WORDS, index) if has_data else 0), relocs, symbols)
 
 
-def write(path, words, data, relocs, symbols):
+def write_parts(path, words, data, relocs, symbols):
     """Writes an object, whose words of data are numbers."""
     body = [0o407, 2 * len(words), 2 * len(data), 0, 12 * len(symbols), 0, 0, 0, *words, *data, *relocs, *[0] * len(data)]
-    with open(path, "wb") as file:
-        file.write(struct.pack(f"<{len(body)}H", *body))
-        file.writelines(struct.pack("<8sHH", b"n%05d" % name, kind, value) for name, kind, value in symbols)
+    table = b"".join(struct.pack("<8sHH", b"n%05d" % name, kind, value) for name, kind, value in symbols)
+    write(path, struct.pack(f"<{len(body)}H", *body) + table)
 
 
-def measure(program, options, has_data):
+def measure(v7, options, has_data):
     """Links the objects in this folder, and answers what it took."""
     others = numbers()
     for index in range(OBJECTS):
         write_object(index, others, has_data)
-    command = [program, "ld", *options, "-o", "out", *sorted(glob.glob("*.o"))]
+    command = [v7, "ld", *options, "-o", "out", *sorted(glob.glob("*.o"))]
     run, instructions = counted(command)
     if run.returncode != 0:
         sys.exit(f"the link ended with status {run.returncode}: {run.stderr}")
     return f"{instructions} instructions, {milliseconds(command):.2f} ms"
 
 
-def edited(program, path, objects):
+def edited(v7, path, objects):
     """The instructions of adding an object to a session of these and withdrawing it: its two lines are repeated 100 and 1,100 times."""
     counts = []
     for times in 100, 1100:
         lines = [*(f"add {name}" for name in objects), *[f"add {path}", "withdraw"] * times]
-        run, instructions = counted([program, "session"], script="".join(f"{line}\n" for line in lines))
+        run, instructions = counted([v7, "session"], script="".join(f"{line}\n" for line in lines))
         if run.returncode != 0:
             sys.exit(f"the session ended with status {run.returncode}: {run.stderr}")
         counts.append(instructions)
@@ -87,19 +83,18 @@ def edited(program, path, objects):
 
 
 def main():
-    program = os.path.abspath(sys.argv[1])
+    v7 = program("v7")
     if not is_installed():
         return
-    with tempfile.TemporaryDirectory() as folder:
-        os.chdir(folder)
+    with room():
         print(f"a link of {OBJECTS} objects with {2 * WORDS} bytes of text and {OBJECTS * NAMES} names:")
-        print(f"plain: {measure(program, [], False)}")
-        print(f"with -i, and {2 * WORDS} bytes of data more: {measure(program, ['-i'], True)}")
+        print(f"plain: {measure(v7, [], False)}")
+        print(f"with -i, and {2 * WORDS} bytes of data more: {measure(v7, ['-i'], True)}")
         objects, first = sorted(glob.glob("*.o")), OBJECTS * NAMES
-        write("waiting", [0] * 162, [], [0o10 + 0o20 * (word % 25) for word in range(100)] + [0] * 62, [(first + name, 0o40, 0) for name in range(25)])
-        write("defining", [], [], [], [(first, 0o41, 7)])
+        write_parts("waiting", [0] * 162, [], [0o10 + 0o20 * (word % 25) for word in range(100)] + [0] * 62, [(first + name, 0o40, 0) for name in range(25)])
+        write_parts("defining", [], [], [], [(first, 0o41, 7)])
         for path, what in ("waiting", "162 words, 100 of which wait for 25 names"), ("defining", "one name"):
-            counts = [edited(program, path, session) for session in ([], objects)]
+            counts = [edited(v7, path, session) for session in ([], objects)]
             print(f"an object of {what}, added and withdrawn: {counts[0]} instructions, and {counts[1]} after these objects")
 
 

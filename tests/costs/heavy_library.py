@@ -1,13 +1,13 @@
 """Makes the objects of the large benchmark by libv7, links them by it and by the program, and compares the files: 200 objects
 that refer to 25 names each, and one that defines all 5,000 names.
 
-usage: PYTHONPATH=packaging/python LIBV7=build/libv7.so python3 -m tests.costs.heavy_library build/v7 FOLDER
+usage: LIBV7=build/libv7.so python3 -m tests.costs.heavy_library
 """
-import os
-import subprocess
 import sys
 
 import v7
+from tests.lib.files import read_bytes, room, write
+from tests.lib.programs import program, ran
 
 NAMES = 25
 OPTIONS = {"": 0, "-r": v7.RELOCATABLE, "-s": v7.STRIP, "-i": v7.SPLIT}
@@ -23,22 +23,19 @@ def defining(count):
     return v7.make(symbols=[(f"n{number:04d}", v7.ABSOLUTE | v7.EXTERNAL, number) for number in range(count)])
 
 
-def main(program, folder):
+def main():
     objects = [referring(number) for number in range(200)] + [defining(200 * NAMES)]
-    paths = [os.path.join(folder, f"{number}.o") for number in range(len(objects))]
-    for path, data in zip(paths, objects):
-        with open(path, "wb") as file:
-            file.write(data)
-    out = os.path.join(folder, "out")
-    for word, option in OPTIONS.items():
-        ran = subprocess.run([program, "ld", *word.split(), "-o", out, *paths], stdout=subprocess.PIPE)
-        given = v7.link(objects, option)
-        with open(out, "rb") as file:
-            same = file.read() == given.file
-        if not same or (ran.returncode, ran.stdout.decode("latin-1")) != (given.status, given.report):
-            sys.exit(f"another link of the large benchmark's objects with {word or 'no option'}")
+    paths = [f"{number}.o" for number in range(len(objects))]
+    with room():
+        for path, data in zip(paths, objects):
+            write(path, data)
+        for word, option in OPTIONS.items():
+            status, out, _ = ran(program("v7"), "ld", *word.split(), "-o", "out", *paths).texts()
+            given = v7.link(objects, option)
+            if (status, out, read_bytes("out")) != (given.status, given.report, given.file):
+                sys.exit(f"another link of the large benchmark's objects with {word or 'no option'}")
     print(f"large benchmark: {len(OPTIONS)} links of {len(objects)} objects compared")
 
 
 if __name__ == "__main__":
-    main(*sys.argv[1:])
+    main()

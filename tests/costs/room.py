@@ -1,19 +1,18 @@
-#!/usr/bin/env python3
 """Counts, by valgrind, the bytes that the program asks for, and fails where it asks for more than it needs.
+
+tier: all, 20 seconds; programs: v7; for: crates/link_session crates/link_out; needs: valgrind
 
 No contract can say that a list has no more room than it needs where it grows by `reserve`. So objects of more and more
 words and names are listed and linked, and what one word and one name more cost is compared with the sizes of what is
 kept of them. Lists of one object have their room at once, so a list that has twice its room is seen.
-
-usage: python3 -m tests.costs.room PROGRAM
 """
-import os
 import re
 import struct
 import sys
-import tempfile
 
 from tests.costs.counting import valgrind
+from tests.lib.files import room, write
+from tests.lib.programs import program
 
 # a word and its relocation word as they are read
 READ = 2 + 2
@@ -21,7 +20,7 @@ READ = 2 + 2
 LINKED = 8 + 6 + 2
 # a symbol as it is read
 SYMBOL = 12
-# what is kept of a name while it is linked, at most: its symbol, its place among the externals while its object is added,
+# what is kept of a name while it is linked, at most: its symbol, and its place among the externals while its object is added. Then
 # its entry with name, state and hash, its place in the table of hashes, its head, a mark, its place among the multiply
 # defined, what becomes of it, and its name in the report
 NAME = 102
@@ -35,18 +34,16 @@ def write_object(path, words, names):
     """Writes an object of so many words of text, which are numbers, and of so many undefined names."""
     header = struct.pack("<8H", 0o407, 2 * words, 0, 0, 12 * names, 0, 0, 0)
     symbols = b"".join(struct.pack("<8sHH", b"n%06d" % n, 0o40, 0) for n in range(names))
-    with open(path, "wb") as file:
-        file.write(header + bytes(4 * words) + symbols)
+    write(path, header + bytes(4 * words) + symbols)
 
 
-def asked(program, words, path):
+def asked(words, path):
     """How many bytes the program asks for, all together."""
-    run = valgrind([program, *words, path])
+    run = valgrind([program("v7"), *words, path])
     return int(re.search(r"([\d,]+) bytes allocated", run.stderr)[1].replace(",", ""))
 
 
 def main():
-    program = os.path.abspath(sys.argv[1])
     faults = []
 
     def compare(what, found, expected, exact=True):
@@ -54,14 +51,13 @@ def main():
         if found != expected if exact else found > expected:
             faults.append(what)
 
-    with tempfile.TemporaryDirectory() as folder:
-        os.chdir(folder)
+    with room():
         requested = {}
         for words, names in ((0, 0), (1000, 0), (3000, 0), (0, FEW), (0, MANY)):
             path = f"{words}-{names}.o"
             write_object(path, words, names)
             for tool, options in (("size", ["size"]), ("ld", ["ld", "-s", "-o", "/dev/null"])):
-                requested[tool, words, names] = asked(program, options, path)
+                requested[tool, words, names] = asked(options, path)
         read = requested["size", 3000, 0] - requested["size", 1000, 0]
         compare("bytes for 2,000 words that are read", read, 2000 * READ)
         linked = requested["ld", 3000, 0] - requested["ld", 1000, 0]

@@ -1,4 +1,3 @@
-#!/usr/bin/env python3
 """Counts by valgrind how the instructions of the programs grow with what they are given, and prints an exponent for each.
 
 The last line has what it takes to decode 65,534 bytes of text and to list them, the most that a file can have.
@@ -9,7 +8,7 @@ instructions over that of the size: 1.00 if twice as much takes twice as long, 2
 
 tests/costs/counting.py says how instructions are counted.
 
-usage: python3 -m tests.costs.scaling V7 V7-EXPLAIN V7-FROM-GNU V7-OBJECT [KIND ..]
+usage: python3 -m tests.costs.scaling [KIND ..]
 """
 import math
 import os
@@ -20,7 +19,9 @@ import tempfile
 from concurrent.futures import ThreadPoolExecutor
 
 from tests.costs.counting import counted, is_installed, profiled
+from tests.lib.files import write
 from tests.lib.gnu_form import gnu_named
+from tests.lib.programs import program
 
 MOST_SYMBOLS = 5461
 DEFINED, WANTED, LOCAL = 0o42, 0o40, 0o2
@@ -69,17 +70,14 @@ class Work:
         """Writes an object: its text, each word with its relocation word, and its symbols, each with type word and value."""
         header = (0o407, 2 * len(words), 0, 0, 12 * len(symbols), 0, 0, 0)
         body = [*header, *(word for word, _ in words), *(reloc for _, reloc in words)]
-        with open(f"{self.folder}/{name}", "wb") as file:
-            file.write(struct.pack(f"<{len(body)}H", *body))
-            for symbol, kind, value in symbols:
-                file.write(struct.pack("<8sHH", symbol.encode(), kind, value))
+        table = b"".join(struct.pack("<8sHH", symbol.encode(), kind, value) for symbol, kind, value in symbols)
+        write(f"{self.folder}/{name}", struct.pack(f"<{len(body)}H", *body) + table)
         return name
 
     def gnu_object(self, name, words, symbols):
         """Writes an object in GNU's form with the same."""
         rows = [(symbol.encode(), kind, value) for symbol, kind, value in symbols]
-        with open(f"{self.folder}/{name}", "wb") as file:
-            file.write(gnu_named([word for word, _ in words], [reloc for _, reloc in words], rows))
+        write(f"{self.folder}/{name}", gnu_named([word for word, _ in words], [reloc for _, reloc in words], rows))
         return name
 
     def of_names(self, count, most):
@@ -191,8 +189,7 @@ class Work:
         wanted = names(0, min(size, 4096), WANTED)
         words = [f"{2 * number:o} 0 {reference(number % 4096)[1]:o}" for number in range(size)]
         symbols = [f"{number:o} {name} {kind:o} 0" for number, (name, kind, _) in enumerate(wanted)]
-        with open(f"{self.folder}/listing", "w", encoding="ascii") as file:
-            file.write("\n".join(["text", *words, "symbols", *symbols, ""]))
+        write(f"{self.folder}/listing", "\n".join(["text", *words, "symbols", *symbols, ""]))
         return [self.to_object, "listing", "read.o"], ""
 
 
@@ -255,10 +252,10 @@ def line(programs, kind):
     return f"{kind:10} {exponent:5.2f}   " + ", ".join(f"{size:,}: {cost:,}" for size, cost in costs)
 
 
-def main(*words):
+def main(*kinds):
     if not is_installed():
         return
-    programs, kinds = [os.path.abspath(word) for word in words[:4]], words[4:]
+    programs = [program(name) for name in ("v7", "v7-explain", "v7-from-gnu", "v7-object")]
     print("how instructions grow: the exponent, and the instructions at four sizes")
     with ThreadPoolExecutor(os.cpu_count()) as pool:
         for row in pool.map(lambda kind: line(programs, kind), kinds or KINDS):

@@ -1,6 +1,6 @@
 """Compares libv7 with the second linker, tests/oracles/model.py, on random links and sessions, always the same; in half of them objects are
-damaged. Of a link the status, every byte of the file and the report are compared, as lines, as a list, and as a list with objects, or the
-fault, its object and its word. Of a session the same, and the replies to its edits and the names that it shows. Maps of links, some of
+damaged. It compares the status of a link, every byte of the file, and the report as lines, as a list, and as a list with objects, or the
+fault, its object and its word. For a session it also compares the replies to its edits and the names that it shows. Maps of links, some of
 them over a limit, are compared with tests/oracles/map_model.py, record by record.
 
 usage: python3 -m tests.libv7.agree_library LINKS SESSIONS MAPS      with the module v7 on the path

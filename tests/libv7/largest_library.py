@@ -1,20 +1,17 @@
 """Makes each call of libv7 with the largest input of each kind, those of tests/programs/largest.py, and expects an answer: no call may say that
 there is no memory. What is expected is computed by tests/oracles/model.py and tests/oracles/disassembly.py, or below.
 
-usage: python3 -m tests.libv7.largest_library [ROW ..]      with the module v7 and the folder tests on the path. All rows of the table are
-                                                      tried, or these: 'v7_state, v7_run, objects'
+usage: python3 -m tests.libv7.largest_library [ROW ..]      all rows of the table, or these: 'v7_state, v7_run, objects'
 """
-import ctypes
 import dataclasses
 import sys
 
-from tests.libv7 import agree_library
-from tests.programs import largest
-from tests.libv7 import library
-from tests.oracles import model
-from tests.oracles import notes
 import v7
-from tests.programs.largest import ALONE, GNU_FILES, GOOD, KINDS, MARKS, OTHER_FILES, check, check_lines, encoded
+from tests.lib.compare import same
+from tests.libv7 import agree_library, library
+from tests.oracles import model, notes
+from tests.programs import largest
+from tests.programs.largest import ALONE, GNU_FILES, GOOD, KINDS, MARKS, OTHER_FILES, encoded
 
 NM = {"": 0, "g": v7.NM_EXTERNAL, "n": v7.NM_BY_VALUE, "p": v7.NM_TABLE_ORDER, "r": v7.NM_REVERSE, "u": v7.NM_UNDEFINED}
 
@@ -36,13 +33,13 @@ def texts(kind):
     for letter, option in NM.items():
         lines = []
         model.nm([f"-{letter}", path] if letter else [path], lines, None)
-        check_lines(f"nm {letter}", v7.nm(data, option).split("\n"), [line.decode() for line in lines] + [""])
+        same(f"nm {letter}", v7.nm(data, option).split("\n"), [line.decode() for line in lines] + [""])
     lines = []
     model.size([path], lines, None)
-    check("size", v7.size(data), lines[0].decode() + "\n")
-    check("strip", v7.strip(data), model.write_file(dataclasses.replace(model.read_file(data), symbols=[], flag=1)))
-    check_lines("disassemble", v7.disassemble(data).split("\n"), [*file.disassembly(), ""])
-    check("from_listing", v7.from_listing(v7.listing(data)), data)
+    same("size", v7.size(data), lines[0].decode() + "\n")
+    same("strip", v7.strip(data), model.write_file(dataclasses.replace(model.read_file(data), symbols=[], flag=1)))
+    same("disassemble", v7.disassemble(data).split("\n"), [*file.disassembly(), ""])
+    same("from_listing", v7.from_listing(v7.listing(data)), data)
 
 
 def remarked(kind):
@@ -51,13 +48,13 @@ def remarked(kind):
     wanted = [note for note in notes.notes_of(data)[0] if note.startswith(("wrong: ", "odd: "))]
     words = {True: "odd", False: "wrong"}
     found = [f"{words[row.kind > v7.REMARK_MORE_BAD_WORDS]}: byte 0{row.byte:o} ({row.byte}): {row.text}" for row in v7.remarks(data)]
-    check_lines("remarks", found, wanted)
+    same("remarks", found, wanted)
 
 
 def converted(kind):
     """The object that one in GNU's form becomes."""
     data, _, made = largest.to_convert(kind)
-    check("from_gnu", v7.from_gnu(data, v7.DROP_DEBUGGER | v7.DROP_UNUSED), made)
+    same("from_gnu", v7.from_gnu(data, v7.DROP_DEBUGGER | v7.DROP_UNUSED), made)
 
 
 def taken_apart(kind):
@@ -66,11 +63,11 @@ def taken_apart(kind):
     flag = int(file.relocation is None)
     sizes = 2 * len(file.words), 2 * len(file.data), file.bss, 12 * len(file.symbols)
     parts = parts_of(file)
-    check("read", v7.read(data), (v7.Header(file.magic, *sizes, 0, 0, flag), parts))
+    same("read", v7.read(data), (v7.Header(file.magic, *sizes, 0, 0, flag), parts))
     if kind in GOOD:
-        check("check", v7.check(data), len(data))
-        check("take_apart", v7.take_apart(data), parts)
-        check("make", v7.make(*parts), data)
+        same("check", v7.same(data), len(data))
+        same("take_apart", v7.take_apart(data), parts)
+        same("make", v7.make(*parts), data)
 
 
 def bad(kind):
@@ -80,9 +77,9 @@ def bad(kind):
     for call in v7.check, v7.take_apart, lambda data: v7.link([data]), lambda data: v7.Session([data]):
         try:
             call(data)
-            check("an answer", None, wanted)
+            same("an answer", None, wanted)
         except v7.Fault as fault:
-            check("the fault", (fault.fault, fault.word), (wanted, 0))
+            same("the fault", (fault.fault, fault.word), (wanted, 0))
 
 
 def linked(kind):
@@ -92,16 +89,16 @@ def linked(kind):
     for letters in "", "r", "i", "s":
         options = agree_library.options_of(model.Arguments(set(letters), {}, []))
         for call in v7.link, v7.link_findings:
-            check(f"{call.__name__} {letters}", given(lambda: call(objects, options)), wanted(merged, letters))
+            same(f"{call.__name__} {letters}", given(lambda: call(objects, options)), wanted(merged, letters))
         found = v7.link_map(objects, options)
         expected = wanted(merged, letters)
-        check(f"link_map {letters}", (v7.FAULTS[found.fault] if found.fault else found.status, len(found.objects)),
+        same(f"link_map {letters}", (v7.FAULTS[found.fault] if found.fault else found.status, len(found.objects)),
               (expected if found.fault else expected[0], len(objects)))
-        check(f"link_places {letters}", placed(objects, options), expected if isinstance(expected, str) else expected[2:])
+        same(f"link_places {letters}", placed(objects, options), expected if isinstance(expected, str) else expected[2:])
     if len(merged.externals) < largest.NAMES:
         names = [f"_f{number}" for number in range(model.FORCED_LIMIT)]
         with_names = model.Merged(merged.objects, [name.encode() for name in names])
-        check("forced names", given(lambda: v7.link(objects, forced=names)), wanted(with_names, ""))
+        same("forced names", given(lambda: v7.link(objects, forced=names)), wanted(with_names, ""))
 
 
 def placed(objects, options):
@@ -140,10 +137,10 @@ def edited(kind):
     objects = list(encoded(kind).values())
     edits = b"a" * len(objects) + b"w" * (len(objects) + 1)
     run = v7._Run(objects, 0, "", (), v7._REPORT, edits).finish()
-    check("what is left", (run.status, run.file, run.report), (1, wanted(largest.merged([]), "")[1], ""))
-    check("replies", run.replies, bytes(len(edits) - 1) + bytes([v7.Session.NOTHING]))
+    same("what is left", (run.status, run.file, run.report), (1, wanted(largest.merged([]), "")[1], ""))
+    same("replies", run.replies, bytes(len(edits) - 1) + bytes([v7.Session.NOTHING]))
     there = given(lambda: v7._Run(objects, 0, "", (), v7._REPORT, edits[:len(objects)]).finish().program())
-    check("what is there", there, wanted(largest.merged(objects), ""))
+    same("what is there", there, wanted(largest.merged(objects), ""))
 
 
 def known(kind):
@@ -151,22 +148,22 @@ def known(kind):
     objects = list(encoded(kind).values())
     merged, session = largest.merged(objects), v7.Session(objects)
     state = session.state()
-    check("objects", state["objects"], len(objects))
-    check("text", [word["offset"] for word in state["text"]], list(range(0, merged.sizes[model.TEXT], 2)))
-    check("data", [word["offset"] for word in state["data"]], list(range(0, merged.sizes[model.DATA], 2)))
-    check("names", [row["name"] for row in state["externals"]], [name.decode() for name in merged.externals])
-    check("multiples", state["multiples"], [name.decode() for name in merged.multiples])
-    check("marks", len(state["marks"]), MARKS.get(kind, 0))
+    same("objects", state["objects"], len(objects))
+    same("text", [word["offset"] for word in state["text"]], list(range(0, merged.sizes[model.TEXT], 2)))
+    same("data", [word["offset"] for word in state["data"]], list(range(0, merged.sizes[model.DATA], 2)))
+    same("names", [row["name"] for row in state["externals"]], [name.decode() for name in merged.externals])
+    same("multiples", state["multiples"], [name.decode() for name in merged.multiples])
+    same("marks", len(state["marks"]), MARKS.get(kind, 0))
     count = sum(len(state[part]) for part in ("text", "data", "externals", "multiples", "marks")) + bool(merged.sizes[model.BSS])
-    check("lines", session.text().count("\n"), count)
+    same("lines", session.text().count("\n"), count)
     for call in session.link, session.link_findings:
-        check("the link", given(lambda: call(v7.STRIP | v7.SPLIT)), wanted(merged, "si"))
+        same("the link", given(lambda: call(v7.STRIP | v7.SPLIT)), wanted(merged, "si"))
 
 
 def words_shown(count):
     """More words than a file has, and addresses that begin again at 0."""
     lines = [library.row(2 * place, "000240", "nop") for place in range(count)]
-    check_lines("disassemble_words", v7.disassemble_words([largest.NOP] * count).split("\n"), [line[:-1] for line in lines] + [""])
+    same("disassemble_words", v7.disassemble_words([largest.NOP] * count).split("\n"), [line[:-1] for line in lines] + [""])
 
 
 TABLE = [

@@ -2,17 +2,17 @@
 they do not fit, a cut object is blamed itself, and a session keeps nothing of what was withdrawn or refused. Instructions are those of v7-explain(1):
 examples worked out by hand, and random files and words by the decoder of tests/oracles/disassembly.py.
 
-usage: python3 -m tests.libv7.library V7.H       with the module v7 and the folder tests on the path
+usage: LIBV7=build/libv7.so python3 -m tests.libv7.library
 """
 import doctest
-import os
 import random
 import re
 import sys
 import typing
 
-from tests.oracles import disassembly
 import v7
+from tests.lib.files import TOP, read
+from tests.oracles import disassembly
 
 FITS = 0o177777
 HINTED = "link link_findings make read take_apart nm check disassemble disassemble_words listing from_listing from_gnu remarks".split()
@@ -29,17 +29,12 @@ def refused(call, *words):
 
 def wrong_types():
     """Whether each call of tests/libv7/wrong_types.py raises a TypeError."""
-    for call in re.findall("^v7.*", read(os.path.join(os.path.dirname(os.path.abspath(__file__)), "wrong_types.py")), re.M):
+    for call in re.findall("^v7.*", read(f"{TOP}/tests/libv7/wrong_types.py"), re.M):
         try:
             eval(call)
             yield False
         except TypeError:
             yield True
-
-
-def read(path):
-    with open(path, encoding="utf-8") as file:
-        return file.read()
 
 
 def texts_of(header):
@@ -237,8 +232,8 @@ def cut_files():
             yield refusal.fault == fault
 
 
-def main(header):
-    wrong = doctest.testmod(v7).failed
+def main():
+    wrong, header = doctest.testmod(v7).failed, f"{TOP}/include/v7.h"
     texts = texts_of(header)
     checks = {
         "the texts of faults": [v7.FAULTS == {number: text for number, text in texts.items() if number}],
@@ -263,4 +258,4 @@ def main(header):
 
 
 if __name__ == "__main__":
-    sys.exit(main(*sys.argv[1:]))
+    sys.exit(main())

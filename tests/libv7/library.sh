@@ -9,15 +9,18 @@
 #
 # usage: CC=cc CXX=c++ CALLS=20000 CASES='500 100 500' tests/libv7/library.sh        with so many random calls, and links, sessions and maps for
 #                                                                              the comparison with tests/oracles/model.py
+#
+# tier: check, 300 seconds; programs: v7 v7-explain v7-object v7-from-gnu libv7.so; for: crates/v7_c crates/library_calls include packaging docs/LIBRARY.md man/v7.3; needs: cc c++ pkg-config valgrind mypy venv rustc cargo
 set -u
 cd "$(dirname "$0")/../.."
 top=$PWD
+build=${V7_BUILD:-$top/build}
 room=$(mktemp -d)
 trap 'rm -rf "$room"' EXIT
 make -s install-lib PREFIX="$room/installed" LIBDIR="$room/installed/lib" INCLUDEDIR="$room/installed/include" DESTDIR= || exit 1
 cd "$room"
 cp "$top"/examples/*.o .
-$top/build/v7 ld -s -o bad.o main.o >/dev/null
+$build/v7 ld -s -o bad.o main.o >/dev/null
 failed=0
 if command -v pkg-config >/dev/null; then
     PKG_CONFIG_PATH=$room/installed/lib/pkgconfig
@@ -52,7 +55,7 @@ for page in $(grep -o 'docs/[A-Z]*\.md' installed/include/v7.h); do
 done
 echo "$(wc -l <declared) calls shown by both libraries"
 
-# the header alone, as C and as C++; each number of a fault has a text of its own; and the version is that of v7.pc
+# the header alone, as C and as C++. Each number of a fault has a text of its own, and the version is that of v7.pc
 cat >header.c <<'END'
 #include "v7.h"
 #include <stdio.h>
@@ -99,7 +102,7 @@ link_both() {
     command=$2
     shift 2
     rm -f ours theirs
-    $top/build/v7 ld -o theirs "$@" >theirs.txt 2>/dev/null
+    $build/v7 ld -o theirs "$@" >theirs.txt 2>/dev/null
     theirs=$?
     $command ours "$@" >ours.txt 2>faults.txt
     ours=$?
@@ -172,7 +175,7 @@ $CC -std=c99 -O2 -Wall -Wextra -Werror -pthread -o stack $compiles "$top/tests/l
 # the program of v7(3) lists what v7 nm lists, and refuses what is not a file
 awk '/^\.Bd -literal/ { getline; on = /^#include/ } /^\.Ed/ { on = 0 } on { gsub(/\\e/, "\\"); print }' "$top/man/v7.3" >list.c
 $CC -std=c99 -O2 -Wall -Wextra -Werror -o list $compiles list.c "$archive" || exit 1
-./list <main.o >ours.txt && "$top/build/v7" nm main.o | cmp - ours.txt || fail "the program of v7(3) lists something else"
+./list <main.o >ours.txt && "$build/v7" nm main.o | cmp - ours.txt || fail "the program of v7(3) lists something else"
 ./list <list.c 2>ours.txt
 [ $? -eq 2 ] && echo "bad magic number" | cmp - ours.txt || fail "the program of v7(3) does not refuse a file"
 echo "the program of v7(3) lists what v7 nm lists"
@@ -195,7 +198,7 @@ head -3 toy.txt | cmp -s - toy.wanted && grep -q '^toy_main\.txt:3: _twice is no
     { cat toy.txt; fail "the toy assembler shows other places"; }
 # the map from records is that of v7-explain, made or refused
 $CC -std=c99 -O2 -Wall -Wextra -Werror -o map_by_c $compiles "$top/examples/c/map.c" "$archive" || exit 1
-PYTHONPATH=$top python3 -m tests.oracles.map "$top/build/v7" "$top/build/v7-explain" ./map_by_c "${MAPS:-1000}" || fail "the map from records differs"
+PYTHONPATH=$top python3 -m tests.oracles.map ./map_by_c "${MAPS:-1000}" || fail "the map from records differs"
 # it names what it cannot read or write
 ./by_c out missing.o 2>&1 | grep -q '^missing\.o: ' || fail "the example in C says nothing of a file that is not there"
 ./by_c missing/out main.o 2>&1 | grep -q '^missing/out: ' || fail "the example in C says nothing of a file that it cannot write"
@@ -215,7 +218,7 @@ if command -v $CXX >/dev/null; then
 fi
 # what docs/LIBRARY.md shows: each block whose first line begins with one of these programs, in a copy of the examples
 cp -r "$top/examples" page
-"$top/build/v7" ld -o theirs main.o twice.o count.o
+"$build/v7" ld -o theirs main.o twice.o count.o
 run_shown() {
     awk -v first="$1" '/^    / { if (!inside) on = index($0, "    " first " ") == 1; inside = 1; if (on) print; next } { inside = 0 }' \
         "$top/docs/LIBRARY.md" >shown.sh
@@ -248,21 +251,22 @@ fi
 if command -v python3 >/dev/null; then
     LIBV7=$library
     PYTHONDONTWRITEBYTECODE=1
-    export LIBV7 PYTHONDONTWRITEBYTECODE
+    PYTHONPATH=$top
+    export LIBV7 PYTHONDONTWRITEBYTECODE PYTHONPATH
     links Python "env PYTHONPATH=$top/packaging/python python3 $top/examples/python/link.py"
     session Python env "PYTHONPATH=$top/packaging/python" python3 "$top/examples/python/session.py"
-    PYTHONPATH=$top python3 -m tests.libv7.library "$top/include/v7.h" || fail "Python: a check fails"
-    PYTHONPATH=$top python3 -m tests.libv7.library_programs "$top/build" "$top/examples" "${CHANGED:-40}" ||
+    python3 -m tests.libv7.library || fail "Python: a check fails"
+    python3 -m tests.libv7.library_programs "${CHANGED:-40}" ||
         fail "a program and the library differ"
-    PYTHONPATH=$top python3 -m tests.libv7.agree_library ${CASES:-500 100 500} || fail "the model differs"
-    PYTHONPATH=$top python3 -m tests.libv7.largest_library || fail "the largest inputs"
+    python3 -m tests.libv7.agree_library ${CASES:-500 100 500} || fail "the model differs"
+    python3 -m tests.libv7.largest_library || fail "the largest inputs"
     # a library with a fault in one field of all records of a map, of findings, or of their objects
     $CC -std=c99 -O2 -Wall -Wextra -Werror -shared -fPIC -o planted.so $compiles "$top/tests/libv7/c/planted_records.c" -Wl,--whole-archive planted.a \
         -Wl,--no-whole-archive || exit 1
     plants=$(grep -o 'FIELD([a-z_]*, [a-z_]*)' "$top/tests/libv7/c/planted_records.c" | sed -n '/(record, name)/d; s/FIELD(\(.*\), \(.*\))/\1.\2/p')
     # whether the model differs from it
     differs() {
-        ! LIBV7=./planted.so PLANT=$1 PYTHONPATH=$top python3 -m tests.libv7.agree_library 60 0 60 >planted.txt 2>&1
+        ! LIBV7=./planted.so PLANT=$1 python3 -m tests.libv7.agree_library 60 0 60 >planted.txt 2>&1
     }
     ! differs nothing || { cat planted.txt; fail "the model differs from the library without a fault in its records"; }
     for plant in $plants; do
@@ -279,15 +283,14 @@ if command -v python3 >/dev/null; then
     else
         echo "skipped: mypy is not there"
     fi
-    mkdir heavy
-    PYTHONPATH=$top python3 -m tests.costs.heavy_library "$top/build/v7" heavy || fail "the large benchmark"
+    python3 -m tests.costs.heavy_library || fail "the large benchmark"
     unset LIBV7
     # the wheel, in an environment that has nothing else
     if python3 -m venv fresh 2>/dev/null; then
         (cd "$top" && python3 packaging/python/backend.py "$room" >/dev/null) || fail "Python: no wheel is made"
         mkdir wheel
         cp "$top"/examples/python/*.py wheel
-        PYTHONPATH=$top python3 -m tests.libv7.wheel v7-*.whl || fail "Python: the wheel is not as an index wants it"
+        python3 -m tests.libv7.wheel v7-*.whl || fail "Python: the wheel is not as an index wants it"
         fresh/bin/pip install -q --no-index --disable-pip-version-check v7-*.whl || fail "Python: the wheel is not installed"
         links "Python, from the wheel" "env -u LD_LIBRARY_PATH fresh/bin/python wheel/link.py"
         session "Python, from the wheel" env -u LD_LIBRARY_PATH fresh/bin/python wheel/session.py

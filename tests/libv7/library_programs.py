@@ -1,17 +1,16 @@
 """The listings, conversions and remarks of libv7 beside those of the programs, for the files of a folder, for each of them cut and with
 bytes changed, and with mistakes in the listings.
 
-usage: python3 -m tests.libv7.library_programs BUILD EXAMPLES NUMBER     with the module v7 on the path, in a folder of its own; NUMBER is how often
-                                                                    each file is changed
+usage: python3 -m tests.libv7.library_programs NUMBER     in a folder of its own; NUMBER is how often each file is changed
 """
 import glob
-import os
 import random
 import re
-import subprocess
 import sys
 
 import v7
+from tests.lib.files import TOP, read_bytes, write
+from tests.lib.programs import program, ran
 
 FOUND = re.compile(r"/ (wrong|odd): byte 0[0-7]+ \((\d+)\): (.*)")
 MISTAKE = re.compile(r"v7-object: in\.lst: line (\d+), column (\d+): .*")
@@ -19,20 +18,9 @@ REFUSED = re.compile(r"v7-from-gnu: in\.gnu: byte 0[0-7]+ \((\d+)\): .*")
 OPTIONS = {(): 0, ("-S",): v7.DROP_DEBUGGER, ("-X",): v7.DROP_UNUSED, ("-x",): v7.DROP_LOCALS, ("-S", "-x"): v7.DROP_DEBUGGER | v7.DROP_LOCALS}
 
 
-def written(path, data):
-    with open(path, "wb") as file:
-        file.write(data)
-
-
-def read(path):
-    with open(path, "rb") as file:
-        return file.read()
-
-
-def run(*words):
+def run(name, *words):
     """The standard output and the standard error of a program."""
-    done = subprocess.run(words, stdout=subprocess.PIPE, stderr=subprocess.PIPE, check=False)
-    return done.stdout.decode("latin-1"), done.stderr.decode("latin-1")
+    return ran(program(name), *words).texts()[1:]
 
 
 def given(call, *words):
@@ -53,18 +41,18 @@ def changed(dice, data):
 
 
 class Programs:
-    """The programs of a folder, and how often a call was compared with them."""
+    """The programs, and how often a call was compared with them."""
 
-    def __init__(self, build):
-        self.build, self.counts = os.path.abspath(build), {}
+    def __init__(self):
+        self.counts = {}
 
     def run(self, name, *words):
         self.counts[name] = self.counts.get(name, 0) + 1
-        return run(f"{self.build}/{name}", *words)
+        return run(name, *words)
 
     def explained(self, data):
         """Whether listing and remarks are those of v7-explain, and whether the listing gives the file again."""
-        written("in.o", data)
+        write("in.o", data)
         lines = self.run("v7-explain", "in.o")[0].split("\n")
         found = [match.groups() for match in map(FOUND.fullmatch, lines) if match]
         remarks = [("odd" if remark.kind > v7.REMARK_MORE_BAD_WORDS else "wrong", str(remark.byte), remark.text) for remark in v7.remarks(data)]
@@ -76,22 +64,22 @@ class Programs:
 
     def listed(self, text):
         """Whether a listing makes the file that v7-object makes, or has the mistake that it reports."""
-        written("in.lst", text.encode("latin-1"))
-        written("out.o", b"")
+        write("in.lst", text.encode("latin-1"))
+        write("out.o", b"")
         said, made = self.run("v7-object", "in.lst", "out.o")[1], given(v7.from_listing, text)
         if not isinstance(made, v7.Fault):
-            return made == read("out.o") and said == ""
+            return made == read_bytes("out.o") and said == ""
         mistake = MISTAKE.fullmatch(said.rstrip("\n"))
         return mistake is not None and (made.place, made.word) == (int(mistake[1]), int(mistake[2])) and 61 <= made.fault <= 75
 
     def converted(self, data):
         """Whether an object is converted as v7-from-gnu converts it, with each of its options, or refused at the byte that it reports."""
-        written("in.gnu", data)
+        write("in.gnu", data)
         for words, options in OPTIONS.items():
-            written("out.o", b"")
+            write("out.o", b"")
             said, made = self.run("v7-from-gnu", *words, "-q", "in.gnu", "out.o")[1], given(v7.from_gnu, data, options)
             if not isinstance(made, v7.Fault):
-                if made != read("out.o") or said:
+                if made != read_bytes("out.o") or said:
                     return False
                 continue
             refused = REFUSED.fullmatch(said.rstrip("\n"))
@@ -100,19 +88,19 @@ class Programs:
         return True
 
 
-def main(build, examples, times):
-    programs, dice, faults = Programs(build), random.Random(7), []
+def main(times):
+    programs, dice, faults, examples = Programs(), random.Random(7), [], f"{TOP}/examples"
     objects = sorted(glob.glob(f"{examples}/*.o") + glob.glob(f"{examples}/*.out"))
     for path in objects:
-        for data in [read(path), *(changed(dice, read(path)) for _ in range(int(times)))]:
+        for data in [read_bytes(path), *(changed(dice, read_bytes(path)) for _ in range(int(times)))]:
             if not programs.explained(data):
                 faults.append(f"{path}: v7-explain says something else: {data!r}")
-        listing = v7.listing(read(path))
+        listing = v7.listing(read_bytes(path))
         for text in [listing, *(changed(dice, listing.encode("latin-1")).decode("latin-1") for _ in range(int(times)))]:
             if not programs.listed(text):
                 faults.append(f"{path}: v7-object makes something else of {text!r}")
     for path in sorted(glob.glob(f"{examples}/*.gnu")):
-        for data in [read(path), *(changed(dice, read(path)) for _ in range(int(times)))]:
+        for data in [read_bytes(path), *(changed(dice, read_bytes(path)) for _ in range(int(times)))]:
             if not programs.converted(data):
                 faults.append(f"{path}: v7-from-gnu makes something else of {data!r}")
     print("\n".join(faults[:5]) or "beside the programs: " + ", ".join(f"{count} times {name}" for name, count in programs.counts.items()))

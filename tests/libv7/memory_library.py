@@ -9,6 +9,7 @@ import ctypes
 import os
 import sys
 
+from tests.lib.files import read_bytes
 import v7
 
 from tests import TOP
@@ -17,8 +18,7 @@ NO_MEMORY = 50
 
 
 def example(name):
-    with open(os.path.join(TOP, "examples", name), "rb") as file:
-        return file.read()
+    return read_bytes(os.path.join(TOP, "examples", name))
 
 
 MAIN, TWICE, COUNT, COMMON = map(example, ("main.o", "twice.o", "count.o", "k.o"))

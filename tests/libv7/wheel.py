@@ -16,7 +16,6 @@ import zipfile
 
 import backend  # noqa: E402
 
-from tests import TOP
 
 # the platforms that an index takes for Linux
 PLATFORM = re.compile(r"manylinux(1|2010|2014|_\d+_\d+)_x86_64$")

@@ -1,16 +1,16 @@
-#!/usr/bin/env python3
 """Compares what examples/asm.py makes with what GNU's assembler and `v7-from-gnu` made of the same source, byte for byte, and with the
 objects that were written by hand; and each of its messages with the line and the column of the mistake.
 
-usage: python3 -m tests.oracles.assembler FROM_GNU
+tier: check, 5 seconds; programs: v7-from-gnu; for: examples crates/gnu_objects
 """
 import os
-import subprocess
 import sys
 import tempfile
 
 import asm
-from tests import TOP
+from tests.lib.compare import notices, same
+from tests.lib.files import TOP, read, read_bytes, write
+from tests.lib.programs import program, ran
 
 EXAMPLES = os.path.join(TOP, "examples")
 
@@ -43,32 +43,22 @@ MISTAKES = [
 ]
 
 
-def faults_of(from_gnu, room):
-    """What is not as it should be."""
-    for name, stored in [(name, "") for name in GNU] + [(name, os.path.join(EXAMPLES, f"{name}.o")) for name in BY_HAND]:
-        if not stored:
-            stored = os.path.join(room, f"{name}.o")
-            subprocess.run([from_gnu, os.path.join(EXAMPLES, f"{name}.gnu"), stored], check=True, stderr=subprocess.DEVNULL)
-        with open(os.path.join(EXAMPLES, f"{name}.s"), encoding="ascii") as source, open(stored, "rb") as other:
-            if asm.assembled(source.read()) != other.read():
-                yield f"{name}.s: another object than {stored}"
-    for source, wanted in MISTAKES:
-        path = os.path.join(room, "mistake.s")
-        with open(path, "w", encoding="ascii") as out:
-            out.write(source)
-        done = subprocess.run([sys.executable, os.path.join(EXAMPLES, "asm.py"), path], capture_output=True, text=True)
-        if (done.returncode, done.stderr) != (1, f"{path}:{wanted}\n") or os.path.exists(path[:-2] + ".o"):
-            yield f"{source!r}: {done.stderr}  wanted: {wanted}"
-
-
 def main():
     with tempfile.TemporaryDirectory() as room:
-        faults = list(faults_of(os.path.abspath(sys.argv[1]), room))
-    for fault in faults:
-        print(fault)
+        for name in GNU + BY_HAND:
+            stored = os.path.join(EXAMPLES if name in BY_HAND else room, f"{name}.o")
+            if name in GNU:
+                ran(program("v7-from-gnu"), os.path.join(EXAMPLES, f"{name}.gnu"), stored)
+            made = asm.assembled(read(os.path.join(EXAMPLES, f"{name}.s")))
+            same(f"{name}.s", made, read_bytes(stored))
+            notices(same, f"{name}.s", made, read_bytes(stored)[:-1])
+        for source, wanted in MISTAKES:
+            path = os.path.join(room, "mistake.s")
+            write(path, source)
+            came = ran(sys.executable, os.path.join(EXAMPLES, "asm.py"), path).texts("utf-8")
+            same(repr(source), (*came, os.path.exists(path[:-2] + ".o")), (1, "", f"{path}:{wanted}\n", False))
     print(f"{len(GNU) + len(BY_HAND)} objects and {len(MISTAKES)} mistakes of examples/asm.py were compared")
-    return 1 if faults else 0
 
 
 if __name__ == "__main__":
-    sys.exit(main())
+    main()

@@ -1,7 +1,6 @@
-#!/usr/bin/env python3
 """Compares what `v7-explain -d`, `-p` and listings show of instructions with what this script computes from v7-explain(1).
 
-usage: disassembly.py V7_EXPLAIN
+tier: check, 25 seconds; programs: v7-explain; for: crates/instructions crates/disassemblies crates/explanations docs/OBJECTS.md
 
 Each of the 65,536 words is the first word of a line four times, each time with two other words after it: 262,144 lines. Then 400 made
 files are compared, objects and linked ones, with names, labels, relocated words, remarks and strings, and the text of their listings. The table of
@@ -17,6 +16,10 @@ import struct
 import subprocess
 import sys
 import tempfile
+
+from tests.lib.compare import notices, same
+from tests.lib.files import read_bytes, write
+from tests.lib.programs import program, ran
 
 FOUR_PAIRS = [(0o000005, 0o177774), (0o177777, 0o000000), (0o100000, 0o077776), (0o012345, 0o165432)]
 NOP = 0o000240
@@ -411,34 +414,24 @@ def in_listing(padded):
 def shown_by(words, made, folder, what):
     """The lines of a file but for the notes."""
     path = os.path.join(folder, "file")
-    with open(path, "wb") as out:
-        out.write(made.encoded())
-    done = subprocess.run([*words, path], capture_output=True, check=False)
-    if done.stderr or done.returncode != made.is_damaged():
-        sys.exit("%s: status %d, %r" % (what, done.returncode, done.stderr))
-    return [line for line in done.stdout.decode("latin-1").split("\n")[:-1] if not line.startswith("/")]
+    write(path, made.encoded())
+    status, out, err = ran(*words, path).texts()
+    same(f"{what}: status and errors", (status, err), (made.is_damaged(), ""))
+    return [line for line in out.split("\n")[:-1] if not line.startswith("/")]
 
 
 def compare(made, folder, what):
     """Compares the lines of a file, without arguments of system calls and with them, and returns how many there are."""
     for option, made.knows_calls in (("-p", False), ("-d", True)):
-        compare_lines(shown_by([EXPLAIN, option], made, folder, what), made.disassembly(), what + " by " + option)
+        same(f"{what} by {option}", shown_by([EXPLAIN, option], made, folder, what), made.disassembly())
     return len(made.disassembly())
 
 
 def compare_listing(made, folder, what):
     """Compares the text of the listing, and returns how many lines it has."""
     lines = shown_by([EXPLAIN], made, folder, what)
-    compare_lines(lines[lines.index("text") + 1 : lines.index("data")], made.listing(), what)
+    same(what, lines[lines.index("text") + 1 : lines.index("data")], made.listing())
     return len(made.listing())
-
-
-def compare_lines(lines, wanted, what):
-    for number, (got, want) in enumerate(zip(lines, wanted)):
-        if got != want:
-            sys.exit("%s: line %d is\n%s\nand should be\n%s" % (what, number + 1, got, want))
-    if len(lines) != len(wanted):
-        sys.exit("%s: %d lines, and should be %d" % (what, len(lines), len(wanted)))
 
 
 def each_first_word(folder):
@@ -509,12 +502,10 @@ def assembled(text, assembler, folder):
             lines.append(for_gnu(line, 2 * place))
         place += length
     source, output = (os.path.join(folder, name) for name in ("source.s", "source.o"))
-    with open(source, "w", encoding="ascii") as out:
-        out.write("\n".join(lines) + "\n")
+    write(source, "\n".join(lines) + "\n")
     subprocess.run([assembler, "-o", output, source], check=True)
-    with open(output, "rb") as read:
-        # the text follows a header of 16 bytes
-        return read.read()[16 : 16 + 2 * len(text)] == struct.pack("<%dH" % len(text), *text)
+    # the text follows a header of 16 bytes
+    return read_bytes(output)[16 : 16 + 2 * len(text)] == struct.pack("<%dH" % len(text), *text)
 
 
 def for_gnu(line, address):
@@ -542,6 +533,7 @@ def main():
     with tempfile.TemporaryDirectory() as folder:
         texts = each_first_word(folder)
         print("262,144 first words with two words after each are shown as computed")
+        notices(same, "planted", shown_by([EXPLAIN, "-p"], File([NOP]), folder, "planted"), File([NOP + 1]).disassembly())
         dice, count, listed = random.Random(47), 0, 0
         for number in range(400):
             made = random_file(dice)
@@ -559,5 +551,5 @@ def main():
 
 
 if __name__ == "__main__":
-    EXPLAIN = os.path.abspath(sys.argv[1])
+    EXPLAIN = program("v7-explain")
     main()

@@ -1,39 +1,25 @@
-#!/usr/bin/env python3
 """Tries v7-object: listings are turned into files.
 
-usage: listings.py V7_EXPLAIN V7_OBJECT
-
-Each listing of examples/ has to make the object of the same name. The listing that v7-explain writes of each file of examples/, and
-of 1,000 made files, objects and linked ones, has to make that file again, bytes after the NUL of a name aside. 2,000 damaged listings
-have to end with the status 0 or 1: with 1 one line tells the line and the column of the mistake, and no file is written. In 200 more one
+Each listing of examples/ has to make the object of the same name. That the listing of a file makes this file again is a theorem.
+2,000 damaged listings, of those that v7-explain writes of the files of examples/ and of 300 made ones, have to end with the status 0 or 1: with 1 one line tells the line and the column of the mistake, and no file is written. In 200 more one
 number is not octal, and the line and the column are those of this number.
+
+tier: check, 15 seconds; programs: v7-explain v7-object; for: crates/listings crates/v7_object man/v7-object.1
 """
 import os
 import random
 import re
 import struct
-import subprocess
-import sys
-import tempfile
 
-from tests import TOP
+from tests.lib.compare import notices, same
+from tests.lib.files import TOP, read_bytes, room, write
+from tests.lib.programs import program, ran
 
 EXAMPLES = os.path.join(TOP, "examples")
-
-EXPLAIN, OBJECT = (os.path.abspath(p) for p in sys.argv[1:3])
+EXPLAIN, OBJECT = program("v7-explain"), program("v7-object")
 MISTAKE = re.compile(rb"v7-object: in: line (\d+), column (\d+): [ -~]+\n")
 BYTES = b" 0123456789\n/\\_abtexdmyl\0\t\xff"
 dice = random.Random(43)
-
-
-def read(path):
-    with open(path, "rb") as source:
-        return source.read()
-
-
-def write(path, data):
-    with open(path, "wb") as out:
-        out.write(data)
 
 
 def random_name():
@@ -59,9 +45,9 @@ def random_file():
 
 def listing_of(data):
     write("file", data)
-    done = subprocess.run([EXPLAIN, "file"], stdout=subprocess.PIPE, stderr=subprocess.PIPE)
-    assert done.returncode in (0, 1) and done.stderr == b"", (done.returncode, done.stderr)
-    return done.stdout
+    done = ran(EXPLAIN, "file")
+    assert done.status in (0, 1) and done.err == b"", done
+    return done.out
 
 
 def run(listing):
@@ -69,9 +55,9 @@ def run(listing):
     write("in", listing)
     if os.path.exists("out"):
         os.remove("out")
-    done = subprocess.run([OBJECT, "in", "out"], stdout=subprocess.PIPE, stderr=subprocess.PIPE)
-    assert done.stdout == b"", done.stdout
-    return done.returncode, done.stderr, read("out") if os.path.exists("out") else None
+    done = ran(OBJECT, "in", "out")
+    assert done.out == b"", done.out
+    return done.status, done.err, read_bytes("out") if os.path.exists("out") else None
 
 
 def damaged(text):
@@ -129,25 +115,21 @@ def main():
     names = sorted(os.listdir(EXAMPLES))
     by_hand = [name[:-4] for name in names if name.endswith(".lst")]
     for name in by_hand:
-        converted = run(read(os.path.join(EXAMPLES, name + ".lst")))
+        converted = run(read_bytes(os.path.join(EXAMPLES, name + ".lst")))
         assert converted[0] == 0, (name, converted)
         if name + ".o" in names:
-            assert converted[2] == read(os.path.join(EXAMPLES, name + ".o")), name
-    files = [read(os.path.join(EXAMPLES, name)) for name in names if name.endswith((".o", ".out"))]
-    files += [random_file() for _ in range(1000)]
-    listings = [listing_of(data) for data in files]
-    for data, listing in zip(files, listings):
-        converted = run(listing)
-        assert converted == (0, b"", data), (data[:16], converted[:2])
-    print("%d listings made by hand, and %d of files turned back" % (len(by_hand), len(files)))
-    short = [listing for listing in listings if len(listing) < 5000]
+            wanted = (0, b"", read_bytes(os.path.join(EXAMPLES, name + ".o")))
+            same(name, converted, wanted)
+            notices(same, name, converted, (*wanted[:2], wanted[2][:-1]))
+    files = [read_bytes(os.path.join(EXAMPLES, name)) for name in names if name.endswith((".o", ".out"))]
+    files += [random_file() for _ in range(300)]
+    short = [listing for listing in map(listing_of, files) if len(listing) < 5000]
     refused = sum(tried(damaged(dice.choice(short))) for _ in range(2000))
     wrong = [made for made in map(not_octal, dice.choices(short, k=200)) if made]
     for text, said in wrong:
-        assert run(text) == (1, said, None), (text, said)
-    print("2000 damaged listings tried, of which %d are refused, and %d with a number that is not octal" % (refused, len(wrong)))
+        same(f"{text}", run(text), (1, said, None))
+    print(f"{len(by_hand)} listings made by hand, and 2000 damaged ones, of which {refused} are refused; {len(wrong)} with a number that is not octal")
 
 
-with tempfile.TemporaryDirectory() as folder:
-    os.chdir(folder)
+with room():
     main()

@@ -1,7 +1,7 @@
-#!/usr/bin/env python3
 """Compares the map of `v7-explain -m` with what `v7 ld`, `v7 nm` and `v7 size` say of the same objects.
 
-usage: python3 -m tests.oracles.map V7 V7-EXPLAIN [MAP [LINKS]]
+usage: python3 -m tests.oracles.map [MAP [LINKS]]
+tier: check, 40 seconds; programs: v7 v7-explain; for: crates/link_maps crates/map_texts crates/finding_objects
 
 MAP is another program that prints maps, examples/c/map.c: of each link it must print the same. LINKS are so many in place of 200.
 
@@ -9,21 +9,21 @@ The links are those of a few lists of objects in examples/, and 200 that are mad
 words, with names that are defined, wanted as commons and referred to. Who defines a name, who wants it, and which words
 of an object refer to it are known from the objects as they were made. The instruction of each such word is what
 tests/oracles/disassembly.py makes of the object's words. What is used of each limit is counted in the objects and in the linked
-file. 60 further links are refused, some because a file can't be read. Of each made link, and of 51 that are refused, there is
+file. 60 further links are refused, some because a file can't be read. Each made link, and 51 that are refused, have
 a map of some names too (-y), with names that are too long, absent or asked for twice.
 """
 import os
 import random
+import re
 import struct
-import subprocess
 import sys
-import tempfile
 
-from tests import TOP
+from tests.lib.compare import notices, same
+from tests.lib.files import TOP, room, write
+from tests.lib.programs import program, ran
 from tests.oracles import disassembly
 
 EXAMPLES = os.path.join(TOP, "examples")
-
 OPTIONS = [[], ["-n"], ["-i"], ["-r"], ["-r", "-d"], ["-x"], ["-X"], ["-s"], ["-u", "_forced"], ["-e", "_a"], ["-d"]]
 NAMES = ["_a", "_b", "_c", "_main", "_long_na", "x", "_forced", "_end", "_etext", "Lx"]
 # first words of one to three words, one that begins no instruction, and words like those of operands
@@ -32,21 +32,20 @@ WORDS = [0o000207, 0o005200, 0o004767, 0o004737, 0o012700, 0o016167, 0o016767, 0
 
 def run(*words):
     """Status, standard output and standard error of a command."""
-    done = subprocess.run(words, capture_output=True, check=False)
-    return done.returncode, done.stdout.decode("latin-1"), done.stderr.decode("latin-1")
+    return ran(*words).texts()
 
 
 def explain(*words):
     """The same of the map of a link, which another program has to print too."""
     came = run(EXPLAIN, "-m", *words)
-    for program in MAP:
+    for other in MAP:
         if came[2] == "":
-            check(f"{' '.join(words)}: by records", run(program, *words), came)
+            same(f"{' '.join(words)}: by records", run(other, *words), came)
     return came
 
 
 class RandomObject:
-    """An object: how many words it has of text, data and bss; symbols as name, type word and value; each reference is a word, a
+    """An object: how many words it has of text, data and bss, and symbols as name, type word and value. Each reference is a word, a
     symbol's number and the bit of the pc; and the words of its text, if they are not 0."""
 
     def __init__(self, text, data, bss, symbols, references, words=()):
@@ -59,8 +58,7 @@ class RandomObject:
         self.file = disassembly.File(list(words) or [0] * text, relocation[:text], table, 0o407, in_data, relocation[text:], 2 * bss)
 
     def write(self, path):
-        with open(path, "wb") as file:
-            file.write(self.file.encoded())
+        write(path, self.file.encoded())
 
 
 def random_object(dice):
@@ -92,8 +90,8 @@ def parts(text):
         title, *lines = block.rstrip("\n").split("\n")
         name = title.split("  ")[0] if found else ""
         if found:
-            check("a title", title, name + COLUMNS.get(name, ""))
-            check(f"the first line of {name}", lines[:1], [FIRST_LINES.get(name, lines[0])])
+            same("a title", title, name + COLUMNS.get(name, ""))
+            same(f"the first line of {name}", lines[:1], [FIRST_LINES.get(name, lines[0])])
         found[name] = lines if found else [title] + lines
     return found
 
@@ -112,12 +110,6 @@ def names_in(lines):
             name = line[9:]
             names[name] = (line, {}, {})
     return names
-
-
-def check(what, found, expected):
-    if found != expected:
-        print(f"{what}: the map has\n  {found}\nand not\n  {expected}")
-        sys.exit(1)
 
 
 def listed(objects, says, item):
@@ -145,7 +137,7 @@ def check_lists(what, names, objects):
         }
         if lists.get("used in", [])[:1] == ["-u"]:
             expected["used in"] = ["-u"] + expected["used in"]
-        check(f"{what}: {name}", lists, {label: items for label, items in expected.items() if items})
+        same(f"{what}: {name}", lists, {label: items for label, items in expected.items() if items})
 
 
 def label_before(given, segment, address):
@@ -178,7 +170,7 @@ def check_words(what, names, found, objects, asked=None):
             lines = [word_line(given, starts, word) for word, to, _ in given.references if to == number]
             if lines and (asked is None or symbol[0] in asked):
                 expected.setdefault(symbol[0], {})[f"{place}.o"] = lines
-    check(f"{what}: words", {name: words for name, (_, _, words) in names.items() if words}, expected)
+    same(f"{what}: words", {name: words for name, (_, _, words) in names.items() if words}, expected)
     return sum(len(lines) for words in expected.values() for lines in words.values())
 
 
@@ -187,19 +179,19 @@ def check_asked(what, dice, command, objects, whole):
     paths, and `whole` the status, the parts and the lines of the externals of the whole map."""
     words = [dice.choice(NAMES + ["_none", "_long_name", "_absent_name"]) for _ in range(dice.randrange(1, 6))]
     status, text, errors = run(EXPLAIN, "-m", *(it for word in words for it in ("-y", word)), *command)
-    check(f"{what}: standard error of some names", errors, "")
+    same(f"{what}: standard error of some names", errors, "")
     asked = list(dict.fromkeys(word[:8] for word in words))
     known = {name for given in objects for name, kind, _ in given.symbols if kind & 0o40} | ({"_forced"} if "-u" in command else set())
     absent = [f"  {name}: not mentioned" for name in asked if name not in known]
     link_status, found, externals = whole
-    check(f"{what}: status of some names", status, 1 if absent else link_status)
+    same(f"{what}: status of some names", status, 1 if absent else link_status)
     some = parts(text)
-    check(f"{what}: parts of some names", (list(some), some[""]), (["", "Externals"], found[""]))
+    same(f"{what}: parts of some names", (list(some), some[""]), (["", "Externals"], found[""]))
     lines = some["Externals"]
     there = len(lines) - len(absent)
-    check(f"{what}: absent names", lines[there:], absent)
+    same(f"{what}: absent names", lines[there:], absent)
     names = names_in(lines[:there])
-    check(f"{what}: some names", [line for line, _, _ in names.values()], [line for line in externals if line[9:] in asked])
+    same(f"{what}: some names", [line for line, _, _ in names.values()], [line for line in externals if line[9:] in asked])
     check_lists(f"{what}: some names", names, objects)
     check_words(f"{what}: some names", names, found, objects, asked)
 
@@ -209,7 +201,7 @@ def check_report(what, found, report):
     lines = report.split("\n")
     multiples = {line.split(": ")[0] for line in lines if line.endswith(": Multiply defined")}
     undefined = set(lines[lines.index("Undefined:") + 1:-1]) if "Undefined:" in lines else set()
-    check(f"{what}: multiples", set(names_in(found.get("Multiply defined", []))), multiples)
+    same(f"{what}: multiples", set(names_in(found.get("Multiply defined", []))), multiples)
     return undefined
 
 
@@ -267,7 +259,7 @@ def check_head(what, found, paths, report, linked):
     lines = [f"Link of {counted(paths)}: made, with {'something' if report else 'nothing'} to report"]
     lines.append(f"  magic 0{linked.magic:o}, entry point {linked.entry:06o}")
     lines += [f"  entry point not in text: {line.split(':')[0]}" for line in report.split("\n") if line.endswith("Entry point not in text")]
-    check(f"{what}: head", found[""], lines)
+    same(f"{what}: head", found[""], lines)
 
 
 def check_segments(what, found, options, paths, linked):
@@ -283,32 +275,32 @@ def check_segments(what, found, options, paths, linked):
             at = 0
         lines.append(f"  {name:8}{at:06o}  {at + size:06o}{size:>8}")
         at += size
-    check(f"{what}: segments", found["Segments"], lines)
+    same(f"{what}: segments", found["Segments"], lines)
 
 
 def check_map(what, options, paths):
     """The map of a link that is made agrees with the link. Returns its externals."""
     status, text, errors = explain(*options, *paths)
-    check(f"{what}: standard error", errors, "")
+    same(f"{what}: standard error", errors, "")
     linked, report, _ = run(V7, "ld", *options, "-o", "out", *paths)
-    check(f"{what}: status", status, linked)
-    check(f"{what}: columns", [line for line in text.split("\n") if len(line) > 80], [])
+    same(f"{what}: status", status, linked)
+    same(f"{what}: columns", [line for line in text.split("\n") if len(line) > 80], [])
     found = parts(text)
     undefined = check_report(what, found, report)
     if "-r" not in options:
-        check(f"{what}: undefined", set(names_in(found.get("Undefined", []))), undefined)
+        same(f"{what}: undefined", set(names_in(found.get("Undefined", []))), undefined)
     plain = run(V7, "size", "out")[1].split("=")[0]
     text_size, data_size, bss_size = (int(size) for size in plain.split("+"))
     segments = {line.split()[0]: line.split()[1:] for line in found["Segments"]}
     sizes = {name: int(row[2]) for name, row in segments.items()}
-    check(f"{what}: sizes", [sizes["text"], sizes["data"], sizes["commons"] + sizes["bss"]], [text_size, data_size, bss_size])
+    same(f"{what}: sizes", [sizes["text"], sizes["data"], sizes["commons"] + sizes["bss"]], [text_size, data_size, bss_size])
     run(V7, "ld", *[word for word in options if word not in ("-s", "-X")], "-x", "-o", "bare", *paths)
     out = file_at("out")
     check_head(what, found, paths, report, out)
     check_segments(what, found, options, paths, out)
-    check(f"{what}: limits", found["Limits"], limits_of(options, paths, out, end_of(options, sizes)))
+    same(f"{what}: limits", found["Limits"], limits_of(options, paths, out, end_of(options, sizes)))
     names = names_in(found.get("Externals", []))
-    check(f"{what}: externals", [line for line, _, _ in names.values()], run(V7, "nm", "-g", "bare")[1].split("\n")[:-1])
+    same(f"{what}: externals", [line for line, _, _ in names.values()], run(V7, "nm", "-g", "bare")[1].split("\n")[:-1])
     return names, found
 
 
@@ -320,9 +312,9 @@ def check_places(what, found, objects):
     for place, (row, given) in enumerate(zip(rows, objects)):
         sizes = [2 * given.text, 2 * given.data, 2 * given.bss]
         expected = [field for start, size in zip(at, sizes) for field in (f"{start:06o}", str(size))]
-        check(f"{what}: object {place}", row, expected + [f"{place}.o"])
+        same(f"{what}: object {place}", row, expected + [f"{place}.o"])
         at = [start + size for start, size in zip(at, sizes)]
-    check(f"{what}: objects", len(rows), len(objects))
+    same(f"{what}: objects", len(rows), len(objects))
 
 
 def check_examples():
@@ -383,18 +375,18 @@ def check_random_refused(number):
     options = dice.choice(choices)
     what = f"refused link {number} {' '.join(options)}"
     status, _, errors = run(V7, "ld", *options, "-o", "out", *paths)
-    check(f"{what}: ld", (status, fault in errors), (2, True))
+    same(f"{what}: ld", (status, fault in errors), (2, True))
     status, text, errors = explain(*options, *paths)
-    check(f"{what}: status", (status, errors), (1, ""))
+    same(f"{what}: status", (status, errors), (1, ""))
     found = parts(text)
-    check(f"{what}: fault", found[""][0].split(" at")[0], f"Link of {counted(paths)}: refused, {fault}")
+    same(f"{what}: fault", found[""][0].split(" at")[0], f"Link of {counted(paths)}: refused, {fault}")
     names = names_in(found["Externals"])
     check_lists(what, names, objects)
     expected = [line_without_address(objects, name) for name in names]
     if fault == "too many symbols":
         run(V7, "ld", *options, "-x", "-o", "bare", *paths)
         expected = run(V7, "nm", "-g", "bare")[1].split("\n")[:-1]
-    check(f"{what}: externals", [line for line, _, _ in names.values()], expected)
+    same(f"{what}: externals", [line for line, _, _ in names.values()], expected)
     check_asked(what, dice, options + paths, objects, (1, found, expected))
     return check_words(what, names, found, objects)
 
@@ -404,11 +396,11 @@ def check_refused(what, objects, fault, lines):
     paths = [f"{place}.o" for place in range(len(objects))]
     for path, given in zip(paths, objects):
         given.write(path)
-    check(f"{what}: fault", fault in run(V7, "ld", "-o", "out", *paths)[2], True)
+    same(f"{what}: fault", fault in run(V7, "ld", "-o", "out", *paths)[2], True)
     status, text, _ = explain(*paths)
-    check(f"{what}: status", status, 1)
+    same(f"{what}: status", status, 1)
     for line in [fault] + lines:
-        check(f"{what}: {line}", line in text, True)
+        same(f"{what}: {line}", line in text, True)
 
 
 def largest_of(objects):
@@ -427,8 +419,8 @@ def check_sizes(what, objects):
     found = parts(explain(*[f"{place}.o" for place in range(len(objects))])[1])
     sizes = [File(struct.pack("<8H", 0o407, 2 * o.text, 2 * o.data, 2 * o.bss, 0, 0, 0, 1) + bytes(2 * (o.text + o.data)))
              for o in objects]
-    check(f"{what}: limits", found["Limits"][:3], sum_limits(sizes))
-    check(f"{what}: largest objects", found["Largest objects"], largest_of(objects))
+    same(f"{what}: limits", found["Limits"][:3], sum_limits(sizes))
+    same(f"{what}: largest objects", found["Largest objects"], largest_of(objects))
 
 
 def check_many_refused():
@@ -445,14 +437,13 @@ def check_many_refused():
 
 
 def check_unread():
-    """Files that are no objects have status 1; with one that can't be opened, the status is 2."""
-    with open("short.o", "wb") as file:
-        file.write(b"\7\1")
+    """Files that are not objects have status 1; with one that can't be opened, the status is 2."""
+    write("short.o", b"\7\1")
     RandomObject(1, 0, 0, [], []).write("0.o")
     short, missing = "v7-explain: short.o: short header\n", "v7-explain: missing.o: cannot open\n"
-    check("no file", run(EXPLAIN, "-m", "short.o", "0.o"), (1, "", short))
-    check("a missing file", run(EXPLAIN, "-m", "0.o", "missing.o"), (2, "", missing))
-    check("a missing file first", run(EXPLAIN, "-m", "missing.o", "short.o"), (2, "", missing + short))
+    same("no file", run(EXPLAIN, "-m", "short.o", "0.o"), (1, "", short))
+    same("a missing file", run(EXPLAIN, "-m", "0.o", "missing.o"), (2, "", missing))
+    same("a missing file first", run(EXPLAIN, "-m", "missing.o", "short.o"), (2, "", missing + short))
 
 
 def all_refused():
@@ -480,8 +471,20 @@ def all_refused():
     return 9
 
 
+def planted():
+    """A map whose first number of an object is another one."""
+    global explain
+    asked = explain
+    explain = lambda *words: (lambda status, out, err: (status, re.sub(r"(?m)^( +\d+ +)\d", r"\g<1>9", out, count=1), err))(*asked(*words))
+    try:
+        check_map("planted", [], ["main.o", "twice.o"])
+    finally:
+        explain = asked
+
+
 def main():
     examples = check_examples()
+    notices(planted)
     words = sum(check_random(link) for link in range(LINKS))
     words += sum(check_random_refused(link) for link in range(51))
     refused = 51 + all_refused()
@@ -490,8 +493,7 @@ def main():
 
 
 if __name__ == "__main__":
-    V7, EXPLAIN, *MAP = (os.path.abspath(path) for path in sys.argv[1:4])
-    LINKS = int(sys.argv[4]) if len(sys.argv) > 4 else 200
-    with tempfile.TemporaryDirectory() as folder:
-        os.chdir(folder)
+    V7, EXPLAIN, MAP = program("v7"), program("v7-explain"), [os.path.abspath(path) for path in sys.argv[1:2]]
+    LINKS = int(sys.argv[2]) if len(sys.argv) > 2 else 200
+    with room():
         main()

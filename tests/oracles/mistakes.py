@@ -1,10 +1,9 @@
-#!/usr/bin/env python3
 """Plants mistakes of assemblers in objects, and counts those of which v7-explain says something new.
 
-usage: mistakes.py V7_EXPLAIN
+tier: check, 60 seconds; programs: v7-explain v7-from-gnu; for: crates/suspicions crates/findings
 
 The objects are those of examples/ and of the page, 300 that are made here, and the texts of the page as GNU's assembler for the PDP-11
-assembles them, if it is installed and v7-from-gnu is beside V7_EXPLAIN. Of each of them v7-explain may say nothing new without a mistake. A pc bit that is
+assembles them, if it is installed. Of each of them v7-explain may say nothing new without a mistake. A pc bit that is
 forgotten, relocation words one word early, and mistakes that instructions show alone have to be found in each object in which they
 change something that is suspicious. All that tests/oracles/suspicions.py finds in an object with a mistake has to be said.
 """
@@ -15,15 +14,13 @@ import re
 import shutil
 import struct
 import subprocess
-import sys
-import tempfile
 
-from tests import TOP
+from tests.lib.files import TOP, room, write
+from tests.lib.programs import program
 from tests.oracles.disassembly import File, FOUND, SYS
 from tests.oracles.suspicions import ENDS, branches_to, is_plain, operands, starts, suspicions
 
-EXPLAIN = os.path.abspath(sys.argv[1])
-FROM_GNU = os.path.join(os.path.dirname(EXPLAIN), "v7-from-gnu")
+EXPLAIN, FROM_GNU = program("v7-explain"), program("v7-from-gnu")
 ASSEMBLER = shutil.which("pdp11-aout-as")
 dice = random.Random(63)
 TEXT, DATA, EXTERNAL = 2, 4, 0o10
@@ -237,8 +234,7 @@ SUSPICIOUS = ("pc bit", "first word", "is cut by", "where none begins", "the bra
 def said(files):
     """What v7-explain says is wrong or odd of each file."""
     for number, file in enumerate(files):
-        with open(f"f{number}.o", "wb") as out:
-            out.write(file.encoded())
+        write(f"f{number}.o", file.encoded())
     done = subprocess.run([EXPLAIN, *(f"f{number}.o" for number in range(len(files)))], stdout=subprocess.PIPE, check=False)
     parts = re.split(r"^/ f\d+\.o: 0[0-7]+ \(\d+\) bytes$", done.stdout.decode("latin-1"), flags=re.M)[1:]
     return [{line for line in part.split("\n") if line.startswith(("/ wrong:", "/ odd:"))} for part in parts]
@@ -285,6 +281,5 @@ def main():
             assert not untold, (name, number, untold)
 
 
-with tempfile.TemporaryDirectory() as folder:
-    os.chdir(folder)
+with room():
     main()

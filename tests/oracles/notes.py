@@ -1,21 +1,20 @@
-#!/usr/bin/env python3
 """Compares the notes of v7-explain, with all their numbers, and its inventory with those computed here by docs/FORMAT.md and
 v7-explain(1).
 
-usage: notes.py V7_EXPLAIN
+tier: check, 40 seconds; programs: v7-explain; for: crates/findings crates/suspicions crates/explanations docs/FORMAT.md man/v7-explain.1
 
-The files are made, the same in each run: objects whose numbers lie at the edges of their ranges and beside them, one file cut
-at each byte, objects with 15 to 18 bad relocation words, files with other magic numbers, flags and sizes, files of other forms, and
+The files are made, the same in each run: objects whose numbers are at the edges of their ranges and beside them, and one file cut
+at each byte. There are objects with 15 to 18 bad relocation words, files with other magic numbers, flags and sizes, files of other forms, and
 objects of instructions.
 """
-import os
 import random
 import re
 import struct
 import subprocess
-import sys
-import tempfile
 
+from tests.lib.compare import notices, same
+from tests.lib.files import room, write
+from tests.lib.programs import program
 from tests.oracles.disassembly import File as Text
 from tests.oracles.suspicions import DOUBT, suspicions
 
@@ -310,7 +309,7 @@ def random_reloc(count):
 
 
 def random_file(text, data, magic=0o407, flag=0):
-    """A file of so many words, most of whose numbers lie at the ends of segments."""
+    """A file of so many words, most of whose numbers are at the ends of segments."""
     bss = 2 * dice.randrange(5)
     edges = [0, 2 * text, 2 * (text + data), 2 * (text + data) + bss]
     count = dice.randrange(6)
@@ -393,19 +392,17 @@ def inventoried(paths):
 
 
 def compare(path, data, found, expected):
-    if found != expected:
-        print(f"{path}, {data.hex()}:", *found, "and not", *expected, sep="\n  ")
-        sys.exit(1)
+    same(f"{path}, {data.hex()}", found, expected)
 
 
 def main():
     datas = list(files())
     paths = [f"f{number}.o" for number in range(len(datas))]
     for path, data in zip(paths, datas):
-        with open(path, "wb") as file:
-            file.write(data)
+        write(path, data)
     found, refused, inventory = explained(paths), checked(paths), inventoried(paths)
     assert len(found) == len(inventory) == len(datas), (len(found), len(inventory), len(datas))
+    notices(compare, paths[0], datas[0], found[0], [*found[0], ""])
     count = 0
     for path, data, notes, line in zip(paths, datas, found, inventory):
         expected, why = lines_of(path, data), notes_of(data)[1]
@@ -419,7 +416,6 @@ def main():
 
 
 if __name__ == "__main__":
-    EXPLAIN = os.path.abspath(sys.argv[1])
-    with tempfile.TemporaryDirectory() as folder:
-        os.chdir(folder)
+    EXPLAIN = program("v7-explain")
+    with room():
         main()

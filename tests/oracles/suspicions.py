@@ -12,7 +12,7 @@ DOUBT = ", if this is an instruction"
 
 
 def operands(text, place):
-    """Of the operands of the instruction at a place that have a word: the place of the word, the mode and the register."""
+    """For each operand that has a word, of the instruction at a place: the place of the word, the mode and the register."""
     at = place + 1
     for letter, value in FOUND[text.words[place]][1]:
         if has_word(letter, value):
@@ -136,7 +136,7 @@ class Suspects:
         return f"; the instruction at {2 * place:06o} is {self.text.line(place)[1]}"
 
     def of_plain(self, place):
-        """Of a plain word: where the file has what is odd, and what that is."""
+        """Where the file has what is odd in a plain word, and what that is."""
         text, sure = self.text, place in self.sure
         if text.is_relocated(place):
             if place in self.reached or may_begin(text, place):

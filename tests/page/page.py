@@ -1,12 +1,12 @@
-#!/usr/bin/env python3
 """Opens the page of the lesson in Chromium, from the disk, and compares what it shows, in every state, with what `v7-lesson`
 prints for the same objects, and the addresses with what `v7 ld` and `v7 nm` say. Then it looks at the layout in many sizes,
 takes the tour and the lessons by keys alone, and measures the stage with the sixteen compiled objects of tests/page/data and with the
 examples: layout and stage in Firefox too, if it is installed. The pictures of docs/pictures are compared with the page. Faults are
 planted (tests/page/page_planted.py), and have to be found.
 
-usage: python3 -m tests.page.page [-p|-s|-r] LESSON V7 EXPLAIN PAGE QUESTIONS FILE...     PAGE is the folder with the scripts and the styles; five FILEs
+usage: python3 -m tests.page.page [-p|-s|-r] [QUESTIONS FILE...]     five FILEs
        -p plants faults alone, -s measures the stage alone, and -r looks at the rest
+tier: all, 1500 seconds; programs: v7 v7-lesson v7-explain; for: crates/v7_lesson page examples/lessons.txt docs/pictures; needs: chromium chromedriver selenium firefox-esr
 """
 import os
 import random
@@ -17,6 +17,7 @@ import tempfile
 import traceback
 from itertools import permutations
 
+from tests.lib.compare import notices
 from tests.page import page_data
 from tests.page import page_pictures
 from tests.page.page_browser import Chromium, Firefox, Keys, firefox
@@ -400,11 +401,12 @@ def check_rest(tools, default, files, compiled):
 
 
 def main():
-    only = sys.argv[1] if sys.argv[1] in ("-p", "-s", "-r") else ""
-    lesson, v7, explain, page_folder, questions, *files = sys.argv[2 if only else 1:]
+    only = "".join(sys.argv[1:2]) if sys.argv[1:2] in (["-p"], ["-s"], ["-r"]) else ""
+    questions, *files = sys.argv[2 if only else 1:] or page_data.GIVEN
+    notices(page_data.planted)
     with tempfile.TemporaryDirectory() as room:
         try:
-            check(Tools(lesson, v7, explain, page_folder, room), only, questions, files)
+            check(Tools(room), only, questions, files)
         except (Exception, KeyboardInterrupt) as error:  # the faults that were found are printed all the same
             faults.append(f"{type(error).__name__}: {error}")
             traceback.print_exc()

@@ -1,9 +1,9 @@
-#!/usr/bin/env python3
-"""Compares the data of a page, which no browser has to show, with the programs: in each state its words, names and marks with what
-`v7-lesson` prints; its links with what `v7 ld` writes and `v7 nm` prints; the places that words mean with what both say; what it has of
-each object with the object and the listing beside it; and the answers of its lessons. Wrong files of questions have to be refused.
+"""Compares the data of a page, which no browser has to show, with the programs. In each state these are its words, names and marks, as
+`v7-lesson` prints them, and its links, as `v7 ld` writes and `v7 nm` prints them. Then come the places that words mean, what it has of
+each object, with the object and the listing beside it, and the answers of its lessons. Wrong files of questions have to be refused.
 
-usage: python3 -m tests.page.page_data LESSON V7 EXPLAIN PAGE QUESTIONS FILE...     PAGE is the folder with the scripts and the styles; five FILEs
+usage: python3 -m tests.page.page_data [QUESTIONS FILE...]     five FILEs
+tier: check, 60 seconds; programs: v7 v7-lesson v7-explain; for: crates/v7_lesson page examples/lessons.txt
 """
 import os
 import re
@@ -13,6 +13,9 @@ import sys
 import tempfile
 from itertools import permutations
 
+from tests.lib.compare import Differs, notices
+from tests.lib.files import TOP
+from tests.lib.programs import program
 from tests.page.page_lessons import bad_questions, lesson_answers, questions_of_all_kinds, remarks, states_in
 from tests.page.page_objects import FILES as COMPILED, PLACE, object_like_c, object_of_compiled
 
@@ -25,6 +28,8 @@ KINDS = ("undefined", "common", "text", "data", "bss", "number")
 NAME, GROUP, LOCAL, PLACES = 2 + 2 * 4, 3 + 2 * 4, 4, 1 + 4
 PLACE_KINDS = ("same", "nowhere", "text", "data", "bss", "text-end", "data-end", "bss-end", "text-beyond", "data-beyond", "bss-beyond", "common", "outside")
 
+# the questions and the objects of the class example
+GIVEN = [f"{TOP}/examples/{name}" for name in ("lessons.txt", "main.o", "twice.o", "k.o", "l.o", "double.o")]
 faults = []
 compared = 0
 
@@ -36,6 +41,13 @@ def same(what, shown, wanted):
         faults.append(f"{what}\n  the page: {shown}\n  wanted:   {wanted}")
 
 
+def planted():
+    """Compares what differs."""
+    same("planted", "", "planted")
+    if faults:
+        raise Differs(faults.pop())
+
+
 def words_of(line):
     return " ".join(line.split())
 
@@ -43,8 +55,9 @@ def words_of(line):
 class Tools:
     """The programs that the page is compared with."""
 
-    def __init__(self, lesson, v7, explain, page, room):
-        self.lesson, self.v7, self.explain, self.page, self.room = (os.path.abspath(path) for path in (lesson, v7, explain, page, room))
+    def __init__(self, room):
+        self.lesson, self.v7, self.explain = map(program, ("v7-lesson", "v7", "v7-explain"))
+        self.page, self.room = f"{TOP}/page", room
 
     def page_of(self, files, name="lesson.html", questions=""):
         path = os.path.join(self.room, name)
@@ -490,9 +503,10 @@ def check_data(tools, questions, files):
 
 
 def main():
-    lesson, v7, explain, page_folder, questions, *files = sys.argv[1:]
+    questions, *files = sys.argv[1:] or GIVEN
+    notices(planted)
     with tempfile.TemporaryDirectory() as room:
-        check_data(Tools(lesson, v7, explain, page_folder, room), questions, files)
+        check_data(Tools(room), questions, files)
     print(f"{compared} things of pages were compared, without a browser")
     for fault in faults[:20]:
         print(fault)

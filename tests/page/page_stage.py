@@ -261,7 +261,7 @@ def in_view(page, count, sizes, same, what):
 
 
 # ---- scenes
-# what is whole in view: of a step its changed words, those that its groups count besides, and its arrows; of a choice its arrow; of a
+# what is whole in view: of a step its changed words, those that its groups count besides, and its arrows; of a choice its arrow, and of a
 # question the right words
 SEEN = r"""
 const stage = document.getElementById("stage").getBoundingClientRect();
@@ -300,7 +300,7 @@ return wait.answers.filter((key) => !seen(byId(key))).length <= more ? [] : wait
 
 
 def scenes(page, path, count, same, what):
-    """At 1366 x 768: of the choices in each state nine of ten are whole in view; each changed word is in view, or counted in its group; the
+    """At 1366 x 768: of the choices in each state nine of ten are whole in view. Each changed word is in view, or counted in its group. The
     right words of each question are on the stage. Returns how many steps bind words, and how many of them are whole in view."""
     page.load(path)
     page.size(1366, 768)
@@ -347,7 +347,7 @@ return { faults, ends: arrows.length, all: drawn.references.length, counted, now
 
 
 def choices(page, same, what, keys, uses):
-    """Of each choice both ends of each arrow are seen; all references have a row or are counted, and they are no fewer than those of
+    """Both ends of each arrow of a choice are seen; all references have a row or are counted, and they are no fewer than those of
     the map."""
     ends = 0
     for key in keys:

@@ -11,7 +11,7 @@ const text = (selector) => {
 return { title: text("h1"), titles: document.querySelectorAll("h1").length, lead: text(".lead"), legend: document.querySelectorAll(".legend li").length,
     action: text("#first"), tour: text("#menu button"), status: text("#status"), border: getComputedStyle(document.getElementById("status")).borderStyle };
 """
-# how far texts differ from what is behind them: the smallest contrast, and where
+# how far texts differ from their background: the smallest contrast, and where
 CONTRAST = r"""
 const rgb = (text) => text.match(/[\d.]+/g).map(Number);
 const light = (rgb) => rgb.slice(0, 3).map((c) => c / 255).map((c) => c <= 0.03928 ? c / 12.92 : ((c + 0.055) / 1.055) ** 2.4).reduce((s, c, i) => s + c * [0.2126, 0.7152, 0.0722][i], 0);
@@ -353,7 +353,7 @@ def numbers(page, default, same):
 
 
 def leads(page, default, same):
-    """Marks lead to their words, names to theirs; the bar stays; the image fills its column."""
+    """Marks lead to their words, names to theirs. The bar stays, and the image fills its column."""
     page.load(default)
     page.size(1280, 300)
     page.open("#objects=1,2")
@@ -424,7 +424,7 @@ def texts(page, default, same):
     page.media("", "light")
 
 
-# takes away what Firefox ESR 102 or Chromium 100 lack, of all that a script could call; roles and labels are no properties then
+# takes away what Firefox ESR 102 or Chromium 100 lack, of all that a script could call; roles and labels are not properties then
 OLD = r"""
 for (const name of ["toSorted", "toReversed", "toSpliced", "with", "group", "groupToMap", "fromAsync"]) { delete Array.prototype[name]; delete Array[name]; }
 for (const name of ["findLast", "findLastIndex"]) delete Array.prototype[name];

@@ -1,9 +1,10 @@
-#!/usr/bin/env python3
 """Tries the completion in bash, and in zsh where it is installed: commands, options with their meaning, and files by kind.
 
 usage: python3 -m tests.programs.completion [FOLDER]      of the completion in this folder, or made now by packaging/completion.py
 
 What is wanted is written by hand, or read of the manual: its options.
+
+tier: check, 15 seconds; for: packaging/completion.py man crates/command_words; needs: zsh
 """
 import os
 import pty
@@ -15,9 +16,11 @@ import sys
 import tempfile
 import time
 
+from tests.lib.compare import notices, same
+from tests.lib.files import TOP, read
+from tests.lib.programs import ran
 from tests.programs import terminal
 
-TOP = terminal.TOP
 # zsh loads its completion, which takes a while on a machine with other work
 SECONDS = 60
 # what is typed, and what bash offers; ? before it asks for the list, as two tabs do
@@ -56,27 +59,27 @@ def bash(file, typed):
     """What bash offers after what is typed."""
     words = typed.lstrip("?").split(" ")
     kind = "63" if typed.startswith("?") else "9"
-    ran = subprocess.run(["bash", "-c", ASK, "bash", file, kind, *words], stdout=subprocess.PIPE, stderr=subprocess.STDOUT, check=True, text=True)
-    return [line for line in ran.stdout.split("\n") if line]
+    status, out, err = ran("bash", "-c", ASK, "bash", file, kind, *words).texts("utf-8")
+    same(f"{typed}: status and errors", (status, err), (0, ""))
+    return [line for line in out.split("\n") if line]
 
 
 def options_of(page):
     """The options in the lists of a page of the manual."""
-    with open(f"{TOP}/man/{page}.1", encoding="utf-8") as file:
-        heads = re.findall(r"^\.It (Fl \w\b.*)$", file.read(), re.M)
+    heads = re.findall(r"^\.It (Fl \w\b.*)$", read(f"{TOP}/man/{page}.1"), re.M)
     return {f"-{letter}" for head in heads for letter in re.findall(r"Fl (\w)\b", head)}
 
 
 def check_bash(file):
     count = 0
     for typed, wanted in WANTED:
-        terminal.expect(f"bash: {typed}", sorted(bash(file, typed)), sorted(wanted))
+        same(f"bash: {typed}", sorted(bash(file, typed)), sorted(wanted))
     for command in ("v7 ld", "v7 nm", "v7-explain", "v7-from-gnu", "v7-lesson"):
         offered = bash(file, f"?{command} -")
         wanted = options_of(command.replace(" ", "-")) | BESIDE.get(command, set())
-        terminal.expect(f"bash: {command}", {line.split(" ")[0] for line in offered if not line.startswith("--")}, wanted)
+        same(f"bash: {command}", {line.split(" ")[0] for line in offered if not line.startswith("--")}, wanted)
         terminal.holds(f"bash: {command}: a meaning for each", all(re.fullmatch(r"\S+  \(\w.{8,}\)", line) for line in offered))
-        terminal.expect(f"bash: {command}: without the list", bash(file, f"{command} -"), [line.split(" ")[0] for line in offered])
+        same(f"bash: {command}: without the list", bash(file, f"{command} -"), [line.split(" ")[0] for line in offered])
         count += len(offered)
     return count
 
@@ -108,7 +111,7 @@ def check_zsh(folder):
 
     for typed, wanted in (("v7 ld -", explained(options_of("v7-ld"))), ("v7 ", explained(terminal.TOOLS)), ("v7 ld ma", ["v7 ld main.o"]),
                           ("v7-explain -", explained(options_of("v7-explain") | BESIDE["v7-explain"]))):
-        terminal.expect(f"zsh: {typed}: not shown", zsh(folder, typed, wanted), [])
+        same(f"zsh: {typed}: not shown", zsh(folder, typed, wanted), [])
 
 
 def main(words):
@@ -118,14 +121,13 @@ def main(words):
             subprocess.run([sys.executable, f"{TOP}/packaging/completion.py", folder], check=True)
         shutil.copytree(f"{TOP}/examples", f"{made}/examples")
         os.chdir(f"{made}/examples")
+        notices(same, "v7 help st", bash(f"{folder}/v7.bash", "v7 help st"), ["strip", "planted"])
         count = check_bash(f"{folder}/v7.bash")
         shells = "bash"
         if shutil.which("zsh"):
             check_zsh(folder)
             shells = "bash and zsh"
         os.chdir(TOP)
-    if terminal.failed:
-        sys.exit(f"{len(terminal.failed)} completions differ")
     print(f"completion in {shells}: {len(WANTED)} lines, and {count} options with their meaning")
 
 

@@ -1,7 +1,6 @@
-#!/usr/bin/env python3
 """Shows what v7 is: a session at a terminal, with its answers as they come, and a link of two objects with its bytes.
 
-usage: python3 -m tests.programs.demo V7
+tier: check, 2 seconds; programs: v7; for: examples
 
 The session is examples/session.txt, whose answers have to be those of examples/answers.txt; the program has to be examples/ab.out.
 """
@@ -12,9 +11,10 @@ import subprocess
 import sys
 import tempfile
 
+from tests.lib.files import TOP, read_bytes
+from tests.lib.programs import program
 from tests.programs import terminal
 
-TOP = terminal.TOP
 # the words of the header, as docs/FORMAT.md has them
 HEADER = ["magic number 0407", "bytes of text", "bytes of data", "bytes of bss", "bytes of symbols", "entry point", "not used",
           "1: no relocation"]
@@ -22,17 +22,12 @@ HEADER = ["magic number 0407", "bytes of text", "bytes of data", "bytes of bss",
 CONTENTS = ["mov $6,r0: a.o loads the address of its data,", "which the link has made 6", "rts pc, of b.o", "the word of data"]
 
 
-def read(path):
-    with open(path, "rb") as file:
-        return file.read()
-
-
 def session():
     """Plays the session at a terminal, and returns its answers."""
     print("$ v7 session", flush=True)
     played, answers = terminal.Terminal(["session"]), ""
     played.shown(b"v7> ")
-    for line in read("session.txt").decode().splitlines():
+    for line in read_bytes("session.txt").decode().splitlines():
         played.type(line)
         answer = played.shown(b"v7> ")[:-len("v7> ")]
         print(f"> {line}\n{answer}", end="", flush=True)
@@ -45,7 +40,7 @@ def session():
 def shell(*words):
     """Runs a command as it is typed."""
     print("$ v7 " + " ".join(words), flush=True)
-    return subprocess.run([terminal.V7, *words], check=False).returncode
+    return subprocess.run([program("v7"), *words], check=False).returncode
 
 
 def meanings(program):
@@ -61,18 +56,15 @@ def main():
         shutil.copytree(f"{TOP}/examples", f"{folder}/examples")
         os.mkdir(f"{folder}/build")
         os.chdir(f"{folder}/examples")
-        if session().encode() != read("answers.txt"):
+        if session().encode() != read_bytes("answers.txt"):
             sys.exit("the answers are not those of examples/answers.txt")
         status = shell("ld", "-s", "-o", "program", "a.o", "b.o") or shell("size", "program")
-        program = read("program")
-        meanings(program)
-        if status or program != read("ab.out"):
+        linked = read_bytes("program")
+        meanings(linked)
+        if status or linked != read_bytes("ab.out"):
             sys.exit("the program is not examples/ab.out")
         os.chdir(TOP)
 
 
 if __name__ == "__main__":
-    if len(sys.argv) != 2:
-        sys.exit(__doc__)
-    terminal.V7 = os.path.abspath(sys.argv[1])
     main()

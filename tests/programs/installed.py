@@ -1,9 +1,10 @@
-#!/usr/bin/env python3
 """Looks at what is installed: no link of a document or a page is dead, and lines of prose have at most 100 columns.
 
 usage: python3 -m tests.programs.installed look FOLDER      what is below this folder, or a file
-       python3 -m tests.programs.installed make BUILD       installs the programs of BUILD by packaging/installed.py, as `make install` does, into a new
+       python3 -m tests.programs.installed            installs the programs by packaging/installed.py, as `make install` does, into a new
                                            folder, with the mask 077; looks, calls a program as another user, and uninstalls
+
+tier: check, 10 seconds; programs: v7 v7-explain v7-object v7-from-gnu v7-lesson; for: packaging/installed.py docs man
 
 A file FOO.gz may be in place of FOO, as on Debian.
 """
@@ -16,7 +17,8 @@ import sys
 import tempfile
 
 import installed
-from tests import TOP
+from tests.lib.files import TOP, write
+from tests.lib.programs import BUILD
 
 NOBODY = 65534
 
@@ -82,23 +84,28 @@ def look(folder):
     return faults, len(pages), sum(len(links_of(path)) for path in pages)
 
 
-def make(build):
+def make():
     """Installs, looks and uninstalls. The faults."""
     os.umask(0o077)
     script = f"{TOP}/packaging/installed.py"
     with tempfile.TemporaryDirectory() as room:
         os.chmod(room, 0o755)
         stage, dest = f"{room}/stage", f"{room}/dest"
-        subprocess.run([sys.executable, script, "put", build, f"{stage}/usr/local"], check=True)
+        subprocess.run([sys.executable, script, "put", BUILD, f"{stage}/usr/local"], check=True)
         subprocess.run([sys.executable, script, "copy", stage, dest, "/usr/local"], check=True)
         root = f"{dest}/usr/local"
         faults, pages, links = look(root)
+        version = re.search(r'^#define V7_VERSION "(.*)"', installed.read(f"{TOP}/include/v7.h"), re.M)[1]
+        write(f"{root}/planted.md", "[a link](none.md)\n")
+        faults += [] if look(f"{root}/planted.md")[0] else ["a planted link that is dead is not found"]
+        os.remove(f"{root}/planted.md")
         closed = [path for path in glob.glob(f"{root}/**", recursive=True) if not os.stat(path).st_mode & 0o004]
         faults += [f"others cannot read {path}" for path in closed]
         for program in installed.PROGRAMS.values():
             how = {"user": NOBODY, "group": NOBODY, "extra_groups": []} if os.getuid() == 0 else {}
             ran = subprocess.run([f"{root}/bin/{program}", "--version"], stdout=subprocess.PIPE, stderr=subprocess.STDOUT, check=False, text=True, **how)
-            faults += [] if ran.returncode == 0 or program == "v7" and ran.stdout == "v7: usage\n" else [f"{program}: {ran.stdout}"]
+            wanted = "v7: usage\n" if program == "v7" else f"{program} {version}\n"
+            faults += [] if ran.stdout == wanted else [f"{program}: {ran.stdout}"]
         there = {os.path.relpath(path, root) for path in glob.glob(f"{root}/**", recursive=True)}
         has_html = installed.has_tools()
         for wanted in ("share/doc/v7/lesson.html", "share/doc/v7/docs/TUTORIAL.html", "share/doc/v7/man/v7.1.html", "share/man/man1/v7-ld.1",
@@ -111,9 +118,9 @@ def make(build):
 
 
 def main(words):
-    if len(words) != 2 or words[0] not in ("look", "make"):
+    if words and (len(words) != 2 or words[0] != "look"):
         sys.exit(__doc__)
-    faults, pages, links = look(words[1]) if words[0] == "look" else make(words[1])
+    faults, pages, links = look(words[1]) if words else make()
     print("\n".join(faults) or f"what is installed: {pages} documents and pages with {links} links, none of them dead")
     return 1 if faults else 0
 

@@ -1,28 +1,28 @@
-#!/usr/bin/env python3
 """Calls each program with the largest input of each kind, and expects an answer. tests/libv7/largest_library.py does so for libv7.
 
 A contract cannot say that memory is found, so a body that answers `no memory` from some size on is proved. Here it fails. What is
 expected is computed from the inputs: links, lists and sessions by tests/oracles/model.py, instructions by tests/oracles/disassembly.py, notes by
 tests/oracles/notes.py, and the rest below.
 
-usage: largest.py FOLDER [ROW ..]      with the programs v7, v7-explain, v7-object, v7-from-gnu and v7-lesson in the folder. All rows
-                                       of the table are tried, or these: 'v7-explain -m, objects'
+usage: python3 -m tests.programs.largest [ROW ..]      all rows of the table, or these: 'v7-explain -m, objects'
+tier: check, 90 seconds; programs: v7 v7-explain v7-object v7-from-gnu v7-lesson; for: crates/suspicions crates/link_maps crates/map_texts
 """
 import itertools
 import multiprocessing
 import os
 import re
 import struct
-import subprocess
 import sys
-import tempfile
 
+from tests.lib.compare import Differs, notices, same
+from tests.lib.files import read_bytes, room, write
+from tests.lib.gnu_form import gnu_named
+from tests.lib.programs import program, ran
 from tests.oracles import agree
 from tests.oracles import map as maps
 from tests.oracles import model
 from tests.oracles import notes
 from tests.oracles.disassembly import NOP, File, in_listing
-from tests.lib.gnu_form import gnu_named
 
 WORDS = model.SEGMENT_LIMIT // 2
 SYMBOLS, NAMES, NUMBERS = model.SYMBOLS_LIMIT, model.NAMES_LIMIT, model.NUMBER_LIMIT + 1
@@ -109,37 +109,15 @@ def merged(files):
 
 # --- what is found
 
-class Unlike(Exception):
-    """What an answer should be."""
-
-
-def check(what, found, wanted):
-    if found != wanted:
-        raise Unlike(f"{what}: {str(found)[:200]} and not {str(wanted)[:200]}")
-
-
-def check_lines(what, found, wanted):
-    for number, (one, other) in enumerate(zip(found, wanted), 1):
-        check(f"{what}, line {number}", one, other)
-    check(f"{what}, lines", len(found), len(wanted))
-
-
-def answer(program, *words):
+def answer(name, *words):
     """The status of a program, and its outputs."""
-    done = subprocess.run([os.path.join(FOLDER, program), *words], capture_output=True, timeout=SECONDS, check=False)
-    return done.returncode, done.stdout.decode("latin-1"), done.stderr.decode("latin-1")
+    return ran(program(name), *words, seconds=SECONDS).texts()
 
 
 def written(files):
     for path, data in files.items():
-        with open(path, "wb") as file:
-            file.write(data)
+        write(path, data)
     return list(files)
-
-
-def read(path):
-    with open(path, "rb") as file:
-        return file.read()
 
 
 # --- v7
@@ -165,9 +143,9 @@ def longest(word, path):
 
 def played(files, done):
     """Each command does what the model does."""
-    difference = agree.compare(os.path.join(FOLDER, "v7"), agree.Case(files, done))[2]
+    difference = agree.compare(program("v7"), agree.Case(files, done))[2]
     if difference:
-        raise Unlike(f"{' '.join(difference[1][:3])}: {'; '.join(difference[0])}")
+        raise Differs(f"{' '.join(difference[1][:3])}: {'; '.join(difference[0])}")
 
 
 def by_v7(kind):
@@ -187,8 +165,8 @@ def check_notes(data, status, text):
     """The notes of a listing, and the status that they lead to."""
     wanted, _ = notes.notes_of(data)
     found = re.findall(r"^/ ((?:wrong: |odd: |an? ).*)$", text, re.M)
-    check_lines("notes", found, wanted)
-    check("status", status, int(any(note.startswith("wrong") for note in wanted)))
+    same("notes", found, wanted)
+    same("status", status, int(any(note.startswith("wrong") for note in wanted)))
 
 
 def listed(kind):
@@ -196,28 +174,27 @@ def listed(kind):
     (file,), (data,) = KINDS[kind], encoded(kind).values()
     paths = written(encoded(kind))
     status, text, errors = answer("v7-explain", *paths)
-    check("errors", errors, "")
+    same("errors", errors, "")
     check_notes(data, status, text)
     lines = [line for line in text.split("\n") if not line.startswith("/")]
-    check_lines("text", lines[lines.index("text") + 1:lines.index("data")], file.listing())
-    with open("listing", "w", encoding="ascii") as listing:
-        listing.write(text)
-    check("v7-object", answer("v7-object", "listing", "again"), (0, "", ""))
-    check("the file again", read("again"), data)
+    same("text", lines[lines.index("text") + 1:lines.index("data")], file.listing())
+    write("listing", text)
+    same("v7-object", answer("v7-object", "listing", "again"), (0, "", ""))
+    same("the file again", read_bytes("again"), data)
     if status == 0:
-        check("-o", answer("v7-explain", "-o", "stored", *paths), (0, "", ""))
-        check("the listing that is stored", read("stored").decode("ascii"), text)
+        same("-o", answer("v7-explain", "-o", "stored", *paths), (0, "", ""))
+        same("the listing that is stored", read_bytes("stored").decode("ascii"), text)
 
 
 def listed_together(kind):
     """Each file has its listing."""
     status, text, errors = answer("v7-explain", *written(encoded(kind)))
-    check("status", (status, errors), (0, ""))
-    check("titles", re.findall(r"^/ (\d+\.o): 0", text, re.M), list(encoded(kind)))
+    same("status", (status, errors), (0, ""))
+    same("titles", re.findall(r"^/ (\d+\.o): 0", text, re.M), list(encoded(kind)))
     words = sum(len(file.words) for file in KINDS[kind])
-    check("words", len(re.findall(r"^[0-7]{6}  [0-7]{6}  ", text, re.M)), words)
+    same("words", len(re.findall(r"^[0-7]{6}  [0-7]{6}  ", text, re.M)), words)
     symbols = sum(len(file.symbols) for file in KINDS[kind])
-    check("symbols", len(re.findall(r"^[0-7]+ +\S+ +[0-7]+  [0-7]{6}  [A-Za-z]$", text, re.M)), symbols)
+    same("symbols", len(re.findall(r"^[0-7]+ +\S+ +[0-7]+  [0-7]{6}  [A-Za-z]$", text, re.M)), symbols)
 
 
 # what is not an a.out file, and what its note has
@@ -233,14 +210,14 @@ def recognized(kind):
     """A file that is damaged as an a.out file, and what it is."""
     data, note = OTHER_FILES[kind]
     status, text, errors = answer("v7-explain", *written({"file": data}))
-    check("answer", (status, errors, "\n/ wrong: " in text, note in text), (1, "", True, True))
+    same("answer", (status, errors, "\n/ wrong: " in text, note in text), (1, "", True, True))
 
 
 def checked(kind):
     """What v7 ld says of each file, or nothing."""
     files = encoded(kind)
     refused = [f"v7-explain: {path}: {text}\n" for path, data in files.items() for text in notes.notes_of(data)[1]]
-    check("answer", answer("v7-explain", "-c", *written(files)), (int(bool(refused)), "", "".join(refused)))
+    same("answer", answer("v7-explain", "-c", *written(files)), (int(bool(refused)), "", "".join(refused)))
 
 
 def shown(kind):
@@ -248,12 +225,12 @@ def shown(kind):
     files = written(encoded(kind))
     for option, knows_calls in (("-p", False), ("-d", True)):
         status, text, errors = answer("v7-explain", option, *files)
-        check("errors", errors, "")
+        same("errors", errors, "")
         lines = [line for line in text.split("\n")[:-1] if not line.startswith("/")]
         for file in KINDS[kind]:
             file.knows_calls = knows_calls
-        check_lines("instructions", lines, [line for file in KINDS[kind] for line in file.disassembly()])
-        check("status", status, int(kind.startswith("bad")))
+        same("instructions", lines, [line for file in KINDS[kind] for line in file.disassembly()])
+        same("status", status, int(kind.startswith("bad")))
 
 
 def rows(words, start, letter):
@@ -291,17 +268,17 @@ def shown_in_rows(kind):
     files = encoded(kind)
     for letter in "sx":
         status, text, errors = answer("v7-explain", f"-{letter}", *written(files))
-        check("errors", errors, "")
+        same("errors", errors, "")
         lines = [line for line in text.split("\n")[:-1] if not re.match(r"/ (\d+\.o: 0|an? |wrong: )", line)]
-        check_lines(f"rows of -{letter}", lines, [line for data in files.values() for line in dumped(data, letter)])
-        check("status", status, int(kind.startswith("bad")))
+        same(f"rows of -{letter}", lines, [line for data in files.values() for line in dumped(data, letter)])
+        same("status", status, int(kind.startswith("bad")))
 
 
 def inventoried(kind):
     """A line for each file."""
     files = encoded(kind)
     lines = [notes.inventory_of(path, data) + "\n" for path, data in files.items()]
-    check("answer", answer("v7-explain", "-l", *written(files)), (0, "".join(lines), ""))
+    same("answer", answer("v7-explain", "-l", *written(files)), (0, "".join(lines), ""))
 
 
 def linked(files, letters):
@@ -320,21 +297,21 @@ def mapped(kind):
     for letters in "", "r", "i", "s":
         status, text, errors = answer("v7-explain", "-m", *(f"-{letter}" for letter in letters), *paths)
         link, fault = linked(files.values(), letters)
-        check(f"-m {letters}", (status, errors), (int(link is None or bool(link.report)), ""))
+        same(f"-m {letters}", (status, errors), (int(link is None or bool(link.report)), ""))
         found = maps.parts(text)
         said = f"refused, {fault}" if fault else f"made, with {'something' if link.report else 'nothing'} to report"
-        check(f"-m {letters}", found[""][0], f"Link of {len(files)} object{'s' if len(files) > 1 else ''}: {said}")
-        check(f"-m {letters}, objects", [line.split()[-1] for line in found["Objects"][1:]], paths)
+        same(f"-m {letters}", found[""][0], f"Link of {len(files)} object{'s' if len(files) > 1 else ''}: {said}")
+        same(f"-m {letters}, objects", [line.split()[-1] for line in found["Objects"][1:]], paths)
         names = maps.names_in(found.get("Externals", []))
-        check(f"-m {letters}, externals", list(names), [in_listing(name) for name in sorted(together.externals)])
+        same(f"-m {letters}, externals", list(names), [in_listing(name) for name in sorted(together.externals)])
         words = sum(len(lines) for _, _, places in names.values() for lines in places.values())
-        check(f"-m {letters}, words", words, places)
+        same(f"-m {letters}, words", words, places)
     asked = sorted(name for name in together.externals if name.isascii())[::4]
     status, text, errors = answer("v7-explain", "-m", *(word for name in [b"_absent", *asked] for word in ("-y", name)), *paths)
-    check("-m -y", (status, errors), (1, ""))
+    same("-m -y", (status, errors), (1, ""))
     lines = maps.parts(text)["Externals"]
-    check("-m -y, an absent name", lines[-1], "  _absent: not mentioned")
-    check("-m -y, externals", list(maps.names_in(lines[:-1])), [in_listing(name) for name in asked])
+    same("-m -y, an absent name", lines[-1], "  _absent: not mentioned")
+    same("-m -y, externals", list(maps.names_in(lines[:-1])), [in_listing(name) for name in asked])
 
 
 def object_made(kind):
@@ -350,8 +327,8 @@ def object_made(kind):
     for number, (name, of, value) in enumerate(file.symbols):
         lines.append(f"{number:o} {in_listing(name)} {of:o} {value:o}")
     written({"listing": "\n".join(lines).encode()})
-    check("answer", answer("v7-object", "listing", "made"), (0, "", ""))
-    check("the file", read("made"), data)
+    same("answer", answer("v7-object", "listing", "made"), (0, "", ""))
+    same("the file", read_bytes("made"), data)
 
 
 # --- v7-lesson
@@ -361,18 +338,18 @@ def taught(kind):
     files = encoded(kind)
     together, paths = merged(files.values()), written(files)
     status, text, errors = answer("v7-lesson", "-n", str(len(paths)), *paths)
-    check("status", (status, errors), (0, ""))
+    same("status", (status, errors), (0, ""))
     lines = text.split("\n")[:-1]
-    check("title", lines[0], f"add {paths[-1]}")
+    same("title", lines[0], f"add {paths[-1]}")
     for segment, words in (("text", [file.words for file in KINDS[kind]]), ("data", [file.data for file in KINDS[kind]])):
         found = [line.split()[1] for line in lines if line.startswith(f"  {segment} ")]
-        check_lines(segment, found, [f"{2 * place:06o}" for place in range(sum(map(len, words)))])
+        same(segment, found, [f"{2 * place:06o}" for place in range(sum(map(len, words)))])
     names = re.findall(r"^  name (\S+): (?!multiply)", text, re.M)
-    check_lines("names", names, [*map(in_listing, together.externals)])
-    check("multiples", len(re.findall("^  name .*: multiply defined$", text, re.M)), len(together.multiples))
-    check("marks", len(re.findall("^  mark ", text, re.M)), MARKS.get(kind, 0))
+    same("names", names, [*map(in_listing, together.externals)])
+    same("multiples", len(re.findall("^  name .*: multiply defined$", text, re.M)), len(together.multiples))
+    same("marks", len(re.findall("^  mark ", text, re.M)), MARKS.get(kind, 0))
     last = str(2 * len(paths))
-    check("the end", answer("v7-lesson", "-n", last, *paths), (0, f"withdraw {paths[0]}\n  nothing\n", ""))
+    same("the end", answer("v7-lesson", "-n", last, *paths), (0, f"withdraw {paths[0]}\n  nothing\n", ""))
 
 
 # --- v7-from-gnu
@@ -408,8 +385,8 @@ def converted(kind):
     """The object of GNU's form becomes that of the Seventh Edition."""
     data, told, made = to_convert(kind)
     written({"in": data})
-    check("answer", answer("v7-from-gnu", "-SX", "in", "out"), (0, "", told))
-    check("the object", read("out"), made)
+    same("answer", answer("v7-from-gnu", "-SX", "in", "out"), (0, "", told))
+    same("the object", read_bytes("out"), made)
 
 
 # files that are converted together: many, and those that have the names of a session
@@ -424,9 +401,9 @@ def converted_together(kind):
     files = {f"{place}.o": rows for place, rows in enumerate(GNU_LISTS[kind])}
     written({path: gnu_named([NOP], [0], rows) for path, rows in files.items()})
     os.mkdir("out")
-    check("answer", answer("v7-from-gnu", "-q", "-o", "out", *files), (0, "", ""))
+    same("answer", answer("v7-from-gnu", "-q", "-o", "out", *files), (0, "", ""))
     for path, rows in files.items():
-        check(path, read(f"out/{path}"), agree.pack([(NOP, 0)], symbols=cut(rows)))
+        same(path, read_bytes(f"out/{path}"), agree.pack([(NOP, 0)], symbols=cut(rows)))
 
 
 # --- the table
@@ -452,19 +429,17 @@ TABLE = [
 def fault_of(row):
     """What is wrong with the answer to a kind of input, in a folder of its own."""
     name, call, kind = row
-    with tempfile.TemporaryDirectory() as folder:
-        os.chdir(folder)
+    with room():
         try:
             call(kind)
-        except Exception as unlike:  # also what a script cannot read of a wrong answer
+        except (Exception, SystemExit) as unlike:  # also what a script cannot read of a wrong answer
             return f"{name}, {kind}: {str(unlike) or repr(unlike)}"
-        finally:
-            os.chdir("/")
     return None
 
 
 def main(what, table, wanted=()):
     """Tries all rows, or those that are wanted, and prints what is wrong; whether there is something."""
+    notices(lambda: same("planted", fault_of(("planted", lambda kind: same(kind, [kind], []), "nothing")), None))
     rows = [(name, call, kind) for name, call, kinds in table for kind in kinds if not wanted or f"{name}, {kind}" in wanted]
     with multiprocessing.Pool() as pool:
         faults = [fault for fault in pool.imap(fault_of, rows, chunksize=1) if fault]
@@ -473,5 +448,4 @@ def main(what, table, wanted=()):
 
 
 if __name__ == "__main__":
-    FOLDER = os.path.abspath(sys.argv[1])
-    sys.exit(main("programs", TABLE, sys.argv[2:]))
+    sys.exit(main("programs", TABLE, sys.argv[1:]))

@@ -6,6 +6,8 @@
 # shell, so that each sees what those before it left. Commands that need a program which is not installed are counted.
 #
 # usage: tests/programs/manual.sh [FILE...]       the programs have to be in build
+#
+# tier: check, 30 seconds; programs: v7 v7-explain v7-object v7-from-gnu v7-lesson; for: man docs examples README.md; needs: groff man pdp11
 set -u
 cd "$(dirname "$0")/../.."
 top=$PWD
@@ -39,7 +41,7 @@ blocks() {
     esac
 }
 
-# for each command a file N.typed, N.input and N.shown in the room
+# for each command a file N.typed, N.input and N.shown in the new folder
 commands() {
     rm -f "$room"/*.typed "$room"/*.input "$room"/*.shown
     blocks "$1" | awk -v room="$room" '
@@ -49,6 +51,11 @@ commands() {
         n == 0 || /^$/ { next }
         /^> / { print substr($0, 3) >name("input"); next }
         { print >name("shown") }'
+}
+
+# whether what came is not what is shown
+differs() {
+    ! diff "$1" "$2"
 }
 
 # runs them in a copy of examples
@@ -74,7 +81,7 @@ run() {
         eval "$line" <"$part.input" >"$part.came" 2>&1
         status=$?
         ran=$((ran + 1))
-        if ! diff "$part.shown" "$part.came" >"$part.diff"; then
+        if differs "$part.shown" "$part.came" >"$part.diff"; then
             echo "$1: $line"
             cat "$part.diff"
             failed=1
@@ -92,6 +99,8 @@ formats() {
 
 failed=0
 count=0
+echo planted >"$room/planted"
+differs "$room/planted" /dev/null >/dev/null || { echo "a planted difference is not reported"; exit 1; }
 skipped=0
 for page in man/*.[1-9]; do
     [ ! -e "$page" ] || formats "$page"

@@ -1,8 +1,7 @@
-#!/usr/bin/env python3
 """Refuses one request for memory after another to each program, and judges what comes of it. tests/libv7/memory_library.py does so for libv7.
 
-usage: python3 -m tests.programs.memory FOLDER [CALL ..]      with the programs v7, v7-explain, v7-object, v7-from-gnu and v7-lesson, and libv7.so, in
-                                             the folder. All calls of the table are tried, or these: 'v7 nm'
+usage: python3 -m tests.programs.memory [CALL ..]      all calls of the table, or these: 'v7 nm'; libv7.so is beside the programs
+tier: check, 240 seconds; programs: v7 v7-explain v7-object v7-from-gnu v7-lesson libv7.so; for: crates/surroundings
 
 A call is run as it is, and then with its first request refused, with its second, and so on, until a run makes fewer requests. For each
 call a line has their number, and how many of the runs came out as if nothing had been refused. In any other run the answer has to be
@@ -22,19 +21,17 @@ import tempfile
 import time
 from dataclasses import dataclass, field
 
-from tests import TOP
 from tests.cases.case_files import sample
 from tests.cases.cases import snapshot
+from tests.lib.compare import Differs, notices, same
+from tests.lib.files import TOP, read_bytes, write
+from tests.lib.programs import BUILD, program
 from tests.lib.watching import Watch, compiled
 
 SECONDS = 60
 NO_MEMORY = b"no memory\n"
 # the line of the fault, of a program that says where it was
 FAULTS = {"v7-lesson": r"v7-lesson: (.+: )?no memory\n"}
-
-
-class Wrong(Exception):
-    """What is wrong in a run."""
 
 
 @dataclass
@@ -61,8 +58,7 @@ class Ran:
 # --- the calls
 
 def example(name):
-    with open(os.path.join(TOP, "examples", name), "rb") as file:
-        return file.read()
+    return read_bytes(os.path.join(TOP, "examples", name))
 
 
 def examples(*names):
@@ -112,8 +108,8 @@ def calls():
 class Player:
     """Runs the commands of a call in a folder that has its files before each run."""
 
-    def __init__(self, programs, folder, call):
-        self.program = os.path.join(programs, call.words[0])
+    def __init__(self, folder, call):
+        self.program = program(call.words[0])
         self.folder, self.call = folder, call
         self.there = {}
 
@@ -123,10 +119,7 @@ class Player:
             os.remove(os.path.join(os.fsencode(self.folder), path))
         for path, data in self.call.files.items():
             if self.there.get(path) != data:
-                place = os.path.join(os.fsencode(self.folder), path)
-                os.makedirs(os.path.dirname(place), exist_ok=True)
-                with open(place, "wb") as file:
-                    file.write(data)
+                write(os.path.join(self.folder, os.fsdecode(path)), data)
 
     def run(self, script=None, number=0):
         """What comes of a run that reads this script, or that of the call, and has the request of this number refused."""
@@ -142,15 +135,10 @@ class Player:
 
 # --- what is right
 
-def expect(what, wanted, came):
-    if wanted != came:
-        raise Wrong(f"{what}: {came!r} in place of {wanted!r}"[:400])
-
-
 def expect_files(wanted, came):
     others = sorted(path for path in wanted.keys() | came.keys() if wanted.get(path) != came.get(path))
     if others:
-        raise Wrong(f"files that are other than wanted, or not wanted: {os.fsdecode(b' '.join(others))}")
+        raise Differs(f"files that are other than wanted, or not wanted: {os.fsdecode(b' '.join(others))}")
 
 
 class Command:
@@ -160,16 +148,16 @@ class Command:
         self.player, self.call = player, player.call
         self.whole = player.run()
         if self.whole.status > 1 or self.whole.was_refused:
-            raise Wrong(f"status {self.whole.status} although nothing is refused: {self.whole.error!r}")
+            raise Differs(f"status {self.whole.status} although nothing is refused: {self.whole.error!r}")
         self.beginnings = [found.start() for found in re.finditer(self.call.begins, self.whole.output)]
 
     def place(self, ran):
         """Judges a run in which a request was refused: how far it went."""
-        expect("status", 2, ran.status)
+        same("status", ran.status, 2)
         if not re.fullmatch(FAULTS.get(self.call.words[0], rf"{self.call.words[0]}: no memory\n"), os.fsdecode(ran.error)):
-            raise Wrong(f"standard error: {ran.error!r}")
+            raise Differs(f"standard error: {ran.error!r}")
         if not self.whole.output.startswith(ran.output) or len(ran.output) not in self.beginnings:
-            raise Wrong(f"standard output has a part of an answer: {ran.output[-80:]!r}")
+            raise Differs(f"standard output has a part of an answer: {ran.output[-80:]!r}")
         expect_files(self.call.files, ran.files)
         return len(ran.output)
 
@@ -191,12 +179,12 @@ class Session(Command):
     def place(self, ran):
         if ran.status == 1 and ran.output in self.refused:
             number, files = self.refused[ran.output]
-            expect("standard error", b"", ran.error)
+            same("standard error", ran.error, b"")
         elif ran.output in self.ended:
             number, files = self.ended[ran.output]
-            expect("status and standard error", (2, b"v7: " + NO_MEMORY), (ran.status, ran.error))
+            same("status and standard error", (ran.status, ran.error), (2, b"v7: " + NO_MEMORY))
         else:
-            raise Wrong(f"status {ran.status}, and answers as of no session without a line: {ran.output!r}")
+            raise Differs(f"status {ran.status}, and answers as of no session without a line: {ran.output!r}")
         expect_files(files, ran.files)
         return number
 
@@ -204,51 +192,51 @@ class Session(Command):
 def refuse_all(player):
     """Refuses one request after another: how many there are, how many runs came out as the first, and what was wrong in others."""
     judge = (Session if player.call.script else Command)(player)
-    number, same, last, faults = 1, 0, None, []
+    if not player.call.script:
+        notices(judge.place, judge.whole)
+    number, alike, last, faults = 1, 0, None, []
     while (ran := player.run(number=number)).was_refused:
         try:
             if (ran.status, ran.output, ran.error, ran.files) == (judge.whole.status, judge.whole.output, judge.whole.error, judge.whole.files):
-                same += 1
+                alike += 1
             else:
                 place = judge.place(ran)
                 if last is not None and place < last:
-                    raise Wrong(f"the place {place} comes before {last}")
+                    raise Differs(f"the place {place} comes before {last}")
                 last = place
-        except Wrong as wrong:
+        except Differs as wrong:
             faults.append(f"request {number}: {wrong}")
         number += 1
     if number == 1 or last is None:
         faults.append("no request was refused")
-    return number - 1, same, faults
+    return number - 1, alike, faults
 
 
-def try_call(programs, call):
+def try_call(call):
     """Prints a line for a call, and what is wrong: how much that is."""
     begun = time.monotonic()
     with tempfile.TemporaryDirectory() as folder:
         try:
-            requests, same, faults = refuse_all(Player(programs, folder, call))
-        except Wrong as wrong:
-            requests, same, faults = 0, 0, [str(wrong)]
-    print(f"{call.name}: {requests} requests" + (f", {same} of them not needed" if same else "") + f", {time.monotonic() - begun:.0f} s")
+            requests, alike, faults = refuse_all(Player(folder, call))
+        except Differs as wrong:
+            requests, alike, faults = 0, 0, [str(wrong)]
+    print(f"{call.name}: {requests} requests" + (f", {alike} of them not needed" if alike else "") + f", {time.monotonic() - begun:.0f} s")
     for fault in faults[:10]:
         print(f"  {fault}")
     print(f"  {len(faults) - 10} faults more\n" if len(faults) > 10 else "", end="", flush=True)
     return len(faults)
 
 
-def try_library(programs):
+def try_library():
     """Has tests/libv7/memory_library.py refuse the requests of libv7: how much is wrong."""
-    environment = {**os.environ, "LD_PRELOAD": compiled(), "LIBV7": os.path.join(programs, "libv7.so"),
-                   "PYTHONPATH": os.path.join(TOP, "packaging", "python")}
+    environment = {**os.environ, "LD_PRELOAD": compiled(), "LIBV7": os.path.join(BUILD, "libv7.so")}
     return subprocess.run([sys.executable, "-m", "tests.libv7.memory_library", compiled()], env=environment, check=False).returncode
 
 
-def main(programs, *names):
-    programs = os.path.abspath(programs)
-    faults = sum(try_call(programs, call) for call in calls() if not names or call.name in names)
+def main(*names):
+    faults = sum(try_call(call) for call in calls() if not names or call.name in names)
     if not names or "libv7" in names:
-        faults += try_library(programs)
+        faults += try_library()
     print(f"requests for memory refused one after another: {faults or 'no'} faults")
     return 1 if faults else 0
 

@@ -1,23 +1,21 @@
-#!/usr/bin/env python3
 """Compares the statuses and the lines of v7-from-gnu, for each reason to refuse an object, and those of v7-lesson, for each step.
 
-usage: statuses.py V7_FROM_GNU LESSON
-
 The object in GNU's form is made here; one byte of it at a time is changed. v7-from-gnu(1) lists the reasons.
+
+tier: check, 5 seconds; programs: v7-from-gnu v7-lesson; for: crates/gnu_objects crates/v7_from_gnu crates/v7_lesson man/v7-from-gnu.1
 """
 import os
 import re
 import struct
-import subprocess
-import sys
-import tempfile
 
-from tests import TOP
+from tests.lib.compare import notices, same
+from tests.lib.files import TOP, read, room, write
+from tests.lib.programs import program, ran
 from tests.lib.gnu_form import gnu_named, gnu_object, symbol
 
 EXAMPLES = os.path.join(TOP, "examples")
 
-FROM_GNU, LESSON = (os.path.abspath(path) for path in sys.argv[1:3])
+FROM_GNU, LESSON = program("v7-from-gnu"), program("v7-lesson")
 
 
 def v7_named(words, relocation, rows):
@@ -62,39 +60,29 @@ CHANGES = [
     (18, 0o31, [], "byte 022 (18): bad symbol number at word 0"),
 ]
 USAGE = "usage: v7-from-gnu [-SXxq] IN OUT\n       v7-from-gnu [-SXxq] -o FOLDER FILE...\n       v7-from-gnu --help | --version\n"
-failed = []
 
 
 def run(*words):
     """Status, standard output and standard error of a command."""
-    done = subprocess.run(words, capture_output=True, text=True, check=False)
-    return done.returncode, done.stdout, done.stderr
-
-
-def expect(what, found, wanted):
-    if found != wanted:
-        print(f"{what}: {found} and not {wanted}")
-        failed.append(what)
+    return ran(*words).texts("utf-8")
 
 
 def converts(what, data, options, line):
     """The bytes are refused with this line and nothing is written, or without a line they are converted."""
-    with open("in.gnu", "wb") as file:
-        file.write(data)
+    write("in.gnu", data)
     wanted = (1, "", f"v7-from-gnu: in.gnu: {line}\n") if line else (0, "", "")
-    expect(what, run(FROM_GNU, *options, "in.gnu", "out.o"), wanted)
-    expect(f"{what}: written", os.path.exists("out.o"), not line)
+    same(what, run(FROM_GNU, *options, "in.gnu", "out.o"), wanted)
+    same(f"{what}: written", os.path.exists("out.o"), not line)
     if os.path.exists("out.o"):
         os.remove("out.o")
 
 
 def becomes(what, data, options, told, wanted):
     """The bytes are converted to these, with these lines on standard error."""
-    with open("in.gnu", "wb") as file:
-        file.write(data)
-    expect(what, run(FROM_GNU, *options, "in.gnu", "out.o"), (0, "", told))
+    write("in.gnu", data)
+    same(what, run(FROM_GNU, *options, "in.gnu", "out.o"), (0, "", told))
     with open("out.o", "rb") as file:
-        expect(f"{what}: written", file.read(), wanted)
+        same(f"{what}: written", file.read(), wanted)
     os.remove("out.o")
 
 
@@ -138,24 +126,23 @@ def check_folder():
     for folder in "one", "two", "to":
         os.mkdir(folder)
     for path, data in (("one/a.o", COMPILED), ("one/b.o", OTHER), ("two/a.o", GOOD), ("two/c.o", GOOD)):
-        with open(path, "wb") as file:
-            file.write(data)
+        write(path, data)
     line = "v7-from-gnu: one/b.o: ___udivmodsi4 is equal in eight bytes to ___udivmodhi4 of one/a.o\n"
-    expect("two names alike", run(FROM_GNU, "-o", "to", "one/a.o", "one/b.o"), (1, "", line))
-    expect("a file between them", run(FROM_GNU, "-o", "to", "one/a.o", "two/c.o", "one/b.o"), (1, "", line))
+    same("two names alike", run(FROM_GNU, "-o", "to", "one/a.o", "one/b.o"), (1, "", line))
+    same("a file between them", run(FROM_GNU, "-o", "to", "one/a.o", "two/c.o", "one/b.o"), (1, "", line))
     line = "v7-from-gnu: two/a.o: a second file of this name\n"
-    expect("two files of one name", run(FROM_GNU, "-o", "to", "one/a.o", "two/c.o", "two/a.o"), (2, "", line))
+    same("two files of one name", run(FROM_GNU, "-o", "to", "one/a.o", "two/c.o", "two/a.o"), (2, "", line))
     line = "v7-from-gnu: missing.o: cannot open\n"
-    expect("a file that is missing", run(FROM_GNU, "-o", "to", "two/a.o", "missing.o"), (2, "", line))
-    expect("nothing is written", os.listdir("to"), [])
+    same("a file that is missing", run(FROM_GNU, "-o", "to", "two/a.o", "missing.o"), (2, "", line))
+    same("nothing is written", os.listdir("to"), [])
     line = "v7-from-gnu: one/b.o: ___udivmodsi4 is cut to ___udivm\n"
-    expect("two files", run(FROM_GNU, "-xo", "to", "two/a.o", "one/b.o"), (0, "", line))
-    expect("both are written", sorted(os.listdir("to")), ["a.o", "b.o"])
+    same("two files", run(FROM_GNU, "-xo", "to", "two/a.o", "one/b.o"), (0, "", line))
+    same("both are written", sorted(os.listdir("to")), ["a.o", "b.o"])
     with open("to/b.o", "rb") as file:
-        expect("the second file", file.read(), v7_named([0o207], [0], [(b"___udivmodsi4", 0o42, 0)]))
-    expect("no such folder", run(FROM_GNU, "-q", "-o", "no", "two/a.o"), (2, "", "v7-from-gnu: no/a.o: cannot create\n"))
+        same("the second file", file.read(), v7_named([0o207], [0], [(b"___udivmodsi4", 0o42, 0)]))
+    same("no such folder", run(FROM_GNU, "-q", "-o", "no", "two/a.o"), (2, "", "v7-from-gnu: no/a.o: cannot create\n"))
     for words in ["-o"], ["-o", "to"], ["-oo", "to", "two/a.o"], ["-ox", "to", "two/a.o"], ["-"], ["-", "out.o"], ["-y", "in.gnu", "out.o"]:
-        expect(f"{words}", run(FROM_GNU, *words), (2, "", USAGE))
+        same(f"{words}", run(FROM_GNU, *words), (2, "", USAGE))
     return 13
 
 
@@ -163,8 +150,7 @@ def check_order():
     """Paths are compared, then all files are read, then converted, and then their names are compared: the first fault of the first of these
     steps is reported. Returns how many commands were tried."""
     os.mkdir("three")
-    with open("three/c.o", "wb") as file:
-        file.write(OTHER)
+    write("three/c.o", OTHER)
     alike = "___udivmodsi4 is equal in eight bytes to ___udivmodhi4 of one/a.o"
     rows = [
         (("one/a.o", "two/c.o", "three/c.o"), 2, "three/c.o: a second file of this name"),
@@ -174,7 +160,7 @@ def check_order():
         (("one/a.o", "one/b.o", "three/c.o"), 1, f"one/b.o: {alike}"),
     ]
     for paths, status, line in rows:
-        expect(f"{paths}", run(FROM_GNU, "-q", "-o", "to", *paths), (status, "", f"v7-from-gnu: {line}\n"))
+        same(f"{paths}", run(FROM_GNU, "-q", "-o", "to", *paths), (status, "", f"v7-from-gnu: {line}\n"))
     return len(rows)
 
 
@@ -191,12 +177,11 @@ def check_refusals():
     converts("the most symbols", gnu_object([], [], many, b"_f\0"), [], "")
     line = "byte 010 (8): 5462 symbols stay, and a table has 5461 at most"
     converts("a symbol too many", gnu_object([], [], many + many[:1], b"_f\0"), [], line)
-    expect("no file", run(FROM_GNU, "missing", "out.o"), (2, "", "v7-from-gnu: missing: cannot open\n"))
-    expect("no folder", run(FROM_GNU, "in.gnu", "out.o")[0], 1)
-    with open("good.gnu", "wb") as file:
-        file.write(GOOD)
-    expect("no folder", run(FROM_GNU, "good.gnu", "missing/out.o"), (2, "", "v7-from-gnu: missing/out.o: cannot create\n"))
-    expect("a word", run(FROM_GNU, "good.gnu"), (2, "", USAGE))
+    same("no file", run(FROM_GNU, "missing", "out.o"), (2, "", "v7-from-gnu: missing: cannot open\n"))
+    same("no folder", run(FROM_GNU, "in.gnu", "out.o")[0], 1)
+    write("good.gnu", GOOD)
+    same("no folder", run(FROM_GNU, "good.gnu", "missing/out.o"), (2, "", "v7-from-gnu: missing/out.o: cannot create\n"))
+    same("a word", run(FROM_GNU, "good.gnu"), (2, "", USAGE))
     return len(CHANGES) + 9
 
 
@@ -205,12 +190,12 @@ def check_steps(*names):
     paths = [os.path.join(EXAMPLES, name) for name in names]
     status, text, _ = run(LESSON, *paths)
     steps = re.split(r"^(?=add |withdraw )", text, flags=re.M)[1:]
-    expect(f"{names}: status and steps", (status, len(steps)), (0, 2 * len(names)))
+    same(f"{names}: status and steps", (status, len(steps)), (0, 2 * len(names)))
     for number, step in enumerate(steps, 1):
-        expect(f"{names}: step {number}", run(LESSON, "-n", str(number), *paths), (0, step, ""))
+        same(f"{names}: step {number}", run(LESSON, "-n", str(number), *paths), (0, step, ""))
     more = str(len(steps) + 1)
-    expect(f"{names}: step {more}", run(LESSON, "-n", more, *paths), (2, "", f"v7-lesson: there are {len(steps)} steps\n"))
-    expect(f"{names}: step 0", run(LESSON, "-n", "0", *paths)[0:2], (2, ""))
+    same(f"{names}: step {more}", run(LESSON, "-n", more, *paths), (2, "", f"v7-lesson: there are {len(steps)} steps\n"))
+    same(f"{names}: step 0", run(LESSON, "-n", "0", *paths)[0:2], (2, ""))
     return len(steps)
 
 
@@ -238,10 +223,10 @@ def check_changes(*names):
     paths = [os.path.join(EXAMPLES, name) for name in names]
     steps = re.split(r"^(?=add |withdraw )", run(LESSON, *paths)[1], flags=re.M)
     wanted = [changes(before, after) for before, after in zip(["begin\n", *steps[1:]], steps[1:])]
-    expect(f"{names}: changes", run(LESSON, "-c", *paths), (0, "".join(wanted), ""))
+    same(f"{names}: changes", run(LESSON, "-c", *paths), (0, "".join(wanted), ""))
     for number, step in enumerate(wanted, 1):
-        expect(f"{names}: changes of step {number}", run(LESSON, "-c", "-n", str(number), *paths), (0, step, ""))
-        expect(f"{names}: changes of step {number}", run(LESSON, "-n", str(number), "-c", *paths), (0, step, ""))
+        same(f"{names}: changes of step {number}", run(LESSON, "-c", "-n", str(number), *paths), (0, step, ""))
+        same(f"{names}: changes of step {number}", run(LESSON, "-n", str(number), "-c", *paths), (0, step, ""))
     return len(wanted)
 
 
@@ -250,25 +235,22 @@ def check_lesson():
     usage = "v7-lesson: usage: v7-lesson [-c] [-n STEP] FILE..., or v7-lesson -p FOLDER [-q QUESTIONS] FILE... >PAGE\n"
     synopsis = ("usage: v7-lesson [-c] [-n STEP] FILE...\n       v7-lesson -p FOLDER [-q QUESTIONS] FILE... >PAGE\n"
                 "       v7-lesson --help | --version\n")
-    with open(os.path.join(os.path.dirname(EXAMPLES), "include", "v7.h"), encoding="utf-8") as header:
-        version = re.search(r'^#define V7_VERSION "(.*)"', header.read(), re.M)[1]
-    expect("--help", run(LESSON, "--help"), (0, synopsis, ""))
-    expect("--version", run(LESSON, "--version"), (0, f"v7-lesson {version}\n", ""))
+    version = re.search(r'^#define V7_VERSION "(.*)"', read(f"{TOP}/include/v7.h"), re.M)[1]
+    notices(same, "another version", run(LESSON, "--version"), (0, f"v7-lesson {version}1\n", ""))
+    same("--help", run(LESSON, "--help"), (0, synopsis, ""))
+    same("--version", run(LESSON, "--version"), (0, f"v7-lesson {version}\n", ""))
     refused = ([], ["-c"], ["-n"], ["-n", "1"], ["-c", "-n", "1"], ["-n", "1", "-c"], ["-c", "-n", "0", "k.o"], ["-z", "k.o"], ["-n", "x", "k.o"], ["-p"], ["-p", "page"], ["-p", "page", "-q"],
                ["-p", "page", "-q", "lessons.txt"], [b"\xe9.o"], ["-n", "1", "--help", b"\xe9.o"])
     for arguments in refused:
-        expect(f"{arguments}", run(LESSON, *arguments), (2, "", usage))
+        same(f"{arguments}", run(LESSON, *arguments), (2, "", usage))
     later = os.path.join(EXAMPLES, "k.o"), "-n"
-    expect("an option after a file", run(LESSON, *later)[2], "v7-lesson: -n: cannot open\n")
+    same("an option after a file", run(LESSON, *later)[2], "v7-lesson: -n: cannot open\n")
     return 3 + len(refused)
 
 
-with tempfile.TemporaryDirectory() as room:
-    os.chdir(room)
+with room():
     objects = check_refusals() + check_compiled() + check_linked() + check_folder() + check_order()
     shown = check_steps("k.o", "l.o") + check_steps("main.o", "twice.o", "count.o") + check_steps("a.o")
     shown += check_changes("k.o", "l.o") + check_changes("main.o", "twice.o", "double.o", "count.o", "k.o", "l.o", "print.o", "start.o")
     asked = check_lesson()
-    if failed:
-        sys.exit(1)
     print(f"v7-from-gnu: {objects} lines and statuses compared; v7-lesson: {shown} steps, {asked} lines")

@@ -5,6 +5,8 @@
 # files as may be open, and more. Last, the same of the programs beside v7.
 #
 # usage: tests/programs/streams.sh       the programs are in build/, or in the folder V7_BUILD
+#
+# tier: check, 10 seconds; programs: v7 v7-explain v7-object v7-from-gnu v7-lesson; for: crates/surroundings
 set -u
 cd "$(dirname "$0")/../.."
 build=${V7_BUILD:-$PWD/build}
@@ -29,6 +31,11 @@ expect() {
 same() {
     cmp "$1" "$2" || failed=1
 }
+
+# both report a difference that is planted
+status=0
+echo planted >fault
+(expect planted 0 ""; same fault /dev/null; expect planted 1 planted; exit $failed) >/dev/null 2>&1 && { echo "a planted difference is not reported"; exit 1; }
 
 # what the program writes with its streams open
 "$v7" ld -o reported main.o count.o >report 2>fault; status=$?

@@ -1,14 +1,16 @@
-#!/usr/bin/env python3
 """Plays v7 at a terminal: help, the version, why arguments are refused, and a session with prompt, help, list, hints and quit. Then it runs the
 same commands through pipes, where each byte and status has to be that of the specification.
 
-usage: python3 -m tests.programs.terminal V7
+usage: python3 -m tests.programs.terminal
        python3 -m tests.programs.terminal -p [FILE]  plants one fault after another in a copy of the code, or those in files of this name, compiles v7
                                     without proof, and sees that this script finds each: two minutes for a fault
 
 The terminal is a pseudo-terminal, by the module `pty`. What is expected here is written by hand: the lines of v7(1) and of
 v7-session(1). Options are those of the manual pages. Random command lines, always the same, show that a reason is given for those
 that v7 refuses, and for no others.
+
+tier: check, 25 seconds; programs: v7; for: crates/v7 crates/command_words man/v7.1 man/v7-session.1
+tier: all, 4000 seconds; words: -p; for: crates/v7
 """
 import os
 import pty
@@ -20,13 +22,13 @@ import subprocess
 import sys
 import tempfile
 
-from tests import TOP
+from tests.lib.compare import notices, same
+from tests.lib.files import TOP, read, write
+from tests.lib.programs import program, ran
 
 TOOLS = ["ld", "nm", "session", "size", "strip"]
 SECONDS = 10
 RANDOM_LINES = 400
-# a program with a fault is left at the first difference
-IS_PLANTED = "V7_PLANTED" in os.environ
 
 # arguments that are refused, and the lines that follow `v7: usage` at a terminal
 REASONS = [
@@ -140,19 +142,9 @@ PLANTED = [
     ("v7/src/terminal/pages.rt", "Tool::named(named.as_str())", "Tool::named(help.as_str())"),
 ]
 
-failed = []
-
-
-def expect(what, came, wanted):
-    if came != wanted:
-        print(f"{what}:\n  came   {came!r}\n  wanted {wanted!r}")
-        failed.append(what)
-        if IS_PLANTED:
-            sys.exit(f"not as expected: {what}")
-
 
 def holds(what, is_true):
-    expect(what, bool(is_true), True)
+    same(what, bool(is_true), True)
 
 
 # --- running
@@ -184,7 +176,7 @@ class Terminal:
         subprocess.run(["stty", "-echo"], stdin=slave, check=True)
         pipe = subprocess.PIPE
         kinds = [slave if number in streams else pipe for number in range(3)]
-        self.process = subprocess.Popen([V7, *words], stdin=kinds[0], stdout=kinds[1], stderr=kinds[2])
+        self.process = subprocess.Popen([program("v7"), *words], stdin=kinds[0], stdout=kinds[1], stderr=kinds[2])
         os.close(slave)
 
     def type(self, line):
@@ -215,8 +207,8 @@ def at_terminal(words):
 
 
 def through_pipes(words, script=b""):
-    ran = subprocess.run([V7, *words], input=script, stdout=subprocess.PIPE, stderr=subprocess.PIPE, timeout=SECONDS, check=False)
-    return plain(ran.stderr), plain(ran.stdout), ran.returncode
+    status, out, err = ran(program("v7"), *words, given=script, seconds=SECONDS)
+    return plain(err), plain(out), status
 
 
 def without_input(words):
@@ -232,8 +224,7 @@ def without_input(words):
 
 def options_of(tool):
     """The options of a tool in its manual page, each with its argument."""
-    with open(f"{TOP}/man/v7-{tool}.1", encoding="utf-8") as page:
-        items = re.findall(r"^\.It Fl (\w)(?: Ar (\w+))?", page.read(), re.M)
+    items = re.findall(r"^\.It Fl (\w)(?: Ar (\w+))?", read(f"{TOP}/man/v7-{tool}.1"), re.M)
     return {f"-{letter} {argument.upper()}".strip() for letter, argument in items}
 
 
@@ -244,11 +235,11 @@ def check_page(words, tool, page):
     manual = f"v7-{tool}" if tool else "v7"
     holds(f"{words}: manual", page.endswith(f"The manual is {manual}(1): man {manual}\n") and os.path.exists(f"{TOP}/man/{manual}.1"))
     shown = {option.strip() for option in re.findall(r"^  (-\w(?: [A-Z]+)?)  ", page, re.M)}
-    expect(f"{words}: options", shown, options_of(tool) if tool not in (None, "session") else set())
+    same(f"{words}: options", shown, options_of(tool) if tool not in (None, "session") else set())
     if tool is None:
-        expect(f"{words}: commands", re.findall(r"^  (\w+)  +\w", page, re.M), TOOLS)
+        same(f"{words}: commands", re.findall(r"^  (\w+)  +\w", page, re.M), TOOLS)
     examples = re.findall(r"^  (v7 .*)$", page.partition("examples:\n")[2], re.M)
-    expect(f"{words}: examples", len(examples), 2)
+    same(f"{words}: examples", len(examples), 2)
     holds(f"{words}: 80 columns", all(len(line) <= 80 for line in page.split("\n")))
     return examples
 
@@ -258,17 +249,17 @@ def check_help():
     examples = set()
     for words, tool in HELP:
         shown, page, status = at_terminal(words)
-        expect(f"{words}: standard error and status", (shown, status), ("", 0))
+        same(f"{words}: standard error and status", (shown, status), ("", 0))
         examples.update(check_page(words, tool, page))
-    with open(f"{TOP}/include/v7.h", encoding="utf-8") as header:
-        version = re.search(r'^#define V7_VERSION "(.*)"', header.read(), re.M)[1]
-    expect("--version", at_terminal(["--version"]), ("", f"v7 {version}\n", 0))
+    version = re.search(r'^#define V7_VERSION "(.*)"', read(f"{TOP}/include/v7.h"), re.M)[1]
+    notices(same, "--version", at_terminal(["--version"]), ("", f"v7 {version}\n", 1))
+    same("--version", at_terminal(["--version"]), ("", f"v7 {version}\n", 0))
     for command in sorted(examples):
-        ran = subprocess.run(["sh", "-c", command], env={**os.environ, "PATH": f"{os.path.dirname(V7)}:{os.environ['PATH']}"},
-                             stdin=subprocess.DEVNULL, stdout=subprocess.DEVNULL, stderr=subprocess.PIPE, check=False)
-        expect(f"example: {command}", (ran.returncode, ran.stderr), (0, b""))
+        path = f"{os.path.dirname(program('v7'))}:{os.environ['PATH']}"
+        status, _, err = ran("sh", "-c", command, env={**os.environ, "PATH": path})
+        same(f"example: {command}", (status, err), (0, b""))
     for words in [words for words, _ in HELP] + [["--version"]]:
-        expect(f"{words}: through pipes", through_pipes(words), ("v7: usage\n", "", 2))
+        same(f"{words}: through pipes", through_pipes(words), ("v7: usage\n", "", 2))
     return len(HELP) + 1
 
 
@@ -279,8 +270,8 @@ def check_reasons():
         where = "v7 --help lists the commands"
         if words[0] in TOOLS:
             where = f"v7 {words[0]} --help shows how to call it"
-        expect(f"{words}", at_terminal(words), (f"v7: usage\n{reason}\n{where}\n", "", 2))
-        expect(f"{words}: through pipes", through_pipes(words), ("v7: usage\n", "", 2))
+        same(f"{words}", at_terminal(words), (f"v7: usage\n{reason}\n{where}\n", "", 2))
+        same(f"{words}: through pipes", through_pipes(words), ("v7: usage\n", "", 2))
     return len(REASONS)
 
 
@@ -299,9 +290,9 @@ def check_random():
         shown, shown_output, shown_status = without_input(words)
         is_usage = error == "v7: usage\n"
         refused += is_usage
-        expect(f"{words}: output and status", (shown_output, shown_status), (output, status))
-        expect(f"{words}: first line", shown[:len(error)], error)
-        expect(f"{words}: more lines, {shown!r}", shown[len(error):].count("\n"), 2 if is_usage else 0)
+        same(f"{words}: output and status", (shown_output, shown_status), (output, status))
+        same(f"{words}: first line", shown[:len(error)], error)
+        same(f"{words}: more lines, {shown!r}", shown[len(error):].count("\n"), 2 if is_usage else 0)
     return refused
 
 
@@ -315,8 +306,8 @@ def check_hints():
              (["nm", "/tmp"], "v7: /tmp: read error\n", ""),
              (["ld", "-o", "no/out", "k.o", "l.o"], "v7: no/out: cannot create\n", "")]
     for words, line, hint in hints:
-        expect(f"{words}", at_terminal(words), (line + hint, "", 2))
-        expect(f"{words}: through pipes", through_pipes(words), (line, "", 2))
+        same(f"{words}", at_terminal(words), (line + hint, "", 2))
+        same(f"{words}: through pipes", through_pipes(words), (line, "", 2))
     return len(hints)
 
 
@@ -325,10 +316,10 @@ def check_hints():
 def play(typed, ending):
     """A session in which lines are typed, each after the prompt; its last part, and its status."""
     terminal = Terminal(["session"])
-    expect("the first prompt", terminal.shown(b"v7> "), COMMANDS + "v7> ")
+    same("the first prompt", terminal.shown(b"v7> "), COMMANDS + "v7> ")
     for line, answer in typed:
         terminal.type(line)
-        expect(f"session: {line[:20]}", terminal.shown(b"v7> "), answer + "v7> ")
+        same(f"session: {line[:20]}", terminal.shown(b"v7> "), answer + "v7> ")
     if ending is None:
         terminal.end_input()
     else:
@@ -343,19 +334,19 @@ def summary(ending, count, status):
 
 
 def check_session():
-    """Each ending; a session without a fault; a session whose streams are not both a terminal."""
+    """Each ending, a session without a fault, and a session whose streams are not both a terminal."""
     count = sum(line.strip() not in OWN for line, _ in SESSION)
     for ending in ENDINGS:
-        expect(f"{ending}: end", play(SESSION, ending), (summary(ending, count, 1), 1))
+        same(f"{ending}: end", play(SESSION, ending), (summary(ending, count, 1), 1))
         done = SESSION[:2] + SESSION[8:9]
-        expect(f"{ending}: end without a fault", play(done, ending), (summary(ending, 3, 0), 0))
-    expect("one command", play(SESSION[:1], "quit"), (ONE, 0))
+        same(f"{ending}: end without a fault", play(done, ending), (summary(ending, 3, 0), 0))
+    same("one command", play(SESSION[:1], "quit"), (ONE, 0))
     # lines that are typed ahead, and a last one without a newline
     terminal = Terminal(["session"])
     terminal.shown(b"v7> ")
     os.write(terminal.master, b"add k.o\n\nwithdraw\nundefined\4\4")
     shown, _, _, status = terminal.ended()
-    expect("typed ahead", (shown.replace("v7> ", ""), status), ("added k.o\nwithdrew k.o\n\n" + summary("", 3, 0), 0))
+    same("typed ahead", (shown.replace("v7> ", ""), status), ("added k.o\nwithdrew k.o\n\n" + summary("", 3, 0), 0))
     check_mixed()
     return 2 * len(ENDINGS) + 4
 
@@ -365,17 +356,17 @@ def check_mixed():
     script = "".join(line + "\n" for line, _ in SESSION) + "quit\n"
     answers = "".join("bad command\n" if line.strip() in OWN else answer for line, answer in SESSION[:-len(HINTS)])
     answers += "bad command\n" * (len(HINTS) + 1)
-    expect("session: through pipes", through_pipes(["session"], script.encode()), ("", answers, 1))
+    same("session: through pipes", through_pipes(["session"], script.encode()), ("", answers, 1))
     terminal = Terminal(["session"], (1, 2))
     terminal.process.stdin.write(script.encode())
     terminal.process.stdin.close()
     terminal.process.stdin = None
     shown, _, _, status = terminal.ended()
-    expect("session: a script to a terminal", (shown, status), (answers, 1))
+    same("session: a script to a terminal", (shown, status), (answers, 1))
     terminal = Terminal(["session"], (0, 1))
     os.write(terminal.master, b"help\nadd k.o\n\4")
     shown, _, error, status = terminal.ended()
-    expect("session: standard error is a pipe", (shown, error, status), ("bad command\nadded k.o\n", "", 1))
+    same("session: standard error is a pipe", (shown, error, status), ("bad command\nadded k.o\n", "", 1))
 
 
 def run_all():
@@ -383,44 +374,34 @@ def run_all():
     with tempfile.TemporaryDirectory() as folder:
         shutil.copytree(f"{TOP}/examples", f"{folder}/examples")
         os.chdir(f"{folder}/examples")
-        with open("commands.txt", "w", encoding="utf-8") as script:
-            script.write("add main.o\n")
+        write("commands.txt", "add main.o\n")
         counts = (check_help(), check_reasons(), check_random(), check_hints(), check_session())
         os.chdir(TOP)
     return counts
 
 
-def code_of(file):
-    with open(f"{TOP}/crates/{file}", encoding="utf-8") as source:
-        return source.read()
-
-
 def check_planted():
     """Each fault fits the code: its text is there once."""
     for file, old, _ in PLANTED:
-        expect(f"a fault to plant in {file}: {old.strip()}", code_of(file).count(old), 1)
+        same(f"a fault to plant in {file}: {old.strip()}", read(f"{TOP}/crates/{file}").count(old), 1)
 
 
 def found_in(file, old, new):
     """The end of what this script says of a program with a fault; None if it finds nothing."""
-    from compiling import compile_program
+    from tools.compiling import compile_program
     with tempfile.TemporaryDirectory() as top:
         for name in ("crates.txt", "HANDLES"):
             shutil.copy(f"{TOP}/{name}", top)
         shutil.copytree(f"{TOP}/crates", f"{top}/crates", ignore=shutil.ignore_patterns("out"))
-        with open(f"{top}/crates/{file}", "w", encoding="utf-8") as source:
-            source.write(code_of(file).replace(old, new))
+        write(f"{top}/crates/{file}", read(f"{TOP}/crates/{file}").replace(old, new))
         compile_program(top, "v7", top)
-        ran = subprocess.run([sys.executable, "-m", "tests.programs.terminal", f"{top}/v7"], env={**os.environ, "V7_PLANTED": "1"}, stdout=subprocess.PIPE,
-                             stderr=subprocess.STDOUT, text=True, check=False)
-    return ran.stdout.rstrip().split("\n")[-1] if ran.returncode else None
+        status, out, err = ran(sys.executable, "-m", "tests.programs.terminal", env={**os.environ, "V7_BUILD": top}, cwd=TOP)
+    return (out + err).decode("utf-8", "replace").rstrip().split("\n")[-3:][0] if status else None
 
 
 def plant(name):
     """Plants the faults in files whose names end so; the status is 1 if one is not found."""
     check_planted()
-    if failed:
-        sys.exit(f"{len(failed)} of the faults to plant do not fit the code")
     missed, planted = 0, [fault for fault in PLANTED if fault[0].endswith(name)]
     for file, old, new in planted:
         said = found_in(file, old, new)
@@ -433,8 +414,6 @@ def plant(name):
 def main():
     check_planted()
     counts = run_all()
-    if failed:
-        sys.exit(f"{len(failed)} of what a terminal shows differs")
     print("at a terminal: {} pages, {} reasons, {} refused of {} random lines, {} hints, {} sessions".format(
         *counts[:3], RANDOM_LINES, *counts[3:]))
 
@@ -442,7 +421,6 @@ def main():
 if __name__ == "__main__":
     if sys.argv[1:2] == ["-p"] and len(sys.argv) <= 3:
         sys.exit(plant("".join(sys.argv[2:])))
-    if len(sys.argv) != 2:
+    if sys.argv[1:]:
         sys.exit(__doc__)
-    V7 = os.path.abspath(sys.argv[1])
     main()

@@ -1,4 +1,3 @@
-#!/usr/bin/env python3
 """Compares the CALLING.md of each public library, and the head of its lib.rt, with the code.
 
 A CALLING.md has a paragraph, a caller, which is a file of crates/library_uses, and the contracts of the public functions, which
@@ -6,11 +5,15 @@ are quoted from the library's sources in a shortened form. The head of lib.rt ha
 library_uses, and a line for each name that the library exports.
 
 usage: python3 -m tests.texts.calling           compares; status 1 if they differ
-       python3 -m tests.texts.calling -w        writes the callers and the contracts into the CALLING.md files"""
+       python3 -m tests.texts.calling -w        writes the callers and the contracts into the CALLING.md files
+tier: text, 2 seconds; for: crates/library_uses
+"""
 import glob
 import os
 import re
 import sys
+
+from tests.lib.files import read, write
 
 USES = "crates/library_uses/src"
 LIBRARIES = [
@@ -23,11 +26,6 @@ KEY = """\
 A contract is shortened here: `S` is what `self` points to at the call, and `S'` what it points to at the return. `x.now` is what a
 shared reference `x` points to; `x.old` and `x.new` are what a mutable one points to at the call and at the return. `ghost Value` is
 how contracts see a type. The definitions are in `specs/`, and those of lists and results in the kit's `std/COMMON.md`."""
-
-
-def read(path):
-    with open(path, encoding="utf-8") as file:
-        return file.read()
 
 
 # --- the sources
@@ -288,8 +286,7 @@ def main():
         page = read(path) if os.path.exists(path) else ""
         if sys.argv[1:] == ["-w"] and page:
             page = page_for(crate, page, uses)
-            with open(path, "w", encoding="utf-8") as file:
-                file.write(page)
+            write(path, page)
         root = read(f"crates/{crate}/src/lib.rt")
         found = list(faults_in(crate, uses, page, root))
         faults += found

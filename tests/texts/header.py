@@ -1,8 +1,10 @@
-#!/usr/bin/env python3
 """Compares include/v7.h with the declarations of the code, with the module of Python and with the crate v7-sys of Rust: each struct's fields
 by name, place and size, each constant, each call's parameters, and the texts of faults. The places in C are those of the compiler `cc`.
 The documents that the header cites have to be installed with it. Each kind of difference is made once in a copy of a text to see that
-it is found."""
+it is found.
+
+tier: text, 2 seconds; for: include/v7.h packaging/python packaging/rust crates/v7_c; needs: cc
+"""
 import ctypes
 import glob
 import importlib.util
@@ -12,7 +14,7 @@ import subprocess
 import sys
 import tempfile
 
-from tests import TOP
+from tests.lib.files import TOP, read, write
 
 HEADER = os.path.join(TOP, "include", "v7.h")
 MODULE = os.path.join(TOP, "packaging", "python", "v7.py")
@@ -96,11 +98,6 @@ OWN = [*SAME, "Fault"]
 IN_C = {"u8": "unsigned char", "u16": "uint16_t", "u32": "uint32_t"}
 
 
-def read(path):
-    with open(path, encoding="utf-8") as file:
-        return file.read()
-
-
 def plain(text):
     """C without comments."""
     return re.sub(r"/\*.*?\*/", "", text, flags=re.S)
@@ -136,8 +133,7 @@ def places_in_c(header, structs):
     rows = [(struct, field) for struct, fields in structs.items() for field in fields]
     lines = [f'    printf("%zu %zu %zu\\n", offsetof(struct {s}, {f}), sizeof(((struct {s} *)0)->{f}), sizeof(struct {s}));' for s, f in rows]
     with tempfile.TemporaryDirectory() as room:
-        with open(os.path.join(room, "places.c"), "w", encoding="utf-8") as file:
-            file.write(header + "\n#include <stdio.h>\nint main(void)\n{\n" + "\n".join(lines) + "\n    return 0;\n}\n")
+        write(os.path.join(room, "places.c"), header + "\n#include <stdio.h>\nint main(void)\n{\n" + "\n".join(lines) + "\n    return 0;\n}\n")
         subprocess.run([os.environ.get("CC") or "cc", "-o", f"{room}/places", f"{room}/places.c"], check=True)
         said = subprocess.run([f"{room}/places"], stdout=subprocess.PIPE, check=True).stdout.decode()
     found = {struct: [] for struct in structs}
@@ -409,7 +405,7 @@ def compare(header, texts, python, rust):
     return faults + [*compare_rust(header, in_c, enums, rust), *compare_documents(header)]
 
 
-# what is changed, of the header or of the code, to see that it is found: a field, its place, its type; a constant; a call
+# what is changed, in the header or in the code, to see that it is found: a field, its place, its type, a constant, a call
 PLANTED = [
     ("v7.h", "uint32_t word;  ", "uint32_t words; "),
     ("v7.h", "    uint16_t value;\n    uint16_t reloc;", "    uint16_t reloc;\n    uint16_t value;"),

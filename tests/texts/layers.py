@@ -1,67 +1,63 @@
-#!/usr/bin/env python3
-"""Draws the layers of the crates from crates.txt: a crate uses only crates of the layers above it in the picture. Compares the
-picture with that of docs/ARCHITECTURE.md.
+"""Draws the crates by the sections of crates.txt, each with its layer: a crate uses only crates of lower layers. Compares the picture with
+that of docs/ARCHITECTURE.md, and sees that PROOFS and INDEX have the sections too.
 
 usage: python3 -m tests.texts.layers            compares; status 1 if they differ
-       python3 -m tests.texts.layers -p         prints the picture"""
+       python3 -m tests.texts.layers -p         prints the picture
+tier: text, 1 seconds; for: crates.txt docs/ARCHITECTURE.md
+"""
 import os
 import re
 import sys
+
+from tests.lib.compare import notices, same
+from tests.lib.files import TOP, read
+from tests.lib.rattle import crates_in
 
 PAGE = "docs/ARCHITECTURE.md"
 WIDTH = 100
 
 
-def crates():
-    """Each crate with those of the repository that it uses."""
-    listed = {}
-    with open("crates.txt", encoding="utf-8") as file:
-        for line in file:
-            found = re.match(r"(\w+)(?: staticlib)?:(.*)", line)
-            if found:
-                listed[found[1]] = found[2].split()
-    return {name: [used for used in uses if used in listed] for name, uses in listed.items()}
+def sections():
+    """The crates of each section, whose heading is a comment."""
+    parts = re.findall(r"^# ([\w ]+): .*\n((?:\w.*\n)+)", read("crates.txt"), re.M)
+    return {name: re.findall(r"^\w+", lines, re.M) for name, lines in parts}
 
 
 def layer(name, uses):
-    return 1 + max((layer(used, uses) for used in uses[name]), default=0)
+    return 1 + max((layer(used, uses) for used in uses[name] if used in uses), default=0)
 
 
-def is_program(name):
-    return os.path.exists(f"crates/{name}/src/main.rt")
-
-
-def picture():
-    """A line or more for each layer: its libraries, and then its programs in brackets."""
-    uses = crates()
-    layers = {}
-    for name in sorted(uses, key=lambda name: (is_program(name), name)):
-        layers.setdefault(layer(name, uses), []).append(f"[{name}]" if is_program(name) else name)
-    lines = []
-    for number in sorted(layers):
-        line = f"{number:2} "
-        for name in layers[number]:
-            if len(line) + len(name) + 2 > WIDTH:
+def picture(parts):
+    """A line or more for each section: its crates, each after its layer, and programs in brackets."""
+    uses, lines = {name: used for name, (_, used) in crates_in(TOP).items()}, []
+    for section, names in parts.items():
+        line = f"{section:14}"
+        for name in sorted(names, key=lambda name: (layer(name, uses), name)):
+            shown = f" {layer(name, uses)} " + (f"[{name}]" if os.path.exists(f"crates/{name}/src/main.rt") else name)
+            if len(line) + len(shown) > WIDTH:
                 lines.append(line)
-                line = "   "
-            line += "  " + name
-        lines.append(line)
-    return ["    " + line for line in lines]
+                line = " " * 14
+            line += shown + " "
+        lines.append(line.rstrip())
+    return ["    " + line.rstrip() for line in lines]
+
+
+def compare(parts, text):
+    """The picture is in a text, and each crate in a section."""
+    same("crates of the sections", sorted(name for names in parts.values() for name in names), sorted(crates_in(TOP)))
+    shown = re.findall(r"\n\n((?:    \w[\w ]* \d .*\n(?:    .*\n)*)+)\n", text)
+    same(f"{PAGE}: the picture", "".join(shown).split("\n")[:-1], picture(parts))
 
 
 def main():
-    drawn = picture()
+    parts = sections()
     if sys.argv[1:] == ["-p"]:
-        print("\n".join(drawn))
-        return 0
-    with open(PAGE, encoding="utf-8") as file:
-        text = file.read()
-    if "\n\n" + "\n".join(drawn) + "\n\n" in text:
-        print(f"{PAGE}: the picture has {len(crates())} crates in {len(drawn)} lines")
-        return 0
-    print(f"{PAGE} has another picture; this is the one of crates.txt:")
-    print("\n".join(drawn))
-    return 1
+        return print("\n".join(picture(parts)))
+    notices(compare, {**parts, "tests": []}, read(PAGE))
+    notices(compare, parts, read(PAGE).replace("[v7]", "v7"))
+    compare(parts, read(PAGE))
+    print(f"{PAGE}: the picture has {len(crates_in(TOP))} crates in {len(parts)} sections")
 
 
-sys.exit(main())
+if __name__ == "__main__":
+    main()

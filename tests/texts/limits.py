@@ -1,11 +1,14 @@
-#!/usr/bin/env python3
 """Compares the limits that the documents name with the constants of the code that enforce them. Where a constant, or the number in a
 document, is another one, the text of the document is not found. Each limit is changed once to see that this is noticed. The version
-of Python in README is the one that the scripts need, as far as words that came with a version show."""
+of Python in README is the one that the scripts need, as far as words that came with a version show.
+
+tier: text, 1 seconds; for: docs/LINK.md README.md
+"""
 import glob
-import os
 import re
 import sys
+
+from tests.lib.files import read
 
 # the file and the name of each constant, and the texts that have its value, in place of {}
 LIMITS = [
@@ -63,11 +66,6 @@ LIMITS = [
 # words that came with a version of Python
 NEWER = {9: r"\.remove(?:prefix|suffix)\(|\bmath\.lcm\(|\bast\.unparse\(|[\"\']user[\"\']: |-> (?:list|dict|tuple|set)\[",
          10: r"^ *match .*:$|\bstrict=|\bpairwise\(|\bbit_count\(", 11: r"\btomllib\b|\bStrEnum\b|\bExceptionGroup\b"}
-
-
-def read(path):
-    with open(path, encoding="utf-8") as file:
-        return file.read()
 
 
 def value_of(path, name):

@@ -1,4 +1,3 @@
-#!/usr/bin/env python3
 """Looks whether the documents are a web: each mention of a document, a manual page, an example or a source file is a link, each
 link leads to a file, or to a heading of one, that is there, and docs/README.md names each document.
 
@@ -7,11 +6,15 @@ usage: python3 -m tests.texts.links             all documents of the repository
 
 A mention is a path below a folder of the repository, the name of a document, a page of the manual, as v7-ld(1), or, in the documents
 about the examples, the name of a text file of theirs in backquotes. Code in blocks, and code with blanks in it, mentions nothing.
+
+tier: text, 2 seconds; for: docs README.md CONTRIBUTING.md CHANGES.md man examples
 """
 import glob
 import os
 import re
 import sys
+
+from tests.lib.files import read, write
 
 INDEX = "docs/README.md"
 # where a file of the folder examples is named alone
@@ -30,7 +33,7 @@ MENTIONS = [
 def documents():
     """The documents, without what tests/texts/calling.py writes."""
     return ["README.md", "CHANGES.md", "CONTRIBUTING.md", "packaging/README.md"] + sorted(
-        glob.glob("docs/**/*.md", recursive=True) + glob.glob("examples/*.md"))
+        glob.glob("docs/**/*.md", recursive=True) + glob.glob("examples/*.md") + glob.glob("t*s/**/README.md", recursive=True))
 
 
 def document_called(name, beside):
@@ -169,14 +172,12 @@ def check_itself():
 
 def write_links():
     for path in documents():
-        with open(path, encoding="utf-8") as file:
-            text = file.read()
+        text = read(path)
         lines = text.split("\n")
         for number, line, shown in prose(text):
             lines[number - 1] = linked(path, line, shown)
         if "\n".join(lines) != text:
-            with open(path, "w", encoding="utf-8") as file:
-                file.write("\n".join(lines))
+            write(path, "\n".join(lines))
             print(f"{path} is changed")
 
 
@@ -188,8 +189,7 @@ def main(words):
         sys.exit(__doc__)
     faults, count = check_itself(), 0
     for path in documents():
-        with open(path, encoding="utf-8") as file:
-            text = file.read()
+        text = read(path)
         count += len(LINK.findall(text))
         faults += [f"{path}:{number}: {fault}" for number, fault in faults_in(path, text)]
     with open(INDEX, encoding="utf-8") as file:

@@ -1,16 +1,18 @@
-#!/usr/bin/env python3
 """Looks at the documents, the manual, v7.h and the doc comments as a reader would, as far as a script can: habits of language
 that keep a reader out, links and paths that lead nowhere, documents that nothing links to, and commands that no check runs. It
 looks at names in the code and in definitions too: functions, types, fields, variants, clauses, lemmas and modules. It prints each
 with its file and line. README.md and the documents of docs may have so many lines in all, and no more.
 
 usage: python3 -m tests.texts.prose             all documents of the repository
-       python3 -m tests.texts.prose FILE..      these alone, for their language, their names and their links"""
+       python3 -m tests.texts.prose FILE..      these alone, for their language, their names and their links
+tier: text, 8 seconds; for: docs README.md CONTRIBUTING.md CHANGES.md man examples
+"""
 import glob
 import os
 import re
 import sys
 
+from tests.lib.files import read
 
 # a habit, how it is found, a sentence that has it, and the same in plain English
 HABITS = [
@@ -46,7 +48,7 @@ WORDS = {
     "the same plainly": ("unasked", "meanwhile", "thereby", "whereby", "therein", "hereby", "whoever"),
 }
 LONGEST = 50
-MOST_LINES = 2900
+MOST_LINES = 2960
 
 # where a habit has to stay: the file, a text of the line, and why
 MOST_EXCEPTIONS = 40
@@ -63,28 +65,26 @@ NAME_EXCEPTIONS = [
 
 # targets of make that a document may show although .ci/run does not run them, and why
 NOT_IN_CI = {
-    "bench": "prints figures, and never fails",
-    "room": "needs valgrind, and prints figures",
-    "wrong-bodies": "takes an hour; check-wrong-bodies tries those of the crates that changed",
-    "simulate": "needs SIMH's pdp11; check-examples runs the same commands where it is installed",
-    "page": "check-page makes the same page",
-    "check-page": "needs a browser",
-    "lesson": "check-examples runs the program",
-    "lib": "check-lib makes it",
-    "wheel": "check-lib makes it",
-    "install": "check-dist installs",
-    "install-lib": "check-dist installs",
-    "dist": "proves twice",
-    "check-dist": "proves twice",
-    "planted": "compiles some forty programs",
-    "uninstall": "check-install does the same",
+    "bench": "prints figures, and fails only if memory is not used",
+    "page": "python3 -m tests page makes the same page",
+    "lesson": "python3 -m tests manual runs the program",
+    "wheel": "python3 -m tests libv7 makes it",
+    "dist": "needs root and a mirror of Debian",
+    "install": "python3 -m tests installed runs the script",
+    "install-lib": "python3 -m tests libv7 runs it",
+    "uninstall": "python3 -m tests installed runs the script",
+    "clean": "removes what was built",
+    "help": "prints a part of the Makefile",
+    "which": "prints what to run",
+    "planted": "takes an hour",
+    "check-all": "takes hours",
 }
 
 
 def documents():
     """The documents, in the order in which they are read."""
     return sorted(set(["README.md", "CHANGES.md"] + glob.glob("CONTRIBUTING.md") + glob.glob("docs/**/*.md", recursive=True)
-                      + glob.glob("examples/*.md") + glob.glob("crates/*/*.md")))
+                      + glob.glob("examples/*.md") + glob.glob("crates/*/*.md") + glob.glob("t*s/**/README.md", recursive=True)))
 
 
 def manual():
@@ -95,6 +95,11 @@ def sources():
     """Where doc comments are: the code, and the definitions that a reader has to trust."""
     definitions = glob.glob("crates/*/specs/**/*.antt", recursive=True)
     return sorted(glob.glob("include/*.h") + glob.glob("crates/*/src/**/*.rt", recursive=True) + definitions)
+
+
+def scripts():
+    """Scripts, whose comments and texts are read."""
+    return sorted(path for folder in ("tests", "tools") for path in glob.glob(f"{folder}/**/*.py", recursive=True) + glob.glob(f"{folder}/**/*.sh", recursive=True))
 
 
 def lemmas():
@@ -158,7 +163,22 @@ def prose_of_source(path, lines):
         inside = (inside or begins) and "*/" not in text
 
 
+def prose_of_script(path, lines):
+    """Comments, and texts in three quotes that begin a file, a class or a function. How a script is called is code, and so is what is
+    indented."""
+    inside, called, margin = False, False, ""
+    for number, text in enumerate(lines, 1):
+        begins = not inside and re.match(r'(\s*)"""(?=\w)', text)
+        margin = begins[1] if begins else margin
+        shown = re.sub(r'^\s*"""|""".*', "", text[len(margin):]) if inside or begins else "".join(re.findall(r"^\s*# ?(.*)", text))
+        called = shown.startswith(("usage: ", "tier: ")) or called and shown.strip() != ""
+        yield Line(path, number, "" if called or shown.startswith("    ") else without_code(shown))
+        inside = (inside or bool(begins)) and text.count('"""') % 2 == (0 if inside else 1)
+
+
 def prose_of(path, lines):
+    if path.endswith((".py", ".sh")):
+        return list(prose_of_script(path, lines))
     if path.endswith(".md"):
         return list(prose_of_markdown(path, lines))
     if re.search(r"\.[1-9]$", path):
@@ -312,7 +332,7 @@ def dead_in(path, text):
         if not os.path.exists(f"man/{name}.{section}"):
             yield f"no manual page {name}({section})"
     for target, heading in HEADING.findall(text):
-        if os.path.exists(target) and not re.search(rf"^#+ {re.escape(heading)}", open(target, encoding="utf-8").read(), re.M):
+        if os.path.exists(target) and not re.search(rf"^#+ {re.escape(heading)}", read(target), re.M):
             yield f"{target} has no heading \"{heading}\""
 
 
@@ -332,20 +352,33 @@ def too_long(texts):
 
 
 def make_targets():
-    """The targets of the Makefile, and those of them that .ci/run makes."""
-    makefile = open("Makefile", encoding="utf-8").read()
-    targets = set(re.findall(r"^([\w./-]+(?: [\w./-]+)*):(?!=)", makefile, re.M))
-    targets = {name for names in targets for name in names.split()}
-    script = open(".ci/run", encoding="utf-8").read()
-    run = {name for line in re.findall(r"^\s*make (.*)$", script, re.M) for name in line.split()}
-    return targets, run
+    """The targets of the Makefile, and those of them that .ci/run makes, with what these need and make."""
+    rules = dict(re.findall(r"^([\w-]+):(?!=)(.*(?:\n\t.*)*)", read("Makefile"), re.M))
+    run = re.findall(r"\bmake ([\w -]+)$", read(".ci/run"), re.M)
+    run = " ".join(run).split()
+    for name in run:
+        needs, *commands = rules.get(name, "").split("\n")
+        made = [*needs.split(), *(it for line in commands if "$(MAKE)" in line for it in line.split()[1:])]
+        run += [it for it in made if it in rules and it not in run]
+    return {*rules}, {*run, "demo", "recheck"} if "python3 -m tests check" in rules["check"] else {*run}
 
 
 def checked_documents():
     """The documents whose examples tests/programs/manual.sh runs."""
-    script = open("tests/programs/manual.sh", encoding="utf-8").read()
+    script = read("tests/programs/manual.sh")
     forms = re.search(r"\|\| set -- (.*)", script).group(1).split()
     return {path for form in forms for path in glob.glob(form, recursive=True)}
+
+
+def no_tests(command):
+    """The tests that a command names and that are not there."""
+    for module in re.findall(r"python3 -m ((?:tests|tools)\.[\w.]+)", command):
+        if not os.path.exists(module.replace(".", "/") + ".py"):
+            yield module
+    named = re.match(r"(?:\$ )?python3 -m tests ([a-z0-9_ ]+)", command)
+    for name in named[1].split() if named else []:
+        if name not in ("which", "list", "needs", "text", "test", "check", "all") and not glob.glob(f"tests/{name}") + glob.glob(f"tests/*/{name}.*"):
+            yield name
 
 
 def commands_in(path, lines, checked, targets, run):
@@ -369,6 +402,8 @@ def commands_in(path, lines, checked, targets, run):
                     yield number, f"no target {name} of make"
                 elif name not in run and name not in NOT_IN_CI:
                     yield number, f"make {name}, which .ci/run does not make"
+            for name in no_tests(command):
+                yield number, f"no test {name}"
 
 
 # texts with three names, of which one has a word of a habit
@@ -401,17 +436,12 @@ def check_itself():
         faults.append("tests/texts/prose.py: a dead link is not found")
     if not list(unlinked(planted)):
         faults.append("tests/texts/prose.py: a document that nothing links to is not found")
-    shown = ["    $ v7 nm a.o", "", "    make nothing", "", "Run `make other`."]
-    if len(list(commands_in("x.md", shown, set(), {"other"}, set()))) != 3:
+    shown = ["    $ v7 nm a.o", "", "    make nothing", "", "Run `make other`, and `python3 -m tests none`."]
+    if len(list(commands_in("x.md", shown, set(), {"other"}, set()))) != 4:
         faults.append("tests/texts/prose.py: a command that no check runs is not found")
     if len(too_long({"README.md": "\n", "docs/A.md": "\n" * MOST_LINES})) != 1 or too_long({"docs/A.md": "\n" * MOST_LINES}):
         faults.append("tests/texts/prose.py: too many lines are not found")
     return faults
-
-
-def read(path):
-    with open(path, encoding="utf-8") as file:
-        return file.read()
 
 
 def faults_of(path, text, checked, targets, run):
@@ -421,17 +451,19 @@ def faults_of(path, text, checked, targets, run):
         yield line.number, f"{name}: {shown}"
     # code has paths and texts of its own; there only a document can be missing
     is_code = path.endswith((".rt", ".antt"))
-    for number, raw in enumerate(lines, 1):
+    is_script = path.endswith((".py", ".sh"))
+    for number, raw in [(it.number, it.text) for it in prose_of(path, lines)] if is_script else enumerate(lines, 1):
         for fault in sorted(set(dead_in(path, raw))):
             if not is_code or fault.endswith(".md"):
                 yield number, fault
-    if path.endswith(".md"):
+    # what was released had other commands
+    if path.endswith(".md") and path != "CHANGES.md":
         yield from commands_in(path, lines, checked, targets, run)
 
 
 def main():
     chosen = sys.argv[1:]
-    texts = {path: read(path) for path in chosen or documents() + manual() + sources()}
+    texts = {path: read(path) for path in chosen or documents() + manual() + sources() + scripts()}
     faults, used = check_itself(), set()
     checked, (targets, run) = checked_documents(), make_targets()
     for path, text in texts.items():

@@ -1,11 +1,11 @@
-#!/usr/bin/env python3
 """Looks that memory is refused by the system alone: no line of a crate makes an `AllocError`, an `AllocFailed` or an error of the kind
 `OutOfMemory`, and none is unsafe. A fault that says `no memory` holds a `Refused`, which is made of such an error: so a request was
 refused. It first tries itself on planted lines, those that it has to find and those that it must not.
 
-usage: python3 -m tests.texts.refusals      status 1 if it finds a line, or judges a planted one wrongly"""
+usage: python3 -m tests.texts.refusals      status 1 if it finds a line, or judges a planted one wrongly
+tier: text, 1 seconds
+"""
 import glob
-import os
 import re
 import sys
 

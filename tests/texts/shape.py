@@ -1,19 +1,31 @@
-#!/usr/bin/env python3
-"""Prints how large and how wide the definitions, proofs and clauses are.
-
-usage: python3 -m tests.texts.shape        prints the figures; an error if a file has more lines over 160 columns than are noted
-       python3 -m tests.texts.shape -w     notes in tests/texts/shape.seen how many each file has now
+"""Prints how large and how wide the definitions, proofs and clauses are. An error is a file with more lines over 160 columns than are
+noted, and a test whose comparer is not given a planted difference.
 
 A clause is what `ensures`, `requires` or `invariant` says, in one line or many; it is wide if one of its lines is. A lemma is a
 statement at the beginning of a line of a file in proofs/; it has a comment if the line above it is one.
+
+tier: text, 3 seconds
 """
 import collections
+import glob
 import os
 import re
 import subprocess
 import sys
 
-SEEN = "tests/texts/shape.seen"
+from tests.lib.files import read
+
+# the files that have lines over TOO_WIDE, each with how many
+NOTED = """
+crates/instructions/proofs/CallLemmas.antt 1
+crates/instructions/proofs/FoundLemmas.antt 1
+crates/instructions/proofs/TableLemmas.antt 1
+crates/link_laws/specs/relation/LinkedFrom.antt 1
+crates/listings/specs/Columns.antt 1
+crates/listings/specs/Drafts.antt 1
+"""
+# tests that compare nothing, or that are judged by another: `cases -b` plays cases that have to fail
+NO_COMPARER = ["cases", "demo", "dist", "recheck", "room", "simulate"]
 WIDE, TOO_WIDE, WIDE_CLAUSE = 140, 160, 100
 CLAUSE = re.compile(r"^\s*(?:ensures|requires|invariant)\b")
 QUOTED = re.compile(r'"(?:\\.|[^"\\])*"|\'(?:\\.[^\']*|[^\'\\])\'')
@@ -27,8 +39,7 @@ def files(*endings):
 
 
 def lines(path):
-    with open(path, encoding="utf-8") as file:
-        return file.read().split("\n")[:-1]
+    return read(path).split("\n")[:-1]
 
 
 def lemmas(path):
@@ -53,14 +64,15 @@ def clauses(path):
         yield text[at:last + 1]
 
 
-def noted():
-    """The files that may have lines over 160 columns, and how many."""
-    if not os.path.exists(SEEN):
-        return {}
-    return {path: int(count) for path, count in (line.split() for line in lines(SEEN))}
+def unplanted():
+    """The tests that do not show that they can fail: none of their comparers is given a planted difference."""
+    tests = [path for path in glob.glob("tests/*/*.*") + glob.glob("tools/*.sh") if re.search(r"^(?:# )?tier: ", read(path), re.M)]
+    assert len(tests) > 30
+    names = {path: os.path.basename(path).partition(".")[0] for path in tests}
+    return [path for path in tests if names[path] not in NO_COMPARER and not re.search(r"notices\(|[Pp]lant|PLANT|is not noticed", read(path))]
 
 
-def main(words):
+def main():
     proofs, sources = files(".antt"), files(".rt")
     texts = {path: lines(path) for path in proofs}
     crates = collections.Counter()
@@ -77,16 +89,15 @@ def main(words):
           f"the widest {max(widths)}")
     print(f"lemmas: {sum(all_ for all_, _ in told)}, of which {sum(some for _, some in told)} have a comment")
     wide = collections.Counter(path for path, line in every if len(line) > TOO_WIDE)
-    if "-w" in words:
-        with open(SEEN, "w", encoding="utf-8") as file:
-            file.writelines(f"{path} {count}\n" for path, count in sorted(wide.items()))
-        return 0
-    was = noted()
+    was = {path: int(count) for path, count in map(str.split, NOTED.strip().split("\n"))}
     more = {path: count for path, count in sorted(wide.items()) if count > was.get(path, 0)}
     for path, count in more.items():
         print(f"{path}: {count} lines over {TOO_WIDE} columns, {was.get(path, 0)} are noted")
-    return 1 if more else 0
+    alike = unplanted()
+    for path in alike:
+        print(f"{path} is not given a planted difference: tests/lib/compare.py")
+    return 1 if more or alike else 0
 
 
 if __name__ == "__main__":
-    sys.exit(main(sys.argv[1:]))
+    sys.exit(main())

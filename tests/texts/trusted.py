@@ -1,4 +1,3 @@
-#!/usr/bin/env python3
 """Lists the definitions that a reader has to trust, and fails where a promise leads to others.
 
 A promise is the contract of a public function, or what contracts see of a public type. From the definitions that it cites
@@ -13,11 +12,15 @@ The lines that are counted are those of definitions: imports, comments and empty
 
 usage: python3 -m tests.texts.trusted        compares, and lists
        python3 -m tests.texts.trusted -w     writes the numbers into docs/PROOFS.md and docs/TRUST.md
+tier: text, 4 seconds; for: docs/PROOFS.md docs/TRUST.md
 """
 import glob
 import os
 import re
 import sys
+
+from tests.lib.compare import notices, same
+from tests.lib.files import read, write
 
 PROOFS = "docs/PROOFS.md"
 # the laws that are the theorem: the first claim begins with what they cite
@@ -42,11 +45,6 @@ IMPORT = re.compile(
     r"^ *(?:pub )?(?:ghost )?use Rattle\.(\w+)\.(specs|proofs)(?:\.([\w.]+?))?(?:\.\{([^}]*)\}|(?: as (\w+))?);?$"
 )
 faults = []
-
-
-def read(path):
-    with open(path, encoding="utf-8") as file:
-        return file.read()
 
 
 def imports(text):
@@ -323,11 +321,11 @@ def expected():
 def main():
     other_internals()
     changes = expected()
+    page, row, _ = changes[-2]
+    notices(same, page, row, re.sub(r"\d+", "0", row))
     for page, old, new in changes:
         if old != new and sys.argv[1:] == ["-w"]:
-            text = read(page).replace(old, new)
-            with open(page, "w", encoding="utf-8") as file:
-                file.write(text)
+            write(page, read(page).replace(old, new))
         elif old != new:
             faults.append(f"{page}: {old} should be {new}")
     for fault in faults:

@@ -1,16 +1,20 @@
-#!/usr/bin/env python3
-"""Looks whether each wrong body still fits the code: each text that it takes out stands in its file exactly once.
+"""Looks whether each wrong body still fits the code: each text that it takes out is in its file exactly once.
 
 A wrong body has a line 'file: PATH', with a path in the crate, and pairs of lines 'old: TEXT' and 'new: TEXT'. Each pair changes what the
 earlier ones left. The gate has the prover refuse the files *.edit in must-fail/ of each crate. The further ones of a crate are records
 of its file wrong-bodies, with a blank line between two: each begins with the lines 'name: NAME' and 'does: SENTENCE', which is what it
-would do to a user. `make wrong-bodies` has the prover refuse all.
+would do to a user. `make check-wrong-bodies` has the prover refuse all.
+
+tier: text, 1 seconds
 """
 import glob
 import os
 import re
 import sys
 from dataclasses import dataclass
+
+from tests.lib.compare import notices, same
+from tests.lib.files import read
 
 
 class Misfit(Exception):
@@ -24,11 +28,6 @@ class WrongBody:
     name: str
     path: str
     text: str
-
-
-def read(path):
-    with open(path, encoding="utf-8") as file:
-        return file.read()
 
 
 def records(crate):
@@ -100,6 +99,8 @@ def main():
     except Misfit as fault:
         print(fault)
         return 1
+    stranger = WrongBody(bodies[0].crate, "planted", "planted", "file: src/lib.rt\nold: planted\nnew: not there")
+    notices(lambda: same("planted", list(faults([stranger])), []))
     found = list(faults(bodies))
     for fault in found:
         print(fault)

@@ -1,4 +1,3 @@
-#!/usr/bin/env python3
 """Has the prover refuse the wrong bodies of crates, many of them in one copy of the crate.
 
 usage: python3 -m tests.wrong_bodies.wrong_bodies [-j N] [CRATE ..]   tries all edits of these crates, or of all, and notes in
@@ -17,7 +16,7 @@ copy without the edits of that one. An edit outside of functions, as of a consta
 It is an error if an edit does not fit its crate, if the prover cannot read the text that it makes, if its function is proved,
 or if the function is refused for what it calls alone. It is an error too if the function is refused only for its shape: the
 proof names a goal or a step that is gone, so another goal may lack its answer. Then the script checks the function with the edit and
-without it, both times without what is written of its proof, and the refusal counts if the edit has a goal open and the right body none
+without it, both times without what is written of its proof. The refusal counts if the edit has a goal open and the right body none
 of its kind: of a clause at any return, or else of its name.
 
 N copies are checked side by side, two if it is not given. The last line has how many edits are refused, and the minutes.
@@ -34,11 +33,12 @@ import threading
 import time
 from concurrent.futures import ThreadPoolExecutor
 
+from tests.lib.files import TOP, write
+from tests.lib.rattle import FUNCTION
 from tests.wrong_bodies import edits
 from tools import prove
 
 SEEN = "tests/wrong_bodies/wrong-bodies.seen"
-FUNCTION = re.compile(r'( *)(?:pub(?:\(\w+\))? )?(?:const |unsafe |extern "C" )*fn (\w+)')
 BLOCK = re.compile(r"( *)(?:pub(?:\(\w+\))? )?(impl|trait|mod)\b(.*)\{$")
 # what the prover says of a place, and what that says only of the form of a proof or of a name that is gone
 PLACE = re.compile(r"(?:note: )?(?:\./)?((?:src|specs|proofs)/[^:\s]+):(\d+):\d+: (.*)")
@@ -68,7 +68,7 @@ def plain(text):
 
 
 def suffix(trait):
-    """What the prover puts behind the name of a type for a trait: `FromAllocError` for `From<AllocError>`."""
+    """What the prover puts after the name of a type for a trait: `FromAllocError` for `From<AllocError>`."""
     arguments = re.fullmatch(r"[^<]*<(.*)>", trait.strip())
     return plain(trait) + (plain(arguments[1]) if arguments else "")
 
@@ -119,7 +119,7 @@ def functions_of(path, text):
         if found:
             ends = (other for other in range(at, len(lines)) if lines[other] == found[1] + "}")
             block, inside = block_of(lines, at, len(found[1]))
-            yield Function([*module, *inside], block, found[2], at + 1, next(ends, at) + 1)
+            yield Function([*module, *inside], block, found[3], at + 1, next(ends, at) + 1)
 
 
 def changed_lines(text, old, new):
@@ -299,8 +299,7 @@ class Trial:
             for path in without:
                 shutil.rmtree(f"{copy}/{path}", ignore_errors=True)
             for path, text in texts.items():
-                with open(f"{copy}/{path}", "w", encoding="utf-8") as file:
-                    file.write(text)
+                write(f"{copy}/{path}", text)
             status, said, seconds = run([*self.kit.check(self.crate), "--incremental", kept], copy)
         self.copies += 1
         self.seconds += seconds
@@ -551,7 +550,7 @@ def changed_alone(jobs):
     try:
         names = have_changed()
     except Untold as why:
-        print(f"{SEEN} does not tell which crates have changed: {why}. `make wrong-bodies` writes it", file=sys.stderr)
+        print(f"{SEEN} does not tell which crates have changed: {why}. `make check-wrong-bodies` writes it", file=sys.stderr)
         return 1
     print(f"changed since their wrong bodies were refused: {' '.join(names) or 'no crate'}", flush=True)
     return 0 if not names or len(whole(names, jobs)) == len(names) else 1
@@ -579,7 +578,7 @@ def main(words):
     if not shutil.which("rt"):
         print("rt, the command of the Rattle kit, is not on the PATH", file=sys.stderr)
         return 2
-    os.chdir(prove.ROOT)
+    os.chdir(TOP)
     jobs = int(words[words.index("-j") + 1]) if "-j" in words else 2
     if "--try" in words:
         import wrong_bodies_tried

@@ -153,8 +153,7 @@ def write():
     os.makedirs("tests/wrong_bodies")
     for path, text in files.items():
         os.makedirs(os.path.dirname(path) or ".", exist_ok=True)
-        with open(path, "w", encoding="utf-8") as file:
-            file.write(text)
+        write(path, text)
 
 
 def faults(trial):
@@ -174,8 +173,7 @@ def faults(trial):
 
 def shown_as_changed(text):
     """The crates that have changed by what a file of digests tells, or none if it does not tell."""
-    with open(wrong_bodies.SEEN, "w", encoding="utf-8") as file:
-        file.write(text)
+    write(wrong_bodies.SEEN, text)
     try:
         return wrong_bodies.have_changed()
     except wrong_bodies.Untold:
@@ -209,16 +207,14 @@ def faults_of_digests():
             yield f"a comment of {path} is not a change"
     for path, old, new in BROKEN:
         text = wrong_bodies.edits.read(f"crates/tried/{path}")
-        with open(f"crates/tried/{path}", "w", encoding="utf-8") as file:
-            file.write(text.replace(old, new))
+        write(f"crates/tried/{path}", text.replace(old, new))
         if text.count(old) != 1 or shown_as_changed(f"tried {digest}\n"):
             yield f"a line that is broken is not a change: {new!r}"
     for one, other, are_alike in SOURCES:
         if (wrong_bodies.on_one_blank(one) == wrong_bodies.on_one_blank(other)) != are_alike:
             yield f"{one!r} and {other!r} {'say the same' if are_alike else 'differ'}"
     text = wrong_bodies.edits.read(f"crates/tried/{SUMS}")
-    with open(f"crates/tried/{SUMS}", "w", encoding="utf-8") as file:
-        file.write(text.replace("\n  one = 1", "\none = 1"))
+    write(f"crates/tried/{SUMS}", text.replace("\n  one = 1", "\none = 1"))
     if shown_as_changed(f"tried {digest}\n") != ["tried"]:
         yield "a statement that begins at another column is a change"
     os.remove(wrong_bodies.SEEN)

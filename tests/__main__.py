@@ -1,0 +1,313 @@
+"""Runs tests, the cheapest first, and tells which tests a change concerns.
+
+usage: python3 -m tests NAME ..          tests, all of a folder (`oracles`), or all of a tier: `text`, `test`, `check` or `all`
+       python3 -m tests list             all tests by tier, with their seconds, and the programs that they run
+       python3 -m tests which PATH ..    the tests and the crates that a change of these files concerns
+       python3 -m tests needs TIER       Debian's packages that the tests of this tier and of those before need
+
+Each tier has what those before do not have. The tests of `test` run side by side with programs that are compiled here without any proof,
+and with the tests that are code, of each crate that has a function with `#[test]`. Those of `check` and `all` run with the programs of
+build/, or of the folder V7_BUILD.
+
+A test says of itself in a line of its head, `tier: check, 60 seconds; programs: ..; for: ..; needs: ..; words: ..`, what it takes on an
+idle machine, the programs that it runs, the paths for which it was made, what it needs beside Python and cc, and its arguments. Where
+V7_CI is set, a tool that is missing is a fault.
+"""
+import glob
+import importlib.util
+import os
+import re
+import shutil
+import subprocess
+import sys
+import tempfile
+import time
+from concurrent.futures import FIRST_COMPLETED, ThreadPoolExecutor, wait
+from typing import NamedTuple
+
+from tests.lib.files import TOP, read
+from tools.compiling import CRATES, SECONDS_SILENT, NotCompiled, compile_program
+from tools.prove import SECONDS_EACH, crates_under
+
+TIERS = ["text", "test", "check", "all"]
+HEAD = re.compile(r"^(?:# )?tier: (\w+), (\d+) seconds((?:; \w+: [^;\n]+)*)$", re.M)
+# what tests need, as commands or modules of Python, and Debian's packages that have it
+PACKAGES = {
+    "cc": "gcc", "c++": "g++", "pkg-config": "pkg-config", "valgrind": "valgrind", "mypy": "mypy", "venv": "python3-venv", "rustc": "rustc",
+    "cargo": "cargo", "groff": "groff", "man": "man-db", "mandoc": "mandoc", "zsh": "zsh", "chromium": "chromium",
+    "chromedriver": "chromium-driver", "selenium": "python3-selenium", "firefox-esr": "firefox-esr", "debootstrap": "debootstrap",
+    "lintian": "lintian", "faketime": "faketime", "pdp11": "simh",
+}
+# for a whole run of one crate, on a machine with other work too
+SECONDS = "1800"
+SIDE_BY_SIDE = 4
+# the cases are played in so many groups
+GROUPS = 4
+
+
+class Failed(Exception):
+    """What was printed by something that failed."""
+
+
+class Test(NamedTuple):
+    name: str
+    path: str
+    tier: str
+    seconds: int
+    says: dict
+
+    def words(self, key):
+        return self.says.get(key, "").split()
+
+    def command(self):
+        start = [sys.executable, "-m", self.path[:-3].replace("/", ".")] if self.path.endswith(".py") else ["sh", self.path]
+        return [*start, *self.words("words")]
+
+    def title(self):
+        return " ".join([self.name, *(it for it in self.words("words") if it.startswith("-"))])
+
+
+def listed():
+    """All tests, the cheapest of each tier first."""
+    found = []
+    for path in sorted(glob.glob("tests/*/*.py") + glob.glob("tests/*/*.sh") + glob.glob("tools/*.sh")):
+        for tier, seconds, more in HEAD.findall(read(path)):
+            says = dict(it.split(": ", 1) for it in more.split("; ")[1:])
+            found.append(Test(os.path.basename(path).rpartition(".")[0], path, tier, int(seconds), says))
+    return sorted(found, key=lambda it: (TIERS.index(it.tier), it.seconds, it.title()))
+
+
+# --- running
+
+def run(*words, cwd=".", env=None):
+    """The exit status of a command, and both its outputs."""
+    with tempfile.TemporaryFile() as errors:
+        ran = subprocess.run(words, cwd=cwd, env=env, stdin=subprocess.DEVNULL, stdout=subprocess.PIPE, stderr=errors, check=False)
+        errors.seek(0)
+        return ran.returncode, (ran.stdout + errors.read()).decode("utf-8", "replace")
+
+
+def passes(*words, env=None):
+    """What a command printed that has to succeed: its last line, after those that say what was not done."""
+    status, said = run(*words, env=env)
+    if status:
+        raise Failed(said)
+    lines = said.rstrip().split("\n")
+    return "\n".join([*(it for it in lines[:-1] if re.match(r"(skipped|not \w+), ", it)), lines[-1]])
+
+
+class Tally:
+    """What has been run, and whether anything failed."""
+
+    def __init__(self, jobs):
+        self.jobs, self.begun = jobs, time.monotonic()
+        self.lines = []
+        self.failed = []
+
+    def far(self):
+        return f"{len(self.lines) + len(self.failed)} of {len(self.jobs)}, {time.monotonic() - self.begun:.0f} seconds"
+
+    def take(self, name, result):
+        try:
+            line = result()
+            self.lines.append(line)
+            print(f"{self.far()}: {name}: {line}", flush=True)
+        except Failed as failed:
+            self.failed.append(name)
+            print(f"{self.far()}: FAILED: {name}\n{str(failed).rstrip()}", flush=True)
+
+    def take_all(self):
+        """Takes each result as it comes. What runs is printed if nothing comes for a while."""
+        left = {*self.jobs}
+        while left:
+            done, left = wait(left, SECONDS_SILENT, FIRST_COMPLETED)
+            for job in done:
+                self.take(self.jobs[job], job.result)
+            if not done:
+                print(f"{self.far()}; now {', '.join(name for job, name in self.jobs.items() if job.running())}", flush=True)
+
+    def count(self, pattern):
+        found = (re.match(pattern, line) for line in self.lines)
+        return sum(int(it[1]) for it in found if it)
+
+    def end(self):
+        if self.failed:
+            print(f"{len(self.failed)} failed: {', '.join(self.failed)}")
+        return 1 if self.failed else 0
+
+
+def missing(tests):
+    """What tests need and is not there."""
+    needed = sorted({it for test in tests for it in test.words("needs")})
+    return [it for it in needed if not shutil.which(it) and (it not in ("venv", "selenium") or not importlib.util.find_spec(it))]
+
+
+def tools_there(tests):
+    """Names the tools that are missing; an error where all have to be there."""
+    absent = missing(tests)
+    for it in absent:
+        without = ", ".join(test.title() for test in tests if it in test.words("needs"))
+        print(f"{it} is missing, of Debian's package {PACKAGES[it]}: not all of {without} is run", flush=True)
+    if absent and os.environ.get("V7_CI"):
+        sys.exit("all tools have to be there, as V7_CI is set")
+
+
+def run_listed(tests):
+    """Runs tests with the programs that are there, one after another."""
+    tools_there(tests)
+    print(f"{len(tests)} tests, about {sum(it.seconds for it in tests) / 60:.1f} minutes on an idle machine", flush=True)
+    with ThreadPoolExecutor(1) as pool:
+        tally = Tally({pool.submit(passes, *it.command()): it.title() for it in tests})
+        tally.take_all()
+    return tally.end()
+
+
+# --- the tests of code
+
+def crates_with_tests():
+    """How many functions with `#[test]` each crate has."""
+    counts = {}
+    for path in sorted(glob.glob("crates/*/src/**/*.rt", recursive=True)):
+        count = len(re.findall(r"^ *#\[test\]", read(path), re.M))
+        if count:
+            name = path.split("/")[1]
+            counts[name] = counts.get(name, 0) + count
+    return counts
+
+
+def run_tests(name, count):
+    """Runs the tests of a crate: each of them has to run."""
+    status, said = run("rt", "try", "--test", "--seconds", SECONDS, cwd=f"crates/{name}")
+    found = re.search(r"^test result: ok\. (\d+) passed; 0 failed", said, re.M)
+    if status or not found or int(found[1]) != count:
+        said = re.sub(r"^test .* \.\.\. ok\n", "", said, flags=re.M)
+        raise Failed(f"{said}{count} tests of {name} should have passed, and the status was {status}\n")
+    return f"{count} tests of {name}"
+
+
+# --- cases, by programs that are compiled without proof
+
+def weight(path):
+    """About how long a case file takes: how often something is repeated in it. What is short is repeated quickly."""
+    counts = re.findall(r"\* ?(\d+)|^names \S+ (\d+)", read(path), re.M)
+    return 1000 + sum(min(int(one or other), 500_000) for one, other in counts)
+
+
+def shares():
+    """The case files in groups that take about the same time."""
+    groups = [[] for _ in range(GROUPS)]
+    for path in sorted(glob.glob("tests/cases/data/*.case"), key=lambda path: -weight(path)):
+        min(groups, key=lambda group: sum(map(weight, group))).append(path)
+    return [sorted(group) for group in groups if group]
+
+
+def compiled(program, folder):
+    """Compiles a program without proof."""
+    try:
+        compile_program(TOP, program, folder)
+    except NotCompiled as reason:
+        raise Failed(f"{program} is not compiled: {reason}\n") from None
+    return f"{program} compiled"
+
+
+def once_compiled(programs, folder, *words):
+    """Runs a command with the compiled programs, once these are there."""
+    wait(programs)
+    if any(job.exception() for job in programs):
+        raise Failed("a program is not compiled\n")
+    return passes(*words, env={**os.environ, "V7_BUILD": folder, "V7_SECONDS": SECONDS})
+
+
+def run_unproved(tests):
+    """Runs tests side by side, with programs that are compiled without proof, the cases, and the tests of crates."""
+    tools_there(tests)
+    print("Programs are compiled, cases played, texts compared, and the tests of crates run: about 5 minutes on four idle processors.")
+    print("All of this is compiled without proof, so it proves nothing: make gate proves it.", flush=True)
+    play = [sys.executable, "-m", "tests.cases.cases"]
+    with tempfile.TemporaryDirectory() as folder, ThreadPoolExecutor(min(SIDE_BY_SIDE, len(os.sched_getaffinity(0)))) as pool:
+        # nothing that waits comes before what it waits for
+        programs = {pool.submit(compiled, name, folder): f"the program {name}" for name in CRATES}
+        work = [(it.title(), passes, *it.command()) for it in tests if not it.words("programs")]
+        work += [(f"cases of {' '.join(files)}", once_compiled, [*programs], folder, *play, *files) for files in shares()]
+        work += [(it.title(), once_compiled, [*programs], folder, *it.command()) for it in tests if it.words("programs")]
+        counts = sorted(crates_with_tests().items(), key=lambda it: -it[1])
+        work += [(f"tests of {name}", run_tests, name, count) for name, count in counts]
+        tally = Tally({**programs, **{pool.submit(*rest): name for name, *rest in work}})
+        tally.take_all()
+    print(f"{tally.count('([0-9]+) cases played')} cases and {tally.count('([0-9]+) tests of ')} tests passed: nothing was proved")
+    return tally.end()
+
+
+# --- which tests and crates a change concerns
+
+def programs_with(crate):
+    """The programs, and libv7, that have a crate in them."""
+    heads = {**{name: head for name, (head, _) in CRATES.items()}, "libv7": "v7_c"}
+    return {name for name, head in heads.items() if crate in {it.name for it in crates_under(head)}}
+
+
+def concern(path, test):
+    """Why a change of a file concerns a test, or nothing."""
+    crate = path.split("/")[1] if path.startswith("crates/") else ""
+    imports = " ".join(re.findall(r"^(?:from|import) .*", read(test.path), re.M)) if path.startswith("tests/") else ""
+    module = os.path.basename(path).partition(".")[0]
+    if any(path.startswith(it) for it in [test.path, *test.words("for")]) or re.search(rf"\b{module}\b", imports):
+        return "made for it"
+    own = programs_with(crate) & {*test.words("programs")} if crate else set()
+    return f"runs {' '.join(sorted(own))}" if own else ""
+
+
+def tell_crate(name):
+    """What to do in a crate, and the crates that are proved again after it."""
+    crates = {it.name: it for it in crates_under(*re.findall(r"^(\w+)[^:#\n]*:", read("crates.txt"), re.M))}
+    above = [it.name for it in crates.values() if crates[name] in it.below]
+    count = sum(crates[it].functions() for it in [name, *above])
+    print(f"in crates/{name}: rt try --test, and then rt check: {crates[name].functions()} functions")
+    print(f"above it are {len(above)} crates: {' '.join(above)}" if above else "no crate is above it")
+    print(f"all of them are proved in about {count * SECONDS_EACH / 60:.0f} minutes of a processor, by make gate")
+    print(f"its wrong bodies: make check-wrong-bodies NAMES={name}")
+
+
+def which(*paths):
+    """Prints the tests and the crates that a change of these files concerns."""
+    for name in sorted({path.split("/")[1] for path in paths if path.startswith("crates/") and path.count("/") > 1}):
+        tell_crate(name)
+    print("in each case: make check-text, 1 minute; make test, 5 minutes, which proves nothing; before it is merged: make check")
+    reasons = [(test, {concern(path, test) for path in paths} - {""}) for test in listed() if test.tier != "text"]
+    for test, why in sorted(((test, why) for test, why in reasons if why), key=lambda it: "made for it" not in it[1]):
+        print(f"  python3 -m tests {test.name:20} {test.seconds / 60:5.1f} minutes  {', '.join(sorted(why))}")
+    return 0
+
+
+def named(tests, word):
+    """The tests of a tier, a folder or a name. What takes hours is named by its tier, or has no other test of this name."""
+    found = [it for it in tests if word in (it.name, it.path.split("/")[-2])]
+    found = [it for it in tests if it.tier == word] or [it for it in found if it.tier != "all"] or found
+    if not found:
+        sys.exit(f"there is no test {word}: python3 -m tests list")
+    return found
+
+
+def main(words):
+    os.chdir(TOP)
+    tests = listed()
+    if words[:1] == ["which"] and words[1:]:
+        return which(*(os.path.relpath(os.path.abspath(it), TOP) for it in words[1:]))
+    if words[:1] == ["needs"] and words[1:] and words[1] in TIERS:
+        before = TIERS[: TIERS.index(words[1]) + 1]
+        print(*sorted({PACKAGES[it] for test in tests if test.tier in before for it in test.words("needs")}), sep="\n")
+        return 0
+    if words == ["list"]:
+        for it in tests:
+            print(f"{it.tier:5} {it.title():24} {it.seconds:5} seconds  {it.path}  {' '.join(it.words('programs'))}".rstrip())
+        return 0
+    if words == ["test"]:
+        return run_unproved([it for it in tests if it.tier in ("text", "test")])
+    chosen = [test for word in words for test in named(tests, word)]
+    if not chosen:
+        sys.exit(__doc__)
+    return run_listed(sorted({test.title(): test for test in chosen}.values(), key=tests.index))
+
+
+if __name__ == "__main__":
+    sys.exit(main(sys.argv[1:]))

@@ -1,0 +1,36 @@
+"""The folder of the repository, and files in it or in a folder that a script works in."""
+import contextlib
+import os
+import tempfile
+
+from tests import TOP  # noqa: F401, what scripts join to the name of a file once they work in another folder
+
+
+def read(path):
+    """The text of a file."""
+    with open(path, encoding="utf-8") as file:
+        return file.read()
+
+
+def read_bytes(path):
+    with open(path, "rb") as file:
+        return file.read()
+
+
+def write(path, data):
+    """Writes bytes or a text, with the folders that the path needs."""
+    os.makedirs(os.path.dirname(path) or ".", exist_ok=True)
+    with open(path, "wb") as file:
+        file.write(data if isinstance(data, bytes) else data.encode())
+
+
+@contextlib.contextmanager
+def room():
+    """A new folder, in which the script works, and which is gone at the end."""
+    before = os.getcwd()
+    with tempfile.TemporaryDirectory() as folder:
+        os.chdir(folder)
+        try:
+            yield folder
+        finally:
+            os.chdir(before)

@@ -1,0 +1,33 @@
+"""The programs that are tested, and commands: the programs are in build/, or in the folder V7_BUILD."""
+import os
+import subprocess
+import sys
+from typing import NamedTuple
+
+from tests import TOP
+
+BUILD = os.path.abspath(os.environ.get("V7_BUILD") or os.path.join(TOP, "build"))
+
+
+class Ran(NamedTuple):
+    status: int
+    out: bytes
+    err: bytes
+
+    def texts(self, encoding="latin-1"):
+        """The status, and both outputs as texts."""
+        return self.status, self.out.decode(encoding), self.err.decode(encoding)
+
+
+def program(name):
+    """The path of a program, which has to be there."""
+    path = os.path.join(BUILD, name)
+    if not os.access(path, os.X_OK):
+        sys.exit(f"{path} is missing: make build/{name} makes it with proof, make quick without")
+    return path
+
+
+def ran(*words, given=b"", seconds=None, **how):
+    """Runs a command whose input is these bytes."""
+    done = subprocess.run(words, input=given, stdout=subprocess.PIPE, stderr=subprocess.PIPE, timeout=seconds, check=False, **how)
+    return Ran(done.returncode, done.stdout, done.stderr)
