@@ -1,9 +1,9 @@
 # v7: see README.md. The command `rt` of the Rattle kit has to be on the PATH, but for what needs no kit.
 #
-#: make            proves and builds the five programs into build/                             kit         40 minutes
+#: make            proves and builds the five programs into build/                             kit         20 minutes
 #: make quick      compiles them without proof into build/quick, and shows a session          kit          2 minutes
-#: make lib wheel  proves and builds libv7, and makes its wheel of Python                      kit         30 minutes
-#: make dist       makes the packages of a release in dist/                                    kit         60 minutes
+#: make lib wheel  proves and builds libv7, and makes its wheel of Python                      kit         20 minutes
+#: make dist       makes the packages of a release in dist/                                    kit         25 minutes
 #: make page       makes the page of the lesson, build/lesson.html; `lesson` prints its steps  kit         10 minutes
 #: make install install-lib uninstall clean                                                    the builds
 #:

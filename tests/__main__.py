@@ -18,15 +18,16 @@ import importlib.util
 import os
 import re
 import shutil
-import subprocess
 import sys
 import tempfile
-import time
-from concurrent.futures import FIRST_COMPLETED, ThreadPoolExecutor, wait
+from collections import Counter
+from concurrent.futures import ThreadPoolExecutor, wait
 from typing import NamedTuple
 
 from tests.lib.files import TOP, read
-from tools.compiling import CRATES, SECONDS_SILENT, NotCompiled, compile_program
+from tests.lib.programs import ran
+from tests.lib.tally import Failed, Tally
+from tools.compiling import CRATES, compile_program
 from tools.prove import SECONDS_EACH, crates_under
 
 TIERS = ["text", "test", "check", "all"]
@@ -43,10 +44,6 @@ SECONDS = "1800"
 SIDE_BY_SIDE = 4
 # the cases are played in so many groups
 GROUPS = 4
-
-
-class Failed(Exception):
-    """What was printed by something that failed."""
 
 
 class Test(NamedTuple):
@@ -79,61 +76,13 @@ def listed():
 
 # --- running
 
-def run(*words, cwd=".", env=None):
-    """The exit status of a command, and both its outputs."""
-    with tempfile.TemporaryFile() as errors:
-        ran = subprocess.run(words, cwd=cwd, env=env, stdin=subprocess.DEVNULL, stdout=subprocess.PIPE, stderr=errors, check=False)
-        errors.seek(0)
-        return ran.returncode, (ran.stdout + errors.read()).decode("utf-8", "replace")
-
-
 def passes(*words, env=None):
     """What a command printed that has to succeed: its last line, after those that say what was not done."""
-    status, said = run(*words, env=env)
-    if status:
-        raise Failed(said)
-    lines = said.rstrip().split("\n")
-    return "\n".join([*(it for it in lines[:-1] if re.match(r"(skipped|not \w+), ", it)), lines[-1]])
-
-
-class Tally:
-    """What has been run, and whether anything failed."""
-
-    def __init__(self, jobs):
-        self.jobs, self.begun = jobs, time.monotonic()
-        self.lines = []
-        self.failed = []
-
-    def far(self):
-        return f"{len(self.lines) + len(self.failed)} of {len(self.jobs)}, {time.monotonic() - self.begun:.0f} seconds"
-
-    def take(self, name, result):
-        try:
-            line = result()
-            self.lines.append(line)
-            print(f"{self.far()}: {name}: {line}", flush=True)
-        except Failed as failed:
-            self.failed.append(name)
-            print(f"{self.far()}: FAILED: {name}\n{str(failed).rstrip()}", flush=True)
-
-    def take_all(self):
-        """Takes each result as it comes. What runs is printed if nothing comes for a while."""
-        left = {*self.jobs}
-        while left:
-            done, left = wait(left, SECONDS_SILENT, FIRST_COMPLETED)
-            for job in done:
-                self.take(self.jobs[job], job.result)
-            if not done:
-                print(f"{self.far()}; now {', '.join(name for job, name in self.jobs.items() if job.running())}", flush=True)
-
-    def count(self, pattern):
-        found = (re.match(pattern, line) for line in self.lines)
-        return sum(int(it[1]) for it in found if it)
-
-    def end(self):
-        if self.failed:
-            print(f"{len(self.failed)} failed: {', '.join(self.failed)}")
-        return 1 if self.failed else 0
+    done = ran(*words, env=env)
+    if done.status:
+        raise Failed(done.said())
+    lines = done.said().rstrip().split("\n")
+    return "\n".join([*(it for it in lines[:-1] if re.match(r"skipped\b|(.*: )?not (run|assembled|measured|formatted)\b", it)), lines[-1]])
 
 
 def missing(tests):
@@ -166,22 +115,16 @@ def run_listed(tests):
 
 def crates_with_tests():
     """How many functions with `#[test]` each crate has."""
-    counts = {}
-    for path in sorted(glob.glob("crates/*/src/**/*.rt", recursive=True)):
-        count = len(re.findall(r"^ *#\[test\]", read(path), re.M))
-        if count:
-            name = path.split("/")[1]
-            counts[name] = counts.get(name, 0) + count
-    return counts
+    return Counter(path.split("/")[1] for path in glob.glob("crates/*/src/**/*.rt", recursive=True) for _ in re.findall(r"^ *#\[test\]", read(path), re.M))
 
 
 def run_tests(name, count):
     """Runs the tests of a crate: each of them has to run."""
-    status, said = run("rt", "try", "--test", "--seconds", SECONDS, cwd=f"crates/{name}")
-    found = re.search(r"^test result: ok\. (\d+) passed; 0 failed", said, re.M)
-    if status or not found or int(found[1]) != count:
-        said = re.sub(r"^test .* \.\.\. ok\n", "", said, flags=re.M)
-        raise Failed(f"{said}{count} tests of {name} should have passed, and the status was {status}\n")
+    done = ran("rt", "try", "--test", "--seconds", SECONDS, cwd=f"crates/{name}")
+    found = re.search(r"^test result: ok\. (\d+) passed; 0 failed", done.said(), re.M)
+    if done.status or not found or int(found[1]) != count:
+        said = re.sub(r"^test .* \.\.\. ok\n", "", done.said(), flags=re.M)
+        raise Failed(f"{said}{count} tests of {name} should have passed, and the status was {done.status}\n")
     return f"{count} tests of {name}"
 
 
@@ -201,15 +144,6 @@ def shares():
     return [sorted(group) for group in groups if group]
 
 
-def compiled(program, folder):
-    """Compiles a program without proof."""
-    try:
-        compile_program(TOP, program, folder)
-    except NotCompiled as reason:
-        raise Failed(f"{program} is not compiled: {reason}\n") from None
-    return f"{program} compiled"
-
-
 def once_compiled(programs, folder, *words):
     """Runs a command with the compiled programs, once these are there."""
     wait(programs)
@@ -226,12 +160,11 @@ def run_unproved(tests):
     play = [sys.executable, "-m", "tests.cases.cases"]
     with tempfile.TemporaryDirectory() as folder, ThreadPoolExecutor(min(SIDE_BY_SIDE, len(os.sched_getaffinity(0)))) as pool:
         # nothing that waits comes before what it waits for
-        programs = {pool.submit(compiled, name, folder): f"the program {name}" for name in CRATES}
+        programs = {pool.submit(compile_program, TOP, name, folder): f"the program {name}" for name in CRATES}
         work = [(it.title(), passes, *it.command()) for it in tests if not it.words("programs")]
         work += [(f"cases of {' '.join(files)}", once_compiled, [*programs], folder, *play, *files) for files in shares()]
         work += [(it.title(), once_compiled, [*programs], folder, *it.command()) for it in tests if it.words("programs")]
-        counts = sorted(crates_with_tests().items(), key=lambda it: -it[1])
-        work += [(f"tests of {name}", run_tests, name, count) for name, count in counts]
+        work += [(f"tests of {name}", run_tests, name, count) for name, count in crates_with_tests().most_common()]
         tally = Tally({**programs, **{pool.submit(*rest): name for name, *rest in work}})
         tally.take_all()
     print(f"{tally.count('([0-9]+) cases played')} cases and {tally.count('([0-9]+) tests of ')} tests passed: nothing was proved")
@@ -242,7 +175,7 @@ def run_unproved(tests):
 
 def programs_with(crate):
     """The programs, and libv7, that have a crate in them."""
-    heads = {**{name: head for name, (head, _) in CRATES.items()}, "libv7": "v7_c"}
+    heads = {**{name: head for name, (head, _) in CRATES.items()}, "libv7.so": "v7_c"}
     return {name for name, head in heads.items() if crate in {it.name for it in crates_under(head)}}
 
 
@@ -263,7 +196,7 @@ def tell_crate(name):
     above = [it.name for it in crates.values() if crates[name] in it.below]
     count = sum(crates[it].functions() for it in [name, *above])
     print(f"in crates/{name}: rt try --test, and then rt check: {crates[name].functions()} functions")
-    print(f"above it are {len(above)} crates: {' '.join(above)}" if above else "no crate is above it")
+    print(f"crates above it: {' '.join(above) or 'none'}")
     print(f"all of them are proved in about {count * SECONDS_EACH / 60:.0f} minutes of a processor, by make gate")
     print(f"its wrong bodies: make check-wrong-bodies NAMES={name}")
 
@@ -273,9 +206,9 @@ def which(*paths):
     for name in sorted({path.split("/")[1] for path in paths if path.startswith("crates/") and path.count("/") > 1}):
         tell_crate(name)
     print("in each case: make check-text, 1 minute; make test, 5 minutes, which proves nothing; before it is merged: make check")
-    reasons = [(test, {concern(path, test) for path in paths} - {""}) for test in listed() if test.tier != "text"]
+    reasons = [(test, {concern(path, test) for path in paths} - {""}) for test in listed() if test.tier in ("check", "all")]
     for test, why in sorted(((test, why) for test, why in reasons if why), key=lambda it: "made for it" not in it[1]):
-        print(f"  python3 -m tests {test.name:20} {test.seconds / 60:5.1f} minutes  {', '.join(sorted(why))}")
+        print(f"  python3 -m tests {test.title():20} {test.seconds / 60:5.1f} minutes  {', '.join(sorted(why))}")
     return 0
 
 

@@ -139,8 +139,7 @@ def request(word):
     return word
 
 
-KINDS = {"FILE": path, "FROM": path, "N": number, "BYTE": number, "HH": some_bytes, "NAME": bytes, "PREFIX": bytes,
-         "REQUEST": request, "EDIT": bytes}
+KINDS = {"FILE": path, "FROM": path, "N": number, "BYTE": number, "HH": some_bytes, "NAME": bytes, "PREFIX": bytes, "REQUEST": request, "EDIT": bytes}
 FORMS = {
     "use": ["FILE .."],
     "object": ["FILE"],

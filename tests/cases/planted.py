@@ -16,7 +16,6 @@ import glob
 import os
 import re
 import shutil
-import subprocess
 import sys
 import tempfile
 from concurrent.futures import ThreadPoolExecutor
@@ -25,7 +24,9 @@ from tests import TOP
 from tests.lib.files import write
 from tests.wrong_bodies import edits
 from tests.programs import largest
-from tools.compiling import CRATES, NotCompiled, compile_library, compile_program, uses_of
+from tests.lib.programs import ran
+from tests.lib.tally import Failed
+from tools.compiling import CRATES, compile_library, compile_program, uses_of
 
 CASES = os.path.join(TOP, "tests", "cases", "data")
 PAGE = "docs/internals/PLANTED.md"
@@ -109,12 +110,10 @@ def row_fails(folder, name):
     """Whether a row of largest.py fails."""
     script, row = name.split(": ")
     words = ["tests.libv7.largest_library" if script == "largest_library.py" else "tests.programs.largest", row]
-    ran = subprocess.run([sys.executable, "-m", *words], cwd=TOP, stdout=subprocess.PIPE, stderr=subprocess.STDOUT, check=False,
-                         env={**os.environ, "LIBV7": os.path.join(folder, "libv7.so"), "V7_BUILD": folder})
-    said = ran.stdout.decode("utf-8", "replace")
-    if not re.search(r"^(?:programs|libv7): [01] of 1 answers .*\n\Z", said, re.M):
-        raise Fault(said)
-    return ran.returncode != 0
+    done = ran(sys.executable, "-m", *words, cwd=TOP, env={**os.environ, "LIBV7": os.path.join(folder, "libv7.so"), "V7_BUILD": folder})
+    if not re.search(r"^(?:programs|libv7): [01] of 1 answers .*\n\Z", done.said(), re.M):
+        raise Fault(done.said())
+    return done.status != 0
 
 
 def cases_that_fail(folder, texts):
@@ -123,9 +122,8 @@ def cases_that_fail(folder, texts):
     with tempfile.NamedTemporaryFile("w", suffix=".case", encoding="ascii") as file:
         file.writelines(texts.values())
         file.flush()
-        ran = subprocess.run([sys.executable, "-m", "tests.cases.cases", file.name], cwd=TOP, stdout=subprocess.PIPE,
-                             stderr=subprocess.STDOUT, env={**os.environ, "V7_BUILD": folder, "V7_SECONDS": SECONDS}, check=False)
-    said = ran.stdout.decode("ascii", "replace")
+        environment = {**os.environ, "V7_BUILD": folder, "V7_SECONDS": SECONDS}
+        said = ran(sys.executable, "-m", "tests.cases.cases", file.name, cwd=TOP, env=environment).said()
     names = re.findall(r"^ok (\w+)", said, re.M) + re.findall(rf"^{file.name}:\d+: (\w+): ", said, re.M)
     if sorted(names) != sorted(texts) or re.search(r": build/\S+ is missing$", said, re.M):
         raise Fault(said)
@@ -203,7 +201,7 @@ def list_failing(bugs):
         for bug in bugs:
             try:
                 print(f"{bug}: {' '.join(failing(bug, there, good, True))}", flush=True)
-            except (Fault, NotCompiled) as fault:
+            except (Fault, Failed) as fault:
                 print(f"{bug}: {fault}", flush=True)
 
 
@@ -211,7 +209,7 @@ def try_row(bug, names, there, good):
     """Plants a bug: what is wrong, if not all cases fail that its row names."""
     try:
         found = failing(bug, {name: there[name] for name in names}, good)
-    except (Fault, NotCompiled) as fault:
+    except (Fault, Failed) as fault:
         return str(fault)
     passed = [name for name in names if name not in found] if names else ["no case is named"]
     return "not found: " + ", ".join(passed) if passed else None

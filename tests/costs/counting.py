@@ -15,9 +15,7 @@ import subprocess
 import sys
 import tempfile
 
-ENVIRONMENT = {
-    "GLIBC_TUNABLES": "glibc.cpu.x86_rep_movsb_threshold=0x10000000:glibc.cpu.x86_rep_stosb_threshold=0x10000000",
-}
+ENVIRONMENT = {"GLIBC_TUNABLES": "glibc.cpu.x86_rep_movsb_threshold=0x10000000:glibc.cpu.x86_rep_stosb_threshold=0x10000000"}
 
 
 def is_installed():
@@ -31,9 +29,7 @@ def is_installed():
 def valgrind(words, folder=None, script=""):
     """Runs a command under valgrind, whose options come before it, with this input."""
     environment = {**os.environ, **ENVIRONMENT}
-    return subprocess.run(
-        ["valgrind", *words], cwd=folder, input=script, env=environment, capture_output=True, text=True, check=False
-    )
+    return subprocess.run(["valgrind", *words], cwd=folder, input=script, env=environment, capture_output=True, text=True, check=False)
 
 
 def profiled(command, folder=None, script="", options=()):

@@ -6,11 +6,11 @@ There are 200 objects with 65,000 bytes of text. Each defines 20 names, and 12,8
 taken by a sequence of numbers that is the same each time. With -i the objects have 65,000 bytes of data more.
 """
 import glob
-import struct
 import sys
 
 from tests.costs.counting import counted, is_installed, milliseconds
 from tests.lib.files import room, write
+from tests.lib.objects import pack
 from tests.lib.programs import program
 
 OBJECTS = 200
@@ -53,9 +53,7 @@ def write_object(index, others, has_data):
 
 def write_parts(path, words, data, relocs, symbols):
     """Writes an object, whose words of data are numbers."""
-    body = [0o407, 2 * len(words), 2 * len(data), 0, 12 * len(symbols), 0, 0, 0, *words, *data, *relocs, *[0] * len(data)]
-    table = b"".join(struct.pack("<8sHH", b"n%05d" % name, kind, value) for name, kind, value in symbols)
-    write(path, struct.pack(f"<{len(body)}H", *body) + table)
+    write(path, pack(zip(words, relocs), [(word, 0) for word in data], symbols=[(b"n%05d" % name, kind, value) for name, kind, value in symbols]))
 
 
 def measure(v7, options, has_data):

@@ -7,11 +7,11 @@ words and names are listed and linked, and what one word and one name more cost 
 kept of them. Lists of one object have their room at once, so a list that has twice its room is seen.
 """
 import re
-import struct
 import sys
 
 from tests.costs.counting import valgrind
 from tests.lib.files import room, write
+from tests.lib.objects import pack
 from tests.lib.programs import program
 
 # a word and its relocation word as they are read
@@ -32,9 +32,7 @@ FRAME = 10000
 
 def write_object(path, words, names):
     """Writes an object of so many words of text, which are numbers, and of so many undefined names."""
-    header = struct.pack("<8H", 0o407, 2 * words, 0, 0, 12 * names, 0, 0, 0)
-    symbols = b"".join(struct.pack("<8sHH", b"n%06d" % n, 0o40, 0) for n in range(names))
-    write(path, header + bytes(4 * words) + symbols)
+    write(path, pack([(0, 0)] * words, symbols=[(b"n%06d" % n, 0o40, 0) for n in range(names)]))
 
 
 def asked(words, path):

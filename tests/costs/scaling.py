@@ -13,14 +13,13 @@ usage: python3 -m tests.costs.scaling [KIND ..]
 import math
 import os
 import re
-import struct
 import sys
 import tempfile
 from concurrent.futures import ThreadPoolExecutor
 
 from tests.costs.counting import counted, is_installed, profiled
 from tests.lib.files import write
-from tests.lib.gnu_form import gnu_named
+from tests.lib.objects import gnu_named, pack
 from tests.lib.programs import program
 
 MOST_SYMBOLS = 5461
@@ -68,10 +67,7 @@ class Work:
 
     def object(self, name, words=(), symbols=()):
         """Writes an object: its text, each word with its relocation word, and its symbols, each with type word and value."""
-        header = (0o407, 2 * len(words), 0, 0, 12 * len(symbols), 0, 0, 0)
-        body = [*header, *(word for word, _ in words), *(reloc for _, reloc in words)]
-        table = b"".join(struct.pack("<8sHH", symbol.encode(), kind, value) for symbol, kind, value in symbols)
-        write(f"{self.folder}/{name}", struct.pack(f"<{len(body)}H", *body) + table)
+        write(f"{self.folder}/{name}", pack(words, symbols=[(symbol.encode(), kind, value) for symbol, kind, value in symbols]))
         return name
 
     def gnu_object(self, name, words, symbols):

@@ -18,6 +18,10 @@ class Ran(NamedTuple):
         """The status, and both outputs as texts."""
         return self.status, self.out.decode(encoding), self.err.decode(encoding)
 
+    def said(self):
+        """What both outputs have, one after the other."""
+        return (self.out + self.err).decode("utf-8", "replace")
+
 
 def program(name):
     """The path of a program, which has to be there."""

@@ -22,25 +22,29 @@ cd "$room"
 cp "$top"/examples/*.o .
 $build/v7 ld -s -o bad.o main.o >/dev/null
 failed=0
-if command -v pkg-config >/dev/null; then
+fail() {
+    echo "$1"
+    failed=1
+}
+
+# whether a tool is there
+has() {
+    command -v "$1" >/dev/null || { echo "skipped: $1 is not there"; return 1; }
+}
+
+if has pkg-config; then
     PKG_CONFIG_PATH=$room/installed/lib/pkgconfig
     export PKG_CONFIG_PATH
     compiles=$(pkg-config --cflags v7)
     links=$(pkg-config --libs v7)
     version=$(pkg-config --modversion v7)
 else
-    echo "skipped: pkg-config is not there"
     compiles=-I$room/installed/include
     links="-L$room/installed/lib -lv7"
     version=$(sed -n 's/^Version: //p' installed/lib/pkgconfig/v7.pc)
 fi
 archive=$room/installed/lib/libv7.a
 library=$room/installed/lib/libv7.so.0
-
-fail() {
-    echo "$1"
-    failed=1
-}
 
 # the names that a library shows, and those that the header declares
 sed -n 's/^uint32_t \(v7_[a-z_]*\)(.*/\1/p' installed/include/v7.h | sort >declared
@@ -89,11 +93,9 @@ header() {
 header $CC -std=c99 header.c
 header $CC -std=c11 header.c
 $CC -std=c89 $compiles -fsyntax-only header.c 2>&1 | grep -q 'v7.h needs C99' || fail "v7.h does not say that it needs C99"
-if command -v $CXX >/dev/null; then
+if has "$CXX"; then
     header $CXX -std=c++98 header.cpp
     header $CXX -std=c++17 header.cpp
-else
-    echo "skipped: $CXX is not there"
 fi
 
 # the objects of one link are linked by the program and by a command, which prints the line of each file first
@@ -210,7 +212,7 @@ LD_LIBRARY_PATH=$room/installed/lib${LD_LIBRARY_PATH:+:$LD_LIBRARY_PATH}
 export LD_LIBRARY_PATH
 links "C with libv7.so" ./by_shared
 session "C with libv7.so" ./ran_by_shared
-if command -v $CXX >/dev/null; then
+if has "$CXX"; then
     for standard in c++98 c++17; do
         $CXX -std=$standard -O2 -pedantic -Wall -Wextra -Werror -o by_cpp $compiles "$top/examples/cpp/link.cpp" $links || exit 1
         links "C++ ($standard)" ./by_cpp
@@ -227,9 +229,9 @@ run_shown() {
     (cd page && LIBV7=$library PYTHONPATH=$top/packaging/python sh -e ../shown.sh) >/dev/null && cmp theirs page/program || fail "docs/LIBRARY.md: the commands of $1"
     echo "docs/LIBRARY.md: the commands of $1"
 }
-if command -v pkg-config >/dev/null; then
+if has pkg-config; then
     for program in cc c++ python3 rustc; do
-        command -v $program >/dev/null && run_shown $program
+        has $program && run_shown $program
     done
 fi
 if $CC -g -fsanitize=address -o by_asan $compiles "$top/examples/c/link.c" "$archive" 2>/dev/null; then
@@ -241,79 +243,69 @@ if $CC -g -fsanitize=address -o by_asan $compiles "$top/examples/c/link.c" "$arc
 else
     echo "skipped: AddressSanitizer is not there"
 fi
-if command -v valgrind >/dev/null; then
+if has valgrind; then
     faulty "C with valgrind" valgrind -q --error-exitcode=9 --leak-check=full ./faults
     links "C with valgrind" "valgrind -q --error-exitcode=9 --leak-check=full ./by_c"
     session "C with valgrind" valgrind -q --error-exitcode=9 --leak-check=full ./ran_by_c
-else
-    echo "skipped: valgrind is not there"
 fi
-if command -v python3 >/dev/null; then
-    LIBV7=$library
-    PYTHONDONTWRITEBYTECODE=1
-    PYTHONPATH=$top
-    export LIBV7 PYTHONDONTWRITEBYTECODE PYTHONPATH
-    links Python "env PYTHONPATH=$top/packaging/python python3 $top/examples/python/link.py"
-    session Python env "PYTHONPATH=$top/packaging/python" python3 "$top/examples/python/session.py"
-    python3 -m tests.libv7.library || fail "Python: a check fails"
-    python3 -m tests.libv7.library_programs "${CHANGED:-40}" ||
-        fail "a program and the library differ"
-    python3 -m tests.libv7.agree_library ${CASES:-500 100 500} || fail "the model differs"
-    python3 -m tests.libv7.largest_library || fail "the largest inputs"
-    # a library with a fault in one field of all records of a map, of findings, or of their objects
-    $CC -std=c99 -O2 -Wall -Wextra -Werror -shared -fPIC -o planted.so $compiles "$top/tests/libv7/c/planted_records.c" -Wl,--whole-archive planted.a \
-        -Wl,--no-whole-archive || exit 1
-    plants=$(grep -o 'FIELD([a-z_]*, [a-z_]*)' "$top/tests/libv7/c/planted_records.c" | sed -n '/(record, name)/d; s/FIELD(\(.*\), \(.*\))/\1.\2/p')
-    # whether the model differs from it
-    differs() {
-        ! LIBV7=./planted.so PLANT=$1 python3 -m tests.libv7.agree_library 60 0 60 >planted.txt 2>&1
-    }
-    ! differs nothing || { cat planted.txt; fail "the model differs from the library without a fault in its records"; }
-    for plant in $plants; do
-        differs "$plant" || fail "a fault in $plant is not found"
-    done
-    echo "a fault in each of $(echo "$plants" | wc -l) fields of the records of maps and findings is found"
-    if command -v mypy >/dev/null; then
-        MYPYPATH=$top/packaging/python mypy --strict --cache-dir="$room/mypy" "$top/packaging/python/v7.py" ||
-            fail "Python: mypy does not take the type hints"
-        MYPYPATH=$top/packaging/python mypy --cache-dir="$room/mypy" "$top"/examples/python/*.py || fail "Python: mypy does not take the examples"
-        ! MYPYPATH=$top/packaging/python mypy --cache-dir="$room/mypy" "$top/tests/libv7/wrong_types.py" >wrong.txt &&
-            test "$(grep -c ': error: .* has incompatible type' wrong.txt)" -eq "$(grep -c '^v7' "$top/tests/libv7/wrong_types.py")" ||
-            { cat wrong.txt; fail "Python: mypy takes a wrong type"; }
-    else
-        echo "skipped: mypy is not there"
-    fi
-    python3 -m tests.costs.heavy_library || fail "the large benchmark"
-    unset LIBV7
-    # the wheel, in an environment that has nothing else
-    if python3 -m venv fresh 2>/dev/null; then
-        (cd "$top" && python3 packaging/python/backend.py "$room" >/dev/null) || fail "Python: no wheel is made"
-        mkdir wheel
-        cp "$top"/examples/python/*.py wheel
-        python3 -m tests.libv7.wheel v7-*.whl || fail "Python: the wheel is not as an index wants it"
-        fresh/bin/pip install -q --no-index --disable-pip-version-check v7-*.whl || fail "Python: the wheel is not installed"
-        links "Python, from the wheel" "env -u LD_LIBRARY_PATH fresh/bin/python wheel/link.py"
-        session "Python, from the wheel" env -u LD_LIBRARY_PATH fresh/bin/python wheel/session.py
-        fresh/bin/pip install -q --no-index --disable-pip-version-check --force-reinstall "$top/packaging/python" ||
-            fail "Python: packaging/python is not installed by pip"
-        session "Python, installed by pyproject.toml" env -u LD_LIBRARY_PATH fresh/bin/python wheel/session.py
-    else
-        echo "skipped: python3 has no venv"
-    fi
-else
-    echo "skipped: python3 is not there"
+LIBV7=$library
+PYTHONDONTWRITEBYTECODE=1
+PYTHONPATH=$top
+export LIBV7 PYTHONDONTWRITEBYTECODE PYTHONPATH
+links Python "env PYTHONPATH=$top/packaging/python python3 $top/examples/python/link.py"
+session Python env "PYTHONPATH=$top/packaging/python" python3 "$top/examples/python/session.py"
+python3 -m tests.libv7.library || fail "Python: a check fails"
+python3 -m tests.libv7.library_programs "${CHANGED:-40}" ||
+    fail "a program and the library differ"
+python3 -m tests.libv7.agree_library ${CASES:-500 100 500} || fail "the model differs"
+python3 -m tests.libv7.largest_library || fail "the largest inputs"
+# a library with a fault in one field of all records of a map, of findings, or of their objects
+$CC -std=c99 -O2 -Wall -Wextra -Werror -shared -fPIC -o planted.so $compiles "$top/tests/libv7/c/planted_records.c" -Wl,--whole-archive planted.a \
+    -Wl,--no-whole-archive || exit 1
+plants=$(grep -o 'FIELD([a-z_]*, [a-z_]*)' "$top/tests/libv7/c/planted_records.c" | sed -n '/(record, name)/d; s/FIELD(\(.*\), \(.*\))/\1.\2/p')
+# whether the model differs from it
+differs() {
+    ! LIBV7=./planted.so PLANT=$1 python3 -m tests.libv7.agree_library 60 0 60 >planted.txt 2>&1
+}
+! differs nothing || { cat planted.txt; fail "the model differs from the library without a fault in its records"; }
+for plant in $plants; do
+    differs "$plant" || fail "a fault in $plant is not found"
+done
+echo "a fault in each of $(echo "$plants" | wc -l) fields of the records of maps and findings is found"
+if has mypy; then
+    MYPYPATH=$top/packaging/python mypy --strict --cache-dir="$room/mypy" "$top/packaging/python/v7.py" ||
+        fail "Python: mypy does not take the type hints"
+    MYPYPATH=$top/packaging/python mypy --cache-dir="$room/mypy" "$top"/examples/python/*.py || fail "Python: mypy does not take the examples"
+    ! MYPYPATH=$top/packaging/python mypy --cache-dir="$room/mypy" "$top/tests/libv7/wrong_types.py" >wrong.txt &&
+        test "$(grep -c ': error: .* has incompatible type' wrong.txt)" -eq "$(grep -c '^v7' "$top/tests/libv7/wrong_types.py")" ||
+        { cat wrong.txt; fail "Python: mypy takes a wrong type"; }
 fi
-if command -v rustc >/dev/null; then
+python3 -m tests.costs.heavy_library || fail "the large benchmark"
+unset LIBV7
+# the wheel, in an environment that has nothing else
+if python3 -m venv fresh 2>/dev/null; then
+    (cd "$top" && python3 packaging/python/backend.py "$room" >/dev/null) || fail "Python: no wheel is made"
+    mkdir wheel
+    cp "$top"/examples/python/*.py wheel
+    python3 -m tests.libv7.wheel v7-*.whl || fail "Python: the wheel is not as an index wants it"
+    fresh/bin/pip install -q --no-index --disable-pip-version-check v7-*.whl || fail "Python: the wheel is not installed"
+    links "Python, from the wheel" "env -u LD_LIBRARY_PATH fresh/bin/python wheel/link.py"
+    session "Python, from the wheel" env -u LD_LIBRARY_PATH fresh/bin/python wheel/session.py
+    fresh/bin/pip install -q --no-index --disable-pip-version-check --force-reinstall "$top/packaging/python" ||
+        fail "Python: packaging/python is not installed by pip"
+    session "Python, installed by pyproject.toml" env -u LD_LIBRARY_PATH fresh/bin/python wheel/session.py
+else
+    echo "skipped: python3 has no venv"
+fi
+if has rustc; then
     echo "$(rustc --version)"
     rustc -O -o by_rust -L "$room/installed/lib" -l v7 "$top/examples/rust/link.rs" || exit 1
     rustc -O -o ran_by_rust -L "$room/installed/lib" -l v7 "$top/examples/rust/session.rs" || exit 1
     links Rust ./by_rust
     session Rust ./ran_by_rust
-else
-    echo "skipped: rustc is not there"
 fi
 # the crates of Rust, in a copy, without any other crate
-if command -v cargo >/dev/null; then
+if has cargo; then
     cp -r "$top/packaging/rust" crates
     for manifest in crates/Cargo.toml crates/v7-sys/Cargo.toml; do
         grep -q "^version = \"$version\"" $manifest || fail "$manifest has another version"
@@ -321,7 +313,5 @@ if command -v cargo >/dev/null; then
     grep -q "^v7-sys = .*version = \"=$version\"" crates/Cargo.toml || fail "the crate v7 wants another v7-sys"
     LIBV7_DIR=$room/installed/lib cargo build -q --offline --release --example link --manifest-path crates/Cargo.toml || exit 1
     links "Rust by the crate v7" crates/target/release/examples/link
-else
-    echo "skipped: cargo is not there"
 fi
 exit $failed

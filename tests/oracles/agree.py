@@ -25,6 +25,7 @@ from itertools import zip_longest
 from pathlib import Path
 
 from tests.lib.compare import notices, same
+from tests.lib.objects import pack
 from tests.lib.programs import program
 from tests.oracles import model
 
@@ -39,10 +40,8 @@ TIME_LIMIT = 100
 
 # What has to occur at least once in a whole run; it is printed how many cases have it.
 LOADS = ['cannot open', 'read error', 'short header', 'bad magic number', 'odd size', 'truncated']
-OBJECTS = ['not an object', 'no relocation', 'bad relocation at word N',
-           'bad symbol number at word N']
-LIMITS = ['text full', 'data full', 'bss full', 'names full', 'does not fit', 'too many symbols',
-          'symbol number too large']
+OBJECTS = ['not an object', 'no relocation', 'bad relocation at word N', 'bad symbol number at word N']
+LIMITS = ['text full', 'data full', 'bss full', 'names full', 'does not fit', 'too many symbols', 'symbol number too large']
 REPORTS = ['Multiply defined', 'Entry point not in text', 'Undefined:']
 ANSWERS = ['added', 'withdrew', 'linked 0', 'linked 1', 'bad command', 'nothing to withdraw',
            'cannot create', 'write error', 'line too long', 'too many lines', 'usage']
@@ -61,22 +60,10 @@ class Case:
 
 # Objects
 
-def pack(text=(), data=(), bss=0, symbols=(), magic=0o407, flag=0, entry=0, unused=0, tail=b''):
-    """A file. Text and data are pairs of a word and a relocation word."""
-    words = [word for word, _ in (*text, *data)]
-    if flag == 0:
-        words += [relocation for _, relocation in (*text, *data)]
-    header = struct.pack('<8H', magic, 2 * len(text), 2 * len(data), bss, 12 * len(symbols),
-                         entry, unused, flag)
-    table = b''.join(struct.pack('<8sHH', *symbol) for symbol in symbols)
-    return header + struct.pack(f'<{len(words)}H', *words) + table + tail
-
-
 def symbol_of(rng, names, starts):
     """A random symbol of an object whose text, data, bss and end are at the starts."""
     name = rng.choice(names)
-    kind = rng.choices([MENTION, ABSOLUTE, TEXT, DATA, BSS, 0o24, 0o37, rng.randrange(32)],
-                       [8, 2, 4, 3, 2, 1, 1, 1])[0]
+    kind = rng.choices([MENTION, ABSOLUTE, TEXT, DATA, BSS, 0o24, 0o37, rng.randrange(32)], [8, 2, 4, 3, 2, 1, 1, 1])[0]
     if kind == MENTION:
         value = rng.choice([0, 0, 0, 1, 2, 3, 4, 10, rng.randrange(200)])
     elif kind in (TEXT, DATA, BSS):
@@ -117,8 +104,7 @@ def object_of(rng, names, **header):
 
 def program_of(rng, names):
     """A file that is whole, and perhaps no object."""
-    return object_of(rng, names, magic=rng.choice([0o405, 0o407, 0o407, 0o410, 0o411]),
-                     flag=rng.choice([0, 0, 1, 1, 2, 0o177777]))
+    return object_of(rng, names, magic=rng.choice([0o405, 0o407, 0o407, 0o410, 0o411]), flag=rng.choice([0, 0, 1, 1, 2, 0o177777]))
 
 
 def bad_object_of(rng, names):
@@ -140,12 +126,10 @@ def damage(rng, contents):
     way = rng.choice(['cut', 'bytes', 'header', 'header', 'relocation', 'none'])
     if way == 'cut':
         ends = [16, len(contents) - 1, len(contents) - 2, len(contents) - 12]
-        del contents[max(0, rng.choice([rng.randrange(17), rng.randrange(len(contents) + 1),
-                                        rng.choice(ends)])):]
+        del contents[max(0, rng.choice([rng.randrange(17), rng.randrange(len(contents) + 1), rng.choice(ends)])):]
     elif way == 'bytes':
         for _ in range(rng.randint(1, 3)):
-            contents[rng.choice([rng.randrange(16), rng.randrange(len(contents))])] = (
-                rng.choice([0, 1, 7, 8, 255, rng.randrange(256)]))
+            contents[rng.choice([rng.randrange(16), rng.randrange(len(contents))])] = (rng.choice([0, 1, 7, 8, 255, rng.randrange(256)]))
     elif way == 'header':
         old = struct.unpack_from('<8H', contents)
         place = rng.choice([0, 1, 2, 3, 4, 0, 4, rng.randrange(8)])
@@ -225,8 +209,7 @@ def link_case(rng, number):
     if number % 100 == 50:
         return usage_case(rng)
     names = rng.sample(NAMES, rng.choice([2, 3, 5, 8]))
-    files = {f'{place}.o': object_of(rng, names)
-             for place in range(rng.choice([1, 2, 2, 3, 3, 4, 5]))}
+    files = {f'{place}.o': object_of(rng, names) for place in range(rng.choice([1, 2, 2, 3, 3, 4, 5]))}
     paths = list(files)
     if rng.random() < 0.1:
         paths.append(rng.choice(paths))
@@ -236,8 +219,7 @@ def link_case(rng, number):
             bad = rng.choice(['bad', 'bad', 'bad', 'missing', 'folder'])
             paths.insert(rng.randint(0, len(paths)), bad)
     options = link_options(rng, names)
-    output = rng.choices(['out', 'a.out', 'nowhere/out', rng.choice(list(files)), '', '/dev/full'],
-                         [80, 10, 2, 6, 1, 1])[0]
+    output = rng.choices(['out', 'a.out', 'nowhere/out', rng.choice(list(files)), '', '/dev/full'], [80, 10, 2, 6, 1, 1])[0]
     if output != 'a.out':
         options.append(valued(rng, 'o', output.encode()))
     linked = output if output != '/dev/full' else 'out'
@@ -312,15 +294,13 @@ def full_case(rng):
 def fit_case(rng):
     """A program that ends near 65,536; some have too many symbols too."""
     option = rng.choice(['-n', '-i', '-r', '-rd', '-s', '-X'])
-    text = rng.choice([0, 2, 0o20000, 0o20002, 0o17776, 0o160000, 0o157776, 0o160002,
-                       2 * rng.randrange(0x4000)])
+    text = rng.choice([0, 2, 0o20000, 0o20002, 0o17776, 0o160000, 0o157776, 0o160002, 2 * rng.randrange(0x4000)])
     start = {'-n': (text + 0o17777) // 0o20000 * 0o20000, '-i': 0}.get(option, text)
     common = rng.choice([0, 0, 1, 2, 3, 2 * rng.randrange(0x1000) + 1, 0xffff])
     common_size = 0 if option == '-r' else (common + 1) // 2 * 2
     data = 2 * rng.randrange(max(1, 0x10000 - start - common_size) // 2 + 1) % 0x8000
     bss = near(rng, max(0, 0xfffe - start - common_size - data))
-    symbols = [(b'_c', EXTERNAL, common), (b'_t', EXTERNAL | TEXT, 0),
-               (b'_d', EXTERNAL | DATA, text)]
+    symbols = [(b'_c', EXTERNAL, common), (b'_t', EXTERNAL | TEXT, 0), (b'_d', EXTERNAL | DATA, text)]
     more = []
     if rng.random() < 0.15:
         more = many(b'L', 5461 - len(symbols) + rng.randrange(2), kind=ABSOLUTE)
@@ -398,8 +378,7 @@ def large_object(rng, place):
 
 
 def session_line(rng, good):
-    way = rng.choices(['add', 'withdraw', 'externals', 'undefined', 'link', 'refused', 'bad'],
-                      [10, 4, 2, 2, 4, 2, 1])[0]
+    way = rng.choices(['add', 'withdraw', 'externals', 'undefined', 'link', 'refused', 'bad'], [10, 4, 2, 2, 4, 2, 1])[0]
     if way == 'add':
         return b'add ' + rng.choice(good).encode()
     if way == 'link':
@@ -453,8 +432,7 @@ def fill(folder, files):
 
 def run_v7(v7, folder, arguments, script):
     try:
-        done = subprocess.run([v7, *arguments], cwd=folder, input=script, capture_output=True,
-                              timeout=TIME_LIMIT)
+        done = subprocess.run([v7, *arguments], cwd=folder, input=script, capture_output=True, timeout=TIME_LIMIT)
     except subprocess.TimeoutExpired:
         return f'no end in {TIME_LIMIT} seconds', b'', b''
     return done.returncode, done.stdout, done.stderr
@@ -510,8 +488,7 @@ def compare(v7, case, root=None):
             fill(folder, case.files)
         before = case.files
         for arguments, script in case.commands:
-            results = [run_v7(v7, folders[0], arguments, script),
-                       run_model(folders[1], arguments, script)]
+            results = [run_v7(v7, folders[0], arguments, script), run_model(folders[1], arguments, script)]
             after = [contents(folder) for folder in folders]
             lines = differences(results, after)
             if lines:

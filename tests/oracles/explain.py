@@ -7,17 +7,17 @@ The status has to be 1 if the file is damaged, with the words of v7 among the no
 file, and else 1. A program has to be named as one. DAMAGED files, cut, changed or enlarged, may not crash the program, or have it take
 much memory or time. That the listing of a file makes this file again is a theorem.
 """
-import os
+import glob
 import random
 import re
 import resource
-import struct
 import subprocess
 import sys
 
 from tests.lib.compare import notices
-from tests.lib.files import TOP, room, write
+from tests.lib.files import TOP, read_bytes, room, write
 from tests.lib.programs import program
+from tests.oracles import agree
 
 EXPLAIN, V7 = program("v7-explain"), program("v7")
 # what v7 says of files that are not damaged, and not objects
@@ -28,63 +28,17 @@ DAMAGED = int(sys.argv[1]) if len(sys.argv) > 1 else 500
 dice = random.Random(29)
 
 
-def words(count, of):
-    return [of() for _ in range(count)]
-
-
-def random_name():
-    kind = dice.randrange(4)
-    if kind == 0:
-        return bytes(dice.randrange(256) for _ in range(8))
-    alphabet = b"abcXYZ_.~09" if kind < 3 else bytes(range(1, 256))
-    return bytes(dice.choice(alphabet) for _ in range(dice.randrange(9))).ljust(8, b"\0")
-
-
-def random_type():
-    return dice.choice([0o40, 0o40, 0, 1, 2, 3, 4, 0o41, 0o42, 0o43, 0o44, 0o24, 0o37, dice.randrange(65536)])
-
-
-def random_symbol():
-    return struct.pack("<8sHH", random_name(), random_type(), dice.choice([0, 2, dice.randrange(65536)]))
-
-
-def random_reloc(undefined):
-    kind = dice.randrange(12)
-    if kind < 8:
-        return kind
-    if undefined and kind < 11:
-        return 16 * dice.choice(undefined) + 8 + dice.randrange(2)
-    return dice.randrange(65536) if dice.randrange(3) == 0 else 0
-
-
-def random_object():
-    """An object, mostly one that v7 takes."""
-    text, data = dice.randrange(12), dice.randrange(12)
-    symbols = [random_symbol() for _ in range(dice.randrange(9))]
-    undefined = [n for n, s in enumerate(symbols) if struct.unpack("<H", s[8:10])[0] & 0o77 == 0o40]
-    body = words(text + data, lambda: dice.randrange(65536)) + words(text + data, lambda: random_reloc(undefined))
-    entry, unused = dice.choice([(0, 0), (0, 0), (dice.randrange(65536), dice.randrange(65536))])
-    header = [0o407, 2 * text, 2 * data, 2 * dice.randrange(99), 12 * len(symbols), entry, unused, 0]
-    return struct.pack("<%dH" % (8 + len(body)), *header, *body) + b"".join(symbols)
+def made():
+    """A file, mostly an object that v7 takes, with names of any bytes."""
+    names = [*dice.sample(agree.NAMES, 4), *(bytes(dice.randrange(256) for _ in range(8)) for _ in range(4))]
+    return dice.choice([agree.object_of] * 4 + [agree.bad_object_of])(dice, names)
 
 
 def damaged(data):
-    """A file, cut, with bytes changed, with sizes changed, or with bytes after it."""
-    data = bytearray(data)
+    """A file, cut, with bytes changed, or with sizes changed, some of them several times."""
     for _ in range(dice.randrange(1, 4)):
-        kind = dice.randrange(5)
-        if kind == 0:
-            del data[dice.randrange(len(data) + 1):]
-        elif kind == 1 and data:
-            data[dice.randrange(len(data))] = dice.randrange(256)
-        elif kind == 2 and len(data) >= 16:
-            struct.pack_into("<H", data, 2 * dice.randrange(8), dice.choice([0, 1, 2, 12, 24, 65534, dice.randrange(65536)]))
-        elif kind == 3:
-            data += bytes(dice.randrange(256) for _ in range(dice.randrange(40)))
-        elif data:
-            at = dice.randrange(len(data))
-            data[at:at + 2] = data[at:at + 2][::-1]
-    return bytes(data)
+        data = agree.damage(dice, data)
+    return data
 
 
 def limits():
@@ -139,12 +93,8 @@ def numbered(items):
 
 
 def main():
-    examples = []
-    for name in sorted(os.listdir(os.path.join(TOP, "examples"))):
-        if name.endswith(".o"):
-            with open(os.path.join(TOP, "examples", name), "rb") as source:
-                examples.append(source.read())
-    objects = [data for data in examples if data[14:16] == b"\0\0"] + [random_object() for _ in range(1000)]
+    examples = map(read_bytes, sorted(glob.glob(f"{TOP}/examples/*.o")))
+    objects = [data for data in examples if data[14:16] == b"\0\0"] + [made() for _ in range(1000)]
     paths = numbered(objects)
     said = answers(paths)
     notices(check, paths[0], said[0] + "planted")

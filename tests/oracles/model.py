@@ -91,10 +91,8 @@ def read_file(contents):
         raise Refused('truncated')
     words = struct.unpack_from(f'<{count if flag else 2 * count}H', contents, HEADER_SIZE)
     pairs = list(zip(words, (0,) * count if flag else words[count:]))
-    symbols = [Symbol(name.split(b'\0')[0], kind, value)
-               for name, kind, value in struct.iter_unpack('<8sHH', contents[end:end + table])]
-    return File(magic, {TEXT: pairs[:text // 2], DATA: pairs[text // 2:]}, bss, symbols, entry,
-                unused, flag)
+    symbols = [Symbol(name.split(b'\0')[0], kind, value) for name, kind, value in struct.iter_unpack('<8sHH', contents[end:end + table])]
+    return File(magic, {TEXT: pairs[:text // 2], DATA: pairs[text // 2:]}, bss, symbols, entry, unused, flag)
 
 
 def write_file(file):
@@ -116,8 +114,7 @@ def read_object(contents):
         raise Refused('not an object')
     if file.flag != 0:
         raise Refused('no relocation')
-    named = {number for number, symbol in enumerate(file.symbols)
-             if symbol.type & EXTERNAL and symbol.kind == UNDEFINED}
+    named = {number for number, symbol in enumerate(file.symbols) if symbol.type & EXTERNAL and symbol.kind == UNDEFINED}
     for place, (_, relocation) in enumerate(file.words[TEXT] + file.words[DATA]):
         if relocation & KIND not in (*REFERS, NAMED):
             raise Refused(f'bad relocation at word {place}')
@@ -171,8 +168,7 @@ class Merged:
 
     def undefined(self):
         """The names that nothing defines; the linker itself defines the reserved ones."""
-        return [symbol.name for symbol in self.externals.values()
-                if symbol.is_undefined and symbol.name not in RESERVED]
+        return [symbol.name for symbol in self.externals.values() if symbol.is_undefined and symbol.name not in RESERVED]
 
 
 class Link:
@@ -191,8 +187,7 @@ class Link:
         words = {segment: self.linked_words(segment) for segment in (TEXT, DATA)}
         entry = self.symbols.get(self.entry)
         self.has_entry = entry is not None and entry.type == EXTERNAL + TEXT
-        self.file = File(self.magic, words, self.bss, table, entry.value if self.has_entry else 0,
-                         unused=0, flag=0 if 'r' in self.letters else 1)
+        self.file = File(self.magic, words, self.bss, table, entry.value if self.has_entry else 0, unused=0, flag=0 if 'r' in self.letters else 1)
         self.report = self.reported()
 
     def lay_out(self):
@@ -229,8 +224,7 @@ class Link:
     def moves(self):
         """Each object, with how far each of its segments moves; absolute numbers do not."""
         for file, before in zip(self.merged.objects, self.merged.before):
-            move = {segment: self.start[segment] + before[segment] - file.start(segment)
-                    for segment in SEGMENTS}
+            move = {segment: self.start[segment] + before[segment] - file.start(segment) for segment in SEGMENTS}
             yield file, {ABSOLUTE: 0, **move}
 
     def kept_locals(self):
@@ -264,8 +258,7 @@ class Link:
     def reported(self):
         """The lines of the report."""
         externals, undefined = self.merged.externals, self.merged.undefined()
-        multiples = self.merged.multiples + [
-            name for name in RESERVED if name in externals and not externals[name].is_undefined]
+        multiples = self.merged.multiples + [name for name in RESERVED if name in externals and not externals[name].is_undefined]
         lines = [name + b': Multiply defined' for name in multiples]
         if self.entry is not None and not self.has_entry:
             lines.append(self.entry + b': Entry point not in text')
@@ -299,8 +292,7 @@ def load(path, read):
 
 def add_object(merged, path):
     """The objects and, after them, that at the path."""
-    return load(path, lambda contents: Merged([*merged.objects, read_object(contents)],
-                                              merged.forced))
+    return load(path, lambda contents: Merged([*merged.objects, read_object(contents)], merged.forced))
 
 
 def store(path, file, write_error='write error'):
@@ -460,8 +452,7 @@ class Session:
         self.status |= status
         return link.report + [f'linked {path} {status}'.encode()]
 
-    COMMANDS = {('add', 2): add, ('withdraw', 1): withdraw, ('externals', 1): externals,
-                ('undefined', 1): undefined, ('link', 2): link}
+    COMMANDS = {('add', 2): add, ('withdraw', 1): withdraw, ('externals', 1): externals, ('undefined', 1): undefined, ('link', 2): link}
 
 
 def session(given, lines, script):

@@ -16,8 +16,7 @@ from tests.lib.programs import program
 from tests.programs import terminal
 
 # the words of the header, as docs/FORMAT.md has them
-HEADER = ["magic number 0407", "bytes of text", "bytes of data", "bytes of bss", "bytes of symbols", "entry point", "not used",
-          "1: no relocation"]
+HEADER = ["magic number 0407", "bytes of text", "bytes of data", "bytes of bss", "bytes of symbols", "entry point", "not used", "1: no relocation"]
 # the rest of ab.out, word by word
 CONTENTS = ["mov $6,r0: a.o loads the address of its data,", "which the link has made 6", "rts pc, of b.o", "the word of data"]
 

@@ -16,7 +16,7 @@ import sys
 
 from tests.lib.compare import Differs, notices, same
 from tests.lib.files import read_bytes, room, write
-from tests.lib.gnu_form import gnu_named
+from tests.lib.objects import gnu_named, pack
 from tests.lib.programs import program, ran
 from tests.oracles import agree
 from tests.oracles import map as maps
@@ -378,7 +378,7 @@ def to_convert(kind):
     data = gnu_named(words, relocs, [(name.rstrip(b"\0"), of, value) for name, of, value in rows])
     kept = [row for row in rows if row[1] not in (LOCAL, 0o144)]
     told = [f"v7-from-gnu: in: {name.decode()} is cut to {name[:8].decode()}\n" for name, _, _ in kept if len(name) > 8]
-    return data, "".join(told), agree.pack(list(zip(words, relocs)), symbols=cut(kept))
+    return data, "".join(told), pack(list(zip(words, relocs)), symbols=cut(kept))
 
 
 def converted(kind):
@@ -403,7 +403,7 @@ def converted_together(kind):
     os.mkdir("out")
     same("answer", answer("v7-from-gnu", "-q", "-o", "out", *files), (0, "", ""))
     for path, rows in files.items():
-        same(path, read_bytes(f"out/{path}"), agree.pack([(NOP, 0)], symbols=cut(rows)))
+        same(path, read_bytes(f"out/{path}"), pack([(NOP, 0)], symbols=cut(rows)))
 
 
 # --- the table

@@ -1,6 +1,5 @@
-"""Compares the statuses and the lines of v7-from-gnu, for each reason to refuse an object, and those of v7-lesson, for each step.
-
-The object in GNU's form is made here; one byte of it at a time is changed. v7-from-gnu(1) lists the reasons.
+"""Compares the statuses and the lines of v7-from-gnu, for many files and for files that are large, and those of v7-lesson, for each step.
+The objects in GNU's form are made here.
 
 tier: check, 5 seconds; programs: v7-from-gnu v7-lesson; for: crates/gnu_objects crates/v7_from_gnu crates/v7_lesson man/v7-from-gnu.1
 """
@@ -11,18 +10,11 @@ import struct
 from tests.lib.compare import notices, same
 from tests.lib.files import TOP, read, room, write
 from tests.lib.programs import program, ran
-from tests.lib.gnu_form import gnu_named, gnu_object, symbol
+from tests.lib.objects import gnu_named, gnu_object, pack, symbol
 
 EXAMPLES = os.path.join(TOP, "examples")
 
 FROM_GNU, LESSON = program("v7-from-gnu"), program("v7-lesson")
-
-
-def v7_named(words, relocation, rows):
-    """The object of the Seventh Edition with these words and rows."""
-    header = [0o407, 2 * len(words), 0, 0, 12 * len(rows), 0, 0, 0]
-    numbers = struct.pack(f"<{8 + 2 * len(words)}H", *header, *words, *relocation)
-    return numbers + b"".join(struct.pack("<8sHH", *row) for row in rows)
 
 
 # relocation at 022 to 024, symbols at 026 to 055, the length of the strings at 056
@@ -35,30 +27,7 @@ COMPILED = gnu_named(WORDS, DIVIDED, ROWS)
 OTHER = gnu_named([0o207], [0], [(b"___udivmodsi4", 0o42, 0)])
 LOCALS = "v7-from-gnu: in.gnu: the local _regtail.part.0 is dropped, being equal to _regtail in eight bytes\n"
 CUT = "v7-from-gnu: in.gnu: ___udivmodhi4 is cut to ___udivm\n"
-ALIKE = gnu_object([], [], [symbol(4, 0o41, 1), symbol(15, 0o41, 2)], b"_function1\0_function2\0")
 
-# a byte of the object, what it becomes, the option, and the byte of the file and the reason
-CHANGES = [
-    (0, 8, [], "byte 00 (0): magic number 000410 and not 000407"),
-    (2, 3, [], "byte 02 (2): odd size of text"),
-    (4, 1, [], "byte 04 (4): odd size of data"),
-    (6, 1, [], "byte 06 (6): odd size of bss"),
-    (8, 20, [], "byte 010 (8): odd size of the symbol table"),
-    (8, 40, [], "byte 070 (56): truncated"),
-    (46, 13, [], "byte 070 (56): truncated"),
-    (46, 3, [], "byte 054 (44): the strings have a length under 4"),
-    (25, 1, [], "byte 024 (20): symbol 0 belongs to an overlay: _f"),
-    (41, 2, [], "byte 044 (36): symbol 2 belongs to an overlay: _g"),
-    (22, 3, [], "byte 024 (20): symbol 0 has its name at no place of the strings"),
-    (28, 1, [], "byte 034 (28): symbol 1 has a description, and is not for a debugger: x"),
-    (30, 12, [], "byte 034 (28): symbol 1 has its name at no place of the strings"),
-    (32, 0o144, [], "byte 034 (28): symbol 1 is for a debugger, and -S drops such: x"),
-    (40, 0o144, ["-S"], "byte 022 (18): word 0 refers to a symbol for a debugger"),
-    (18, 0o31, ["-x"], "byte 022 (18): word 0 refers to a local that is dropped: x"),
-    (18, 0o31, ["-X"], "byte 022 (18): bad symbol number at word 0"),
-    (18, 0o52, [], "byte 022 (18): bad relocation at word 0"),
-    (18, 0o31, [], "byte 022 (18): bad symbol number at word 0"),
-]
 USAGE = "usage: v7-from-gnu [-SXxq] IN OUT\n       v7-from-gnu [-SXxq] -o FOLDER FILE...\n       v7-from-gnu --help | --version\n"
 
 
@@ -90,8 +59,8 @@ def check_compiled():
     """What a C compiler makes: locals that go, and names that are cut. Returns how many objects were tried."""
     cut = [row for row in ROWS if row[0] != b"_regtail.part.0"]
     alone = [row for row in cut if row[1] >= 0o40]
-    whole = v7_named(WORDS, [0, 0, 0, 0, 0o51, 0], cut)
-    bare = v7_named(WORDS, [0, 0, 0, 0, 0o31, 0], alone)
+    whole = pack(zip(WORDS, [0, 0, 0, 0, 0o51, 0]), symbols=cut)
+    bare = pack(zip(WORDS, [0, 0, 0, 0, 0o31, 0]), symbols=alone)
     becomes("compiled", COMPILED, [], LOCALS + CUT, whole)
     becomes("compiled, quiet", COMPILED, ["-q"], "", whole)
     becomes("without locals that no word needs", COMPILED, ["-X"], CUT, bare)
@@ -100,9 +69,8 @@ def check_compiled():
     # two locals that are equal in eight bytes both go; a name of eight bytes is not cut
     rows = [(b"_longname.0", 2, 0), (b"_longname.1", 2, 2), (b"_eight_8", 0o42, 4), (b"_eight_8", 2, 4)]
     names = ["_longname.0", "_longname.1"]
-    told = "".join(f"v7-from-gnu: in.gnu: the local {one} is dropped, being equal to {other} in eight bytes\n"
-                   for one, other in (names, names[::-1]))
-    becomes("two locals alike", gnu_named(WORDS, [0] * 6, rows), [], told, v7_named(WORDS, [0] * 6, rows[2:]))
+    told = "".join(f"v7-from-gnu: in.gnu: the local {one} is dropped, being equal to {other} in eight bytes\n" for one, other in (names, names[::-1]))
+    becomes("two locals alike", gnu_named(WORDS, [0] * 6, rows), [], told, pack(zip(WORDS, [0] * 6), symbols=rows[2:]))
     return 6
 
 
@@ -116,7 +84,7 @@ def check_linked():
     """A file without relocation is refused if it has an entry point. Returns how many were tried."""
     line = "byte 012 (10): entry point 000006 and no relocation: this is a linked program"
     converts("a linked program", linked(6, 1), [], line)
-    becomes("no entry point", linked(0, 1), [], "", v7_named(WORDS, [0] * 6, []))
+    becomes("no entry point", linked(0, 1), [], "", pack(zip(WORDS, [0] * 6)))
     converts("an entry point and relocation", linked(6, 0), [], "")
     return 3
 
@@ -139,7 +107,7 @@ def check_folder():
     same("two files", run(FROM_GNU, "-xo", "to", "two/a.o", "one/b.o"), (0, "", line))
     same("both are written", sorted(os.listdir("to")), ["a.o", "b.o"])
     with open("to/b.o", "rb") as file:
-        same("the second file", file.read(), v7_named([0o207], [0], [(b"___udivmodsi4", 0o42, 0)]))
+        same("the second file", file.read(), pack([(0o207, 0)], symbols=[(b"___udivmodsi4", 0o42, 0)]))
     same("no such folder", run(FROM_GNU, "-q", "-o", "no", "two/a.o"), (2, "", "v7-from-gnu: no/a.o: cannot create\n"))
     for words in ["-o"], ["-o", "to"], ["-oo", "to", "two/a.o"], ["-ox", "to", "two/a.o"], ["-"], ["-", "out.o"], ["-y", "in.gnu", "out.o"]:
         same(f"{words}", run(FROM_GNU, *words), (2, "", USAGE))
@@ -165,14 +133,9 @@ def check_order():
 
 
 def check_refusals():
-    """All reasons; returns how many objects were tried."""
+    """The most symbols, and paths that cannot be opened: gnu.case has the other reasons. Returns how many objects were tried."""
     converts("good", GOOD, [], "")
-    for at, byte, options, line in CHANGES:
-        converts(f"byte {at} as {byte}", GOOD[:at] + bytes([byte]) + GOOD[at + 1:], options, line)
     converts("a dropped symbol", GOOD[:32] + b"\144" + GOOD[33:], ["-S"], "")
-    converts("15 bytes", GOOD[:15], [], "byte 017 (15): short header")
-    names = "_function1 and _function2"
-    converts("alike", ALIKE, [], f"byte 030 (24): symbols 0 and 1 have names that are equal in eight bytes: {names}")
     many = [symbol(4, 0o41, 0)] * 5461
     converts("the most symbols", gnu_object([], [], many, b"_f\0"), [], "")
     line = "byte 010 (8): 5462 symbols stay, and a table has 5461 at most"
@@ -182,7 +145,7 @@ def check_refusals():
     write("good.gnu", GOOD)
     same("no folder", run(FROM_GNU, "good.gnu", "missing/out.o"), (2, "", "v7-from-gnu: missing/out.o: cannot create\n"))
     same("a word", run(FROM_GNU, "good.gnu"), (2, "", USAGE))
-    return len(CHANGES) + 9
+    return 8
 
 
 def check_steps(*names):

@@ -18,59 +18,64 @@ room=$(mktemp -d)
 trap 'rm -rf "$room"' EXIT
 cp examples/*.o examples/squares.gnu "$room"
 cd "$room" || exit 2
-failed=0
+# what is said of a failure goes there, though standard output is closed
+exec 9>&1
+
+fail() {
+    echo "$1" >&9
+    : >failed
+}
 
 # the run just before ended with this status, and this is what the file `fault` holds
 expect() {
-    [ "$status" -eq "$2" ] && [ "$(cat fault)" = "$3" ] && return
-    echo "$1: status $status and '$(cat fault)', not $2 and '$3'"
-    failed=1
+    [ "$status" -eq "$2" ] && [ "$(cat fault)" = "$3" ] || fail "$1: status $status and '$(cat fault)', not $2 and '$3'"
+}
+
+# a command ends with this status and this fault
+tried() {
+    what=$1 wanted=$2 said=$3
+    shift 3
+    "$@" 2>fault 9>&-
+    status=$?
+    expect "$what" "$wanted" "$said"
 }
 
 # two files are the same
 same() {
-    cmp "$1" "$2" || failed=1
+    cmp "$1" "$2" >differs 2>&1 || fail "$(cat differs)"
 }
 
 # both report a difference that is planted
 status=0
 echo planted >fault
-(expect planted 0 ""; same fault /dev/null; expect planted 1 planted; exit $failed) >/dev/null 2>&1 && { echo "a planted difference is not reported"; exit 1; }
+for plant in "expect planted 0 a" "expect planted 1 planted" "same fault /dev/null" "tried planted 0 a cat fault"; do
+    ($plant) 9>/dev/null >/dev/null
+    rm failed 2>/dev/null || { echo "a planted difference is not reported: $plant"; exit 1; }
+done
 
 # what the program writes with its streams open
-"$v7" ld -o reported main.o count.o >report 2>fault; status=$?
-expect 'ld with a report' 1 ''
-"$v7" ld -o whole main.o twice.o count.o >report 2>fault; status=$?
-expect 'ld without one' 0 ''
+tried 'ld with a report' 1 '' "$v7" ld -o reported main.o count.o >report
+tried 'ld without one' 0 '' "$v7" ld -o whole main.o twice.o count.o >report
 cp whole stripped
-"$v7" strip stripped 2>fault; status=$?
-expect 'strip' 0 ''
+tried 'strip' 0 '' "$v7" strip stripped
 
 # a word that is not UTF-8
-"$v7" nm "$(printf '\377')" >answers 2>fault; status=$?
-expect 'a word that is not UTF-8' 2 'v7: usage'
+tried 'a word that is not UTF-8' 2 'v7: usage' "$v7" nm "$(printf '\377')" >answers
 same answers /dev/null
 
 # empty words, and words of blanks
 cp main.o kept
-"$v7" ld -o "" main.o twice.o count.o >answers 2>fault; status=$?
-expect 'an empty output' 2 'v7: : cannot create'
+tried 'an empty output' 2 'v7: : cannot create' "$v7" ld -o "" main.o twice.o count.o >answers
 same main.o kept
-"$v7" ld -o out main.o "" twice.o >answers 2>fault; status=$?
-expect 'an empty input' 2 'v7: : cannot open'
-"$v7" nm "" main.o >answers 2>fault; status=$?
-expect 'an empty file of nm' 2 'v7: : cannot open'
-"$v7" "" nm main.o >answers 2>fault; status=$?
-expect 'an empty tool' 2 'v7: usage'
-"$v7" nm '  ' >answers 2>fault; status=$?
-expect 'a file of blanks' 2 'v7:   : cannot open'
-"$v7" ' nm' main.o >answers 2>fault; status=$?
-expect 'a tool after a blank' 2 'v7: usage'
+tried 'an empty input' 2 'v7: : cannot open' "$v7" ld -o out main.o "" twice.o >answers
+tried 'an empty file of nm' 2 'v7: : cannot open' "$v7" nm "" main.o >answers
+tried 'an empty tool' 2 'v7: usage' "$v7" "" nm main.o >answers
+tried 'a file of blanks' 2 'v7:   : cannot open' "$v7" nm '  ' >answers
+tried 'a tool after a blank' 2 'v7: usage' "$v7" ' nm' main.o >answers
 same answers /dev/null
-"$v7" ld -o ' ' main.o twice.o count.o >answers 2>fault; status=$?
-expect 'an output of a blank' 0 ''
+tried 'an output of a blank' 0 '' "$v7" ld -o ' ' main.o twice.o count.o >answers
 same ' ' whole
-[ ! -e out ] || { echo 'a link that was refused has stored a file'; failed=1; }
+[ ! -e out ] || fail 'a link that was refused has stored a file'
 
 # a line, so many times
 repeated() {
@@ -78,9 +83,8 @@ repeated() {
 }
 
 # 1,000 words
-"$v7" size $(repeated 999 main.o) >answers 2>fault; status=$?
-expect '1,000 words' 0 ''
-repeated 999 'main.o: 10+0+0 = 10b = 012b' | cmp - answers || failed=1
+tried '1,000 words' 0 '' "$v7" size $(repeated 999 main.o) >answers
+repeated 999 'main.o: 10+0+0 = 10b = 012b' | same - answers
 
 # an input of nothing, so many times beside three others; the limit of open files is the first word, as far as it can be had
 printf '\007\001\000\000\000\000\000\000\000\000\000\000\000\000\000\000' >empty.o
@@ -101,7 +105,7 @@ fi
 # more files than may be open: no output is made
 link_many 64 97; status=$?
 expect 'too many files' 2 'v7: empty.o: cannot open'
-[ ! -e out ] || { echo 'too many files: an output is there'; failed=1; }
+[ ! -e out ] || fail 'too many files: an output is there'
 
 # the folder that is to hold standard input can't be opened: two streams are open, and no more may be
 (ulimit -n 1 && exec "$v7" nm main.o) <&- >answers 2>fault; status=$?
@@ -111,65 +115,49 @@ same answers /dev/null
 # a device that is full
 if [ -c /dev/full ]; then
     for tool in nm size; do
-        "$v7" $tool main.o >/dev/full 2>fault; status=$?
-        expect "$tool, device full" 2 'v7: write error'
+        tried "$tool, device full" 2 'v7: write error' "$v7" $tool main.o >/dev/full
     done
-    printf 'add main.o\nlink out\n' | "$v7" session >/dev/full 2>fault; status=$?
-    expect 'session, device full' 2 'v7: write error'
-    [ ! -e out ] || { echo 'session, device full: it went on'; failed=1; }
-    printf 'link /dev/full\nwithdraw\n' | "$v7" session >answers 2>fault; status=$?
-    expect 'session, a link to a full device' 1 ''
-    printf '/dev/full: write error\nnothing to withdraw\n' | cmp - answers || failed=1
+    printf 'add main.o\nlink out\n' | tried 'session, device full' 2 'v7: write error' "$v7" session >/dev/full
+    [ ! -e out ] || fail 'session, device full: it went on'
+    printf 'link /dev/full\nwithdraw\n' | tried 'session, a link to a full device' 1 '' "$v7" session >answers
+    printf '/dev/full: write error\nnothing to withdraw\n' | same - answers
 fi
 
 # standard output closed
-"$v7" ld -o out main.o count.o >&- 2>fault; status=$?
-expect 'ld with a report, output closed' 2 'v7: write error'
+tried 'ld with a report, output closed' 2 'v7: write error' "$v7" ld -o out main.o count.o >&-
 same out reported
-"$v7" ld -o out main.o twice.o count.o >&- 2>fault; status=$?
-expect 'ld without one, output closed' 0 ''
+tried 'ld without one, output closed' 0 '' "$v7" ld -o out main.o twice.o count.o >&-
 same out whole
-"$v7" strip out >&- 2>fault; status=$?
-expect 'strip, output closed' 0 ''
+tried 'strip, output closed' 0 '' "$v7" strip out >&-
 same out stripped
 for tool in nm size; do
-    "$v7" $tool main.o >&- 2>fault; status=$?
-    expect "$tool, output closed" 2 'v7: write error'
+    tried "$tool, output closed" 2 'v7: write error' "$v7" $tool main.o >&-
 done
 rm out
-printf 'add main.o\nlink out\n' | "$v7" session >&- 2>fault; status=$?
-expect 'session, output closed' 2 'v7: write error'
-[ ! -e out ] || { echo 'session, output closed: it went on'; failed=1; }
+printf 'add main.o\nlink out\n' | tried 'session, output closed' 2 'v7: write error' "$v7" session >&-
+[ ! -e out ] || fail 'session, output closed: it went on'
 
 # standard input closed
-"$v7" session <&- >answers 2>fault; status=$?
-expect 'session, input closed' 2 'v7: script read error'
+tried 'session, input closed' 2 'v7: script read error' "$v7" session <&- >answers
 same answers /dev/null
-"$v7" ld -o out main.o count.o <&- >answers 2>fault; status=$?
-expect 'ld, input closed' 1 ''
+tried 'ld, input closed' 1 '' "$v7" ld -o out main.o count.o <&- >answers
 same out reported
-printf 'Undefined:\n_twice\n' | cmp - answers || failed=1
+printf 'Undefined:\n_twice\n' | same - answers
 
 # the programs beside v7: what goes to a closed stream, or to a device that is full, is a write error
 PATH=$build:$PATH
-v7-explain main.o >listing 2>fault; status=$?
-expect 'v7-explain' 0 ''
-v7-from-gnu squares.gnu converted 2>fault; status=$?
-expect 'v7-from-gnu' 0 ''
+tried 'v7-explain' 0 '' v7-explain main.o >listing
+tried 'v7-from-gnu' 0 '' v7-from-gnu squares.gnu converted
 for letter in '' -d -l -s -x -m; do
-    v7-explain $letter main.o >&- 2>fault; status=$?
-    expect "v7-explain $letter, output closed" 2 'v7-explain: write error'
+    tried "v7-explain $letter, output closed" 2 'v7-explain: write error' v7-explain $letter main.o >&-
 done
-v7-explain -c reported >&- 2>fault; status=$?
-expect 'v7-explain -c, output closed' 1 'v7-explain: reported: a program; relocation removed, so ld cannot link it again'
+tried 'v7-explain -c, output closed' 1 'v7-explain: reported: a program; relocation removed, so ld cannot link it again' v7-explain -c reported >&-
 v7-lesson main.o >&- 2>answers; status=$?
 : >fault
 expect 'v7-lesson, output closed' 2 ''
 if [ -c /dev/full ]; then
-    v7-explain main.o >/dev/full 2>fault; status=$?
-    expect 'v7-explain, device full' 2 'v7-explain: write error'
-    v7-explain -o /dev/full main.o >answers 2>fault; status=$?
-    expect 'v7-explain -o, device full' 2 'v7-explain: /dev/full: write error'
+    tried 'v7-explain, device full' 2 'v7-explain: write error' v7-explain main.o >/dev/full
+    tried 'v7-explain -o, device full' 2 'v7-explain: /dev/full: write error' v7-explain -o /dev/full main.o >answers
     v7-lesson main.o >/dev/full 2>answers; status=$?
     : >fault
     expect 'v7-lesson, device full' 2 ''
@@ -200,19 +188,18 @@ v7-object main.o out >answers 2>&-; status=$?
 expect 'v7-object, error closed' 1 ''
 v7-from-gnu main.o out >answers 2>&-; status=$?
 expect 'v7-from-gnu, error closed' 1 ''
-[ ! -e out ] || { echo 'a file that was refused is stored'; failed=1; }
+[ ! -e out ] || fail 'a file that was refused is stored'
 
 # words that are not UTF-8, and 1,000 of them
 for program in v7-explain v7-object v7-from-gnu v7-lesson; do
     "$program" "$(printf '\377')" x >answers 2>errors; status=$?
     : >fault
     expect "$program, a word that is not UTF-8" 2 ''
-    grep -q "usage: $program" errors || { echo "$program, a word that is not UTF-8: $(cat errors)"; failed=1; }
+    grep -q "usage: $program" errors || fail "$program, a word that is not UTF-8: $(cat errors)"
     same answers /dev/null
 done
-v7-explain -l $(repeated 999 main.o) >answers 2>fault; status=$?
-expect 'v7-explain, 1,000 words' 0 ''
-repeated 999 "$(v7-explain -l main.o)" | cmp - answers || failed=1
+tried 'v7-explain, 1,000 words' 0 '' v7-explain -l $(repeated 999 main.o) >answers
+repeated 999 "$(v7-explain -l main.o)" | same - answers
 
 # a file that is larger than the memory that there is can be read, but there is no memory for it
 dd if=/dev/null of=large bs=1 seek=300000000 2>answers
@@ -223,7 +210,7 @@ if (ulimit -v 200000 && exec v7-explain main.o) >answers 2>fault; then
         same answers /dev/null
     done
 fi
-[ ! -e out ] || { echo 'with little memory a file is stored'; failed=1; }
+[ ! -e out ] || fail 'with little memory a file is stored'
 rm large
 
 # standard error closed, and all three
@@ -243,12 +230,10 @@ same out reported
 
 # a file that is opened first has the lowest descriptor that is free: it is none of those three, which are held. To ask for
 # a descriptor by a path the system has to have /dev/fd
-[ -d /dev/fd ] || exit $failed
+[ -d /dev/fd ] || { [ ! -e failed ]; exit; }
 rm out
-"$v7" ld -o out main.o /dev/fd/0 <&- >answers 2>fault; status=$?
-expect 'descriptor 0' 2 'v7: /dev/fd/0: read error'
-"$v7" ld -o out main.o /dev/fd/1 >&- 2>fault; status=$?
-expect 'descriptor 1' 2 'v7: /dev/fd/1: read error'
+tried 'descriptor 0' 2 'v7: /dev/fd/0: read error' "$v7" ld -o out main.o /dev/fd/0 <&- >answers
+tried 'descriptor 1' 2 'v7: /dev/fd/1: read error' "$v7" ld -o out main.o /dev/fd/1 >&-
 : >fault
 "$v7" ld -o out main.o /dev/fd/2 >answers 2>&-; status=$?
 expect 'descriptor 2' 2 ''
@@ -257,14 +242,10 @@ for descriptor in 0 1 2; do
     expect "descriptor $descriptor, all closed" 2 ''
 done
 # the other programs hold them too
-v7-explain main.o /dev/fd/0 <&- >answers 2>fault; status=$?
-expect 'v7-explain, descriptor 0' 2 'v7-explain: /dev/fd/0: read error'
-v7-explain -o out /dev/fd/1 >&- 2>fault; status=$?
-expect 'v7-explain, descriptor 1' 2 'v7-explain: /dev/fd/1: read error'
-v7-object /dev/fd/0 out <&- >answers 2>fault; status=$?
-expect 'v7-object, descriptor 0' 2 'v7-object: /dev/fd/0: read error'
-v7-from-gnu /dev/fd/1 out >&- 2>fault; status=$?
-expect 'v7-from-gnu, descriptor 1' 2 'v7-from-gnu: /dev/fd/1: read error'
+tried 'v7-explain, descriptor 0' 2 'v7-explain: /dev/fd/0: read error' v7-explain main.o /dev/fd/0 <&- >answers
+tried 'v7-explain, descriptor 1' 2 'v7-explain: /dev/fd/1: read error' v7-explain -o out /dev/fd/1 >&-
+tried 'v7-object, descriptor 0' 2 'v7-object: /dev/fd/0: read error' v7-object /dev/fd/0 out <&- >answers
+tried 'v7-from-gnu, descriptor 1' 2 'v7-from-gnu: /dev/fd/1: read error' v7-from-gnu /dev/fd/1 out >&-
 : >fault
 for descriptor in 0 1 2; do
     v7-explain /dev/fd/$descriptor <&- >&- 2>&-; status=$?
@@ -274,5 +255,5 @@ for descriptor in 0 1 2; do
     v7-from-gnu /dev/fd/$descriptor out <&- >&- 2>&-; status=$?
     expect "v7-from-gnu, descriptor $descriptor, all closed" 2 ''
 done
-[ ! -e out ] || { echo 'a file that is opened took the place of a stream'; failed=1; }
-exit $failed
+[ ! -e out ] || fail 'a file that is opened took the place of a stream'
+[ ! -e failed ]

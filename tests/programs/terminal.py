@@ -388,15 +388,13 @@ def check_planted():
 
 def found_in(file, old, new):
     """The end of what this script says of a program with a fault; None if it finds nothing."""
+    from tests.cases.planted import sources
     from tools.compiling import compile_program
     with tempfile.TemporaryDirectory() as top:
-        for name in ("crates.txt", "HANDLES"):
-            shutil.copy(f"{TOP}/{name}", top)
-        shutil.copytree(f"{TOP}/crates", f"{top}/crates", ignore=shutil.ignore_patterns("out"))
-        write(f"{top}/crates/{file}", read(f"{TOP}/crates/{file}").replace(old, new))
+        sources(top, {f"crates/{file}": read(f"{TOP}/crates/{file}").replace(old, new)})
         compile_program(top, "v7", top)
-        status, out, err = ran(sys.executable, "-m", "tests.programs.terminal", env={**os.environ, "V7_BUILD": top}, cwd=TOP)
-    return (out + err).decode("utf-8", "replace").rstrip().split("\n")[-3:][0] if status else None
+        done = ran(sys.executable, "-m", "tests.programs.terminal", env={**os.environ, "V7_BUILD": top}, cwd=TOP)
+    return done.said().rstrip().split("\n")[-3:][0] if done.status else None
 
 
 def plant(name):
@@ -414,8 +412,7 @@ def plant(name):
 def main():
     check_planted()
     counts = run_all()
-    print("at a terminal: {} pages, {} reasons, {} refused of {} random lines, {} hints, {} sessions".format(
-        *counts[:3], RANDOM_LINES, *counts[3:]))
+    print("at a terminal: {} pages, {} reasons, {} refused of {} random lines, {} hints, {} sessions".format(*counts[:3], RANDOM_LINES, *counts[3:]))
 
 
 if __name__ == "__main__":

@@ -103,6 +103,10 @@ def plain(text):
     return re.sub(r"/\*.*?\*/", "", text, flags=re.S)
 
 
+# a call of the code for C, with its parameters, and one of these
+CALL, PARAMETER = re.compile(r'pub extern "C" fn (\w+)\((.*?)\) -> u32', re.S), re.compile(r"(\w+): ([^,]+?)(?:,|$)")
+
+
 # --- the header
 
 def enums_of(header):
@@ -152,9 +156,8 @@ def sources():
 
 def declared_calls(texts):
     """Each call of the code, with its parameters: pairs of a name and a type."""
-    found = re.findall(r'pub extern "C" fn (\w+)\((.*?)\) -> u32', "\n".join(texts.values()), re.S)
-    return {name: [(RENAMED.get(word, word), kind.strip()) for word, kind in re.findall(r"(\w+): ([^,]+?)(?:,|$)", words) if kind != "Global"]
-            for name, words in found}
+    return {name: [(RENAMED.get(word, word), kind.strip()) for word, kind in PARAMETER.findall(words) if kind != "Global"]
+            for name, words in CALL.findall("\n".join(texts.values()))}
 
 
 def fields_in_code(texts, name):

@@ -1,5 +1,5 @@
 """Looks at the documents, the manual, v7.h and the doc comments as a reader would, as far as a script can: habits of language
-that keep a reader out, links and paths that lead nowhere, documents that nothing links to, and commands that no check runs. It
+that keep a reader out, paths that lead nowhere, and commands that no check runs. It
 looks at names in the code and in definitions too: functions, types, fields, variants, clauses, lemmas and modules. It prints each
 with its file and line. README.md and the documents of docs may have so many lines in all, and no more.
 
@@ -63,22 +63,8 @@ NAME_EXCEPTIONS = [
     ("v7_c", "room", 1, "V7_NO_ROOM of v7.h, with which callers compare"),
 ]
 
-# targets of make that a document may show although .ci/run does not run them, and why
-NOT_IN_CI = {
-    "bench": "prints figures, and fails only if memory is not used",
-    "page": "python3 -m tests page makes the same page",
-    "lesson": "python3 -m tests manual runs the program",
-    "wheel": "python3 -m tests libv7 makes it",
-    "dist": "needs root and a mirror of Debian",
-    "install": "python3 -m tests installed runs the script",
-    "install-lib": "python3 -m tests libv7 runs it",
-    "uninstall": "python3 -m tests installed runs the script",
-    "clean": "removes what was built",
-    "help": "prints a part of the Makefile",
-    "which": "prints what to run",
-    "planted": "takes an hour",
-    "check-all": "takes hours",
-}
+# targets of make that a document may show although .ci/run does not run them: they build, install or print, or take hours
+NOT_IN_CI = "bench page lesson wheel dist install install-lib uninstall clean help which planted check-all".split()
 
 
 def documents():
@@ -309,7 +295,6 @@ def name_faults(texts, are_all):
 
 
 PATH = re.compile(r"(?<![\w./-])((?:docs|tests|tools|examples|crates|man|include|page|packaging|\.ci)/[\w./-]*\w)")
-LINK = re.compile(r"\]\(([^)#]+)(#[^)]*)?\)")
 PAGE = re.compile(r"\b(v7(?:-[a-z-]+)?)\((\d)\)")
 HEADING = re.compile(r"((?:docs/[\w/]+|README|CONTRIBUTING)\.md), \"([^\"]+)\"")
 
@@ -321,9 +306,6 @@ def exists(path, beside=""):
 def dead_in(path, text):
     """What a line names that is not there: a file, a manual page, a heading of a document."""
     beside = os.path.dirname(path)
-    for target, _ in LINK.findall(text):
-        if "://" not in target and not exists(target, beside):
-            yield f"no file {target}"
     for target in PATH.findall(text):
         place = re.sub(r"::\w+$", "", target)
         if not exists(place, beside) and not re.search(r"NAME|CRATE|FILE|/out\b", place) and not glob.glob(place + "*"):
@@ -334,15 +316,6 @@ def dead_in(path, text):
     for target, heading in HEADING.findall(text):
         if os.path.exists(target) and not re.search(rf"^#+ {re.escape(heading)}", read(target), re.M):
             yield f"{target} has no heading \"{heading}\""
-
-
-def unlinked(texts):
-    """The documents that no other document names."""
-    for path in texts:
-        name = os.path.basename(path)
-        others = (text for other, text in texts.items() if other != path)
-        if path != "README.md" and path.startswith(("docs/", "examples/", "C")) and not any(name in text for text in others):
-            yield f"{path}:1: no other document names it"
 
 
 def too_long(texts):
@@ -434,8 +407,6 @@ def check_itself():
     planted = {"docs/A.md": "See [this](docs/missing.md), docs/also_missing.md and v7-none(1)."}
     if len(set(dead_in("docs/A.md", planted["docs/A.md"]))) != 3:
         faults.append("tests/texts/prose.py: a dead link is not found")
-    if not list(unlinked(planted)):
-        faults.append("tests/texts/prose.py: a document that nothing links to is not found")
     shown = ["    $ v7 nm a.o", "", "    make nothing", "", "Run `make other`, and `python3 -m tests none`."]
     if len(list(commands_in("x.md", shown, set(), {"other"}, set()))) != 4:
         faults.append("tests/texts/prose.py: a command that no check runs is not found")
@@ -473,7 +444,6 @@ def main():
                 faults.append(f"{path}:{number}: {fault}")
     faults += name_faults(texts if chosen else {**texts, **{path: read(path) for path in lemmas()}}, not chosen)
     if not chosen:
-        faults += unlinked({path: text for path, text in texts.items() if path.endswith(".md") or path in manual()})
         faults += too_long({path: text for path, text in texts.items() if path.endswith(".md")})
         faults += [f"tests/texts/prose.py: an exception that nothing needs: {exception}" for exception in EXCEPTIONS if exception not in used]
         if len(EXCEPTIONS) > MOST_EXCEPTIONS:

@@ -41,9 +41,7 @@ LIBRARIES = [
     "command_words", "v7tools", "laws", "gnu_objects", "listings", "instructions", "disassemblies", "findings", "suspicions",
     "explanations", "map_texts", "finding_objects", "library_calls", "v7_c", "v7_from_gnu", "v7_object", "v7_explain",
 ]
-IMPORT = re.compile(
-    r"^ *(?:pub )?(?:ghost )?use Rattle\.(\w+)\.(specs|proofs)(?:\.([\w.]+?))?(?:\.\{([^}]*)\}|(?: as (\w+))?);?$"
-)
+IMPORT = re.compile(r"^ *(?:pub )?(?:ghost )?use Rattle\.(\w+)\.(specs|proofs)(?:\.([\w.]+?))?(?:\.\{([^}]*)\}|(?: as (\w+))?);?$")
 faults = []
 
 
@@ -161,10 +159,7 @@ def count(path):
 
 def placed(crate, name):
     """The file of definitions of this name, in specs/ or in a folder of it that is not internal."""
-    paths = [
-        path for path in glob.glob(f"crates/{crate}/specs/**/{name}.antt", recursive=True)
-        if path.split("/")[3] not in INTERNAL
-    ]
+    paths = [path for path in glob.glob(f"crates/{crate}/specs/**/{name}.antt", recursive=True) if path.split("/")[3] not in INTERNAL]
     if len(paths) != 1:
         faults.append(f"crates/{crate}/specs has {len(paths)} files {name}.antt")
     return paths[0] if paths else f"crates/{crate}/specs/{name}.antt"

@@ -3,8 +3,8 @@
 usage: python3 -m tests.wrong_bodies.wrong_bodies [-j N] [CRATE ..]   tries all edits of these crates, or of all, and notes in
                                                  tests/wrong_bodies/wrong-bodies.seen each crate whose edits are all refused
        python3 -m tests.wrong_bodies.wrong_bodies [-j N] CRATE/EDIT ..  tries these edits alone, and notes nothing
-       python3 -m tests.wrong_bodies.wrong_bodies [-j N] -c           tries those of the crates that have changed since they were noted; an
-                                                 error if the file does not tell which those are
+       python3 -m tests.wrong_bodies.wrong_bodies [-j N] -c           tries those of the crates that have changed since they were noted, or
+                                                 are not noted
        python3 -m tests.wrong_bodies.wrong_bodies [-j N] --try        tries this script: tests/wrong_bodies/wrong_bodies_tried.py
 
 A wrong body is an edit in must-fail/ or in the file wrong-bodies of a crate: tests/wrong_bodies/edits.py has its form. A copy has at most one edit for
@@ -54,10 +54,6 @@ BETWEEN = re.compile(r"""(?P<blank>\s*\n\s*(?://[^\n]*(?:\n\s*|\Z))*|\s+)
     |\bb?r(?P<marks>\#*)".*?"(?P=marks)|"(?:\\.|[^"\\])*"|'(?:\\.[^'\n]*|[^'\\\n])'|(?://|--)[^\n]*""", re.S | re.X)
 # names that are imported from below one path
 IMPORTS = re.compile(r"^((?:pub )?use \S+\.)\{([^}]*)\}$")
-
-
-class Untold(Exception):
-    """Why the script cannot tell which crates have changed."""
 
 
 def plain(text):
@@ -475,36 +471,20 @@ def with_edits():
 
 
 def noted():
-    """The digest of each crate in the file of those that have passed."""
-    if not os.path.exists(SEEN):
-        raise Untold("it is missing")
-    found = {}
-    for number, line in enumerate(edits.read(SEEN).splitlines(), 1):
-        words = re.fullmatch(r"(\w+) ([0-9a-f]{64})", line)
-        if not words or words[1] in found:
-            raise Untold(f"line {number} is not the name of a crate and its digest, or has a crate again")
-        found[words[1]] = words[2]
-    return found
+    """The digest of each crate in the file of those that have passed, as far as it is there."""
+    return dict(re.findall(r"^(\w+) ([0-9a-f]{64})$", edits.read(SEEN), re.M)) if os.path.exists(SEEN) else {}
 
 
 def have_changed():
-    """The crates whose digest is another one than the file has."""
-    was, crates = noted(), with_edits()
-    lacking, gone = set(crates) - set(was), set(was) - set(crates)
-    if lacking or gone:
-        raise Untold("; ".join([f"it lacks {it}" for it in sorted(lacking)] + [f"{it} has no edits" for it in sorted(gone)]))
-    return [crate for crate in crates if digest(crate) != was[crate]]
+    """The crates whose digest the file does not have."""
+    was = noted()
+    return [crate for crate in with_edits() if digest(crate) != was.get(crate)]
 
 
 def note(passed):
     """Writes the digests of crates whose edits are all refused, by name; those of other crates stay."""
-    try:
-        found = noted()
-    except Untold:
-        found = {}
-    found.update(passed)
-    with open(SEEN, "w", encoding="utf-8") as file:
-        file.writelines(f"{crate} {found[crate]}\n" for crate in with_edits() if crate in found)
+    found = {**noted(), **passed}
+    write(SEEN, "".join(f"{crate} {found[crate]}\n" for crate in with_edits() if crate in found))
 
 
 def try_edits(names, jobs, only=()):
@@ -547,11 +527,7 @@ def whole(names, jobs, only=()):
 
 def changed_alone(jobs):
     """Tries the edits of the crates that have changed. The status to end with."""
-    try:
-        names = have_changed()
-    except Untold as why:
-        print(f"{SEEN} does not tell which crates have changed: {why}. `make check-wrong-bodies` writes it", file=sys.stderr)
-        return 1
+    names = have_changed()
     print(f"changed since their wrong bodies were refused: {' '.join(names) or 'no crate'}", flush=True)
     return 0 if not names or len(whole(names, jobs)) == len(names) else 1
 
@@ -581,7 +557,7 @@ def main(words):
     os.chdir(TOP)
     jobs = int(words[words.index("-j") + 1]) if "-j" in words else 2
     if "--try" in words:
-        import wrong_bodies_tried
+        from tests.wrong_bodies import wrong_bodies_tried
         return wrong_bodies_tried.main(jobs)
     if "-c" in words:
         return changed_alone(jobs)

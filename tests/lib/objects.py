@@ -1,5 +1,13 @@
-"""Objects in the form of GNU's assembler for the PDP-11 (`pdp11-aout`), for the scripts that make some."""
+"""Objects of the Seventh Edition, and in the form of GNU's assembler for the PDP-11 (`pdp11-aout`), for the scripts that make some."""
 import struct
+
+
+def pack(text=(), data=(), bss=0, symbols=(), magic=0o407, flag=0, entry=0, unused=0, tail=b""):
+    """A file. Text and data are pairs of a word and a relocation word; a symbol is a name, a type and a value."""
+    text, data = list(text), list(data)
+    words = [word for word, _ in (*text, *data)] + ([relocation for _, relocation in (*text, *data)] if flag == 0 else [])
+    header = struct.pack("<8H", magic, 2 * len(text), 2 * len(data), bss, 12 * len(symbols), entry, unused, flag)
+    return header + struct.pack(f"<{len(words)}H", *words) + b"".join(struct.pack("<8sHH", *symbol) for symbol in symbols) + tail
 
 
 def long(number):

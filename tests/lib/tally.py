@@ -1,0 +1,50 @@
+"""What runs side by side: how far it is, what it says, and what failed."""
+import re
+import time
+from concurrent.futures import FIRST_COMPLETED, wait
+
+SECONDS_SILENT = 10
+
+
+class Failed(Exception):
+    """What was printed by something that failed."""
+
+
+class Tally:
+    """What has been run, and whether anything failed."""
+
+    def __init__(self, jobs):
+        self.jobs, self.begun = jobs, time.monotonic()
+        self.lines = []
+        self.failed = []
+
+    def far(self):
+        return f"{len(self.lines) + len(self.failed)} of {len(self.jobs)}, {time.monotonic() - self.begun:.0f} seconds"
+
+    def take(self, name, result):
+        try:
+            line = result()
+            self.lines.append(line)
+            print(f"{self.far()}: {name}: {line}", flush=True)
+        except Failed as failed:
+            self.failed.append(name)
+            print(f"{self.far()}: FAILED: {name}\n{str(failed).rstrip()}", flush=True)
+
+    def take_all(self):
+        """Takes each result as it comes. What runs is printed if nothing comes for a while."""
+        left = {*self.jobs}
+        while left:
+            done, left = wait(left, SECONDS_SILENT, FIRST_COMPLETED)
+            for job in done:
+                self.take(self.jobs[job], job.result)
+            if not done:
+                print(f"{self.far()}; now {', '.join(name for job, name in self.jobs.items() if job.running())}", flush=True)
+
+    def count(self, pattern):
+        found = (re.match(pattern, line) for line in self.lines)
+        return sum(int(it[1]) for it in found if it)
+
+    def end(self):
+        if self.failed:
+            print(f"{len(self.failed)} failed: {', '.join(self.failed)}")
+        return 1 if self.failed else 0
