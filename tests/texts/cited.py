@@ -1,16 +1,18 @@
 """Sees that what documents cite is there.
 
 INDEX has places: `CRATE/file::name` is a function, a type or a constant of the code, or a definition if the file is one of specs/; in the
-column of tests it is a test, or `FILE.case::name` a case. PROOFS quotes the code, and LIBRARY the examples: a block that is indented by
+column of tests it is a test, or `FILE.case::name` a case. PROOFS names contracts, and definitions with their files. It quotes the code, and LIBRARY the examples: a block that is indented by
 four blanks quotes the file whose path, in backquotes, is the last one before it; its comments are the page's own, and a clause that the
 file has on several lines may be on one. A block of commands is not a quotation. TRUST has the theorem as README states it, word for
 word. The manual and the second writings have each kind of remark that v7.h has.
 
 tier: text, 2 seconds; for: docs/internals/INDEX.md docs/PROOFS.md docs/TRUST.md docs/LIBRARY.md man/v7-explain.1 crates/findings
 """
+import glob
 import os
 import re
 import unittest
+from collections import defaultdict
 
 from tests.lib.compare import notices, same
 from tests.lib.files import read
@@ -89,6 +91,24 @@ def index_faults(text):
             yield from (f"{INDEX}:{number}: {fault}" for crate, file, name in names if (fault := fault_of(crate, file, name, column)))
 
 
+def proof_faults(text):
+    """The contracts and definitions that PROOFS names and that are not there: a function, a type or a clause; and a name in a file."""
+    code = "\n".join(read(path) for path in glob.glob("crates/*/src/**/*.rt", recursive=True))
+    known = {*re.findall(r"\b(?:fn|struct|enum|trait|ensures) (\w+)", code), *os.listdir("crates"), "Display"}
+    files = defaultdict(str)
+    for path in glob.glob("crates/*/specs/**/*.antt", recursive=True):
+        files[os.path.basename(path)[:-5]] += read(path)
+    for number, line in enumerate(text.split("\n"), 1):
+        cells = line.split(" | ") if line.startswith("| ") else []
+        if len(cells) == 4 and cells[1] != "Contract of":
+            names = [name.split("::")[-1] for name in re.findall(r"`([^`]+)`", cells[1])]
+            yield from (f"docs/PROOFS.md:{number}: there is no {name} with a contract" for name in names if name not in known)
+            for listed, places in re.findall(r"((?:`[^`]+`(?:, | and )?)+) \(([^)]*)\)", cells[2]):
+                theirs = "".join(files[place] for place in re.findall(r"[A-Z]\w+", places))
+                names = re.findall(r"`(?:\w+\.)?([^`]+)`", listed) if "the kit" not in places else []
+                yield from (f"docs/PROOFS.md:{number}: {places} has no {name}" for name in names if not re.search(rf"(?<!\w){re.escape(name)}(?!\w)", theirs))
+
+
 def quotes(text):
     """Each quoted line, with its number and the file that it is from."""
     path, before, typed = None, "", False
@@ -148,7 +168,10 @@ class Cited(unittest.TestCase):
     def test_index(self):
         self.compare(index_faults, read(INDEX), "::read_file`", "::read_files`")
 
-    def test_proofs_and_library(self):
+    def test_proofs(self):
+        self.compare(proof_faults, read("docs/PROOFS.md"), "`decode` (Decoding)", "`decode` (Encoding)")
+
+    def test_quotes(self):
         for page, known, changed in (("docs/PROOFS.md", "self.old.entries ≡ []", "self.old.entries ≡ self.new.entries"),
                                      ("docs/LIBRARY.md", "session.add(HALF)", "session.add(MAIN)")):
             with self.subTest(page):

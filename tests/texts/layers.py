@@ -42,8 +42,19 @@ def picture(parts):
     return ["    " + line.rstrip() for line in lines]
 
 
+def wrong_headings(parts, text):
+    """The headings of PROOFS or INDEX that begin with other sections than those of the crates that they name."""
+    for heading, names in re.findall(r"^## ([\w ]+): .*?((?: \(.*\))?)$", text, re.M):
+        of_crates = {section for section, crates in parts.items() if {*crates} & {*re.findall(r"`(\w+)`", names)}}
+        named = {it[:1].lower() + it[1:] for it in heading.split(" and ")}
+        if not named <= {*parts} or of_crates - named:
+            yield heading
+
+
 def compare(parts, text):
-    """The picture is in a text, and each crate in a section."""
+    """The picture is in a text, each crate in a section, and the sections are in the headings of PROOFS and INDEX."""
+    for page in ("docs/PROOFS.md", "docs/internals/INDEX.md"):
+        same(f"{page}: headings with other sections", [*wrong_headings(parts, read(page))], [])
     same("crates of the sections", sorted(name for names in parts.values() for name in names), sorted(crates_in(TOP)))
     shown = re.findall(r"\n\n((?:    \w[\w ]* \d .*\n(?:    .*\n)*)+)\n", text)
     same(f"{PAGE}: the picture", "".join(shown).split("\n")[:-1], picture(parts))
