@@ -48,7 +48,7 @@ WORDS = {
     "the same plainly": ("unasked", "meanwhile", "thereby", "whereby", "therein", "hereby", "whoever"),
 }
 LONGEST = 50
-MOST_LINES = 2960
+MOST_LINES = 2990
 
 # where a habit has to stay: the file, a text of the line, and why
 MOST_EXCEPTIONS = 40
