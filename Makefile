@@ -1,23 +1,23 @@
 # v7: see README.md. The command `rt` of the Rattle kit has to be on the PATH, but for what needs no kit.
 #
-#: make            proves and builds the five programs into build/                             kit         20 minutes
-#: make quick      compiles them without proof into build/quick, and shows a session          kit          2 minutes
-#: make lib wheel  proves and builds libv7, and makes its wheel of Python                      kit         20 minutes
-#: make dist       makes the packages of a release in dist/                                    kit         25 minutes
-#: make page       makes the page of the lesson, build/lesson.html; `lesson` prints its steps  kit         10 minutes
-#: make install install-lib uninstall clean                                                    the builds
+#: make                       proves and builds the five programs into build/                              kit          20 minutes
+#: make quick                 compiles them without proof into build/quick, and shows a session            kit          2 minutes
+#: make lib wheel             proves and builds libv7, and makes its wheel of Python                       kit          20 minutes
+#: make dist                  makes the packages of a release in dist/                                     kit          25 minutes
+#: make page                  makes the page of the lesson, build/lesson.html; `lesson` prints its steps   kit          10 minutes
+#: make install             `make install-lib` and `make uninstall` too: what was built; `make clean` removes it
 #:
-#: make which CHANGED=PATH    which tests and crates a change concerns; or SINCE=COMMIT         Python      seconds
-#: make check-text            texts, names, limits and quotes, compared with the code          Python, cc   1 minute
-#: make test                  cases and tests with programs that are not proved                kit          5 minutes
-#: make gate                  proves everything, and tries the wrong bodies of must-fail/      kit         60 minutes
-#: make check                 all that CI runs: the gate, and tests of the proved programs     tools/needs 90 minutes
-#: make check-all             this, all wrong bodies, planted bugs, the page and the release   tools/needs  6 hours
-#: make check-wrong-bodies    has the prover refuse those of changed crates, or of NAMES=CRATE kit         minutes to 2 hours
-#: make planted               plants BUGS=NAME, or all, and sees that tests find them          kit          1 minute each
-#: make demo                  proves v7, and shows a session and a link with it                kit         10 minutes
-#: make recheck               proves one claim again, and shows how a broken line is refused   kit          2 minutes
-#: make bench                 counts instructions, times and memory                            valgrind     5 minutes
+#: make which CHANGED=PATH    which tests and crates a change concerns; or SINCE=COMMIT                    Python       seconds
+#: make check-text            texts, names, limits and quotes, compared with the code                      Python, cc   1 minute
+#: make test                  cases and tests with programs that are not proved                            kit          5 minutes
+#: make gate                  proves everything, and tries the wrong bodies of must-fail/                  kit          60 minutes
+#: make check                 all that CI runs: the gate, and tests of the proved programs                 tools/needs  90 minutes
+#: make check-all             this, all wrong bodies, planted bugs, the page and the release               tools/needs  6 hours
+#: make check-wrong-bodies    has the prover refuse those of changed crates, or of NAMES=CRATE              kit          to 2 hours
+#: make planted               plants BUGS=NAME, or all, and sees that tests find them                      kit          1 minute each
+#: make demo                  proves v7, and shows a session and a link with it                            kit          10 minutes
+#: make recheck               proves one claim again, and shows how a broken line is refused               kit          2 minutes
+#: make bench                 counts instructions, times and memory                                        valgrind     5 minutes
 #: make help                  shows this. `python3 -m tests list` names each test of a tier, `python3 -m tests NAME` runs it
 PREFIX ?= /usr/local
 

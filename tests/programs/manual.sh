@@ -7,7 +7,7 @@
 #
 # usage: tests/programs/manual.sh [FILE...]       the programs have to be in build
 #
-# tier: check, 30 seconds; programs: v7 v7-explain v7-object v7-from-gnu v7-lesson; for: man docs examples README.md; needs: groff man pdp11
+# tier: check, 30 seconds; programs: v7 v7-explain v7-object v7-from-gnu v7-lesson; for: man docs examples README.md; needs: groff man mandoc pdp11
 set -u
 cd "$(dirname "$0")/../.."
 top=$PWD
@@ -97,6 +97,12 @@ formats() {
     [ ! -s "$room/warnings" ] || { cat "$room/warnings"; echo "$1: groff warns"; failed=1; }
 }
 
+# mandoc finds nothing to say of the pages, but for pages of others that this machine lacks
+lint() {
+    command -v mandoc >/dev/null || { echo "man: not run, as mandoc is missing: mandoc -T lint"; return; }
+    (cd man && mandoc -T lint ./*.[1-9] 2>/dev/null) | grep -v 'lacks .* entry, run makewhatis\|referenced manual not found' && failed=1
+}
+
 failed=0
 count=0
 echo planted >"$room/planted"
@@ -105,6 +111,7 @@ skipped=0
 for page in man/*.[1-9]; do
     [ ! -e "$page" ] || formats "$page"
 done
+[ ! -d man ] || lint
 for file in "$@"; do
     commands "$file"
     run "$file"
