@@ -24,8 +24,9 @@ from collections import Counter
 from concurrent.futures import ThreadPoolExecutor, wait
 from typing import NamedTuple
 
+from tests.lib.compare import notices
 from tests.lib.files import TOP, read
-from tests.lib.programs import ran
+from tests.lib.programs import Ran, ran
 from tests.lib.tally import Failed, Tally
 from tools.compiling import CRATES, compile_program
 from tools.prove import SECONDS_EACH, crates_under
@@ -118,9 +119,9 @@ def crates_with_tests():
     return Counter(path.split("/")[1] for path in glob.glob("crates/*/src/**/*.rt", recursive=True) for _ in re.findall(r"^ *#\[test\]", read(path), re.M))
 
 
-def run_tests(name, count):
+def run_tests(name, count, ask=ran):
     """Runs the tests of a crate: each of them has to run."""
-    done = ran("rt", "try", "--test", "--seconds", SECONDS, cwd=f"crates/{name}")
+    done = ask("rt", "try", "--test", "--seconds", SECONDS, cwd=f"crates/{name}")
     found = re.search(r"^test result: ok\. (\d+) passed; 0 failed", done.said(), re.M)
     if done.status or not found or int(found[1]) != count:
         said = re.sub(r"^test .* \.\.\. ok\n", "", done.said(), flags=re.M)
@@ -155,6 +156,7 @@ def once_compiled(programs, folder, *words):
 def run_unproved(tests):
     """Runs tests side by side, with programs that are compiled without proof, the cases, and the tests of crates."""
     tools_there(tests)
+    notices(run_tests, "planted", 3, lambda *words, **how: Ran(0, b"test result: ok. 2 passed; 0 failed", b""))
     print("Programs are compiled, cases played, texts compared, and the tests of crates run: about 5 minutes on four idle processors.")
     print("All of this is compiled without proof, so it proves nothing: make gate proves it.", flush=True)
     play = [sys.executable, "-m", "tests.cases.cases"]

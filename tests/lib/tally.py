@@ -3,10 +3,12 @@ import re
 import time
 from concurrent.futures import FIRST_COMPLETED, wait
 
+from tests.lib.compare import Differs
+
 SECONDS_SILENT = 10
 
 
-class Failed(Exception):
+class Failed(Differs):
     """What was printed by something that failed."""
 
 
