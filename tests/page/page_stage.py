@@ -294,7 +294,7 @@ return some.map((key) => {
 """
 ASKED = SEEN + r"""
 const wait = nextStep();
-if (!wait?.ask || !["word", "changes"].includes(wait.kind)) return null;
+if (!wait?.ask || !["refers", "changes"].includes(wait.kind)) return null;
 return wait.answers.filter((key) => !seen(byId(key))).length <= more ? [] : wait.answers;
 """
 

@@ -177,7 +177,7 @@ WRONG = "return choicesOf(nextStep()).findIndex((choice) => !choice.isRight) + 1
 
 def take_step(page, what, same):
     """Answers a question by keys, if one is open, and makes the step. Returns what the page has said, and how many keys it took."""
-    done, asked = page.run("return [view.done, nextStep().ask]")
+    done, asked = page.run("return [view.done, nextStep().ask ? prose(nextStep().ask) : '']")
     strokes, said = 0, []
     if asked:
         keys = page.run(RIGHT)
@@ -195,7 +195,7 @@ def take_step(page, what, same):
         same(f"{what}: the answer", page.run("return document.querySelector('#guide .is-right')?.textContent.slice(0, 5)"), "Right")
         same(f"{what}: keys", strokes + 1 <= 3, True)
         same(f"{what}: the answer is announced", "You chose" in said[0], True)
-    told = page.run("return GUIDES[view.guide].steps[view.done].says")
+    told = page.run("return GUIDES[view.guide].steps[view.done].says.map(prose)")
     same(f"{what}: what is said", [text for text in told if text not in said[-1]], [])
     return bool(asked)
 
@@ -210,7 +210,7 @@ def announced(page, log):
 # what a lesson has to say from this step to the next one: what comes before the answer, and what comes after it
 SENTENCES = """
 const wait = nextStep();
-return [...GUIDES[view.guide].steps[view.done].says, ...(wait && wait.ask ? [wait.ask, ...choicesOf(wait).map(({ text }) => text)] : [])];
+return [...GUIDES[view.guide].steps[view.done].says.map(prose), ...(wait && wait.ask ? [prose(wait.ask), ...choicesOf(wait).map(givenText)] : [])];
 """
 
 
@@ -221,7 +221,7 @@ def logged(page, number, same):
     announced(page, log)
     for _ in range(page.run("return GUIDES[view.guide].steps.length - 1")):
         wanted += page.run(SENTENCES)
-        done, asked = page.run("return [view.done, nextStep().ask]")
+        done, asked = page.run("return [view.done, nextStep().ask ? prose(nextStep().ask) : '']")
         if asked:
             page.type(*page.run(RIGHT))
             if page.run("return document.activeElement.id") == "number":
@@ -294,14 +294,14 @@ if (!wait?.ask) return [];
 const wrong = choicesOf(wait).filter((one) => !one.isRight);
 const known = namesOf(stateNow()).find(({ name }) => name === wait.name);
 const numbers = { value: [wait.before, wait.number + 2], where: [known?.number ?? 2, (wait.number ?? 0) + 2, 0] }[wait.kind] ?? [];
-for (const number of new Set(numbers)) if (number !== wait.number) wrong.push({ text: octal(number), number, isRight: false });
-return wrong.map((given) => [wait.kind, wait.act?.[0] ?? "", given.text, reasonOf(given, wait), view.list, known ? [known.kind, known.number] : null, wait.before ?? null]);
+for (const number of new Set(numbers)) if (number !== wait.number) wrong.push({ number, isRight: false });
+return wrong.map((given) => [wait.kind, wait.act?.[0] ?? "", givenText(given), reasonOf(given, wait), view.list, known ? [known.kind, known.number] : null, wait.before ?? null]);
 """
 
 
 def reason_wanted(kind, act, text, lines, known, before):
     """How the reason of a wrong answer begins, or what it has, by what `v7-lesson` says of the state."""
-    if kind in ("word", "changes") and text != "no word":
+    if kind in ("refers", "changes") and text != "no word":
         line = next(line for line in lines if line.startswith(text + " "))
         waits = re.search(r"waits for (\S+)", line)
         if kind == "changes" and act == "withdraw" and not waits:
@@ -309,7 +309,7 @@ def reason_wanted(kind, act, text, lines, known, before):
         return f"It waits for {waits[1]}" if waits else "It is a number" if "a number" in line and " pc " not in line else "refers to "
     if kind == "changes":
         return "will change"
-    if kind == "name":
+    if kind == "names":
         return f"{text} is "
     if kind == "value" and int(text, 8) == before:
         return "That is what the word is now"
@@ -349,7 +349,8 @@ def numbers(page, default, same):
     page.open("#objects=1,2&numbers=decimal")
     same("numbers of a page in decimal", page.run("return ['016', '16', '16.'].map(numberOf)"), [14, 16, 16])
     page.open("#objects=1&numbers=decimal&lesson=1&done=1")
-    same("a lesson is in octal", page.run("return [byId('decimal').getAttribute('aria-disabled'), document.querySelector('#image .offset').textContent, numberOf('16')]"), ["true", "000000", 14])
+    asked = "Why is the word at 2 65532?"
+    same("a lesson in decimal", page.run("return [prose(nextStep().ask), document.querySelector('#guide .ask').textContent.slice(0, arguments[0]), numberOf('16')]", len(asked)), [asked, asked, 16])
 
 
 def leads(page, default, same):

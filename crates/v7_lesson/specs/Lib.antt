@@ -3,3 +3,5 @@ pub mod Instructions
 pub mod Rows
 pub mod Steps
 pub mod Walks
+pub mod Prose
+pub mod Choices
