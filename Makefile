@@ -202,7 +202,7 @@ PAGE_FILES := $(foreach file,main.o twice.o k.o l.o double.o,examples/$(file))
 PROGRAM := examples/total
 PROGRAM_FILES := $(foreach file,total.o say.o console.o low.o limit.o,$(PROGRAM)/$(file))
 TABLES := examples/menu
-TABLES_FILES := $(foreach file,menu.o stop.o room.o more.o both.o,$(TABLES)/$(file))
+TABLES_FILES := $(foreach file,menu.o stop.o room.o more.o pair.o,$(TABLES)/$(file))
 LESSONS = $(if $(FILES),$(QUESTIONS),examples/lessons.txt)
 page: build/v7-lesson
 	build/v7-lesson -p page $(addprefix -q ,$(LESSONS)) $(or $(FILES),$(PAGE_FILES)) >build/lesson.new || { rm build/lesson.new; exit 2; }

@@ -214,7 +214,6 @@ function step(newView) {
     view = newView;
     history.pushState({ at }, "", `#${hashOf(view)}`);
     showAll();
-    showMoves();
 }
 
 // shows the same step in another way

@@ -351,7 +351,8 @@ def layouts(tools, default, files, five, compiled):
 def planted(tools, default, questions, files, compiled, many):
     """Each fault that is planted is found."""
     page = Page(default)
-    count = plant_all(tools, page, default, questions, files, compiled, many, LAYOUTS, same)
+    given = program_in_c(files)
+    count = plant_all(tools, page, default, questions, files, tools.page_of(given, "planted.html"), given, compiled, many, LAYOUTS, same)
     page.quit()
     print(f"{count} faults were planted", flush=True)
 
@@ -393,7 +394,7 @@ def check_rest(tools, default, files, compiled):
     given = program_in_c(files)
     program_page = tools.page_of(given, "course.html", os.path.join(os.path.dirname(given[0]), "lessons.txt"))
     page = Page(default)
-    use_all(tools, page, default, program_page, compiled, [(default, files), (program_page, given), (compiled, sixteen_objects())], same)
+    use_all(tools, page, default, program_page, compiled, [(default, files), (program_page, given), (compiled, sixteen_objects())], LAYOUTS, same)
     page.quit()
     compare_states(tools, files, default)
     layouts(tools, default, program_files(files), five_of_500(tools), compiled)

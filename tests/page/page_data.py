@@ -361,6 +361,17 @@ def compare_objects(tools, files, data):
         same(f"{path}: source", one.get("source"), wanted if os.path.exists(listing) else None)
 
 
+def listing_of_another(tools, files):
+    """A listing that has another word than its object has no source beside that word."""
+    for ending, old, new in (("o", b"", b""), ("lst", b"016700", b"016701")):
+        with open(f"{files[0][:-2]}.{ending}", "rb") as stored:
+            path = written(os.path.join(tools.room, f"other.{ending}"), stored.read().replace(old, new) if old else stored.read())
+    given = [os.path.join(tools.room, "other.o")]
+    data, _ = states_in(tools.page_of(given, "other.html"))
+    compare_objects(tools, given, data)
+    same(f"{path}: source", sorted(data["objects"][0]["source"]["text"]), ["1", "2", "3", "4"])
+
+
 # ---- files that are refused, and counts
 def object_of(words, symbols):
     """An object of text words with their relocation words and of symbols."""
@@ -456,7 +467,7 @@ def program_in_c(files):
 
 def tables_and_bss(files):
     """The objects of the lessons about pointers, bss and the output of -r."""
-    return [os.path.join(os.path.dirname(files[0]), "menu", name) for name in ("menu.o", "stop.o", "room.o", "more.o", "both.o")]
+    return [os.path.join(os.path.dirname(files[0]), "menu", name) for name in ("menu.o", "stop.o", "room.o", "more.o", "pair.o")]
 
 
 def same_objects(folder):
@@ -483,12 +494,13 @@ def check_data(tools, questions, files):
     bad_questions(tools, files, same)
     questions_of_all_kinds(tools, files, same)
     counts(tools, files)
+    listing_of_another(tools, files)
     given, many = program_in_c(files), sixteen_objects()
     for one in (given, tables_and_bss(files)):
         same_objects(os.path.dirname(one[0]))
     again = tools.bytes_of_link(["-r"], tables_and_bss(files)[:2])
     with open(tables_and_bss(files)[4], "rb") as stored:
-        same("both.o is the output of ld -r", stored.read() == again, True)
+        same("pair.o is the output of ld -r", stored.read() == again, True)
     of_c, of_tables = (os.path.join(os.path.dirname(one[0]), "lessons.txt") for one in (given, tables_and_bss(files)))
     for what, held, of, least in (("the class example", files, questions, (9, 12)), ("a program in C", given, of_c, (2, 6)),
                                   ("tables and bss", tables_and_bss(files), of_tables, (3, 15)),

@@ -11,7 +11,7 @@ use std::alloc::{AllocError, Global};
 /// What a question asks of the session before the next step.
 #[derive(Clone, Copy, PartialEq, Eq)]
 pub(crate) enum Known {
-    /// The names that nothing has defined, and that are no commons.
+    /// The names that nothing has defined, commons apart.
     Undefined,
     Commons,
     /// The names that a plain link reports.
@@ -128,7 +128,9 @@ fn words_to(
 fn object_with(session: &Session, name: &Name) -> Option<usize> {
     for (place, entry) in session.entries().iter().enumerate() {
         for symbol in entry.object().file().symbols() {
-            if symbol.is_external() && symbol.segment() != Segment::Undefined && symbol.name == *name
+            if symbol.is_external()
+                && symbol.segment() != Segment::Undefined
+                && symbol.name == *name
             {
                 return Some(place);
             }

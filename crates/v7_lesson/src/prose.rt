@@ -19,7 +19,7 @@ use std::alloc::Global;
 #[derive(Clone, Copy, PartialEq, Eq)]
 enum Within {
     Nothing,
-    /// A word that begins with a letter: its digits are no number.
+    /// A word that begins with a letter: its digits are not a number.
     Word,
     Reference,
     /// Quotation marks, as around what a program prints.
@@ -72,7 +72,7 @@ fn within_after(within: Within, byte: u8) -> Within
     }
 }
 
-/// Whether a byte is the digit of a number that is no reference.
+/// Whether a byte is a digit of a number outside of references.
 fn is_bare(within: Within, byte: u8) -> bool
     ensures { result ≡ is_bare within byte }
 {
@@ -82,7 +82,7 @@ fn is_bare(within: Within, byte: u8) -> bool
     }
 }
 
-/// Whether a text has a number that is no reference.
+/// Whether a text has a number outside of references.
 fn has_bare_number(text: &str) -> bool
     ensures { result ≡ has_bare_number Nothing text.now }
 {
@@ -150,7 +150,9 @@ fn size_named(session: &Session, segment: &str) -> Option<Number> {
         "bss" => Merged::Bss,
         _ => return None,
     };
-    u16::try_from(size_of(session, segment)).ok().map(Number::Size)
+    u16::try_from(size_of(session, segment))
+        .ok()
+        .map(Number::Size)
 }
 
 /// What is asked of a word of the image: what it is, what it was before the last addition, its offset, that of the word after it, or how many
@@ -173,7 +175,11 @@ fn number_in_image(session: &Session, text: &str) -> Option<Number> {
     let word = match first {
         "size" => return size_named(session, rest),
         "text" | "data" => number_of_word(session, "", WordPlace::parse(text)?),
-        "was" | "at" | "after" | "before" => number_of_word(session, first, WordPlace::parse(rest)?),
+        "was" | "at" | "after" | "before" => number_of_word(
+            session,
+            first,
+            WordPlace::parse(rest)?,
+        ),
         _ => return number_of_name(session, text),
     };
     word.map(Number::Word)
@@ -197,10 +203,12 @@ fn number_of(alloc: Global, session: &Session, text: &str) -> Result<Option<Numb
     match layout_named(first) {
         Some(layout) => {
             let links = links_of(alloc, session)?;
-            Ok(links
-                .get(layout)
-                .and_then(|link| number_in_link(session, link, rest))
-                .map(Number::Word))
+            Ok(
+                links
+                    .get(layout)
+                    .and_then(|link| number_in_link(session, link, rest))
+                    .map(Number::Word),
+            )
         }
         None => Ok(number_in_image(session, text)),
     }
