@@ -267,10 +267,10 @@ def by_keys(page, path, same):
     return asked
 
 
-def lessons(page, default, program, same):
-    """The lessons of two pages by keys alone; then a wrong answer."""
-    asked = by_keys(page, program, same), by_keys(page, default, same)
-    same("questions that were answered", (asked[0] >= 12, asked[1] >= 20), (True, True))
+def lessons(page, default, program, tables, same):
+    """The lessons of three pages by keys alone; then a wrong answer."""
+    asked = by_keys(page, program, same), by_keys(page, tables, same), by_keys(page, default, same)
+    same("questions that were answered", (asked[0] >= 12, asked[1] >= 20, asked[2] >= 20), (True, True, True))
     print(f"{sum(asked)} questions were answered by keys, each with at most three strokes", flush=True)
     page.open("#objects=1&lesson=1&done=1")
     page.type("w", "2", "p", "a", Keys.ARROW_LEFT)
@@ -333,7 +333,7 @@ def reasons(tools, page, paths, same, least=97):
                 for kind, act, text, reason, here, known, before in wrong:
                     lines = tools.step(len(here), [files[number] for number in here])
                     wanted = reason_wanted(kind, act, text, lines, known, before)
-                    same(f"lesson {guide}, question {done + 1}, {text}: {reason}", (len(reason) > 15, wanted in reason, "undefined" in reason and kind != "name"), (True, True, False))
+                    same(f"lesson {guide}, question {done + 1}, {text}: {reason}", (len(reason) > 15, wanted in reason, "undefined" in reason and kind != "names"), (True, True, False))
                     count += 1
     print(f"{count} wrong answers have a reason", flush=True)
     same("wrong answers", count >= least, True)
@@ -587,14 +587,14 @@ def use_all(tools, page, default, program, compiled, pages, layouts, same):
     keys(page, default, same)
     history(page, default, same)
     tour(page, default, same)
-    lessons(page, default, program, same)
-    log_of_lessons(page, (program, default), same)
+    lessons(page, default, program, pages[2][0], same)
+    log_of_lessons(page, (program, pages[2][0], default), same)
     numbers(page, default, same)
     leads(page, default, same)
     texts(page, default, same)
     presenter(page, default, same)
     paper(page, default, same)
-    for path, files in pages[:2]:
+    for path, files in pages[:3]:
         maps(tools, page, path, files, layouts, same)
         practice(tools, page, path, files, same)
     result(page, default, same)

@@ -5,3 +5,4 @@ pub mod Steps
 pub mod Walks
 pub mod Prose
 pub mod Choices
+pub mod Scripts
