@@ -1,5 +1,5 @@
 -- The answers to choose from: at least one right and one wrong, and a reason for each wrong one. (own choice)
-use Rattle.std.specs.Prelude.{ℕ, Bool, true, false, not, ◌&&◌, ◌||◌, List, codes, bytes_eq}
+use Rattle.std.specs.Prelude.{ℕ, Bool, false, not, ◌&&◌, ◌||◌, List, codes, bytes_eq}
 use Rattle.v7_lesson.specs.declared.choices.Choices.{Choices}
 
 abbrev pub no_choices : Choices
