@@ -121,15 +121,19 @@ lesson: build/v7-lesson
 	build/v7-lesson $(or $(FILES),examples/k.o examples/l.o)
 
 # the same in every order as one page, which a browser shows from the disk, with the lessons of examples/lessons.txt; and a page of a
-# program in C, with those of examples/total. Of other FILES one page, with the lessons in the file QUESTIONS, if it is given
+# program in C, and one of pointers and bss, with those beside their objects. Of other FILES one page, with the lessons in the file
+# QUESTIONS, if it is given
 PAGE_FILES := $(foreach file,main.o twice.o k.o l.o double.o,examples/$(file))
 PROGRAM := examples/total
 PROGRAM_FILES := $(foreach file,total.o say.o console.o low.o limit.o,$(PROGRAM)/$(file))
+TABLES := examples/menu
+TABLES_FILES := $(foreach file,menu.o stop.o room.o more.o pair.o,$(TABLES)/$(file))
 LESSONS = $(if $(FILES),$(QUESTIONS),examples/lessons.txt)
 page: build/v7-lesson
 	build/v7-lesson -p page $(addprefix -q ,$(LESSONS)) $(or $(FILES),$(PAGE_FILES)) >build/lesson.new || { rm build/lesson.new; exit 2; }
 	mv build/lesson.new build/lesson.html
 	$(if $(FILES),,build/v7-lesson -p page -q $(PROGRAM)/lessons.txt $(PROGRAM_FILES) >build/program.new && mv build/program.new build/program.html)
+	$(if $(FILES),,build/v7-lesson -p page -q $(TABLES)/lessons.txt $(TABLES_FILES) >build/tables.new && mv build/tables.new build/tables.html)
 
 help:
 	@sed -n 's/^#: \{0,1\}//p' Makefile

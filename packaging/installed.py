@@ -25,7 +25,8 @@ TOP = completion.TOP
 PROGRAMS = {"v7": "v7", "v7_from_gnu": "v7-from-gnu", "v7_object": "v7-object", "v7_explain": "v7-explain", "v7_lesson": "v7-lesson"}
 # the pages, each with the folder of its objects and its objects
 PAGES = {"lesson.html": ("examples", ["main.o", "twice.o", "k.o", "l.o", "double.o"]),
-         "program.html": ("examples/total", ["total.o", "say.o", "console.o", "low.o", "limit.o"])}
+         "program.html": ("examples/total", ["total.o", "say.o", "console.o", "low.o", "limit.o"]),
+         "tables.html": ("examples/menu", ["menu.o", "stop.o", "room.o", "more.o", "pair.o"])}
 DOCUMENTS = ["CHANGES.md", "CONTRIBUTING.md", "docs", "examples"]
 # what libv7-dev has of the documents: what v7.h cites, and what shows how to call the library
 LIBRARY_DOCUMENTS = ["docs/LIBRARY.md", "docs/LINK.md", "docs/FORMAT.md", "docs/OBJECTS.md"]

@@ -159,24 +159,6 @@ function sizes() {
     return { gap, head: 0.7 * rem, dot: 0.75 * rem };
 }
 
-// on purpose there moves: an object that is added, from its card to each of its segments
-function showMoves() {
-    const number = view.list[view.list.length - 1];
-    const card = byId("cards").children[number];
-    if (view.gone >= 0 || !card || !isLaidOut(card) || view.layout >= 0 || matchMedia("(prefers-reduced-motion: reduce)").matches) return;
-    const from = card.getBoundingClientRect();
-    for (const part of PARTS) {
-        const owner = byId(`${part}-of-${number}`);
-        if (!owner || !owner.animate) continue;
-        const to = owner.getBoundingClientRect();
-        const flying = make("div", "flying", owner.textContent);
-        flying.style.cssText = `left: ${to.left}px; top: ${to.top}px`;
-        document.body.append(flying);
-        const moves = [{ transform: `translate(${from.left - to.left}px, ${from.top - to.top}px)` }, { transform: "none" }];
-        flying.animate(moves, { duration: 500, easing: "ease-in-out" }).finished.then(() => flying.remove(), () => flying.remove());
-    }
-}
-
 let drawn = { arrows: [], chains: [], left: 0, references: [] };
 // the size of the image that was drawn over
 let drawnSize = "";

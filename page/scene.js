@@ -89,7 +89,7 @@ function choiceParts({ state }) {
 // the words that a question asks for, and others that wait
 function questionParts({ state }, wait, shown) {
     if (wait.kind === "value") return [{ title: "The word in question", groups: groupsOf(state, [wait.word].filter((key) => !shown.has(key))) }];
-    if (!["word", "changes"].includes(wait.kind)) return [];
+    if (!["refers", "changes"].includes(wait.kind)) return [];
     const waiting = allReferences(state).filter((one) => isWaiting(state, one) && !wait.answers.includes(one.id)).map(({ id }) => id);
     const count = Math.max(6, wait.answers.length);
     const some = waiting.filter((_, i) => waiting.length <= count || Math.floor((i * count) / waiting.length) !== Math.floor(((i - 1) * count) / waiting.length));

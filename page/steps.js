@@ -39,7 +39,7 @@ function stepText() {
 }
 
 function showBar() {
-    const isOff = { decimal: view.guide > 0, withdraw: view.list.length === 0, back: at === 0, forth: at === last, flick: view.gone < 0 && view.list.length === 0 };
+    const isOff = { withdraw: view.list.length === 0, back: at === 0, forth: at === last, flick: view.gone < 0 && view.list.length === 0 };
     for (const [id, off] of Object.entries(isOff)) byId(id).setAttribute("aria-disabled", String(off));
     byId("addresses").setAttribute("aria-pressed", String(view.layout >= 0));
     LAYOUTS.forEach((_, i) => byId(`layout${i}`).setAttribute("aria-pressed", String(view.layout === i)));
@@ -214,7 +214,6 @@ function step(newView) {
     view = newView;
     history.pushState({ at }, "", `#${hashOf(view)}`);
     showAll();
-    showMoves();
 }
 
 // shows the same step in another way

@@ -180,9 +180,29 @@ manual() {
     rm -rf "$debian/tmp/manual"
     mkdir -p "$debian/tmp/manual/tests/programs" "$debian/tmp/manual/build"
     cp tests/programs/manual.sh "$debian/tmp/manual/tests/programs"
+    cp -r "$debian$share/doc/v7/examples" "$debian/tmp/manual"
+    # the tutorial assembles this file, and the folder has no Python
+    python3 "$debian/tmp/manual/examples/asm.py" "$debian/tmp/manual/examples/squares.s" || fail "asm.py does not do"
     inside sh -euc 'cd /tmp/manual && mkdir man && cp "$1"/man/man[15]/v7* man && { gunzip -q man/*.gz 2>/dev/null || :; }
-        cp -r "$1/doc/v7/examples" . && for program in v7 v7-from-gnu v7-object v7-explain v7-lesson; do ln -s "$(command -v $program)" build; done
+        for program in v7 v7-from-gnu v7-object v7-explain v7-lesson; do ln -s "$(command -v $program)" build; done
         sh tests/programs/manual.sh man/* "$1/doc/v7/README.md" "$1/doc/v7/docs/TUTORIAL.md" "$1/doc/v7/docs/RESTORING.md"' sh "$share" || fail "an example of the manual or the tutorial differs"
+}
+
+# a page of a teacher's own: three sources, which the assembler of the release takes outside, since Python is not there, and questions; a
+# wrong line is named
+lessons() {
+    rm -rf "$debian/tmp/own"
+    mkdir "$debian/tmp/own"
+    for name in menu stop room; do
+        cp "$debian$share/doc/v7/examples/menu/$name.s" "$debian/tmp/own"
+    done
+    python3 "$debian$share/doc/v7/examples/asm.py" "$debian"/tmp/own/*.s || fail "asm.py does not do"
+    printf 'lesson Mine\nadd menu.o\nask changes Which word changes?\nadd stop.o\nsay It is {data 2 = 14} now.\n' >"$debian/tmp/own/mine.txt"
+    printf 'lesson Mine\nadd menu.o\nsay It is at 2.\n' >"$debian/tmp/own/wrong.txt"
+    inside sh -euc 'cd /tmp/own && v7-lesson -p "$0/v7/page" -q mine.txt menu.o stop.o room.o >page.html && grep -q "<script" page.html' "$share" || fail "no page of three sources"
+    said=$(inside sh -c 'cd /tmp/own && v7-lesson -p "$0/v7/page" -q wrong.txt menu.o 2>&1' "$share")
+    [ "$said" = "v7-lesson: wrong.txt: line 3: a number is in no braces, and in no quotation" ] || fail "a wrong line: $said"
+    echo "a page of three sources and a file of questions"
 }
 
 # the cases, driven from outside: each program is a script that runs it in the folder
@@ -254,6 +274,7 @@ try_all() {
     processors
     first_link
     manual
+    lessons
     cases
     library
 }

@@ -5,10 +5,12 @@ usage: python3 -m tests.cases.planted [BUG ..]    tries the bugs of all rows, or
        python3 -m tests.cases.planted -a BUG ..   plays all cases with each bug, and prints those that fail
        python3 -m tests.cases.planted -c          looks only whether each edit fits the code, and the table the edits and the cases
 
-A bug CRATE/NAME is an edit of the crate that the prover refuses, as tests/wrong_bodies/edits.py finds it. Any other is an edit of tests/cases/planted/, with
-the path from the top. The rows of tests/programs/largest.py and tests/libv7/largest_library.py count as cases. The bug is made
-in a copy of the sources, and programs are compiled there with no proof: those that use its crate, one after another, as long as a case
-that the row names does not fail. The other programs are those without a bug. libv7 counts as a program.
+A bug CRATE/NAME is an edit of the crate that the prover refuses, as tests/wrong_bodies/edits.py finds it. Any other is an edit of
+tests/cases/planted/, with
+the path from the top. The rows of tests/programs/largest.py and tests/libv7/largest_library.py count as cases, and so does
+tests/page/page_data.py. The bug is made in a copy of the sources, and programs are compiled there with no proof: those that use its
+crate, one after another, as long as a case that the row names does not fail. The other programs are those without a bug. libv7 counts
+as a program.
 
 tier: text, 1 seconds; words: -c; for: docs/internals/PLANTED.md tests/cases/planted
 """
@@ -30,7 +32,7 @@ from tools.compiling import CRATES, compile_library, compile_program, uses_of
 
 CASES = os.path.join(TOP, "tests", "cases", "data")
 PAGE = "docs/internals/PLANTED.md"
-ROW = re.compile(r"^\| `([\w/]+)` \| .* \| (.*) \|$")
+ROW = re.compile(r"^\| `([\w/*]+)` \| .* \| (.*) \|$")
 # the rows of tests/programs/largest.py, each with the program that it runs as a case has it. A listing is read back by v7-object
 READS_BACK = {"v7-explain": "$ v7-object\n"}
 LARGEST = {f"largest.py: {name}, {kind}": f"$ {name}\n{READS_BACK.get(name, '')}" for name, _, kinds in largest.TABLE for kind in kinds}
@@ -38,6 +40,10 @@ LARGEST = {f"largest.py: {name}, {kind}": f"$ {name}\n{READS_BACK.get(name, '')}
 with open(os.path.join(TOP, "tests", "libv7", "largest_library.py"), encoding="utf-8") as script:
     CALLS = re.findall(r'^    \("(v7_[^"]+)", ', script.read(), re.M)
 LARGEST.update({f"largest_library.py: {calls}, {kind}": "$ libv7\n" for calls in CALLS for kind in largest.KINDS})
+# what the data of the pages are compared with
+PAGES = "page_data.py: pages"
+LARGEST[PAGES] = "$ v7-lesson\n$ v7\n$ v7-explain\n"
+MODULES = {"largest.py": "tests.programs.largest", "largest_library.py": "tests.libv7.largest_library", "page_data.py": "tests.page.page_data"}
 # what is compiled, and the crate of each
 COMPILED = {**{name: crate for name, (crate, _) in CRATES.items()}, "libv7": "v7_c"}
 # for a command of a case, on a machine with other work too
@@ -50,11 +56,17 @@ class Fault(Exception):
     pass
 
 
+def bugs_of(name):
+    """The bugs of a row: one, or the edits whose names a `*` has."""
+    paths = glob.glob(os.path.join(TOP, "tests", "cases", "planted", f"{name}.edit"))
+    return sorted(os.path.basename(path)[:-5] for path in paths) if "*" in name else [name]
+
+
 def rows():
     """The bugs of the table, each with the cases that have to fail."""
     with open(os.path.join(TOP, PAGE), encoding="utf-8") as page:
         found = [ROW.match(line.strip()) for line in page]
-    return [(row[1], re.findall(r"`([^`]+)`", row[2])) for row in found if row]
+    return [(bug, re.findall(r"`([^`]+)`", row[2])) for row in found if row for bug in bugs_of(row[1])]
 
 
 def changed(bug):
@@ -107,11 +119,11 @@ def failed(folder, texts):
 
 
 def row_fails(folder, name):
-    """Whether a row of largest.py fails."""
+    """Whether a row of largest.py fails, or the comparison of the pages."""
     script, row = name.split(": ")
-    words = ["tests.libv7.largest_library" if script == "largest_library.py" else "tests.programs.largest", row]
+    words = [MODULES[script], *([] if name == PAGES else [row])]
     done = ran(sys.executable, "-m", *words, cwd=TOP, env={**os.environ, "LIBV7": os.path.join(folder, "libv7.so"), "V7_BUILD": folder})
-    if not re.search(r"^(?:programs|libv7): [01] of 1 answers .*\n\Z", done.said(), re.M):
+    if not re.search(r"^(?:programs|libv7): [01] of 1 answers .*\n\Z|^\d+ things of pages were compared|CalledProcessError", done.said(), re.M):
         raise Fault(done.said())
     return done.status != 0
 

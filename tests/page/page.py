@@ -21,7 +21,7 @@ from tests.lib.compare import notices
 from tests.page import page_data
 from tests.page import page_pictures
 from tests.page.page_browser import Chromium, Firefox, Keys, firefox
-from tests.page.page_data import LAYOUTS, Tools, faults, made_objects, object_of, program_files, program_in_c, same, sixteen_objects, words_of
+from tests.page.page_data import LAYOUTS, Tools, faults, made_objects, object_of, program_files, program_in_c, same, sixteen_objects, tables_and_bss, words_of
 from tests.page.page_layout import look_everywhere, look_in_firefox
 from tests.page.page_planted import plant_all
 from tests.page.page_stage import SIZES, WHOLE, first, response as click_times, stage
@@ -352,7 +352,8 @@ def layouts(tools, default, files, five, compiled):
 def planted(tools, default, questions, files, compiled, many):
     """Each fault that is planted is found."""
     page = Page(default)
-    count = plant_all(tools, page, default, questions, files, compiled, many, LAYOUTS, same)
+    given = program_in_c(files)
+    count = plant_all(tools, page, default, questions, files, tools.page_of(given, "planted.html"), given, compiled, many, LAYOUTS, same)
     page.quit()
     print(f"{count} faults were planted", flush=True)
 
@@ -393,8 +394,10 @@ def check_rest(tools, default, files, compiled):
     """The page's use, all states, and the layout."""
     given = program_in_c(files)
     program_page = tools.page_of(given, "course.html", os.path.join(os.path.dirname(given[0]), "lessons.txt"))
+    made = tables_and_bss(files)
+    tables = tools.page_of(made, "tables.html", os.path.join(os.path.dirname(made[0]), "lessons.txt"))
     page = Page(default)
-    use_all(tools, page, default, program_page, compiled, [(default, files), (program_page, given), (compiled, sixteen_objects())], same)
+    use_all(tools, page, default, program_page, compiled, [(default, files), (program_page, given), (tables, made), (compiled, sixteen_objects())], LAYOUTS, same)
     page.quit()
     compare_states(tools, files, default)
     layouts(tools, default, program_files(files), five_of_500(tools), compiled)

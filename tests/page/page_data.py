@@ -99,6 +99,13 @@ class Tools:
     def nm(self, file):
         return subprocess.run([self.v7, "nm", "-p", file], capture_output=True, text=True, check=True).stdout
 
+    def bytes_of_link(self, options, files):
+        """The file that a link writes."""
+        out = os.path.join(self.room, "linked")
+        subprocess.run([self.v7, "ld", *options, "-o", out, *files], check=True)
+        with open(out, "rb") as file:
+            return file.read()
+
     def link(self, options, files):
         """The words and the header of a link, its table as `nm -p` has it, its report; or why it is refused."""
         out = os.path.join(self.room, "linked")
@@ -367,6 +374,17 @@ def compare_objects(tools, files, data):
         same(f"{path}: source", one.get("source"), wanted if os.path.exists(listing) else None)
 
 
+def listing_of_another(tools, files):
+    """A listing that has another word than its object has no source beside that word."""
+    for ending, old, new in (("o", b"", b""), ("lst", b"016700", b"016701")):
+        with open(f"{files[0][:-2]}.{ending}", "rb") as stored:
+            path = written(os.path.join(tools.room, f"other.{ending}"), stored.read().replace(old, new) if old else stored.read())
+    given = [os.path.join(tools.room, "other.o")]
+    data, _ = states_in(tools.page_of(given, "other.html"))
+    compare_objects(tools, given, data)
+    same(f"{path}: source", sorted(data["objects"][0]["source"]["text"]), ["1", "2", "3", "4"])
+
+
 # ---- files that are refused, and counts
 def object_of(words, symbols):
     """An object of text words with their relocation words and of symbols."""
@@ -402,9 +420,9 @@ def refusals(tools, files):
 def largest_page(tools, files):
     """A page of at most 5,000,000 bytes is written, and one of some bytes more is not: the text of a lesson fills both."""
     path = os.path.join(tools.room, "long.txt")
-    room = 5_000_000 - os.path.getsize(tools.page_of(files[:1], "short.html", written(path, b"lesson One\nsay 1\n")))
+    room = 5_000_000 - os.path.getsize(tools.page_of(files[:1], "short.html", written(path, b"lesson One\nsay x\n")))
     for more, status in ((1, 0), (2, 2)):
-        written(path, b"lesson One\nsay " + b"1" * (room + more) + b"\n")
+        written(path, b"lesson One\nsay " + b"x" * (room + more) + b"\n")
         done = subprocess.run([tools.lesson, "-p", tools.page, "-q", path, files[0]], capture_output=True, text=True)
         same(f"a page of {4_999_999 + more} bytes", (done.returncode, len(done.stdout.encode()), done.stderr),
              (status, 0 if status else 5_000_000, "v7-lesson: the page would have more than 5000000 bytes\n" if status else ""))
@@ -460,6 +478,11 @@ def program_in_c(files):
     return [os.path.join(os.path.dirname(files[0]), "total", name) for name in ("total.o", "say.o", "console.o", "low.o", "limit.o")]
 
 
+def tables_and_bss(files):
+    """The objects of the lessons about pointers, bss and the output of -r."""
+    return [os.path.join(os.path.dirname(files[0]), "menu", name) for name in ("menu.o", "stop.o", "room.o", "more.o", "pair.o")]
+
+
 def same_objects(folder):
     """The objects of a folder are what the assembler makes of the compiler's files beside them."""
     names = [name[:-2] for name in sorted(os.listdir(folder)) if name.endswith(".s")]
@@ -484,10 +507,16 @@ def check_data(tools, questions, files):
     bad_questions(tools, files, same)
     questions_of_all_kinds(tools, files, same)
     counts(tools, files)
+    listing_of_another(tools, files)
     given, many = program_in_c(files), sixteen_objects()
-    same_objects(os.path.dirname(given[0]))
-    of_c = os.path.join(os.path.dirname(given[0]), "lessons.txt")
+    for one in (given, tables_and_bss(files)):
+        same_objects(os.path.dirname(one[0]))
+    again = tools.bytes_of_link(["-r"], tables_and_bss(files)[:2])
+    with open(tables_and_bss(files)[4], "rb") as stored:
+        same("pair.o is the output of ld -r", stored.read() == again, True)
+    of_c, of_tables = (os.path.join(os.path.dirname(one[0]), "lessons.txt") for one in (given, tables_and_bss(files)))
     for what, held, of, least in (("the class example", files, questions, (9, 12)), ("a program in C", given, of_c, (2, 6)),
+                                  ("tables and bss", tables_and_bss(files), of_tables, (3, 15)),
                                   ("a program", program_files(files), "", ()), ("sixteen objects", many, "", ())):
         path = tools.page_of(held, "data.html", of)
         data, size = states_in(path)

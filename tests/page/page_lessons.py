@@ -13,6 +13,9 @@ def states_in(path):
     return data, len(text.encode())
 
 
+ONE = "lesson One\nadd main.o\n"
+TWO = "lesson One\nadd main.o\nadd twice.o\n"
+CHOICE = ONE + "ask Which?\n"
 QUESTIONS = [
     ("ask Which?", 1, "no lesson has begun"),
     ("lesson One\nadd nothing.o", 2, "no step adds nothing.o"),
@@ -20,30 +23,73 @@ QUESTIONS = [
     ("lesson One\nadd main.o\nadd main.o", 3, "no step adds main.o"),
     ("lesson One\n\nwithdraw", 3, "there is nothing to withdraw"),
     ("lesson One\nlink -s", 2, "there is no link -s"),
-    ("lesson One\nadd main.o\nask Which?\nword text 12", 4, "there is no word text 12"),
-    ("lesson One\nadd main.o\nask Which?\nword text 3", 4, "there is no word text 3"),
-    ("lesson One\nadd main.o\nask Which?\nword data 0", 4, "there is no word data 0"),
-    ("lesson One\nadd main.o\nask Which?\nword bss 0", 4, "there is no word bss 0"),
-    ("lesson One\nadd main.o\nask Which?\nname _nothing", 4, "there is no name _nothing"),
-    ("lesson One\nadd main.o\nask Which?\nadd twice.o", 4, "the question of line 3 has no answer"),
-    ("lesson One\nask Which?", 2, "the question has no answer"),
+    # choices: a right one, a wrong one, and a reason for it
+    (CHOICE + "add twice.o", 4, "the question of line 3 has no right answer"),
+    (CHOICE + "right One\nadd twice.o", 5, "the question of line 3 has no wrong answer"),
+    (CHOICE + "right One\nwrong Two\nsay So.", 6, "the question of line 3 has no reason for its wrong answer"),
+    (CHOICE + "wrong One\nwrong Two", 5, "the question of line 3 has no reason for its wrong answer"),
+    (CHOICE + "because so", 4, "the question of line 3 has no right answer"),
+    ("lesson One\nask Which?", 2, "the question has no right answer"),
+    (CHOICE + "name _twice", 4, "the question of line 3 has no right answer"),
     ("lesson One\nword text 0", 2, "an answer to no question"),
+    ("lesson One\nright One", 2, "an answer to no question"),
     ("lesson One\nask", 2, "ask is followed by a text"),
     ("# One\nlesson One\nshow main.o", 3, "show begins no line of a lesson"),
-    ("lesson One\nadd main.o\nask changes Which?\nword text 4\nadd twice.o", 5, "the word at 4 does not change"),
-    ("lesson One\nadd main.o\nadd twice.o\nask changes Which?\nword text 2\nwithdraw", 6, "the word at 2 does not change"),
-    ("lesson One\nadd main.o\nask value text 6 What?\nnumber 4\nadd twice.o", 5, "the number is 2"),
-    ("lesson One\nadd main.o\nask value text 12 What?\nimage", 4, "after the step there is no such word"),
-    ("lesson One\nadd main.o\nask value bss 0 What?\nimage", 3, "value is followed by text or data, an offset and a text"),
-    ("lesson One\nadd main.o\nask where _count Where?\nnumber 12\nlink -r", 5, "the name is nowhere"),
+    # questions about what is known now
+    (ONE + "ask undefined Which?\nname _count", 4, "_count is no answer"),
+    (ONE + "ask undefined Which?\nname _nothing", 4, "_nothing is no answer"),
+    (ONE + "ask commons Which?\nname _countxyz", 4, "_countxyz is no answer"),
+    (ONE + "ask commons Which?\nname _countxyzw", 4, "_countxyzw is no answer"),
+    (ONE + "ask reported Which?\nname _count", 4, "_count is no answer"),
+    (ONE + "ask reported Which?\nsay So.\nname _twice", 5, "an answer to no question"),
+    (ONE + "ask undefined Which?\nadd twice.o\nname _twice", 5, "an answer to no question"),
+    (TWO + "ask undefined Which?", 4, "the question has no answer"),
+    (ONE + "ask defines _twice Which?", 3, "no object defines the name"),
+    (ONE + "ask refers _count 0 Which?\nword text 6", 4, "text 6 is no answer"),
+    (ONE + "ask refers _count 0 Which?\nword text 12", 4, "there is no word text 12"),
+    (ONE + "ask refers _count 0 Which?\nword text 3", 4, "there is no word text 3"),
+    (ONE + "ask refers _count 0 Which?\nword data 0", 4, "there is no word data 0"),
+    (ONE + "ask refers _count 0 Which?\nword bss 0", 4, "there is no word bss 0"),
+    (ONE + "ask refers _count 2 Which?", 3, "the question has no answer"),
+    (ONE + "ask refers _count Which?", 3, "refers is followed by a name, a number and a text"),
+    # questions about the next step
+    (ONE + "ask changes Which?\nword text 4\nadd twice.o", 5, "the word at 4 does not change"),
+    (ONE + "ask changes Which?\nword text 6\nword text 4\nadd twice.o", 6, "the word at 4 does not change"),
+    (TWO + "ask changes Which?\nword text 2\nwithdraw", 6, "the word at 2 does not change"),
+    (ONE + "ask value text 6 What?\nnumber 4\nadd twice.o", 5, "the number is 2"),
+    (ONE + "ask value text 6 What?\nnumber 402\nadd twice.o", 5, "the number is 2"),
+    (ONE + "ask value text 12 What?\nimage", 4, "after the step there is no such word"),
+    (ONE + "ask value bss 0 What?\nimage", 3, "value is followed by text or data, an offset and a text"),
+    (ONE + "ask where _count Where?\nnumber 12\nlink -r", 5, "the name is nowhere"),
     ("lesson One\nadd k.o\nadd l.o\nask where _x Where?\nnumber 2\nlink plain", 6, "the number is 6"),
-    ("lesson One\nadd main.o\nask where _y Where?\nlink plain", 4, "after the step there is no such name"),
-    ("lesson One\nadd main.o\nask changes Which?\nsay This.", 4, "the question of line 3 has no step"),
+    (ONE + "ask where _y Where?\nlink plain", 4, "after the step there is no such name"),
+    (ONE + "ask changes Which?\nsay This.", 4, "the question of line 3 has no step"),
     ("lesson One\nask changes Which?", 2, "the question has no step"),
     ("lesson One\nask where", 2, "where is followed by a name and a text"),
     ("lesson One\nask changes", 2, "ask is followed by a text"),
-    ("lesson One\nask Which?\nbecause so", 3, "the question of line 2 has no answer"),
-    ("lesson One\nask changes Which?\nnumber 2\nimage", 3, "an answer to no question"),
+    (CHOICE + "right One\nwrong Two\nbecause so\nnumber 2\nimage", 7, "an answer to no question"),
+    # numbers in texts
+    (ONE + "say It is at 6.", 3, "a number is in no braces, and in no quotation"),
+    (ONE + "say (-2) and r0", 3, "a number is in no braces, and in no quotation"),
+    (ONE + 'say It prints "15", and 2.', 3, "a number is in no braces, and in no quotation"),
+    (ONE + "ask changes Is it at 6?", 3, "a number is in no braces, and in no quotation"),
+    (CHOICE + "right It is 2", 4, "a number is in no braces, and in no quotation"),
+    (CHOICE + "right One\nwrong Two\nbecause of 2", 6, "a number is in no braces, and in no quotation"),
+    (ONE + "say It is {text 6", 3, "a brace has no end"),
+    (ONE + "say It is {text 12}.", 3, "text 12 in braces refers to nothing"),
+    (ONE + "say It is {text 6} and {data 0}.", 3, "data 0 in braces refers to nothing"),
+    (ONE + "say It is {_twice}.", 3, "_twice in braces refers to nothing"),
+    (ONE + "say It is {plain _twice}.", 3, "plain _twice in braces refers to nothing"),
+    (ONE + "say It is {-r _count}.", 3, "-r _count in braces refers to nothing"),
+    (ONE + "say It is {-n text 12}.", 3, "-n text 12 in braces refers to nothing"),
+    (ONE + "say It is {was text 6}.", 3, "was text 6 in braces refers to nothing"),
+    (ONE + "say It is {size commons}.", 3, "size commons in braces refers to nothing"),
+    (ONE + "say It is {}.", 3, " in braces refers to nothing"),
+    (ONE + "say It is {text 6 = 4}.", 3, "text 6 in braces is 177770"),
+    (ONE + "say It is {_count = 402}.", 3, "_count in braces is 2"),
+    (TWO + "say It is {-n _count = 2}.", 4, "-n _count in braces is 20000"),
+    (TWO + "withdraw\nsay It is {_twice}.", 5, "_twice in braces refers to nothing"),
+    (TWO + "lesson Two\nsay It is {text 6}.", 5, "text 6 in braces refers to nothing"),
 ]
 
 
@@ -65,9 +111,14 @@ add main.o
 say <!-- </script> -->
 lesson Two
 add main.o
-ask name Which?
+say PDP-11, r0 and "15" are no numbers; {text 2 = 177774} {after text 2 = 4} {before text 2 = 0} {size text = 10} {_count = 2} {plain _count = 12} {-n data = 20000} are.
+ask commons Which?
 name _count
+add twice.o
+say It was {was text 6 = 177770}, and is {at text 6 = 6} {text 6 = 2} {_twice = 12} {-n text 2 = 17774}.
 """
+# the numbers of its texts, in their order, but for sizes: these are texts
+NUMBERS = [0o177774, 4, 0, 0o12, 0o20000, 0o177770, 6, 2, 0o12, 0o17774]
 
 
 def questions_of_all_kinds(tools, files, same):
@@ -77,6 +128,7 @@ def questions_of_all_kinds(tools, files, same):
         out.write(ACCEPTED)
     data, _ = states_in(tools.page_of(files, "accepted.html", path))
     same("a text that could end the script", [line[1] for line in data["lessons"] if "script" in str(line)], ["</script><b>", "<!-- </script> -->"])
+    same("the numbers of texts", [part for line in data["lessons"] if line[0] == "say" for part in line if isinstance(part, int)], NUMBERS)
 
 
 def changed_by(states, here, word, rest):
@@ -94,6 +146,9 @@ def lesson_answers(tools, path, files, layouts, same, lessons=9, answers=12):
     for word, *rest in data["lessons"]:
         if word == "lesson":
             here = []
+        elif word in KNOWN:
+            same(f"the answer to {word} {rest}", known_said(tools, word, rest, here, files), rest)
+            compared_here += 1
         elif word in ("changes", "value", "where"):
             asked = [word, *rest]
         elif word in ("add", "withdraw", "link", "image"):
@@ -105,6 +160,34 @@ def lesson_answers(tools, path, files, layouts, same, lessons=9, answers=12):
     same("lessons", (sum(line[0] == "lesson" for line in data["lessons"]), compared_here >= answers), (lessons, True))
 
 
+KNOWN = ("undefined", "commons", "reported", "refers", "defines")
+
+
+def known_said(tools, word, rest, here, files):
+    """The answer to a question about what is known now, as the programs give it: names, words, or the number of an object."""
+    there = [files[number] for number in here]
+    lines = tools.step(len(there), there)
+    known = dict(line[5:].split(": ", 1) for line in lines if line.startswith("name "))
+    if word in ("undefined", "commons"):
+        return [name for name, state in known.items() if state.startswith("a common" if word == "commons" else word)]
+    if word == "reported":
+        report = tools.link([], there)["report"]
+        return re.findall(r"^(\S+): Multiply defined$", report, re.M) + re.findall(r"^(\S+)$", report.partition("Undefined:\n")[2], re.M)
+    if word == "defines":
+        tables = [[line[7:] for line in tools.nm(path).splitlines()] for path in there]
+        return [rest[0], next(number for number, table in zip(here, tables) if any(f"{letter} {rest[0]}" in table for letter in "TDBA"))]
+    segment, _, number = known[rest[0]].partition(" ")
+    is_bound = segment in ("text", "data", "bss")
+    found = []
+    for line in lines:
+        one = re.match(r"(text|data) ([0-7]{6}) ([0-7]{6}) (pc )?(waits for )?(\S+)", line)
+        if one and (bool(one[5]), one[6]) == (not is_bound, segment if is_bound else rest[0]):
+            offset, value = int(one[2], 8), int(one[3], 8)
+            if ((value + offset + 2) % 65536 if one[4] else value) == rest[1] + (int(number, 8) if is_bound else 0):
+                found += [one[1], offset]
+    return [*rest[:2], *found]
+
+
 def remarks(tools, path, files, same):
     """What a lesson quotes of v7-explain is what that says of the object that was added last, and of no other."""
     data, _ = states_in(path)
@@ -112,7 +195,7 @@ def remarks(tools, path, files, same):
     odd = [re.findall(r"^/ odd: .*?: (.*)$", tools.listing(file), re.M) for file in files]
     for word, *rest in data["lessons"]:
         here = {"lesson": [], "add": [*here, *rest], "withdraw": here[:-1]}.get(word, here)
-        quoted = re.search(r"v7-explain has a remark: (.*)\.$", str(rest[0])) if word == "say" else None
+        quoted = re.search(r'v7-explain has a remark: "(.*)"\.$', str(rest[-1])) if word == "say" else None
         if quoted:
             same("the remark of v7-explain", [quoted[1]], odd[here[-1]])
             same("other remarks of v7-explain", [said for number, said in enumerate(odd) if said and number != here[-1]], [])

@@ -24,7 +24,7 @@ HERE = os.path.dirname(os.path.abspath(__file__))
 import asm  # noqa: E402, as it is in examples
 
 PLACE = os.path.join(HERE, "data")
-FOLDERS = [PLACE, os.path.join(HERE, "..", "..", "examples", "total")]
+FOLDERS = [PLACE, *(os.path.join(HERE, "..", "..", "examples", name) for name in ("total", "menu"))]
 # the files of the program, in the order in which they are linked: a file comes before those that it calls
 FILES = ["main", "command", "line", "token", "number", "parse", "apply", "stack", "name", "mem", "list", "sort", "error", "text", "print", "start"]
 

@@ -8,8 +8,8 @@ import tempfile
 from tests.page import page_pictures
 from tests.page.page_layout import look
 from tests.page.page_lessons import lesson_answers
-from tests.page.page_stage import STEP, VIEW, choices, compare_ends, compare_given, first, moved
-from tests.page.page_use import old_browser
+from tests.page.page_stage import STEP, VIEW, choices, compare_ends, compare_given, first, moved, owners
+from tests.page.page_use import distances, maps, numbers, old_browser, paper, practice, reasons, result
 
 # scripts that plant a fault into the page that is shown, and the measure that has to find it
 STAGE = {
@@ -35,6 +35,21 @@ LAYOUT = {
     "a text that leaves its frame": "document.querySelector('.word .meaning').style.cssText = 'position: relative; left: 60rem';",
     "badges that overlap": "for (const tag of document.querySelectorAll('.tag')) tag.style.cssText = 'position: fixed; top: 9rem; left: 9rem';",
     "a word that is wider than the page": "document.querySelector('.word').style.width = '300rem';",
+}
+# changes of the scripts, and the measure that has to find each
+SCRIPTS = {
+    "reasons exchanged": ("reasons", '() => "That is what the word is now, and the step changes it."', '() => "The step does not overwrite the word."'),
+    "decimal read as octal": ("numbers", "return parseInt(typed, 10);", "return parseInt(typed, 8);"),
+    "a number of a lesson that is octal in decimal too": ("numbers", '(typeof part === "number" ? small(part) : part)', '(typeof part === "number" ? part.toString(8) : part)'),
+    "-n with data at 0 in the maps": ("maps", '["data", bases[1], bases[2]]', '["data", layout === 1 ? 0 : bases[1], bases[2]]'),
+    "the practice asks for the state before": ("practice", "const marks = wordsOfMarks(list);\n    const adds", "const marks = wordsOfMarks(list.slice(0, -1));\n    const adds"),
+    "the practice exchanges before and after": ("practice", "number: mark[2], before: mark[6]", "number: mark[6], before: mark[2]"),
+    "objects in another order": ("owners", 'context.full.list.map((_, place) => foldRow(context, place, ""))', 'context.full.list.map((_, place) => foldRow(context, place, "")).reverse()'),
+    "a place with another object": ("owners", '["span", "owned", label(object.number)]', '["span", "owned", label(0)]'),
+    "the words after a question on paper": ("paper", "&& (withAnswers || !made.ask);", ";"),
+    "no pc on paper": ("paper", 'octal(word.value), word.pc ? "pc" : "", said]', 'octal(word.value), "", said]'),
+    "right answers counted as wrong": ("result", "given.filter((one) => one?.isRight).length", "given.filter((one) => one && !one.isRight).length"),
+    "a distance between two segments": ("distances", "SEGMENTS[word.kind] === word.part || view.layout >= 0", "word.pc"),
 }
 LABEL_AS_PROPERTY = "addEventListener('DOMContentLoaded', () => { if (typeof showAll === 'undefined') return; withAttributes = (element, all) => { for (const name in all) element[name === 'id' ? 'id' : name.replace(/-(.)/, (_, c) => c.toUpperCase())] = all[name]; return element; }; showAll(); });"
 
@@ -83,6 +98,25 @@ def on_layout(page, script):
     page.run(script)
     look(page, "the layout", faults, {})
     return faults
+
+
+def in_scripts(tools, page, path, files, layouts, room, change):
+    """What the measure of a fault finds in a page whose scripts are changed."""
+    kind, old, new = change
+    found = Found()
+    with open(path, encoding="utf-8") as file:
+        text = file.read()
+    if text.count(old) != 1:
+        return [f"the scripts have {text.count(old)} times: {old}"] if new == old else []
+    changed = os.path.join(room, "changed.html")
+    with open(changed, "w", encoding="utf-8") as out:
+        out.write(text.replace(old, new))
+    measures = {"reasons": lambda: reasons(tools, page, [(changed, files)], found.same, 20), "numbers": lambda: numbers(page, changed, found.same),
+                "maps": lambda: maps(tools, page, changed, files, layouts, found.same), "practice": lambda: practice(tools, page, changed, files, found.same),
+                "owners": lambda: owners(page, changed, files, found.same), "paper": lambda: paper(page, changed, found.same),
+                "result": lambda: result(page, changed, found.same), "distances": lambda: distances(page, changed, found.same)}
+    measures[kind]()
+    return found.faults
 
 
 # ---- answer keys
@@ -138,11 +172,15 @@ def labels(page, default, more):
     return found.faults
 
 
-def all_faults(tools, page, default, questions, files, compiled, many, layouts, room):
+def all_faults(tools, page, default, questions, files, program, given, compiled, many, layouts, room):
     """Each fault, with what finds it where it is planted, and where it is not."""
     yield "a label set as a property", lambda is_planted: labels(page, default, LABEL_AS_PROPERTY if is_planted else "")
     yield "a wrong answer key", lambda is_planted: refused_key(tools, questions, files, room, with_key if is_planted else with_right_key)
     yield "a wrong answer in the page", lambda is_planted: wrong_answers(tools, default, files, layouts, room, with_answer if is_planted else str)
+    for what, (kind, old, new) in SCRIPTS.items():
+        path, of = {"owners": (compiled, many), "distances": (program, given)}.get(kind, (default, files))
+        yield what, lambda is_planted, path=path, of=of, kind=kind, old=old, new=new: in_scripts(tools, page, path, of, layouts, room, (kind, old, new if is_planted else old))
+    page.load(default)
     for what, script in LAYOUT.items():
         yield what, lambda is_planted, script=script: on_layout(page, script if is_planted else "")
     page.load(default)
@@ -152,11 +190,11 @@ def all_faults(tools, page, default, questions, files, compiled, many, layouts, 
         yield what, lambda is_planted, kind=kind, script=script: on_stage(tools, page, many[:5], layouts, kind, script if is_planted else "")
 
 
-def plant_all(tools, page, default, questions, files, compiled, many, layouts, same):
+def plant_all(tools, page, default, questions, files, program, given, compiled, many, layouts, same):
     """Plants each fault, and prints whether it is found."""
     count = 0
     with tempfile.TemporaryDirectory() as room:
-        for what, measure in all_faults(tools, page, default, questions, files, compiled, many, layouts, room):
+        for what, measure in all_faults(tools, page, default, questions, files, program, given, compiled, many, layouts, room):
             without, planted = measure(False), measure(True)
             print(f"planted: {what}: {'found' if planted else 'NOT FOUND'}{f': {planted[0].strip()[:90]}' if planted else ''}", flush=True)
             same(f"planted: {what}, without the fault", without, [])

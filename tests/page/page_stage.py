@@ -157,6 +157,27 @@ def compare_given(page, files, same):
     return len(shown)
 
 
+OWNERS = """
+const chips = [...document.querySelectorAll("#rest .fold")].map((row) => row.textContent.replace(/ (new|cut off)$/, ""));
+return [chips, [...document.querySelectorAll(".place-line .owned")].map((one) => [one.closest(".word").id, one.textContent])];
+"""
+
+
+def owners(page, path, files, same):
+    """The objects below a scene are in their order, and a place below its words has the name of its object."""
+    page.load(path)
+    page.size(1366, 768)
+    page.open("#" + first(len(files)))
+    page.settle()
+    chips, places = page.run(OWNERS)
+    of_files = words_of_files(files)
+    names = [name for name, *_ in of_files.values()]
+    same(f"{len(files)} objects in their order", chips, [f"{number} {os.path.basename(file)} {names.count(os.path.basename(file))}" for number, file in enumerate(files, 1)])
+    for key, said in places:
+        same(f"{len(files)} objects: the object of {key}", said, of_files[key][0])
+    same(f"{len(files)} objects: places with an object", len(places) > 0, True)
+
+
 # ---- what a step moves
 PLACES = r"""
 const places = {};
@@ -294,7 +315,7 @@ return some.map((key) => {
 """
 ASKED = SEEN + r"""
 const wait = nextStep();
-if (!wait?.ask || !["word", "changes"].includes(wait.kind)) return null;
+if (!wait?.ask || !["refers", "changes"].includes(wait.kind)) return null;
 return wait.answers.filter((key) => !seen(byId(key))).length <= more ? [] : wait.answers;
 """
 

@@ -73,6 +73,7 @@ run() {
         case $line in
         "sh simulate.sh "*) needed=pdp11 ;;
         "pdp11-aout-as "*) needed=pdp11-aout-as ;;
+        "python3 "*) needed=python3 ;;
         "make "*) needed=make ;;
         *) needed=sh ;;
         esac

@@ -54,6 +54,18 @@ impl WordPlace {
         }
     }
 
+    /// The word that a mark is about.
+    fn of(place: Place) -> WordPlace {
+        let (segment, index) = match place {
+            Place::InText(index) => (Segment::TextSeg, index),
+            Place::InData(index) => (Segment::DataSeg, index),
+        };
+        WordPlace {
+            segment,
+            offset: index.wrapping_mul(2),
+        }
+    }
+
     /// Adds two values: the segment and the offset.
     pub(crate) fn put(self, out: &mut JsonWriter) {
         let is_data = self.segment == Segment::DataSeg;
@@ -75,15 +87,27 @@ pub(crate) fn changed_words(
     let mut words = Vec::new(alloc);
     for mark in session.last_marks() {
         if let Mark::CellWas(place, _) = *mark {
-            let (segment, index) = match place {
-                Place::InText(index) => (Segment::TextSeg, index),
-                Place::InData(index) => (Segment::DataSeg, index),
-            };
-            let offset = index.wrapping_mul(2);
-            words.push(WordPlace { segment, offset })?;
+            words.push(WordPlace::of(place))?;
         }
     }
     Ok(words)
+}
+
+/// What a word was before the last addition, if this overwrote it.
+pub(crate) fn was_before(session: &Session, word: WordPlace) -> Option<u16> {
+    for mark in session.last_marks() {
+        if let Mark::CellWas(place, cell) = *mark
+            && WordPlace::of(place) == word
+        {
+            return Some(cell.value);
+        }
+    }
+    None
+}
+
+/// The first word of a text, and what follows it.
+pub(crate) fn first_word(text: &str) -> (&str, &str) {
+    text.split_once(' ').unwrap_or((text, ""))
 }
 
 /// The word of a link.

@@ -63,6 +63,14 @@ static LINKS: [(Layout, bool); 4] = [
     (Layout::Plain, true),
 ];
 
+/// What a link that is shown is called, by its place among them.
+static LAYOUTS: [&str; 4] = ["plain", "-n", "-i", "-r"];
+
+/// The link that is called so.
+pub(crate) fn layout_named(name: &str) -> Option<usize> {
+    LAYOUTS.iter().position(|layout| *layout == name)
+}
+
 fn link_of(
     alloc: Global,
     session: &Session,

@@ -1,7 +1,9 @@
 //! The program `v7-lesson`, for a class: what a linker knows after each addition and withdrawal, as text or as a page.
 #![tactic(auto)]
 
+mod answers;
 mod arguments;
+mod choices;
 mod decoded;
 mod files;
 mod fronts;
@@ -17,6 +19,7 @@ mod numbers;
 mod page;
 mod parts;
 mod places;
+mod prose;
 mod questions;
 mod row_list;
 mod rows;

@@ -1,4 +1,8 @@
 //! The page: all states of a session of some objects, and the script that shows them.
+ghost use Rattle.std.specs.List.{flat_map};
+ghost use Rattle.texts.specs.Texts.{Puts};
+ghost use Rattle.v7_lesson.specs.Scripts.{script_byte};
+
 use crate::files::text_at;
 use crate::given::{Given, given_at, put_given};
 use crate::questions::put_questions;
@@ -68,13 +72,22 @@ fn put_text_of(rt: &HostRuntime, out: &mut Text, folder: &str, file: &str) -> Re
     Ok(())
 }
 
+/// Adds a byte of JSON inside a script.
+fn put_script_byte(out: &mut Text, byte: u8)
+    ensures { Puts out.old out.new (script_byte byte) }
+{
+    match byte {
+        b'<' => out.put("\\u003c"),
+        byte => out.put_byte(byte),
+    }
+}
+
 /// Adds JSON inside a script: a `<`, which only strings have, is escaped, so that none ends the script.
-fn put_script(out: &mut Text, json: &[u8]) {
+fn put_script(out: &mut Text, json: &[u8])
+    ensures { Puts out.old out.new (flat_map script_byte json.now) }
+{
     for byte in json {
-        match *byte {
-            b'<' => out.put("\\u003c"),
-            byte => out.put_byte(byte),
-        }
+        put_script_byte(out, *byte);
     }
 }
 

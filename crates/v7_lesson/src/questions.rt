@@ -1,8 +1,12 @@
 //! The questions of lessons: a text file, of which each line is checked against the objects as it is read.
+use crate::answers::{Answers, Known, answers_of};
+use crate::choices::Choices;
 use crate::files::text_at;
 use crate::given::Given;
-use crate::keys::{Act, Asked, Wanted, WordPlace, changed_words, put_answer};
+use crate::keys::{Act, Asked, Wanted, WordPlace, changed_words, first_word, put_answer};
+use crate::links::layout_named;
 use crate::numbers::cell_at;
+use crate::prose::put_prose;
 use crate::walk::ALL_ORDERS;
 use anyhow::{Result, anyhow};
 use aout_core::Name;
@@ -15,9 +19,10 @@ use std::alloc::{AllocError, Global};
 enum Begun {
     Nothing,
     Lesson,
-    /// A question, in this line, which has no answer yet.
-    Question(usize),
-    Answers,
+    /// A question with answers to choose from, in this line, and those that it has.
+    Choice(usize, Choices),
+    /// A question about what is known now, whose answers are computed.
+    Known,
     /// A question, in this line, whose answer the next step gives.
     Computed(usize),
 }
@@ -27,19 +32,19 @@ impl Begun {
     fn allows(self, word: &str) -> bool {
         match self {
             Begun::Nothing => word == "lesson",
-            Begun::Question(_) => matches!(word, "word" | "name" | "right" | "wrong"),
+            Begun::Choice(_, choices) => choices.allow(word),
             Begun::Computed(_) => matches!(
                 word,
                 "word" | "number" | "add" | "withdraw" | "link" | "image"
             ),
-            Begun::Lesson | Begun::Answers => true,
+            Begun::Lesson | Begun::Known => true,
         }
     }
 
     /// The line of a question that is open, and what it has not yet.
     fn missing(self) -> Option<(usize, &'static str)> {
         match self {
-            Begun::Question(line) => Some((line, "answer")),
+            Begun::Choice(line, choices) => choices.missing().map(|what| (line, what)),
             Begun::Computed(line) => Some((line, "step")),
             _ => None,
         }
@@ -61,10 +66,9 @@ struct Reader<'a> {
     /// The words that the file gives as its answer, and the number.
     words: Vec<WordPlace>,
     number: Option<u16>,
+    /// The right answers to the question about what is known now.
+    answers: Option<Answers>,
 }
-
-/// The links that a line can ask for.
-static LAYOUTS: [&str; 4] = ["plain", "-n", "-i", "-r"];
 
 /// Whether a path is a file's name, or ends by it.
 fn is_at(path: &str, name: &str) -> bool {
@@ -75,13 +79,15 @@ fn is_at(path: &str, name: &str) -> bool {
 }
 
 impl<'a> Reader<'a> {
-    /// A text that must not be empty, after this word.
+    /// Adds a word and the text after it, which must not be empty.
     fn put_said(&self, out: &mut JsonWriter, word: &str, text: &str) -> Result<()> {
         if text.is_empty() {
             return Err(anyhow!("{word} is followed by a text"));
         }
+        out.begin_list();
         out.put_text(word);
-        out.put_text(text);
+        put_prose(self.alloc, out, &self.session, text)?;
+        out.end_list();
         Ok(())
     }
 
@@ -93,21 +99,30 @@ impl<'a> Reader<'a> {
         self.put_said(out, "lesson", title)
     }
 
-    /// That an answer is given.
-    fn answer(&mut self) -> Result<()> {
-        if !matches!(self.begun, Begun::Question(_) | Begun::Answers) {
+    /// A right or wrong answer to choose, or why one is wrong.
+    fn put_choice(&mut self, out: &mut JsonWriter, word: &str, text: &str) -> Result<()> {
+        let Begun::Choice(line, choices) = self.begun else {
             return Err(anyhow!("an answer to no question"));
-        }
-        self.begun = Begun::Answers;
-        Ok(())
+        };
+        self.begun = Begun::Choice(line, choices.with(word));
+        self.put_said(out, word, text)
     }
 
-    /// An answer that is a word: its segment and its offset, in octal digits.
-    fn put_answer_word(&mut self, out: &mut JsonWriter, text: &str) -> Result<()> {
-        self.answer()?;
-        let word = self.word_at(text)?;
-        out.put_text("word");
-        word.put(out);
+    /// A name or a word that the file gives as an answer to a question about what is known now: it has to be one.
+    fn compare_answer(&self, word: &str, text: &str) -> Result<()> {
+        let Some(answers) = &self.answers else {
+            return Err(anyhow!("an answer to no question"));
+        };
+        let is_right = match word {
+            "name" => {
+                let name = Name::from_bytes(text.as_bytes());
+                name.as_bytes() == text.as_bytes() && answers.has_name(&name)
+            }
+            _ => answers.has_word(self.word_at(text)?),
+        };
+        if !is_right {
+            return Err(anyhow!("{text} is no answer"));
+        }
         Ok(())
     }
 
@@ -140,35 +155,30 @@ impl<'a> Reader<'a> {
         }
     }
 
-    /// A question: one of the step after it, or one that has its answers in the file.
+    /// A question: of the step after it, of what is known now, or with answers to choose from.
     fn put_ask(&mut self, out: &mut JsonWriter, line: usize, text: &str) -> Result<()> {
         let (word, rest) = first_word(text);
-        let wanted = wanted_of(word, rest)?;
-        let said = match wanted {
-            Wanted::Nothing => text,
-            Wanted::Changes => rest,
-            Wanted::Where => without_word(rest),
-            Wanted::Value(_) => without_word(without_word(rest)),
-        };
-        self.wanted = wanted;
+        let known = known_of(word, rest)?;
+        self.wanted = wanted_of(word, rest)?;
         self.name = name_in(rest);
         self.words = Vec::new(self.alloc);
         self.number = None;
-        self.begun = match wanted {
-            Wanted::Nothing => Begun::Question(line),
-            _ => Begun::Computed(line),
+        self.answers = None;
+        self.put_said(out, "ask", question_in(word, rest, text).trim())?;
+        self.begun = match (known, self.wanted) {
+            (Some(_), _) => Begun::Known,
+            (None, Wanted::Nothing) => Begun::Choice(line, Choices::none()),
+            (None, _) => Begun::Computed(line),
         };
-        self.put_said(out, "ask", said.trim())
-    }
-
-    /// An answer that is a name.
-    fn put_answer_name(&mut self, out: &mut JsonWriter, text: &str) -> Result<()> {
-        self.answer()?;
-        let name = Name::from_bytes(text.as_bytes());
-        if name.as_bytes() != text.as_bytes() || self.session.find(&name).is_none() {
-            return Err(anyhow!("there is no name {text}"));
+        if let Some(known) = known {
+            let answers = answers_of(self.alloc, &self.session, known, &self.name)?;
+            if answers.is_empty() {
+                return Err(anyhow!("the question has no answer"));
+            }
+            answers.put(out, known, &self.list, &self.name);
+            self.answers = Some(answers);
         }
-        self.put_said(out, "name", text)
+        Ok(())
     }
 
     /// The object of this name that is not there yet.
@@ -207,7 +217,7 @@ impl<'a> Reader<'a> {
 
     /// The step that shows a link.
     fn link(&self, name: &str) -> Result<Act> {
-        match LAYOUTS.iter().position(|layout| *layout == name) {
+        match layout_named(name) {
             Some(layout) => Ok(Act::Link(layout)),
             None => Err(anyhow!("there is no link {name}")),
         }
@@ -227,6 +237,7 @@ impl<'a> Reader<'a> {
     /// A line that makes a step.
     fn put_step(&mut self, out: &mut JsonWriter, word: &str, rest: &str) -> Result<()> {
         self.begun = Begun::Lesson;
+        self.answers = None;
         let before = self.word_before();
         let overwritten = changed_words(self.alloc, &self.session)?;
         let act = match word {
@@ -271,39 +282,18 @@ impl<'a> Reader<'a> {
             "add" | "withdraw" | "link" | "image" => self.put_step(out, word, rest),
             "number" => self.answer_number(rest),
             "word" if matches!(self.begun, Begun::Computed(_)) => self.answer_word(rest),
-            _ => self.put_words(out, line, word, rest),
-        }
-    }
-
-    /// A line that is neither a step nor a number.
-    fn put_words(
-        &mut self,
-        out: &mut JsonWriter,
-        line: usize,
-        word: &str,
-        rest: &str,
-    ) -> Result<()> {
-        out.begin_list();
-        match word {
-            "lesson" => self.put_lesson(out, rest)?,
-            "say" => self.put_said(out, word, rest)?,
-            "ask" => self.put_ask(out, line, rest)?,
-            "word" => self.put_answer_word(out, rest)?,
-            "name" => self.put_answer_name(out, rest)?,
-            "right" | "wrong" | "because" => {
-                self.answer()?;
-                self.put_said(out, word, rest)?;
+            "word" | "name" => self.compare_answer(word, rest),
+            "lesson" => self.put_lesson(out, rest),
+            "ask" => self.put_ask(out, line, rest),
+            "right" | "wrong" | "because" => self.put_choice(out, word, rest),
+            "say" => {
+                self.begun = Begun::Lesson;
+                self.answers = None;
+                self.put_said(out, word, rest)
             }
-            _ => return Err(anyhow!("{word} begins no line of a lesson")),
+            _ => Err(anyhow!("{word} begins no line of a lesson")),
         }
-        out.end_list();
-        Ok(())
     }
-}
-
-/// The first word of a text, and what follows it.
-fn first_word(text: &str) -> (&str, &str) {
-    text.split_once(' ').unwrap_or((text, ""))
 }
 
 /// A text without its first word.
@@ -312,7 +302,35 @@ fn without_word(text: &str) -> &str {
     rest
 }
 
-/// What a question asks, by its first word and what follows it.
+/// The text of a question, without what it asks.
+fn question_in<'a>(word: &str, rest: &'a str, text: &'a str) -> &'a str {
+    match word {
+        "changes" | "undefined" | "commons" | "reported" => rest,
+        "where" | "defines" => without_word(rest),
+        "value" | "refers" => without_word(without_word(rest)),
+        _ => text,
+    }
+}
+
+/// What a question asks of what is known now, by its first word and what follows it.
+fn known_of(word: &str, rest: &str) -> Result<Option<Known>> {
+    match word {
+        "undefined" => Ok(Some(Known::Undefined)),
+        "commons" => Ok(Some(Known::Commons)),
+        "reported" => Ok(Some(Known::Reported)),
+        "defines" => Ok(Some(Known::Defines)),
+        "refers" => {
+            let (digits, _) = first_word(without_word(rest).trim_start());
+            match u16::from_str_radix(digits, 8) {
+                Ok(more) => Ok(Some(Known::Refers(more))),
+                Err(_) => Err(anyhow!("refers is followed by a name, a number and a text")),
+            }
+        }
+        _ => Ok(None),
+    }
+}
+
+/// What a question asks of the next step, by its first word and what follows it.
 fn wanted_of(word: &str, rest: &str) -> Result<Wanted> {
     match word {
         "changes" => Ok(Wanted::Changes),
@@ -403,6 +421,7 @@ pub(crate) fn put_questions(
         name: name_in(""),
         words: Vec::new(alloc),
         number: None,
+        answers: None,
     };
     out.begin_list();
     put_lines(&mut reader, out, path, text.as_str())?;
