@@ -5,6 +5,7 @@ import re
 import tempfile
 
 from tests.cases.case_format import FORMS, KINDS, WORDS
+from tests.lib.files import read
 
 TABLE = os.path.join(os.path.dirname(os.path.abspath(__file__)), "data", "bad.words")
 PLACES = ("before", "after")
@@ -38,8 +39,7 @@ def word_of(line):
 
 
 def rows():
-    with open(TABLE, encoding="ascii") as file:
-        return [Row(block) for block in file.read().split("\n\n")[1:]]
+    return [Row(block) for block in read(TABLE).split("\n\n")[1:]]
 
 
 def can_be_misformed(word):

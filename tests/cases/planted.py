@@ -23,7 +23,7 @@ import tempfile
 from concurrent.futures import ThreadPoolExecutor
 
 from tests import TOP
-from tests.lib.files import write
+from tests.lib.files import TOP, read, write
 from tests.wrong_bodies import edits
 from tests.programs import largest
 from tests.lib.programs import ran
@@ -37,8 +37,7 @@ ROW = re.compile(r"^\| `([\w/*]+)` \| .* \| (.*) \|$")
 READS_BACK = {"v7-explain": "$ v7-object\n"}
 LARGEST = {f"largest.py: {name}, {kind}": f"$ {name}\n{READS_BACK.get(name, '')}" for name, _, kinds in largest.TABLE for kind in kinds}
 # the rows of tests/libv7/largest_library.py. Importing it would load the library
-with open(os.path.join(TOP, "tests", "libv7", "largest_library.py"), encoding="utf-8") as script:
-    CALLS = re.findall(r'^    \("(v7_[^"]+)", ', script.read(), re.M)
+CALLS = re.findall(r'^    \("(v7_[^"]+)", ', read(f"{TOP}/tests/libv7/largest_library.py"), re.M)
 LARGEST.update({f"largest_library.py: {calls}, {kind}": "$ libv7\n" for calls in CALLS for kind in largest.KINDS})
 # what the data of the pages are compared with
 PAGES = "page_data.py: pages"
@@ -64,8 +63,7 @@ def bugs_of(name):
 
 def rows():
     """The bugs of the table, each with the cases that have to fail."""
-    with open(os.path.join(TOP, PAGE), encoding="utf-8") as page:
-        found = [ROW.match(line.strip()) for line in page]
+    found = map(ROW.match, read(f"{TOP}/{PAGE}").split("\n"))
     return [(bug, re.findall(r"`([^`]+)`", row[2])) for row in found if row for bug in bugs_of(row[1])]
 
 
@@ -95,9 +93,8 @@ def cases_of(paths):
     """The text of each case in these files."""
     texts = {}
     for path in paths:
-        with open(path, encoding="ascii") as lines:
-            for text, name in re.findall(r"^((?:#.*\n)+case (\w+)\n(?:[^#\n].*\n|\n)*)", lines.read(), re.M):
-                texts[name] = text
+        for text, name in re.findall(r"^((?:#.*\n)+case (\w+)\n(?:[^#\n].*\n|\n)*)", read(path), re.M):
+            texts[name] = text
     return texts
 
 

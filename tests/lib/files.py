@@ -1,6 +1,7 @@
 """The folder of the repository, and files in it or in a folder that a script works in."""
 import contextlib
 import os
+import shutil
 import tempfile
 
 from tests import TOP  # noqa: F401, what scripts join to the name of a file once they work in another folder
@@ -25,11 +26,13 @@ def write(path, data):
 
 
 @contextlib.contextmanager
-def room():
-    """A new folder, in which the script works, and which is gone at the end."""
+def room(copied=""):
+    """A new folder, in which the script works, and which is gone at the end; or in it a copy of this folder of the repository."""
     before = os.getcwd()
     with tempfile.TemporaryDirectory() as folder:
-        os.chdir(folder)
+        if copied:
+            shutil.copytree(f"{TOP}/{copied}", f"{folder}/{copied}")
+        os.chdir(f"{folder}/{copied}")
         try:
             yield folder
         finally:

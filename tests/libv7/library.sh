@@ -124,16 +124,11 @@ links() {
     echo "$1: 6 links compared"
 }
 
-# a session, which compares by itself
-session() {
-    name=$1
-    shift
-    if "$@" >session.txt; then
-        echo "$name: a session compared"
-    else
-        cat session.txt
-        fail "$name: the session differs"
-    fi
+# runs what compares by itself: `checks NAME WHAT COMMAND ..`
+checks() {
+    shown="$1: $2"
+    shift 2
+    "$@" >said.txt 2>&1 && echo "$shown: $(tail -1 said.txt)" || { cat said.txt; fail "$shown differs"; }
 }
 
 # compiles the calls with each fault, with these further words for the compiler, as a program of this name
@@ -144,20 +139,8 @@ faults() {
         -Wl,--wrap=malloc -Wl,--wrap=realloc -Wl,--wrap=free "$archive" || exit 1
 }
 
-# runs them
-faulty() {
-    name=$1
-    shift
-    if "$@" >faulty.txt 2>&1; then
-        echo "$name: each fault: $(cat faulty.txt)"
-    else
-        cat faulty.txt
-        fail "$name: an answer differs"
-    fi
-}
-
 faults faults -O2
-faulty C ./faults
+checks C "each fault" ./faults
 $CC -std=c99 -O2 -Wall -Wextra -Werror -o random_calls $compiles "$top/tests/libv7/c/random_calls.c" \
     -Wl,--wrap=malloc -Wl,--wrap=realloc -Wl,--wrap=free "$archive" || exit 1
 ./random_calls "${CALLS:-20000}" || fail "a random call differs"
@@ -205,13 +188,13 @@ PYTHONPATH=$top python3 -m tests.oracles.map ./map_by_c "${MAPS:-1000}" || fail 
 ./by_c out missing.o 2>&1 | grep -q '^missing\.o: ' || fail "the example in C says nothing of a file that is not there"
 ./by_c missing/out main.o 2>&1 | grep -q '^missing/out: ' || fail "the example in C says nothing of a file that it cannot write"
 ./by_c 2>&1 | grep -q '^usage: ' || fail "the example in C says nothing of missing arguments"
-session C ./ran_by_c
+checks C "a session" ./ran_by_c
 $CC -O2 -Wall -o by_shared $compiles "$top/examples/c/link.c" $links || exit 1
 $CC -O2 -Wall -o ran_by_shared $compiles "$top/examples/c/session.c" $links || exit 1
 LD_LIBRARY_PATH=$room/installed/lib${LD_LIBRARY_PATH:+:$LD_LIBRARY_PATH}
 export LD_LIBRARY_PATH
 links "C with libv7.so" ./by_shared
-session "C with libv7.so" ./ran_by_shared
+checks "C with libv7.so" "a session" ./ran_by_shared
 if has "$CXX"; then
     for standard in c++98 c++17; do
         $CXX -std=$standard -O2 -pedantic -Wall -Wextra -Werror -o by_cpp $compiles "$top/examples/cpp/link.cpp" $links || exit 1
@@ -237,23 +220,23 @@ fi
 if $CC -g -fsanitize=address -o by_asan $compiles "$top/examples/c/link.c" "$archive" 2>/dev/null; then
     $CC -g -fsanitize=address -o ran_by_asan $compiles "$top/examples/c/session.c" "$archive" || exit 1
     faults faults_asan -g -fsanitize=address
-    faulty "C with AddressSanitizer" ./faults_asan
+    checks "C with AddressSanitizer" "each fault" ./faults_asan
     links "C with AddressSanitizer" ./by_asan
-    session "C with AddressSanitizer" ./ran_by_asan
+    checks "C with AddressSanitizer" "a session" ./ran_by_asan
 else
     echo "skipped: AddressSanitizer is not there"
 fi
 if has valgrind; then
-    faulty "C with valgrind" valgrind -q --error-exitcode=9 --leak-check=full ./faults
+    checks "C with valgrind" "each fault" valgrind -q --error-exitcode=9 --leak-check=full ./faults
     links "C with valgrind" "valgrind -q --error-exitcode=9 --leak-check=full ./by_c"
-    session "C with valgrind" valgrind -q --error-exitcode=9 --leak-check=full ./ran_by_c
+    checks "C with valgrind" "a session" valgrind -q --error-exitcode=9 --leak-check=full ./ran_by_c
 fi
 LIBV7=$library
 PYTHONDONTWRITEBYTECODE=1
 PYTHONPATH=$top
 export LIBV7 PYTHONDONTWRITEBYTECODE PYTHONPATH
 links Python "env PYTHONPATH=$top/packaging/python python3 $top/examples/python/link.py"
-session Python env "PYTHONPATH=$top/packaging/python" python3 "$top/examples/python/session.py"
+checks Python "a session" env "PYTHONPATH=$top/packaging/python" python3 "$top/examples/python/session.py"
 python3 -m tests.libv7.library || fail "Python: a check fails"
 python3 -m tests.libv7.library_programs "${CHANGED:-40}" ||
     fail "a program and the library differ"
@@ -290,10 +273,10 @@ if python3 -m venv fresh 2>/dev/null; then
     python3 -m tests.libv7.wheel v7-*.whl || fail "Python: the wheel is not as an index wants it"
     fresh/bin/pip install -q --no-index --disable-pip-version-check v7-*.whl || fail "Python: the wheel is not installed"
     links "Python, from the wheel" "env -u LD_LIBRARY_PATH fresh/bin/python wheel/link.py"
-    session "Python, from the wheel" env -u LD_LIBRARY_PATH fresh/bin/python wheel/session.py
+    checks "Python, from the wheel" "a session" env -u LD_LIBRARY_PATH fresh/bin/python wheel/session.py
     fresh/bin/pip install -q --no-index --disable-pip-version-check --force-reinstall "$top/packaging/python" ||
         fail "Python: packaging/python is not installed by pip"
-    session "Python, installed by pyproject.toml" env -u LD_LIBRARY_PATH fresh/bin/python wheel/session.py
+    checks "Python, installed by pyproject.toml" "a session" env -u LD_LIBRARY_PATH fresh/bin/python wheel/session.py
 else
     echo "skipped: python3 has no venv"
 fi
@@ -302,7 +285,7 @@ if has rustc; then
     rustc -O -o by_rust -L "$room/installed/lib" -l v7 "$top/examples/rust/link.rs" || exit 1
     rustc -O -o ran_by_rust -L "$room/installed/lib" -l v7 "$top/examples/rust/session.rs" || exit 1
     links Rust ./by_rust
-    session Rust ./ran_by_rust
+    checks Rust "a session" ./ran_by_rust
 fi
 # the crates of Rust, in a copy, without any other crate
 if has cargo; then

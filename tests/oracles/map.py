@@ -18,7 +18,7 @@ import struct
 import sys
 
 from tests.lib.compare import notices, same
-from tests.lib.files import TOP, room, write
+from tests.lib.files import TOP, read_bytes, room, write
 from tests.lib.programs import program, ran
 from tests.oracles import disassembly
 
@@ -217,8 +217,7 @@ class File:
 
 
 def file_at(path):
-    with open(path, "rb") as file:
-        return File(file.read())
+    return File(read_bytes(path))
 
 
 def limit(label, used, most):

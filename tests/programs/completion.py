@@ -11,13 +11,11 @@ import pty
 import re
 import select
 import shutil
-import subprocess
 import sys
-import tempfile
 import time
 
 from tests.lib.compare import notices, same
-from tests.lib.files import TOP, read
+from tests.lib.files import TOP, read, room
 from tests.lib.programs import ran
 from tests.programs import terminal
 
@@ -115,20 +113,16 @@ def check_zsh(folder):
 
 
 def main(words):
-    with tempfile.TemporaryDirectory() as made:
-        folder = os.path.abspath(words[0]) if words else made
+    made = os.path.abspath(words[0]) if words else "../made"
+    with room("examples"):
         if not words:
-            subprocess.run([sys.executable, f"{TOP}/packaging/completion.py", folder], check=True)
-        shutil.copytree(f"{TOP}/examples", f"{made}/examples")
-        os.chdir(f"{made}/examples")
-        notices(same, "v7 help st", bash(f"{folder}/v7.bash", "v7 help st"), ["strip", "planted"])
-        count = check_bash(f"{folder}/v7.bash")
-        shells = "bash"
+            ran(sys.executable, f"{TOP}/packaging/completion.py", made)
+        file, made = f"{made}/v7.bash", os.path.abspath(made)
+        notices(same, "v7 help st", bash(file, "v7 help st"), ["strip", "planted"])
+        count = check_bash(file)
         if shutil.which("zsh"):
-            check_zsh(folder)
-            shells = "bash and zsh"
-        os.chdir(TOP)
-    print(f"completion in {shells}: {len(WANTED)} lines, and {count} options with their meaning")
+            check_zsh(made)
+    print(f"completion in bash{' and zsh' if shutil.which('zsh') else ''}: {len(WANTED)} lines, and {count} options with their meaning")
 
 
 if __name__ == "__main__":

@@ -5,13 +5,11 @@ tier: check, 2 seconds; programs: v7; for: examples
 The session is examples/session.txt, whose answers have to be those of examples/answers.txt; the program has to be examples/ab.out.
 """
 import os
-import shutil
 import struct
 import subprocess
 import sys
-import tempfile
 
-from tests.lib.files import TOP, read_bytes
+from tests.lib.files import read_bytes, room
 from tests.lib.programs import program
 from tests.programs import terminal
 
@@ -51,10 +49,8 @@ def meanings(program):
 
 
 def main():
-    with tempfile.TemporaryDirectory() as folder:
-        shutil.copytree(f"{TOP}/examples", f"{folder}/examples")
-        os.mkdir(f"{folder}/build")
-        os.chdir(f"{folder}/examples")
+    with room("examples"):
+        os.mkdir("../build")
         if session().encode() != read_bytes("answers.txt"):
             sys.exit("the answers are not those of examples/answers.txt")
         status = shell("ld", "-s", "-o", "program", "a.o", "b.o") or shell("size", "program")
@@ -62,7 +58,6 @@ def main():
         meanings(linked)
         if status or linked != read_bytes("ab.out"):
             sys.exit("the program is not examples/ab.out")
-        os.chdir(TOP)
 
 
 if __name__ == "__main__":

@@ -8,7 +8,7 @@ import re
 import struct
 
 from tests.lib.compare import notices, same
-from tests.lib.files import TOP, read, room, write
+from tests.lib.files import TOP, read, read_bytes, room, write
 from tests.lib.programs import program, ran
 from tests.lib.objects import gnu_named, gnu_object, pack, symbol
 
@@ -50,8 +50,7 @@ def becomes(what, data, options, told, wanted):
     """The bytes are converted to these, with these lines on standard error."""
     write("in.gnu", data)
     same(what, run(FROM_GNU, *options, "in.gnu", "out.o"), (0, "", told))
-    with open("out.o", "rb") as file:
-        same(f"{what}: written", file.read(), wanted)
+    same(f"{what}: written", read_bytes("out.o"), wanted)
     os.remove("out.o")
 
 
@@ -106,8 +105,7 @@ def check_folder():
     line = "v7-from-gnu: one/b.o: ___udivmodsi4 is cut to ___udivm\n"
     same("two files", run(FROM_GNU, "-xo", "to", "two/a.o", "one/b.o"), (0, "", line))
     same("both are written", sorted(os.listdir("to")), ["a.o", "b.o"])
-    with open("to/b.o", "rb") as file:
-        same("the second file", file.read(), pack([(0o207, 0)], symbols=[(b"___udivmodsi4", 0o42, 0)]))
+    same("the second file", read_bytes("to/b.o"), pack([(0o207, 0)], symbols=[(b"___udivmodsi4", 0o42, 0)]))
     same("no such folder", run(FROM_GNU, "-q", "-o", "no", "two/a.o"), (2, "", "v7-from-gnu: no/a.o: cannot create\n"))
     for words in ["-o"], ["-o", "to"], ["-oo", "to", "two/a.o"], ["-ox", "to", "two/a.o"], ["-"], ["-", "out.o"], ["-y", "in.gnu", "out.o"]:
         same(f"{words}", run(FROM_GNU, *words), (2, "", USAGE))

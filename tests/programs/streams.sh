@@ -40,6 +40,13 @@ tried() {
     expect "$what" "$wanted" "$said"
 }
 
+# the same of a run just before whose fault cannot be seen: `ended WHAT STATUS`
+ended() {
+    status=$?
+    : >fault
+    expect "$1" "$2" ''
+}
+
 # two files are the same
 same() {
     cmp "$1" "$2" >differs 2>&1 || fail "$(cat differs)"
@@ -152,15 +159,11 @@ for letter in '' -d -l -s -x -m; do
     tried "v7-explain $letter, output closed" 2 'v7-explain: write error' v7-explain $letter main.o >&-
 done
 tried 'v7-explain -c, output closed' 1 'v7-explain: reported: a program; relocation removed, so ld cannot link it again' v7-explain -c reported >&-
-v7-lesson main.o >&- 2>answers; status=$?
-: >fault
-expect 'v7-lesson, output closed' 2 ''
+v7-lesson main.o >&- 2>answers; ended 'v7-lesson, output closed' 2
 if [ -c /dev/full ]; then
     tried 'v7-explain, device full' 2 'v7-explain: write error' v7-explain main.o >/dev/full
     tried 'v7-explain -o, device full' 2 'v7-explain: /dev/full: write error' v7-explain -o /dev/full main.o >answers
-    v7-lesson main.o >/dev/full 2>answers; status=$?
-    : >fault
-    expect 'v7-lesson, device full' 2 ''
+    v7-lesson main.o >/dev/full 2>answers; ended 'v7-lesson, device full' 2
 fi
 
 # with a closed stream, or with none, they store the same
@@ -182,19 +185,14 @@ for closed in 0 1 2 all; do
     same out converted
     rm -f stored made out
 done
-v7-explain -c reported >answers 2>&-; status=$?
-expect 'v7-explain -c, error closed' 1 ''
-v7-object main.o out >answers 2>&-; status=$?
-expect 'v7-object, error closed' 1 ''
-v7-from-gnu main.o out >answers 2>&-; status=$?
-expect 'v7-from-gnu, error closed' 1 ''
+v7-explain -c reported >answers 2>&-; ended 'v7-explain -c, error closed' 1
+v7-object main.o out >answers 2>&-; ended 'v7-object, error closed' 1
+v7-from-gnu main.o out >answers 2>&-; ended 'v7-from-gnu, error closed' 1
 [ ! -e out ] || fail 'a file that was refused is stored'
 
 # words that are not UTF-8, and 1,000 of them
 for program in v7-explain v7-object v7-from-gnu v7-lesson; do
-    "$program" "$(printf '\377')" x >answers 2>errors; status=$?
-    : >fault
-    expect "$program, a word that is not UTF-8" 2 ''
+    "$program" "$(printf '\377')" x >answers 2>errors; ended "$program, a word that is not UTF-8" 2
     grep -q "usage: $program" errors || fail "$program, a word that is not UTF-8: $(cat errors)"
     same answers /dev/null
 done
@@ -214,18 +212,13 @@ fi
 rm large
 
 # standard error closed, and all three
-: >fault
-"$v7" ld -o out main.o count.o >answers 2>&-; status=$?
-expect 'ld, error closed' 1 ''
+"$v7" ld -o out main.o count.o >answers 2>&-; ended 'ld, error closed' 1
 same out reported
-"$v7" strip out none.o >answers 2>&-; status=$?
-expect 'strip, error closed' 2 ''
+"$v7" strip out none.o >answers 2>&-; ended 'strip, error closed' 2
 same out reported
-"$v7" ld -o out main.o twice.o count.o <&- >&- 2>&-; status=$?
-expect 'ld, all closed' 0 ''
+"$v7" ld -o out main.o twice.o count.o <&- >&- 2>&-; ended 'ld, all closed' 0
 same out whole
-"$v7" ld -o out main.o count.o <&- >&- 2>&-; status=$?
-expect 'ld with a report, all closed' 2 ''
+"$v7" ld -o out main.o count.o <&- >&- 2>&-; ended 'ld with a report, all closed' 2
 same out reported
 
 # a file that is opened first has the lowest descriptor that is free: it is none of those three, which are held. To ask for
@@ -234,26 +227,19 @@ same out reported
 rm out
 tried 'descriptor 0' 2 'v7: /dev/fd/0: read error' "$v7" ld -o out main.o /dev/fd/0 <&- >answers
 tried 'descriptor 1' 2 'v7: /dev/fd/1: read error' "$v7" ld -o out main.o /dev/fd/1 >&-
-: >fault
-"$v7" ld -o out main.o /dev/fd/2 >answers 2>&-; status=$?
-expect 'descriptor 2' 2 ''
+"$v7" ld -o out main.o /dev/fd/2 >answers 2>&-; ended 'descriptor 2' 2
 for descriptor in 0 1 2; do
-    "$v7" ld -o out main.o /dev/fd/$descriptor <&- >&- 2>&-; status=$?
-    expect "descriptor $descriptor, all closed" 2 ''
+    "$v7" ld -o out main.o /dev/fd/$descriptor <&- >&- 2>&-; ended "descriptor $descriptor, all closed" 2
 done
 # the other programs hold them too
 tried 'v7-explain, descriptor 0' 2 'v7-explain: /dev/fd/0: read error' v7-explain main.o /dev/fd/0 <&- >answers
 tried 'v7-explain, descriptor 1' 2 'v7-explain: /dev/fd/1: read error' v7-explain -o out /dev/fd/1 >&-
 tried 'v7-object, descriptor 0' 2 'v7-object: /dev/fd/0: read error' v7-object /dev/fd/0 out <&- >answers
 tried 'v7-from-gnu, descriptor 1' 2 'v7-from-gnu: /dev/fd/1: read error' v7-from-gnu /dev/fd/1 out >&-
-: >fault
 for descriptor in 0 1 2; do
-    v7-explain /dev/fd/$descriptor <&- >&- 2>&-; status=$?
-    expect "v7-explain, descriptor $descriptor, all closed" 2 ''
-    v7-object /dev/fd/$descriptor out <&- >&- 2>&-; status=$?
-    expect "v7-object, descriptor $descriptor, all closed" 2 ''
-    v7-from-gnu /dev/fd/$descriptor out <&- >&- 2>&-; status=$?
-    expect "v7-from-gnu, descriptor $descriptor, all closed" 2 ''
+    v7-explain /dev/fd/$descriptor <&- >&- 2>&-; ended "v7-explain, descriptor $descriptor, all closed" 2
+    v7-object /dev/fd/$descriptor out <&- >&- 2>&-; ended "v7-object, descriptor $descriptor, all closed" 2
+    v7-from-gnu /dev/fd/$descriptor out <&- >&- 2>&-; ended "v7-from-gnu, descriptor $descriptor, all closed" 2
 done
 [ ! -e out ] || fail 'a file that is opened took the place of a stream'
 [ ! -e failed ]

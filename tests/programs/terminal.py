@@ -17,13 +17,12 @@ import pty
 import random
 import re
 import select
-import shutil
 import subprocess
 import sys
 import tempfile
 
 from tests.lib.compare import notices, same
-from tests.lib.files import TOP, read, write
+from tests.lib.files import TOP, read, room, write
 from tests.lib.programs import program, ran
 
 TOOLS = ["ld", "nm", "session", "size", "strip"]
@@ -371,13 +370,9 @@ def check_mixed():
 
 def run_all():
     """Plays everything in a copy of the examples; returns what is counted."""
-    with tempfile.TemporaryDirectory() as folder:
-        shutil.copytree(f"{TOP}/examples", f"{folder}/examples")
-        os.chdir(f"{folder}/examples")
+    with room("examples"):
         write("commands.txt", "add main.o\n")
-        counts = (check_help(), check_reasons(), check_random(), check_hints(), check_session())
-        os.chdir(TOP)
-    return counts
+        return check_help(), check_reasons(), check_random(), check_hints(), check_session()
 
 
 def check_planted():

@@ -6,7 +6,7 @@ not count as refused, and has to wait for a copy without that body.
 """
 import os
 
-from tests.lib.files import room, write
+from tests.lib.files import read, room, write
 from tests.wrong_bodies import wrong_bodies
 
 SOURCE = """//! Sums of small numbers.
@@ -189,25 +189,23 @@ def faults_of_digests():
         if shown_as_changed(text) != wanted:
             yield f"the digests {text!r} have to show as changed: {wanted}"
     for path, more in ((LIB, "const ONE: u8 = 1;\n"), (SUMS, "\nabbrev pub one : ℕ\n"), (SUMS, "  one = 1\n"), ("must-fail/wrong.edit", "\n")):
-        with open(f"crates/tried/{path}", "a", encoding="utf-8") as file:
-            file.write(more)
+        write(f"crates/tried/{path}", read(f"crates/tried/{path}") + more)
         if shown_as_changed(f"tried {digest}\n") != ["tried"]:
             yield f"a change of {path} has to be seen"
         digest = wrong_bodies.digest("tried")
     for path, comment in ((LIB, "    // a comment"), (SUMS, "-- a comment")):
-        with open(f"crates/tried/{path}", "a", encoding="utf-8") as file:
-            file.write(f"{comment}\n")
+        write(f"crates/tried/{path}", read(f"crates/tried/{path}") + f"{comment}\n")
         if shown_as_changed(f"tried {digest}\n"):
             yield f"a comment of {path} is not a change"
     for path, old, new in BROKEN:
-        text = wrong_bodies.edits.read(f"crates/tried/{path}")
+        text = read(f"crates/tried/{path}")
         write(f"crates/tried/{path}", text.replace(old, new))
         if text.count(old) != 1 or shown_as_changed(f"tried {digest}\n"):
             yield f"a line that is broken is not a change: {new!r}"
     for one, other, are_alike in SOURCES:
         if (wrong_bodies.on_one_blank(one) == wrong_bodies.on_one_blank(other)) != are_alike:
             yield f"{one!r} and {other!r} {'say the same' if are_alike else 'differ'}"
-    text = wrong_bodies.edits.read(f"crates/tried/{SUMS}")
+    text = read(f"crates/tried/{SUMS}")
     write(f"crates/tried/{SUMS}", text.replace("\n  one = 1", "\none = 1"))
     if shown_as_changed(f"tried {digest}\n") != ["tried"]:
         yield "a statement that begins at another column is a change"
