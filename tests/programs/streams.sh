@@ -163,6 +163,38 @@ if [ -c /dev/full ]; then
     expect 'v7-lesson, device full' 2 ''
 fi
 
+# an output that is the input is refused, whatever its path is: the input stays as it was
+mkdir links
+cp main.o links/x.o
+cp squares.gnu links/x.gnu
+cp listing links/x.lst
+(
+    cd links || exit 2
+    ln x.o hard.o
+    ln -s x.o soft.o
+    ln -s ../links also
+    refuse() {
+        "$@" >answers 2>fault; status=$?
+        expect "$*" 2 "$1: $output: the output is one of the inputs"
+    }
+    for output in ../links/x.o hard.o soft.o also/x.o ./x.o; do
+        refuse v7-explain -o "$output" x.o
+    done
+    for output in ../links/x.lst also/x.lst x.lst; do
+        refuse v7-object x.lst "$output"
+    done
+    for output in ../links/x.gnu also/x.gnu; do
+        refuse v7-from-gnu x.gnu "$output"
+    done
+    output=also/x.gnu
+    refuse v7-from-gnu -o also ../squares.gnu x.gnu
+    exit $failed
+) || failed=1
+same links/x.o main.o
+same links/x.gnu squares.gnu
+same links/x.lst listing
+[ ! -e links/squares.gnu ] || { echo 'an object is stored beside one that is refused'; failed=1; }
+
 # with a closed stream, or with none, they store the same
 : >fault
 for closed in 0 1 2 all; do
