@@ -83,7 +83,7 @@ build/libv7.so: build/$(SOFILE)
 	ln -sf $(SOFILE) build/$(SONAME)
 	ln -sf $(SONAME) build/libv7.so
 
-# the libraries, the header, what pkg-config reads, the manual page, and the documents that the header cites; no program is needed
+# the libraries, the headers, what pkg-config reads, the manual page, and the documents that the header cites; no program is needed
 STAGE := build/stage
 install-lib: lib
 	rm -rf $(STAGE)
@@ -91,7 +91,7 @@ install-lib: lib
 	cp build/libv7.a build/$(SOFILE) $(STAGE)$(LIBDIR)
 	ln -sf $(SOFILE) $(STAGE)$(LIBDIR)/$(SONAME)
 	ln -sf $(SONAME) $(STAGE)$(LIBDIR)/libv7.so
-	cp include/v7.h $(STAGE)$(INCLUDEDIR)
+	cp include/v7.h include/v7.hpp $(STAGE)$(INCLUDEDIR)
 	sed -e 's|@PREFIX@|$(PREFIX)|' -e 's|@LIBDIR@|$(LIBDIR)|' -e 's|@INCLUDEDIR@|$(INCLUDEDIR)|' -e 's|@VERSION@|$(VERSION)|' \
 		packaging/v7.pc.in >$(STAGE)$(LIBDIR)/pkgconfig/v7.pc
 	cp man/*.3 $(STAGE)$(PREFIX)/share/man/man3

@@ -2,15 +2,17 @@
  * rules of a link, and docs/FORMAT.md the format: `make install-lib` puts them below share/doc/v7, and the package for Debian below
  * /usr/share/doc/libv7-dev. The header needs C99, or C++98 with <stdint.h>.
  *
- * Each call takes bytes and gives bytes, and keeps nothing for the next call. An object or a file is the bytes of an a.out
- * file. v7_run, v7_map and v7_state take a list of objects, the bytes of each separately.
+ * Each call takes bytes and gives bytes, and only a `struct v7_session` is kept for the next call. An object or a file is the bytes of
+ * an a.out file. v7_run, v7_map and v7_state take a list of objects, the bytes of each separately.
  *
- * Sizes are in bytes. A call takes memory from malloc and gives it back before it returns. Calls share nothing, so threads may
- * make them at once.
+ * Sizes are in bytes. A call takes memory from malloc and gives it back before it returns, but for what a session keeps. Calls share
+ * nothing else, so threads may make them at once.
  *
  * Only these arguments can crash a program or spoil its memory. A pointer with a size over 0 is null, or not aligned for its type,
  * or has less than its size. Buffers overlap each other, *ANSWER, or what the call reads. A struct whose size is passed is smaller than
- * that. A pointer to a struct is null. A pointer of size 0 may be null.
+ * that. A pointer to a struct is null. A pointer of size 0 may be null. And of a `struct v7_session`: it is not all 0 before its first
+ * call, something else than these calls changes it, a copy of it is used after a call had the other one, or two threads use it at once.
+ * It may be moved, if what it was moved from is not used again. Without v7_session_free its memory is lost.
  *
  * A call writes its result at the beginning of a buffer of the caller; after the result the buffer stays as it was. If a
  * buffer is too small the fault is V7_NO_ROOM, nothing is written, and *ANSWER has the sizes that are needed. So a call with
@@ -53,6 +55,7 @@ enum v7_fault {
     V7_MANY_NAMES = 5,         /* more than 64 different names are forced; `place` is the number of the first too many */
     V7_TOO_LONG = 6,           /* more than 32,767 words of text or data, 65,535 bytes of bss, or 5,461 symbols; `word` is the part */
     V7_NO_EDIT = 7,            /* an edit is neither V7_ADD nor V7_WITHDRAW; `place` is its number */
+    V7_NO_SESSION = 8,         /* no session is begun; for v7_session_new, one is begun already */
     /* the bytes of a file */
     V7_SHORT_HEADER = 11,      /* fewer than 16 bytes */
     V7_BAD_MAGIC = 12,         /* the first word is none of 0405, 0407, 0410 and 0411 */
@@ -103,7 +106,8 @@ enum v7_fault {
     V7_LOCAL_WORD = 89         /* it refers to a local that is dropped */
 };
 
-/* what a session replies to an edit, beside 31 to 34 for an object that would pass a limit */
+/* what a session replies to an edit, beside 31 to 34 for an object that would pass a limit; V7_NOTHING is the fault of
+ * v7_session_withdraw */
 enum v7_reply {
     V7_DONE = 0,
     V7_NOTHING = 35            /* there is nothing to withdraw */
@@ -129,6 +133,8 @@ static inline const char *v7_strerror(uint32_t fault)
         return "too many words, bytes of bss or symbols";
     case V7_NO_EDIT:
         return "no such edit";
+    case V7_NO_SESSION:
+        return "no session, or one already";
     case V7_SHORT_HEADER:
         return "short header";
     case V7_BAD_MAGIC:
@@ -454,7 +460,7 @@ enum v7_map_name_state {
     V7_NAME_IS_UNDEFINED = 2,
     V7_NAME_IS_MULTIPLE = 4  /* it is multiply defined */
 };
-struct v7_map_name { /* in the order of the names */
+struct v7_map_name { /* sorted by their bytes, as unsigned numbers */
     unsigned char name[8];
     size_t definer;      /* the object that defines it first, or SIZE_MAX */
     size_t next_definer; /* the object that defines it next, likewise */
@@ -538,6 +544,36 @@ uint32_t v7_map(const struct v7_request *request, struct v7_map *map);
 enum v7_form { V7_LINES = 0, V7_JSON = 1 };
 uint32_t v7_state(uint32_t form, const struct v7_request *request, unsigned char *replies, size_t replies_size, unsigned char *room,
                   size_t room_size, struct v7_answer *answer);
+
+/* A session that is kept, so that an edit costs what the edit is, and not what is there. The struct is the caller's, and at first all of it
+ * is 0, as after `struct v7_session session = {0};`. A call that has a fault leaves the session as it was. Other calls may come between. */
+struct v7_session {
+    uint32_t is_open; /* 1 after v7_session_new, 0 after v7_session_free */
+    void *state;      /* the library's; a caller does not look at it */
+};
+
+/* Begins a session of no objects. FORCED are names that are mentioned before all objects, 8 bytes each, filled up with NULs. Faults, the
+ * first that applies: V7_NO_SESSION if one is begun already, 4, 5, V7_NO_MEMORY. */
+uint32_t v7_session_new(struct v7_session *session, const unsigned char *forced, size_t forced_size, struct v7_answer *answer);
+
+/* Adds the object that BYTES begin with after those that are there; the bytes are not kept. Faults, the first that applies:
+ * V7_NO_SESSION, 11 to 14, 21 to 24, 31 to 34 if it would pass a limit, V7_NO_MEMORY for a whole file or for an object that is accepted. */
+uint32_t v7_session_add(struct v7_session *session, const unsigned char *bytes, size_t size, struct v7_answer *answer);
+
+/* Withdraws the object that was added last. It needs no memory. Faults: V7_NO_SESSION, V7_NOTHING if there is none. */
+uint32_t v7_session_withdraw(struct v7_session *session, struct v7_answer *answer);
+
+/* Links what is there, and gives it as v7_run does; RESULT has no replies. Of REQUEST the mode is V7_LINK, V7_PLACES is not wanted, and
+ * forced names, objects and edits are not looked at. Faults, the first that applies: V7_NO_OPTION as there, V7_NO_SESSION, 1 to 3, 41 to
+ * 43, V7_NO_MEMORY, and V7_NO_ROOM last. */
+uint32_t v7_session_link(struct v7_session *session, const struct v7_request *request, struct v7_result *result);
+
+/* Writes what the session shows, as v7_state does. Faults, the first that applies: V7_NO_SESSION, V7_NO_OPTION for FORM, V7_NO_MEMORY,
+ * V7_NO_ROOM. */
+uint32_t v7_session_state(struct v7_session *session, uint32_t form, unsigned char *room, size_t room_size, struct v7_answer *answer);
+
+/* Ends the session, if one is begun, and gives its memory back. All of the struct is then as it was at first. The status is 0. */
+uint32_t v7_session_free(struct v7_session *session);
 
 /* A relocation word is one of these kinds, or V7_REFERS_TO(N); and V7_FROM_PC more if the word is relative to the pc.
  *

@@ -3,7 +3,7 @@
 usage: python3 -m tests NAME ..          tests, all of a folder (`oracles`), or all of a tier: `text`, `test`, `check` or `all`
        python3 -m tests list             all tests by tier, with their seconds, and the programs that they run
        python3 -m tests which PATH ..    the tests and the crates that a change of these files concerns
-       python3 -m tests needs TIER       Debian's packages that the tests of this tier and of those before need
+       python3 -m tests needs TIER       Debian's packages that the tests of this tier and of those before need, and that are missing
 
 Each tier has what those before do not have. The tests of `test` run side by side with programs that are compiled here without any proof,
 and with the tests that are code, of each crate that has a function with `#[test]`. Those of `check` and `all` run with the programs of
@@ -230,7 +230,7 @@ def main(words):
         return which(*(os.path.relpath(os.path.abspath(it), TOP) for it in words[1:]))
     if words[:1] == ["needs"] and words[1:] and words[1] in TIERS:
         before = TIERS[: TIERS.index(words[1]) + 1]
-        print(*sorted({PACKAGES[it] for test in tests if test.tier in before for it in test.words("needs")}), sep="\n")
+        print(*sorted({PACKAGES[it] for it in missing([test for test in tests if test.tier in before])}), sep="\n")
         return 0
     if words == ["list"]:
         for it in tests:

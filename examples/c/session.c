@@ -9,7 +9,7 @@ enum { ROOM = 256 };
 struct linked {
     uint32_t status;
     struct v7_result result;
-    unsigned char file[ROOM], report[ROOM], replies[8];
+    unsigned char file[ROOM], report[ROOM];
 };
 
 /* what a session of the first object shows */
@@ -44,38 +44,23 @@ static int alike(const struct linked *a, const struct linked *b)
            memcmp(a->report, b->report, a->result.report_size) == 0;
 }
 
-/* a link of all objects, or if there are edits a session */
-static struct v7_request asked(const char *edits, const struct v7_slice *objects, size_t count)
+/* the link of what the session keeps, or without one of the objects */
+static void run(struct v7_session *session, const struct v7_slice *objects, size_t count, struct linked *to)
 {
     struct v7_request request = {.size = sizeof request, .wants = V7_REPORT, .objects = objects, .object_count = count};
+    struct v7_result result = {.size = sizeof result, .file = to->file, .file_room = ROOM, .report = to->report, .report_room = ROOM};
 
-    if (edits) {
-        request.mode = V7_SESSION;
-        request.edits.bytes = (const unsigned char *)edits;
-        request.edits.size = strlen(edits);
-    }
-    return request;
-}
-
-static void run(const char *edits, const struct v7_slice *objects, size_t count, struct linked *to)
-{
-    struct v7_request request = asked(edits, objects, count);
-    struct v7_result result = {.size = sizeof result, .file = to->file, .file_room = ROOM, .report = to->report,
-                               .report_room = ROOM, .replies = to->replies, .reply_room = sizeof to->replies};
-
-    to->status = v7_run(&request, &result);
+    to->status = session ? v7_session_link(session, &request, &result) : v7_run(&request, &result);
     to->result = result;
 }
 
-/* whether the state after the edits is this, as lines */
-static int shows(const char *edits, const struct v7_slice *objects, const char *state)
+/* whether the session shows this, as lines */
+static int shows(struct v7_session *session, const char *state)
 {
-    struct v7_request request = asked(edits, objects, 2);
-    unsigned char room[ROOM], replies[8];
+    unsigned char room[ROOM];
     struct v7_answer answer;
-    uint32_t status = v7_state(V7_LINES, &request, replies, sizeof replies, room, ROOM, &answer);
 
-    return status == 0 && answer.report_size == strlen(edits) && answer.size == strlen(state) && memcmp(room, state, answer.size) == 0;
+    return v7_session_state(session, V7_LINES, room, ROOM, &answer) == 0 && answer.size == strlen(state) && memcmp(room, state, answer.size) == 0;
 }
 
 int main(void)
@@ -86,7 +71,8 @@ int main(void)
     struct v7_counts counts;
     struct v7_word text[4], data[1];
     struct v7_symbol symbols[2];
-    struct linked both, alone, session;
+    struct linked both, alone, kept;
+    struct v7_session session = {0};
 
     same("the first is made", v7_make(main_text, 4, half_data, 0, 0, main_symbols, 2, first, ROOM, &answer) == 0);
     objects[0].size = answer.size;
@@ -101,14 +87,16 @@ int main(void)
     run(NULL, objects, 1, &alone);
     same("a name that is not there", alone.status == 1 && alone.result.report_size == 17 &&
                                          memcmp(alone.report, "Undefined:\n_half\n", 17) == 0);
-    run("aa", objects, 2, &session);
-    same("added", alike(&session, &both) && memcmp(session.replies, "\0\0", 2) == 0);
-    run("aaw", objects, 2, &session);
-    same("withdrawn", alike(&session, &alone) && memcmp(session.replies, "\0\0\0", 3) == 0);
-    same("shown as before", shows("a", objects, first_state) && shows("aaw", objects, first_state));
-    run("awwaw", objects, 2, &session);
-    same("nothing left", session.status == 1 && memcmp(session.replies, "\0\0\43\0\0", 5) == 0);
-    run("ax", objects, 2, &session);
-    same("no edit", session.status == 2 && session.result.fault == V7_NO_EDIT && session.result.place == 1);
+    same("begun", v7_session_new(&session, NULL, 0, &answer) == 0);
+    same("one is there", v7_session_add(&session, first, objects[0].size, &answer) == 0 && shows(&session, first_state));
+    same("two are there", v7_session_add(&session, second, objects[1].size, &answer) == 0);
+    run(&session, NULL, 0, &kept);
+    same("linked", alike(&kept, &both));
+    same("cut short", v7_session_add(&session, first, 20, &answer) == 2 && answer.fault == V7_TRUNCATED);
+    same("withdrawn", v7_session_withdraw(&session, &answer) == 0);
+    run(&session, NULL, 0, &kept);
+    same("linked as before", alike(&kept, &alone) && shows(&session, first_state));
+    same("nothing left", v7_session_withdraw(&session, &answer) == 0 && v7_session_withdraw(&session, &answer) == 2 && answer.fault == V7_NOTHING);
+    same("ended", v7_session_free(&session) == 0 && v7_session_withdraw(&session, &answer) == 2 && answer.fault == V7_NO_SESSION);
     return failed;
 }

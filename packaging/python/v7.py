@@ -21,22 +21,28 @@
     [{'name': '_count', 'state': 'undefined', 'value': 0}]
 
 Objects and files are bytes; an address in data or bss counts from the front of text. A fault is raised as `Fault`. A number that does
-not fit its place, as 65,536 for a word, is a ValueError, and a wrong type a TypeError. The library is the file that the environment variable LIBV7 names, or
-else the one beside this module, as in the wheel, or else the one that the system's loader finds.
+not fit its place, as 65,536 for a word, is a ValueError, and a wrong type a TypeError that names the argument. The library is the file
+that the environment variable LIBV7 names, or else the one beside this module, as in the wheel, or else the one that the system's loader
+finds.
 """
 from __future__ import annotations
 
 import ctypes
 import json
 import os
-from typing import Any, Dict, Iterable, List, NamedTuple, Optional, Sequence, Tuple, Union
+from typing import Any, Dict, Iterable, List, NamedTuple, NoReturn, Optional, Sequence, Tuple, Union
 
 _BESIDE = os.path.join(os.path.dirname(os.path.abspath(__file__)), "libv7.so.0")
 __version__ = "0.4.0"
 
-_LIBRARY = ctypes.CDLL(os.environ.get("LIBV7") or (_BESIDE if os.path.exists(_BESIDE) else "libv7.so.0"))
+_PATH = os.environ.get("LIBV7") or (_BESIDE if os.path.exists(_BESIDE) else "libv7.so.0")
+_LIBRARY = ctypes.CDLL(_PATH)
+# calls on a session that is kept: no other thread of Python runs during one
+_KEEPING = ctypes.PyDLL(_PATH)
 _NO_ROOM = 60
-_LINK, _SESSION = 0, 1
+# the largest file of a link: a header, words and relocation words of full segments, and a full table
+_MOST = 16 + 4 * 65534 + 12 * 5461
+_LINK = 0
 _REPORT, _FINDINGS, _PLACES = 1, 2, 4
 
 # options of a link
@@ -244,6 +250,7 @@ FAULTS: Dict[int, str] = {
     5: "more than 64 names are forced",
     6: "too many words, bytes of bss or symbols",
     7: "no such edit",
+    8: "no session, or one already",
     11: "short header",
     12: "bad magic number",
     13: "odd size",
@@ -329,6 +336,10 @@ class _Answer(ctypes.Structure):
         ("size", ctypes.c_size_t),
         ("report_size", ctypes.c_size_t),
     ]
+
+
+class _Session(ctypes.Structure):
+    _fields_ = [("is_open", ctypes.c_uint32), ("state", ctypes.c_void_p)]
 
 
 class _Request(ctypes.Structure):
@@ -465,12 +476,16 @@ def refers_to(number: int) -> int:
     >>> refers_to(1) == 0o30
     True
     """
+    if not isinstance(number, int):
+        raise _wrong("number", "a number", number)
     if not 0 <= number <= 4095:
         raise ValueError(f"a symbol number is 0 to 4,095, and not {number}")
     return 0o10 + 0o20 * number
 
 
 def _fitting(what: str, number: int, bits: int) -> int:
+    if not isinstance(number, int):
+        raise _wrong(what, "a number", number)
     if not 0 <= number < 1 << bits:
         raise ValueError(f"{what} is 0 to {(1 << bits) - 1}, and not {number}")
     return number
@@ -480,25 +495,47 @@ def _number(what: str, number: int) -> ctypes.c_uint32:
     return ctypes.c_uint32(_fitting(what, number, 32))
 
 
-def _bytes(data: bytes) -> bytes:
-    """A copy; what is not bytes is a TypeError."""
-    return memoryview(data).tobytes()
+def _wrong(what: str, wanted: str, value: Any) -> TypeError:
+    return TypeError(f"{what}: {wanted} is required, not '{type(value).__name__}'")
+
+
+def _bytes(what: str, data: bytes) -> bytes:
+    """A copy."""
+    try:
+        return memoryview(data).tobytes()
+    except TypeError:
+        raise _wrong(what, "bytes", data) from None
+
+
+def _items(what: str, items: Iterable[Any]) -> List[Any]:
+    """The items of a list; bytes and a str have other ones."""
+    if isinstance(items, (bytes, bytearray, memoryview, str)):
+        raise _wrong(what, "a list", items)
+    try:
+        return [*items]
+    except TypeError:
+        raise _wrong(what, "a list", items) from None
+
+
+def _row(what: str, row: Any, size: int) -> Tuple[Any, ...]:
+    """A pair or a triple."""
+    if not isinstance(row, (tuple, list)) or len(row) != size:
+        raise _wrong(what, f"a tuple of {size}", row)
+    return tuple(row)
 
 
 def _list(objects: Iterable[bytes]) -> List[bytes]:
-    if isinstance(objects, (bytes, bytearray, memoryview)):
-        raise TypeError(f"a list of objects is required, not '{type(objects).__name__}'")
-    return [*map(_bytes, objects)]
+    return [_bytes(f"objects[{number}]", data) for number, data in enumerate(_items("objects", objects))]
 
 
-def _latin(text: str) -> bytes:
+def _latin(what: str, text: str) -> bytes:
     if not isinstance(text, str):
-        raise TypeError(f"a str is required, not '{type(text).__name__}'")
+        raise _wrong(what, "a str", text)
     return text.encode("latin-1")
 
 
 def _slice(data: bytes) -> List[Any]:
-    data = _bytes(data)
+    data = _bytes("data", data)
     return [ctypes.c_char_p(data), ctypes.c_size_t(len(data))]
 
 
@@ -506,9 +543,9 @@ def _room(size: int) -> Any:
     return ctypes.create_string_buffer(max(size, 1))
 
 
-def _given(name: str, *words: Any, guess: int = 0, is_byte: bool = False) -> bytes:
+def _given(name: str, *words: Any, guess: int = 0, is_byte: bool = False, library: Any = _LIBRARY) -> bytes:
     """Calls with a room of the guessed size, and again if the result is larger. The place of a fault may be a byte."""
-    call, answer = getattr(_LIBRARY, name), _Answer()
+    call, answer = getattr(library, name), _Answer()
     for _ in range(2):
         room = _room(guess)
         call(*words, room, ctypes.c_size_t(guess), ctypes.byref(answer))
@@ -566,7 +603,7 @@ def nm(data: bytes, options: int = 0) -> str:
     >>> nm(make(text=[(7, NUMBER)], symbols=[("_f", TEXT | EXTERNAL, 0), ("l", TEXT, 0)]), NM_EXTERNAL)
     '000000 T _f\\n'
     """
-    return _given("v7_nm", _number("the options", options), *_slice(data)).decode("latin-1")
+    return _given("v7_nm", _number("options", options), *_slice(data)).decode("latin-1")
 
 
 def disassemble(data: bytes) -> str:
@@ -589,10 +626,11 @@ def disassemble_words(words: Iterable[int], address: int = 0) -> str:
     001002  012700 000005         mov $5,r0
     >>> disassemble_words([65536])
     Traceback (most recent call last):
-    ValueError: a word is 0 to 65535, and not 65536
+    ValueError: words[0] is 0 to 65535, and not 65536
     """
-    at = ctypes.c_uint16(_fitting("an address", address, 16))
-    return _given("v7_disassemble_words", at, *_array(ctypes.c_uint16, [_fitting("a word", word, 16) for word in words])).decode("latin-1")
+    at = ctypes.c_uint16(_fitting("address", address, 16))
+    numbers = [_fitting(f"words[{place}]", word, 16) for place, word in enumerate(_items("words", words))]
+    return _given("v7_disassemble_words", at, *_array(ctypes.c_uint16, numbers)).decode("latin-1")
 
 
 def listing(data: bytes) -> str:
@@ -619,7 +657,7 @@ def from_listing(text: str) -> bytes:
     Traceback (most recent call last):
     v7.Fault: not an octal number, line 2, column 8
     """
-    return _given("v7_from_listing", *_slice(_latin(text)))
+    return _given("v7_from_listing", *_slice(_latin("text", text)))
 
 
 def from_gnu(data: bytes, options: int = 0) -> bytes:
@@ -629,7 +667,7 @@ def from_gnu(data: bytes, options: int = 0) -> bytes:
     Traceback (most recent call last):
     v7.Fault: short header, byte 5
     """
-    return _given("v7_from_gnu", _number("the options", options), *_slice(data), is_byte=True)
+    return _given("v7_from_gnu", _number("options", options), *_slice(data), is_byte=True)
 
 
 def remarks(data: bytes) -> List[Remark]:
@@ -651,8 +689,8 @@ def remarks(data: bytes) -> List[Remark]:
     return [Remark(each.kind, each.place, texts.raw[each.text : each.text + each.text_size].decode("latin-1")) for each in found[: answer.report_size]]
 
 
-def _padded(name: str) -> bytes:
-    data = _latin(name)
+def _padded(what: str, name: str) -> bytes:
+    data = _latin(what, name)
     if len(data) > 8:
         raise ValueError(f"a name has at most 8 bytes, and not {len(data)}: {name}")
     return data.ljust(8, b"\0")
@@ -662,47 +700,58 @@ def _array(kind: Any, items: Sequence[Any]) -> List[Any]:
     return [(kind * max(len(items), 1))(*items), ctypes.c_size_t(len(items))]
 
 
-class _Run:
-    """What a link or a session is asked for, and what it gives."""
+def _forced(names: Iterable[str]) -> bytes:
+    return b"".join(_padded(f"forced[{number}]", name) for number, name in enumerate(_items("forced", names)))
 
-    def __init__(self, objects: Iterable[bytes], options: int, entry: str, forced: Iterable[str], wants: int, edits: Optional[bytes]) -> None:
+
+class _Run:
+    """What a link is asked for, of objects or of what a session keeps, and what it gives."""
+
+    def __init__(
+        self, objects: Iterable[bytes], options: int, entry: str, forced: Iterable[str], wants: int, session: Optional[_Session] = None, size: int = 0
+    ) -> None:
         # what the request points to lives as long as this
-        self._parts = _list(objects)
+        self._parts, self._session = _list(objects), session
+        # how many bytes the objects have
+        self._size = size + sum(map(len, self._parts))
         self._slices = (_Slice * max(len(self._parts), 1))(*(_Slice(data, len(data)) for data in self._parts))
-        self._names = [_latin(entry), b"".join(map(_padded, forced)), edits or b""]
-        named, names, letters = (_Slice(data, len(data)) for data in self._names)
-        mode = _LINK if edits is None else _SESSION
-        self._request = _Request(ctypes.sizeof(_Request), mode, _fitting("the options", options, 32), wants, named, names, self._slices, len(self._parts), letters)
+        self._names = [_latin("entry", entry), _forced(forced)]
+        named, names = (_Slice(data, len(data)) for data in self._names)
+        self._request = _Request(ctypes.sizeof(_Request), _LINK, _fitting("options", options, 32), wants, named, names, self._slices, len(self._parts))
         self._result = _Result(size=ctypes.sizeof(_Result))
-        self.status, self.file, self.report, self.replies = 2, b"", "", b""
+        self.status, self.file, self.report = 2, b"", ""
         self.findings: List[Any] = []
         self.places: List[Any] = []
 
     def call(self) -> int:
         """Calls with the rooms that there are, and returns the number of the fault."""
-        self.status = _LIBRARY.v7_run(ctypes.byref(self._request), ctypes.byref(self._result))
+        asked = [ctypes.byref(self._request), ctypes.byref(self._result)]
+        self.status = _LIBRARY.v7_run(*asked) if self._session is None else _KEEPING.v7_session_link(ctypes.byref(self._session), *asked)
         return int(self._result.fault)
 
-    def fault(self) -> Fault:
-        return Fault(self._result)
-
     def finish(self) -> _Run:
-        """Calls twice: for the sizes of the rooms, and for what goes into them. Raises a fault."""
-        result = self._result
-        if self.call() == _NO_ROOM:
-            file, report, replies = (_room(size) for size in (result.file_size, result.report_size, result.reply_count))
-            findings, places = (_Finding * max(result.finding_count, 1))(), (_FindingPlace * max(result.place_count, 1))()
-            result.file, result.file_room = ctypes.addressof(file), result.file_size
-            result.report, result.report_room = ctypes.addressof(report), result.report_size
-            result.findings, result.finding_room = findings, result.finding_count
-            result.replies, result.reply_room = ctypes.addressof(replies), result.reply_count
-            result.places, result.place_room = places, result.place_count
-            self.call()
-            self.file, self.report = bytes(file.raw[: result.file_size]), report.raw[: result.report_size].decode("latin-1")
-            self.replies = bytes(replies.raw[: result.reply_count])
+        """Calls once, as a link has no more bytes than its objects, and no more to report than symbols; or twice, if rooms were too
+        small. Raises a fault."""
+        result, forced = self._result, len(self._names[1]) // 8
+        count = min(self._size // 12 + forced + 1, 1 << 16)
+        kinds = [_REPORT, _FINDINGS, _PLACES]
+        counts = [count * (self._request.wants // kind % 2) for kind in kinds]
+        sizes = [min(self._size + 12 * forced + 16, _MOST), 27 * counts[0] + 11, counts[1], counts[2]]
+        for _ in range(2):
+            file, report = ctypes.create_string_buffer(max(sizes[0], 1)), ctypes.create_string_buffer(max(sizes[1], 1))
+            findings, places = (_Finding * max(sizes[2], 1))(), (_FindingPlace * max(sizes[3], 1))()
+            result.file, result.file_room = ctypes.addressof(file), sizes[0]
+            result.report, result.report_room = ctypes.addressof(report), sizes[1]
+            result.findings, result.finding_room = findings, sizes[2]
+            result.places, result.place_room = places, sizes[3]
+            if self.call() != _NO_ROOM:
+                break
+            sizes = [result.file_size, result.report_size, result.finding_count, result.place_count]
+        if not result.fault:
+            self.file, self.report = ctypes.string_at(file, result.file_size), ctypes.string_at(report, result.report_size).decode("latin-1")
             self.findings, self.places = findings[: result.finding_count], places[: result.place_count]
         if result.fault:
-            raise self.fault()
+            raise Fault(result)
         return self
 
     def map(self) -> Map:
@@ -718,11 +767,6 @@ class _Run:
         if given.fault:
             raise Fault(given)
         return _map(status, given)
-
-    def shown(self, form: int, guess: int) -> bytes:
-        """What the session shows in this form, which may have so many bytes. Raises a fault."""
-        count = len(self._names[2])
-        return _given("v7_state", ctypes.c_uint32(form), ctypes.byref(self._request), _room(count), ctypes.c_size_t(count), guess=guess)
 
     def program(self) -> Program:
         return Program(self.status, self.file, self.report)
@@ -776,7 +820,7 @@ def link(objects: Iterable[bytes], options: int = 0, entry: str = "", forced: It
     ...     print(fault)
     truncated, object 1
     """
-    return _Run(objects, options, entry, forced, _REPORT, None).finish().program()
+    return _Run(objects, options, entry, forced, _REPORT).finish().program()
 
 
 def link_findings(objects: Iterable[bytes], options: int = 0, entry: str = "", forced: Iterable[str] = ()) -> Found:
@@ -786,7 +830,7 @@ def link_findings(objects: Iterable[bytes], options: int = 0, entry: str = "", f
     >>> link_findings([refers], entry="_go").findings
     Findings(multiples=[], reserved=['_end'], entry='_go', undefined=['_f'])
     """
-    return _Run(objects, options, entry, forced, _FINDINGS, None).finish().found()
+    return _Run(objects, options, entry, forced, _FINDINGS).finish().found()
 
 
 def link_places(objects: Iterable[bytes], options: int = 0, entry: str = "", forced: Iterable[str] = ()) -> List[Finding]:
@@ -800,7 +844,7 @@ def link_places(objects: Iterable[bytes], options: int = 0, entry: str = "", for
     _f True 0 4
     _g False 1 None
     """
-    return _Run(objects, options, entry, forced, _FINDINGS | _PLACES, None).finish().placed()
+    return _Run(objects, options, entry, forced, _FINDINGS | _PLACES).finish().placed()
 
 
 def link_map(objects: Iterable[bytes], options: int = 0, entry: str = "", forced: Iterable[str] = ()) -> Map:
@@ -813,17 +857,21 @@ def link_map(objects: Iterable[bytes], options: int = 0, entry: str = "", forced
     >>> [(use.object, use.kind, use.address) for use in found.uses]
     [(1, 3, 0), (1, 5, 0)]
     """
-    return _Run(objects, options, entry, forced, 0, None).map()
+    return _Run(objects, options, entry, forced, 0).map()
 
 
-def _word(pair: Word) -> _Word:
-    value, reloc = pair
-    return _Word(_fitting("a word", value, 16), _fitting("a relocation word", reloc, 16))
+def _word(what: str, pair: Word) -> _Word:
+    value, reloc = _row(what, pair, 2)
+    return _Word(_fitting(f"{what}: a word", value, 16), _fitting(f"{what}: a relocation word", reloc, 16))
 
 
-def _symbol(row: Symbol) -> _Symbol:
-    name, kind, value = row
-    return _Symbol((ctypes.c_ubyte * 8)(*_padded(name)), _fitting("a type word", kind, 16), _fitting("a value", value, 16))
+def _words(what: str, pairs: Iterable[Word]) -> List[Any]:
+    return _array(_Word, [_word(f"{what}[{number}]", pair) for number, pair in enumerate(_items(what, pairs))])
+
+
+def _symbol(what: str, row: Symbol) -> _Symbol:
+    name, kind, value = _row(what, row, 3)
+    return _Symbol((ctypes.c_ubyte * 8)(*_padded(what, name)), _fitting(f"{what}: a type word", kind, 16), _fitting(f"{what}: a value", value, 16))
 
 
 def make(text: Iterable[Word] = (), data: Iterable[Word] = (), bss: int = 0, symbols: Iterable[Symbol] = ()) -> bytes:
@@ -833,10 +881,11 @@ def make(text: Iterable[Word] = (), data: Iterable[Word] = (), bss: int = 0, sym
     True
     >>> make(text=[(65536, NUMBER)])
     Traceback (most recent call last):
-    ValueError: a word is 0 to 65535, and not 65536
+    ValueError: text[0]: a word is 0 to 65535, and not 65536
     """
-    words = [*_array(_Word, [*map(_word, text)]), *_array(_Word, [*map(_word, data)])]
-    return _given("v7_make", *words, _number("the size of bss", bss), *_array(_Symbol, [*map(_symbol, symbols)]))
+    words = [*_words("text", text), *_words("data", data)]
+    rows = [_symbol(f"symbols[{number}]", row) for number, row in enumerate(_items("symbols", symbols))]
+    return _given("v7_make", *words, _number("bss", bss), *_array(_Symbol, rows))
 
 
 def _parts(call: Any, *words: Any) -> Parts:
@@ -880,20 +929,21 @@ def read(data: bytes) -> Tuple[Header, Parts]:
 class Session:
     """Objects that are added and withdrawn, and linked as they are at any time.
 
-    The library keeps nothing: what is kept here is the objects that were added and not withdrawn, and each call adds them anew. So a
-    session takes the memory of what is in it, and not of its history. An object that is not accepted is raised as a `Fault`, whose
-    `place` is the number that it would have had, and the session stays as it was.
+    The library keeps the session, so an edit costs what its object is, and not what is there. `close`, a `with` statement or the end of
+    the session gives the memory back; it cannot be copied. What is also kept here is the bytes of the objects, for `link_places` and
+    `map`. An object that is not accepted is raised as a `Fault`, whose `place` is the number that it would have had, and the session stays
+    as it was.
 
-    >>> session = Session([make(text=[(7, NUMBER)])])
-    >>> session.add(make(text=[(8, NUMBER)]))
-    >>> try:
-    ...     session.add(make(text=[(0, NUMBER)] * 32767))
-    ... except Fault as fault:
-    ...     print(fault)
+    >>> with Session([make(text=[(7, NUMBER)])]) as session:
+    ...     session.add(make(text=[(8, NUMBER)]))
+    ...     try:
+    ...         session.add(make(text=[(0, NUMBER)] * 32767))
+    ...     except Fault as fault:
+    ...         print(fault)
+    ...     for _ in range(3):
+    ...         session.withdraw()
+    ...     session.replies == [Session.DONE] * 4 + [Session.NOTHING]
     text full, object 2
-    >>> for _ in range(3):
-    ...     session.withdraw()
-    >>> session.replies == [Session.DONE] * 4 + [Session.NOTHING]
     True
     """
 
@@ -901,19 +951,46 @@ class Session:
     _LINES, _JSON = 0, 1
 
     def __init__(self, objects: Iterable[bytes] = (), entry: str = "", forced: Iterable[str] = ()) -> None:
-        self.entry, self.forced = entry, tuple(forced)
+        self._handle = _Session()
+        self.entry, self.forced = entry, tuple(_items("forced", forced))
         self._kept: List[bytes] = []
         self._replies: List[int] = []
-        # the size of the last state that was shown
-        self._size = 0
-        self._accept(_list(objects))
+        # the size of the last state that was shown, and how many bytes are kept
+        self._size = self._bytes = 0
+        names = _forced(self.forced)
+        self._call("v7_session_new", ctypes.c_char_p(names), ctypes.c_size_t(len(names)))
+        for data in _list(objects):
+            self.add(data)
+
+    def __enter__(self) -> Session:
+        return self
+
+    def __exit__(self, *_: object) -> None:
+        self.close()
+
+    def __del__(self) -> None:
+        self.close()
+
+    def __reduce__(self) -> NoReturn:
+        raise TypeError("a session cannot be copied")
+
+    def close(self) -> None:
+        """Gives the memory back. Only this may be called again."""
+        _KEEPING.v7_session_free(ctypes.byref(self._handle))
 
     def add(self, data: bytes) -> None:
         """Adds an object after those that are there."""
-        self._accept([data])
+        whole = _bytes("data", data)
+        self._call("v7_session_add", ctypes.c_char_p(whole), ctypes.c_size_t(len(whole)))
+        self._kept.append(whole)
+        self._bytes += len(whole)
+        self._replies.append(self.DONE)
 
     def withdraw(self) -> None:
         """Withdraws the object that was added last. If there is none, `replies` says so."""
+        if self._kept:
+            self._call("v7_session_withdraw")
+            self._bytes -= len(self._kept[-1])
         self._replies.append(self.DONE if self._kept else self.NOTHING)
         del self._kept[-1:]
 
@@ -924,17 +1001,17 @@ class Session:
 
     def link(self, options: int = 0) -> Program:
         """The link of what is there. The status is 1 also if there was nothing to withdraw."""
-        program = self._run(options, _REPORT).finish().program()
+        program = self._run(options, _REPORT).program()
         return program._replace(status=self._status(program.status))
 
     def link_findings(self, options: int = 0) -> Found:
         """The same with its report as `Findings`."""
-        found = self._run(options, _FINDINGS).finish().found()
+        found = self._run(options, _FINDINGS).found()
         return found._replace(status=self._status(found.status))
 
     def link_places(self, options: int = 0) -> List[Finding]:
         """What is reported of the link, with the numbers of the objects that are there."""
-        return self._run(options, _FINDINGS | _PLACES).finish().placed()
+        return link_places(self._kept, options, self.entry, self.forced)
 
     def map(self, options: int = 0) -> Map:
         """The map of the link of what is there."""
@@ -949,22 +1026,20 @@ class Session:
         found: Dict[str, Any] = json.loads(self._shown(self._JSON))
         return found
 
-    def _accept(self, objects: List[bytes]) -> None:
-        """Keeps these objects after those that are there, if all are accepted."""
-        # a link of them says so; its own faults, and that there is no room for it, are not those of an object
-        run = _Run([*self._kept, *objects], 0, "", self.forced, 0, None)
-        if run.call() not in (0, 41, 42, 43, _NO_ROOM):
-            raise run.fault()
-        self._kept += [bytes(data[: check(data)]) for data in objects]
-        self._replies += [self.DONE] * len(objects)
+    def _call(self, name: str, *words: Any) -> None:
+        answer = _Answer()
+        if getattr(_KEEPING, name)(ctypes.byref(self._handle), *words, ctypes.byref(answer)):
+            # an object has the number that it would have had
+            answer.place += len(self._kept) if 10 < answer.fault < 40 else 0
+            raise Fault(answer)
 
     def _run(self, options: int, wants: int) -> _Run:
-        return _Run(self._kept, options, self.entry, self.forced, wants, b"a" * len(self._kept))
+        return _Run((), options, self.entry, self.forced, wants, self._handle, self._bytes).finish()
 
     def _status(self, status: int) -> int:
         return max(status, int(any(self._replies)))
 
     def _shown(self, form: int) -> str:
-        state = self._run(0, 0).shown(form, self._size)
+        state = _given("v7_session_state", ctypes.byref(self._handle), ctypes.c_uint32(form), guess=self._size, library=_KEEPING)
         self._size = len(state)
         return state.decode("latin-1")

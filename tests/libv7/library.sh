@@ -67,7 +67,7 @@ cat >header.c <<'END'
 
 int main(void)
 {
-    static const unsigned faults[] = {0, 1, 2, 3, 4, 5, 6, 7, 11, 12, 13, 14, 21, 22, 23, 24, 31, 32, 33, 34, 35, 41, 42, 43, 50, 60,
+    static const unsigned faults[] = {0, 1, 2, 3, 4, 5, 6, 7, 8, 11, 12, 13, 14, 21, 22, 23, 24, 31, 32, 33, 34, 35, 41, 42, 43, 50, 60,
                                       61, 62, 63, 64, 65, 66, 67, 68, 69, 70, 71, 72, 73, 74, 75, 81, 82, 83, 84, 85, 86, 87, 88, 89, 90};
     unsigned i, j;
 
@@ -80,7 +80,7 @@ int main(void)
     puts(V7_VERSION);
     if (strcmp(v7_strerror(V7_NOTHING), "nothing to withdraw") != 0)
         return 3;
-    return strcmp(v7_strerror(8), "unknown fault") != 0 || strcmp(v7_strerror(90), "unknown fault") != 0;
+    return strcmp(v7_strerror(9), "unknown fault") != 0 || strcmp(v7_strerror(90), "unknown fault") != 0;
 }
 END
 cp header.c header.cpp
@@ -145,11 +145,12 @@ $CC -std=c99 -O2 -Wall -Wextra -Werror -o random_calls $compiles "$top/tests/lib
     -Wl,--wrap=malloc -Wl,--wrap=realloc -Wl,--wrap=free "$archive" || exit 1
 ./random_calls "${CALLS:-20000}" || fail "a random call differs"
 # with a library that writes past the end of a short struct they fail
-${OBJCOPY:-objcopy} --redefine-sym v7_map=real_v7_map --redefine-sym v7_run=real_v7_run "$archive" planted.a
+${OBJCOPY:-objcopy} --redefine-sym v7_map=real_v7_map --redefine-sym v7_run=real_v7_run \
+    --redefine-sym v7_session_link=real_v7_session_link "$archive" planted.a
 $CC -std=c99 -O2 -Wall -Wextra -Werror -o random_planted $compiles "$top/tests/libv7/c/random_calls.c" "$top/tests/libv7/c/planted_records.c" \
     -Wl,--wrap=malloc -Wl,--wrap=realloc -Wl,--wrap=free planted.a || exit 1
 PLANT=nothing ./random_planted 100 >planted.txt || { cat planted.txt; fail "a random call differs without a fault"; }
-for plant in short_result short_map; do
+for plant in short_result short_map short_kept; do
     ! (PLANT=$plant ./random_planted 100) >planted.txt 2>&1 || fail "$plant is not found"
 done
 # links, sessions and maps beside each other
@@ -171,16 +172,19 @@ links C ./by_c
 $CC -std=c99 -O2 -Wall -Wextra -Werror -o toy $compiles "$top/examples/c/toy.c" "$archive" || exit 1
 cp "$top"/examples/c/toy_*.txt .
 printf '_twice:\n    return\n' >toy_again.txt
-./toy ours toy_main.txt toy_twice.txt >toy.txt 2>&1 && ./toy theirs toy_main.txt twice.o >>toy.txt 2>&1
-./toy ours toy_main.txt toy_twice.txt toy_again.txt twice.o >>toy.txt 2>&1
-./toy ours toy_main.txt main.o >>toy.txt 2>&1
 cat >toy.wanted <<'END'
 toy_twice.txt:2: _twice is defined here
 toy_again.txt:1: _twice is defined here again
 twice.o at 000000: _twice is defined here again
 END
-head -3 toy.txt | cmp -s - toy.wanted && grep -q '^toy_main\.txt:3: _twice is not defined$' toy.txt && grep -q '^main\.o at 0000.*: _twice is not defined$' toy.txt ||
-    { cat toy.txt; fail "the toy assembler shows other places"; }
+toy() {
+    $1 ours toy_main.txt toy_twice.txt >toy.txt 2>&1 && $1 theirs toy_main.txt twice.o >>toy.txt 2>&1
+    $1 ours toy_main.txt toy_twice.txt toy_again.txt twice.o >>toy.txt 2>&1
+    $1 ours toy_main.txt main.o >>toy.txt 2>&1
+    head -3 toy.txt | cmp -s - toy.wanted && grep -q '^toy_main\.txt:3: _twice is not defined$' toy.txt && grep -q '^main\.o at 0000.*: _twice is not defined$' toy.txt ||
+        { cat toy.txt; fail "the toy assembler shows other places: $1"; }
+}
+toy ./toy
 # the map from records is that of v7-explain, made or refused
 $CC -std=c99 -O2 -Wall -Wextra -Werror -o map_by_c $compiles "$top/examples/c/map.c" "$archive" || exit 1
 PYTHONPATH=$top python3 -m tests.oracles.map ./map_by_c "${MAPS:-1000}" || fail "the map from records differs"
@@ -196,9 +200,11 @@ export LD_LIBRARY_PATH
 links "C with libv7.so" ./by_shared
 checks "C with libv7.so" "a session" ./ran_by_shared
 if has "$CXX"; then
-    for standard in c++98 c++17; do
+    for standard in c++11 c++17; do
         $CXX -std=$standard -O2 -pedantic -Wall -Wextra -Werror -o by_cpp $compiles "$top/examples/cpp/link.cpp" $links || exit 1
         links "C++ ($standard)" ./by_cpp
+        $CXX -std=$standard -O2 -pedantic -Wall -Wextra -Werror -o ran_by_cpp $compiles "$top/examples/cpp/session.cpp" "$archive" || exit 1
+        checks "C++ ($standard)" "a session" ./ran_by_cpp
     done
 fi
 # what docs/LIBRARY.md shows: each block whose first line begins with one of these programs, in a copy of the examples
@@ -230,6 +236,7 @@ if has valgrind; then
     checks "C with valgrind" "each fault" valgrind -q --error-exitcode=9 --leak-check=full ./faults
     links "C with valgrind" "valgrind -q --error-exitcode=9 --leak-check=full ./by_c"
     checks "C with valgrind" "a session" valgrind -q --error-exitcode=9 --leak-check=full ./ran_by_c
+    [ ! -x ran_by_cpp ] || checks "C++ with valgrind" "a session" valgrind -q --error-exitcode=9 --leak-check=full ./ran_by_cpp
 fi
 LIBV7=$library
 PYTHONDONTWRITEBYTECODE=1
@@ -283,9 +290,7 @@ fi
 if has rustc; then
     echo "$(rustc --version)"
     rustc -O -o by_rust -L "$room/installed/lib" -l v7 "$top/examples/rust/link.rs" || exit 1
-    rustc -O -o ran_by_rust -L "$room/installed/lib" -l v7 "$top/examples/rust/session.rs" || exit 1
     links Rust ./by_rust
-    checks Rust "a session" ./ran_by_rust
 fi
 # the crates of Rust, in a copy, without any other crate
 if has cargo; then
@@ -294,7 +299,8 @@ if has cargo; then
         grep -q "^version = \"$version\"" $manifest || fail "$manifest has another version"
     done
     grep -q "^v7-sys = .*version = \"=$version\"" crates/Cargo.toml || fail "the crate v7 wants another v7-sys"
-    LIBV7_DIR=$room/installed/lib cargo build -q --offline --release --example link --manifest-path crates/Cargo.toml || exit 1
+    LIBV7_DIR=$room/installed/lib cargo build -q --offline --release --examples --manifest-path crates/Cargo.toml || exit 1
     links "Rust by the crate v7" crates/target/release/examples/link
+    toy crates/target/release/examples/toy
 fi
 exit $failed

@@ -18,7 +18,6 @@ STAGE = {
     "an instruction dropped": ("view", "document.querySelector('.word.bound .instruction').remove();"),
     "a name dropped": ("view", "document.querySelector('.place-line .label').remove();"),
     "a word left out of its group": ("step", "groupsOf = ((real) => (state, keys) => real(state, keys.slice(1)))(groupsOf); showChosen(true);"),
-    "a count that is one less": ("step", "counted = ((real) => (number, what) => real(what === 'other word' ? number - 1 : number, what))(counted); showChosen(true);"),
     "an old value dropped": ("view", "document.querySelector('.word.bound .was').remove();"),
     "the sentence dropped": ("view", "document.getElementById('note').textContent = '';"),
     "a reference left out": ("choice", "chosenReferences = ((real) => (state) => real(state).slice(1))(chosenReferences);"),
@@ -46,6 +45,7 @@ SCRIPTS = {
     "the practice exchanges before and after": ("practice", "number: mark[2], before: mark[6]", "number: mark[6], before: mark[2]"),
     "objects in another order": ("owners", 'context.full.list.map((_, place) => foldRow(context, place, ""))', 'context.full.list.map((_, place) => foldRow(context, place, "")).reverse()'),
     "a place with another object": ("owners", '["span", "owned", label(object.number)]', '["span", "owned", label(0)]'),
+    "a count that is one less": ("counts", '`and ${counted(left, "other word")}`', '`and ${counted(left - 1, "other word")}`'),
     "the words after a question on paper": ("paper", "&& (withAnswers || !made.ask);", ";"),
     "no pc on paper": ("paper", 'octal(word.value), word.pc ? "pc" : "", said]', 'octal(word.value), "", said]'),
     "right answers counted as wrong": ("result", "given.filter((one) => one?.isRight).length", "given.filter((one) => one && !one.isRight).length"),
@@ -63,6 +63,16 @@ class Found:
     def same(self, what, shown, wanted):
         if shown != wanted:
             self.faults.append(what)
+
+
+def counts(page, path, count, same):
+    """The changed words of the last step are in view, or counted."""
+    page.load(path)
+    page.size(1366, 768)
+    page.open("#" + first(count))
+    page.settle()
+    seen = page.run(STEP)
+    same("words in view, or counted", (seen["there"] + seen["more"], seen["more"] > 0), (seen["words"], True))
 
 
 def on_stage(tools, page, files, layouts, kind, script):
@@ -113,7 +123,7 @@ def in_scripts(tools, page, path, files, layouts, room, change):
         out.write(text.replace(old, new))
     measures = {"reasons": lambda: reasons(tools, page, [(changed, files)], found.same, 20), "numbers": lambda: numbers(page, changed, found.same),
                 "maps": lambda: maps(tools, page, changed, files, layouts, found.same), "practice": lambda: practice(tools, page, changed, files, found.same),
-                "owners": lambda: owners(page, changed, files, found.same), "paper": lambda: paper(page, changed, found.same),
+                "owners": lambda: owners(page, changed, files, found.same), "counts": lambda: counts(page, changed, len(files), found.same), "paper": lambda: paper(page, changed, found.same),
                 "result": lambda: result(page, changed, found.same), "distances": lambda: distances(page, changed, found.same)}
     measures[kind]()
     return found.faults
@@ -178,7 +188,7 @@ def all_faults(tools, page, default, questions, files, program, given, compiled,
     yield "a wrong answer key", lambda is_planted: refused_key(tools, questions, files, room, with_key if is_planted else with_right_key)
     yield "a wrong answer in the page", lambda is_planted: wrong_answers(tools, default, files, layouts, room, with_answer if is_planted else str)
     for what, (kind, old, new) in SCRIPTS.items():
-        path, of = {"owners": (compiled, many), "distances": (program, given)}.get(kind, (default, files))
+        path, of = {"owners": (compiled, many), "counts": (compiled, many), "distances": (program, given)}.get(kind, (default, files))
         yield what, lambda is_planted, path=path, of=of, kind=kind, old=old, new=new: in_scripts(tools, page, path, of, layouts, room, (kind, old, new if is_planted else old))
     page.load(default)
     for what, script in LAYOUT.items():

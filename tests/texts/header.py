@@ -88,7 +88,7 @@ WORDS = {"TextPart": "Text", "DataPart": "Data", "BssPart": "Bss", "SymbolsPart"
 RENAMED = {"type_bits": "type", "data_words": "data"}
 # how the module names constants: those of these enums as attributes, and of others not
 PYTHON = {"v7_part": "{}", "v7_nm_option": "{}", "v7_link_option": "{}", "v7_relocation": "{}", "v7_segment": "{}",
-          "v7_reply": "Session.{}", "v7_form": "Session._{}", "v7_mode": "_{}", "v7_want": "_{}", "v7_map_name_state": "{}",
+          "v7_reply": "Session.{}", "v7_form": "Session._{}", "v7_want": "_{}", "v7_map_name_state": "{}",
           "v7_map_use_kind": "{}", "v7_map_limit_kind": "{}", "v7_gnu_option": "{}", "v7_remark_kind": "{}", "v7_finding_kind": "{}"}
 SIZES = {"u8": 1, "u16": 2, "u32": 4, "u64": 8, "usize": 8}
 # types of v7-sys with the bytes of these
@@ -163,7 +163,7 @@ def declared_calls(texts):
 def fields_in_code(texts, name):
     """The fields of a struct with `repr(C)`, each with its type."""
     body = re.search(r"#\[repr\(C\)\]\n(?:#\[[^\n]*\n)*pub struct " + name + r"(?:<'a>)? \{(.*?)\n\}", "\n".join(texts.values()), re.S)
-    return re.findall(r"pub (\w+): ([^\n]+),", body[1] if body else "")
+    return re.findall(r"^    (?:pub(?:\(crate\))? )?(\w+): (?!Global,)([^\n]+),", body[1] if body else "", re.M)
 
 
 def layout_of(texts, kind):
@@ -174,7 +174,7 @@ def layout_of(texts, kind):
     if array:
         size, align = layout_of(texts, array[1])
         return size * int(array[2]), align
-    if kind.startswith("&"):
+    if kind.startswith(("&", "*")):
         return (16 if "[" in kind else 8), 8
     layouts = [layout_of(texts, field) for _, field in fields_in_code(texts, re.match(r"\w+", kind)[0])]
     at = 0
@@ -353,7 +353,7 @@ def rust_calls(rust, structs):
     found = {}
     for call, words in re.findall(r"pub fn (v7_\w+)\((.*?)\) -> u32;", rust, re.S):
         parameters = re.findall(r"(\w+): ((?:\*(?:const|mut) )?)(\w+)", words)
-        found[call] = [("const " * pointer.startswith("*const") + kinds[kind] + (" *" if pointer else " "), word) for word, pointer, kind in parameters]
+        found[call] = [("const " * pointer.startswith("*const") + kinds.get(kind, kind) + (" *" if pointer else " "), word) for word, pointer, kind in parameters]
     return found
 
 
@@ -368,19 +368,20 @@ def compare_rust(header, in_c, enums, rust):
     for name in structs:
         if places_in_rust(structs, name) != in_c.get(name):
             yield f"struct {name}: {in_c.get(name)} in C, and {places_in_rust(structs, name)} in Rust"
+    yield from (f"struct {name} is not in Rust" for name in in_c if name not in structs)
     declared = rust_calls(rust, structs)
-    for call, parameters in declared.items():
-        if parameters != calls.get(call):
-            yield f"{call}: {calls.get(call)} in C, and {parameters} in Rust"
+    for call in sorted(calls.keys() | declared.keys()):
+        if declared.get(call) != calls.get(call):
+            yield f"{call}: {calls.get(call)} in C, and {declared.get(call)} in Rust"
     numbers = {constant: value for constants in enums.values() for constant, value in constants.items()}
     texts = {int(number): text for number, text in re.findall(r'^        (\d+) => "(.*)",$', rust, re.M)}
     if texts != texts_of(header, numbers):
         yield f"the texts of faults: {sorted(set(texts.items()) ^ set(texts_of(header, numbers).items()))} in C or in Rust alone"
-    values = re.findall(r"pub const (V7_\w+): u\d+ = (\d+|b'\w');", rust)
-    for constant, value in values:
-        if number_of(value) != numbers.get(constant):
-            yield f"{constant}: {numbers.get(constant)} in C, and {value} in Rust"
-    if not structs or not declared or not values or len(structs) + len(OWN) != rust.count("pub struct ") or len(values) != rust.count("pub const "):
+    values = {constant: number_of(value) for constant, value in re.findall(r"pub const (V7_\w+): u\d+ = (\d+|b'\w');", rust)}
+    for constant in sorted(values.keys() | numbers.keys() - {"V7_VERSION_NUMBER"}):
+        if values.get(constant) != numbers.get(constant):
+            yield f"{constant}: {numbers.get(constant)} in C, and {values.get(constant)} in Rust"
+    if not structs or not declared or not values or len(structs) + len(OWN) != rust.count("pub struct ") or len(values) != rust.count("pub const V7_"):
         yield "a declaration of the crate of Rust is not read"
 
 
@@ -429,7 +430,11 @@ PLANTED = [
     ("finding_objects/src/places.rt", "    pub further: usize,", "    pub further: u32,"),
     ("v7-sys", "    pub definer: Number,\n    pub next_definer: Number,", "    pub next_definer: Number,\n    pub definer: Number,"),
     ("v7-sys", "    pub state: u32,\n    pub magic: u16,", "    pub state: u16,\n    pub magic: u16,"),
-    ("v7-sys", "    pub r#type: u16,", "    pub kind: u16,"),
+    ("v7-sys", "    pub state: u32,\n    pub r#type: u16,", "    pub state: u32,\n    pub kind: u16,"),
+    ("v7-sys", "    pub fn v7_version() -> u32;\n", ""),
+    ("v7-sys", "pub const V7_LIMIT_NAMES: u32 = 7;\n", ""),
+    ("v7-sys", "/// `struct v7_counts`\n#[repr(C)]\n", "/// `struct v7_counts`\n"),
+    ("v7_c/src/handle.rt", "    pub(crate) is_open: u32,", "    pub(crate) is_open: u64,"),
     ("v7-sys", "v7_map(request: *const Request", "v7_map(request: *mut Request"),
     ("v7-sys", "remark_room: usize,", "remark_room: u32,"),
     ("v7-sys", "V7_PLACES: u32 = 4", "V7_PLACES: u32 = 8"),

@@ -23,6 +23,13 @@ crates/instructions/proofs/TableLemmas.antt 1
 crates/link_laws/specs/relation/LinkedFrom.antt 1
 crates/listings/specs/Columns.antt 1
 crates/listings/specs/Drafts.antt 1
+crates/loose/proofs/Loose/into_box/Proof.antt 12
+crates/loose/proofs/Loose/of/Proof.antt 13
+crates/loose/proofs/Values.antt 12
+crates/v7_c/proofs/Values.antt 7
+crates/v7_c/proofs/slot/Slot/empty/Proof.antt 1
+crates/v7_c/proofs/slot/Slot/into_loose/Proof.antt 4
+crates/v7_c/proofs/slot/Slot/of/Proof.antt 3
 """
 # tests that compare nothing, or that are judged by another: `cases -b` plays cases that have to fail
 NO_COMPARER = ["cases", "demo", "dist", "recheck", "room", "simulate"]

@@ -8,6 +8,7 @@ use std::cell::Cell;
 use std::io;
 use std::io::{ErrorKind, Read, Write};
 use std::test::Fail;
+use surroundings::Node;
 use v7tools::{BlockWriter, Office, Outputs, Stored, perform};
 
 /// A file system of `c.o` alone, which counts the files that it is given.
@@ -26,6 +27,10 @@ impl Office for OneObject {
             "c.o" => Some(TestReader::whole(&C_O)),
             _ => None,
         }
+    }
+
+    fn node(&mut self, _: &str) -> Option<Node> {
+        None
     }
 
     fn store(&mut self, _: &str, _: &File) -> Stored {

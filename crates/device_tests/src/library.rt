@@ -4,9 +4,9 @@ use fixtures::samples::{A_O, B_O, C_O, D_O, G_O};
 use fixtures::{TWO_OBJECTS, UNDEFINED, sized};
 use library_calls::{
     Cause, LinkRequest, LongPart, ObjectBytes, ObjectParts, ObjectWord, Refusal, ReportedName,
-    Shown, check, disassemble, disassemble_words, from_gnu, from_listing, list_file, list_symbols,
-    make, read_apart, remarks_of, run_link, run_session, show_session, show_sizes, strip,
-    take_apart,
+    Shown, add_bytes, begin_session, check, disassemble, disassemble_words, from_gnu, from_listing,
+    link_session, list_file, list_symbols, make, read_apart, remarks_of, run_link, run_session,
+    show_session, show_sizes, state_of, strip, take_apart, withdraw_last,
 };
 use std::alloc::Global;
 use std::test::Fail;
@@ -309,6 +309,29 @@ fn json_shown(rt: HostRuntime) {
     assert!(rt; shows(alloc, b"", b"aa", &[0, 0], BOTH));
     assert!(rt; shows(alloc, b"", b"waaw", &[35, 0, 0, 0], FIRST));
     assert!(rt; shows(alloc, ODD_NAME.0, b"", &[], ODD_NAME.1));
+}
+
+#[test]
+fn session_kept(rt: HostRuntime) -> Result<(), Fail> {
+    let alloc = rt.alloc();
+    let mut session = begin_session(alloc, b"").ok().ok_or("not begun")?;
+    assert!(rt; add_bytes(alloc, &mut session, &C_O) == Ok(()));
+    assert!(rt; gives(state_of(alloc, &session, JSON), FIRST.as_bytes()));
+    assert!(rt; add_bytes(alloc, &mut session, &D_O) == Ok(()));
+    assert!(rt; gives(state_of(alloc, &session, JSON), BOTH.as_bytes()));
+    let cause = Cause::BadFile(ReadFault::Truncated);
+    assert!(rt; add_bytes(alloc, &mut session, &C_O[..47]) == Err(cause));
+    assert!(rt; withdraw_last(&mut session) == Ok(()));
+    assert!(rt; gives(state_of(alloc, &session, JSON), FIRST.as_bytes()));
+    assert!(rt; withdraw_last(&mut session) == Ok(()));
+    assert!(rt; withdraw_last(&mut session) == Err(Cause::NothingKept));
+    assert!(rt; add_bytes(alloc, &mut session, &A_O) == Ok(()));
+    let linked = link_session(alloc, &session, 2, b"")
+        .ok()
+        .ok_or("not linked")?;
+    assert!(rt; linked.status == 0 && linked.file.as_slice() == ONE_OBJECT);
+    assert!(rt; link_session(alloc, &session, 128, b"").err() == Some(Cause::NoOption));
+    Ok(())
 }
 
 #[test]

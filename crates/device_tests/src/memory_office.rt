@@ -8,6 +8,7 @@ use fixtures::words;
 use std::alloc::Global;
 use std::process::Abort;
 use std::test::Fail;
+use surroundings::Node;
 use v7tools::{BlockWriter, Office, Outputs, Stored, perform};
 
 /// What a file system was asked, and what came of it.
@@ -19,6 +20,8 @@ enum Asked {
     Stored(String, File, Stored),
     /// A text was to be stored at a path.
     Written(String, Vec<u8>, Stored),
+    /// The file that a path leads to was asked for, and there was none.
+    Looked(String),
 }
 
 /// What a file system was asked for: the request and its path.
@@ -27,6 +30,7 @@ fn request(asked: &Asked) -> (&str, &str) {
         Asked::Opened(path, _) => ("open", path.as_str()),
         Asked::Stored(path, ..) => ("store", path.as_str()),
         Asked::Written(path, ..) => ("store text", path.as_str()),
+        Asked::Looked(path) => ("look", path.as_str()),
     }
 }
 
@@ -91,9 +95,9 @@ impl<'a, R: Abort + AllocGlobal> MemoryOffice<'a, R> {
 }
 
 impl<R: Abort + AllocGlobal> Office for MemoryOffice<'_, R> {
-    ghost use Rattle.std.specs.Prelude.{map, option_map, Some, string_bytes};
-    ghost use Rattle.surroundings.specs.Events.{opened, stored, written};
-    ghost use Rattle.device_tests.specs.declared.memory_office.Asked.TheVariants.{Opened, Stored, Written};
+    ghost use Rattle.std.specs.Prelude.{map, option_map, None, Some, string_bytes};
+    ghost use Rattle.surroundings.specs.Events.{looked, opened, stored, written};
+    ghost use Rattle.device_tests.specs.declared.memory_office.Asked.TheVariants.{Looked, Opened, Stored, Written};
 
     type Source = TestReader<'static>;
 
@@ -101,6 +105,7 @@ impl<R: Abort + AllocGlobal> Office for MemoryOffice<'_, R> {
       | Opened path found ↦ opened (string_bytes path) (option_map (λ bytes. Some bytes.now) found)
       | Stored path file what ↦ stored (string_bytes path) file what
       | Written path text what ↦ written (string_bytes path) text.items what
+      | Looked path ↦ looked (string_bytes path) None
     ]) office.asked.items) };
 
     fn open(&mut self, path: &str) -> Option<TestReader<'static>> {
@@ -110,6 +115,11 @@ impl<R: Abort + AllocGlobal> Office for MemoryOffice<'_, R> {
             Some(bytes) => Some(TestReader::whole(bytes)),
             None => None,
         }
+    }
+
+    fn node(&mut self, path: &str) -> Option<Node> {
+        self.list(Asked::Looked(self.owned(path)));
+        None
     }
 
     fn store(&mut self, path: &str, file: &File) -> Stored {

@@ -6,7 +6,7 @@ use Rattle.std.specs.{List.AllByRecursion, Prelude.◌≢◌, Prelude.IfSome, Pr
 use Rattle.command_words.specs.Scripts.{Asked, to_add, to_withdraw, for_externals, for_undefined, to_link, for_nothing}
 use Rattle.link_session.specs.Edits.{without_last}
 use Rattle.link_session.proofs.ListLemmas.{all_append}
-use Rattle.surroundings.specs.Events.{Event, Opened, opened, stored, written}
+use Rattle.surroundings.specs.Events.{Event, Opened, looked, opened, stored, written}
 use Rattle.v7tools.specs.{LineRuns.LineRun, SessionRuns.events_of}
 use Rattle.aout_core.specs.Encoding.{encoding}
 use Rattle.laws.specs.Disks.{Disk, IsOn, disk_after, text_left, with_file}
@@ -28,6 +28,7 @@ untouched disk path (stored at file what ∷ events) h =
     untouched (with_file disk at (text_left (encoding file) what)) path events h.1 ∙ elsewhere disk at path (text_left (encoding file) what) h.0
 untouched disk path (written at text what ∷ events) h =
     untouched (with_file disk at (text_left text what)) path events h.1 ∙ elsewhere disk at path (text_left text what) h.0
+untouched disk path (looked at found ∷ events) h = untouched disk path events h.1
 
 -- later events are on the disk that the earlier ones left
 later_on : (disk : Disk) (first then : List Event) → IsOn disk (first ++ then) → IsOn (disk_after disk first) then
@@ -36,6 +37,7 @@ later_on disk (opened path None ∷ events) then h = later_on disk events then h
 later_on disk (opened path (Some known) ∷ events) then h = later_on disk events then h.1
 later_on disk (stored path file what ∷ events) then h = later_on (with_file disk path (text_left (encoding file) what)) events then h
 later_on disk (written path text what ∷ events) then h = later_on (with_file disk path (text_left text what)) events then h
+later_on disk (looked path found ∷ events) then h = later_on disk events then h
 
 all_but_last : {A : Type 0} (P : A → Type 0) (xs : List A) → AllByRecursion P xs → AllByRecursion P (without_last xs)
 all_but_last P [] h = tt
@@ -63,6 +65,7 @@ module _ (disk : Disk) (all : List Event) where
       (λ h. subst (λ (d : Option (List ℕ)). IfSome d (λ bytes. known ≡ Some bytes)) (agrees path h) on.0, tt)
   opened_gave now (stored path file what ∷ events) more agrees on = tt
   opened_gave now (written path text what ∷ events) more agrees on = tt
+  opened_gave now (looked path found ∷ events) more agrees on = tt
 
   line_gave : (a : Asked) (b : Bool) (events : List Event) (left : List Opened) → AllByRecursion Gave left →
       AllByRecursion Gave (opened_by events) → AllByRecursion Gave (left_by a b events left)

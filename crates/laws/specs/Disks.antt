@@ -6,7 +6,7 @@ use Rattle.std.specs.Prelude.{◌≡◌, ℕ, ◌≤◌, cond, List, [], ◌∷�
 use Rattle.std.specs.Io.KnownBytes.{Appends}
 use Rattle.aout_core.specs.{Encoding.encoding, Wires.Latched}
 use Rattle.v7tools.specs.CommandRuns.{Performs}
-use Rattle.surroundings.specs.Events.{Event, opened, stored, written}
+use Rattle.surroundings.specs.Events.{Event, looked, opened, stored, written}
 use Rattle.surroundings.specs.{declared.office.Stored.Stored, declared.office.Stored.TheVariants.Kept}
 
 -- the bytes of the file at each path, if they are known
@@ -27,6 +27,7 @@ disk_after disk [] = disk
 disk_after disk (opened path found ∷ events) = disk_after disk events
 disk_after disk (stored path file what ∷ events) = disk_after (with_file disk path (text_left (encoding file) what)) events
 disk_after disk (written path text what ∷ events) = disk_after (with_file disk path (text_left text what)) events
+disk_after disk (looked path found ∷ events) = disk_after disk events
 
 -- each file that was opened gave the bytes that are known to be at its path
 abbrev pub IsOn : Disk → List Event → Type 0
@@ -35,6 +36,7 @@ IsOn disk (opened path None ∷ events) = IsOn disk events
 IsOn disk (opened path (Some known) ∷ events) = IfSome (disk path) (λ bytes. known ≡ Some bytes) × IsOn disk events
 IsOn disk (stored path file what ∷ events) = IsOn (with_file disk path (text_left (encoding file) what)) events
 IsOn disk (written path text what ∷ events) = IsOn (with_file disk path (text_left text what)) events
+IsOn disk (looked path found ∷ events) = IsOn disk events
 
 -- a run of the program: its arguments and script, the disk before it, what was asked of the system before and by it, standard
 -- output and standard error before and after it, and its status

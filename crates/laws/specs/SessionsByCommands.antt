@@ -10,8 +10,8 @@ use Rattle.aout_core.specs.{declared.file.ReadFault.TheVariants.Device, Contents
 use Rattle.link_session.specs.{Edits.without_last, Sessions.nothing_kept}
 use Rattle.link_out.specs.{function.Reports.line, Inputs.bad_file}
 use Rattle.tool_options.specs.Choices.{Choices}
-use Rattle.surroundings.specs.Events.{Event, opened, stored, written, Opened, opens, paths_of}
-use Rattle.surroundings.specs.{Emits.PutsUnless, declared.office.Stored.Stored, declared.office.Stored.TheVariants.Kept}
+use Rattle.surroundings.specs.Events.{Event, looked, opened, stored, written, Opened, opens, paths_of}
+use Rattle.surroundings.specs.{Emits.PutsUnless, declared.nodes.Node.Node, declared.office.Stored.Stored, declared.office.Stored.TheVariants.Kept}
 use Rattle.command_words.specs.declared.words.Call.TheVariants.{Session}
 use Rattle.command_words.specs.Scripts.{Asked, to_add, to_withdraw, to_link}
 use Rattle.v7tools.specs.FaultTexts.{cause_text, fault_line, no_memory}
@@ -58,6 +58,7 @@ abbrev pub StoresNot : List ℕ → Event → Type 0
 StoresNot path (opened at found) = Unit {0}
 StoresNot path (stored at file what) = at ≢ path
 StoresNot path (written at text what) = at ≢ path
+StoresNot path (looked at found) = Unit {0}
 
 -- two disks have the same bytes at the path of a file, and these events store nothing there
 pub record IsSameOn (one other : Disk) (events : List Event) (file : Opened) : Type 0 where
@@ -68,15 +69,18 @@ pub record IsSameOn (one other : Disk) (events : List Event) (file : Opened) : T
 
 -- ---- what the system gave
 
--- what the system gives for a request: a file that was opened or could not be, or what became of a file that was to be stored
+-- what the system gives for a request: a file that was opened or could not be, what became of a file that was to be stored, or
+-- the file that a path leads to
 pub data Gift : Type 0 where
   for_opening : Option (Option (List ℕ)) → Gift
   for_storing : Stored → Gift
+  for_looking : Option Node → Gift
 
 abbrev pub gift : Event → Gift
 gift (opened path found) = for_opening found
 gift (stored path file what) = for_storing what
 gift (written path text what) = for_storing what
+gift (looked path found) = for_looking found
 
 -- the bytes of a file that was opened are known
 abbrev pub IsKnown : Event → Type 0

@@ -11,3 +11,4 @@ pub mod NumberLemmas
 pub mod ListingLemmas
 pub mod GnuLemmas
 pub mod RemarkLemmas
+pub mod KeptLemmas

@@ -9,6 +9,7 @@ use Rattle.link_session.specs.declared.entry.AddFault.{AddFault}
 use Rattle.link_out.specs.{declared.linked.LinkFault.LinkFault, Steps.refused_as}
 use Rattle.listings.specs.{declared.fault.Fault.Fault, declared.fault.Reason.Reason}
 use Rattle.library_calls.specs.declared.cause.Cause.TheVariants.{NoOption, Excluded, LongName, CutNames, ManyNames, TooLong, NoEdit}
+use Rattle.library_calls.specs.declared.cause.Cause.TheVariants.{NoSession, NothingKept}
 use Rattle.library_calls.specs.declared.cause.Cause.TheVariants.{BadFile, BadObject, NotAdded, NotLinked, BadListing, NotConverted, Memory}
 use Rattle.library_calls.specs.{declared.cause.Cause.Cause, declared.cause.Refusal.Refusal}
 use Rattle.aout_core.specs.declared.file.ReadFault.TheVariants as reads
@@ -82,6 +83,7 @@ number_of CutNames = 4
 number_of ManyNames = 5
 number_of (TooLong part) = 6
 number_of NoEdit = 7
+number_of NoSession = 8
 number_of (BadFile reads.ShortHeader) = 11
 number_of (BadFile reads.BadMagic) = 12
 number_of (BadFile reads.OddSize) = 13
@@ -94,6 +96,7 @@ number_of (NotAdded adds.DataFull) = 32
 number_of (NotAdded adds.BssFull) = 33
 number_of (NotAdded adds.NamesFull) = 34
 number_of (NotAdded (adds.Memory refused)) = 50
+number_of NothingKept = 35
 number_of (NotLinked links.DoesNotFit) = 41
 number_of (NotLinked links.TooManySymbols) = 42
 number_of (NotLinked links.SymbolNumber) = 43

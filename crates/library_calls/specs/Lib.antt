@@ -7,6 +7,7 @@ pub mod SessionAnswers
 pub mod StateAnswers
 pub mod MemoryWanted
 pub mod RunAnswers
+pub mod KeptAnswers
 pub mod MapAnswers
 pub mod ListingAnswers
 pub mod GnuAnswers

@@ -41,12 +41,16 @@ pub enum Cause {
     TooLong(LongPart),
     /// 7: a letter is not an edit.
     NoEdit,
+    /// 8: no session is begun, or one is begun already.
+    NoSession,
     /// 11 to 14: the bytes do not begin with an a.out file.
     BadFile(ReadFault),
     /// 21 to 24: the file is not an object.
     BadObject(ObjectFault),
     /// 31 to 34: the object would pass a limit, with those before it.
     NotAdded(AddFault),
+    /// 35: a session keeps no object.
+    NothingKept,
     /// 41 to 43: the objects can't be linked.
     NotLinked(LinkFault),
     /// 61 to 75: a listing has this mistake.
@@ -307,9 +311,11 @@ impl Cause {
             Cause::ManyNames => 5,
             Cause::TooLong(_) => 6,
             Cause::NoEdit => 7,
+            Cause::NoSession => 8,
             Cause::BadFile(fault) => read_number(fault),
             Cause::BadObject(fault) => object_number(fault),
             Cause::NotAdded(fault) => u32::from(addition_number(fault)),
+            Cause::NothingKept => 35,
             Cause::NotLinked(fault) => link_number(fault),
             Cause::BadListing(fault) => reason_number(fault.reason),
             Cause::NotConverted(refusal) => gnu_number(refusal),

@@ -31,6 +31,8 @@
 //! - `run_session`: makes edits, and links what they leave
 //! - `map_link`: gives the map of a link
 //! - `show_session`: makes edits, and shows the state that they leave
+//! - `begin_session`, `add_bytes`, `withdraw_last`: a session that is kept, and edits of it
+//! - `link_session`, `state_of`: its link, and its state
 //! - `make`, `take_apart`: an object of its parts, and the parts of an object
 //! - `read_apart`: the parts of any file
 //! - `check`: how many bytes an object has
@@ -41,7 +43,7 @@
 //! - `from_gnu`: the object that one in GNU's form becomes
 //! - `remarks_of`: what is wrong and odd in a file
 //!
-//! Nothing is kept between two calls. An object is the bytes that begin with it: its header gives its length.
+//! Nothing else is kept between two calls. An object is the bytes that begin with it: its header gives its length.
 #![tactic(auto)]
 
 mod apart;
@@ -51,6 +53,7 @@ mod edits;
 mod file_calls;
 mod first;
 mod gnu_call;
+mod kept_calls;
 mod listing_calls;
 mod make_call;
 mod map_call;
@@ -69,6 +72,7 @@ pub use disassembly::{disassemble, disassemble_words};
 pub use file_calls::{check, list_symbols, show_sizes, strip};
 pub use finding_objects::FindingPlace;
 pub use gnu_call::from_gnu;
+pub use kept_calls::{add_bytes, begin_session, link_session, state_of, withdraw_last};
 pub use link_maps::{LimitRecord, MapRecords, NameRecord, ObjectRecord, UseRecord};
 pub use listing_calls::{from_listing, list_file};
 pub use make_call::make;

@@ -41,7 +41,11 @@ pub struct RunResult {
 }
 
 /// The link of the objects in a session.
-fn link_kept(alloc: Global, session: &Session, options: &Options) -> Result<Linked, Cause>
+pub(crate) fn link_kept(
+    alloc: Global,
+    session: &Session,
+    options: &Options,
+) -> Result<Linked, Cause>
     ensures ok { IfOk result (λ linked.
         refused_as NotLinked (link session.now.forced (objects session.now.entries) options.now)
         ≡ Ok (outcome_of linked)) }

@@ -35,7 +35,7 @@ pub struct Shown {
     pub state: Vec<u8>,
 }
 
-fn form_in(form: u32) -> Result<Form, Cause>
+pub(crate) fn form_in(form: u32) -> Result<Form, Cause>
     ensures { result ≡ form_in form }
 {
     match form {
@@ -46,7 +46,7 @@ fn form_in(form: u32) -> Result<Form, Cause>
 }
 
 /// The state of a session, in this form.
-fn encoded(alloc: Global, session: &Session, form: Form) -> Result<Vec<u8>, Cause>
+pub(crate) fn encoded(alloc: Global, session: &Session, form: Form) -> Result<Vec<u8>, Cause>
     ensures ok { IfOk result (λ state. ShowsFrom form session.now state.items) }
     ensures err { IfErr result (λ cause. cause ≡ Memory refused) }
 {

@@ -1,16 +1,18 @@
 -- What a command asked of the system, which opens and stores its files, in order, and what came of it. (own choice)
 --
 -- No contract can state what a disk holds. It can state what was asked of it: a file was opened, and what its bytes were, or a file
--- was to be stored, and whether it was. The list of these events, in order, is what a command did.
+-- was to be stored, and whether it was, or to which file a path leads. The list of these events, in order, is what a command did.
 use Rattle.std.specs.Prelude.{◌≡◌, ℕ, List, ◌++◌, map, Option, Some, None, ⊤}
 use Rattle.aout_core.specs.{Contents.Contents, Wires.Latched}
-use Rattle.surroundings.specs.declared.office.Stored.{Stored}
+use Rattle.surroundings.specs.{declared.nodes.Node.Node, declared.office.Stored.Stored}
 
--- a file could not be opened (`None`), or was, with its bytes if they are known; or a file, or a text, was to be stored
+-- A file could not be opened (`None`), or was, with its bytes if they are known. Or a file, or a text, was to be stored. Or the system
+-- was asked to which regular file a path leads, if there is one.
 pub data Event : Type 0 where
   opened : List ℕ → Option (Option (List ℕ)) → Event
   stored : List ℕ → Contents → Stored → Event
   written : List ℕ → List ℕ → Stored → Event
+  looked : List ℕ → Option Node → Event
 
 -- all events so far, if they are known
 abbrev pub History : Type 0

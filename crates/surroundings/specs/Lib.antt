@@ -3,5 +3,5 @@ pub mod Emits
 pub mod Answer
 pub mod Answers
 pub mod Sources
-pub mod Paths
+pub mod Nodes
 pub mod internal

@@ -1,12 +1,14 @@
 //! The files of a runtime, as an `Office`. No contract can say what a file gives or takes, so these lines are to be read: a
-//! file is opened and stored at the very path that is asked for.
+//! file is opened, looked for and stored at the very path that is asked for.
 ghost use Rattle.aout_core.specs.Encoding.{encoding};
 ghost use Rattle.surroundings.specs.Emits.{IsStoredOn};
 
+use crate::nodes::Node;
 use crate::office::{Office, Stored};
 use aout_core::{File, Wire, write_file};
 use std::fs;
 use std::io::Write;
+use std::os::unix::fs::MetadataExt;
 use std::rt::{Files, Runtime};
 
 /// Stores a file on a device, which is flushed. On a fault a prefix of it went out. (own choice)
@@ -52,6 +54,16 @@ impl<H: Runtime> Office for Disk<'_, H> {
 
     fn open(&mut self, path: &str) -> Option<H::File> {
         fs::open(self.rt, path).ok()
+    }
+
+    fn node(&mut self, path: &str) -> Option<Node> {
+        match fs::metadata(self.rt, path) {
+            Ok(found) if found.is_file() => Some(Node {
+                device: found.dev(),
+                number: found.ino(),
+            }),
+            _ => None,
+        }
     }
 
     fn store(&mut self, path: &str, file: &File) -> Stored {

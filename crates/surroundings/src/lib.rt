@@ -7,7 +7,7 @@
 //! - `Outputs`, `StandardError`: where a program writes
 //! - `Answer`, `Fault`: what a program writes at its end with its status, and why it does not go on
 //! - `Shown`, `VERSION`: what a program shows of itself, and the version of v7
-//! - `PlainPaths`: the paths of inputs, which are compared with those of outputs
+//! - `Node`, `Nodes`: a file of the system; those to which the paths of an input and of its output lead
 //!
 //! Functions:
 //!
@@ -17,7 +17,7 @@
 //! - `read_whole`: all bytes of a file
 //! - `store_on`, `store_text_on`: stores a file, or a text, on a device
 //! - `stored_text`: what is said of a file that was not stored
-//! - `check_path`: refuses an output that is the input
+//! - `nodes_at`, `is_input`, `check_output`: the files to which paths lead; whether an output is one of the inputs, and refuses it
 //! - `shown_by`, `shown_in`, `show`: what an argument, or the first one, asks a program to show of itself; shows it
 //! - `error_answer`, `fault_at`, `usage_answer`, `shown_answer`: answers
 //! - `put_line_front`, `put_fault_line`: the lines in which a program says something of a path
@@ -30,9 +30,9 @@ mod arguments;
 mod disk;
 mod held;
 mod lines;
+mod nodes;
 mod office;
 mod outputs;
-mod paths;
 mod shown;
 mod sources;
 mod standard_error;
@@ -42,9 +42,9 @@ pub use arguments::words;
 pub use disk::{Disk, store_on, store_text_on};
 pub use held::{end, hold_streams};
 pub use lines::{put_fault_line, put_line_front, put_object_fault};
+pub use nodes::{Node, Nodes, check_output, is_input, nodes_at};
 pub use office::{Office, Stored, stored_text};
 pub use outputs::Outputs;
-pub use paths::{PlainPaths, check_path};
 pub use shown::{Shown, VERSION, show, shown_answer, shown_by, shown_in};
 pub use sources::read_whole;
 pub use standard_error::StandardError;

@@ -2,8 +2,9 @@
 ghost use Rattle.std.specs.Prelude.{◌≡◌, [], ◌∷◌, List, None, Option};
 ghost use Rattle.std.specs.Option.{option_map};
 ghost use Rattle.surroundings.specs.Sources.{stored_text};
-ghost use Rattle.surroundings.specs.Events.{Event, Extends, opened, stored, written};
+ghost use Rattle.surroundings.specs.Events.{Event, Extends, looked, opened, stored, written};
 
+use crate::nodes::Node;
 use aout_core::File;
 use std::io::Read;
 
@@ -29,6 +30,10 @@ pub trait Office {
     fn open(&mut self, path: &str) -> Option<Self::Source>
         ensures { Extends (history self.old) (history self.new)
             (opened path.now (option_map Self.Source.remaining result) ∷ []) };
+
+    /// The regular file to which a path leads, if there is one. (own choice)
+    fn node(&mut self, path: &str) -> Option<Node>
+        ensures { Extends (history self.old) (history self.new) (looked path.now result ∷ []) };
 
     /// Makes a file at a path, or empties the one that is there, and writes it; returns what became of it. (own choice)
     fn store(&mut self, path: &str, file: &File) -> Stored

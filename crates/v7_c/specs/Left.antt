@@ -3,7 +3,7 @@
 -- Bytes are given at the beginning of a buffer. If a buffer is too short nothing is written, and the answer has the number of bytes
 -- that are needed. A refusal is a number, with the place of what is refused.
 use Rattle.std.specs.declared.alloc.Global.{Global}
-use Rattle.std.specs.Prelude.{◌≡◌, ℕ, ◌||◌, nat_lt, if◌then◌else◌, List, [], ◌++◌, drop, length, Vec, Result, Ok, Err}
+use Rattle.std.specs.Prelude.{◌≡◌, ℕ, ◌||◌, nat_lt, if◌then◌else◌, List, [], ◌++◌, drop, length, Option, Some, None, Vec, Result, Ok, Err}
 use Rattle.aout_core.specs.declared.header.Header.{Header}
 use Rattle.library_calls.specs.{declared.cause.Cause.Cause, declared.cause.Cause.TheVariants.Memory, declared.cause.Refusal.Refusal}
 use Rattle.library_calls.specs.{declared.parts.FileLists.FileLists, declared.parts.ObjectWord.ObjectWord}
@@ -51,6 +51,15 @@ left_by (Ok bytes) buffer =
 abbrev pub counted_by : Result ℕ Cause → Left
 counted_by (Err cause) = left 2 (refused (of_none cause)) []
 counted_by (Ok count) = left 0 (given 0 count 0) []
+
+-- what is left by a call that gives nothing but its status, by the refusal, if there is one
+abbrev pub done_by : Option Refusal → Left
+done_by (Some r) = left 2 (refused r) []
+done_by None = left 0 (given 0 0 0) []
+
+abbrev pub refusal_in : {A : Type 0} → Result A Refusal → Option Refusal
+refusal_in (Ok x) = None
+refusal_in (Err r) = Some r
 
 -- what is left by a call for which memory ran out
 abbrev pub no_bytes : List ℕ → Left

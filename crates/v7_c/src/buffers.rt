@@ -3,7 +3,7 @@ ghost use Rattle.std.specs.Prelude.{◌≡◌, ◌≤◌, [], length, Ok};
 ghost use Rattle.library_calls.specs.ObjectParts.{pieces_in};
 ghost use Rattle.library_calls.specs.RemarkAnswers.{remarks_in};
 ghost use Rattle.library_calls.specs.StateAnswers.{states_of};
-ghost use Rattle.v7_c.specs.Left.{apart_left, both_left, bytes_or, counted_by, counts_of, file_left, items_of, left, left_at, left_by, output_left, parts_left, pieces_or, put_in, read_left, remarks_or, state_left, states_or, wholes_or};
+ghost use Rattle.v7_c.specs.Left.{done_by, refusal_in, apart_left, both_left, bytes_or, counted_by, counts_of, file_left, items_of, left, left_at, left_by, output_left, parts_left, pieces_or, put_in, read_left, remarks_or, state_left, states_or, wholes_or};
 
 use crate::answer::{Answer, Counts, FileHeader};
 use library_calls::{
@@ -32,6 +32,22 @@ pub(crate) fn leave_count(count: Result<usize, Cause>, answer: &mut Answer) -> u
         }
         Err(cause) => {
             *answer = Answer::refused(Refusal::from(cause));
+            2
+        }
+    }
+}
+
+/// Answers by a change: it was made, or refused.
+pub(crate) fn leave_done(done: Result<(), Refusal>, answer: &mut Answer) -> u32
+    ensures { left result answer.new [] ≡ done_by (refusal_in done) }
+{
+    match done {
+        Ok(()) => {
+            *answer = Answer::given(0, 0, 0);
+            0
+        }
+        Err(refusal) => {
+            *answer = Answer::refused(refusal);
             2
         }
     }

@@ -5,11 +5,15 @@
 
 mod answer;
 mod buffers;
+mod handle;
+mod keep;
+mod kept;
 mod map;
 mod run;
+mod slot;
 mod state;
 
-ghost use Rattle.std.specs.Prelude.{◌≡◌, ◌≢◌, ◌⊎◌, [], Ok, Err, IsOk};
+ghost use Rattle.std.specs.Prelude.{◌≡◌, ◌≢◌, ◌⊎◌, [], None, Ok, Err, IsOk};
 ghost use Rattle.aout_core.specs.Refusals.{refused};
 ghost use Rattle.disassemblies.specs.Columns.{plain_disassembly};
 ghost use Rattle.library_calls.specs.declared.cause.Cause.TheVariants.{Memory};
@@ -19,6 +23,7 @@ ghost use Rattle.library_calls.specs.ListingAnswers.{DescribedMayRunOut, describ
 ghost use Rattle.library_calls.specs.MemoryWanted.{HasBody};
 ghost use Rattle.library_calls.specs.ObjectParts.{file_for, made_of, parts_in, pieces, whole_in};
 ghost use Rattle.library_calls.specs.RemarkAnswers.{remarked_in};
+ghost use Rattle.v7_c.specs.KeptLeft.{LeavesAdded, LeavesBegun, LeavesLink, LeavesShown, LeavesWithdrawn, kept_by};
 ghost use Rattle.v7_c.specs.MapLeft.{LeavesMap};
 ghost use Rattle.v7_c.specs.RunLeft.{LeavesRun};
 ghost use Rattle.v7_c.specs.StateLeft.{StateOfRequestMayRunOut, asked_by};
@@ -26,8 +31,10 @@ ghost use Rattle.v7_c.specs.Left.{LeavesState, apart_left, both_left, counted_by
 
 use crate::answer::{Answer, Counts, FileHeader};
 use crate::buffers::{
-    leave_bytes, leave_bytes_at, leave_count, leave_file, leave_parts, leave_remarks, leave_state,
+    leave_bytes, leave_bytes_at, leave_count, leave_done, leave_file, leave_parts, leave_remarks,
+    leave_state,
 };
+use crate::handle::Handle;
 use crate::map::MapAnswer;
 use crate::run::{Request, RunAnswer};
 use crate::state::state_for;
@@ -313,4 +320,85 @@ pub extern "C" fn v7_state(
         → StateOfRequestMayRunOut form request.now answer.new.place }
 {
     leave_state(state_for(alloc, form, request), room, replies, answer)
+}
+
+/// Begins a session that is kept.
+#[tactic(auto, using(crate::proofs::KeptLemmas::change_left))]
+#[unsafe(no_mangle)]
+pub extern "C" fn v7_session_new(
+    alloc: Global,
+    session: &mut Handle,
+    forced: &[u8],
+    answer: &mut Answer,
+) -> u32
+    ensures { LeavesBegun forced.now (kept_by session.old) (kept_by session.new) (left result answer.new []) }
+{
+    leave_done(kept::begin(alloc, session, forced), answer)
+}
+
+/// Adds an object to a session that is kept.
+#[tactic(auto, using(crate::proofs::KeptLemmas::change_left))]
+#[unsafe(no_mangle)]
+pub extern "C" fn v7_session_add(
+    alloc: Global,
+    session: &mut Handle,
+    bytes: &[u8],
+    answer: &mut Answer,
+) -> u32
+    ensures { LeavesAdded bytes.now (kept_by session.old) (kept_by session.new) (left result answer.new []) }
+{
+    leave_done(kept::add(alloc, session, bytes), answer)
+}
+
+/// Takes the object away that was added last to a session that is kept.
+#[tactic(auto, using(crate::proofs::KeptLemmas::change_left))]
+#[unsafe(no_mangle)]
+pub extern "C" fn v7_session_withdraw(
+    alloc: Global,
+    session: &mut Handle,
+    answer: &mut Answer,
+) -> u32
+    ensures { LeavesWithdrawn (kept_by session.old) (kept_by session.new) (left result answer.new []) }
+{
+    leave_done(kept::withdraw(alloc, session), answer)
+}
+
+/// Links what a session keeps.
+#[unsafe(no_mangle)]
+pub extern "C" fn v7_session_link(
+    alloc: Global,
+    session: &mut Handle,
+    request: &Request<'_>,
+    answer: &mut RunAnswer<'_>,
+) -> u32
+    ensures left { LeavesLink (kept_by session.old) request.now answer.old answer.new result }
+    ensures unchanged { kept_by session.new ≡ kept_by session.old }
+{
+    kept::link(alloc, session, request, answer)
+}
+
+/// Gives what a session that is kept shows.
+#[tactic(auto, using(crate::proofs::KeptLemmas::state_shown))]
+#[unsafe(no_mangle)]
+pub extern "C" fn v7_session_state(
+    alloc: Global,
+    session: &mut Handle,
+    form: u32,
+    room: &mut [u8],
+    answer: &mut Answer,
+) -> u32
+    ensures left { LeavesShown form (kept_by session.old) room.old (left result answer.new room.new) }
+    ensures unchanged { kept_by session.new ≡ kept_by session.old }
+{
+    leave_bytes_at(kept::state(alloc, session, form), room, answer)
+}
+
+/// Ends a session that is kept.
+#[unsafe(no_mangle)]
+pub extern "C" fn v7_session_free(alloc: Global, session: &mut Handle) -> u32
+    ensures status { result ≡ 0 }
+    ensures ended { kept_by session.new ≡ None }
+{
+    kept::end(alloc, session);
+    0
 }

@@ -17,7 +17,7 @@ pub(crate) const LINK_REQUEST: usize = 72;
 
 const LINK_RESULT: usize = 72;
 /// The size of a result that has what every answer fills.
-const ANSWERED: usize = 40;
+pub(crate) const ANSWERED: usize = 40;
 /// The size of a request that has all fields.
 pub(crate) const REQUEST: usize = 88;
 /// The size of a result for a session, or for a link whose report is wanted as a list.
@@ -88,7 +88,7 @@ struct Output<'a> {
 }
 
 /// Whether the report is wanted in a form.
-fn is_wanted(wants: u32, form: u32) -> bool
+pub(crate) fn is_wanted(wants: u32, form: u32) -> bool
     requires { 0 < form }
     ensures { result ≡ has_bit wants form }
 {
@@ -111,7 +111,7 @@ fn is_enough(request: &Request<'_>, size: usize) -> bool
 }
 
 /// Whether the sizes of both structs, the mode and the forms of the report are known.
-fn is_known(request: &Request<'_>, size: usize) -> bool
+pub(crate) fn is_known(request: &Request<'_>, size: usize) -> bool
     ensures { result ≡ is_known request.now size }
 {
     LINK_REQUEST <= request.size
@@ -285,7 +285,7 @@ fn leave_refusal(answer: &mut RunAnswer<'_>, refusal: Refusal) -> u32
 }
 
 /// Writes what is wanted of what there is, or why there is nothing.
-fn leave(
+pub(crate) fn leave(
     answer: &mut RunAnswer<'_>,
     request: &Request<'_>,
     given: Result<RunResult, Refusal>,

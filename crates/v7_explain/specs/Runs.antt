@@ -6,11 +6,11 @@ use Rattle.std.specs.Prelude.{◌≡◌, ◌⊎◌, ℕ, Bool, true, false, not,
 use Rattle.std.specs.Prelude.{Option, Some, None, Result, Ok, Err}
 use Rattle.std.specs.List.{starts_with}
 use Rattle.aout_core.specs.{Names.before_nul, Refusals.refused}
-use Rattle.surroundings.specs.Answers.{AnswersOr, AnswersStored, Checks, IsPerformed, IsShownOr, failed_at, only_errors, says_usage}
+use Rattle.surroundings.specs.Answers.{AnswersOr, AnswersStored, IsPerformed, IsShownOr, failed_at, only_errors, says_usage}
 use Rattle.surroundings.specs.Answers.{shown_in}
 use Rattle.surroundings.specs.Events.{History, Extends, Surroundings, opened, written}
 use Rattle.surroundings.specs.Sources.{EndsReading, ReadsAt, stored_text, unread_text}
-use Rattle.surroundings.specs.{Answer.Answer, Paths.path_answer, declared.answer.Fault.Fault, declared.office.Stored.Stored}
+use Rattle.surroundings.specs.{Answer.Answer, Nodes.ChecksOutput, declared.answer.Fault.Fault, declared.office.Stored.Stored}
 use Rattle.v7_explain.specs.Files.{checked, inventoried, listed, program, viewed}
 use Rattle.v7_explain.specs.Joined.{either, joined, nothing_said, usage}
 use Rattle.v7_explain.specs.declared.program.Task.TheVariants.{Store, MapLink, Explain}
@@ -78,11 +78,11 @@ ReadsAndStores to path old new result =
     ((fault : Fault) × EndsReading program old new path fault × (result ≡ Err fault))
     ⊎ ((bytes : List ℕ) × (between : History) × ReadsAt old between path bytes × AfterReading to path bytes between new result)
 
--- the paths are refused before anything is opened, or else the file is read and its listing stored
+-- the output is refused before anything is opened, or else the file is read and its listing stored
 abbrev pub StoresListing : List ℕ → List ℕ → History → History → Result Answer Fault → Type 0
 StoresListing to path old new result =
-    ((fault : Fault) × Checks (path_answer program path to) (Err fault) × (new ≡ old) × (result ≡ Err fault))
-    ⊎ ((path_answer program path to ≡ None) × ReadsAndStores to path old new result)
+    ((fault : Fault) × ChecksOutput program path to old new (Err fault) × (result ≡ Err fault))
+    ⊎ ((between : History) × ChecksOutput program path to old between (Ok tt) × ReadsAndStores to path between new result)
 
 -- ---- arguments
 

@@ -5,7 +5,7 @@ use crate::listing::list;
 use crate::program::NAME;
 use crate::source::Source;
 use std::alloc::Global;
-use surroundings::{Answer, Fault, Office, check_path, fault_at, read_whole, stored_text};
+use surroundings::{Answer, Fault, Office, check_output, fault_at, read_whole, stored_text};
 
 /// Stores a listing, if nothing is wrong with the file; else the answer says what is wrong.
 fn store<O: Office>(alloc: Global, office: &mut O, to: &str, said: Answer) -> Result<Answer, Fault>
@@ -37,7 +37,7 @@ pub(crate) fn store_listing<O: Office>(
 ) -> Result<Answer, Fault>
     ensures { StoresListing to.now path.now (O.history office.old) (O.history office.new) result }
 {
-    check_path(alloc, NAME, path, to)?;
+    check_output(alloc, office, NAME, path, to)?;
     let bytes = read_whole(alloc, office, NAME, path)?;
     let source = Source {
         path,

@@ -1,5 +1,6 @@
 pub mod StepLemmas
 pub mod ReadingLemmas
+pub mod LookLemmas
 pub mod ConvertingLemmas
 pub mod StoringLemmas
 pub mod CallLemmas

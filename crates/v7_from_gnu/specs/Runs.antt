@@ -1,13 +1,14 @@
 -- What v7-from-gnu does with its arguments: what it opens, reads and stores, what it writes, and its status. (own choice)
 --
--- Paths are checked before a file is opened. All files are read before one is converted, and all are converted before one is stored. So
--- nothing is stored if one is refused. If memory runs out, that is the answer; it does so after a file was stored only if one was not.
+-- Paths, and the files that they lead to, are checked before a file is opened. All files are read before one is converted, and all are
+-- converted before one is stored. So nothing is stored if one is refused. If memory runs out, that is the answer; it does so after a file
+-- was stored only if one was not.
 use Rattle.std.specs.Prelude.{◌≡◌, ◌⊎◌, ℕ, List, [], ◌∷◌, ◌++◌, Option, Some, None, Result, Ok, Err}
 use Rattle.aout_core.specs.Refusals.{refused}
 use Rattle.surroundings.specs.Answers.{AnswersOr, Checks, Faults, IsPerformed, fault_line, only_errors, says_usage, shows}
 use Rattle.surroundings.specs.Events.{History, Extends, Surroundings, stored}
 use Rattle.surroundings.specs.{Answer.Answer, Sources.stored_text, declared.answer.Fault.Fault, declared.office.Stored.Stored}
-use Rattle.v7_from_gnu.specs.{Calls.call_of, Checks.path_answer, Converting.outcome, Jobs.Conversion, Jobs.Source, Jobs.Target}
+use Rattle.v7_from_gnu.specs.{Calls.call_of, Checks.ChecksInputs, Checks.path_answer, Converting.outcome, Jobs.Conversion, Jobs.Source, Jobs.Target}
 use Rattle.v7_from_gnu.specs.{Lines.program, Lines.usage, Plans.Plan, Readings.IsReading, declared.arguments.Call.Call}
 use Rattle.v7_from_gnu.specs.{declared.arguments.Call.TheVariants.Show, declared.arguments.Call.TheVariants.Convert}
 use Rattle.surroundings.specs.declared.answer.Fault.TheVariants as faults
@@ -49,11 +50,18 @@ ReadsAndStores c old new result =
     ⊎ ((sources : List Source) × (between : History) × IsReading old between [] c.jobs (Ok sources)
     × AfterReading c sources between new result)
 
--- the paths are refused, or else the files are read and stored
-abbrev pub IsConversion : Conversion → History → History → Result Answer Fault → Type 0
-IsConversion c old new result =
+-- the files are read and stored, unless two objects would go to one path
+abbrev pub AfterChecks : Conversion → Result (Unit {0}) Fault → History → History → Result Answer Fault → Type 0
+AfterChecks c (Err fault) old new result = (new ≡ old) × (result ≡ Err fault)
+AfterChecks c (Ok x) old new result =
     ((fault : Fault) × Checks (path_answer c.jobs) (Err fault) × (new ≡ old) × (result ≡ Err fault))
     ⊎ ((path_answer c.jobs ≡ None) × ReadsAndStores c old new result)
+
+-- an object is refused that would replace a file, or else the files are read and stored
+abbrev pub IsConversion : Conversion → History → History → Result Answer Fault → Type 0
+IsConversion c old new result =
+    (checked : Result (Unit {0}) Fault) × (between : History) × ChecksInputs c.jobs old between checked
+    × AfterChecks c checked between new result
 
 -- ---- the program
 

@@ -11,7 +11,7 @@ ghost use Rattle.v7_from_gnu.specs.Runs.{IsConversion};
 ghost use Rattle.v7_from_gnu.specs.internal.Lists.{RefusedAs};
 
 use crate::arguments::{Conversion, Job};
-use crate::checks::{check_names, check_paths};
+use crate::checks::{check_inputs, check_names, check_paths};
 use crate::lines::{put_refusal, put_remark};
 use crate::reading::{Source, read_all};
 use crate::storing::store_all;
@@ -221,6 +221,7 @@ fn convert_jobs<O: Office>(
     ensures { IsConversion (record { options = options; is_quiet = is_quiet; jobs = jobs.items })
         (O.history office.old) (O.history office.new) result }
 {
+    check_inputs(alloc, office, &jobs)?;
     check_paths(alloc, &jobs)?;
     let sources = read_all(alloc, office, jobs)?;
     let plan = make_plan(alloc, options, is_quiet, sources)?;

@@ -1,15 +1,15 @@
 -- What v7-object does with its arguments: what it opens, reads and stores, what it writes, and its status. (own choice)
 --
--- The paths are compared before a file is opened, and a file is stored only if the listing has no mistake. If memory runs out, that is
--- the answer; it does so after a file was to be stored only if it was not stored.
+-- The system is asked whether the output is the listing before a file is opened, and a file is stored only if the listing has no
+-- mistake. If memory runs out, that is the answer; it does so after a file was to be stored only if it was not stored.
 use Rattle.std.specs.Prelude.{◌≡◌, ◌⊎◌, ℕ, nat_eq, if◌then◌else◌, List, [], ◌∷◌, Option, Some, None, Result, Ok, Err, codes}
 use Rattle.std.specs.List.{starts_with}
 use Rattle.aout_core.specs.{Contents.Contents, Refusals.refused}
 use Rattle.listings.specs.{Reading.read, declared.fault.Fault.Fault as Mistake}
-use Rattle.surroundings.specs.Answers.{AnswersOr, AnswersStored, Checks, Faults, IsPerformed, IsShownOr, only_errors, says_usage, shown_in}
+use Rattle.surroundings.specs.Answers.{AnswersOr, AnswersStored, Faults, IsPerformed, IsShownOr, only_errors, says_usage, shown_in}
 use Rattle.surroundings.specs.Events.{History, Extends, Surroundings, stored}
 use Rattle.surroundings.specs.Sources.{EndsReading, ReadsAt, stored_text}
-use Rattle.surroundings.specs.{Answer.Answer, Paths.path_answer, declared.answer.Fault.Fault, declared.office.Stored.Stored}
+use Rattle.surroundings.specs.{Answer.Answer, Nodes.ChecksOutput, declared.answer.Fault.Fault, declared.office.Stored.Stored}
 use Rattle.v7_object.specs.Lines.{mistake_line, program, usage}
 use Rattle.surroundings.specs.declared.answer.Fault.TheVariants as faults
 
@@ -52,11 +52,11 @@ ReadsAndStores listing to old new result =
     ((fault : Fault) × EndsReading program old new listing fault × (result ≡ Err fault))
     ⊎ ((bytes : List ℕ) × (between : History) × ReadsAt old between listing bytes × AfterReading listing to bytes between new result)
 
--- the paths are refused, or else the listing is read and its file stored
+-- the output is refused, or else the listing is read and its file stored
 abbrev pub IsMaking : List ℕ → List ℕ → History → History → Result Answer Fault → Type 0
 IsMaking listing to old new result =
-    ((fault : Fault) × Checks (path_answer program listing to) (Err fault) × (new ≡ old) × (result ≡ Err fault))
-    ⊎ ((path_answer program listing to ≡ None) × ReadsAndStores listing to old new result)
+    ((fault : Fault) × ChecksOutput program listing to old new (Err fault) × (result ≡ Err fault))
+    ⊎ ((between : History) × ChecksOutput program listing to old between (Ok tt) × ReadsAndStores listing to between new result)
 
 -- ---- the program
 

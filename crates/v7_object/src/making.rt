@@ -11,7 +11,7 @@ use aout_core::File;
 use listings::{ListingFault, read_listing};
 use std::alloc::{AllocError, Global};
 use surroundings::{
-    Answer, Fault, Office, check_path, error_answer, fault_at, read_whole, stored_text,
+    Answer, Fault, Office, check_output, error_answer, fault_at, read_whole, stored_text,
 };
 use texts::Text;
 
@@ -63,7 +63,7 @@ pub(crate) fn make_file<O: Office>(
 ) -> Result<Answer, Fault>
     ensures { IsMaking listing.now to.now (O.history office.old) (O.history office.new) result }
 {
-    check_path(alloc, NAME, listing, to)?;
+    check_output(alloc, office, NAME, listing, to)?;
     let text = read_whole(alloc, office, NAME, listing)?;
     let file = file_in(alloc, listing, &text)?;
     store(alloc, office, to, &file)

@@ -3,7 +3,7 @@
 //! listing.
 use std::io::{self, Write};
 use std::{env, error, fs, process, thread};
-use v7::{from_gnu, from_listing, listing, remarks, Edit, Link, Program};
+use v7::{from_gnu, from_listing, listing, remarks, Link, Program, Session};
 
 /// Each name that is reported, with the path of the object that has it first.
 fn show_findings(program: &Program, paths: &[String]) {
@@ -36,7 +36,11 @@ fn compare_listing(object: &[u8]) {
 fn link(out: &str, paths: &[String]) -> Result<u32, Box<dyn error::Error>> {
     let objects = paths.iter().map(fs::read).collect::<Result<Vec<_>, _>>()?;
     let program = Link::default().of(&objects)?;
-    let again = Link::default().session(&vec![Edit::Add; objects.len()], &objects)?;
+    let mut session = Session::new(&[])?;
+    for object in &objects {
+        session.add(object)?;
+    }
+    let again = session.link(&Link::default())?;
     assert_eq!((&program.file, &program.findings), (&again.file, &again.findings));
     compare_map(&program, &objects);
     thread::scope(|scope| {

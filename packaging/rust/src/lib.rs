@@ -7,53 +7,67 @@
 //! # Ok::<(), Box<dyn std::error::Error>>(())
 //! ```
 //!
-//! Calls share nothing and keep no pointer, so threads may make them at the same time, and the types of this crate are `Send` and `Sync`.
+//! Only a `Session` is kept between calls, by its owner, so threads may make calls at the same time.
+mod objects;
 mod records;
+mod session;
 
+pub use objects::{check, disassemble, disassemble_words, from_gnu, from_listing, listing, make, nm, read, size, strip, take_apart, Parts};
 pub use records::{Link, Map, Program, Remark};
+pub use session::Session;
 pub use v7_sys as raw;
-pub use v7_sys::{Edit, Fault, Finding, FindingPlace, MapHead, MapLimit, MapName, MapObject, MapUse, Name, Number};
+pub use v7_sys::{Fault, Finding, FindingPlace, Header, MapHead, MapLimit, MapName, MapObject, MapUse, Name, Number, Symbol, Word};
 
 use std::mem::size_of;
+
+/// The largest file of a link: a header, words and relocation words of full segments, and a full table.
+const MOST: usize = 16 + 4 * 65534 + 12 * 5461;
 
 impl Link {
     /// Links these objects in their order.
     pub fn of<B: AsRef<[u8]>>(&self, objects: &[B]) -> Result<Program, Fault> {
-        self.ask(raw::V7_LINK, &[], objects, run)
-    }
-
-    /// Makes the edits, each addition with the next of the objects, and links what is left.
-    pub fn session<B: AsRef<[u8]>>(&self, edits: &[Edit], objects: &[B]) -> Result<Program, Fault> {
-        self.ask(raw::V7_SESSION, edits, objects, run)
+        let wants = raw::V7_REPORT | raw::V7_FINDINGS | raw::V7_PLACES;
+        let size = objects.iter().map(|object| object.as_ref().len()).sum();
+        // SAFETY: the request is of `ask`; the result is of `run`
+        self.ask(wants, objects, |request| run(size, self.forced.len(), |result| unsafe { raw::v7_run(request, result) }))
     }
 
     /// The map of the link of these objects. A link that is refused for its sizes or its names has one too.
     pub fn map<B: AsRef<[u8]>>(&self, objects: &[B]) -> Result<Map, Fault> {
-        self.ask(raw::V7_LINK, &[], objects, map)
+        self.ask(0, objects, map)
     }
 
-    fn ask<B: AsRef<[u8]>, T>(&self, mode: u32, edits: &[Edit], objects: &[B], call: fn(&raw::Request) -> T) -> T {
+    /// Lends a request to a call: what its slices point to has the sizes that they say.
+    fn ask<B: AsRef<[u8]>, T>(&self, wants: u32, objects: &[B], call: impl FnOnce(&raw::Request) -> T) -> T {
         let objects: Vec<_> = objects.iter().map(|object| raw::Slice::of(object.as_ref())).collect();
         call(&raw::Request {
             size: size_of::<raw::Request>(),
-            mode,
+            mode: raw::V7_LINK,
             options: self.options,
-            wants: raw::V7_REPORT | raw::V7_FINDINGS | raw::V7_PLACES,
+            wants,
             entry: raw::Slice::of(&self.entry),
             forced: raw::Slice::of(&self.forced),
             objects: objects.as_ptr(),
             object_count: objects.len(),
-            edits: raw::Slice::of(edits),
+            edits: raw::Slice::of::<u8>(&[]),
         })
     }
 }
 
 /// Makes a call again and again until its buffers have the sizes that it answered: its status, the answer and the buffers.
-fn made<A: Default, B: Default>(call: impl Fn(&mut A, &mut B) -> u32) -> Result<(u32, A, B), Fault>
+fn made<A: Default, B: Default>(call: impl FnMut(&mut A, &mut B) -> u32) -> Result<(u32, A, B), Fault>
 where
     for<'a> Fault: From<&'a A>,
 {
-    let (mut answer, mut buffers) = (A::default(), B::default());
+    made_from(A::default(), call)
+}
+
+/// The same, first with buffers of the sizes that an answer has.
+fn made_from<A, B: Default>(mut answer: A, mut call: impl FnMut(&mut A, &mut B) -> u32) -> Result<(u32, A, B), Fault>
+where
+    for<'a> Fault: From<&'a A>,
+{
+    let mut buffers = B::default();
     loop {
         let status = call(&mut answer, &mut buffers);
         match Fault::from(&answer) {
@@ -70,16 +84,23 @@ fn lend<T: Clone + Default>(buffer: &mut Vec<T>, count: usize, records: &mut *mu
     (*records, *room) = (buffer.as_mut_ptr(), count);
 }
 
-fn run(request: &raw::Request) -> Result<Program, Fault> {
-    let (status, _, program) = made(|result: &mut raw::Result, program: &mut Program| {
+/// Makes a call whose result has buffers of the sizes that they say, which outlive it: once, as a link has no more bytes than its objects,
+/// and no more to report than symbols.
+fn run(size: usize, forced: usize, mut call: impl FnMut(&mut raw::Result) -> u32) -> Result<Program, Fault> {
+    let count = (size / 12 + forced + 1).min(1 << 16);
+    let file_size = (size + 12 * forced + 16).min(MOST);
+    let most = raw::Result { file_size, report_size: 27 * count + 11, finding_count: count, place_count: count, ..raw::Result::default() };
+    let (status, result, mut program) = made_from(most, |result, program: &mut Program| {
         lend(&mut program.file, result.file_size, &mut result.file, &mut result.file_room);
         lend(&mut program.report, result.report_size, &mut result.report, &mut result.report_room);
         lend(&mut program.findings, result.finding_count, &mut result.findings, &mut result.finding_room);
         lend(&mut program.places, result.place_count, &mut result.places, &mut result.place_room);
-        lend(&mut program.replies, result.reply_count, &mut result.replies, &mut result.reply_room);
-        // SAFETY: the request is of `ask`; what its slices and the buffers point to outlives the call, and has the sizes that are passed
-        unsafe { raw::v7_run(request, result) }
+        call(result)
     })?;
+    program.file.truncate(result.file_size);
+    program.report.truncate(result.report_size);
+    program.findings.truncate(result.finding_count);
+    program.places.truncate(result.place_count);
     Ok(Program { status, ..program })
 }
 
@@ -89,14 +110,14 @@ fn map(request: &raw::Request) -> Result<Map, Fault> {
         lend(&mut map.names, answer.name_count, &mut answer.names, &mut answer.name_room);
         lend(&mut map.uses, answer.use_count, &mut answer.uses, &mut answer.use_room);
         lend(&mut map.limits, answer.limit_count, &mut answer.limits, &mut answer.limit_room);
-        // SAFETY: as in `run`
+        // SAFETY: the request is of `ask`; the buffers have the sizes that are passed, and outlive the call
         unsafe { raw::v7_map(request, answer) }
     })?;
     Ok(Map { status, head: answer.head, ..map })
 }
 
 /// Makes a call that fills a buffer with bytes.
-fn filled(call: impl Fn(*mut u8, usize, &mut raw::Answer) -> u32) -> Result<Vec<u8>, Fault> {
+fn filled(mut call: impl FnMut(*mut u8, usize, &mut raw::Answer) -> u32) -> Result<Vec<u8>, Fault> {
     let (_, _, bytes) = made(|answer: &mut raw::Answer, bytes: &mut Vec<u8>| {
         bytes.resize(answer.size, 0);
         call(bytes.as_mut_ptr(), bytes.len(), answer)
@@ -104,30 +125,12 @@ fn filled(call: impl Fn(*mut u8, usize, &mut raw::Answer) -> u32) -> Result<Vec<
     Ok(bytes)
 }
 
-/// The listing of a file, as `v7-explain` prints it without its notes.
-pub fn listing(file: &[u8]) -> Result<Vec<u8>, Fault> {
-    // SAFETY: here and below, file and buffer outlive the call, and have the sizes that are passed
-    filled(|room, size, answer| unsafe { raw::v7_list(file.as_ptr(), file.len(), room, size, answer) })
-}
-
-/// The file that a listing describes, or its first mistake: `place` is the line and `word` the column.
-pub fn from_listing(text: &[u8]) -> Result<Vec<u8>, Fault> {
-    // SAFETY: as in `listing`
-    filled(|room, size, answer| unsafe { raw::v7_from_listing(text.as_ptr(), text.len(), room, size, answer) })
-}
-
-/// The object that one of GNU's assembler becomes; the options are bits.
-pub fn from_gnu(file: &[u8], options: u32) -> Result<Vec<u8>, Fault> {
-    // SAFETY: as in `listing`
-    filled(|room, size, answer| unsafe { raw::v7_from_gnu(options, file.as_ptr(), file.len(), room, size, answer) })
-}
-
 /// What is wrong and odd in a file, as `v7-explain` prints it.
 pub fn remarks(file: &[u8]) -> Result<Vec<Remark>, Fault> {
     let (_, _, (texts, rows)) = made(|answer: &mut raw::Answer, (texts, rows): &mut (Vec<u8>, Vec<raw::Remark>)| {
         texts.resize(answer.size, 0);
         rows.resize(answer.report_size, raw::Remark::default());
-        // SAFETY: as in `listing`
+        // SAFETY: file and buffers outlive the call, and have the sizes that are passed
         unsafe { raw::v7_remarks(file.as_ptr(), file.len(), texts.as_mut_ptr(), texts.len(), rows.as_mut_ptr(), rows.len(), answer) }
     })?;
     let text = |row: &raw::Remark| String::from_utf8_lossy(&texts[row.text..row.text + row.text_size]).into_owned();

@@ -9,7 +9,7 @@ pub struct Link {
     pub forced: Vec<Name>,
 }
 
-/// What a link gives. The status is 1 if there is something to report, or if an edit was not made.
+/// What a link gives. The status is 1 if there is something to report.
 #[derive(Clone, Debug, Default, PartialEq, Eq)]
 pub struct Program {
     pub status: u32,
@@ -18,10 +18,8 @@ pub struct Program {
     pub report: Vec<u8>,
     /// The names of the report.
     pub findings: Vec<Finding>,
-    /// The objects of each finding.
+    /// The objects of each finding; empty if a session is linked.
     pub places: Vec<FindingPlace>,
-    /// For each edit of a session 0, or why it was not made.
-    pub replies: Vec<u8>,
 }
 
 /// The map of a link, made or refused.

@@ -1,5 +1,5 @@
 /* v7_map and v7_run with a fault in a field of their records, beside the real ones under other names: PLANT=map_name.value changes the
- * first byte of the value of every name of a map. PLANT=short_map and PLANT=short_result write all of a struct that has fewer fields.
+ * first byte of the value of every name of a map. PLANT=short_map, short_result and short_kept write all of a struct that has fewer fields.
  * tests/libv7/library.sh makes libraries of it. */
 #include <stddef.h>
 #include <stdlib.h>
@@ -9,6 +9,7 @@
 
 uint32_t real_v7_map(const struct v7_request *request, struct v7_map *map);
 uint32_t real_v7_run(const struct v7_request *request, struct v7_result *result);
+uint32_t real_v7_session_link(struct v7_session *session, const struct v7_request *request, struct v7_result *result);
 
 struct field {
     const char *name;
@@ -77,5 +78,14 @@ uint32_t v7_run(const struct v7_request *request, struct v7_result *result)
         return status;
     plant(findings, result->findings, result->finding_count, sizeof *result->findings);
     plant(places, result->places, result->place_count, sizeof *result->places);
+    return status;
+}
+
+uint32_t v7_session_link(struct v7_session *session, const struct v7_request *request, struct v7_result *result)
+{
+    uint32_t status = real_v7_session_link(session, request, result);
+
+    if (is_planted("short_kept"))
+        result->report_size = 0;
     return status;
 }

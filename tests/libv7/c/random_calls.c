@@ -3,7 +3,7 @@
  * or begins after one; so do request and result. What a call reads may not be written, and nothing is written beside a result. Each call
  * is made once more with each of its requests for memory refused, and all later ones. The findings, as lines, must be the report. Request,
  * result and map are tried in each size that they may have, each right before such a page: what a struct lacks is not touched, and one
- * that lacks what every answer fills stays as it was.
+ * that lacks what every answer fills stays as it was. A session that keeps the objects gives the same.
  *
  * Of the first object v7_disassemble and v7_list must refuse what v7_strip refuses. v7_disassemble gives for the stripped file what
  * v7_disassemble_words gives for its words, and v7_from_listing of the listing the file again, in such buffers and with memory refused.
@@ -73,7 +73,7 @@ struct buffer {
     size_t size;
 };
 
-static struct buffer inputs[PARTS + 4], file, report, words, found, answers;
+static struct buffer inputs[PARTS + 4], file, report, words, found, answers, kept;
 static unsigned char filled[SPACE];
 
 static void make_buffer(struct buffer *b)
@@ -319,7 +319,15 @@ static int is_left(size_t from)
     return memcmp(answers.at + from, filled, answers.size - from) == 0;
 }
 
-static int takes_short_results(uint32_t status)
+/* the link of the slices, or of a session that keeps them */
+static uint32_t link_by(struct v7_session *session, uint32_t wants, size_t size, struct v7_result *result)
+{
+    const struct v7_request *request = asked(wants, size);
+
+    return session ? v7_session_link(session, request, result) : v7_run(request, result);
+}
+
+static int takes_short_results(struct v7_session *session, uint32_t status)
 {
     struct v7_result *result;
     size_t size;
@@ -331,19 +339,20 @@ static int takes_short_results(uint32_t status)
         result = put_struct(size);
         if (is_linked)
             memcpy(result, &all, size);
-        if (v7_run(asked(V7_REPORT, sizeof(struct v7_request)), result) != (is_linked ? status : 2) || result->size != size ||
+        if (link_by(session, V7_REPORT, sizeof(struct v7_request), result) != (is_linked ? status : 2) || result->size != size ||
             !is_left(is_linked ? answers.size : is_answered ? RESULT_ANSWERED : sizeof size) || (is_answered && !is_linked && result->fault != V7_NO_OPTION))
             return 0;
         result = put_struct(size);
         if (is_linked)
             memcpy(result, &all, size);
-        if (size < sizeof *result && (v7_run(asked(V7_PLACES, sizeof(struct v7_request)), result) != 2 || (is_answered && result->fault != V7_NO_OPTION)))
+        if (size < sizeof *result &&
+            (link_by(session, V7_PLACES, sizeof(struct v7_request), result) != 2 || (is_answered && result->fault != V7_NO_OPTION)))
             return 0;
     }
     return 1;
 }
 
-static int takes_short_requests(uint32_t status)
+static int takes_short_requests(struct v7_session *session, uint32_t status)
 {
     struct v7_result result;
     struct v7_answer answer;
@@ -354,7 +363,7 @@ static int takes_short_requests(uint32_t status)
         int is_linked = size >= REQUEST_LINKED;
 
         result = (struct v7_result){sizeof result, 0, 0, 0, 0, 0, file.at, file.size, report.at, report.size, 0, 0, NULL, 0, NULL, 0, 0, NULL, 0};
-        if (v7_run(asked(V7_REPORT, size), &result) != (is_linked ? status : 2) || (!is_linked && result.fault != V7_NO_OPTION))
+        if (link_by(session, V7_REPORT, size, &result) != (is_linked ? status : 2) || (!is_linked && result.fault != V7_NO_OPTION))
             return 0;
         map = put_struct(sizeof *map);
         memset(&map->fault, 0, sizeof *map - sizeof size);
@@ -380,11 +389,33 @@ static int takes_short_maps(void)
     return 1;
 }
 
+/* the same by a session that keeps the slices, whose struct and answer end at such a page too; one that is refused adds nothing */
+static int takes_kept_structs(uint32_t status, const struct v7_result *wanted)
+{
+    struct v7_session *session;
+    struct v7_answer *answer;
+    int is_right, is_refused;
+    size_t i;
+
+    place(&kept, sizeof *session, 1);
+    session = memset(kept.at, 0, sizeof *session);
+    place(&words, sizeof *answer, 1);
+    answer = (struct v7_answer *)words.at;
+    is_refused = v7_session_new(session, inputs[PARTS + 1].at, inputs[PARTS + 1].size, answer) != 0;
+    for (i = 0; i < count && !is_refused; i++)
+        is_refused = v7_session_add(session, slices[i].bytes, slices[i].size, answer) != 0;
+    if (is_refused)
+        is_right = wanted->fault <= V7_MANY_NAMES ? wanted->fault != 0 : answer->fault == wanted->fault && answer->word == wanted->word;
+    else
+        is_right = takes_short_results(session, status) && takes_short_requests(session, status);
+    return v7_session_free(session) == 0 && is_right && held == 0;
+}
+
 static int takes_short_structs(uint32_t status, const struct v7_result *wanted)
 {
     fill(&file, wanted->file_size);
     fill(&report, wanted->report_size);
-    return takes_short_results(status) && takes_short_requests(status) && takes_short_maps();
+    return takes_short_results(NULL, status) && takes_short_requests(NULL, status) && takes_short_maps() && takes_kept_structs(status, wanted);
 }
 
 /* the lines of a report, by its findings; returns how many bytes they take */
@@ -535,6 +566,7 @@ int main(int argc, char **argv)
     make_buffer(&report);
     make_buffer(&found);
     make_buffer(&answers);
+    make_buffer(&kept);
     make_buffer(&words);
     memset(filled, FILLER, SPACE);
     for (n = 0; n < calls; n++) {

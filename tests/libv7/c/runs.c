@@ -1,6 +1,6 @@
 /* v7_run and v7_map beside each other: for random lists of objects, some of them cut or with bytes after them, v7_run must give the same
- * whatever is wanted of the report, and after random edits what it gives for a link of the objects that are left. The objects of findings
- * are those that v7_map has for their names. A caller whose structs are shorter, with nothing readable after them, gets the same link
+ * whatever is wanted of the report, and after random edits what it gives for a link of the objects that are left. So must v7_session_link
+ * after each edit of a session that is kept, and v7_session_state the state of v7_state. The objects of findings are those that v7_map has for their names. A caller whose structs are shorter, with nothing readable after them, gets the same link
  * and the same list. Buffers for what is not wanted, and all buffers after a fault, stay as they were. A map has the fault of the link in
  * it, or as its own.
  *
@@ -78,7 +78,8 @@ static int read_known(const char *path)
     return 1;
 }
 
-static void ask(struct given *to, struct v7_request *request, size_t room)
+/* by v7_run, or if a session is kept by its link */
+static void ask_of(struct v7_session *session, struct given *to, struct v7_request *request, size_t room)
 {
     memset(to, FILL, sizeof *to);
     memset(&to->result, 0, sizeof to->result);
@@ -94,7 +95,12 @@ static void ask(struct given *to, struct v7_request *request, size_t room)
     to->result.reply_room = FEW;
     to->result.places = to->places;
     to->result.place_room = FEW;
-    to->status = v7_run(request, &to->result);
+    to->status = session ? v7_session_link(session, request, &to->result) : v7_run(request, &to->result);
+}
+
+static void ask(struct given *to, struct v7_request *request, size_t room)
+{
+    ask_of(NULL, to, request, room);
 }
 
 /* nothing of a buffer is written beyond what there is */
@@ -347,6 +353,78 @@ static void try_session(const struct v7_request *request, unsigned number)
           "another session than the link of what is left", number);
 }
 
+/* the state of what is kept is that of v7_state, which adds the objects anew */
+static void compare_states(struct v7_session *session, const struct v7_request *link, unsigned number)
+{
+    static const unsigned char edits[] = "aaaaaaaaa";
+    static unsigned char rooms[2][ROOM], replies[EDITS];
+    struct v7_request request = *link;
+    struct v7_answer answers[2];
+    uint32_t form = (uint32_t)below(2);
+
+    memset(rooms, FILL, sizeof rooms);
+    request.mode = V7_SESSION;
+    request.edits.bytes = edits;
+    request.edits.size = link->object_count;
+    v7_session_state(session, form, rooms[0], ROOM, &answers[0]);
+    v7_state(form, &request, replies, EDITS, rooms[1], ROOM, &answers[1]);
+    check(answers[0].fault == answers[1].fault && answers[0].size == answers[1].size && memcmp(rooms[0], rooms[1], ROOM) == 0, "another state of what is kept",
+          number);
+}
+
+/* a session that is kept: each edit has the fault that it has alone, or changes what is linked */
+static void try_kept(const struct v7_request *request, unsigned number)
+{
+    static struct given got, left;
+    struct v7_session session = {0, NULL};
+    struct v7_slice kept[EDITS];
+    struct v7_request link = *request;
+    struct v7_answer answer, alone;
+    size_t count = below(EDITS + 1);
+
+    link.mode = V7_LINK;
+    link.wants = V7_REPORT | V7_FINDINGS;
+    link.objects = kept;
+    link.object_count = 0;
+    check(v7_session_withdraw(&session, &answer) == 2 && answer.fault == V7_NO_SESSION, "a withdrawal without a session", number);
+    check(v7_session_new(&session, request->forced.bytes, request->forced.size, &answer) == 0 && session.is_open == 1, "no session", number);
+    check(v7_session_new(&session, NULL, 0, &answer) == 2 && answer.fault == V7_NO_SESSION, "a session in place of another", number);
+    for (; count > 0; count--) {
+        const struct v7_slice *object = &request->objects[request->object_count ? below(request->object_count) : 0];
+
+        if (below(3) && request->object_count > 0) {
+            v7_check(object->bytes, object->size, &alone);
+            v7_session_add(&session, object->bytes, object->size, &answer);
+            check(answer.fault == alone.fault && answer.word == alone.word && answer.place == 0 && answer.size == 0, "another fault of an object", number);
+            if (answer.fault == 0)
+                kept[link.object_count++] = *object;
+        } else {
+            v7_session_withdraw(&session, &answer);
+            check(answer.fault == (link.object_count ? V7_NO_FAULT : V7_NOTHING), "another fault of a withdrawal", number);
+            link.object_count -= link.object_count > 0;
+        }
+        ask_of(&session, &got, &link, ROOM);
+        ask(&left, &link, ROOM);
+        check(is_clean(&got) && got.status == left.status &&
+                  memcmp(&got.result.fault, &left.result.fault, offsetof(struct v7_result, file) - offsetof(struct v7_result, fault)) == 0 &&
+                  memcmp(got.file, left.file, ROOM) == 0 && memcmp(got.report, left.report, ROOM) == 0 &&
+                  got.result.finding_count == left.result.finding_count && memcmp(got.findings, left.findings, sizeof got.findings) == 0,
+              "another link of what is kept", number);
+        compare_states(&session, &link, number);
+    }
+    link.wants = V7_PLACES;
+    ask_of(&session, &got, &link, ROOM);
+    check(got.status == 2 && got.result.fault == V7_NO_OPTION && is_clean(&got), "places of what is kept", number);
+    link.mode = V7_SESSION;
+    link.wants = 0;
+    ask_of(&session, &got, &link, ROOM);
+    check(got.status == 2 && got.result.fault == V7_NO_OPTION && is_clean(&got), "edits of what is kept", number);
+    check(v7_session_free(&session) == 0 && session.is_open == 0 && session.state == NULL && v7_session_free(&session) == 0, "a session that stays", number);
+    link.mode = V7_LINK;
+    ask_of(&session, &got, &link, ROOM);
+    check(got.status == 2 && got.result.fault == V7_NO_SESSION && is_clean(&got), "a link without a session", number);
+}
+
 int main(int argc, char **argv)
 {
     static const uint32_t options[] = {0, 0, 0, V7_RELOCATABLE, V7_STRIP, V7_EXTERNALS, V7_PURE, V7_SPLIT, V7_RELOCATABLE | V7_STRIP, 128};
@@ -377,8 +455,10 @@ int main(int argc, char **argv)
             objects[cut].size -= 2 * (1 + below(3));
         try_link(&request, number);
         try_map(&request, number);
-        if (request.options < 128 && request.options != (V7_RELOCATABLE | V7_STRIP))
+        if (request.options < 128 && request.options != (V7_RELOCATABLE | V7_STRIP)) {
             try_session(&request, number);
+            try_kept(&request, number);
+        }
     }
     printf("%u runs, %u differ\n", number, failures);
     return failures != 0;

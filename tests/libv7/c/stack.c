@@ -67,6 +67,30 @@ static void show_map(uint32_t options)
     free(map.limits);
 }
 
+/* a session that is kept, of the same objects */
+static void keep(void)
+{
+    struct v7_session session = {0, NULL};
+    struct v7_request request = asked(V7_LINK, 0);
+    struct v7_result result = {sizeof result, 0, 0, 0, 0, 0, room, ROOM, more, ROOM, 0, 0, findings, SYMBOLS, NULL, 0, 0, NULL, 0};
+    struct v7_answer answer;
+    uint32_t status;
+    size_t i;
+
+    called(v7_session_new(&session, NULL, 0, &answer), &answer);
+    for (i = 0; i < count; i++)
+        if (v7_session_add(&session, slices[i].bytes, slices[i].size, &answer) != 0)
+            exit(3);
+    request.wants = V7_REPORT | V7_FINDINGS;
+    status = v7_session_link(&session, &request, &result);
+    answer.fault = result.fault;
+    called(status, &answer);
+    called(v7_session_state(&session, V7_JSON, room, ROOM, &answer), &answer);
+    called(v7_session_withdraw(&session, &answer), &answer);
+    answer.fault = V7_NO_FAULT;
+    called(v7_session_free(&session), &answer);
+}
+
 static void *call_all(void *unused)
 {
     struct v7_answer answer;
@@ -96,6 +120,7 @@ static void *call_all(void *unused)
     }
     called(v7_state(V7_LINES, &request, replies, COUNT, room, ROOM, &answer), &answer);
     called(v7_state(V7_JSON, &request, replies, COUNT, room, ROOM, &answer), &answer);
+    keep();
     called(v7_read(objects, objects_size, &header, text, WORDS, data, WORDS, symbols, SYMBOLS, &counts, &answer), &answer);
     called(v7_take_apart(objects, objects_size, text, WORDS, data, WORDS, symbols, SYMBOLS, &counts, &answer), &answer);
     called(v7_make(text, counts.text, data, counts.data, counts.bss, symbols, counts.symbols, room, ROOM, &answer), &answer);
@@ -151,5 +176,5 @@ int main(void)
     edits[COUNT - 1] = V7_WITHDRAW;
     call_in_thread();
     printf("%u calls, %u with a result\n", calls, results);
-    return calls != 78 || results < 72;
+    return calls != 88 || results < 82;
 }

@@ -3,17 +3,13 @@ use Rattle.std.specs.declared.alloc.Global.{Global}
 use Rattle.std.specs.Prelude.{◌≡◌, ◌≢◌, ◌⊎◌, ℕ, List, map, Result, Ok, Err, Vec}
 use Rattle.aout_core.specs.Refusals.{refused}
 use Rattle.gnu_objects.specs.declared.refusal.Refusal.{Refusal}
-use Rattle.surroundings.specs.{Answers.HasAnswer, declared.answer.Fault.Fault, declared.answer.Fault.TheVariants.Memory, Paths.plain}
-use Rattle.v7_from_gnu.specs.{Converting.refusal_answer, Jobs.Source, Jobs.Job}
+use Rattle.surroundings.specs.{Answers.HasAnswer, declared.answer.Fault.Fault, declared.answer.Fault.TheVariants.Memory}
+use Rattle.v7_from_gnu.specs.{Converting.refusal_answer, Jobs.Source}
 use Rattle.gnu_objects.specs.declared.refusal.Refusal.TheVariants as refusals
 
 abbrev pub listed : {A E : Type 0} → Result (Vec A Global) E → Result (List A) E
 listed (Ok v) = Ok v.items
 listed (Err e) = Err e
-
--- the paths of all files, as they are compared
-abbrev pub plain_inputs : List Job → List (List ℕ)
-plain_inputs jobs = map plain (map (λ (job : Job). job.from) jobs)
 
 -- a file is refused, or memory ran out
 abbrev pub RefusedAs : Source → Refusal → Fault → Type 0

@@ -42,6 +42,7 @@ fn text(fault: u32) -> &'static str {
         5 => "more than 64 names are forced",
         6 => "too many words, bytes of bss or symbols",
         7 => "no such edit",
+        8 => "no session, or one already",
         11 => "short header",
         12 => "bad magic number",
         13 => "odd size",

@@ -1,11 +1,14 @@
-//! Declarations of v7.h: the calls of libv7 that the crate `v7` makes, their records and their numbers.
-use std::mem;
+//! Declarations of v7.h: the calls of libv7, their records and their numbers.
+use std::ffi::c_void;
+use std::{mem, ptr};
 
+mod constants;
 mod fault;
 mod values;
 
+pub use constants::*;
 pub use fault::Fault;
-pub use values::{Edit, Name, Number};
+pub use values::{Name, Number};
 
 /// `struct v7_slice`
 #[repr(C)]
@@ -205,9 +208,82 @@ pub struct Remark {
     pub kind: u32,
 }
 
+/// `struct v7_session`. At first it is `Session::default()`; only the calls change it.
+#[repr(C)]
+#[derive(Debug)]
+pub struct Session {
+    pub is_open: u32,
+    pub state: *mut c_void,
+}
+
+impl Default for Session {
+    /// Without a session that is begun.
+    fn default() -> Self {
+        Session { is_open: 0, state: ptr::null_mut() }
+    }
+}
+
+/// `struct v7_word`
+#[repr(C)]
+#[derive(Clone, Copy, Debug, Default, PartialEq, Eq)]
+pub struct Word {
+    pub value: u16,
+    pub reloc: u16,
+}
+
+/// `struct v7_symbol`
+#[repr(C)]
+#[derive(Clone, Copy, Debug, Default, PartialEq, Eq)]
+pub struct Symbol {
+    pub name: Name,
+    pub r#type: u16,
+    pub value: u16,
+}
+
+/// `struct v7_counts`
+#[repr(C)]
+#[derive(Clone, Copy, Debug, Default, PartialEq, Eq)]
+pub struct Counts {
+    pub text: usize,
+    pub data: usize,
+    pub symbols: usize,
+    pub bss: u32,
+}
+
+/// `struct v7_header`
+#[repr(C)]
+#[derive(Clone, Copy, Debug, Default, PartialEq, Eq)]
+pub struct Header {
+    pub magic: u16,
+    pub text_size: u16,
+    pub data_size: u16,
+    pub bss_size: u16,
+    pub symbol_size: u16,
+    pub entry_point: u16,
+    pub unused: u16,
+    pub flag: u16,
+}
+
+/// `V7_REFERS_TO`: the relocation word of a word that refers to the symbol of this number, from 0 to 4,095, an undefined external.
+pub const fn v7_refers_to(number: u16) -> u16 {
+    8 + 16 * number
+}
+
 extern "C" {
-    pub fn v7_run(request: *const Request, result: *mut Result) -> u32;
-    pub fn v7_map(request: *const Request, map: *mut Map) -> u32;
+    pub fn v7_version() -> u32;
+    pub fn v7_check(bytes: *const u8, size: usize, answer: *mut Answer) -> u32;
+    pub fn v7_strip(bytes: *const u8, size: usize, room: *mut u8, room_size: usize, answer: *mut Answer) -> u32;
+    pub fn v7_nm(options: u32, bytes: *const u8, size: usize, room: *mut u8, room_size: usize, answer: *mut Answer) -> u32;
+    pub fn v7_size(bytes: *const u8, size: usize, room: *mut u8, room_size: usize, answer: *mut Answer) -> u32;
+    pub fn v7_disassemble(bytes: *const u8, size: usize, room: *mut u8, room_size: usize, answer: *mut Answer) -> u32;
+    pub fn v7_disassemble_words(
+        address: u16,
+        words: *const u16,
+        word_count: usize,
+        room: *mut u8,
+        room_size: usize,
+        answer: *mut Answer,
+    ) -> u32;
     pub fn v7_list(bytes: *const u8, size: usize, room: *mut u8, room_size: usize, answer: *mut Answer) -> u32;
     pub fn v7_from_listing(text: *const u8, size: usize, room: *mut u8, room_size: usize, answer: *mut Answer) -> u32;
     pub fn v7_from_gnu(options: u32, bytes: *const u8, size: usize, room: *mut u8, room_size: usize, answer: *mut Answer) -> u32;
@@ -220,34 +296,58 @@ extern "C" {
         remark_room: usize,
         answer: *mut Answer,
     ) -> u32;
-    pub fn v7_version() -> u32;
+    pub fn v7_run(request: *const Request, result: *mut Result) -> u32;
+    pub fn v7_map(request: *const Request, map: *mut Map) -> u32;
+    pub fn v7_state(
+        form: u32,
+        request: *const Request,
+        replies: *mut u8,
+        replies_size: usize,
+        room: *mut u8,
+        room_size: usize,
+        answer: *mut Answer,
+    ) -> u32;
+    pub fn v7_session_new(session: *mut Session, forced: *const u8, forced_size: usize, answer: *mut Answer) -> u32;
+    pub fn v7_session_add(session: *mut Session, bytes: *const u8, size: usize, answer: *mut Answer) -> u32;
+    pub fn v7_session_withdraw(session: *mut Session, answer: *mut Answer) -> u32;
+    pub fn v7_session_link(session: *mut Session, request: *const Request, result: *mut Result) -> u32;
+    pub fn v7_session_state(session: *mut Session, form: u32, room: *mut u8, room_size: usize, answer: *mut Answer) -> u32;
+    pub fn v7_session_free(session: *mut Session) -> u32;
+    pub fn v7_make(
+        text: *const Word,
+        text_count: usize,
+        data: *const Word,
+        data_count: usize,
+        bss: u32,
+        symbols: *const Symbol,
+        symbol_count: usize,
+        room: *mut u8,
+        room_size: usize,
+        answer: *mut Answer,
+    ) -> u32;
+    pub fn v7_take_apart(
+        bytes: *const u8,
+        size: usize,
+        text: *mut Word,
+        text_room: usize,
+        data: *mut Word,
+        data_room: usize,
+        symbols: *mut Symbol,
+        symbol_room: usize,
+        counts: *mut Counts,
+        answer: *mut Answer,
+    ) -> u32;
+    pub fn v7_read(
+        bytes: *const u8,
+        size: usize,
+        header: *mut Header,
+        text: *mut Word,
+        text_room: usize,
+        data: *mut Word,
+        data_room: usize,
+        symbols: *mut Symbol,
+        symbol_room: usize,
+        counts: *mut Counts,
+        answer: *mut Answer,
+    ) -> u32;
 }
-
-pub const V7_RELOCATABLE: u32 = 1;
-pub const V7_STRIP: u32 = 2;
-pub const V7_EXTERNALS: u32 = 4;
-pub const V7_NOT_L: u32 = 8;
-pub const V7_PURE: u32 = 16;
-pub const V7_SPLIT: u32 = 32;
-pub const V7_FORCE_COMMONS: u32 = 64;
-
-pub const V7_DROP_DEBUGGER: u32 = 1;
-pub const V7_DROP_UNUSED: u32 = 2;
-pub const V7_DROP_LOCALS: u32 = 4;
-
-pub const V7_MULTIPLY_DEFINED: u32 = 1;
-pub const V7_RESERVED_NAME: u32 = 2;
-pub const V7_ENTRY_NOT_IN_TEXT: u32 = 3;
-pub const V7_UNDEFINED_NAME: u32 = 4;
-
-pub const V7_LINK: u32 = 0;
-pub const V7_SESSION: u32 = 1;
-
-pub const V7_REPORT: u32 = 1;
-pub const V7_FINDINGS: u32 = 2;
-pub const V7_PLACES: u32 = 4;
-
-pub const V7_ADD: u8 = b'a';
-pub const V7_WITHDRAW: u8 = b'w';
-
-pub const V7_NO_ROOM: u32 = 60;

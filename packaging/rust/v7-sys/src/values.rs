@@ -1,4 +1,4 @@
-//! Fields of records, and an edit, as types of Rust. Each has the bytes that it has in C.
+//! Fields of records as types of Rust. Each has the bytes that it has in C.
 use std::fmt;
 
 /// A name, filled up with NULs.
@@ -56,14 +56,4 @@ impl Default for Number {
     fn default() -> Self {
         Number(usize::MAX)
     }
-}
-
-/// An edit of a session.
-#[repr(u8)]
-#[derive(Clone, Copy, Debug, PartialEq, Eq)]
-pub enum Edit {
-    /// Adds the next object.
-    Add = crate::V7_ADD,
-    /// Withdraws the object that was added last.
-    Withdraw = crate::V7_WITHDRAW,
 }

@@ -11,7 +11,8 @@ returns g c =
     let said : c.in_ok-said.said ≡ listed true c.args.path.now c.in_ok-bytes.bytes.items =
     subst (λ bytes. c.in_ok-said.said ≡ listed true c.args.path.now bytes) same c.in_ok-said.ensures in
     inr (
-      c.in_ok-check_path.ensures,
+      g.O.Office.history c.check_output.new.office,
+      c.in_ok-check_output.ensures,
       inr (
         c.in_ok-bytes.bytes.items,
         between,
@@ -20,5 +21,13 @@ returns g c =
       ),
     )
 
-pub returns-in_err-check_path : goal.returns-in_err-check_path
-returns-in_err-check_path g c = inl (c.in_err-check_path.field-0.0, c.in_err-check_path.ensures, refl, search rules)
+pub returns-in_err-said : goal.returns-in_err-said
+returns-in_err-said g c =
+    inr (
+      g.O.Office.history c.check_output.new.office,
+      c.in_ok-check_output.ensures,
+      inr (c.in_ok-bytes.bytes.items, g.O.Office.history c.read_whole.new.office, c.in_ok-bytes.ensures.ok, inl (refl, search rules)),
+    )
+
+pub returns-in_err-check_output : goal.returns-in_err-check_output
+returns-in_err-check_output g c = inl (c.in_err-check_output.field-0.0, c.in_err-check_output.ensures, search rules)

@@ -1,6 +1,7 @@
 use Rattle.std.proofs.Common.{rules, ◌≡◌, refl, subst, inl, inr}
 use Rattle.std.specs.Prelude.{Ok}
 use Rattle.listings.specs.Reading.{read}
+use Rattle.surroundings.specs.Answers.{Faults}
 use Rattle.v7_object.specs.Runs.{file_of}
 use Rattle.v7_object.proofs.making.make_file.Goals as goal
 
@@ -8,7 +9,8 @@ pub returns : goal.returns
 returns g c =
     let same : c.deref.result.now ≡ c.in_ok-text.text.items = search rules in
     inr (
-      c.in_ok-check_path.ensures,
+      g.O.Office.history c.check_output.new.office,
+      c.in_ok-check_output.ensures,
       inr (
         c.in_ok-text.text.items,
         g.O.Office.history c.read_whole.new.office,
@@ -21,5 +23,24 @@ returns g c =
       ),
     )
 
-pub returns-in_err-check_path : goal.returns-in_err-check_path
-returns-in_err-check_path g c = inl (c.in_err-check_path.field-0.0, c.in_err-check_path.ensures, refl, search rules)
+pub returns-in_err-check_output : goal.returns-in_err-check_output
+returns-in_err-check_output g c = inl (c.in_err-check_output.field-0.0, c.in_err-check_output.ensures, search rules)
+
+pub returns-in_err-file : goal.returns-in_err-file
+returns-in_err-file g c =
+    let same : c.deref.result.now ≡ c.in_ok-text.text.items = search rules in
+    inr (
+      g.O.Office.history c.check_output.new.office,
+      c.in_ok-check_output.ensures,
+      inr (
+        c.in_ok-text.text.items,
+        g.O.Office.history c.read_whole.new.office,
+        c.in_ok-text.ensures.ok,
+        inl (
+          c.in_err-file.field-0.0,
+          subst (λ text. Faults (file_of c.args.listing.now (read text)) c.in_err-file.field-0.0) same c.in_err-file.ensures.err,
+          refl,
+          search rules,
+        ),
+      ),
+    )

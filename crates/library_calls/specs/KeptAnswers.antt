@@ -1,0 +1,56 @@
+-- What the calls of a session that is kept do to it, and what they give. (own choice)
+--
+-- A call that is refused leaves the session as it was. The objects have no labels.
+use Rattle.std.specs.Prelude.{◌≡◌, ◌⊎◌, ℕ, false, List, [], ◌∷◌, Option, Some, None, Result, Ok, Err, IsOk, IsOkAnd}
+use Rattle.aout_core.specs.Contents.{Contents}
+use Rattle.link_session.specs.{Edits.last_of, Labelled.Labelled, Labelled.objects, Limits.refusal, Undo.Kept}
+use Rattle.link_session.specs.Sessions.{Adds, Withdraws, nothing_kept}
+use Rattle.link_out.specs.{function.Link.link, Steps.and_then, Steps.unless}
+use Rattle.library_calls.specs.declared.cause.Cause.TheVariants.{NotAdded, NothingKept}
+use Rattle.library_calls.specs.{declared.cause.Cause.Cause, declared.cause.Refusal.Refusal, FileAnswers.object_in}
+use Rattle.library_calls.specs.{LinkRequests.choices_in, LinkRequests.forced_in, MemoryWanted.HasBody}
+use Rattle.library_calls.specs.{RunAnswers.RunOutput, RunAnswers.objects_run, StateAnswers.encoded_in, StateAnswers.form_in}
+
+-- a session of no objects with these forced names
+abbrev pub begun_in : List ℕ → Result Kept Refusal
+begun_in forced = and_then (forced_in forced) (λ names. Ok (nothing_kept names))
+
+-- the object that the bytes begin with, if a session takes it
+abbrev pub taken_in : List ℕ → Kept → Result Contents Cause
+taken_in bytes k = and_then (object_in bytes) (λ o. unless NotAdded (refusal k.forced (objects k.entries) o) o)
+
+-- it was appended
+pub record AddsBytes (bytes : List ℕ) (old new : Kept) : Type 0 where
+  pub object : Contents
+  pub taken : taken_in bytes old ≡ Ok object
+  pub adds : Adds old new (record { label = []; object = object })
+
+-- memory may run out for it: to read it, or to add it
+abbrev pub MayRunOutToAdd : List ℕ → Kept → Type 0
+MayRunOutToAdd bytes k = HasBody bytes ⊎ IsOk (taken_in bytes k)
+
+abbrev pub found_last : Option Labelled → Result Labelled Cause
+found_last None = Err NothingKept
+found_last (Some last) = Ok last
+
+-- the object that was added last
+abbrev pub last_in : Kept → Result Labelled Cause
+last_in k = found_last (last_of k.entries)
+
+-- it was taken away
+pub record TakesLast (old new : Kept) : Type 0 where
+  pub last : Labelled
+  pub found : last_in old ≡ Ok last
+  pub takes : Withdraws old new last
+
+-- the link of what is kept, without replies and without the objects of what is reported
+abbrev pub kept_run : ℕ → List ℕ → Kept → Result RunOutput Cause
+kept_run bits entry k = and_then (choices_in bits entry) (λ o. objects_run false k.forced o [] (objects k.entries))
+
+-- memory may run out for it, if there is one
+abbrev pub MayRunOutToLink : ℕ → List ℕ → Kept → Type 0
+MayRunOutToLink bits entry k = IsOkAnd (choices_in bits entry) (λ o. IsOk (link k.forced (objects k.entries) o))
+
+-- what the session shows, in this form
+abbrev pub shown_in : ℕ → Kept → Result (List ℕ) Cause
+shown_in form k = and_then (form_in form) (λ f. Ok (encoded_in f k))

@@ -1,0 +1,53 @@
+-- What calls on a session that is kept leave, by what the library returned.
+use Rattle.std.proofs.Common.{◌≡◌, ◌≢◌, ℕ, Bool, true, false, if◌then◌else◌, List, Option, Some, None, Result, Ok, Err, refl, ap, ◌∙◌}
+use Rattle.std.specs.Prelude.{IfOk, IfErr, IsOk, OnOk, OnErr, Vec}
+use Rattle.std.specs.declared.alloc.Global.{Global}
+use Rattle.aout_core.specs.Refusals.{refused}
+use Rattle.link_session.specs.Undo.{Kept}
+use Rattle.library_calls.specs.declared.cause.Cause.TheVariants.{Memory, NoOption}
+use Rattle.library_calls.specs.{declared.cause.Refusal.Refusal, declared.run_call.RunResult.RunResult}
+use Rattle.library_calls.specs.KeptAnswers.{MayRunOutToLink, kept_run, shown_in}
+use Rattle.library_calls.specs.RunAnswers.{RunOutput, results_of}
+use Rattle.v7_c.specs.KeptLeft.{IsGiven, Keeps, LeavesChange, LeavesShown, LinkMayRunOut, is_link, kept_in, of_session}
+use Rattle.v7_c.specs.{Left.Left, Left.bytes_or, Left.done_by, Left.left_at, Left.of_none, Left.refusal_in}
+use Rattle.v7_c.specs.{RunLeft.results_or, declared.run.Request.Request}
+
+pub change_left : {A B : Type 0} (asked : Result A Refusal) (MayRunOut : Type 0) (Changes : Option Kept → Option Kept → Type 0)
+    (old new : Option Kept) (l : Left) (r : Result B Refusal) → l ≡ done_by (refusal_in r) → OnOk r (Changes old new) →
+    IfErr r (λ refusal. refusal.cause ≢ Memory refused → asked ≡ Err refusal) →
+    IfErr r (λ refusal. refusal.cause ≡ Memory refused → (refusal.place ≡ 0) × MayRunOut) → OnErr r (new ≡ old) →
+    LeavesChange asked MayRunOut Changes old new l
+change_left asked MayRunOut Changes old new l (Ok x) is ok err memory unchanged = record { refusal = None; made = ok; is = is }
+change_left asked MayRunOut Changes old new l (Err refusal) is ok err memory unchanged =
+    record { refusal = Some refusal; made = (unchanged, record { same = err; memory = memory }); is = is }
+
+pub state_shown : (form : ℕ) (kept : Option Kept) (room : List ℕ) (l : Left) (r : Result (Vec ℕ Global) Refusal) → l ≡ left_at (bytes_or r) room →
+    IfOk r (λ state. of_session (shown_in form) kept ≡ Ok state.items) →
+    IfErr r (λ refusal. refusal.cause ≢ Memory refused → of_session (shown_in form) kept ≡ Err refusal) →
+    IfErr r (λ refusal. refusal.cause ≡ Memory refused → (refusal.place ≡ 0) × Keeps (λ k. IsOk (shown_in form k)) kept) →
+    LeavesShown form kept room l
+state_shown form kept room l (Ok state) is ok err memory = record { answer = Ok state.items; given = ok; is = is }
+state_shown form kept room l (Err refusal) is ok err memory =
+    record { answer = Err refusal; given = record { same = err; memory = memory }; is = is }
+
+module _ (kept : Option Kept) (q : Request) (size : ℕ) where
+  abbrev pub run : Result RunOutput Refusal
+  run = of_session (kept_run q.options q.entry.now) kept
+
+  by_request : (b : Bool) → is_link q size ≡ b → kept_in kept q size ≡ (if b then run else Err (of_none NoOption))
+  by_request b known = ap (λ (x : Bool). if x then run else Err (of_none NoOption)) known
+
+  pub link_given : (r : Result RunResult Refusal) → is_link q size ≡ true → IfOk r (λ given. run ≡ Ok (results_of given)) →
+      IfErr r (λ refusal. refusal.cause ≢ Memory refused → run ≡ Err refusal) →
+      IfErr r (λ refusal. refusal.cause ≡ Memory refused → (refusal.place ≡ 0) × Keeps (MayRunOutToLink q.options q.entry.now) kept) →
+      IsGiven (kept_in kept q size) (LinkMayRunOut kept q size) (results_or r)
+  link_given (Ok given) known ok err memory = by_request true known ∙ ok
+  link_given (Err refusal) known ok err memory = record {
+    same = λ other. by_request true known ∙ err other;
+    memory = λ out. ((memory out).0, (known, (memory out).1));
+  }
+
+  pub link_refused : is_link q size ≡ false → IsGiven (kept_in kept q size) (LinkMayRunOut kept q size) (Err (of_none NoOption))
+  link_refused unknown = record { same = λ other. by_request false unknown; memory = λ out. absurd (cc) }
+
+pub ruleset by_link = (link_given, link_refused)

@@ -1,0 +1,101 @@
+-- What a handle keeps for C between calls, and what a call on it leaves. (own choice)
+use Rattle.std.specs.Prelude.{◌≡◌, ◌≢◌, ℕ, Bool, true, ◌&&◌, not, eqb, if◌then◌else◌, List, [], Option, Some, None, Result, Ok, Err, IsOk}
+use Rattle.aout_core.specs.Refusals.{refused}
+use Rattle.link_session.specs.Undo.{Kept}
+use Rattle.library_calls.specs.declared.cause.Cause.TheVariants.{Memory, NoOption, NoSession}
+use Rattle.library_calls.specs.{declared.cause.Cause.Cause, declared.cause.Refusal.Refusal, Causes.at, FileAnswers.has_bit}
+use Rattle.library_calls.specs.KeptAnswers.{AddsBytes, MayRunOutToAdd, MayRunOutToLink, TakesLast, begun_in, kept_run, last_in, shown_in, taken_in}
+use Rattle.library_calls.specs.RunAnswers.{RunOutput}
+use Rattle.v7_c.specs.{Left.Left, Left.done_by, Left.left_at, Left.of_none, RunLeft.answer_left, RunLeft.is_answered, RunLeft.is_known}
+use Rattle.v7_c.specs.{RunLeft.left_in, declared.handle.Handle.Handle, declared.run.Request.Request, declared.run.RunAnswer.RunAnswer}
+
+-- what a handle keeps, if a session is begun
+abbrev pub kept_by : Handle → Option Kept
+kept_by h = if eqb h.is_open 0 then None else h.state.value
+
+-- what there is for a session that is begun, or that none is
+abbrev pub of_session : {A : Type 0} → (Kept → Result A Cause) → Option Kept → Result A Refusal
+of_session f None = Err (of_none NoSession)
+of_session f (Some k) = at 0 (f k)
+
+-- a session is begun, and it is so
+abbrev pub Keeps : (Kept → Type 0) → Option Kept → Type 0
+Keeps P None = ⊥
+Keeps P (Some k) = P k
+
+-- a session is begun before and after, and they are so
+abbrev pub Both : (Kept → Kept → Type 0) → Option Kept → Option Kept → Type 0
+Both P None after = ⊥
+Both P (Some old) None = ⊥
+Both P (Some old) (Some new) = P old new
+
+-- ---- changes
+
+-- a refusal is that of what is asked for, or memory ran out, at place 0, for what it may run out for
+pub record RefusedBy {A : Type 0} (asked : Result A Refusal) (MayRunOut : Type 0) (r : Refusal) : Type 0 where
+  pub same : r.cause ≢ Memory refused → asked ≡ Err r
+  pub memory : r.cause ≡ Memory refused → (r.place ≡ 0) × MayRunOut
+
+-- a change was made, or it was refused and what is kept is as it was
+abbrev pub IsChange : {A : Type 0} → Result A Refusal → Type 0 → (Option Kept → Option Kept → Type 0) → Option Kept → Option Kept →
+    Option Refusal → Type 0
+IsChange asked MayRunOut Changes old new None = Changes old new
+IsChange asked MayRunOut Changes old new (Some r) = (new ≡ old) × RefusedBy asked MayRunOut r
+
+pub record LeavesChange {A : Type 0} (asked : Result A Refusal) (MayRunOut : Type 0) (Changes : Option Kept → Option Kept → Type 0)
+    (old new : Option Kept) (l : Left) : Type 0 where
+  pub refusal : Option Refusal
+  pub made : IsChange asked MayRunOut Changes old new refusal
+  pub is : l ≡ done_by refusal
+
+-- a session begins only if none is begun
+abbrev pub beginning : List ℕ → Option Kept → Result Kept Refusal
+beginning forced None = begun_in forced
+beginning forced (Some k) = Err (of_none NoSession)
+
+pub record Begins (forced : List ℕ) (old new : Option Kept) : Type 0 where
+  pub session : Kept
+  pub none : old ≡ None
+  pub begun : begun_in forced ≡ Ok session
+  pub is : new ≡ Some session
+
+abbrev pub LeavesBegun : List ℕ → Option Kept → Option Kept → Left → Type 0
+LeavesBegun forced old new l = LeavesChange (beginning forced old) (IsOk (beginning forced old)) (Begins forced) old new l
+
+abbrev pub LeavesAdded : List ℕ → Option Kept → Option Kept → Left → Type 0
+LeavesAdded bytes old new l =
+    LeavesChange (of_session (taken_in bytes) old) (Keeps (MayRunOutToAdd bytes) old) (Both (AddsBytes bytes)) old new l
+
+-- for a withdrawal memory does not run out
+abbrev pub LeavesWithdrawn : Option Kept → Option Kept → Left → Type 0
+LeavesWithdrawn old new l = LeavesChange (of_session last_in old) ⊥ (Both TakesLast) old new l
+
+-- ---- what is given
+
+-- an answer is what is asked for, or a refusal
+abbrev pub IsGiven : {A : Type 0} → Result A Refusal → Type 0 → Result A Refusal → Type 0
+IsGiven asked MayRunOut (Ok x) = asked ≡ Ok x
+IsGiven asked MayRunOut (Err r) = RefusedBy asked MayRunOut r
+
+pub record LeavesShown (form : ℕ) (kept : Option Kept) (room : List ℕ) (l : Left) : Type 0 where
+  pub answer : Result (List ℕ) Refusal
+  pub given : IsGiven (of_session (shown_in form) kept) (Keeps (λ k. IsOk (shown_in form k)) kept) answer
+  pub is : l ≡ left_at answer room
+
+-- sizes and wants are known, the mode is that of a link, and the objects of what is reported are not wanted
+abbrev pub is_link : Request → ℕ → Bool
+is_link q size = is_known q size && (eqb q.mode 0 && not (has_bit q.wants 4))
+
+-- the link of what is kept, for a caller with a result of this size
+abbrev pub kept_in : Option Kept → Request → ℕ → Result RunOutput Refusal
+kept_in kept q size =
+    if is_link q size then of_session (kept_run q.options q.entry.now) kept else Err (of_none NoOption)
+
+abbrev pub LinkMayRunOut : Option Kept → Request → ℕ → Type 0
+LinkMayRunOut kept q size = (is_link q size ≡ true) × Keeps (MayRunOutToLink q.options q.entry.now) kept
+
+-- a status, and a result before and after the call
+pub record LeavesLink (kept : Option Kept) (q : Request) (old new : RunAnswer) (status : ℕ) : Type 0 where
+  pub answer : Result RunOutput Refusal
+  pub given : IsGiven (kept_in kept q old.size) (LinkMayRunOut kept q old.size) answer
+  pub is : left_in status new ≡ (if is_answered old.size then answer_left q.wants answer (left_in 0 old) else left_in 2 old)

@@ -1,0 +1,168 @@
+//! Calls on a session that a handle keeps.
+ghost use Rattle.std.specs.Prelude.{◌≡◌, ◌≢◌, None, Ok, Err, IsOk, IfOk, IfErr, OnOk, OnErr};
+ghost use Rattle.aout_core.specs.Refusals.{refused};
+ghost use Rattle.library_calls.specs.KeptAnswers.{AddsBytes, MayRunOutToAdd, MayRunOutToLink, TakesLast, kept_run, last_in, shown_in, taken_in};
+ghost use Rattle.library_calls.specs.RunAnswers.{results_of};
+ghost use Rattle.library_calls.specs.declared.cause.Cause.TheVariants.{Memory};
+ghost use Rattle.v7_c.specs.KeptLeft.{Begins, Both, IsGiven, Keeps, LeavesLink, LinkMayRunOut, beginning, is_link, kept_in, of_session, kept_by};
+ghost use Rattle.v7_c.specs.RunLeft.{results_or};
+
+use crate::handle::Handle;
+use crate::run::{ANSWERED, Request, RunAnswer, is_known, is_wanted, leave};
+use library_calls::{
+    Cause, Refusal, RunResult, add_bytes, begin_session, link_session, state_of, withdraw_last,
+};
+use std::alloc::{AllocError, Global};
+
+/// Begins a session with these forced names, if none is begun.
+pub(crate) fn begin(alloc: Global, handle: &mut Handle, forced: &[u8]) -> Result<(), Refusal>
+    ensures ok { OnOk result (Begins forced.now (kept_by handle.old) (kept_by handle.new)) }
+    ensures err { IfErr result (λ r.
+        r.cause ≢ Memory refused → beginning forced.now (kept_by handle.old) ≡ Err r) }
+    ensures memory { IfErr result (λ r. r.cause ≡ Memory refused
+        → (r.place ≡ 0) × IsOk (beginning forced.now (kept_by handle.old))) }
+    ensures unchanged { OnErr result (kept_by handle.new ≡ kept_by handle.old) }
+{
+    if handle.is_open != 0 {
+        return Err(Refusal::from(Cause::NoSession));
+    }
+    let session = begin_session(alloc, forced)?;
+    match Box::new(alloc, session) {
+        Ok(session) => {
+            handle.put(session);
+            Ok(())
+        }
+        Err(error) => Err(Refusal::from(AllocError::from(error))),
+    }
+}
+
+/// Adds the object that the bytes begin with.
+pub(crate) fn add(alloc: Global, handle: &mut Handle, bytes: &[u8]) -> Result<(), Refusal>
+    ensures ok { OnOk result (Both (AddsBytes bytes.now) (kept_by handle.old) (kept_by handle.new)) }
+    ensures err { IfErr result (λ r.
+        r.cause ≢ Memory refused → of_session (taken_in bytes.now) (kept_by handle.old) ≡ Err r) }
+    ensures memory { IfErr result (λ r. r.cause ≡ Memory refused
+        → (r.place ≡ 0) × Keeps (MayRunOutToAdd bytes.now) (kept_by handle.old)) }
+    ensures unchanged { OnErr result (kept_by handle.new ≡ kept_by handle.old) }
+{
+    match handle.take(alloc) {
+        None => Err(Refusal::from(Cause::NoSession)),
+        Some(kept) => {
+            let mut session = kept;
+            let added = add_bytes(alloc, &mut session, bytes);
+            handle.put(session);
+            Ok(added?)
+        }
+    }
+}
+
+/// Takes the object away that was added last.
+pub(crate) fn withdraw(alloc: Global, handle: &mut Handle) -> Result<(), Refusal>
+    ensures ok { OnOk result (Both TakesLast (kept_by handle.old) (kept_by handle.new)) }
+    ensures err { IfErr result (λ r. of_session last_in (kept_by handle.old) ≡ Err r) }
+    ensures memory { IfErr result (λ r. r.cause ≡ Memory refused → (r.place ≡ 0) × ⊥) }
+    ensures unchanged { OnErr result (kept_by handle.new ≡ kept_by handle.old) }
+{
+    match handle.take(alloc) {
+        None => Err(Refusal::from(Cause::NoSession)),
+        Some(kept) => {
+            let mut session = kept;
+            let withdrawn = withdraw_last(&mut session);
+            handle.put(session);
+            Ok(withdrawn?)
+        }
+    }
+}
+
+/// What the session shows, in the form of this number.
+pub(crate) fn state(alloc: Global, handle: &mut Handle, form: u32) -> Result<Vec<u8>, Refusal>
+    ensures ok { IfOk result (λ state.
+        of_session (shown_in form) (kept_by handle.old) ≡ Ok state.items) }
+    ensures err { IfErr result (λ r.
+        r.cause ≢ Memory refused → of_session (shown_in form) (kept_by handle.old) ≡ Err r) }
+    ensures memory { IfErr result (λ r. r.cause ≡ Memory refused
+        → (r.place ≡ 0) × Keeps (λ k. IsOk (shown_in form k)) (kept_by handle.old)) }
+    ensures unchanged { kept_by handle.new ≡ kept_by handle.old }
+{
+    match handle.take(alloc) {
+        None => Err(Refusal::from(Cause::NoSession)),
+        Some(session) => {
+            let state = state_of(alloc, &session, form);
+            handle.put(session);
+            Ok(state?)
+        }
+    }
+}
+
+/// The link of what the session keeps.
+fn run_kept(alloc: Global, handle: &mut Handle, request: &Request<'_>) -> Result<RunResult, Refusal>
+    ensures ok { IfOk result (λ given.
+        of_session (kept_run request.now.options request.now.entry.now) (kept_by handle.old)
+        ≡ Ok (results_of given)) }
+    ensures err { IfErr result (λ r. r.cause ≢ Memory refused
+        → of_session (kept_run request.now.options request.now.entry.now) (kept_by handle.old) ≡ Err r) }
+    ensures memory { IfErr result (λ r. r.cause ≡ Memory refused → (r.place ≡ 0)
+        × Keeps (MayRunOutToLink request.now.options request.now.entry.now) (kept_by handle.old)) }
+    ensures unchanged { kept_by handle.new ≡ kept_by handle.old }
+{
+    match handle.take(alloc) {
+        None => Err(Refusal::from(Cause::NoSession)),
+        Some(session) => {
+            let given = link_session(alloc, &session, request.options, request.entry);
+            handle.put(session);
+            Ok(given?)
+        }
+    }
+}
+
+/// Whether a link of what is kept is asked for, with a result of this size.
+fn is_link(request: &Request<'_>, size: usize) -> bool
+    ensures { result ≡ is_link request.now size }
+{
+    is_known(request, size) && request.mode == 0 && !is_wanted(request.wants, 4)
+}
+
+/// The link that is asked for, by a caller with a result of this size.
+#[tactic(auto, using(crate::proofs::KeptLemmas::by_link))]
+fn link_for(
+    alloc: Global,
+    handle: &mut Handle,
+    request: &Request<'_>,
+    size: usize,
+) -> Result<RunResult, Refusal>
+    ensures given { IsGiven (kept_in (kept_by handle.old) request.now size)
+        (LinkMayRunOut (kept_by handle.old) request.now size) (results_or result) }
+    ensures unchanged { kept_by handle.new ≡ kept_by handle.old }
+{
+    if !is_link(request, size) {
+        return Err(Refusal::from(Cause::NoOption));
+    }
+    run_kept(alloc, handle, request)
+}
+
+/// Links what the session keeps. A result without what every answer fills is not touched.
+pub(crate) fn link(
+    alloc: Global,
+    handle: &mut Handle,
+    request: &Request<'_>,
+    answer: &mut RunAnswer<'_>,
+) -> u32
+    ensures left { LeavesLink (kept_by handle.old) request.now answer.old answer.new result }
+    ensures unchanged { kept_by handle.new ≡ kept_by handle.old }
+{
+    if answer.size < ANSWERED {
+        return 2;
+    }
+    let given = link_for(alloc, handle, request, answer.size);
+    leave(answer, request, given)
+}
+
+/// Ends the session, if one is begun.
+pub(crate) fn end(alloc: Global, handle: &mut Handle)
+    ensures { kept_by handle.new ≡ None }
+{
+    match handle.take(alloc) {
+        None => {}
+        Some(session) => drop(session),
+    }
+}

@@ -1,0 +1,13 @@
+use Rattle.std.proofs.Common.{rules, ◌≡◌, ◌∷◌, [], ◌++◌}
+use Rattle.v7_from_gnu.proofs.LookLemmas.{looking_more}
+use Rattle.v7_from_gnu.proofs.checks.look.Goals as goal
+
+pub loop-job-preserved : goal.loop-job-preserved
+loop-job-preserved g c =
+    let from : c.as_str-from.result.now ≡ c.job-item.result.from = search rules in
+    let to : c.as_str-to.result.now ≡ c.job-item.result.to = search rules in
+    let pushed : c.push.new.self.items ≡ c.loop-job.found.items ++ c.nodes_at-nodes.result ∷ [] = search rules in
+    looking_more (g.O.Office.history c.args.office.now) (g.O.Office.history c.loop-job.office)
+    (g.O.Office.history c.nodes_at-nodes.new.office) c.loop-job.found.items c.push.new.self.items c.args.jobs.now c.loop-job.job-index
+    c.job-item.result c.as_str-from.result.now c.as_str-to.result.now c.nodes_at-nodes.result
+    c.loop-job.invariant c.loop-job-test.true c.job-item.is c.nodes_at-nodes.ensures from to pushed

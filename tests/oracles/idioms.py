@@ -1,0 +1,42 @@
+"""Makes objects of the idioms of real assembler text in tests/oracles/data: each says in its first lines what is right about it. `v7 ld`
+takes each, and has nothing to report.
+
+tier: check, 5 seconds; programs: v7 v7-object; for: tests/oracles/data examples/asm.py
+"""
+import glob
+import os
+
+import asm
+from tests.lib.compare import notices, same
+from tests.lib.files import TOP, read, room, write
+from tests.lib.programs import program, ran
+
+IDIOMS = sorted(glob.glob(os.path.join(TOP, "tests/oracles/data/*")))
+
+
+def made(path):
+    """The name of the object of an idiom, which is made here: of a source by examples/asm.py, of a listing by v7-object."""
+    name, kind = os.path.splitext(os.path.basename(path))
+    if kind == ".lst":
+        same(f"v7-object {name}", ran(program("v7-object"), path, f"{name}.o").texts(), (0, "", ""))
+    else:
+        write(f"{name}.o", asm.assembled(read(path)))
+    return f"{name}.o"
+
+
+def check(path):
+    same(f"ld of {path}", ran(program("v7"), "ld", "-r", "-o", "linked", path).texts(), (0, "", ""))
+
+
+def main():
+    assert len(IDIOMS) >= 29, IDIOMS
+    for path in IDIOMS:
+        check(made(path))
+    write("damaged.o", b"\1")
+    notices(check, "damaged.o")
+    print(f"{len(IDIOMS)} idioms are objects that ld takes, and of which it reports nothing")
+
+
+if __name__ == "__main__":
+    with room():
+        main()
