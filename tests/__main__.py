@@ -83,7 +83,7 @@ def passes(*words, env=None):
     if done.status:
         raise Failed(done.said())
     lines = done.said().rstrip().split("\n")
-    return "\n".join([*(it for it in lines[:-1] if re.match(r"skipped\b|(.*: )?not (run|assembled|measured|formatted)\b", it)), lines[-1]])
+    return "\n".join([*(it for it in lines[:-1] if re.match(r"skipped: |(.*: )?not (run|assembled|measured|formatted)\b", it)), lines[-1]])
 
 
 def missing(tests):
