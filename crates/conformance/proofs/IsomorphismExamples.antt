@@ -63,7 +63,7 @@ exchanges = record { there = there; back = back }
 stays : AreRenumbered main_first main_first (λ i. i) (λ i. i)
 stays = record { there = λ i k e. (e, refl); back = λ i k e. (e, refl) }
 
-all_good : AllByRecursion IsObject main_first
+pub all_good : AllByRecursion IsObject main_first
 all_good = (main_good, (twice_good, (as_object count_o refl refl refl refl refl refl refl refl, tt)))
 
 -- the premises can be met, by two orders, by two layouts, and by both

@@ -14,6 +14,7 @@ mod ListingExamples
 mod MachineExamples
 mod NearMachine
 mod OrderExamples
+mod MapExamples
 mod IsomorphismExamples
 mod FrameExamples
 mod StepRuns

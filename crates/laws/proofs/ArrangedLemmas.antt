@@ -21,7 +21,7 @@ module _ {A : Type 0} (before : A → A → Bool) where
           (IsPermutation-sym (y ∷ (x ∷ ys)) (x ∷ (y ∷ ys)) (IsPermutation-middle (y ∷ []) x ys))
           (IsPermutation-cons y (x ∷ ys) (inserted before x ys) rest)
 
-  in_order_moves : (xs : List A) → IsPermutation xs (in_order before xs)
+  pub in_order_moves : (xs : List A) → IsPermutation xs (in_order before xs)
   in_order_moves [] = IsPermutation-refl []
   in_order_moves (x ∷ xs) =
       IsPermutation-trans (x ∷ xs) (x ∷ in_order before xs) (inserted before x (in_order before xs))

@@ -40,3 +40,5 @@ pub mod LineLawLemmas
 pub mod LinkLineLemmas
 pub mod UndoLemmas
 pub mod SameDiskLemmas
+pub mod MapWordLemmas
+pub mod MapPlaceLemmas

@@ -13,3 +13,4 @@ pub mod ReachedInstructions
 pub mod Disks
 pub mod StepsByCommands
 pub mod SessionsByCommands
+pub mod Maps

@@ -7,6 +7,7 @@ ghost use Rattle.laws.specs.OperandPlaces.{OperandsAreThere, JumpsArrive, Pointe
 ghost use Rattle.laws.specs.ReachedInstructions.{ReachedInstructionsAreKept, SurePlacesBegin};
 ghost use Rattle.laws.specs.Listings.{UndefinedAreListed, UndefinedLines, RowLines, ExternalsAreListed, SizesAreSums};
 ghost use Rattle.laws.specs.Isomorphism.{PlacesAreApart, PlacesAreLoaded, BytesHavePlaces, OrdersAreRenumbered, LinksAreIsomorphic, LinksKeepReferents};
+ghost use Rattle.laws.specs.Maps.{AddressesAreOfTheFile, NoWordIsMissing, WordsReferToTheirName};
 ghost use Rattle.laws.specs.Orders.{OrderAddsAlike, OrderLinksAlike, OrderRefusesAlike, OrderKeepsSizes, OrderReportsAlike, OrderFindsEntry, OrderKeepsMeanings, OrderKeepsReferents, OnceInAnyOrder};
 
 /// Which byte is at which address when a linked file is loaded: `core` of specs/Core, for the space of instructions and that of
@@ -182,4 +183,17 @@ pub fn isomorphism_law()
     ensures numbers { OrdersAreRenumbered }
     ensures same { LinksAreIsomorphic }
     ensures referents { LinksKeepReferents }
+{}
+
+/// The map of a link is a map of the linked file. The objects are such as a session accepts. (ld(1); maps: own choice)
+///
+/// - `addresses`: if there is a link, the map has each byte of text, data and bss of each object at the address of its place in the
+///   file, where `words` and `bss` of `core_law` have it.
+/// - `words`: each word of the map is a word of the object that the map names, and its relocation word has the number of the symbol
+///   under which it is. That symbol is external.
+/// - `missing`: each word of an object whose relocation word has the number of an external symbol is in the map, under this symbol.
+pub fn map_law()
+    ensures addresses { AddressesAreOfTheFile }
+    ensures words { WordsReferToTheirName }
+    ensures missing { NoWordIsMissing }
 {}

@@ -1,0 +1,28 @@
+use Rattle.std.proofs.Common.{length, refl}
+use Rattle.aout_core.specs.WellFormed.{symbol_number}
+use Rattle.disassemblies.specs.Starts.{starts}
+use Rattle.instructions.specs.declared.unix.Decoder.TheVariants.{Unix}
+use Rattle.link_maps.specs.Uses.{use_of}
+use Rattle.laws.proofs.MapPlaceLemmas.{is_shown, small_objects}
+use Rattle.laws.proofs.MapWordLemmas.{word_listed, word_of_name, words_of_names}
+use Rattle.laws.proofs.links.map_law.Goals as goal
+
+pub returns-clause-addresses : goal.returns-clause-addresses
+returns-clause-addresses c = is_shown
+
+pub returns-clause-words : goal.returns-clause-words
+returns-clause-words c = λ forced os good passed. words_of_names forced os (small_objects forced os good passed)
+
+pub returns-clause-missing : goal.returns-clause-missing
+returns-clause-missing c = λ forced os good passed before k after split part offset s outer refers.
+    let small = small_objects forced os good passed in
+    let listed = word_listed k (small before k after split) (starts Unix k) part offset s refers in record {
+      used = use_of (length before) (starts Unix k) k (symbol_number refers.reloc) s;
+      is_there = word_of_name forced os small before k after split part offset s outer refers;
+      object = refl;
+      symbol = refl;
+      word = listed.0;
+      under = listed.1;
+      in_part = listed.2;
+      place = listed.3;
+    }
