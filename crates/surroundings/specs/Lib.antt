@@ -3,5 +3,7 @@ pub mod Emits
 pub mod Answer
 pub mod Answers
 pub mod Sources
+pub mod Programs
 pub mod Paths
+pub mod Arguments
 pub mod internal

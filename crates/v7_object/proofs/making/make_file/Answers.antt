@@ -1,25 +1,31 @@
 use Rattle.std.proofs.Common.{rules, ◌≡◌, refl, subst, inl, inr}
 use Rattle.std.specs.Prelude.{Ok}
 use Rattle.listings.specs.Reading.{read}
+use Rattle.surroundings.specs.Answers.{Faults}
 use Rattle.v7_object.specs.Runs.{file_of}
 use Rattle.v7_object.proofs.making.make_file.Goals as goal
 
 pub returns : goal.returns
 returns g c =
     let same : c.deref.result.now ≡ c.in_ok-text.text.items = search rules in
+    let between = g.O.Office.history c.read_whole.new.office in
+    let found = subst (λ text. file_of c.args.listing.now (read text) ≡ Ok c.in_ok-file.file) same c.in_ok-file.ensures.ok in
     inr (
-      c.in_ok-check_path.ensures,
-      inr (
-        c.in_ok-text.text.items,
-        g.O.Office.history c.read_whole.new.office,
-        c.in_ok-text.ensures.ok,
-        inr (
-          c.in_ok-file.file,
-          subst (λ text. file_of c.args.listing.now (read text) ≡ Ok c.in_ok-file.file) same c.in_ok-file.ensures.ok,
-          c.store.ensures,
-        ),
-      ),
+      tt,
+      g.O.Office.history c.args.office.now,
+      (refl, c.in_ok-check_path.ensures),
+      inr (c.in_ok-text.text.items, between, c.in_ok-text.ensures.ok, inr (c.in_ok-file.file, between, (refl, found), c.store.ensures)),
     )
 
-pub returns-in_err-check_path : goal.returns-in_err-check_path
-returns-in_err-check_path g c = inl (c.in_err-check_path.field-0.0, c.in_err-check_path.ensures, refl, search rules)
+pub returns-in_err-file : goal.returns-in_err-file
+returns-in_err-file g c =
+    let same : c.deref.result.now ≡ c.in_ok-text.text.items = search rules in
+    let between = g.O.Office.history c.read_whole.new.office in
+    let fault = c.in_err-file.field-0.0 in
+    let found = subst (λ text. Faults (file_of c.args.listing.now (read text)) fault) same c.in_err-file.ensures.err in
+    inr (
+      tt,
+      g.O.Office.history c.args.office.now,
+      (refl, c.in_ok-check_path.ensures),
+      inr (c.in_ok-text.text.items, between, c.in_ok-text.ensures.ok, inl (fault, (refl, found), search rules)),
+    )
