@@ -4,4 +4,6 @@ pub mod Answer
 pub mod Answers
 pub mod Sources
 pub mod Nodes
+pub mod Programs
+pub mod Arguments
 pub mod internal

@@ -12,13 +12,14 @@
 //! Functions:
 //!
 //! - `words`: the arguments of a program
+//! - `letters_of`, `letter_in`, `paths_in`: the letters of an option, the option that arguments begin with, and arguments that are paths
 //! - `hold_streams`: keeps files from the descriptors of closed standard streams
 //! - `end`: the status of a program that ended, or could not begin
 //! - `read_whole`: all bytes of a file
 //! - `store_on`, `store_text_on`: stores a file, or a text, on a device
 //! - `stored_text`: what is said of a file that was not stored
 //! - `nodes_at`, `is_input`, `check_output`: the files to which paths lead; whether an output is one of the inputs, and refuses it
-//! - `shown_by`, `shown_in`, `show`: what an argument, or the first one, asks a program to show of itself; shows it
+//! - `shown_in`, `show`: what the first argument asks a program to show of itself; shows it
 //! - `error_answer`, `fault_at`, `usage_answer`, `shown_answer`: answers
 //! - `put_line_front`, `put_fault_line`: the lines in which a program says something of a path
 //! - `put_object_fault`: why a file is not an object, in such a line
@@ -38,13 +39,13 @@ mod sources;
 mod standard_error;
 
 pub use answer::{Answer, Fault, error_answer, fault_at, give, usage_answer};
-pub use arguments::words;
+pub use arguments::{letter_in, letters_of, paths_in, words};
 pub use disk::{Disk, store_on, store_text_on};
 pub use held::{end, hold_streams};
 pub use lines::{put_fault_line, put_line_front, put_object_fault};
 pub use nodes::{Node, Nodes, check_output, is_input, nodes_at};
 pub use office::{Office, Stored, stored_text};
 pub use outputs::Outputs;
-pub use shown::{Shown, VERSION, show, shown_answer, shown_by, shown_in};
+pub use shown::{Shown, VERSION, show, shown_answer, shown_in};
 pub use sources::read_whole;
 pub use standard_error::StandardError;

@@ -22,8 +22,8 @@ pub enum Shown {
     Version,
 }
 
-/// What an argument asks a program to show of itself: `--help` or `--version`. (own choice)
-pub fn shown_by(word: &str) -> Option<Shown>
+/// What an argument asks a program to show of itself: `--help` or `--version`.
+fn shown_by(word: &str) -> Option<Shown>
     ensures { result ≡ shown_by word.now }
 {
     match word {

@@ -1,5 +1,4 @@
 mod PutsLemmas
 pub mod SortLemmas
 mod OrderLemmas
-mod DigitLemmas
 mod TextLemmas

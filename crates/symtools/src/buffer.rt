@@ -1,8 +1,7 @@
 //! A line while it is being made.
-ghost use Rattle.std.specs.Prelude.{◌≡◌, ◌+◌, ◌^◌, ◌<◌, ◌≤◌, false, drop};
-ghost use Rattle.std.specs.Fmt.{digits};
-
+use itoa::Buffer;
 use std::marker::Model;
+use texts::OctalBuffer;
 
 /// How many bytes a line may have.
 pub(crate) const LINE_CAPACITY: usize = 64;
@@ -28,8 +27,8 @@ impl Model for LineBuffer {
 }
 
 impl LineBuffer {
-    ghost use Rattle.std.specs.Prelude.{◌≡◌, ◌+◌, ◌^◌, ◌<◌, ◌≤◌, ◌++◌, [], false, length};
-    ghost use Rattle.std.specs.Fmt.{digits};
+    ghost use Rattle.std.specs.Prelude.{◌≡◌, ◌+◌, ◌≤◌, ◌++◌, [], decimal, length};
+    ghost use Rattle.texts.specs.Numbers.{octal};
     ghost use Rattle.symtools.specs.declared.buffer.TheConstants.{LINE_CAPACITY};
 
     /// A line of no bytes.
@@ -53,17 +52,31 @@ impl LineBuffer {
         self.len = end;
     }
 
-    /// Appends the digits of a number, at most six, in a base up to 10.
-    pub(crate) fn push_number(&mut self, number: u32, base: u32)
-        requires base { (2 ≤ base) × (base ≤ 10) }
-        requires short { number < base ^ 6 }
-        requires capacity { length self.old + 6 ≤ LINE_CAPACITY }
-        ensures value { self.new ≡ self.old ++ digits base false number }
-        ensures len { length self.new ≤ length self.old + 6 }
+    /// Appends a number in decimal.
+    pub(crate) fn push_decimal(&mut self, number: u16)
+        requires { length self.old + 5 ≤ LINE_CAPACITY }
+        ensures value { self.new ≡ self.old ++ decimal number }
+        ensures len { length self.new ≤ length self.old + 5 }
     {
-        let mut places = [0; 6];
-        let start = write_digits(number, base, &mut places);
-        self.push(&places[start..]);
+        self.push(Buffer::new().format(number).as_bytes());
+    }
+
+    /// Appends a sum of such numbers, in decimal.
+    pub(crate) fn push_sum(&mut self, sum: u32)
+        requires { length self.old + 10 ≤ LINE_CAPACITY }
+        ensures value { self.new ≡ self.old ++ decimal sum }
+        ensures len { length self.new ≤ length self.old + 10 }
+    {
+        self.push(Buffer::new().format(sum).as_bytes());
+    }
+
+    /// Appends a sum in octal.
+    pub(crate) fn push_octal(&mut self, sum: u32)
+        requires { length self.old + 22 ≤ LINE_CAPACITY }
+        ensures value { self.new ≡ self.old ++ octal sum }
+        ensures len { length self.new ≤ length self.old + 22 }
+    {
+        self.push(OctalBuffer::new().format(u64::from(sum)));
     }
 
     /// The bytes of the line. (own choice)
@@ -72,30 +85,4 @@ impl LineBuffer {
     {
         &self.bytes[..self.len]
     }
-}
-
-/// Writes a number at the end of six places, and returns the place of its first digit.
-fn write_digits(number: u32, base: u32, places: &mut [u8; 6]) -> usize
-    requires base { (2 ≤ base) × (base ≤ 10) }
-    requires short { number < base ^ 6 }
-    ensures written { drop result places.new ≡ digits base false number }
-    ensures within { result ≤ 6 }
-{
-    let mut start = places.len() - 1;
-    let mut rest = number;
-    places[start] = digit(rest % base);
-    while rest >= base {
-        rest /= base;
-        start -= 1;
-        places[start] = digit(rest % base);
-    }
-    start
-}
-
-/// The character of a digit.
-fn digit(number: u32) -> u8
-    requires { number < 10 }
-    ensures { result ≡ 48 + number }
-{
-    b'0' + number as u8
 }

@@ -52,15 +52,15 @@ pub fn size_line(header: &Header) -> LineBuffer
     let [text, data, bss] = sizes;
     let sum = text + data + bss;
     let mut line = LineBuffer::new();
-    line.push_number(text, 10);
+    line.push_decimal(header.text_size);
     line.push(b"+");
-    line.push_number(data, 10);
+    line.push_decimal(header.data_size);
     line.push(b"+");
-    line.push_number(bss, 10);
+    line.push_decimal(header.bss_size);
     line.push(b" = ");
-    line.push_number(sum, 10);
+    line.push_sum(sum);
     line.push(b"b = 0");
-    line.push_number(sum, 8);
+    line.push_octal(sum);
     line.push(b"b\n");
     line
 }

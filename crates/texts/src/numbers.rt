@@ -1,5 +1,5 @@
 //! Numbers in octal.
-ghost use Rattle.std.specs.Prelude.{◌≡◌, ◌+◌, ◌^◌, ◌<◌, ◌≤◌, drop};
+ghost use Rattle.std.specs.Prelude.{◌≡◌, ◌+◌, ◌^◌, ◌<◌, ◌≤◌, drop, length};
 ghost use Rattle.texts.specs.Numbers.{digit, six_digits, three_digits, octal};
 
 /// How many octal digits a number of 64 bits has at most.
@@ -73,7 +73,8 @@ impl OctalBuffer {
 
     /// A number in octal, with no zeros in front.
     pub fn format(&mut self, number: u64) -> &[u8]
-        ensures { result.now ≡ octal number }
+        ensures value { result.now ≡ octal number }
+        ensures short { length result.now ≤ 22 }
     {
         let start = write_octal(number, &mut self.places);
         &self.places[start..]

@@ -1,19 +1,17 @@
--- What the arguments ask for, by what they are read as.
-use Rattle.std.proofs.Common.{◌≡◌, ℕ, List, Some, None, refl, sym, ap, subst, inl, inr}
-use Rattle.std.specs.Prelude.{Result, Ok}
-use Rattle.surroundings.specs.{Answer.Answer, Answers.says_usage, Events.History, declared.answer.Fault.Fault}
-use Rattle.v7_from_gnu.specs.{Calls.call_of, Lines.usage, Runs.IsAnswer, Runs.IsCall, Runs.IsDone, declared.arguments.Call.Call}
+-- Memory that runs out for the arguments.
+use Rattle.std.proofs.Common.{Option, Some, None, refl, inl, inr}
+use Rattle.std.specs.Prelude.{Err}
+use Rattle.aout_core.specs.Refusals.{refused}
+use Rattle.surroundings.specs.{Answer.Answer, Answers.Checks, Events.History, Programs.Calls, declared.answer.Fault.Fault}
+use Rattle.v7_from_gnu.specs.{Checks.path_answer, Jobs.Conversion, Lines.usage, Runs.IsConversion}
+use Rattle.surroundings.specs.declared.answer.Fault.TheVariants as faults
 
--- nothing is asked for
-pub no_call : (words : List (List ℕ)) (h : History) (answer : Answer) → call_of words ≡ None →
-    answer ≡ says_usage usage → IsAnswer words h h (Ok answer)
-no_call words h answer is e =
-    inr (subst (λ call. IsCall call h h (Ok answer)) (sym is)
-    (refl, inl (ap (λ (a : Answer). let ok : Result Answer Fault = Ok a in ok) e)))
+unchecked : (found : Option Answer) → Checks found (Err (faults.Memory refused))
+unchecked None = refl
+unchecked (Some answer) = inr refl
 
--- a call is asked for, and done
-pub one_call : (words : List (List ℕ)) (call : Call) (old new : History) (result : Result Answer Fault) →
-    call_of words ≡ Some call → IsDone call old new result → IsAnswer words old new result
-one_call words call old new result is h = inr (subst (λ asked. IsCall asked old new result) (sym is) h)
+pub memory_out : (asked : Option Conversion) (h : History) → Calls usage IsConversion asked h h (Err (faults.Memory refused))
+memory_out None h = (refl, inr refl)
+memory_out (Some c) h = inl (faults.Memory refused, (refl, unchecked (path_answer c.jobs)), refl)
 
-pub ruleset by_call = (no_call, one_call)
+pub ruleset by_memory = (memory_out)

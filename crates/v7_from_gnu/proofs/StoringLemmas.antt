@@ -9,37 +9,37 @@ use Rattle.v7_from_gnu.specs.{Runs.IsStoring, Runs.not_stored, Runs.unless_said,
 -- one is stored
 pub stores_one : (remarks : List ℕ) (old between new : History) (t : Target) (ts : List Target) (what : Stored)
     (result : Result Answer Fault) → Extends old between (stored t.source.to t.object what ∷ []) →
-    stored_text what ≡ None → IsStoring remarks between new ts result → IsStoring remarks old new (t ∷ ts) result
+    stored_text what ≡ None → IsStoring remarks ts between new result → IsStoring remarks (t ∷ ts) old new result
 stores_one remarks old between new t ts what result asked is h = (
   what,
   between,
   asked,
-  subst (λ said. unless_said said (IsStoring remarks between new ts result)
+  subst (λ said. unless_said said (IsStoring remarks ts between new result)
       (λ why. (new ≡ between) × AnswersOr result (not_stored remarks t.source.to why))) (sym is) h,
 )
 
 -- one is not stored
 pub stores_none : (remarks : List ℕ) (old new : History) (t : Target) (ts : List Target) (what : Stored) (why : List ℕ)
     (result : Result Answer Fault) → Extends old new (stored t.source.to t.object what ∷ []) →
-    stored_text what ≡ Some why → AnswersOr result (not_stored remarks t.source.to why) → IsStoring remarks old new (t ∷ ts) result
+    stored_text what ≡ Some why → AnswersOr result (not_stored remarks t.source.to why) → IsStoring remarks (t ∷ ts) old new result
 stores_none remarks old new t ts what why result asked is h = (
   what,
   new,
   asked,
-  subst (λ said. unless_said said (IsStoring remarks new new ts result)
+  subst (λ said. unless_said said (IsStoring remarks ts new new result)
       (λ text. (new ≡ new) × AnswersOr result (not_stored remarks t.source.to text))) (sym is) (refl, h),
 )
 
 -- what comes of the objects that are left comes of all, and one of them is not stored
 pub stops_storing : (remarks : List ℕ) (old mid new : History) (all : List Target) (i : ℕ) (t : Target) (path : List ℕ)
     (file : Contents) (what : Stored) (why : List ℕ) (result : Result Answer Fault) →
-    ((next : History) (end : Result Answer Fault) → IsStoring remarks mid next (drop i all) end →
-    IsStoring remarks old next all end) → i < length all → t ≡ get_or all i t →
+    ((next : History) (end : Result Answer Fault) → IsStoring remarks (drop i all) mid next end →
+    IsStoring remarks all old next end) → i < length all → t ≡ get_or all i t →
     Extends mid new (stored path file what ∷ []) → path ≡ t.source.to → file ≡ t.object → stored_text what ≡ Some why →
-    AnswersOr result (not_stored remarks t.source.to why) → IsStoring remarks old new all result
+    AnswersOr result (not_stored remarks t.source.to why) → IsStoring remarks all old new result
 stops_storing remarks old mid new all i t path file what why result inv within at asked p f is h =
     let left = drop-cons all i t within ∙ ap (λ (x : Target). x ∷ drop (suc i) all) (sym at) in
     let stores = subst (λ (one : List ℕ). Extends mid new (stored one t.object what ∷ [])) p
     (subst (λ (one : Contents). Extends mid new (stored path one what ∷ [])) f asked) in
-    inv new result (subst (λ (ts : List Target). IsStoring remarks mid new ts result) (sym left)
+    inv new result (subst (λ (ts : List Target). IsStoring remarks ts mid new result) (sym left)
     (stores_none remarks mid new t (drop (suc i) all) what why result stores is h))

@@ -1,16 +1,14 @@
 -- What the arguments of v7-from-gnu ask for. (own choice)
 --
--- The first argument may ask for help or the version. Else arguments that begin with a hyphen have letters of options, up to the first
--- path; the argument after the letter `o` is a folder. Without a folder there are two paths.
-use Rattle.std.specs.Prelude.{ℕ, ◌==◌, ◌&&◌, true, false, not, nat_eq, nat_lt, if◌then◌else◌, List, [], ◌∷◌, ◌++◌, map, drop, length}
+-- Arguments that begin with a hyphen have letters of options, up to the first path; the argument after the letter `o` is a folder.
+-- Without a folder there are two paths.
+use Rattle.std.specs.Prelude.{ℕ, ◌==◌, ◌&&◌, true, false, not, if◌then◌else◌, List, [], ◌∷◌, ◌++◌, map}
 use Rattle.std.specs.Prelude.{Option, Some, None, option_map, codes}
-use Rattle.std.specs.List.{starts_with}
 use Rattle.aout_core.specs.Words.{letter_of}
-use Rattle.surroundings.specs.{declared.shown.Shown.Shown, Answers.shown_in}
+use Rattle.surroundings.specs.Arguments.{letters_of}
 use Rattle.gnu_objects.specs.declared.options.Locals.{Locals}
 use Rattle.gnu_objects.specs.declared.options.Locals.TheVariants.{KeepAll, KeepNeeded, KeepNone}
-use Rattle.v7_from_gnu.specs.{Jobs.Job, declared.arguments.Call.Call, declared.arguments.Call.TheVariants.Show}
-use Rattle.v7_from_gnu.specs.{declared.arguments.Call.TheVariants.Convert, declared.arguments.Letters.Letters}
+use Rattle.v7_from_gnu.specs.{Jobs.Conversion, Jobs.Job, declared.arguments.Letters.Letters}
 
 -- ---- letters
 
@@ -46,9 +44,10 @@ abbrev pub letters_read : Letters → List ℕ → Option Letters
 letters_read l [] = Some l
 letters_read l (letter ∷ letters) = and_then (letter_read l letter) (λ m. letters_read m letters)
 
--- an argument that begins with a hyphen; a hyphen alone is refused
+-- the letters of an argument; a hyphen alone is refused
 abbrev pub options_read : Letters → List ℕ → Option Letters
-options_read l word = if nat_lt (length word) 2 then None else letters_read l (drop 1 word)
+options_read l [] = None
+options_read l (letter ∷ letters) = letters_read l (letter ∷ letters)
 
 -- ---- paths
 
@@ -71,24 +70,23 @@ jobs_of (Some folder) paths = Some (map (into_folder folder) paths)
 jobs_of None (from ∷ to ∷ []) = Some (record { from = from; to = to } ∷ [])
 jobs_of None _ = None
 
-abbrev pub conversion_of : Letters → Option (List ℕ) → List (List ℕ) → Option Call
+abbrev pub conversion_of : Letters → Option (List ℕ) → List (List ℕ) → Option Conversion
 conversion_of l folder paths =
-    option_map (λ jobs. Convert (record { options = l.options; is_quiet = l.is_quiet; jobs = jobs })) (jobs_of folder paths)
+    option_map (λ jobs. record { options = l.options; is_quiet = l.is_quiet; jobs = jobs }) (jobs_of folder paths)
 
 -- ---- all arguments
 
+abbrev pub with_letters : Option (List ℕ) → (List ℕ → Option Conversion) → Option Conversion → Option Conversion
+with_letters None next conversion = conversion
+with_letters (Some letters) next conversion = next letters
+
 -- the letters and the folder that were read so far, and the arguments that are left: there has to be a path
-abbrev pub call_from : Letters → Option (List ℕ) → List (List ℕ) → Option Call
+abbrev pub call_from : Letters → Option (List ℕ) → List (List ℕ) → Option Conversion
 call_from l folder [] = None
 call_from l folder (word ∷ words) =
     if l.wants_folder then call_from (record l { wants_folder = false }) (Some word) words
-    else (if starts_with nat_eq word (codes "-") then and_then (options_read l word) (λ m. call_from m folder words)
-    else conversion_of l folder (word ∷ words))
+    else with_letters (letters_of word) (λ letters. and_then (options_read l letters) (λ m. call_from m folder words))
+    (conversion_of l folder (word ∷ words))
 
--- help or the version, or a conversion
-abbrev pub shown_or : Option Shown → Option Call → Option Call
-shown_or (Some shown) later = Some (Show shown)
-shown_or None later = later
-
-abbrev pub call_of : List (List ℕ) → Option Call
-call_of words = shown_or (shown_in words) (call_from unread None words)
+abbrev pub call_of : List (List ℕ) → Option Conversion
+call_of words = call_from unread None words

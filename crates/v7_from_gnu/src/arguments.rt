@@ -1,12 +1,12 @@
 //! What the arguments ask for.
 ghost use Rattle.std.specs.Prelude.{◌≡◌, ◌++◌, codes, ◌∷◌, [], None, map, string_bytes, IfOk};
 ghost use Rattle.std.specs.Option.{option_map};
-ghost use Rattle.v7_from_gnu.specs.Calls.{after_slash, call_from, call_of, conversion_of, into_folder, jobs_of, letter_read, letters_read, options_read, unread};
+ghost use Rattle.v7_from_gnu.specs.Calls.{after_slash, call_of, conversion_of, into_folder, jobs_of, letter_read, letters_read, options_read, unread};
 
 use gnu_objects::{Locals, Options};
 use std::alloc::{AllocError, Global};
 use std::marker::Model;
-use surroundings::{Shown, shown_in};
+use surroundings::letters_of;
 
 /// A file that is to be converted, and the path where its object is to go.
 #[derive(Drop)]
@@ -39,13 +39,6 @@ impl Model for Conversion {
     ghost Value = { spec.Conversion };
 
     ghost view = { λ c. record { options = c.options; is_quiet = c.is_quiet; jobs = c.jobs.items } };
-}
-
-/// What the arguments ask for.
-#[derive(Drop)]
-pub(crate) enum Call {
-    Show(Shown),
-    Convert(Conversion),
 }
 
 /// What the letters ask for that were read so far.
@@ -107,14 +100,14 @@ fn with_letters(before: Letters, bytes: &[u8]) -> Option<Letters>
     Some(letters)
 }
 
-/// With an argument that begins with a hyphen; a hyphen alone is refused.
-fn with_options(before: Letters, word: &[u8]) -> Option<Letters>
-    ensures { result ≡ options_read before word.now }
+/// With the letters of an argument; a hyphen alone is refused.
+fn with_options(before: Letters, letters: &[u8]) -> Option<Letters>
+    ensures { result ≡ options_read before letters.now }
 {
-    if word.len() < 2 {
+    if letters.is_empty() {
         return None;
     }
-    with_letters(before, &word[1..])
+    with_letters(before, letters)
 }
 
 /// What follows the last slash of a path, or all of it.
@@ -194,23 +187,23 @@ fn conversion_of(
     letters: Letters,
     folder: Option<&str>,
     paths: &[String],
-) -> Result<Option<Call>, AllocError>
-    ensures { IfOk result (λ call. call ≡ conversion_of letters
+) -> Result<Option<Conversion>, AllocError>
+    ensures { IfOk result (λ found. found ≡ conversion_of letters
         (option_map (λ f. f.now) folder.entry) (map string_bytes paths.now)) }
 {
     match jobs_of(alloc, folder, paths)? {
-        Some(jobs) => Ok(Some(Call::Convert(Conversion {
+        Some(jobs) => Ok(Some(Conversion {
             options: letters.options,
             is_quiet: letters.is_quiet,
             jobs,
-        }))),
+        })),
         None => Ok(None),
     }
 }
 
-/// The conversion that arguments ask for.
-fn conversion_in(alloc: Global, words: &[String]) -> Result<Option<Call>, AllocError>
-    ensures { IfOk result (λ call. call ≡ call_from unread None (map string_bytes words.now)) }
+/// The conversion that arguments ask for, if they ask for one.
+pub(crate) fn call_of(alloc: Global, words: &[String]) -> Result<Option<Conversion>, AllocError>
+    ensures { IfOk result (λ call. call ≡ call_of (map string_bytes words.now)) }
 {
     let mut letters = unread();
     let mut folder = None;
@@ -218,8 +211,8 @@ fn conversion_in(alloc: Global, words: &[String]) -> Result<Option<Call>, AllocE
         if letters.wants_folder {
             letters.wants_folder = false;
             folder = Some(word.as_str());
-        } else if word.as_bytes().starts_with(b"-") {
-            match with_options(letters, word.as_bytes()) {
+        } else if let Some(option) = letters_of(word.as_str()) {
+            match with_options(letters, option) {
                 Some(more) => letters = more,
                 None => return Ok(None),
             }
@@ -228,14 +221,4 @@ fn conversion_in(alloc: Global, words: &[String]) -> Result<Option<Call>, AllocE
         }
     }
     Ok(None)
-}
-
-/// What the arguments ask for, if they ask for anything.
-pub(crate) fn call_of(alloc: Global, words: &[String]) -> Result<Option<Call>, AllocError>
-    ensures { IfOk result (λ call. call ≡ call_of (map string_bytes words.now)) }
-{
-    match shown_in(words) {
-        Some(shown) => Ok(Some(Call::Show(shown))),
-        None => conversion_in(alloc, words),
-    }
 }

@@ -1,12 +1,15 @@
 //! The program, over any files and any streams.
 ghost use Rattle.std.specs.Prelude.{map, string_bytes};
-ghost use Rattle.v7_from_gnu.specs.Runs.{IsAnswer, IsDone, PerformsFromGnu};
+ghost use Rattle.surroundings.specs.Programs.{AnswersWords, Calls};
+ghost use Rattle.v7_from_gnu.specs.Calls.{call_of};
+ghost use Rattle.v7_from_gnu.specs.Lines.{program, usage};
+ghost use Rattle.v7_from_gnu.specs.Runs.{IsConversion, PerformsFromGnu};
 
-use crate::arguments::{Call, call_of};
+use crate::arguments::call_of;
 use crate::converting::convert_files;
 use std::alloc::Global;
 use std::io::Write;
-use surroundings::{Answer, Fault, Office, Outputs, give, shown_answer, usage_answer};
+use surroundings::{Answer, Fault, Office, Outputs, give, shown_answer, shown_in, usage_answer};
 
 /// The name of the program.
 pub(crate) const NAME: &str = "v7-from-gnu";
@@ -15,25 +18,27 @@ pub(crate) const NAME: &str = "v7-from-gnu";
 pub(crate) const USAGE: &str =
     "usage: v7-from-gnu [-SXxq] IN OUT\n       v7-from-gnu [-SXxq] -o FOLDER FILE...\n       v7-from-gnu --help | --version\n";
 
-/// Does a call, and returns what is written at the end.
-fn answer_call<O: Office>(alloc: Global, office: &mut O, call: Call) -> Result<Answer, Fault>
-    ensures { IsDone call (O.history office.old) (O.history office.new) result }
-{
-    match call {
-        Call::Show(shown) => Ok(shown_answer(alloc, NAME, USAGE, shown)?),
-        Call::Convert(conversion) => convert_files(alloc, office, conversion),
-    }
-}
-
-/// Does what the arguments ask for, and returns what is written at the end.
-#[tactic(auto, using(crate::proofs::CallLemmas::by_call))]
-fn answer<O: Office>(alloc: Global, office: &mut O, words: &[String]) -> Result<Answer, Fault>
-    ensures { IsAnswer (map string_bytes words.now)
+/// Does the conversion that the arguments ask for.
+#[tactic(auto, using(surroundings::proofs::ShownLemmas::by_call, crate::proofs::CallLemmas::by_memory))]
+fn answer_call<O: Office>(alloc: Global, office: &mut O, words: &[String]) -> Result<Answer, Fault>
+    ensures { Calls usage IsConversion (call_of (map string_bytes words.now))
         (O.history office.old) (O.history office.new) result }
 {
     match call_of(alloc, words)? {
         None => Ok(usage_answer(alloc, USAGE)?),
-        Some(call) => answer_call(alloc, office, call),
+        Some(conversion) => convert_files(alloc, office, conversion),
+    }
+}
+
+/// Does what the arguments ask for, and returns what is written at the end.
+#[tactic(auto, using(surroundings::proofs::ShownLemmas::by_shown))]
+fn answer<O: Office>(alloc: Global, office: &mut O, words: &[String]) -> Result<Answer, Fault>
+    ensures { AnswersWords program usage IsConversion call_of (map string_bytes words.now)
+        (O.history office.old) (O.history office.new) result }
+{
+    match shown_in(words) {
+        Some(shown) => Ok(shown_answer(alloc, NAME, USAGE, shown)?),
+        None => answer_call(alloc, office, words),
     }
 }
 

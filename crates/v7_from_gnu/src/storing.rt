@@ -4,7 +4,7 @@ ghost use Rattle.surroundings.specs.Answers.{fault_line, only_errors};
 ghost use Rattle.texts.specs.Texts.{Puts, nothing_written};
 ghost use Rattle.v7_from_gnu.specs.Lines.{program};
 ghost use Rattle.surroundings.specs.Answers.{AnswersOr};
-ghost use Rattle.v7_from_gnu.specs.Runs.{IsStoring, Stores, not_stored};
+ghost use Rattle.v7_from_gnu.specs.Runs.{IsStoring, StoresAll, not_stored};
 
 use crate::converting::{Plan, Target};
 use crate::program::NAME;
@@ -50,8 +50,8 @@ fn store_each<O: Office>(
     done: Answer,
 ) -> Result<Answer, Fault>
     requires { done ≡ only_errors remarks.now 0 }
-    ensures { IsStoring remarks.now
-        (O.history office.old) (O.history office.new) targets.now result }
+    ensures { IsStoring remarks.now targets.now
+        (O.history office.old) (O.history office.new) result }
 {
     for target in targets {
         let path = target.source.to.as_str();
@@ -69,7 +69,7 @@ pub(crate) fn store_all<O: Office>(
     office: &mut O,
     plan: &Plan,
 ) -> Result<Answer, Fault>
-    ensures { Stores plan.now (O.history office.old) (O.history office.new) result }
+    ensures { StoresAll plan.now (O.history office.old) (O.history office.new) result }
 {
     let done = said(alloc, &plan.remarks)?;
     store_each(alloc, office, &plan.remarks, &plan.targets, done)

@@ -3,7 +3,7 @@ use crate::steps;
 use anyhow::{Result, anyhow};
 use aout_core::Refused;
 use std::env;
-use surroundings::{Shown, shown_by};
+use surroundings::{Shown, letter_in, paths_in, shown_in, words};
 
 const USAGE: &str =
     "usage: v7-lesson [-c] [-n STEP] FILE..., or v7-lesson -p FOLDER [-q QUESTIONS] FILE... >PAGE";
@@ -34,18 +34,13 @@ pub(crate) enum Call<'a> {
 
 /// The arguments after the program's name.
 pub(crate) fn arguments_given(rt: &HostRuntime) -> Result<Vec<String>> {
-    let given = match env::args(rt) {
-        Ok(given) => given,
+    match env::args(rt) {
+        Ok(given) => Ok(words(rt.alloc(), given)?),
         Err(error) => match Refused::reported_by(&error) {
-            Some(refused) => return Err(anyhow!("{refused}")),
-            None => return Err(anyhow!("{USAGE}")),
+            Some(refused) => Err(anyhow!("{refused}")),
+            None => Err(anyhow!("{USAGE}")),
         },
-    };
-    let mut arguments = Vec::new(rt.alloc());
-    for argument in given.skip(1) {
-        arguments.push(argument)?;
     }
-    Ok(arguments)
 }
 
 /// These files, if there is one.
@@ -53,17 +48,17 @@ fn at_least_one(files: &[String]) -> Option<&[String]> {
     if files.is_empty() { None } else { Some(files) }
 }
 
-/// Arguments without this option, if they begin with it, and whether they do.
-fn without<'a>(option: &str, arguments: &'a [String]) -> (bool, &'a [String]) {
-    match arguments.split_first() {
-        Some((first, rest)) if first.as_str() == option => (true, rest),
+/// Arguments without the option of this letter, if they begin with it, and whether they do.
+fn without(letter: u8, arguments: &[String]) -> (bool, &[String]) {
+    match letter_in(arguments) {
+        Some((first, rest)) if first == letter => (true, rest),
         _ => (false, arguments),
     }
 }
 
 /// Arguments without `-n` and the number of a step, from 1, if they begin with these.
 fn without_step(arguments: &[String]) -> Option<(Option<usize>, &[String])> {
-    let (true, rest) = without("-n", arguments) else {
+    let (true, rest) = without(b'n', arguments) else {
         return Some((None, arguments));
     };
     let (step, files) = rest.split_first()?;
@@ -75,12 +70,12 @@ fn without_step(arguments: &[String]) -> Option<(Option<usize>, &[String])> {
 
 /// The call with these arguments: `-c` and `-n` with a step, either first, and files.
 fn steps_call(arguments: &[String]) -> Option<Call<'_>> {
-    let (is_first, rest) = without("-c", arguments);
+    let (is_first, rest) = without(b'c', arguments);
     let (only, rest) = without_step(rest)?;
     let (is_last, files) = if is_first {
         (true, rest)
     } else {
-        without("-c", rest)
+        without(b'c', rest)
     };
     Some(Call::Steps {
         shown: steps::Shown {
@@ -94,8 +89,8 @@ fn steps_call(arguments: &[String]) -> Option<Call<'_>> {
 /// The call with the arguments after `-p`: a folder, the file of the lessons if `-q` is before it, and files.
 fn page_call(arguments: &[String]) -> Option<Call<'_>> {
     let (folder, rest) = arguments.split_first()?;
-    let (questions, files) = match rest {
-        [option, rest @ ..] if option.as_str() == "-q" => {
+    let (questions, files) = match letter_in(rest) {
+        Some((b'q', rest)) => {
             let (questions, files) = rest.split_first()?;
             (Some(questions.as_str()), files)
         }
@@ -110,15 +105,13 @@ fn page_call(arguments: &[String]) -> Option<Call<'_>> {
 
 /// What arguments ask for. An option comes first, and an argument after it that begins with a hyphen is a file.
 fn call_of(arguments: &[String]) -> Option<Call<'_>> {
-    let (first, rest) = arguments.split_first()?;
-    if let Some(shown) = shown_by(first.as_str()) {
+    if let Some(shown) = shown_in(arguments) {
         return Some(Call::Show(shown));
     }
-    match first.as_str() {
-        "-p" => page_call(rest),
-        "-c" | "-n" => steps_call(arguments),
-        word if word.starts_with('-') => None,
-        _ => steps_call(arguments),
+    match letter_in(arguments) {
+        Some((b'p', rest)) => page_call(rest),
+        Some((b'c' | b'n', _)) => steps_call(arguments),
+        _ => steps_call(paths_in(arguments)?),
     }
 }
 

@@ -61,7 +61,7 @@ pub(crate) fn make_file<O: Office>(
     listing: &str,
     to: &str,
 ) -> Result<Answer, Fault>
-    ensures { IsMaking listing.now to.now (O.history office.old) (O.history office.new) result }
+    ensures { IsMaking (record { listing = listing.now; to = to.now }) (O.history office.old) (O.history office.new) result }
 {
     check_output(alloc, office, NAME, listing, to)?;
     let text = read_whole(alloc, office, NAME, listing)?;

@@ -1,11 +1,15 @@
 //! The program, over any files and any streams.
-ghost use Rattle.std.specs.Prelude.{map, string_bytes};
-ghost use Rattle.v7_object.specs.Runs.{IsAnswer, IsCall, PerformsObject, paths_in, two_paths};
+ghost use Rattle.std.specs.Prelude.{◌≡◌, map, option_map, string_bytes};
+ghost use Rattle.surroundings.specs.Programs.{AnswersWords, Calls};
+ghost use Rattle.v7_object.specs.Lines.{program, usage};
+ghost use Rattle.v7_object.specs.Runs.{IsMaking, PerformsObject, making_in, call_in};
 
 use crate::making::make_file;
 use std::alloc::Global;
 use std::io::Write;
-use surroundings::{Answer, Fault, Office, Outputs, give, shown_answer, shown_in, usage_answer};
+use surroundings::{
+    Answer, Fault, Office, Outputs, give, paths_in, shown_answer, shown_in, usage_answer,
+};
 
 /// The name of the program.
 pub(crate) const NAME: &str = "v7-object";
@@ -14,42 +18,37 @@ pub(crate) const NAME: &str = "v7-object";
 pub(crate) const USAGE: &str =
     "usage: v7-object LISTING FILE\n       v7-object --help | --version\n";
 
-/// Makes the file of a listing, unless its path begins with a hyphen: there are no other options.
-fn answer_two<O: Office>(
-    alloc: Global,
-    office: &mut O,
-    listing: &str,
-    to: &str,
-) -> Result<Answer, Fault>
-    ensures { IsCall (two_paths listing.now to.now)
-        (O.history office.old) (O.history office.new) result }
+/// The paths of a listing and of its file, if these are the arguments.
+fn making_in(words: &[String]) -> Option<(&str, &str)>
+    ensures { option_map call_in result ≡ making_in (map string_bytes words.now) }
 {
-    if listing.as_bytes().starts_with(b"-") {
-        return Ok(usage_answer(alloc, USAGE)?);
+    match paths_in(words)? {
+        [listing, to] => Some((listing.as_str(), to.as_str())),
+        _ => None,
     }
-    make_file(alloc, office, listing, to)
 }
 
 /// Makes the file of a listing, if the arguments are two paths.
-fn answer_paths<O: Office>(alloc: Global, office: &mut O, words: &[String]) -> Result<Answer, Fault>
-    ensures { IsCall (paths_in (map string_bytes words.now))
+#[tactic(auto, using(surroundings::proofs::ShownLemmas::by_call))]
+fn answer_call<O: Office>(alloc: Global, office: &mut O, words: &[String]) -> Result<Answer, Fault>
+    ensures { Calls usage IsMaking (making_in (map string_bytes words.now))
         (O.history office.old) (O.history office.new) result }
 {
-    match words {
-        [listing, to] => answer_two(alloc, office, listing.as_str(), to.as_str()),
-        _ => Ok(usage_answer(alloc, USAGE)?),
+    match making_in(words) {
+        Some((listing, to)) => make_file(alloc, office, listing, to),
+        None => Ok(usage_answer(alloc, USAGE)?),
     }
 }
 
 /// Does what the arguments ask for, and returns what is written at the end.
 #[tactic(auto, using(surroundings::proofs::ShownLemmas::by_shown))]
 fn answer<O: Office>(alloc: Global, office: &mut O, words: &[String]) -> Result<Answer, Fault>
-    ensures { IsAnswer (map string_bytes words.now)
+    ensures { AnswersWords program usage IsMaking making_in (map string_bytes words.now)
         (O.history office.old) (O.history office.new) result }
 {
     match shown_in(words) {
         Some(shown) => Ok(shown_answer(alloc, NAME, USAGE, shown)?),
-        None => answer_paths(alloc, office, words),
+        None => answer_call(alloc, office, words),
     }
 }
 

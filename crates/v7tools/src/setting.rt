@@ -2,7 +2,7 @@
 use link_out::Options;
 use std::alloc::Global;
 
-/// Where memory comes from, and the options of links.
+/// The allocator, and the options of links.
 #[derive(Clone, Copy)]
 pub(crate) struct Setting<'a> {
     pub(crate) alloc: Global,

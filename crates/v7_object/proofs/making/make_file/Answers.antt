@@ -8,19 +8,13 @@ use Rattle.v7_object.proofs.making.make_file.Goals as goal
 pub returns : goal.returns
 returns g c =
     let same : c.deref.result.now ≡ c.in_ok-text.text.items = search rules in
+    let between = g.O.Office.history c.read_whole.new.office in
+    let found = subst (λ text. file_of c.args.listing.now (read text) ≡ Ok c.in_ok-file.file) same c.in_ok-file.ensures.ok in
     inr (
+      tt,
       g.O.Office.history c.check_output.new.office,
       c.in_ok-check_output.ensures,
-      inr (
-        c.in_ok-text.text.items,
-        g.O.Office.history c.read_whole.new.office,
-        c.in_ok-text.ensures.ok,
-        inr (
-          c.in_ok-file.file,
-          subst (λ text. file_of c.args.listing.now (read text) ≡ Ok c.in_ok-file.file) same c.in_ok-file.ensures.ok,
-          c.store.ensures,
-        ),
-      ),
+      inr (c.in_ok-text.text.items, between, c.in_ok-text.ensures.ok, inr (c.in_ok-file.file, between, (refl, found), c.store.ensures)),
     )
 
 pub returns-in_err-check_output : goal.returns-in_err-check_output
@@ -29,18 +23,12 @@ returns-in_err-check_output g c = inl (c.in_err-check_output.field-0.0, c.in_err
 pub returns-in_err-file : goal.returns-in_err-file
 returns-in_err-file g c =
     let same : c.deref.result.now ≡ c.in_ok-text.text.items = search rules in
+    let between = g.O.Office.history c.read_whole.new.office in
+    let fault = c.in_err-file.field-0.0 in
+    let found = subst (λ text. Faults (file_of c.args.listing.now (read text)) fault) same c.in_err-file.ensures.err in
     inr (
+      tt,
       g.O.Office.history c.check_output.new.office,
       c.in_ok-check_output.ensures,
-      inr (
-        c.in_ok-text.text.items,
-        g.O.Office.history c.read_whole.new.office,
-        c.in_ok-text.ensures.ok,
-        inl (
-          c.in_err-file.field-0.0,
-          subst (λ text. Faults (file_of c.args.listing.now (read text)) c.in_err-file.field-0.0) same c.in_err-file.ensures.err,
-          refl,
-          search rules,
-        ),
-      ),
+      inr (c.in_ok-text.text.items, between, c.in_ok-text.ensures.ok, inl (fault, (refl, found), search rules)),
     )
