@@ -556,8 +556,9 @@ struct v7_session {
  * first that applies: V7_NO_SESSION if one is begun already, 4, 5, V7_NO_MEMORY. */
 uint32_t v7_session_new(struct v7_session *session, const unsigned char *forced, size_t forced_size, struct v7_answer *answer);
 
-/* Adds the object that BYTES begin with after those that are there; the bytes are not kept. Faults, the first that applies:
- * V7_NO_SESSION, 11 to 14, 21 to 24, 31 to 34 if it would pass a limit, V7_NO_MEMORY for a whole file or for an object that is accepted. */
+/* Adds the object that BYTES begin with after those that are there; the bytes are not kept. Faults, the first that applies, with 0 as
+ * `place`: V7_NO_SESSION, 11 to 14, 21 to 24, 31 to 34 if it would pass a limit, V7_NO_MEMORY for a whole file or for an object that is
+ * accepted. */
 uint32_t v7_session_add(struct v7_session *session, const unsigned char *bytes, size_t size, struct v7_answer *answer);
 
 /* Withdraws the object that was added last. It needs no memory. Faults: V7_NO_SESSION, V7_NOTHING if there is none. */

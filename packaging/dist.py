@@ -139,7 +139,7 @@ def provenance(release, place):
     ours, kits = release.crates()
     built = sorted(f"bin/{name}" for name in PROGRAMS.values())
     sums = [f"{digest(f'{place}/{path}')}  {path}" for path in built]
-    sums += [f"{digest(f'{place}/library/usr/{path}')}  {path}" for path in ("include/v7.h", "lib/libv7.a")]
+    sums += [f"{digest(f'{place}/library/usr/{path}')}  {path}" for path in ("include/v7.h", "include/v7.hpp", "lib/libv7.a")]
     sums.append(f"{digest(shared(place))}  lib/{os.path.basename(shared(place))}")
     verdicts = [f"    {name}: {read(f'{KEPT}/{name}.verdict').strip()}" for name in ours]
     parts = [

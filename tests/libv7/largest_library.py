@@ -65,7 +65,7 @@ def taken_apart(kind):
     parts = parts_of(file)
     same("read", v7.read(data), (v7.Header(file.magic, *sizes, 0, 0, flag), parts))
     if kind in GOOD:
-        same("check", v7.same(data), len(data))
+        same("check", v7.check(data), len(data))
         same("take_apart", v7.take_apart(data), parts)
         same("make", v7.make(*parts), data)
 
@@ -133,14 +133,14 @@ def wanted(merged, letters):
 
 
 def edited(kind):
-    """All objects are added and withdrawn, until there is nothing to withdraw; and all are added."""
+    """All objects are added, and then withdrawn until there is nothing to withdraw."""
     objects = list(encoded(kind).values())
-    edits = b"a" * len(objects) + b"w" * (len(objects) + 1)
-    run = v7._Run(objects, 0, "", (), v7._REPORT, edits).finish()
-    same("what is left", (run.status, run.file, run.report), (1, wanted(largest.merged([]), "")[1], ""))
-    same("replies", run.replies, bytes(len(edits) - 1) + bytes([v7.Session.NOTHING]))
-    there = given(lambda: v7._Run(objects, 0, "", (), v7._REPORT, edits[:len(objects)]).finish().program())
-    same("what is there", there, wanted(largest.merged(objects), ""))
+    with v7.Session(objects) as session:
+        same("what is there", given(session.link), wanted(largest.merged(objects), ""))
+        for _ in range(len(objects) + 1):
+            session.withdraw()
+        same("what is left", tuple(session.link()), (1, wanted(largest.merged([]), "")[1], ""))
+        same("replies", session.replies, [v7.Session.DONE] * (2 * len(objects)) + [v7.Session.NOTHING])
 
 
 def known(kind):
@@ -173,7 +173,7 @@ TABLE = [
     ("v7_read, v7_check, v7_take_apart, v7_make", taken_apart, ALONE),
     ("v7_check, v7_take_apart, v7_run", bad, [kind for kind in KINDS if kind.startswith("bad")]),
     ("v7_run, v7_map", linked, GOOD),
-    ("v7_run of edits", edited, GOOD),
+    ("a session of edits", edited, GOOD),
     ("v7_state, v7_run", known, GOOD),
     ("v7_disassemble_words", words_shown, [largest.WORDS, 100000]),
 ]

@@ -244,6 +244,34 @@ PYTHONPATH=$top
 export LIBV7 PYTHONDONTWRITEBYTECODE PYTHONPATH
 links Python "env PYTHONPATH=$top/packaging/python python3 $top/examples/python/link.py"
 checks Python "a session" env "PYTHONPATH=$top/packaging/python" python3 "$top/examples/python/session.py"
+# the notebook has the instructions that use another object, and what is undefined without objects
+PYTHONPATH=$top/packaging/python python3 "$top/examples/python/notebook.py" main.o twice.o count.o >notebook.txt &&
+    grep -qF '| main.o | 000004 | `jsr pc,_twice` |' notebook.txt && grep -qF '| twice.o | `_twice` |' notebook.txt || fail "the notebook shows something else"
+# the relinker follows a folder: an object more, one that is cut short, and both undone
+mkdir watched
+cp main.o twice.o watched
+PYTHONPATH=$top/packaging/python python3 "$top/examples/python/relink.py" relinked watched >relinked.txt 2>&1 &
+relinker=$!
+# waits until it has linked what is there, or said this
+relinks() {
+    "$build/v7" ld -o theirs watched/*.o >/dev/null 2>&1
+    for tenth in $(seq 100); do
+        if [ $# -gt 0 ]; then grep -q "$1" relinked.txt && return; else cmp -s theirs relinked && return; fi
+        sleep 0.1
+    done
+    cat relinked.txt
+    fail "the relinker does not link what is there"
+}
+relinks
+cp count.o watched
+relinks
+head -c 20 main.o >watched/main.o
+relinks 'watched/main\.o: truncated, object 1'
+cp main.o watched
+rm watched/count.o
+relinks
+kill $relinker
+echo "Python: a notebook, and a folder relinked"
 python3 -m tests.libv7.library || fail "Python: a check fails"
 python3 -m tests.libv7.library_programs "${CHANGED:-40}" ||
     fail "a program and the library differ"
