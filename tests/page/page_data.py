@@ -374,6 +374,13 @@ def compare_objects(tools, files, data):
         same(f"{path}: source", one.get("source"), wanted if os.path.exists(listing) else None)
 
 
+def without_data(tools):
+    """A word that refers to data where there is none means no end of data in a link."""
+    given = [written(os.path.join(tools.room, "empty.o"), object_of([(2, 0o4)], []))]
+    data, _ = states_in(tools.page_of(given, "empty.html"))
+    compare_states(tools, given, data, "an object without data")
+
+
 def listing_of_another(tools, files):
     """A listing that has another word than its object has no source beside that word."""
     for ending, old, new in (("o", b"", b""), ("lst", b"016700", b"016701")):
@@ -508,6 +515,7 @@ def check_data(tools, questions, files):
     questions_of_all_kinds(tools, files, same)
     counts(tools, files)
     listing_of_another(tools, files)
+    without_data(tools)
     given, many = program_in_c(files), sixteen_objects()
     for one in (given, tables_and_bss(files)):
         same_objects(os.path.dirname(one[0]))
