@@ -27,6 +27,7 @@ from typing import NamedTuple
 from tests.lib.compare import notices
 from tests.lib.files import TOP, read
 from tests.lib.programs import Ran, ran
+from tests.lib.rattle import crates_in
 from tests.lib.tally import Failed, Tally
 from tools.compiling import CRATES, compile_program
 from tools.prove import SECONDS_EACH, crates_under
@@ -194,7 +195,7 @@ def concern(path, test):
 
 def tell_crate(name):
     """What to do in a crate, and the crates that are proved again after it."""
-    crates = {it.name: it for it in crates_under(*re.findall(r"^(\w+)[^:#\n]*:", read("crates.txt"), re.M))}
+    crates = {it.name: it for it in crates_under(*crates_in(TOP))}
     above = [it.name for it in crates.values() if crates[name] in it.below]
     count = sum(crates[it].functions() for it in [name, *above])
     print(f"in crates/{name}: rt try --test, and then rt check: {crates[name].functions()} functions")
@@ -205,7 +206,8 @@ def tell_crate(name):
 
 def which(*paths):
     """Prints the tests and the crates that a change of these files concerns."""
-    for name in sorted({path.split("/")[1] for path in paths if path.startswith("crates/") and path.count("/") > 1}):
+    names = {path.split("/")[1] for path in paths if path.startswith("crates/")} & crates_in(TOP).keys()
+    for name in sorted(names):
         tell_crate(name)
     print("in each case: make check-text, 1 minute; make test, 5 minutes, which proves nothing; before it is merged: make check")
     reasons = [(test, {concern(path, test) for path in paths} - {""}) for test in listed() if test.tier in ("check", "all")]
@@ -226,7 +228,7 @@ def named(tests, word):
 def main(words):
     os.chdir(TOP)
     tests = listed()
-    if words[:1] == ["which"] and words[1:]:
+    if words[:1] == ["which"]:
         return which(*(os.path.relpath(os.path.abspath(it), TOP) for it in words[1:]))
     if words[:1] == ["needs"] and words[1:] and words[1] in TIERS:
         before = TIERS[: TIERS.index(words[1]) + 1]

@@ -61,7 +61,7 @@ class Crate:
 
 def crates_under(*names):
     """The crates of these names and those below them, lowest first."""
-    lines, crates = crates_in(TOP), {}
+    lines, crates = crates_in("."), {}
 
     def add(name):
         head, uses = lines[name]
