@@ -1,5 +1,5 @@
 -- Inputs for which no call may answer that memory ran out, one for each definition that permits it.
-use Rattle.std.proofs.Common.{◌≡◌, ℕ, ◌<◌, List, [], ◌∷◌, Some, Err, refl, inl, inr, arith}
+use Rattle.std.proofs.Common.{◌≡◌, ℕ, zero, suc, ◌<◌, List, [], ◌∷◌, Some, Err, refl, inl, inr, arith}
 use Rattle.std.specs.Prelude.{◌⊎◌, IsOk}
 use Rattle.aout_core.specs.Encoding.{header_encoding}
 use Rattle.library_calls.specs.MemoryWanted.{HasBody, LinkMayRunOut, SessionMayRunOut, StateMayRunOut}
@@ -49,17 +49,17 @@ options_before_objects : (entry forced : List ℕ) (objects : List (List ℕ)) (
 options_before_objects entry forced objects place h = h
 
 three_bytes_linked : (place : ℕ) → LinkMayRunOut 0 [] [] (three_bytes ∷ []) place → ⊥
-three_bytes_linked place (inl (first, inl some)) = absurd (some refl)
-three_bytes_linked place (inl (first, inr ok)) = absurd (cc)
-three_bytes_linked place (inr (inl (first, inl body))) = no_body_in_three_bytes body
-three_bytes_linked place (inr (inl (first, inr ok))) = absurd (cc)
-three_bytes_linked place (inr (inr h)) = h
+three_bytes_linked place (inl (first, ok)) = absurd (cc)
+three_bytes_linked place (inr (inl (first, some))) = absurd (some refl)
+three_bytes_linked zero (inr (inr (inside, before, inl body))) = no_body_in_three_bytes body
+three_bytes_linked zero (inr (inr (inside, before, inr ok))) = absurd (cc)
+three_bytes_linked (suc n) (inr (inr (inside, before, rest))) = let e : suc n < 1 = inside in absurd (omega (arith, e))
 
 -- with one object, none of number 1 is reached
 no_object_at_one : LinkMayRunOut 0 [] [] (header_alone ∷ []) 1 → ⊥
-no_object_at_one (inl (first, rest)) = let e : 1 ≡ 0 = first in absurd (omega (arith, e))
-no_object_at_one (inr (inl (first, rest))) = let e : 1 ≡ 0 = first in absurd (omega (arith, e))
-no_object_at_one (inr (inr h)) = h
+no_object_at_one (inl (first, ok)) = let e : 1 ≡ 0 = first in absurd (omega (arith, e))
+no_object_at_one (inr (inl (first, some))) = let e : 1 ≡ 0 = first in absurd (omega (arith, e))
+no_object_at_one (inr (inr (inside, before, rest))) = let e : 1 < 1 = inside in absurd (omega (arith, e))
 
 -- options that exclude each other are refused before a long name
 excluded_first : choices_in 48 nine_letters ≡ Err Excluded

@@ -8,7 +8,6 @@ use Rattle.std.specs.{Prelude.◌⊎◌, List.Contains}
 use Rattle.aout_core.specs.{Contents.Contents, Contents.Fits, Words.plus, WellFormed.is_external, WellFormed.kind_of}
 use Rattle.aout_core.specs.{WellFormed.symbol_number, declared.part.Part.Part, declared.reloc.Kind.Kind, declared.reloc.Reloc.Reloc}
 use Rattle.aout_core.specs.{declared.symbol.Symbol.Symbol}
-use Rattle.aout_core.proofs.AlikeLemmas.{slice_get_after}
 use Rattle.instructions.specs.declared.unix.Decoder.TheVariants.{Unix}
 use Rattle.disassemblies.specs.Starts.{starts}
 use Rattle.link_maps.specs.References.{is_external_kind, reference_at, reference_by, references_in, references_of, references_to, refers_to}

@@ -1,13 +1,19 @@
 -- Objects read for a map, one after another, with what a session takes of them.
-use Rattle.std.proofs.Common.{◌≡◌, ℕ, ◌+◌, List, [], ◌∷◌, ◌++◌, Result, Ok, Err, refl, sym, ap, ◌∙◌, get_or, length}
-use Rattle.std.proofs.lemmas.List.{length-append, map-append}
+use Rattle.std.proofs.Common.{◌≡◌, ℕ, List, [], ◌∷◌, ◌++◌, Result, Ok, Err, refl, sym, ap, ◌∙◌, subst, inr}
+use Rattle.std.specs.Prelude.{IsOk, IsOkAnd}
+use Rattle.std.proofs.lemmas.List.{map-append}
 use Rattle.aout_core.specs.Contents.{Contents}
 use Rattle.link_session.specs.Labelled.{Labelled, objects}
-use Rattle.link_out.specs.Steps.{and_then}
-use Rattle.link_maps.specs.{declared.members.Objects.Objects, Members.all_of, Taking.split_of, Taking.with_object}
+use Rattle.link_out.specs.Steps.{and_then, refused_as}
+use Rattle.tool_options.specs.Choices.{Choices}
+use Rattle.link_maps.specs.{declared.members.Objects.Objects, Links.read_inputs, Members.all_of, Taking.split_of, Taking.with_object}
 use Rattle.link_maps.proofs.TakingLemmas.{all_more, split_more}
-use Rattle.library_calls.specs.MapAnswers.{AreTaken, with_read}
-use Rattle.library_calls.specs.{declared.cause.Cause.Cause, declared.parts.ObjectBytes.ObjectBytes, FileAnswers.object_in}
+use Rattle.library_calls.specs.LinkRequests.{choices_in, forced_in}
+use Rattle.library_calls.specs.MapAnswers.{AreTaken, IsMapAnswer, IsMapped, MapMayRunOut, MapOf, MayRunOutInMap, map_asked, map_of_all, objects_each}
+use Rattle.library_calls.specs.{declared.cause.Cause.Cause, declared.cause.Refusal.Refusal, declared.map_call.Mapped.Mapped}
+use Rattle.library_calls.specs.MemoryWanted.{MayRunOutInParts}
+use Rattle.library_calls.specs.{Causes.at, FileAnswers.object_in, LinkAnswers.numbered, LinkAnswers.refusal_of, internal.Taken.with_read}
+use Rattle.link_out.specs.Inputs as inputs
 
 -- with one more object, whether it is kept or left
 module _ (old new : Objects) (e : Labelled) (taken : split_of new ≡ with_object old.session.forced (split_of old) e) where
@@ -27,13 +33,29 @@ module _ (old new : Objects) (e : Labelled) (taken : split_of new ≡ with_objec
     taken = split_more forced old new e so_far.names taken so_far.taken;
   }
 
-one_more : (r : Result Contents Cause) (os next : List Contents) → and_then r (λ o. Ok (os ++ o ∷ [])) ≡ Ok next →
-    length next ≡ length os + 1
-one_more (Ok o) os next h =
-    let same : os ++ o ∷ [] ≡ next = cc in
-    sym (ap length same) ∙ length-append os (o ∷ [])
-one_more (Err cause) os next h = absurd (cc)
+read_all : (r : Result (List Contents) inputs.Refusal) (os : List Contents) → refused_as refusal_of r ≡ Ok os → r ≡ Ok os
+read_all (Ok found) os h = let same : found ≡ os = cc in ap (λ (l : List Contents). Ok l) same
+read_all (Err refusal) os h = absurd (cc)
 
-pub number_more : (parts : List ObjectBytes) (i : ℕ) (d : ObjectBytes) (os next : List Contents) →
-    with_read os (get_or parts i d).bytes.now ≡ Ok next → length next ≡ length os + 1
-number_more parts i d os next h = one_more (object_in (get_or parts i d).bytes.now) os next h
+-- what a map is of, once nothing is refused, and a map of it
+pub mapped_all : (bits : ℕ) (entry bytes : List ℕ) (parts : List (List ℕ)) (o : Choices) (forced : List (List ℕ)) (os : List Contents)
+    (m : Mapped) → Ok o ≡ choices_in bits entry → Ok forced ≡ forced_in bytes → objects_each parts ≡ Ok os →
+    (read_inputs (numbered 0 parts) ≡ Ok os → IsMapped (map_of_all o forced (numbered 0 parts) os) m) → IsMapAnswer (map_asked bits entry bytes parts) m
+mapped_all bits entry bytes parts o forced os m first second third mapped =
+    subst (λ (r : Result MapOf Refusal). IsMapAnswer r m)
+    (sym (ap (λ (r : Result Choices Cause).
+    and_then (at 0 r) (λ x. and_then (forced_in bytes)
+    (λ names. and_then (objects_each parts) (λ l. Ok (map_of_all x names (numbered 0 parts) l))))) (sym first)
+    ∙ ap (λ (r : Result (List (List ℕ)) Refusal). and_then r (λ names. and_then (objects_each parts) (λ l. Ok (map_of_all o names (numbered 0 parts) l))))
+    (sym second)
+    ∙ ap (λ (r : Result (List Contents) Refusal). and_then r (λ l. Ok (map_of_all o forced (numbered 0 parts) l))) third))
+    (mapped (read_all (read_inputs (numbered 0 parts)) os third))
+
+-- memory may run out in a map, once the options and the forced names are accepted
+pub map_runs_out : (bits : ℕ) (entry bytes : List ℕ) (parts : List (List ℕ)) (o : Choices) (forced : List (List ℕ)) (place : ℕ) →
+    Ok o ≡ choices_in bits entry → Ok forced ≡ forced_in bytes → MayRunOutInParts objects_each forced parts place →
+    MapMayRunOut bits entry bytes parts place
+map_runs_out bits entry bytes parts o forced place first second h = (
+  subst IsOk first refl,
+  subst (λ (r : Result (List (List ℕ)) Refusal). IsOkAnd r (λ names. MayRunOutInMap names parts place)) second (inr h),
+)

@@ -1,18 +1,18 @@
 -- Where memory may run out, stage by stage.
-use Rattle.std.proofs.Common.{◌≡◌, ℕ, List, [], Result, Ok, Err, refl, sym, ap, ◌∙◌, subst, inl, inr}
+use Rattle.std.proofs.Common.{◌≡◌, ℕ, Bool, List, [], Result, Ok, Err, refl, sym, ap, ◌∙◌, subst, inl, inr}
 use Rattle.std.specs.Prelude.{IfErr, IsOk, IsOkAnd}
-use Rattle.aout_core.specs.Refusals.{refused}
-use Rattle.link_session.specs.{Edits.Change, Labelled.objects, Sessions.nothing_kept, Undo.Kept}
+use Rattle.aout_core.specs.{Refusals.refused, Contents.Contents}
+use Rattle.link_session.specs.{Edits.Change, Labelled.Labelled, Labelled.objects, Undo.Kept}
 use Rattle.tool_options.specs.Choices.{Choices}
-use Rattle.link_out.specs.{declared.linked.LinkFault.LinkFault, function.Link.link, Results.Outcome, Steps.and_then, Steps.refused_as}
-use Rattle.library_calls.specs.MemoryWanted.{MayRunOutInLink, MayRunOutInRun, MayRunOutInSession, SessionMayRunOut}
+use Rattle.link_out.specs.{declared.linked.LinkFault.LinkFault, function.Link.link, Inputs.with_inputs, Results.Outcome, Steps.and_then}
+use Rattle.link_out.specs.{Steps.refused_as}
+use Rattle.library_calls.specs.LinkAnswers.{numbered, objects_in, parts_linked, refusal_of, taken_each}
+use Rattle.library_calls.specs.RunAnswers.{RunOutput, objects_run, parts_run, run_output}
+use Rattle.library_calls.specs.MemoryWanted.{LinkMayRunOut, MayRunOutInLink, MayRunOutInRun, MayRunOutInSession, SessionMayRunOut}
 use Rattle.library_calls.specs.{declared.cause.Cause.Cause, declared.cause.Cause.TheVariants.Memory}
 use Rattle.library_calls.specs.{declared.cause.Cause.TheVariants.NotLinked, declared.cause.Refusal.Refusal, Causes.at}
-use Rattle.library_calls.specs.{LinkAnswers.with_each, LinkRequests.choices_in, LinkRequests.forced_in, SessionAnswers.changes_in}
-
-is_linked : (r : Result Outcome LinkFault) → IsOk r → IsOk (at 0 (refused_as NotLinked r))
-is_linked (Ok x) h = refl
-is_linked (Err fault) h = absurd (cc)
+use Rattle.library_calls.specs.{LinkRequests.choices_in, LinkRequests.forced_in, SessionAnswers.changes_in}
+use Rattle.link_out.specs.Inputs as inputs
 
 there_is_one : (r : Result Outcome LinkFault) (x : Outcome) → refused_as NotLinked r ≡ Ok x → IsOk r
 there_is_one (Ok y) x h = refl
@@ -24,20 +24,85 @@ pub memory_after_link : {A : Type 0} (given : Result A Cause) (r : Result Outcom
 memory_after_link (Ok a) r x h = tt
 memory_after_link (Err cause) r x h = λ memory. there_is_one r x h
 
--- memory may run out for the link of all objects
-pub each_without_memory : (forced : List (List ℕ)) (o : Choices) (parts : List (List ℕ)) (begun k : Kept) →
-    begun ≡ nothing_kept forced → with_each begun.forced (objects begun.entries) parts ≡ Ok (objects k.entries) →
-    k.forced ≡ begun.forced → IsOk (link k.forced (objects k.entries) o) → MayRunOutInLink forced o parts 0
-each_without_memory forced o parts begun k is all same linked =
-    let taken : with_each forced [] parts ≡ Ok (objects k.entries) =
-    ap (λ (x : Kept). with_each x.forced (objects x.entries) parts) (sym is) ∙ all in
-    let first : k.forced ≡ forced = same ∙ ap (λ (x : Kept). x.forced) is in
-    inl (
-      refl,
-      inr (subst (λ (r : Result (List _) _). IsOk (and_then r (λ os. at 0 (refused_as NotLinked (link forced os o))))) (sym taken)
-          (is_linked (link forced (objects k.entries) o)
-          (subst (λ (f : List (List ℕ)). IsOk (link f (objects k.entries) o)) first linked))),
-    )
+-- all parts are taken: the link of them is that of their objects
+module _ (forced : List (List ℕ)) (o : Choices) (parts : List (List ℕ)) where
+  abbrev link_of : Result (List Labelled) inputs.Refusal → Result Outcome inputs.Refusal
+  link_of r = and_then r (λ kept. refused_as inputs.not_linked (link forced (objects kept) o))
+
+  by_link : (r : Result Outcome LinkFault) → refused_as refusal_of (refused_as inputs.not_linked r) ≡ at 0 (refused_as NotLinked r)
+  by_link (Ok x) = refl
+  by_link (Err fault) = refl
+
+  by_taken : (r : Result (List Labelled) inputs.Refusal) (os : List Contents) → objects_in r ≡ Ok os →
+      refused_as refusal_of (link_of r) ≡ at 0 (refused_as NotLinked (link forced os o))
+  by_taken (Ok kept) os h =
+      let same : objects kept ≡ os = cc in
+      by_link (link forced (objects kept) o) ∙ ap (λ (l : List Contents). at 0 (refused_as NotLinked (link forced l o))) same
+  by_taken (Err refusal) os h = absurd (cc)
+
+  parts_link : (os : List Contents) → taken_each forced parts ≡ Ok os → parts_linked forced o parts ≡ at 0 (refused_as NotLinked (link forced os o))
+  parts_link os taken = by_taken (with_inputs forced [] (numbered 0 parts)) os taken
+
+  run_by : (is_placed : Bool) (os : List Contents) (r : Result Outcome LinkFault) →
+      and_then (at 0 (refused_as NotLinked r)) (λ x. Ok (run_output is_placed forced os [] x))
+      ≡ at 0 (and_then (refused_as NotLinked r) (λ x. Ok (run_output is_placed forced os [] x)))
+  run_by is_placed os (Ok x) = refl
+  run_by is_placed os (Err fault) = refl
+
+  run_is : (is_placed : Bool) (k : Kept) → k.forced ≡ forced → taken_each forced parts ≡ Ok (objects k.entries) →
+      parts_run is_placed forced o parts ≡ at 0 (objects_run is_placed k.forced o [] (objects k.entries))
+  run_is is_placed k names taken =
+      let os = objects k.entries in
+      ap (λ (r : Result (List Contents) Refusal).
+      and_then r (λ l. and_then (parts_linked forced o parts) (λ x. Ok (run_output is_placed forced l [] x)))) taken
+      ∙ ap (λ (r : Result Outcome Refusal). and_then r (λ x. Ok (run_output is_placed forced os [] x))) (parts_link os taken)
+      ∙ run_by is_placed os (link forced os o)
+      ∙ ap (λ (f : List (List ℕ)). at 0 (objects_run is_placed f o [] os)) (sym names)
+
+  pub parts_given : (is_placed : Bool) (k : Kept) (replies : List ℕ) (x : RunOutput) → k.forced ≡ forced →
+      taken_each forced parts ≡ Ok (objects k.entries) → replies ≡ [] →
+      objects_run is_placed k.forced o replies (objects k.entries) ≡ Ok x → parts_run is_placed forced o parts ≡ Ok x
+  parts_given is_placed k replies x names taken none given =
+      run_is is_placed k names taken
+      ∙ ap (at 0) (ap (λ (l : List ℕ). objects_run is_placed k.forced o l (objects k.entries)) (sym none) ∙ given)
+
+  pub parts_not_linked : (is_placed : Bool) (k : Kept) (replies : List ℕ) (cause : Cause) → k.forced ≡ forced →
+      taken_each forced parts ≡ Ok (objects k.entries) → replies ≡ [] →
+      objects_run is_placed k.forced o replies (objects k.entries) ≡ Err cause →
+      parts_run is_placed forced o parts ≡ Err (record { cause = cause; place = 0 })
+  parts_not_linked is_placed k replies cause names taken none refused_so =
+      run_is is_placed k names taken
+      ∙ ap (at 0) (ap (λ (l : List ℕ). objects_run is_placed k.forced o l (objects k.entries)) (sym none) ∙ refused_so)
+
+  pub parts_not_taken : (is_placed : Bool) (r : Refusal) → taken_each forced parts ≡ Err r → parts_run is_placed forced o parts ≡ Err r
+  parts_not_taken is_placed r taken =
+      ap (λ (t : Result (List Contents) Refusal).
+      and_then t (λ l. and_then (parts_linked forced o parts) (λ x. Ok (run_output is_placed forced l [] x)))) taken
+
+  is_linked : (r : Result Outcome LinkFault) → IsOk r → IsOk (at 0 (refused_as NotLinked r))
+  is_linked (Ok x) h = refl
+  is_linked (Err fault) h = absurd (cc)
+
+  -- memory may run out for the link
+  pub parts_without_memory : (k : Kept) → k.forced ≡ forced → taken_each forced parts ≡ Ok (objects k.entries) →
+      IsOk (link k.forced (objects k.entries) o) → MayRunOutInLink forced o parts 0
+  parts_without_memory k names taken linked =
+      inl (
+        refl,
+        subst IsOk (sym (parts_link (objects k.entries) taken))
+            (is_linked (link forced (objects k.entries) o)
+            (subst (λ (f : List (List ℕ)). IsOk (link f (objects k.entries) o)) names linked)),
+      )
+
+-- memory may run out in a link, once the options and the forced names are accepted
+pub link_runs_out : {A : Type 0} (bits : ℕ) (entry bytes : List ℕ) (parts : List (List ℕ)) (o : Choices) (forced : List (List ℕ))
+    (given : Result A Refusal) → Ok o ≡ choices_in bits entry → Ok forced ≡ forced_in bytes →
+    IfErr given (λ r. r.cause ≡ Memory refused → MayRunOutInLink forced o parts r.place) →
+    IfErr given (λ r. r.cause ≡ Memory refused → LinkMayRunOut bits entry bytes parts r.place)
+link_runs_out bits entry bytes parts o forced (Ok a) first second h = tt
+link_runs_out bits entry bytes parts o forced (Err r) first second h = λ memory.
+    subst (λ (c : Result Choices Cause). IsOkAnd c (λ x. IsOkAnd (forced_in bytes) (λ names. MayRunOutInLink names x parts r.place))) first
+    (subst (λ (n : Result (List (List ℕ)) Refusal). IsOkAnd n (λ names. MayRunOutInLink names o parts r.place)) second (h memory))
 
 -- memory may run out for what all edits do
 pub run_without_memory : (bits : ℕ) (entry bytes letters : List ℕ) (parts : List (List ℕ)) (o : Choices)

@@ -1,6 +1,6 @@
 -- No refusal of the definitions has the number of no memory.
 use Rattle.std.proofs.Common.{◌≡◌, ℕ, zero, suc, ◌+◌, Bool, true, false, cond, if◌then◌else◌, nat_lt, eqb, not, List, [], ◌∷◌, ◌++◌, length}
-use Rattle.std.proofs.Common.{take, drop, ◌/◌, ◌%◌, Option, Some, None, Result, Ok, Err, refl, ap}
+use Rattle.std.proofs.Common.{take, drop, ◌/◌, ◌%◌, Option, Some, None, Result, Ok, Err, refl, sym, ap, subst}
 use Rattle.std.specs.Prelude.{IfErr}
 use Rattle.aout_core.specs.{declared.header.Header.Header, declared.object.ObjectFault.ObjectFault, Contents.Contents, Contents.is_magic}
 use Rattle.aout_core.specs.{Contents.has_whole_sizes, Decoding.contents_in, Decoding.header_in, Encoding.encoding, Encoding.file_length}
@@ -21,6 +21,7 @@ use Rattle.link_session.specs.{Edits.Change, Edits.addition, Edits.withdrawal, L
 use Rattle.symtools.specs.{NmLists.nm_text, SizeLines.size_text}
 use Rattle.disassemblies.specs.Columns.{disassembly}
 use Rattle.listings.specs.{Reading.read, declared.fault.Fault.Fault, declared.fault.Reason.Reason}
+use Rattle.library_calls.proofs.FileLemmas.{object_is}
 use Rattle.aout_core.specs.declared.object.ObjectFault.TheVariants as faults
 use Rattle.aout_core.specs.declared.file.ReadFault.TheVariants as reads
 use Rattle.library_calls.specs.declared.cause.LongPart.TheVariants as long
@@ -75,7 +76,8 @@ not_memory_object_of : (c : Contents) → CauseIsNotMemory (object_of c)
 not_memory_object_of c = not_memory_object_unless (first_object_fault c) c
 
 not_memory_object : (bytes : List ℕ) → CauseIsNotMemory (object_in bytes)
-not_memory_object bytes = not_memory_then (file_in bytes) object_of (not_memory_file bytes) not_memory_object_of
+not_memory_object bytes =
+    subst CauseIsNotMemory (sym (object_is bytes)) (not_memory_then (file_in bytes) object_of (not_memory_file bytes) not_memory_object_of)
 
 -- ---- one file, and objects made of parts
 

@@ -18,6 +18,7 @@ use Rattle.gnu_objects.specs.declared.refusal.Refusal as gnu
 use Rattle.gnu_objects.specs.declared.refusal.Refusal.TheVariants as refusals
 use Rattle.link_session.specs.declared.entry.AddFault.TheVariants as adds
 use Rattle.link_out.specs.declared.linked.LinkFault.TheVariants as links
+use Rattle.link_out.specs.Inputs as inputs
 use Rattle.listings.specs.declared.fault.Reason.TheVariants as reasons
 use Rattle.library_calls.specs.declared.cause.LongPart.TheVariants as parts
 
@@ -28,6 +29,13 @@ cause_of_addition fault = NotAdded fault
 abbrev pub cause_of_link : LinkFault → Cause
 cause_of_link (links.Memory refused) = Memory refused
 cause_of_link fault = NotLinked fault
+
+-- why an input of a link is not taken; a part is never opened, and one that is not there has no bytes
+abbrev pub cause_of_input : inputs.Cause → Cause
+cause_of_input inputs.cannot_open = BadFile reads.ShortHeader
+cause_of_input (inputs.bad_file fault) = BadFile fault
+cause_of_input (inputs.bad_object fault) = BadObject fault
+cause_of_input (inputs.not_added fault) = NotAdded fault
 
 -- a mistake of a listing, at its line
 abbrev pub mistake_of : Fault → Refusal

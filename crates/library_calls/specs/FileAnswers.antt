@@ -9,8 +9,9 @@ use Rattle.disassemblies.specs.Columns.{disassembly}
 use Rattle.link_out.specs.Steps.{and_then, refused_as, unless}
 use Rattle.tool_options.specs.declared.nm_options.NmOptions.{NmOptions}
 use Rattle.symtools.specs.{NmLists.nm_text, SizeLines.size_text}
-use Rattle.library_calls.specs.declared.cause.Cause.{Cause}
 use Rattle.library_calls.specs.declared.cause.Cause.TheVariants.{NoOption, BadFile, BadObject}
+use Rattle.library_calls.specs.{declared.cause.Cause.Cause, Causes.cause_of_input}
+use Rattle.link_out.specs.Inputs as inputs
 
 -- the file that the bytes begin with
 abbrev pub file_in : List ℕ → Result Contents Cause
@@ -19,9 +20,9 @@ file_in bytes = refused_as BadFile (decode bytes)
 abbrev pub object_of : Contents → Result Contents Cause
 object_of c = unless BadObject (first_object_fault c) c
 
--- the object that the bytes begin with
+-- the object that the bytes begin with, as an input of a link
 abbrev pub object_in : List ℕ → Result Contents Cause
-object_in bytes = and_then (file_in bytes) object_of
+object_in bytes = refused_as cause_of_input (inputs.object_in (decode bytes))
 
 -- how many bytes the object takes
 abbrev pub checked_in : List ℕ → Result ℕ Cause

@@ -1,38 +1,45 @@
 -- What a call answers for a link of objects whose bytes are apart, and the report as a list. (ld(1); the refusals: own choice)
 --
--- Each object in order is read from its bytes, has to be an object, and is added after those before it; the bytes after it are ignored,
--- as by ld. The first that is not taken is the refusal. Then all are linked.
-use Rattle.std.specs.Prelude.{ℕ, List, [], ◌∷◌, ◌++◌, length, map, Option, Some, None, Result, Ok}
+-- The link is that of files, by `linked`: each part is an input, labelled by its number. The bytes after an object in its part are
+-- ignored, as by ld.
+use Rattle.std.specs.Prelude.{ℕ, ◌+◌, List, [], ◌∷◌, ◌++◌, map, Option, Some, None, Result, Ok}
 use Rattle.aout_core.specs.{Contents.Contents, Names.padded}
-use Rattle.link_session.specs.Limits.{refusal}
+use Rattle.link_session.specs.Labelled.{Labelled, objects}
 use Rattle.tool_options.specs.Choices.{Choices}
-use Rattle.link_out.specs.{function.Link.Outcome, function.Link.link, Steps.and_then, Steps.refused_as, Steps.unless, Results.ReportNames}
-use Rattle.library_calls.specs.declared.cause.Cause.TheVariants.{NotAdded, NotLinked}
-use Rattle.library_calls.specs.{declared.cause.Cause.Cause, declared.cause.Refusal.Refusal, declared.parts.ObjectBytes.ObjectBytes}
-use Rattle.library_calls.specs.{declared.reported.ReportedName.ReportedName, Causes.at, FileAnswers.object_in}
-
-abbrev pub with_object : List (List ℕ) → List Contents → Contents → Result (List Contents) Cause
-with_object forced os o = unless NotAdded (refusal forced os o) (os ++ o ∷ [])
-
--- the objects with the one that the bytes begin with
-abbrev pub with_first : List (List ℕ) → List Contents → List ℕ → Result (List Contents) Cause
-with_first forced os bytes = and_then (object_in bytes) (with_object forced os)
+use Rattle.link_out.specs.{function.Link.Outcome, Inputs.linked, Inputs.with_inputs, Steps.and_then, Steps.refused_as, Results.ReportNames}
+use Rattle.library_calls.specs.declared.cause.Cause.TheVariants.{NotLinked}
+use Rattle.library_calls.specs.{declared.cause.Refusal.Refusal, declared.parts.ObjectBytes.ObjectBytes}
+use Rattle.library_calls.specs.{declared.reported.ReportedName.ReportedName, Causes.cause_of_input}
+use Rattle.link_out.specs.Inputs as inputs
 
 -- the bytes of each object
 abbrev pub each_of : List ObjectBytes → List (List ℕ)
 each_of parts = map (λ (part : ObjectBytes). part.bytes.now) parts
 
--- the objects with the one that each of these begins with, by what takes one after others
-abbrev pub with_each_of : (List Contents → List ℕ → Result (List Contents) Cause) → List Contents → List (List ℕ) →
-    Result (List Contents) Refusal
-with_each_of with_one os [] = Ok os
-with_each_of with_one os (bytes ∷ rest) = and_then (at (length os) (with_one os bytes)) (λ more. with_each_of with_one more rest)
+-- the inputs with these bytes, of which the first has this number
+abbrev pub numbered : ℕ → List (List ℕ) → List (List ℕ × List ℕ)
+numbered number [] = []
+numbered number (bytes ∷ rest) = (number ∷ [], bytes) ∷ numbered (number + 1) rest
 
-abbrev pub with_each : List (List ℕ) → List Contents → List (List ℕ) → Result (List Contents) Refusal
-with_each forced os parts = with_each_of (with_first forced) os parts
+abbrev pub number_in : List ℕ → ℕ
+number_in [] = 0
+number_in (number ∷ numbers) = number
 
-abbrev pub linked_each : List (List ℕ) → Choices → List (List ℕ) → Result Outcome Refusal
-linked_each forced o parts = and_then (with_each forced [] parts) (λ os. at 0 (refused_as NotLinked (link forced os o)))
+-- a refusal of these inputs, at the number of the part
+abbrev pub refusal_of : inputs.Refusal → Refusal
+refusal_of (inputs.of_input label cause) = record { cause = cause_of_input cause; place = number_in label }
+refusal_of (inputs.not_linked fault) = record { cause = NotLinked fault; place = 0 }
+
+abbrev pub objects_in : Result (List Labelled) inputs.Refusal → Result (List Contents) Refusal
+objects_in r = and_then (refused_as refusal_of r) (λ kept. Ok (objects kept))
+
+-- the objects of these parts, or the first that is not taken
+abbrev pub taken_each : List (List ℕ) → List (List ℕ) → Result (List Contents) Refusal
+taken_each forced parts = objects_in (with_inputs forced [] (numbered 0 parts))
+
+-- their link, or the first refusal
+abbrev pub parts_linked : List (List ℕ) → Choices → List (List ℕ) → Result Outcome Refusal
+parts_linked forced o parts = refused_as refusal_of (linked forced (numbered 0 parts) o)
 
 -- ---- the report as a list
 

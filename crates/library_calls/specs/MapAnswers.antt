@@ -1,27 +1,21 @@
 -- The map of a link of objects whose bytes are apart, as a call answers it. (own choice)
-use Rattle.std.specs.Prelude.{◌≡◌, ◌≢◌, ◌⊎◌, ℕ, ◌+◌, is_some, List, [], ◌∷◌, ◌++◌, length, Option, Some, None, Result, Ok, Err, IsOk}
-use Rattle.std.specs.Prelude.{IsOkAnd}
+use Rattle.std.specs.Prelude.{◌≡◌, ◌⊎◌, ℕ, ◌+◌, is_some, List, length, Option, Some, None, Result, Ok, Err, IsOk, IsOkAnd}
 use Rattle.aout_core.specs.{Contents.Contents, Names.padded}
 use Rattle.link_session.specs.{declared.entry.AddFault.AddFault, Labelled.objects}
 use Rattle.tool_options.specs.Choices.{Choices}
 use Rattle.link_out.specs.{declared.linked.Linked.Linked, declared.linked.LinkFault.LinkFault, Layouts.Bases, Outcomes.outcome_of}
-use Rattle.link_out.specs.{function.Reports.status_of, Steps.and_then}
-use Rattle.link_maps.specs.Maps.{AreRecords, IsMapOf}
+use Rattle.link_out.specs.{function.Reports.status_of, Steps.and_then, Steps.refused_as}
+use Rattle.link_maps.specs.{Links.ShowsLink, Links.read_inputs, Maps.AreRecords, Maps.IsMapOf}
 use Rattle.link_maps.specs.{declared.map.LinkMap.LinkMap, declared.members.Objects.Objects, declared.outcome.Outcome.Outcome}
 use Rattle.link_maps.specs.{Members.all_of, Members.cause_of, Records.bit, Records.no_label, Taking.split, Taking.split_of}
 use Rattle.library_calls.specs.declared.cause.Cause.TheVariants.{NotAdded, NotLinked}
 use Rattle.library_calls.specs.LinkRequests.{choices_in, forced_in}
-use Rattle.library_calls.specs.{declared.cause.Cause.Cause, declared.cause.Refusal.Refusal, declared.map_call.MapHead.MapHead}
-use Rattle.library_calls.specs.{declared.map_call.Mapped.Mapped, Causes.at, Causes.number_of, FileAnswers.object_in}
-use Rattle.library_calls.specs.{LinkAnswers.with_each_of, MemoryWanted.MayRunOutInEachOf}
-
--- the objects with the one that the bytes begin with, whether a session takes it or not
-abbrev pub with_read : List Contents → List ℕ → Result (List Contents) Cause
-with_read os bytes = and_then (object_in bytes) (λ o. Ok (os ++ o ∷ []))
+use Rattle.library_calls.specs.{declared.cause.Refusal.Refusal, declared.map_call.MapHead.MapHead, declared.map_call.Mapped.Mapped}
+use Rattle.library_calls.specs.{Causes.at, Causes.number_of, LinkAnswers.numbered, LinkAnswers.refusal_of, MemoryWanted.MayRunOutInParts}
 
 -- the objects that these parts begin with, or why one of them has none
 abbrev pub objects_each : List (List ℕ) → Result (List Contents) Refusal
-objects_each parts = with_each_of with_read [] parts
+objects_each parts = refused_as refusal_of (read_inputs (numbered 0 parts))
 
 -- these objects, with what a session takes of them
 pub record AreTaken (forced : List (List ℕ)) (os : List Contents) (all : Objects) : Type 0 where
@@ -109,37 +103,42 @@ abbrev pub head_by : Option AddFault → ℕ → Option Outcome → MapHead
 head_by (Some cause) place outcome = refused_head cause place
 head_by None place outcome = outcome_head outcome
 
--- a map of the link of these objects
-pub record IsMapped (forced : List (List ℕ)) (o : Choices) (os : List Contents) (m : Mapped) : Type 0 where
-  pub all : Objects
-  pub map : LinkMap
-  pub taken : AreTaken forced os all
-  pub is_map : IsMapOf all forced o map
-  pub records : AreRecords all o map m.records
-  pub head : m.head ≡ head_by (cause_of all.refused) (length all.session.entries) map.outcome
-
 -- the options, then the forced names, then the objects: the first refusal, or what the map is of
 pub record MapOf : Type 0 where
   pub choices : Choices
   pub forced : List (List ℕ)
+  pub inputs : List (List ℕ × List ℕ)
   pub objects : List Contents
+
+abbrev pub map_of_all : Choices → List (List ℕ) → List (List ℕ × List ℕ) → List Contents → MapOf
+map_of_all o forced inputs os = record { choices = o; forced = forced; inputs = inputs; objects = os }
 
 abbrev pub map_asked : ℕ → List ℕ → List ℕ → List (List ℕ) → Result MapOf Refusal
 map_asked bits entry forced parts =
     and_then (at 0 (choices_in bits entry))
     (λ o. and_then (forced_in forced)
-    (λ names. and_then (objects_each parts) (λ os. Ok (record { choices = o; forced = names; objects = os }))))
+    (λ names. and_then (objects_each parts)
+    (λ os. Ok (map_of_all o names (numbered 0 parts) os))))
+
+-- a map of that, which shows the link of the inputs
+pub record IsMapped (asked : MapOf) (m : Mapped) : Type 0 where
+  pub all : Objects
+  pub map : LinkMap
+  pub taken : AreTaken asked.forced asked.objects all
+  pub is_map : IsMapOf all asked.forced asked.choices map
+  pub shows : ShowsLink asked.forced asked.choices asked.inputs all map.outcome
+  pub records : AreRecords all asked.choices map m.records
+  pub head : m.head ≡ head_by (cause_of all.refused) (length all.session.entries) map.outcome
 
 abbrev pub IsMapAnswer : Result MapOf Refusal → Mapped → Type 0
-IsMapAnswer (Ok asked) m = IsMapped asked.forced asked.choices asked.objects m
+IsMapAnswer (Ok asked) m = IsMapped asked m
 IsMapAnswer (Err r) m = ⊥
 
 -- ---- memory
 
 -- memory may run out for forced names, for an object, or for the map of all of them
 abbrev pub MayRunOutInMap : List (List ℕ) → List (List ℕ) → ℕ → Type 0
-MayRunOutInMap forced parts place =
-    ((place ≡ 0) × ((forced ≢ []) ⊎ IsOk (objects_each parts))) ⊎ MayRunOutInEachOf with_read [] parts place
+MayRunOutInMap forced parts place = ((place ≡ 0) × IsOk (objects_each parts)) ⊎ MayRunOutInParts objects_each forced parts place
 
 -- not before the options and the forced names are accepted
 abbrev pub MapMayRunOut : ℕ → List ℕ → List ℕ → List (List ℕ) → ℕ → Type 0

@@ -2,13 +2,13 @@
 --
 -- A call works in stages, and each lacks memory only if nothing is refused up to there. The answer does not reveal which request
 -- failed. So once an object or an edit is accepted, memory may have run out there, whatever is refused later.
-use Rattle.std.specs.Prelude.{◌≡◌, ◌≢◌, ◌⊎◌, ℕ, ◌+◌, ◌<◌, List, [], ◌∷◌, length, Result, IsOk, IsOkAnd}
+use Rattle.std.specs.Prelude.{◌≡◌, ◌≢◌, ◌⊎◌, ℕ, ◌+◌, ◌<◌, List, [], ◌∷◌, get_or, length, take, Result, IsOk, IsOkAnd}
 use Rattle.aout_core.specs.{Contents.Contents, Decoding.header_in, Encoding.file_length}
 use Rattle.link_session.specs.{Edits.Change, Edits.survivors, Labelled.objects}
 use Rattle.tool_options.specs.Choices.{Choices}
 use Rattle.link_out.specs.function.Link.{link}
 use Rattle.library_calls.specs.SessionAnswers.{change_in, changes_in, first_part, parts_after}
-use Rattle.library_calls.specs.{declared.cause.Cause.Cause, FileAnswers.file_in, LinkAnswers.linked_each, LinkAnswers.with_first}
+use Rattle.library_calls.specs.{declared.cause.Refusal.Refusal, FileAnswers.file_in, LinkAnswers.parts_linked, LinkAnswers.taken_each}
 use Rattle.library_calls.specs.{LinkRequests.choices_in, LinkRequests.forced_in, StateAnswers.form_in}
 
 -- the bytes begin with a whole file, and it has more than its header: it is read before its words are checked
@@ -18,24 +18,22 @@ pub record HasBody (bytes : List ℕ) : Type 0 where
 
 -- ---- objects that are linked
 
--- memory may run out for the object that the bytes begin with: to read it, or to add it
-abbrev pub MayRunOutForObject : List (List ℕ) → List Contents → List ℕ → Type 0
-MayRunOutForObject forced os bytes = HasBody bytes ⊎ IsOk (with_first forced os bytes)
+-- memory may run out for the part of this number, by what takes parts: it takes those before, and this one has a body, or it takes
+-- this one too
+abbrev pub MayRunOutAt : (List (List ℕ) → Result (List Contents) Refusal) → List (List ℕ) → ℕ → Type 0
+MayRunOutAt taken parts place =
+    (place < length parts)
+    × IsOk (taken (take place parts))
+    × (HasBody (get_or parts place []) ⊎ IsOk (taken (take (place + 1) parts)))
 
--- memory may run out for the object of this number, by what takes one after others; those before it are accepted
-abbrev pub MayRunOutInEachOf : (List Contents → List ℕ → Result (List Contents) Cause) → List Contents → List (List ℕ) → ℕ → Type 0
-MayRunOutInEachOf with_one os [] place = ⊥
-MayRunOutInEachOf with_one os (bytes ∷ rest) place =
-    ((place ≡ length os) × (HasBody bytes ⊎ IsOk (with_one os bytes)))
-    ⊎ IsOkAnd (with_one os bytes) (λ more. MayRunOutInEachOf with_one more rest place)
+-- memory may run out for forced names, or for a part
+abbrev pub MayRunOutInParts : (List (List ℕ) → Result (List Contents) Refusal) → List (List ℕ) → List (List ℕ) → ℕ → Type 0
+MayRunOutInParts taken forced parts place = ((place ≡ 0) × (forced ≢ [])) ⊎ MayRunOutAt taken parts place
 
-abbrev pub MayRunOutInEach : List (List ℕ) → List Contents → List (List ℕ) → ℕ → Type 0
-MayRunOutInEach forced os parts place = MayRunOutInEachOf (with_first forced) os parts place
-
--- memory may run out for forced names, for an object, or for the link, if there is one
+-- or for the link, if there is one
 abbrev pub MayRunOutInLink : List (List ℕ) → Choices → List (List ℕ) → ℕ → Type 0
 MayRunOutInLink forced o parts place =
-    ((place ≡ 0) × ((forced ≢ []) ⊎ IsOk (linked_each forced o parts))) ⊎ MayRunOutInEach forced [] parts place
+    ((place ≡ 0) × IsOk (parts_linked forced o parts)) ⊎ MayRunOutInParts (taken_each forced) forced parts place
 
 -- not before the options and the forced names are accepted
 abbrev pub LinkMayRunOut : ℕ → List ℕ → List ℕ → List (List ℕ) → ℕ → Type 0

@@ -10,7 +10,8 @@ use Rattle.finding_objects.specs.{declared.places.FindingPlace.FindingPlace, Pla
 use Rattle.library_calls.specs.SessionAnswers.{changes_in, reply_number, session_status}
 use Rattle.library_calls.specs.{declared.cause.Cause.Cause, declared.cause.Cause.TheVariants.NotLinked, declared.cause.Refusal.Refusal}
 use Rattle.library_calls.specs.{declared.reported.ReportedName.ReportedName, declared.run_call.RunResult.RunResult, Causes.at}
-use Rattle.library_calls.specs.{LinkAnswers.all_findings, LinkAnswers.with_each, LinkRequests.choices_in, LinkRequests.forced_in}
+use Rattle.library_calls.specs.{LinkAnswers.all_findings, LinkAnswers.parts_linked, LinkAnswers.taken_each, LinkRequests.choices_in}
+use Rattle.library_calls.specs.{LinkRequests.forced_in}
 
 -- the status, the replies to the edits, the bytes of the linked file, its report as the bytes of its lines and as a list, and the
 -- objects of what the list has
@@ -51,9 +52,11 @@ abbrev pub objects_run : Bool → List (List ℕ) → Choices → List ℕ → L
 objects_run is_placed forced o replies os =
     and_then (refused_as NotLinked (link forced os o)) (λ x. Ok (run_output is_placed forced os replies x))
 
--- a link of all objects, which has no replies
+-- a link of all parts, which has no replies
 abbrev pub parts_run : Bool → List (List ℕ) → Choices → List (List ℕ) → Result RunOutput Refusal
-parts_run is_placed forced o parts = and_then (with_each forced [] parts) (λ os. at 0 (objects_run is_placed forced o [] os))
+parts_run is_placed forced o parts =
+    and_then (taken_each forced parts)
+    (λ os. and_then (parts_linked forced o parts) (λ x. Ok (run_output is_placed forced os [] x)))
 
 -- the options, then the forced names, then the objects, then the link: the first refusal, or what is given
 abbrev pub link_run : Bool → ℕ → List ℕ → List ℕ → List (List ℕ) → Result RunOutput Refusal

@@ -45,6 +45,7 @@ pub(crate) fn object_of(file: File) -> Result<Object, Cause>
 }
 
 /// The object that the bytes begin with.
+#[tactic(auto, using(crate::proofs::FileLemmas::object_read))]
 pub(crate) fn first_object(alloc: Global, bytes: &[u8]) -> Result<Object, Cause>
     ensures object { IfOk result (λ object. object_in bytes.now ≡ Ok object) }
     ensures err { IfErr result (λ cause. cause ≢ Memory refused → object_in bytes.now ≡ Err cause) }

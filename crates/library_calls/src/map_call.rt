@@ -2,10 +2,12 @@
 ghost use Rattle.std.specs.Prelude.{◌≡◌, ◌≢◌, ◌⊎◌, ℕ, List, length, Ok, Err, IfOk, IfErr, IsOk};
 ghost use Rattle.aout_core.specs.Refusals.{refused};
 ghost use Rattle.link_session.specs.Labelled.{objects};
+ghost use Rattle.link_maps.specs.Links.{read_inputs};
 ghost use Rattle.link_maps.specs.Members.{all_of, cause_of};
 ghost use Rattle.library_calls.specs.LinkAnswers.{each_of};
-ghost use Rattle.library_calls.specs.MapAnswers.{AreTaken, IsMapAnswer, IsMapped, MapMayRunOut, MayRunOutInMap, head_by, linked_head, made_head, map_asked, objects_each, placed_head, with_read};
-ghost use Rattle.library_calls.specs.MemoryWanted.{HasBody};
+ghost use Rattle.library_calls.specs.MapAnswers.{AreTaken, IsMapAnswer, IsMapped, MapMayRunOut, head_by, linked_head, made_head, map_asked, map_of_all, objects_each, placed_head};
+ghost use Rattle.library_calls.specs.MemoryWanted.{HasBody, MayRunOutInParts};
+ghost use Rattle.library_calls.specs.internal.Taken.{with_read};
 ghost use Rattle.library_calls.specs.declared.cause.Cause.TheVariants.{Memory};
 
 use crate::cause::{Cause, Refusal};
@@ -70,8 +72,8 @@ fn objects_of(alloc: Global, parts: &[ObjectBytes<'_>], forced: &Forced) -> Resu
         objects_each (each_of parts.now) ≡ Ok (objects (all_of all))) }
     ensures taken { IfOk result (λ all. AreTaken forced.now (objects (all_of all)) all) }
     ensures err { IfErr result (λ r. r.cause ≢ Memory refused → objects_each (each_of parts.now) ≡ Err r) }
-    ensures memory { IfErr result (λ r.
-        r.cause ≡ Memory refused → MayRunOutInMap forced.now (each_of parts.now) r.place) }
+    ensures memory { IfErr result (λ r. r.cause ≡ Memory refused
+        → MayRunOutInParts objects_each forced.now (each_of parts.now) r.place) }
 {
     let mut all = Objects::new(alloc, forced)?;
     for (place, part) in parts.iter().enumerate() {
@@ -165,8 +167,10 @@ fn map_objects(
     forced: &Forced,
     options: &Options,
 ) -> Result<Mapped, AllocError>
-    ensures { IfOk result (λ m. AreTaken forced.now (objects (all_of all.now)) all.now
-        → IsMapped forced.now options.now (objects (all_of all.now)) m) }
+    ensures { IfOk result (λ m. (inputs : List (List ℕ × List ℕ))
+        → read_inputs inputs ≡ Ok (objects (all_of all.now))
+        → AreTaken forced.now (objects (all_of all.now)) all.now
+        → IsMapped (map_of_all options.now forced.now inputs (objects (all_of all.now))) m) }
 {
     let map = map_of(alloc, all, forced, options)?;
     let records = records_of(alloc, &map, all, options)?;
@@ -180,6 +184,7 @@ fn map_objects(
 /// choice)
 ///
 /// Errors: those of `run_link` but for 31 to 43, which are in the map.
+#[tactic(auto, using(crate::proofs::MapLemmas::mapped_all))]
 pub fn map_link(
     alloc: Global,
     request: &LinkRequest<'_>,

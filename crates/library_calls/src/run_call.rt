@@ -120,7 +120,7 @@ fn run_kept(
 }
 
 /// Links the object that each of the parts begins with.
-#[tactic(auto, using(crate::proofs::MemoryLemmas::each_without_memory))]
+#[tactic(auto, using(crate::proofs::MemoryLemmas::parts_not_taken))]
 fn run_parts(
     alloc: Global,
     is_placed: bool,
@@ -135,9 +135,14 @@ fn run_parts(
     ensures memory { IfErr result (λ r. r.cause ≡ Memory refused
         → MayRunOutInLink forced.now options.now (each_of parts.now) r.place) }
 {
-    let mut session = Session::with_forced(alloc, forced)?;
-    take_each(alloc, &mut session, parts)?;
-    Ok(run_kept(alloc, is_placed, session, Vec::new(alloc), options)?)
+    let session = match take_each(alloc, parts, forced) {
+        Ok(session) => session,
+        Err(refusal) => return Err(refusal),
+    };
+    match run_kept(alloc, is_placed, session, Vec::new(alloc), options) {
+        Ok(given) => Ok(given),
+        Err(cause) => Err(Refusal { cause, place: 0 }),
+    }
 }
 
 /// Links the object that each of the parts begins with, in their order, and returns the report in both forms, with the objects of

@@ -1,17 +1,18 @@
 //! Objects taken into a session from their bytes.
-ghost use Rattle.std.specs.Prelude.{◌≡◌, ◌≢◌, None, Ok, Err, IfOk, IfErr, OnErr};
+ghost use Rattle.std.specs.Prelude.{◌≡◌, ◌≢◌, ◌⊎◌, None, Ok, Err, IfOk, IfErr, IsOk};
 ghost use Rattle.aout_core.specs.Refusals.{refused};
 ghost use Rattle.link_session.specs.Labelled.{objects};
 ghost use Rattle.link_session.specs.Limits.{refusal};
-ghost use Rattle.library_calls.specs.LinkAnswers.{each_of, with_each, with_first, with_object};
-ghost use Rattle.library_calls.specs.MemoryWanted.{MayRunOutForObject, MayRunOutInEach};
+ghost use Rattle.library_calls.specs.LinkAnswers.{each_of, taken_each};
+ghost use Rattle.library_calls.specs.MemoryWanted.{HasBody, MayRunOutInParts};
+ghost use Rattle.library_calls.specs.internal.Taken.{with_first, with_object};
 ghost use Rattle.library_calls.specs.declared.cause.Cause.TheVariants.{Memory};
 
 use crate::cause::{Cause, Refusal};
 use crate::first::first_object;
 use crate::parts::ObjectBytes;
 use aout_core::Object;
-use link_session::Session;
+use link_session::{Forced, Session};
 use std::alloc::Global;
 
 /// Adds an object, without a label.
@@ -23,7 +24,6 @@ fn add(alloc: Global, session: &mut Session, object: Object) -> Result<(), Cause
         → with_object session.old.forced (objects session.old.entries) object ≡ Err cause) }
     ensures memory { IfErr result (λ cause. cause ≡ Memory refused
         → refusal session.old.forced (objects session.old.entries) object ≡ None) }
-    ensures unchanged { OnErr result (session.new ≡ session.old) }
 {
     match session.add(String::new(alloc), object) {
         Ok(()) => Ok(()),
@@ -38,36 +38,33 @@ fn take_first(alloc: Global, session: &mut Session, bytes: &[u8]) -> Result<(), 
         (objects session.old.entries) bytes.now ≡ Ok (objects session.new.entries)) }
     ensures err { IfErr result (λ cause. cause ≢ Memory refused
         → with_first session.old.forced (objects session.old.entries) bytes.now ≡ Err cause) }
-    ensures memory { IfErr result (λ cause. cause ≡ Memory refused
-        → MayRunOutForObject session.old.forced (objects session.old.entries) bytes.now) }
-    ensures unchanged { OnErr result (session.new ≡ session.old) }
+    ensures memory { IfErr result (λ cause. cause ≡ Memory refused → HasBody bytes.now
+        ⊎ IsOk (with_first session.old.forced (objects session.old.entries) bytes.now)) }
 {
     let object = first_object(alloc, bytes)?;
     add(alloc, session, object)
 }
 
-/// Adds the object that each of the parts begins with, in their order, up to the first that is not taken.
+/// A session with the object that each of the parts begins with, in their order, up to the first that is not taken.
 pub(crate) fn take_each(
     alloc: Global,
-    session: &mut Session,
     parts: &[ObjectBytes<'_>],
-) -> Result<(), Refusal>
-    ensures forced { session.new.forced ≡ session.old.forced }
-    ensures ok { IfOk result (λ _. with_each session.old.forced (objects session.old.entries)
-        (each_of parts.now) ≡ Ok (objects session.new.entries)) }
-    ensures err { IfErr result (λ r. r.cause ≢ Memory refused
-        → with_each session.old.forced (objects session.old.entries) (each_of parts.now) ≡ Err r) }
-    ensures memory { IfErr result (λ r. r.cause ≡ Memory refused → MayRunOutInEach session.old.forced
-        (objects session.old.entries) (each_of parts.now) r.place) }
+    forced: &Forced,
+) -> Result<Session, Refusal>
+    ensures forced { IfOk result (λ session. session.forced ≡ forced.now) }
+    ensures ok { IfOk result (λ session.
+        taken_each forced.now (each_of parts.now) ≡ Ok (objects session.entries)) }
+    ensures err { IfErr result (λ r.
+        r.cause ≢ Memory refused → taken_each forced.now (each_of parts.now) ≡ Err r) }
+    ensures memory { IfErr result (λ r. r.cause ≡ Memory refused
+        → MayRunOutInParts (taken_each forced.now) forced.now (each_of parts.now) r.place) }
 {
-    for part in parts {
-        match take_first(alloc, session, part.bytes) {
+    let mut session = Session::with_forced(alloc, forced)?;
+    for (place, part) in parts.iter().enumerate() {
+        match take_first(alloc, &mut session, part.bytes) {
             Ok(_) => {}
-            Err(cause) => {
-                let place = session.entries().len();
-                return Err(Refusal { cause, place });
-            }
+            Err(cause) => return Err(Refusal { cause, place }),
         }
     }
-    Ok(())
+    Ok(session)
 }

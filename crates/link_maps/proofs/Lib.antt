@@ -1,4 +1,5 @@
 pub mod LabelLemmas
+pub mod LinkLemmas
 pub mod ListLemmas
 pub mod MemberLemmas
 pub mod PaddedLemmas

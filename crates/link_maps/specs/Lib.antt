@@ -7,4 +7,5 @@ pub mod Rows
 pub mod Records
 pub mod MapLimits
 pub mod Maps
+pub mod Links
 pub mod internal

@@ -1,0 +1,16 @@
+use Rattle.link_maps.proofs.LinkLemmas.{shows_link}
+use Rattle.library_calls.proofs.map_call.map_objects.Goals as goal
+
+pub returns : goal.returns
+returns c = λ inputs read taken.
+    let m = c.in_ok-map.ensures in
+    let r = c.in_ok-records.ensures in record {
+      all = c.args.all.now;
+      map = c.in_ok-map.map;
+      taken = taken;
+      is_map = record { members = m.members; places = m.places; uses = m.uses; made = m.made; outcome = m.outcome };
+      shows = shows_link c.args.forced.now c.args.options.now inputs c.args.all.now c.in_ok-map.map.outcome read taken.names taken.taken
+          m.made m.outcome;
+      records = record { objects = r.objects; names = r.names; uses = r.uses; limits = r.limits };
+      head = c.head_of.ensures;
+    }
