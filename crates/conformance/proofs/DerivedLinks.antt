@@ -13,7 +13,6 @@ use Rattle.link_laws.specs.{relation.NameStates.IsFirst, relation.NameStates.IsW
 use Rattle.link_laws.specs.{relation.LinkedWords.AreRelocated, relation.Reported.IsReported, relation.LinkedFrom.IsLinkedFrom}
 use Rattle.link_laws.specs.{relation.LinkedFrom.LinkedExactly, WordsAndNames.MultiplesDiffer, relation.Refusals.RefusedExactly}
 use Rattle.conformance.specs.Samples.{sym as entry_of, header, sized, _f, L1, c_o, d_o, d2_o, plain}
-use Rattle.conformance.proofs.LinkExamples.{shown, table_of, CallForward, LargeCommonRefused}
 use Rattle.conformance.proofs.ClauseLemmas.{only_object, only_word, no_word, as_object, at_most_so, less_so, only_wanted}
 
 two_objects : (P : List Contents → Contents → Type 0) (a b : Contents) → P [] a → P (a ∷ []) b →
@@ -34,13 +33,13 @@ two_words P v w q r first second (suc i) u s e f = only_word (λ j. P (suc j)) w
 
 -- a call of a name that a later object defines
 
-abbrev os : List Contents
+abbrev pub os : List Contents
 os = c_o ∷ d_o ∷ []
 
-abbrev rows : List Symbol
+abbrev pub rows : List Symbol
 rows = entry_of _f 34 6 ∷ []
 
-abbrev forward : Outcome
+abbrev pub forward : Outcome
 forward = record {
   file = record {
     header = header 263 8 0 0 24 0 1;
@@ -143,25 +142,24 @@ forward_linked = record {
   report = reported;
 }
 
-pub call_forward_follows : LinkedExactly → CallForward
-call_forward_follows exactly =
-    ap shown ((exactly [] os plain forward (
-      as_object c_o refl refl refl refl refl refl refl refl,
-      (as_object d_o refl refl refl refl refl refl refl refl, tt),
-    )).1 forward_linked)
+pub call_forward_follows : LinkedExactly → link [] os plain ≡ Ok forward
+call_forward_follows exactly = (exactly [] os plain forward (
+  as_object c_o refl refl refl refl refl refl refl refl,
+  (as_object d_o refl refl refl refl refl refl refl refl, tt),
+)).1 forward_linked
 
 -- a common of 65,535 bytes, by which a program would end at 65,536
 
-abbrev large : Contents
+abbrev pub large : Contents
 large = sized 0 0 0 (entry_of (codes "_c") 0o40 65535 ∷ [])
 
-pub large_common_refused_follows : RefusedExactly → LargeCommonRefused
+pub large_common_refused_follows : RefusedExactly → link [] (large ∷ []) plain ≡ Err DoesNotFit
 large_common_refused_follows exactly =
-    ap table_of ((exactly [] (large ∷ []) plain DoesNotFit (as_object large refl refl refl refl refl refl refl refl, tt)).1 (
+    (exactly [] (large ∷ []) plain DoesNotFit (as_object large refl refl refl refl refl refl refl refl, tt)).1 (
       65536,
       record { commons = 65536; take = (Wanted 65535, only_wanted (codes "_c") 65535, (0, refl, refl)); is = refl },
       less_so 65535 65536 refl,
-    ))
+    )
 
 -- a name that two objects define at different offsets
 

@@ -1,8 +1,4 @@
-mod FileExamples
-mod LinkExamples
-mod SessionExamples
 mod MarkExamples
-mod ToolExamples
 mod LawExamples
 mod ClauseLemmas
 mod NeededClauses
@@ -26,6 +22,5 @@ mod ConversionExamples
 mod TextExamples
 mod InstructionExamples
 mod TableExamples
-mod CallExamples
 mod ReachedExamples
 mod SessionLawExamples

@@ -1,2 +1,3 @@
-//! Small files, links and lists computed from the definitions (in proofs/).
+//! Wrong results that pass all clauses of a definition but one, false statements near the laws, and tables that are computed from the
+//! definitions (in proofs/).
 #![tactic(auto)]
