@@ -1,5 +1,5 @@
 """Compares the notes of v7-explain, with all their numbers, and its inventory with those computed here by docs/FORMAT.md and
-v7-explain(1).
+v7-explain(1). What is odd of instructions is left to mistakes.py.
 
 tier: check, 40 seconds; programs: v7-explain; for: crates/findings crates/suspicions crates/explanations docs/FORMAT.md man/v7-explain.1
 
@@ -16,7 +16,6 @@ from tests.lib.compare import notices, same
 from tests.lib.files import room, write
 from tests.lib.programs import program
 from tests.oracles.disassembly import File as Text
-from tests.oracles.suspicions import DOUBT, suspicions
 
 PROGRAMS = {0o405: "an overlay", 0o407: "a program", 0o410: "a program, pure text", 0o411: "a program, separate text and data"}
 KINDS = {0o405: "overlay", 0o407: "program 0407", 0o410: "program 0410", 0o411: "program 0411"}
@@ -31,8 +30,12 @@ FORMS = [(b"\x7fELF", "this is an ELF file, of another system", "ELF"),
 SEGMENTS = {2: "text", 3: "data", 4: "bss"}
 # types of symbols, without the external bit
 TYPES = (0, 1, 2, 3, 4, 0o24, 0o37)
-# of bad relocation words so many are shown one by one
-MOST_BAD = 16
+# of bad relocation words, and of odd things, so many are shown one by one
+MOST = 16
+# what is odd of instructions; and what is said if more is odd than is shown
+SUSPICIOUS = re.compile(r"the first word of the|the pc bit of|an instruction leads to|is cut by the end of|the branch at")
+DOUBT = ", if this is an instruction"
+MORE = re.compile(r"and (\d+) more that are odd$")
 dice = random.Random(42)
 
 
@@ -138,9 +141,9 @@ def wrong(data):
     if file.magic != 0o407 or file.flag:
         return [], file
     notes = list(bad_words(file))
-    more = len(notes) - MOST_BAD
+    more = len(notes) - MOST
     if more > 0:
-        notes[MOST_BAD:] = [(file.relocation_at, f"and {more} more such relocation words")]
+        notes[MOST:] = [(file.relocation_at, f"and {more} more such relocation words")]
     return notes, file
 
 
@@ -206,7 +209,7 @@ def odd_words(file):
 
 
 def odd_symbol(file, number, symbol, first):
-    """What is odd of a symbol, if the first one of its name has this number."""
+    """What is odd of a symbol, if the first external of its name has this number."""
     name, field, kind, value = symbol
     if not name:
         yield 0, "has an empty name"
@@ -214,7 +217,7 @@ def odd_symbol(file, number, symbol, first):
         yield 0, "has bytes in its name that do not print"
     if field.rstrip(b"\0") != name:
         yield 0, "has bytes after the NUL of its name, which are ignored"
-    if first < number:
+    if kind & 0o40 and first < number:
         yield 0, f"has the name of symbol {first}; names are equal in eight bytes"
     if kind > 0o77:
         yield 8, f"has type {kind:06o}, of which the bits above 77 are ignored"
@@ -230,15 +233,13 @@ def odd_symbol(file, number, symbol, first):
 
 
 def odd_of(file):
-    """What is odd of a file, each with its byte; what is suspicious in its text comes last, and is given alone too."""
+    """What is odd of a file, each with its byte, but for what is odd of its instructions, which comes last."""
     odd, firsts = [*odd_header(file), *odd_words(file)], {}
     for number, symbol in enumerate(file.symbols()):
         at, title = file.symbols_at + 12 * number, f"symbol {number} {shown(symbol[0])}"
-        found = odd_symbol(file, number, symbol, firsts.setdefault(symbol[0], number))
-        odd += [(at + place, f"{title} {text}") for place, text in found]
-    parts = {"word": 16, "relocation": file.relocation_at}
-    suspicious = [(parts[part] + 2 * place, text) for part, place, text in suspicions(text_of(file))]
-    return odd + suspicious, suspicious
+        first = firsts.setdefault(symbol[0], number) if symbol[2] & 0o40 else number
+        odd += [(at + place, f"{title} {text}") for place, text in odd_symbol(file, number, symbol, first)]
+    return odd
 
 
 def at_byte(found):
@@ -246,16 +247,26 @@ def at_byte(found):
 
 
 def notes_of(data):
-    """What a file is, and all that is wrong or odd, in the order of a listing; and what `-c` says of it: what is wrong, or odd in
-    instructions for sure."""
+    """What a file is, and all that is wrong or odd, in the order of a listing; and what `-c` says of it: what is wrong, or odd but for
+    commons of odd sizes."""
     found, file = wrong(data)
     if file is None:
         said = [text for text in (form(data)[0],) if text and has_no_magic(data)]
         return [f"wrong: {note}" for note in at_byte(found)] + said, at_byte(found) + said
-    what, (odd, suspicious) = kind(file, found), odd_of(file)
-    refused = at_byte(found) or ([what] if what != "an object" else at_byte(note for note in suspicious if DOUBT not in note[1]))
+    what, odd = kind(file, found), at_byte(odd_of(file))
+    refused = at_byte(found) or ([what] if what != "an object" else [note for note in odd if not note.endswith("rounded up to even")][:MOST])
     notes = [what] if what else []
-    return notes + [f"wrong: {note}" for note in at_byte(found)] + [f"odd: {note}" for note in at_byte(odd)], refused
+    return notes + [f"wrong: {note}" for note in at_byte(found)] + [f"odd: {note}" for note in odd[:MOST]], refused
+
+
+def without_suspicious(notes):
+    """Notes without those on instructions, and without how many more things are odd."""
+    return [note for note in notes if not SUSPICIOUS.search(note) and not MORE.match(note)]
+
+
+def odd_count(notes):
+    """How many things are odd by the notes of a listing."""
+    return sum(note.startswith("odd") for note in notes) + sum(int(more[1]) for more in map(MORE.match, notes) if more)
 
 
 def lines_of(path, data):
@@ -269,21 +280,15 @@ def lines_of(path, data):
     return [title, *notes[:first], *header_said(data), *notes[first:]]
 
 
-def condition(data):
-    """What an inventory says is wrong or odd."""
-    notes = notes_of(data)[0]
-    damaged = [int(note.split()[2], 8) for note in notes if note.startswith("wrong")]
-    odd = sum(note.startswith("odd") for note in notes)
-    return f"damaged at {min(damaged):06o}" if damaged else f"{odd} odd" if odd else "ok"
-
-
-def inventory_of(path, data):
-    """The line of a file in an inventory, unless it has the form of GNU's assembler."""
+def inventory_of(path, data, odd):
+    """The line of a file in an inventory, unless it has the form of GNU's assembler. So many things are odd in it."""
     kind_said, numbers, said = form(data)[1], ["-"] * 5, "-"
     if not has_no_magic(data):
         file = File(data)
         is_object = file.magic == 0o407 and file.flag == 0
-        kind_said, said = "object" if is_object else KINDS[file.magic], condition(data)
+        damaged = [int(note.split()[2], 8) for note in notes_of(data)[0] if note.startswith("wrong")]
+        kind_said = "object" if is_object else KINDS[file.magic]
+        said = f"damaged at {min(damaged):06o}" if damaged else f"{odd} odd" if odd else "ok"
         numbers[:3] = [file.text, file.data_size, file.bss]
         if wrong(data)[1]:
             symbols = list(file.symbols())
@@ -407,11 +412,14 @@ def main():
     for path, data, notes, line in zip(paths, datas, found, inventory):
         expected, why = lines_of(path, data), notes_of(data)[1]
         count += len(expected)
-        compare(path, data, notes, expected)
-        compare(f"-c {path}", data, refused[path], why)
+        compare(path, data, without_suspicious(notes), expected)
+        compare(f"-c {path}", data, without_suspicious(refused[path]), why)
+        sure = [note for note in refused[path] if DOUBT not in note and not MORE.match(note)]
         alone = subprocess.run([EXPLAIN, "-c", path], stderr=subprocess.DEVNULL, check=False).returncode
-        compare(f"-c {path}", data, [alone], [1 if why else 0])
-        compare(f"-l {path}", data, [line], [inventory_of(path, data)])
+        # one that is sure may not be shown
+        if sure or len(refused[path]) <= MOST:
+            compare(f"-c {path}", data, [alone], [1 if sure else 0])
+        compare(f"-l {path}", data, [line], [inventory_of(path, data, odd_count(notes))])
     print(f"{count} notes of {len(datas)} files compared, and {len(datas)} lines of an inventory")
 
 

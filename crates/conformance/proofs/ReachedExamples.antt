@@ -1,5 +1,5 @@
--- The law of instructions that are reached, at samples, and statements near it that do not hold.
-use Rattle.std.proofs.Common.{◌≡◌, ◌≢◌, ℕ, ◌+◌, ◌*◌, ◌/◌, false, List, [], ◌∷◌, ◌++◌, drop, Option, Some, None, inl, refl, ap, ◌∙◌, arith}
+-- The law of instructions at sure places, at samples, and statements near it that do not hold.
+use Rattle.std.proofs.Common.{◌≡◌, ◌≢◌, ℕ, ◌+◌, ◌*◌, ◌/◌, false, true, List, [], ◌∷◌, ◌++◌, drop, Option, Some, None, inl, refl, ap, ◌∙◌, arith}
 use Rattle.std.specs.{Prelude.Ok, Prelude.slice_get, List.AllByRecursion}
 use Rattle.aout_core.specs.{declared.symbol.Symbol.Symbol, declared.symbol.Segment.TheVariants.TextSeg, declared.reloc.Reloc.Reloc}
 use Rattle.aout_core.specs.{Contents.Contents, Words.plus, WellFormed.kind_of, WellFormed.symbol_number}
@@ -14,9 +14,9 @@ use Rattle.instructions.specs.{declared.mode.Addressing.Addressing, declared.mod
 use Rattle.instructions.specs.{declared.operand.Operand.Operand, declared.operand.Operand.TheVariants.General}
 use Rattle.instructions.specs.{declared.operand.Operand.TheVariants.Register, declared.instruction.Instruction.Instruction, Rows.begins}
 use Rattle.instructions.specs.{Rows.row_of, Instructions.instruction_of, Alike.is_cut, UnixLines.call_of}
-use Rattle.suspicions.specs.ReachedLaw.{IsReached, Evident, Led}
-use Rattle.suspicions.specs.{declared.evidence.Evidence.Evidence, declared.evidence.Evidence.TheVariants.Symbols}
-use Rattle.suspicions.specs.{declared.evidence.Evidence.TheVariants.Distances, SureSuspicions.sure_suspicions}
+use Rattle.suspicions.specs.{declared.evidence.Evidence.Evidence, declared.evidence.Evidence.TheVariants.Names}
+use Rattle.suspicions.specs.{declared.evidence.Evidence.TheVariants.Flow, declared.evidence.Evidence.TheVariants.Promise}
+use Rattle.suspicions.specs.{Trust.is_sure, Reached.is_reached, Suspicions.suspicions, SureLaw.NoneIsSure}
 use Rattle.laws.specs.{OperandWords.machine_value, OperandPlaces.addressing_of, OperandPlaces.IsOperand}
 use Rattle.laws.specs.{ReachedInstructions.KeepsInstruction, ReachedInstructions.BeginsInstruction}
 use Rattle.laws.proofs.ReachedInstructionLemmas.{reached_instructions_kept}
@@ -27,23 +27,15 @@ use Rattle.aout_core.specs.declared.reloc.Kind.TheVariants as kinds
 use Rattle.instructions.specs.declared.field.Field.TheVariants as fields
 use Rattle.instructions.specs.declared.mode.Register.TheVariants as registers
 
--- nothing is suspicious in `main.o`; distances reach `mov _count,r0`, which leads to the call, and symbols what follows that too
+-- nothing is suspicious in `main.o`, if all of its text is instructions, as from its symbol on
 
-main_is_sure : sure_suspicions main_o ≡ []
+main_is_sure : NoneIsSure (suspicions Promise main_o)
 unfolding row_of begins call_of
-main_is_sure = refl
+main_is_sure = tt
 
-fetch_reached : IsReached Distances main_o 0
+call_is_sure : is_sure Promise main_o 2 ≡ true
 unfolding row_of begins call_of
-fetch_reached = Evident 0 (omega arith) refl
-
-call_reached : IsReached Distances main_o 2
-unfolding row_of begins call_of
-call_reached = Led 0 2 fetch_reached (omega arith) refl
-
-return_reached : IsReached Symbols main_o 4
-unfolding row_of begins call_of
-return_reached = Led 2 4 (Led 0 2 (Evident 0 (omega arith) refl) (omega arith) refl) (omega arith) refl
+call_is_sure = refl
 
 abbrev x : Outcome
 x = outcome_of (link [] forward plain)
@@ -66,8 +58,8 @@ main_call : KeepsInstruction plain x main_linked.rows forward [] main_o 2 0o4767
 unfolding row_of begins
 main_call =
     reached_instructions_kept [] [] main_o (twice_o ∷ count_o ∷ []) plain x all_good
-    (omega arith, (omega arith, (omega arith, (omega arith, (omega arith, tt))))) main_is_sure main_linked
-    Distances 2 call_reached 0o4767 (0o177770 ∷ 0o207 ∷ []) refl call refl refl
+    (omega arith, (omega arith, (omega arith, (omega arith, (omega arith, tt))))) Promise main_is_sure main_linked
+    2 call_is_sure 0o4767 (0o177770 ∷ 0o207 ∷ []) refl call refl refl
 
 -- without the premise: an operand word whose pc bit was forgotten refers to a name, and finds another place in the program
 abbrev forgotten_o : Contents
@@ -80,7 +72,7 @@ FindsItsName Premise =
     (forced : List (List ℕ)) (before : List Contents) (k : Contents) (after : List Contents) (o : Choices) (x : Outcome) →
     AllByRecursion IsObject (before ++ k ∷ after) → Premise k → o.keep ≢ Nothing → o.relocatable ≡ false →
     link forced (before ++ k ∷ after) o ≡ Ok x →
-    (e : Evidence) (i : ℕ) → IsReached e k i → (w : ℕ) (following : List ℕ) → drop i k.text_words ≡ w ∷ following →
+    (e : Evidence) (i : ℕ) → is_sure e k i ≡ true → (w : ℕ) (following : List ℕ) → drop i k.text_words ≡ w ∷ following →
     (instruction : Instruction) → instruction_of w ≡ Some instruction → is_cut (instruction_of w) following ≡ false →
     (operand : Option Operand) (p : ℕ) → IsOperand instruction i operand p → (a : Addressing) → addressing_of operand ≡ Some a →
     (u word : ℕ) (r : Reloc) (s row : Symbol) → slice_get k.text_words p ≡ Some u → slice_get k.text_reloc p ≡ Some r →
@@ -103,23 +95,23 @@ forgotten_pc_bit law =
       as_object b_o refl refl refl refl refl refl refl refl,
       (as_object forgotten_o refl refl refl refl refl refl refl refl, (count_good, tt)),
     ) tt all_kept refl refl
-    Symbols 0 (Evident 0 (omega arith) refl) 0o16700 (0o177774 ∷ 0o207 ∷ []) refl fetch refl refl
+    Promise 0 refl 0o16700 (0o177774 ∷ 0o207 ∷ []) refl fetch refl refl
     (Some (General Index registers.Pc)) 1 (inl (refl, refl)) Relative refl
     0o177774 4 (record { 0 = 0o30 }) (entry _count 0o40 0) (entry _count 0o43 8) refl refl refl refl refl refl)
 
 -- and this is suspicious for sure
-forgotten_is_reported : sure_suspicions forgotten_o ≡ [] → ⊥
+forgotten_is_reported : NoneIsSure (suspicions Promise forgotten_o) → ⊥
 unfolding row_of begins call_of
-forgotten_is_reported e = absurd cc
+forgotten_is_reported none = let e : true ≡ false = none.0 in absurd cc
 
--- places that only symbols reach: a word with a name may be data
+-- places that only names reach: a word with a name may be data
 abbrev named_data_o : Contents
 named_data_o = object (7 ∷ []) (0 ∷ []) [] [] 0 (entry _f 0o42 0 ∷ [])
 
-begin_by_symbols : ((k : Contents) → sure_suspicions k ≡ [] → (i : ℕ) → IsReached Symbols k i → BeginsInstruction k i) → ⊥
+begin_by_names : ((k : Contents) → NoneIsSure (suspicions Flow k) → (i : ℕ) → is_reached Names k i ≡ true → BeginsInstruction k i) → ⊥
 unfolding row_of begins call_of
-begin_by_symbols law =
-    let b = law named_data_o refl 0 (Evident 0 (omega arith) refl) in
+begin_by_names law =
+    let b = law named_data_o (refl, tt) 0 refl in
     let here : 7 ∷ [] ≡ b.w ∷ b.following = b.here in
     let word : 7 ≡ b.w = cc in
     let none : None ≡ Some b.instruction = ap instruction_of word ∙ b.is in

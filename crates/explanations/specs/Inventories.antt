@@ -1,12 +1,12 @@
 -- A line of an inventory: what a file is, its sizes, its symbols, what is wrong or odd in it, and its path. (own choice)
 --
 -- A number that a kind of file does not have, or that is not counted, is a hyphen.
-use Rattle.std.specs.Prelude.{ℕ, ◌+◌, Bool, ◌&&◌, eqb, nat_lt, true, false, if◌then◌else◌, List, [], ◌∷◌, ◌++◌, length, codes, decimal}
+use Rattle.std.specs.Prelude.{ℕ, Bool, ◌&&◌, eqb, nat_lt, true, false, if◌then◌else◌, List, [], ◌∷◌, ◌++◌, length, codes, decimal}
 use Rattle.std.specs.Prelude.{filter, option_map, Option, Some, None}
 use Rattle.aout_core.specs.{Contents.Contents, Decoding.header_in, WellFormed.is_undefined, declared.file.ReadFault.ReadFault}
 use Rattle.aout_core.specs.{declared.header.Header.Header, declared.symbol.Symbol.Symbol}
-use Rattle.findings.specs.{Found.Found, Odd.odd, OtherFiles.is_of_gnu, OtherFiles.other_form, declared.other_files.OtherForm.OtherForm}
-use Rattle.suspicions.specs.Suspicions.{suspicions}
+use Rattle.findings.specs.{Found.Found, OtherFiles.is_of_gnu, OtherFiles.other_form, declared.other_files.OtherForm.OtherForm}
+use Rattle.suspicions.specs.{Suspicions.all_odd, declared.evidence.Evidence.TheVariants.Flow}
 use Rattle.texts.specs.{Columns.at_left, Columns.at_right, Numbers.padded_octal}
 use Rattle.explanations.specs.declared.inventory.Condition.TheVariants.{NotExamined, DamagedAt, Odd}
 use Rattle.explanations.specs.{Said.printed, declared.inventory.Condition.Condition, declared.inventory.InventoryRow.InventoryRow}
@@ -61,9 +61,9 @@ counts_of symbols = record { all = length symbols; undefined = length (filter wa
 
 -- ---- what is wrong or odd
 
--- how many things are odd or suspicious: as many as the listing has notes that begin with `odd`
+-- how many things are odd or suspicious
 abbrev pub odd_count : List ℕ → Contents → ℕ
-odd_count bytes c = length (odd bytes c) + length (suspicions c)
+odd_count bytes c = length (all_odd Flow true bytes c)
 
 -- damaged if something is wrong, at the first such byte; otherwise so many things are odd
 abbrev pub condition_of : List Found → ℕ → Condition

@@ -6,9 +6,9 @@ ghost use Rattle.explanations.specs.Inventories.{condition_of, counts_of, damage
 use crate::file_kind::{FileKind, file_kind, kind_of_form};
 use aout_core::{File, Header, ReadFault, Symbol};
 use disassemblies::Sweep;
-use findings::{Finding, header_of, is_of_gnu, odd_of, other_form};
+use findings::{Finding, header_of, is_of_gnu, other_form};
 use std::alloc::{AllocError, Global};
-use suspicions::suspicions_of;
+use suspicions::{Evidence, all_odd_of};
 
 /// The sizes of segments in bytes.
 #[derive(Clone, Copy, Debug, PartialEq, Eq)]
@@ -83,13 +83,13 @@ fn counts_of(symbols: &[Symbol]) -> SymbolCounts
     }
 }
 
-/// How many notes of a listing say that something is odd.
+/// How many things are odd.
 fn odd_count(alloc: Global, bytes: &[u8], file: &File) -> Result<usize, AllocError>
     ensures { IfOk result (λ count. count ≡ odd_count bytes.now file.now) }
 {
-    let odd = odd_of(alloc, bytes, file)?;
-    let suspicions = suspicions_of(alloc, &Sweep::new(alloc, file)?)?;
-    Ok(odd.len() + suspicions.len())
+    let sweep = Sweep::new(alloc, file)?;
+    let odd = all_odd_of(alloc, Evidence::Flow, bytes, &sweep, true)?;
+    Ok(odd.len())
 }
 
 /// That a file is damaged, if anything is wrong, or how many things are odd.

@@ -2,34 +2,36 @@
 use Rattle.std.proofs.Common.{◌≡◌, refl, ℕ, ◌+◌, ◌<◌, Bool, true, false, if◌then◌else◌, not, ◌&&◌, is_some, Option, Some, None, List, []}
 use Rattle.std.proofs.Common.{◌∷◌, ◌++◌, take, drop, length, get_or, sym, ◌∙◌, ap, arith, append_assoc}
 use Rattle.std.proofs.{lemmas.List.drop_more, lemmas.List.take_more, lemmas.List.length-take, lemmas.Slice.Eq.bytes_eq-Decides}
-use Rattle.std.specs.Prelude.{bytes_eq}
-use Rattle.aout_core.specs.{declared.symbol.Symbol.Symbol, Contents.Contents, WellFormed.first_of}
+use Rattle.std.specs.Prelude.{bytes_eq, Result, Ok, Err, OnOk}
+use Rattle.aout_core.specs.{declared.symbol.Symbol.Symbol, Contents.Contents, WellFormed.first_of, WellFormed.is_external}
 use Rattle.findings.specs.{Found.Found, Odd.first_named_from, Odd.first_named, Odd.odd_symbol, Odd.symbol_at, Odd.odd_symbols}
+use Rattle.findings.specs.Odd.{has_name}
+use Rattle.std.proofs.lemmas.Bool.{and_parts}
 
-pub symbols_more : (c : Contents) (bytes : List ℕ) (symbols : List Symbol) (i : ℕ) (s : Symbol) (old new whole : List Found) →
+pub symbols_more : (commons : Bool) (c : Contents) (bytes : List ℕ) (symbols : List Symbol) (i : ℕ) (s : Symbol) (old new whole : List Found) →
     i < length symbols → s ≡ get_or symbols i s →
-    new ≡ old ++ odd_symbol c.header bytes (take i c.symbols) i (symbol_at c.header i) s → old ++ odd_symbols c bytes i
-    (drop i symbols) ≡ whole → new ++ odd_symbols c bytes (i + 1) (drop (i + 1) symbols) ≡ whole
-symbols_more c bytes symbols i s old new whole inside is put so_far =
-    let rest : List Found = odd_symbols c bytes (i + 1) (drop (i + 1) symbols) in
+    new ≡ old ++ odd_symbol commons c.header bytes (take i c.symbols) i (symbol_at c.header i) s → old ++ odd_symbols commons c bytes i
+    (drop i symbols) ≡ whole → new ++ odd_symbols commons c bytes (i + 1) (drop (i + 1) symbols) ≡ whole
+symbols_more commons c bytes symbols i s old new whole inside is put so_far =
+    let rest : List Found = odd_symbols commons c bytes (i + 1) (drop (i + 1) symbols) in
     ap (λ (l : List Found). l ++ rest) put
-    ∙ append_assoc old (odd_symbol c.header bytes (take i c.symbols) i (symbol_at c.header i) s) rest
-    ∙ ap (λ (l : List Symbol). old ++ odd_symbols c bytes i l)
+    ∙ append_assoc old (odd_symbol commons c.header bytes (take i c.symbols) i (symbol_at c.header i) s) rest
+    ∙ ap (λ (l : List Symbol). old ++ odd_symbols commons c bytes i l)
     (sym (drop_more symbols i s inside ∙ ap (λ (x : Symbol). x ∷ drop (i + 1) symbols) (sym is)))
     ∙ so_far
 
 first_named-joined : (name : List ℕ) (n : ℕ) (ss : List Symbol) (s : Symbol) → first_named_from n name (ss ++ s ∷ [])
-    ≡ first_of (first_named_from n name ss) (if bytes_eq s.name name then Some (n + length ss) else None)
-first_named-joined name n [] s = let same : n ≡ n + 0 = omega arith in ap (λ (k : ℕ). if bytes_eq s.name name then Some k else None) same
+    ≡ first_of (first_named_from n name ss) (if has_name s name then Some (n + length ss) else None)
+first_named-joined name n [] s = let same : n ≡ n + 0 = omega arith in ap (λ (k : ℕ). if has_name s name then Some k else None) same
 first_named-joined name n (e ∷ ss) s =
     let same : n + 1 + length ss ≡ n + length (e ∷ ss) = omega arith in
-    by (bytes_eq e.name name) (first_named-joined name (n + 1) ss s
-    ∙ ap (λ (k : ℕ). first_of (first_named_from (n + 1) name ss) (if bytes_eq s.name name then Some k else None)) same)
+    by (has_name e name) (first_named-joined name (n + 1) ss s
+    ∙ ap (λ (k : ℕ). first_of (first_named_from (n + 1) name ss) (if has_name s name then Some k else None)) same)
   where
     by : (b : Bool) → first_named_from (n + 1) name (ss ++ s ∷ []) ≡ first_of (first_named_from (n + 1) name ss)
-        (if bytes_eq s.name name then Some (n + length (e ∷ ss)) else None) →
+        (if has_name s name then Some (n + length (e ∷ ss)) else None) →
         (if b then Some n else first_named_from (n + 1) name (ss ++ s ∷ [])) ≡ first_of (if b then Some n
-        else first_named_from (n + 1) name ss) (if bytes_eq s.name name then Some (n + length (e ∷ ss)) else None)
+        else first_named_from (n + 1) name ss) (if has_name s name then Some (n + length (e ∷ ss)) else None)
     by true rest = refl
     by false rest = rest
 
@@ -46,16 +48,27 @@ noted false found (Some x) i same = refl
 
 pub noted_more : (symbols : List Symbol) (i : ℕ) (s : Symbol) (other : List ℕ) (found old new : Option ℕ) →
     i < length symbols → s ≡ get_or symbols i s →
-    new ≡ (if bytes_eq s.name other && not (is_some found) then Some i else old) → found ≡ first_named s.name
+    new ≡ (if has_name s other && not (is_some found) then Some i else old) → found ≡ first_named s.name
     (take i symbols) → old ≡ first_named other (take i symbols) → new ≡ first_named other (take (i + 1) symbols)
 noted_more symbols i s other found old new inside is put looked so_far =
     let before : List Symbol = take i symbols in
     let count : 0 + length before ≡ i = omega (arith, length-take i symbols) in
     let joined : take (i + 1) symbols ≡ before ++ s ∷ [] = take_more symbols i s inside ∙ ap (λ (e : Symbol). before ++ e ∷ []) (sym is) in
     put
-    ∙ noted (bytes_eq s.name other) found old i
-    (λ e. looked ∙ ap (λ (name : List ℕ). first_named name before) ((bytes_eq-Decides s.name other).0 e) ∙ sym so_far)
-    ∙ ap (λ (o : Option ℕ). first_of o (if bytes_eq s.name other then Some i else None)) so_far
-    ∙ ap (λ (k : ℕ). first_of (first_named other before) (if bytes_eq s.name other then Some k else None)) (sym count)
+    ∙ noted (has_name s other) found old i
+    (λ e. looked
+    ∙ ap (λ (name : List ℕ). first_named name before) ((bytes_eq-Decides s.name other).0 (and_parts (is_external s) (bytes_eq s.name other) e).1)
+    ∙ sym so_far)
+    ∙ ap (λ (o : Option ℕ). first_of o (if has_name s other then Some i else None)) so_far
+    ∙ ap (λ (k : ℕ). first_of (first_named other before) (if has_name s other then Some k else None)) (sym count)
     ∙ sym (first_named-joined other 0 before s)
     ∙ ap (λ (l : List Symbol). first_named other l) (sym joined)
+
+-- what is noted of the name of an external
+pub external_noted : {A E : Type 0} (r : Result A E) (s : Symbol) (i : ℕ) (old new : List ℕ → Option ℕ) → is_external s ≡ true →
+    OnOk r ((other : List ℕ) → new other ≡ (if bytes_eq s.name other && not (is_some (old s.name)) then Some i else old other)) →
+    OnOk r ((other : List ℕ) → new other ≡ (if has_name s other && not (is_some (old s.name)) then Some i else old other))
+external_noted (Ok x) s i old new e h =
+    λ other. h other
+    ∙ ap (λ (b : Bool). if (b && bytes_eq s.name other) && not (is_some (old s.name)) then Some i else old other) (sym e)
+external_noted (Err x) s i old new e h = h

@@ -5,7 +5,7 @@
 use Rattle.std.specs.Prelude.{ℕ, ◌+◌, ◌-◌, ◌*◌, ◌%◌, Bool, true, false, not, ◌&&◌, ◌||◌, eqb, nat_lt, nat_le, if◌then◌else◌, List, [], ◌∷◌}
 use Rattle.std.specs.Prelude.{◌++◌, take, drop, length, slice_index, bytes_eq, Option, Some, None}
 use Rattle.std.specs.List.{list_any}
-use Rattle.aout_core.specs.WellFormed.{is_undefined, kind_of, masked_type, segment_of}
+use Rattle.aout_core.specs.WellFormed.{is_external, is_undefined, kind_of, masked_type, segment_of}
 use Rattle.aout_core.specs.{declared.header.Header.Header, declared.symbol.Symbol.Symbol, declared.symbol.Segment.Segment}
 use Rattle.aout_core.specs.{declared.reloc.Reloc.Reloc, declared.reloc.Kind.Kind, declared.reloc.Kind.TheVariants.External}
 use Rattle.aout_core.specs.{Contents.Contents, Encoding.relocation_at, Encoding.symbols_at, Encoding.file_length, Words.plus}
@@ -86,12 +86,12 @@ abbrev pub odd_rest_of_name : List ℕ → ℕ → ℕ → Symbol → List Found
 odd_rest_of_name bytes n place s =
     found_if (list_any is_byte (after_name bytes place s)) place BytesAfterName (rest_text (symbol_title n s.name))
 
--- a name that an earlier symbol has, if there is one, by its number
+-- a name that an earlier external has, if there is one, by its number
 abbrev pub odd_repeated : ℕ → ℕ → Symbol → Option ℕ → List Found
 odd_repeated n place s None = []
 odd_repeated n place s (Some first) = found_if true place RepeatedName (repeated_text (symbol_title n s.name) first)
 
--- the number of the first symbol with the name, if an earlier one has it
+-- the number of the first external with the name, if an earlier one has it
 abbrev pub odd_name : List ℕ → ℕ → Option ℕ → ℕ → Symbol → List Found
 odd_name bytes n first place s =
     odd_empty n place s ++ odd_hidden n place s ++ odd_rest_of_name bytes n place s ++ odd_repeated n place s first
@@ -104,42 +104,54 @@ odd_type_bits n place s =
 abbrev pub odd_type : ℕ → ℕ → Symbol → List Found
 odd_type n place s = found_if (not (has_type s)) (place + 8) UnknownType (unknown_type_text (symbol_title n s.name) s.type_bits)
 
-abbrev pub odd_common : ℕ → ℕ → Symbol → List Found
-odd_common n place s = found_if (is_undefined s && eqb (s.value % 2) 1) (place + 10) OddCommon (common_text (symbol_title n s.name) s.value)
+-- a common of an odd size, if these are wanted
+abbrev pub odd_common : Bool → ℕ → ℕ → Symbol → List Found
+odd_common commons n place s =
+    found_if (commons && (is_undefined s && eqb (s.value % 2) 1)) (place + 10) OddCommon (common_text (symbol_title n s.name) s.value)
 
 abbrev pub odd_value : Header → ℕ → ℕ → Symbol → List Found
 odd_value h n place s =
     found_if (not (has_address h (segment_of s) s.value)) (place + 10) OutsideValue
     (outside_value_text h (segment_of s) (symbol_title n s.name) s.value)
 
-abbrev pub odd_fields : Header → ℕ → ℕ → Symbol → List Found
-odd_fields h n place s =
-    odd_type_bits n place s ++ odd_type n place s ++ odd_common n place s ++ odd_value h n place s
+abbrev pub odd_fields : Bool → Header → ℕ → ℕ → Symbol → List Found
+odd_fields commons h n place s =
+    odd_type_bits n place s ++ odd_type n place s ++ odd_common commons n place s ++ odd_value h n place s
 
--- the number of the first symbol that has a name, if the first of these has number n; names are equal in eight bytes
+-- an external has a name; names are equal in eight bytes
+abbrev pub has_name : Symbol → List ℕ → Bool
+has_name s name = is_external s && bytes_eq s.name name
+
+-- the number of the first external that has a name, if the first of these symbols has number n
 abbrev pub first_named_from : ℕ → List ℕ → List Symbol → Option ℕ
 first_named_from n name [] = None
-first_named_from n name (s ∷ ss) = if bytes_eq s.name name then Some n else first_named_from (n + 1) name ss
+first_named_from n name (s ∷ ss) = if has_name s name then Some n else first_named_from (n + 1) name ss
 
 abbrev pub first_named : List ℕ → List Symbol → Option ℕ
 first_named name symbols = first_named_from 0 name symbols
 
+-- the number of the first of these that has the name of an external; locals may have any names
+abbrev pub first_alike : Symbol → List Symbol → Option ℕ
+first_alike s earlier = if is_external s then first_named s.name earlier else None
+
 -- symbol n, whose entry begins at this byte, and which follows these in the table
-abbrev pub odd_symbol : Header → List ℕ → List Symbol → ℕ → ℕ → Symbol → List Found
-odd_symbol h bytes earlier n place s =
-    odd_name bytes n (first_named s.name earlier) place s ++ odd_fields h n place s
+abbrev pub odd_symbol : Bool → Header → List ℕ → List Symbol → ℕ → ℕ → Symbol → List Found
+odd_symbol commons h bytes earlier n place s =
+    odd_name bytes n (first_alike s earlier) place s ++ odd_fields commons h n place s
 
 abbrev pub symbol_at : Header → ℕ → ℕ
 symbol_at h n = symbols_at h + 12 * n
 
 -- the symbols from number n on
-abbrev pub odd_symbols : Contents → List ℕ → ℕ → List Symbol → List Found
-odd_symbols c bytes n [] = []
-odd_symbols c bytes n (s ∷ ss) = odd_symbol c.header bytes (take n c.symbols) n (symbol_at c.header n) s ++ odd_symbols c bytes (n + 1) ss
+abbrev pub odd_symbols : Bool → Contents → List ℕ → ℕ → List Symbol → List Found
+odd_symbols commons c bytes n [] = []
+odd_symbols commons c bytes n (s ∷ ss) =
+    odd_symbol commons c.header bytes (take n c.symbols) n (symbol_at c.header n) s ++ odd_symbols commons c bytes (n + 1) ss
 
-abbrev pub odd : List ℕ → Contents → List Found
-odd bytes c =
+-- all that is odd, with the commons of odd sizes or without them
+abbrev pub odd : Bool → List ℕ → Contents → List Found
+odd commons bytes c =
     odd_header c.header (length bytes)
     ++ odd_words c.header (relocation_at c.header) 0 c.text_words 0 c.text_reloc
     ++ odd_words c.header (relocation_at c.header + c.header.text_size) (data_start_in c.header % 65536) c.data_words 0 c.data_reloc
-    ++ odd_symbols c bytes 0 c.symbols
+    ++ odd_symbols commons c bytes 0 c.symbols

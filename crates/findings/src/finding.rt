@@ -41,7 +41,7 @@ pub enum FindingKind {
     UnprintableName,
     /// Bytes after the NUL of a name are ignored.
     BytesAfterName,
-    /// An earlier symbol has the name.
+    /// An earlier external has the name, which is an external too.
     RepeatedName,
     /// Bits of a type word above 77 are ignored.
     IgnoredTypeBits,
@@ -72,6 +72,8 @@ pub struct Finding {
     pub place: usize,
     /// What is wrong or odd there.
     pub kind: FindingKind,
+    /// Whether it is not in doubt, as what is odd of a word is if that may be data.
+    pub is_sure: bool,
     /// The same in words, with its numbers.
     pub text: Vec<u8>,
 }
@@ -95,7 +97,7 @@ impl Model for Findings {
 impl Findings {
     ghost use Rattle.std.specs.Prelude.{◌≡◌, ◌++◌, [], false, true, IfOk};
     ghost use Rattle.texts.specs.Texts.{nothing_written};
-    ghost use Rattle.findings.specs.Found.{all_found, found_if};
+    ghost use Rattle.findings.specs.Found.{all_found, found_as, found_if};
 
     /// None yet.
     pub fn new(alloc: Global) -> Findings
@@ -120,16 +122,29 @@ impl Findings {
         Text::new(self.allocator())
     }
 
-    /// Adds a finding.
+    /// Adds a finding that is sure.
     pub fn find(&mut self, place: usize, kind: FindingKind, text: Text)
         ensures { self.new.is_cut ≡ false → (self.old.is_cut ≡ false) × (text.is_cut ≡ false)
             × (self.new.found ≡ self.old.found ++ found_if true place kind text.bytes) }
+    {
+        self.find_as(true, place, kind, text);
+    }
+
+    /// Adds a finding that is sure or in doubt.
+    pub fn find_as(&mut self, is_sure: bool, place: usize, kind: FindingKind, text: Text)
+        ensures { self.new.is_cut ≡ false → (self.old.is_cut ≡ false) × (text.is_cut ≡ false)
+            × (self.new.found ≡ self.old.found ++ found_as is_sure true place kind text.bytes) }
     {
         let text = match text.finish() {
             Ok(text) => text,
             Err(error) => return self.cut(error),
         };
-        if let Err(error) = self.list.push(Finding { place, kind, text }) {
+        if let Err(error) = self.list.push(Finding {
+            place,
+            kind,
+            is_sure,
+            text,
+        }) {
             self.cut(AllocError::from(error));
         }
     }

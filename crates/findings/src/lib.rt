@@ -10,7 +10,7 @@
 //! fn oddities(alloc: Global, bytes: &[u8]) -> Result<Notes> {
 //!     let file = read_file(alloc, &mut Wire::new(bytes))?;
 //!     let mut notes = Notes::new(alloc);
-//!     put_findings(&mut notes, "odd", &odd_of(alloc, bytes, &file)?);
+//!     put_findings(&mut notes, "odd", &odd_of(alloc, bytes, &file, true)?);
 //!     Ok(notes)
 //! }
 //! ```

@@ -1,5 +1,6 @@
 //! What is odd of a file, and not refused.
-ghost use Rattle.std.specs.Prelude.{◌≡◌, ◌+◌, ◌*◌, ◌%◌, ◌^◌, ◌<◌, ◌≤◌, ◌&&◌, not, Some, length, take};
+ghost use Rattle.std.specs.Prelude.{◌≡◌, ◌+◌, ◌*◌, ◌%◌, ◌^◌, ◌<◌, ◌≤◌, ◌&&◌, not, Some, None, length, take};
+ghost use Rattle.aout_core.specs.WellFormed.{is_external};
 ghost use Rattle.std.specs.Prelude.{if◌then◌else◌, bytes_eq, is_some, IfOk, OnOk, List, ℕ, false};
 ghost use Rattle.std.specs.List.{list_any};
 ghost use Rattle.std.specs.BTreeMap.{get};
@@ -15,7 +16,7 @@ ghost use Rattle.findings.specs.OddTexts.{common_text, outside_value_text};
 ghost use Rattle.findings.specs.Odd.{odd_entry, odd_unused, odd_rest, odd_header, ignores_number, odd_relocation};
 ghost use Rattle.findings.specs.Odd.{odd_target, odd_word, odd_words, is_hidden, after_name, is_byte, has_type};
 ghost use Rattle.findings.specs.Odd.{odd_empty, odd_hidden, odd_rest_of_name, odd_repeated, odd_name, odd_type_bits};
-ghost use Rattle.findings.specs.Odd.{odd_type, odd_common, odd_value, odd_fields, first_named, odd_symbol, symbol_at};
+ghost use Rattle.findings.specs.Odd.{odd_type, odd_common, odd_value, odd_fields, has_name, first_alike, odd_symbol, symbol_at};
 ghost use Rattle.findings.specs.Odd.{odd_symbols, odd};
 
 use crate::finding::{Finding, FindingKind, Findings};
@@ -172,7 +173,7 @@ fn find_rest_of_name(findings: &mut Findings, at: &Numbered<'_>, bytes: &[u8])
     }
 }
 
-/// A text that an earlier symbol has the name.
+/// A text that an earlier external has the name.
 #[tactic(auto, unfolding(crate::specs::OddTexts::repeated_text))]
 fn repeated_text(findings: &Findings, at: &Numbered<'_>, first: usize) -> Text
     ensures { Holds result
@@ -185,7 +186,7 @@ fn repeated_text(findings: &Findings, at: &Numbered<'_>, first: usize) -> Text
     text
 }
 
-/// Adds a name that an earlier symbol has, if there is one, by its number.
+/// Adds a name that an earlier external has, if there is one, by its number.
 fn find_repeated(findings: &mut Findings, at: &Numbered<'_>, first: Option<usize>)
     ensures { Finds findings.old findings.new
         (odd_repeated at.now.number at.now.place at.now.symbol.now first) }
@@ -196,7 +197,7 @@ fn find_repeated(findings: &mut Findings, at: &Numbered<'_>, first: Option<usize
     }
 }
 
-/// Adds what is odd of a name, which an earlier symbol has first, if one has it.
+/// Adds what is odd of a name, which an earlier external has first, if one has it.
 fn find_name(findings: &mut Findings, at: &Numbered<'_>, bytes: &[u8], first: Option<usize>)
     requires { at.now.place < 2 ^ 32 }
     ensures { Finds findings.old findings.new
@@ -279,14 +280,14 @@ fn common_text(findings: &Findings, at: &Numbered<'_>, size: u16) -> Text
     text
 }
 
-/// Adds a common of an odd size.
-fn find_common(findings: &mut Findings, at: &Numbered<'_>)
+/// Adds a common of an odd size, if these are wanted.
+fn find_common(findings: &mut Findings, at: &Numbered<'_>, commons: bool)
     requires { at.now.place < 2 ^ 32 }
     ensures { Finds findings.old findings.new
-        (odd_common at.now.number at.now.place at.now.symbol.now) }
+        (odd_common commons at.now.number at.now.place at.now.symbol.now) }
 {
     let size = at.symbol.value;
-    if at.symbol.is_undefined() && size % 2 == 1 {
+    if commons && at.symbol.is_undefined() && size % 2 == 1 {
         let text = common_text(findings, at, size);
         findings.find(at.place + 10, FindingKind::OddCommon, text);
     }
@@ -327,22 +328,23 @@ fn find_value(findings: &mut Findings, at: &Numbered<'_>, header: &Header)
 }
 
 /// Adds what is odd of a type word and of a value.
-fn find_fields(findings: &mut Findings, at: &Numbered<'_>, header: &Header)
+fn find_fields(findings: &mut Findings, at: &Numbered<'_>, header: &Header, commons: bool)
     requires { at.now.place < 2 ^ 32 }
     ensures { Finds findings.old findings.new
-        (odd_fields header.now at.now.number at.now.place at.now.symbol.now) }
+        (odd_fields commons header.now at.now.number at.now.place at.now.symbol.now) }
 {
     find_type_bits(findings, at);
     find_type(findings, at);
-    find_common(findings, at);
+    find_common(findings, at, commons);
     find_value(findings, at, header);
 }
 
-/// A file, and the bytes that it was read from.
+/// A file, the bytes that it was read from, and whether commons of odd sizes are wanted.
 #[derive(Clone, Copy)]
 struct Source<'a> {
     bytes: &'a [u8],
     file: &'a File,
+    commons: bool,
 }
 
 /// Adds what is odd of a symbol, whose name an earlier one has first, if one has it.
@@ -354,9 +356,9 @@ fn find_symbol(
     symbol: &Symbol,
 )
     requires few { number < 65536 }
-    requires first { first ≡ first_named symbol.now.name (take number source.now.file.now.symbols) }
-    ensures { Finds findings.old findings.new (odd_symbol source.now.file.now.header
-        source.now.bytes.now (take number source.now.file.now.symbols)
+    requires first { first ≡ first_alike symbol.now (take number source.now.file.now.symbols) }
+    ensures { Finds findings.old findings.new (odd_symbol source.now.commons
+        source.now.file.now.header source.now.bytes.now (take number source.now.file.now.symbols)
         number (symbol_at source.now.file.now.header number) symbol.now) }
 {
     let header = source.file.header();
@@ -366,11 +368,11 @@ fn find_symbol(
         place: symbol_at(header, number),
     };
     find_name(findings, &at, source.bytes, first);
-    find_fields(findings, &at, header);
+    find_fields(findings, &at, header, source.commons);
 }
 
-/// The number of the first symbol so far that has a name, which is noted if none has it.
-fn first_alike(
+/// The number that was noted first with a name, which is noted if none was.
+fn first_noted(
     seen: &mut BTreeMap<Name, usize>,
     name: Name,
     number: usize,
@@ -387,15 +389,35 @@ fn first_alike(
     Ok(None)
 }
 
+/// The number of the first external so far that has the name of an external, which is noted if none has it.
+fn first_alike(
+    seen: &mut BTreeMap<Name, usize>,
+    symbol: &Symbol,
+    number: usize,
+) -> Result<Option<usize>, AllocError>
+    ensures first { IfOk result (λ first. first ≡ (if is_external symbol.now
+        then get (slice_cmp nat_cmp) seen.old symbol.now.name else None)) }
+    ensures noted { OnOk result ((other : List ℕ) → get (slice_cmp nat_cmp) seen.new other
+        ≡ (if has_name symbol.now other
+        && not (is_some (get (slice_cmp nat_cmp) seen.old symbol.now.name))
+        then Some number else get (slice_cmp nat_cmp) seen.old other)) }
+{
+    if !symbol.is_external() {
+        return Ok(None);
+    }
+    first_noted(seen, symbol.name, number)
+}
+
 /// Adds what is odd of the symbols.
 fn find_symbols(findings: &mut Findings, source: &Source<'_>)
     ensures { Finds findings.old findings.new
-        (odd_symbols source.now.file.now source.now.bytes.now 0 source.now.file.now.symbols) }
+        (odd_symbols source.now.commons source.now.file.now source.now.bytes.now 0
+        source.now.file.now.symbols) }
 {
     let mut seen = BTreeMap::new(findings.allocator());
     let symbols = source.file.symbols();
     for (number, symbol) in symbols.iter().enumerate() {
-        match first_alike(&mut seen, symbol.name, number) {
+        match first_alike(&mut seen, symbol, number) {
             Ok(first) => find_symbol(findings, source, number, first, symbol),
             Err(error) => return findings.cut(error),
         }
@@ -602,14 +624,16 @@ fn find_ignored(findings: &mut Findings, header: &Header, size: usize)
     find_rest(findings, header, size);
 }
 
-/// Adds what is odd of a file, which these bytes begin with.
-fn find_odd(findings: &mut Findings, bytes: &[u8], file: &File)
-    ensures { Finds findings.old findings.new (odd bytes.now file.now) }
+/// Adds what is odd of a file, which the bytes begin with.
+fn find_odd(findings: &mut Findings, source: &Source<'_>)
+    ensures { Finds findings.old findings.new
+        (odd source.now.commons source.now.bytes.now source.now.file.now) }
 {
+    let file = source.file;
     let header = file.header();
     let relocation = FilePlaces::of(header).relocation;
     let text_size = usize::from(header.text_size);
-    find_ignored(findings, header, bytes.len());
+    find_ignored(findings, header, source.bytes.len());
     let text = Contents {
         start: 0,
         words: file.text_words(),
@@ -624,14 +648,25 @@ fn find_odd(findings: &mut Findings, bytes: &[u8], file: &File)
         place: relocation + text_size,
     };
     find_words(findings, header, &data);
-    find_symbols(findings, &Source { bytes, file });
+    find_symbols(findings, source);
 }
 
-/// What is odd of a file, which these bytes begin with. An error: out of memory.
-pub fn odd_of(alloc: Global, bytes: &[u8], file: &File) -> Result<Vec<Finding>, AllocError>
-    ensures { IfOk result (λ findings. all_found findings.items ≡ odd bytes.now file.now) }
+/// What is odd of a file, which these bytes begin with, with the commons of odd sizes or without them. An error: out of memory.
+pub fn odd_of(
+    alloc: Global,
+    bytes: &[u8],
+    file: &File,
+    commons: bool,
+) -> Result<Vec<Finding>, AllocError>
+    ensures { IfOk result (λ findings.
+        all_found findings.items ≡ odd commons bytes.now file.now) }
 {
     let mut findings = Findings::new(alloc);
-    find_odd(&mut findings, bytes, file);
+    let source = Source {
+        bytes,
+        file,
+        commons,
+    };
+    find_odd(&mut findings, &source);
     findings.finish()
 }

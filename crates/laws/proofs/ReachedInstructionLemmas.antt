@@ -1,4 +1,4 @@
--- The instructions of an object that are reached, in a program, if nothing is suspicious for sure in the object.
+-- The instructions at the sure places of an object, in a program, if nothing is suspicious for sure in the object.
 use Rattle.std.proofs.Common.{◌≡◌, ℕ, zero, suc, ◌+◌, ◌*◌, ◌/◌, ◌%◌, ◌<◌, Bool, true, false, inl, inr, List, [], ◌∷◌, ◌++◌, length, drop}
 use Rattle.std.proofs.Common.{Option, Some, None, refl, sym, ◌∙◌, ap, subst, arith}
 use Rattle.std.proofs.{lemmas.Bool.le-ltb, lemmas.Bool.eqb-true, lemmas.Option.same_Some}
@@ -24,11 +24,12 @@ use Rattle.instructions.specs.{declared.unix.UnixLine.UnixLine, declared.unix.Un
 use Rattle.instructions.specs.{Relocated.is_relocated, Alike.is_cut, UnixLaws.sys, UnixLaws.AreMadeBySys}
 use Rattle.instructions.proofs.CallLemmas.{each_made_by_sys}
 use Rattle.disassemblies.specs.Lines.{unix_line_in}
-use Rattle.suspicions.specs.{declared.evidence.Evidence.TheVariants.Distances, Trust.is_plain, SureLaw.SuitsMode, SureLaw.SuitsModes}
-use Rattle.suspicions.proofs.SureLemmas.{place_below, sure_places, reached_words}
+use Rattle.suspicions.specs.SureLaw.{is_whole, SuitsMode, SuitsModes}
+use Rattle.suspicions.specs.Suspicions.{is_foreign, is_immediate}
+use Rattle.suspicions.proofs.SureLemmas.{sure_below, sure_places, sure_words}
 use Rattle.laws.specs.OperandWords.{machine_value}
 use Rattle.laws.specs.OperandPlaces.{addressing_of, within_text, kind_meant, IsOwnByte, HasOperand, IsOperand}
-use Rattle.laws.specs.ReachedInstructions.{kind_said, HasOperandSaid, ReachedInstructionsAreKept, SurePlacesBegin}
+use Rattle.laws.specs.ReachedInstructions.{kind_said, HasOperandSaid, IsNoDistance, ReachedInstructionsAreKept, SurePlacesBegin}
 use Rattle.laws.proofs.{InstructionLemmas.moves_low, InstructionPlaceLemmas.instructions_there, OperandPlaceLemmas.operands_there}
 use Rattle.aout_core.specs.declared.symbol.Segment.TheVariants as segs
 use Rattle.aout_core.specs.declared.reloc.Kind.TheVariants as kinds
@@ -153,16 +154,24 @@ operand_suits k i w following here instruction is whole still modes operand p pl
         let same : instruction ≡ sys c.number = same_Some instruction (sys c.number) (sym is ∙ call_made w c e) in
         no_operand_word k i c.number operand p (subst (λ (j : Instruction). IsOperand j i operand p) same place)
 
+suits_way : (a : Addressing) (pc : Bool) → (is_immediate a ≡ false → pc ≡ counts_from_pc a) → (is_immediate a ≡ true → pc ≡ false) →
+    pc ≡ counts_from_pc a
+suits_way Immediate pc other own = own refl
+suits_way Absolute pc other own = other refl
+suits_way Relative pc other own = other refl
+suits_way RelativeDeferred pc other own = other refl
+suits_way Indexed pc other own = other refl
+
 bit_suits : (k : Contents) (p : ℕ) (operand : Option Operand) (a : Addressing) (r : Reloc) → SuitsMode k p operand →
-    addressing_of operand ≡ Some a → slice_get k.text_reloc p ≡ Some r → is_relocated (Some r) ≡ true →
+    addressing_of operand ≡ Some a → slice_get k.text_reloc p ≡ Some r → IsNoDistance k a p → is_relocated (Some r) ≡ true →
     is_pc_relative r ≡ counts_from_pc a
-bit_suits k p None a r s e at moved = absurd cc
-bit_suits k p (Some (operands.General m register)) a r s e at moved = s a r e at moved
-bit_suits k p (Some (operands.Accumulator v)) a r s e at moved = absurd cc
-bit_suits k p (Some (operands.Register v)) a r s e at moved = absurd cc
-bit_suits k p (Some (operands.Forward v)) a r s e at moved = absurd cc
-bit_suits k p (Some (operands.Backward v)) a r s e at moved = absurd cc
-bit_suits k p (Some (operands.Number v)) a r s e at moved = absurd cc
+bit_suits k p None a r s e at near moved = absurd cc
+bit_suits k p (Some (operands.General m register)) a r s e at near moved = suits_way a (is_pc_relative r) (s a r e at moved) (near r at)
+bit_suits k p (Some (operands.Accumulator v)) a r s e at near moved = absurd cc
+bit_suits k p (Some (operands.Register v)) a r s e at near moved = absurd cc
+bit_suits k p (Some (operands.Forward v)) a r s e at near moved = absurd cc
+bit_suits k p (Some (operands.Backward v)) a r s e at near moved = absurd cc
+bit_suits k p (Some (operands.Number v)) a r s e at near moved = absurd cc
 
 -- what an operand word refers to
 
@@ -267,21 +276,21 @@ operand_said os o x before k operation a p is h bit =
           there.place.symbol;
     }
 
--- for `reached_instruction_law`: a reached instruction is in the program, with its operands
+-- for `reached_instruction_law`: a sure instruction is in the program, with its operands
 pub reached_instructions_kept : ReachedInstructionsAreKept
-reached_instructions_kept forced before k after o x good small none l v i r w following here instruction is whole =
+reached_instructions_kept forced before k after o x good small e none l i s w following here instruction is whole =
     let linked : link forced (before ++ k ∷ after) o ≡ Ok x = (linked_exactly forced (before ++ k ∷ after) o x good).1 l in
-    let words = reached_words k none v i r in
+    let words = sure_words e k none i s in
     record {
       still = words.0;
       kept = instructions_there forced before k after o x good small l i w following here words.0 whole;
       operands =
-          λ operand p place a e.
-          let h = operands_there forced before k after o x good linked i w following here instruction is whole operand p place a e in
+          λ operand p place a way near.
+          let h = operands_there forced before k after o x good linked i w following here instruction is whole operand p place a way in
           operand_said (before ++ k ∷ after) o x before k instruction.row.operation a p
           (all_split IsObject before (k ∷ after) good).1.0 h
-          (bit_suits k p operand a h.r (operand_suits k i w following here instruction is whole words.0 words.1 operand p place) e
-          h.reloc_in);
+          (bit_suits k p operand a h.r (operand_suits k i w following here instruction is whole words.0 words.1 operand p place) way
+          h.reloc_in near);
     }
 
 -- an instruction begins at each sure place
@@ -291,19 +300,21 @@ record Begins (o : Option Instruction) (following : List ℕ) : Type 0 where
   is : o ≡ Some instruction
   whole : is_cut o following ≡ false
 
-begins_by : (o : Option Instruction) (w : ℕ) (following : List ℕ) → is_plain (Machine (line_of o w following)) ≡ false → Begins o following
-begins_by None w following e = absurd cc
-begins_by (Some i) w following e =
+begins_by : (o : Option Instruction) (w : ℕ) (following : List ℕ) → is_foreign w ≡ false →
+    is_whole (Machine (line_of o w following)) ≡ true → Begins o following
+begins_by None w following own e = absurd cc
+begins_by (Some i) w following own e =
     record { instruction = i; is = refl; whole = by (nat_lt (length following) (following_words i)) e }
   where
-    by : (t : Bool) → is_plain (Machine (if t then Plain w else decoded i following)) ≡ false → t ≡ false
+    by : (t : Bool) → is_whole (Machine (if t then Plain w else decoded i following)) ≡ true → t ≡ false
     by true e = absurd cc
     by false e = refl
 
-begins : (w : ℕ) (ws : List ℕ) (i : ℕ) → w ≡ slice_index ws i → (o : Option CallRow) → call_by Unix w ≡ o →
-    is_plain (unix_line o ws i) ≡ false → Begins (instruction_of (slice_index ws i)) (drop (i + 1) ws)
-begins w ws i same None e plain = begins_by (instruction_of (slice_index ws i)) (slice_index ws i) (drop (i + 1) ws) plain
-begins w ws i same (Some c) e plain =
+begins : (w : ℕ) (ws : List ℕ) (i : ℕ) → w ≡ slice_index ws i → is_foreign (slice_index ws i) ≡ false →
+    (o : Option CallRow) → call_by Unix w ≡ o →
+    is_whole (unix_line o ws i) ≡ true → Begins (instruction_of (slice_index ws i)) (drop (i + 1) ws)
+begins w ws i same own None e whole = begins_by (instruction_of (slice_index ws i)) (slice_index ws i) (drop (i + 1) ws) own whole
+begins w ws i same own (Some c) e whole =
     let is : instruction_of (slice_index ws i) ≡ made c = ap instruction_of (sym same) ∙ call_made w c e in
     record {
       instruction = sys c.number;
@@ -313,19 +324,19 @@ begins w ws i same (Some c) e plain =
           ∙ le-ltb (length (drop (i + 1) ws)) 0 (omega arith);
     }
 
--- and one begins at each place that distances reach
+-- and one begins at each sure place
 pub sure_places_begin : SurePlacesBegin
-sure_places_begin k none i r =
-    let still = (reached_words k none Distances i r).0 in
+sure_places_begin e k none i s own =
+    let still = (sure_words e k none i s).0 in
     let w : ℕ = slice_index k.text_words i in
-    let plain : is_plain (unix_line (call_by Unix w) k.text_words i) ≡ false =
-    ap is_plain (sym (line_there k i still)) ∙ (sure_places k none i r).0 in
-    let b = begins w k.text_words i refl (call_by Unix w) refl plain in
+    let whole : is_whole (unix_line (call_by Unix w) k.text_words i) ≡ true =
+    ap is_whole (sym (line_there k i still)) ∙ (sure_places e k none i s).0 in
+    let b = begins w k.text_words i refl own (call_by Unix w) refl whole in
     record {
       w = w;
       following = drop (i + 1) k.text_words;
       instruction = b.instruction;
-      here = words_from k.text_words i (place_below Distances k i r);
+      here = words_from k.text_words i (sure_below e k i s);
       is = b.is;
       whole = b.whole;
     }

@@ -82,11 +82,11 @@ pub fn instruction_law()
 /// What it means for a program that nothing is suspicious for sure in an object: that `v7-explain` reports nothing odd of its instructions
 /// without "if this is an instruction", as `suspicions` defines it. (ld(1), the handbook of the PDP-11/70; what is suspicious: own choice)
 ///
-/// - `reached`: each instruction of the object that symbols or distances reach, and that is not cut, is in the program, by `instructions` of
-///   `instruction_law`: its first word is not relocated. Each operand that has a word is the address of the byte to which its relocation
-///   word refers, by `operands` of `instruction_law`: the pc bit is set in modes 67 and 77 alone. A word that is not relocated is a
-///   distance within the text in these modes, and in others a number, which the program has too.
-/// - `sure`: an instruction or a system call begins at each place that distances reach, and is not cut.
+/// - `reached`: each instruction at a sure place of the object that is not cut is in the program, by `instructions` of `instruction_law`:
+///   its first word is not relocated. Each operand that has a word is the address of the byte to which its relocation word refers, by
+///   `operands` of `instruction_law`: the pc bit is set in modes 67 and 77 alone. A word that is not relocated is a distance within the
+///   text in these modes, and in others a number, which the program has too. The law says nothing of `$N` with the pc bit.
+/// - `sure`: an instruction or a system call begins at each sure place, and is not cut, unless it is one of another PDP-11.
 pub fn reached_instruction_law()
     ensures reached { ReachedInstructionsAreKept }
     ensures sure { SurePlacesBegin }

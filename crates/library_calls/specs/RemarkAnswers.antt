@@ -4,8 +4,8 @@
 use Rattle.std.specs.Prelude.{ℕ, ◌+◌, List, [], ◌∷◌, ◌++◌, length, Result, Ok, Err}
 use Rattle.std.specs.List.{flat_map}
 use Rattle.aout_core.specs.{Contents.Contents, Decoding.decode, WellFormed.first_object_fault, declared.file.ReadFault.ReadFault}
-use Rattle.findings.specs.{Found.Found, Odd.odd, Wrong.wrong_bytes, Wrong.wrong_in, declared.finding.FindingKind.FindingKind}
-use Rattle.suspicions.specs.Suspicions.{suspicions}
+use Rattle.findings.specs.{Found.Found, Wrong.wrong_bytes, Wrong.wrong_in, declared.finding.FindingKind.FindingKind}
+use Rattle.suspicions.specs.{Suspicions.all_odd, declared.evidence.Evidence.TheVariants.Flow}
 use Rattle.library_calls.specs.{declared.remarks_call.RemarkRecord.RemarkRecord, declared.remarks_call.Remarks.Remarks}
 use Rattle.findings.specs.declared.finding.FindingKind.TheVariants as kinds
 
@@ -56,7 +56,7 @@ wrong_by bytes (Ok c) = wrong_in (first_object_fault c) c
 
 abbrev pub odd_by : List ℕ → Result Contents ReadFault → List Found
 odd_by bytes (Err fault) = []
-odd_by bytes (Ok c) = odd bytes c ++ suspicions c
+odd_by bytes (Ok c) = all_odd Flow true bytes c
 
 -- a status, bytes, and a list of records
 pub record Output (A : Type 0) : Type 0 where

@@ -3,18 +3,18 @@ ghost use Rattle.std.specs.Prelude.{◌≡◌, ◌++◌, ◌∷◌, [], IfOk, If
 ghost use Rattle.aout_core.specs.Refusals.{refused};
 ghost use Rattle.aout_core.specs.WellFormed.{first_object_fault};
 ghost use Rattle.findings.specs.Found.{all_found, found_in};
-ghost use Rattle.findings.specs.Odd.{odd};
 ghost use Rattle.findings.specs.Wrong.{wrong_in};
-ghost use Rattle.suspicions.specs.Suspicions.{suspicions};
+ghost use Rattle.suspicions.specs.Suspicions.{all_odd};
+ghost use Rattle.suspicions.specs.declared.evidence.Evidence.TheVariants.{Flow};
 ghost use Rattle.library_calls.specs.RemarkAnswers.{kind_number, records_from, remarked_by, remarked_in, remarks_in, status_by, texts_of};
 ghost use Rattle.library_calls.specs.declared.cause.Cause.TheVariants.{Memory};
 
 use crate::cause::Cause;
 use aout_core::{File, decode_file, object_fault};
 use disassemblies::Sweep;
-use findings::{Finding, FindingKind, odd_of, wrong_bytes, wrong_in};
+use findings::{Finding, FindingKind, wrong_bytes, wrong_in};
 use std::alloc::{AllocError, Global};
-use suspicions::suspicions_of;
+use suspicions::{Evidence, all_odd_of};
 
 /// A remark on a file. (own choice)
 #[repr(C)]
@@ -132,25 +132,15 @@ fn remarks_by(alloc: Global, wrong: Vec<Finding>, odd: Vec<Finding>) -> Result<R
     })
 }
 
-/// What is odd and what is suspicious in a file.
-fn odd_in(alloc: Global, bytes: &[u8], file: &File) -> Result<Vec<Finding>, AllocError>
-    ensures { IfOk result (λ found.
-        all_found found.items ≡ odd bytes.now file.now ++ suspicions file.now) }
-{
-    let mut found = odd_of(alloc, bytes, file)?;
-    let mut more = suspicions_of(alloc, &Sweep::new(alloc, file)?)?;
-    found.append(&mut more)?;
-    Ok(found)
-}
-
 /// The remarks on a file that is in these bytes.
 fn file_remarks(alloc: Global, bytes: &[u8], file: &File) -> Result<Remarks, AllocError>
     ensures { IfOk result (λ x. remarks_in x ≡ remarked_by
         (wrong_in (first_object_fault file.now) file.now)
-        (odd bytes.now file.now ++ suspicions file.now)) }
+        (all_odd Flow true bytes.now file.now)) }
 {
     let wrong = wrong_in(alloc, file, object_fault(file))?;
-    let odd = odd_in(alloc, bytes, file)?;
+    let sweep = Sweep::new(alloc, file)?;
+    let odd = all_odd_of(alloc, Evidence::Flow, bytes, &sweep, true)?;
     remarks_by(alloc, wrong, odd)
 }
 

@@ -1,14 +1,11 @@
 -- The places that lead to more, one after the other.
 use Rattle.std.proofs.Common.{◌≡◌, ℕ, zero, suc, ◌+◌, ◌-◌, ◌<◌, ◌≤◌, refl, sym, ap, ◌∙◌, arith, append_assoc}
 use Rattle.std.proofs.{lemmas.Bool.lt-ltb, lemmas.Bool.le-ltb, lemmas.List.drop_more}
-use Rattle.std.specs.Prelude.{Bool, false, if◌then◌else◌, List, ◌++◌, length, drop, slice_index}
+use Rattle.std.specs.Prelude.{Option, map, [], ◌∷◌, Bool, false, if◌then◌else◌, List, ◌++◌, length, drop, slice_index}
 use Rattle.aout_core.specs.Contents.{Contents}
-use Rattle.instructions.specs.declared.unix.Decoder.TheVariants.{Unix}
-use Rattle.disassemblies.specs.Starts.{starts, is_start}
 use Rattle.findings.specs.Found.{Found}
-use Rattle.suspicions.specs.Reached.{leads_to, visited, visited_all, shown, shown_from, spread}
-use Rattle.suspicions.specs.{declared.evidence.Evidence.Evidence, Trust.past_place, Trust.trust, SureSuspicions.sure_suspicions_from}
-use Rattle.suspicions.specs.{SureSuspicions.sure_trust, Suspicions.suspicious_place, Suspicions.suspicious_words}
+use Rattle.suspicions.specs.Reached.{leads_to, visited, visited_all, named, shown, shown_from, entry, distances, evident, spread}
+use Rattle.suspicions.specs.{declared.evidence.Evidence.Evidence, Suspicions.suspicious_place, Suspicions.suspicious_words}
 
 -- the next place, and those after it
 first : (e : Evidence) (c : Contents) (more next : ℕ) (found : List ℕ) → next < length found →
@@ -37,26 +34,14 @@ spread_all e c (suc more) next found h =
     (le-ltb next (length found) h)
 
 -- what is suspicious at one place more
-pub places_more : (c : Contents) (words : List ℕ) (before after : Bool) (i : ℕ) (old new whole : List Found) → i < length words →
-    new ≡ old ++ suspicious_place c (trust c before i) (is_start (starts Unix c) i) i → after ≡ past_place c i before →
-    old ++ suspicious_words c before i (drop i words) ≡ whole → new ++ suspicious_words c after (i + 1) (drop (i + 1) words) ≡ whole
-places_more c words before after i old new whole inside put is so_far =
-    let rest : List Found = suspicious_words c (past_place c i before) (i + 1) (drop (i + 1) words) in
-    ap (λ (b : Bool). new ++ suspicious_words c b (i + 1) (drop (i + 1) words)) is
-    ∙ ap (λ (l : List Found). l ++ rest) put
-    ∙ append_assoc old (suspicious_place c (trust c before i) (is_start (starts Unix c) i) i) rest
-    ∙ ap (λ (l : List ℕ). old ++ suspicious_words c before i l) (sym (drop_more words i 0 inside))
-    ∙ so_far
-
--- what is suspicious for sure at one place more
-pub sure_places_more : (c : Contents) (words : List ℕ) (i : ℕ) (old new whole : List Found) → i < length words →
-    new ≡ old ++ suspicious_place c (sure_trust c i) false i → old ++ sure_suspicions_from c i (drop i words) ≡ whole →
-    new ++ sure_suspicions_from c (i + 1) (drop (i + 1) words) ≡ whole
-sure_places_more c words i old new whole inside put so_far =
-    let rest : List Found = sure_suspicions_from c (i + 1) (drop (i + 1) words) in
+pub places_more : (e : Evidence) (c : Contents) (words : List ℕ) (i : ℕ) (old new whole : List Found) → i < length words →
+    new ≡ old ++ suspicious_place e c i → old ++ suspicious_words e c i (drop i words) ≡ whole →
+    new ++ suspicious_words e c (i + 1) (drop (i + 1) words) ≡ whole
+places_more e c words i old new whole inside put so_far =
+    let rest : List Found = suspicious_words e c (i + 1) (drop (i + 1) words) in
     ap (λ (l : List Found). l ++ rest) put
-    ∙ append_assoc old (suspicious_place c (sure_trust c i) false i) rest
-    ∙ ap (λ (l : List ℕ). old ++ sure_suspicions_from c i l) (sym (drop_more words i 0 inside))
+    ∙ append_assoc old (suspicious_place e c i) rest
+    ∙ ap (λ (l : List ℕ). old ++ suspicious_words e c i l) (sym (drop_more words i 0 inside))
     ∙ so_far
 
 -- the addresses that the words from a place on show
@@ -66,3 +51,18 @@ shown_more c words i n old new whole inside put so_far =
     ap (λ (l : List ℕ). visited_all n l (shown_from c (i + 1) (drop (i + 1) words))) put
     ∙ ap (λ (l : List ℕ). visited_all n old (shown_from c i l)) (sym (drop_more words i 0 inside))
     ∙ so_far
+
+-- addresses after others
+joined : (n : ℕ) (found : List ℕ) (xs ys : List (Option ℕ)) → visited_all n found (xs ++ ys) ≡ visited_all n (visited_all n found xs) ys
+joined n found [] ys = refl
+joined n found (x ∷ xs) ys = joined n (visited n found x) xs ys
+
+-- the places with which an evidence begins: the entry, then those of symbols, then those of distances
+pub begun_with : (e : Evidence) (c : Contents) (n : ℕ) (found first second third : List ℕ) → first ≡ visited n found (entry c.header) →
+    second ≡ visited_all n first (map (named e c) c.symbols) → third ≡ visited_all n second (distances e c) →
+    third ≡ visited_all n found (evident e c)
+begun_with e c n found first second third one two three =
+    three
+    ∙ ap (λ (l : List ℕ). visited_all n l (distances e c))
+    (two ∙ ap (λ (l : List ℕ). visited_all n l (map (named e c) c.symbols)) one)
+    ∙ sym (joined n (visited n found (entry c.header)) (map (named e c) c.symbols) (distances e c))

@@ -2,7 +2,6 @@ pub mod Branches
 pub mod Reached
 pub mod ReachedLaw
 pub mod SureLaw
-pub mod SureSuspicions
 pub mod Suspicions
 pub mod SuspicionTexts
 pub mod Trust

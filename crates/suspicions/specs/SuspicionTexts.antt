@@ -4,7 +4,7 @@ use Rattle.aout_core.specs.Contents.{Contents}
 use Rattle.texts.specs.Numbers.{six_digits}
 use Rattle.findings.specs.Texts.{instruction_text}
 
--- of a line that is reached it is sure that it is an instruction
+-- of some lines it is sure that they are instructions
 abbrev pub doubt_text : Bool → List ℕ
 doubt_text true = codes ""
 doubt_text false = codes ", if this is an instruction"
@@ -27,11 +27,12 @@ abbrev pub pc_bit_in : Contents → ℕ → ℕ → Bool → Bool → List ℕ
 pc_bit_in c start place is_set is_sure = pc_bit_text (2 * place) is_set is_sure ++ instruction_text c start
 
 -- the word at an address would begin an instruction that has more words than follow
-unfoldable pub cut_text : ℕ → List ℕ
-cut_text address = codes "the instruction at " ++ six_digits address ++ codes " is cut by the end of the text"
+unfoldable pub cut_text : ℕ → Bool → List ℕ
+cut_text address is_sure = codes "the instruction at " ++ six_digits address ++ codes " is cut by the end of the text" ++ doubt_text is_sure
 
-unfoldable pub no_instruction_text : ℕ → List ℕ
-no_instruction_text address = codes "an instruction leads to " ++ six_digits address ++ codes ", where none begins"
+unfoldable pub no_instruction_text : ℕ → Bool → List ℕ
+no_instruction_text address is_sure =
+    codes "an instruction leads to " ++ six_digits address ++ codes ", where none begins" ++ doubt_text is_sure
 
 unfoldable pub branch_text : ℕ → ℕ → List ℕ
 branch_text address target = codes "the branch at " ++ six_digits address ++ codes " leads to " ++ six_digits target

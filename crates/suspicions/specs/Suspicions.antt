@@ -2,16 +2,18 @@
 -- suspicious: own choice)
 --
 -- No instruction begins with a word that is relocated, and an operand word that is relocated has the pc bit if and only if its operand
--- counts from the pc. Each line of the sweep and each place that is reached is checked for that, in the order of the places. What is
--- found is sure at a place that is reached. Any other line may be of data: there a relocated word counts if it would begin an
--- instruction whose last word is an operand word that is not relocated.
+-- counts from the pc. Each line of the sweep and each place that is reached is checked for that, in the order of the places. Any line
+-- that is not reached may be of data: there a relocated word counts if it would begin an instruction whose last word is an operand word
+-- that is not relocated. At a place that is reached an instruction begins, and it ends within the text. A branch there leads into the
+-- text or to its end, and not within an instruction.
 --
--- At a place to which a sure instruction leads an instruction begins, and it ends within the text. A branch leads into the text or to
--- its end, and not within an instruction. A branch is checked if it is sure or likely that it is one.
-use Rattle.std.specs.Prelude.{ℕ, ◌+◌, ◌-◌, ◌*◌, Bool, true, false, not, ◌&&◌, ◌||◌, nat_lt, if◌then◌else◌, List, [], ◌∷◌, ◌++◌, slice_get}
+-- What is found at a sure place is sure, except for the pc bit of `$N`, which code that runs at any address may have, as in
+-- `add $_x-.,r0`. A word that begins an instruction of another PDP-11 is not suspicious.
+use Rattle.std.specs.Prelude.{ℕ, ◌+◌, ◌-◌, ◌*◌, ◌/◌, Bool, true, false, not, ◌&&◌, ◌||◌, eqb, nat_lt, if◌then◌else◌, List, [], ◌∷◌, ◌++◌, slice_get}
 use Rattle.std.specs.Prelude.{Option, Some, None}
 use Rattle.aout_core.specs.{declared.reloc.Reloc.Reloc, Contents.Contents, Encoding.relocation_at, WellFormed.is_pc_relative}
-use Rattle.instructions.specs.{declared.mode.Addressing.Addressing, declared.operand.Operand.Operand}
+use Rattle.instructions.specs.{declared.mode.Addressing.Addressing, declared.mode.Addressing.TheVariants.Immediate}
+use Rattle.instructions.specs.declared.operand.Operand.{Operand}
 use Rattle.instructions.specs.{declared.operand.Operand.TheVariants.General, declared.instruction.Instruction.Instruction}
 use Rattle.instructions.specs.{declared.line.Line.TheVariants.Plain, declared.line.Line.TheVariants.Decoded}
 use Rattle.instructions.specs.{declared.unix.Decoder.TheVariants.Unix, declared.unix.UnixLine.UnixLine}
@@ -20,10 +22,10 @@ use Rattle.instructions.specs.{Modes.counts_from_pc, Instructions.instruction_of
 use Rattle.instructions.specs.{Lines.line_length, Relocated.is_relocated}
 use Rattle.disassemblies.specs.{Lines.unix_line_in, Starts.starts, Starts.is_start}
 use Rattle.findings.specs.declared.finding.FindingKind.TheVariants.{RelocatedFirstWord, UnsuitablePcBit, CutInstruction, NoInstruction}
-use Rattle.findings.specs.Found.{Found, found_if}
-use Rattle.suspicions.specs.Branches.{word_place, suspicious_branch}
+use Rattle.findings.specs.{Found.Found, Found.found_as, Odd.odd}
+use Rattle.suspicions.specs.Branches.{of_lines, word_place, suspicious_branch}
 use Rattle.suspicions.specs.SuspicionTexts.{relocated_first_text, pc_bit_in, cut_text, no_instruction_text}
-use Rattle.suspicions.specs.{declared.trust.Trust.Trust, Reached.branch_of, Trust.past_place, Trust.trust}
+use Rattle.suspicions.specs.{declared.evidence.Evidence.Evidence, declared.trust.Trust.Trust, Reached.branch_of, Trust.trust}
 
 -- the byte of the file at which the relocation word of a word of text is
 abbrev pub reloc_place : Contents → ℕ → ℕ
@@ -38,22 +40,27 @@ abbrev pub may_begin : Contents → ℕ → Bool
 may_begin c place = begins_words c place (line_length (line_at c.text_words place))
 
 -- a plain word at a place
-abbrev pub suspicious_first : Contents → Bool → ℕ → List Found
-suspicious_first c is_sure place =
-    found_if (is_relocated (slice_get c.text_reloc place) && (is_sure || may_begin c place)) (reloc_place c place) RelocatedFirstWord
-    (relocated_first_text (2 * place) is_sure)
+abbrev pub suspicious_first : Contents → Trust → ℕ → List Found
+suspicious_first c t place =
+    found_as t.is_sure (is_relocated (slice_get c.text_reloc place) && (t.is_reached || may_begin c place)) (reloc_place c place)
+    RelocatedFirstWord (relocated_first_text (2 * place) t.is_sure)
 
 -- the pc bit does not suit the mode
 abbrev pub differ : Bool → Bool → Bool
 differ true b = not b
 differ false b = b
 
+-- the operand is the word itself
+abbrev pub is_immediate : Addressing → Bool
+is_immediate Immediate = true
+is_immediate _ = false
+
 -- the operand word at a place, of the line at start, with this relocation word, if the file has relocation
 abbrev pub suspicious_bit : Contents → Bool → ℕ → ℕ → Addressing → Option Reloc → List Found
 suspicious_bit c is_sure start place a None = []
 suspicious_bit c is_sure start place a (Some r) =
-    found_if (is_relocated (Some r) && differ (is_pc_relative r) (counts_from_pc a)) (reloc_place c place) UnsuitablePcBit
-    (pc_bit_in c start place (is_pc_relative r) is_sure)
+    found_as (is_sure && not (is_immediate a)) (is_relocated (Some r) && differ (is_pc_relative r) (counts_from_pc a)) (reloc_place c place)
+    UnsuitablePcBit (pc_bit_in c start place (is_pc_relative r) (is_sure && not (is_immediate a)))
 
 abbrev pub suspicious_by : Contents → Bool → ℕ → ℕ → Option Addressing → List Found
 suspicious_by c is_sure start place None = []
@@ -63,38 +70,47 @@ abbrev pub suspicious_operand : Contents → Bool → ℕ → ℕ → Option Ope
 suspicious_operand c is_sure start place (Some (General m r)) = suspicious_by c is_sure start place (addressing m r)
 suspicious_operand c is_sure start place _ = []
 
+-- a word begins an instruction of another PDP-11: `mtps`, `mfps`, or one of the floating or the commercial instruction set
+abbrev pub is_foreign : ℕ → Bool
+is_foreign w = eqb (w / 0o100) 0o1064 || (eqb (w / 0o100) 0o1067 || (eqb (w / 0o40) 0o1720 || eqb (w / 0o1000) 0o76))
+
 -- a word that begins no line of more words, by the instruction that it would begin
-abbrev pub suspicious_lack : ℕ → Option Instruction → List Found
-suspicious_lack place None = found_if true (word_place place) NoInstruction (no_instruction_text (2 * place))
-suspicious_lack place (Some i) = found_if true (word_place place) CutInstruction (cut_text (2 * place))
+abbrev pub suspicious_lack : Bool → ℕ → ℕ → Option Instruction → List Found
+suspicious_lack is_sure place w None =
+    found_as is_sure (not (is_foreign w)) (word_place place) NoInstruction (no_instruction_text (2 * place) is_sure)
+suspicious_lack is_sure place w (Some i) = found_as is_sure true (word_place place) CutInstruction (cut_text (2 * place) is_sure)
 
 abbrev pub suspicious_plain : Contents → Trust → ℕ → ℕ → List Found
 suspicious_plain c t place w =
-    if is_relocated (slice_get c.text_reloc place) then suspicious_first c t.is_reached place
-    else (if t.is_sure then suspicious_lack place (instruction_of w) else [])
+    if is_relocated (slice_get c.text_reloc place) then suspicious_first c t place
+    else (if t.is_reached then suspicious_lack t.is_sure place w (instruction_of w) else [])
 
--- the line at a place
-abbrev pub suspicious_line : Contents → Trust → ℕ → UnixLine → List Found
-suspicious_line c t place (Machine (Plain w)) = suspicious_plain c t place w
-suspicious_line c t place (Machine (Decoded i a b)) =
-    (suspicious_operand c t.is_reached place (place + 1) i.first
-    ++ suspicious_operand c t.is_reached place (place + 1 + word_count_of i.first) i.second)
-    ++ (suspicious_branch c t place (branch_of (2 * place) i.first) ++ suspicious_branch c t place (branch_of (2 * place) i.second))
-suspicious_line c t place (Call k) = []
+-- the line at a place, by the evidence of the lines that a branch may enter
+abbrev pub suspicious_line : Evidence → Contents → Trust → ℕ → UnixLine → List Found
+suspicious_line e c t place (Machine (Plain w)) = suspicious_plain c t place w
+suspicious_line e c t place (Machine (Decoded i a b)) =
+    (suspicious_operand c t.is_sure place (place + 1) i.first
+    ++ suspicious_operand c t.is_sure place (place + 1 + word_count_of i.first) i.second)
+    ++ (suspicious_branch e c t place (branch_of (2 * place) i.first) ++ suspicious_branch e c t place (branch_of (2 * place) i.second))
+suspicious_line e c t place (Call k) = []
 
-abbrev pub suspicious_at : Contents → Trust → ℕ → List Found
-suspicious_at c t place = suspicious_line c t place (unix_line_in Unix c place)
+abbrev pub suspicious_at : Evidence → Contents → Trust → ℕ → List Found
+suspicious_at e c t place = suspicious_line e c t place (unix_line_in Unix c place)
 
 -- what is suspicious at a place, if it is reached or begins a line
-abbrev pub suspicious_place : Contents → Trust → Bool → ℕ → List Found
-suspicious_place c t begins place = if t.is_reached || begins then suspicious_at c t place else []
+abbrev pub suspicious_place : Evidence → Contents → ℕ → List Found
+suspicious_place e c place =
+    if (trust e c place).is_reached || is_start (starts Unix c) place then suspicious_at (of_lines e) c (trust e c place) place else []
 
--- from a place on, if going back from it a sure line comes before a plain word, or not
-abbrev pub suspicious_words : Contents → Bool → ℕ → List ℕ → List Found
-suspicious_words c before place [] = []
-suspicious_words c before place (w ∷ ws) =
-    suspicious_place c (trust c before place) (is_start (starts Unix c) place) place
-    ++ suspicious_words c (past_place c place before) (place + 1) ws
+-- from a place on, which has these words
+abbrev pub suspicious_words : Evidence → Contents → ℕ → List ℕ → List Found
+suspicious_words e c place [] = []
+suspicious_words e c place (w ∷ ws) = suspicious_place e c place ++ suspicious_words e c (place + 1) ws
 
-abbrev pub suspicions : Contents → List Found
-suspicions c = suspicious_words c false 0 c.text_words
+-- all that is suspicious; the evidence says which places are sure
+abbrev pub suspicions : Evidence → Contents → List Found
+suspicions e c = suspicious_words e c 0 c.text_words
+
+-- with what else is odd in a file that these bytes begin with: the commons of odd sizes too, or not
+abbrev pub all_odd : Evidence → Bool → List ℕ → Contents → List Found
+all_odd e commons bytes c = odd commons bytes c ++ suspicions e c

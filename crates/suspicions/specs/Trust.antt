@@ -1,48 +1,40 @@
 -- How far it is sure that a line is an instruction. (own choice)
 --
--- It is sure if distances show that its place is reached. It is likely if symbols show that, and the sweep has sure lines before it and
--- after it with no plain word between them: data mostly has words that begin no instruction.
-use Rattle.std.specs.Prelude.{ℕ, ◌+◌, Bool, true, false, ◌&&◌, ◌||◌, List, [], ◌∷◌, drop}
+-- It is sure if the evidence shows its place. Without the promise that all of the text is instructions it must not overlap another line
+-- at such a place: of two such lines one may be data.
+use Rattle.std.specs.Prelude.{ℕ, ◌+◌, ◌-◌, Bool, true, false, not, ◌&&◌, ◌||◌, is_some, nat_lt, if◌then◌else◌, List, [], ◌∷◌, length}
+use Rattle.std.specs.Prelude.{Option, Some, None}
+use Rattle.std.specs.List.{list_any}
 use Rattle.aout_core.specs.Contents.{Contents}
-use Rattle.instructions.specs.{declared.line.Line.TheVariants.Plain, declared.unix.Decoder.TheVariants.Unix}
-use Rattle.instructions.specs.{declared.unix.UnixLine.UnixLine, declared.unix.UnixLine.TheVariants.Machine}
-use Rattle.disassemblies.specs.{Lines.unix_line_in, Starts.starts, Starts.is_start}
-use Rattle.suspicions.specs.{declared.evidence.Evidence.TheVariants.Symbols, declared.evidence.Evidence.TheVariants.Distances}
-use Rattle.suspicions.specs.{declared.trust.Trust.Trust, Reached.is_reached}
+use Rattle.instructions.specs.{declared.unix.Decoder.TheVariants.Unix, UnixLines.unix_length}
+use Rattle.disassemblies.specs.Lines.{unix_line_in}
+use Rattle.suspicions.specs.{declared.evidence.Evidence.Evidence, declared.evidence.Evidence.TheVariants.Names}
+use Rattle.suspicions.specs.{declared.trust.Trust.Trust, Reached.is_promised, Reached.is_reached}
 
-abbrev pub is_sure : Contents → ℕ → Bool
-is_sure c place = is_reached Distances c place
+-- the line at a reached place has the word so many words after it
+abbrev pub has_word_at : Evidence → Contents → ℕ → ℕ → Bool
+has_word_at e c start back = nat_lt start (length c.text_words) && (is_reached e c start && nat_lt back (unix_length (unix_line_in Unix c start)))
 
-abbrev pub is_plain : UnixLine → Bool
-is_plain (Machine (Plain w)) = true
-is_plain _ = false
+abbrev pub enters : Evidence → Contents → ℕ → ℕ → Bool
+enters e c place back = not (nat_lt place back) && has_word_at e c (place - back) back
 
--- a line of the sweep is a plain word at a place
-abbrev pub breaks : Contents → ℕ → Bool
-breaks c place = is_start (starts Unix c) place && is_plain (unix_line_in Unix c place)
+abbrev pub entered_by : Evidence → Contents → ℕ → List ℕ → Option ℕ
+entered_by e c place [] = None
+entered_by e c place (back ∷ backs) = if enters e c place back then Some (place - back) else entered_by e c place backs
 
--- whether a sure line comes before a plain word: a place with a sure line or a plain word decides it, and else what is past the place
-abbrev pub past : Bool → Bool → Bool → Bool
-past true breaks rest = true
-past false true rest = false
-past false false rest = rest
+-- the nearest reached place before this one whose line has its word; a line has at most five words
+abbrev pub entered : Evidence → Contents → ℕ → Option ℕ
+entered e c place = entered_by e c place (1 ∷ 2 ∷ 3 ∷ 4 ∷ [])
 
-abbrev pub past_place : Contents → ℕ → Bool → Bool
-past_place c place rest = past (is_sure c place) (breaks c place) rest
+-- a line is reached that begins so many words after the one at a place, with a word of it
+abbrev pub is_entered : Evidence → Contents → ℕ → ℕ → Bool
+is_entered e c place ahead = nat_lt ahead (unix_length (unix_line_in Unix c place)) && is_reached e c (place + ahead)
 
--- from a place on, which has these words, a sure line comes before a plain word
-abbrev pub sure_ahead : Contents → ℕ → List ℕ → Bool
-sure_ahead c place [] = false
-sure_ahead c place (w ∷ ws) = past_place c place (sure_ahead c (place + 1) ws)
+abbrev pub overlaps : Evidence → Contents → ℕ → Bool
+overlaps e c place = is_some (entered e c place) || list_any (is_entered e c place) (1 ∷ 2 ∷ 3 ∷ 4 ∷ [])
 
--- of the line at a place, if going back from it a sure line comes before a plain word, or not
-abbrev pub trust : Contents → Bool → ℕ → Trust
-trust c before place = record {
-  is_reached = is_reached Symbols c place || is_sure c place;
-  is_between = before && sure_ahead c place (drop place c.text_words);
-  is_sure = is_sure c place;
-}
+abbrev pub is_sure : Evidence → Contents → ℕ → Bool
+is_sure e c place = is_reached e c place && (is_promised e || not (overlaps e c place))
 
--- a branch is checked
-abbrev pub is_likely : Trust → Bool
-is_likely t = t.is_sure || (t.is_reached && t.is_between)
+abbrev pub trust : Evidence → Contents → ℕ → Trust
+trust e c place = record { is_reached = is_reached Names c place || is_sure e c place; is_sure = is_sure e c place }

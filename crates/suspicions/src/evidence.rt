@@ -1,10 +1,13 @@
 //! Evidence that a place is reached.
 
-/// What shows that a place of a text is reached. (own choice)
+/// What shows that a place of a text is reached. docs/OBJECTS.md has the rules. (own choice)
 #[derive(Clone, Copy, Debug, PartialEq, Eq)]
 pub enum Evidence {
-    /// The symbols of text. What is called returns.
-    Symbols,
-    /// The operand words that count from the pc and are relocated so, which no data has. What is called may not return.
-    Distances,
+    /// The symbols of text, and operand words that count from the pc and are relocated so, which no data has. It may be data.
+    Names,
+    /// Control comes there for sure, from the entry of a linked file, or from a function that begins as those of the Seventh Edition's C
+    /// compiler do.
+    Flow,
+    /// The caller promises that all of the text is instructions: then one begins at each symbol of text, and after each other one.
+    Promise,
 }

@@ -1,13 +1,14 @@
 //! The addresses to which a line leads.
-ghost use Rattle.std.specs.Prelude.{◌≡◌, ◌<◌, ◌≤◌, ◌+◌, ◌*◌, length, slice_get};
+ghost use Rattle.std.specs.Prelude.{◌≡◌, ◌<◌, ◌≤◌, ◌+◌, ◌*◌, length, option_map, slice_get};
+ghost use Rattle.std.specs.List.{list_any};
 ghost use Rattle.instructions.specs.UnixLines.{unix_length};
-ghost use Rattle.suspicions.specs.Reached.{ends, may_not_return, stops, returns, goes_on, next_of, branch_of, is_own_distance, is_own_address, jump_by, jump_of, jump, leads_to};
+ghost use Rattle.suspicions.specs.Reached.{is_pc_itself, only_reads, ends_with_pc, counts_down, may_write_pc, passes, is_csv, is_some_csv, is_external_csv, is_csv_at, refers_to_csv, calls_by_r5, calls_csv, flows, returns, is_promised, is_text, is_between, is_followed, goes_on, next_of, parent_of, branch_of, is_own_distance, is_own_address, jump_by, jump_of, jump};
 
 use crate::evidence::Evidence;
-use aout_core::{File, Reloc};
+use aout_core::{File, Reloc, Segment, Symbol};
 use instructions::{
-    Addressing, Decoder, Line, Operand, Operation, SystemCall, UnixLine, branch_back_target,
-    branch_target,
+    Addressing, Instruction, Line, Mode, Operand, Operation, Register, SystemCall, UnixLine,
+    branch_back_target, branch_target,
 };
 
 /// The address of a place of the text.
@@ -20,75 +21,268 @@ pub(crate) fn address_of(file: &File, place: usize) -> u16
     (2 * place) as u16
 }
 
-/// Whether the line after an instruction is not reached from it.
-fn ends(operation: Operation) -> bool
-    ensures { result ≡ ends operation }
+/// Whether the pc itself is an operand.
+fn is_pc_itself(operand: Option<Operand>) -> bool
+    ensures { result ≡ is_pc_itself operand }
+{
+    match operand {
+        Some(Operand::General(Mode::Direct, Register::Pc) | Operand::Register(Register::Pc)) =>
+            true,
+        _ => false,
+    }
+}
+
+/// Whether the last operand is only read.
+fn only_reads(operation: Operation) -> bool
+    ensures { result ≡ only_reads operation }
 {
     match operation {
+        Operation::Cmp
+        | Operation::Cmpb
+        | Operation::Bit
+        | Operation::Bitb
+        | Operation::Tst
+        | Operation::Tstb => true,
+        _ => false,
+    }
+}
+
+/// Whether the pc itself is the last operand.
+fn ends_with_pc(first: Option<Operand>, second: Option<Operand>) -> bool
+    ensures { result ≡ ends_with_pc first second }
+{
+    match second {
+        Some(operand) => is_pc_itself(Some(operand)),
+        None => is_pc_itself(first),
+    }
+}
+
+/// Whether an operand counts the pc down.
+fn counts_down(operand: Option<Operand>) -> bool
+    ensures { result ≡ counts_down operand }
+{
+    match operand {
+        Some(Operand::General(Mode::Decrement | Mode::DecrementDeferred, Register::Pc)) => true,
+        _ => false,
+    }
+}
+
+/// Whether an instruction may write the pc by an operand.
+fn may_write_pc(instruction: &Instruction) -> bool
+    ensures { result ≡ may_write_pc instruction.now }
+{
+    counts_down(instruction.first)
+        || counts_down(instruction.second)
+        || (ends_with_pc(instruction.first, instruction.second)
+            && !only_reads(instruction.row.operation))
+}
+
+/// Whether control comes to the line after an instruction, which may come back if it calls.
+fn passes(operation: Operation, comes_back: bool) -> bool
+    ensures { result ≡ passes operation comes_back }
+{
+    match operation {
+        Operation::Jsr => comes_back,
         Operation::Br
         | Operation::Jmp
         | Operation::Rts
         | Operation::Rti
         | Operation::Rtt
         | Operation::Halt
-        | Operation::Mark => true,
-        _ => false,
-    }
-}
-
-/// Whether what an instruction calls may not return to the line after it.
-fn may_not_return(operation: Operation) -> bool
-    ensures { result ≡ may_not_return operation }
-{
-    match operation {
-        Operation::Jsr | Operation::Bpt | Operation::Iot | Operation::Emt | Operation::Sys => true,
-        _ => false,
-    }
-}
-
-/// Whether the evidence does not show that the line after an instruction is reached.
-fn stops(evidence: Evidence, operation: Operation) -> bool
-    ensures { result ≡ stops evidence operation }
-{
-    match evidence {
-        Evidence::Symbols => ends(operation),
-        Evidence::Distances => ends(operation) || may_not_return(operation),
-    }
-}
-
-/// Whether a call returns to the line after it.
-fn returns(call: SystemCall) -> bool
-    ensures { result ≡ returns call }
-{
-    match call {
-        SystemCall::Exit => false,
+        | Operation::Mark
+        | Operation::Bpt
+        | Operation::Iot
+        | Operation::Emt
+        | Operation::Sys => false,
         _ => true,
     }
 }
 
-/// Whether the line after a line is reached from it.
-fn goes_on(evidence: Evidence, line: &UnixLine) -> bool
-    ensures { result ≡ goes_on evidence line.now }
+/// Whether a symbol is one of text.
+pub(crate) fn is_text(symbol: &Symbol) -> bool
+    ensures { result ≡ is_text symbol.now }
+{
+    symbol.type_bits % 0o40 == Segment::TextSeg.number()
+}
+
+/// Whether a word from the pc stays within the text, by its relocation word if it has one.
+fn is_own_distance(reloc: Option<Reloc>) -> bool
+    ensures { result ≡ is_own_distance reloc }
+{
+    match reloc {
+        Some(reloc) => reloc.0 % 0o20 == 0 || reloc.0 % 0o20 == 3,
+        None => true,
+    }
+}
+
+/// Whether a symbol has the name `csv`.
+fn is_csv(symbol: &Symbol) -> bool
+    ensures { result ≡ is_csv symbol.now }
+{
+    symbol.name.as_bytes() == b"csv".as_slice()
+}
+
+/// Whether this is a symbol with the name `csv`.
+fn is_some_csv(symbol: Option<&Symbol>) -> bool
+    ensures { result ≡ is_some_csv (option_map (λ s. s.now) symbol.entry) }
+{
+    match symbol {
+        Some(symbol) => is_csv(symbol),
+        None => false,
+    }
+}
+
+/// Whether a relocation word refers to the external `csv`, from the pc.
+fn is_external_csv(file: &File, reloc: Option<Reloc>) -> bool
+    ensures { result ≡ is_external_csv file.now reloc }
+{
+    match reloc {
+        Some(reloc) => {
+            reloc.0 % 0o20 == 0o11 && is_some_csv(file.symbols().get(usize::from(reloc.number())))
+        }
+        None => false,
+    }
+}
+
+/// Whether `csv` is a symbol of text, and has an address.
+fn is_csv_at(address: u16, symbol: &Symbol) -> bool
+    ensures { result ≡ is_csv_at address symbol.now }
+{
+    is_text(symbol) && symbol.value == address && is_csv(symbol)
+}
+
+/// Whether `csv` is a symbol of text in a file, and has an address.
+fn has_csv_at(file: &File, address: u16) -> bool
+    ensures { result ≡ list_any (is_csv_at address) file.now.symbols }
+{
+    file.symbols()
+        .iter()
+        .any(|symbol| is_csv_at(address, symbol))
+}
+
+/// Whether a word from the pc, before the address `next`, refers to `csv`.
+fn refers_to_csv(file: &File, reloc: Option<Reloc>, next: u32, word: u16) -> bool
+    requires { next < 0o400000 }
+    ensures { result ≡ refers_to_csv file.now reloc next word }
+{
+    let address = ((u32::from(word) + next) % 0o200000) as u16;
+    is_external_csv(file, reloc) || (is_own_distance(reloc) && has_csv_at(file, address))
+}
+
+/// Whether a word begins `jsr r5` with a call by mode 67.
+fn calls_by_r5(word: Option<u16>) -> bool
+    ensures { result ≡ calls_by_r5 word }
+{
+    match word {
+        Some(word) => word == 0o4567,
+        None => false,
+    }
+}
+
+/// Whether `jsr r5,csv` is at a place.
+pub(crate) fn calls_csv(file: &File, place: usize) -> bool
+    requires { place < 32768 }
+    ensures { result ≡ calls_csv file.now place }
+{
+    let words = file.text_words();
+    if !calls_by_r5(words.get(place).copied()) {
+        return false;
+    }
+    let word = words.get(place + 1).copied().unwrap_or(0);
+    let reloc = file.text_reloc().get(place + 1).copied();
+    refers_to_csv(file, reloc, (2 * place + 4) as u32, word)
+}
+
+/// Whether control comes for sure to the line after the instruction at a place.
+fn flows(file: &File, place: usize, instruction: &Instruction) -> bool
+    requires { place < 32768 }
+    ensures { result ≡ flows file.now place instruction.now }
+{
+    let comes_back = is_pc_itself(instruction.first) || calls_csv(file, place);
+    !may_write_pc(instruction) && passes(instruction.row.operation, comes_back)
+}
+
+/// Whether a call returns to the line after it for sure.
+fn returns(call: SystemCall) -> bool
+    ensures { result ≡ returns call }
+{
+    match call {
+        SystemCall::Exit | SystemCall::Indir => false,
+        _ => true,
+    }
+}
+
+/// Whether all of the text is instructions.
+pub(crate) fn is_promised(evidence: Evidence) -> bool
+    ensures { result ≡ is_promised evidence }
+{
+    match evidence {
+        Evidence::Promise => true,
+        Evidence::Names | Evidence::Flow => false,
+    }
+}
+
+/// Whether a symbol of text has an address between these.
+fn is_between(low: usize, high: usize, symbol: &Symbol) -> bool
+    ensures { result ≡ is_between low high symbol.now }
+{
+    let value = usize::from(symbol.value);
+    is_text(symbol) && low < value && value < high
+}
+
+/// Whether a symbol of text has an address between these in a file.
+fn has_between(file: &File, low: usize, high: usize) -> bool
+    ensures { result ≡ list_any (is_between low high) file.now.symbols }
+{
+    file.symbols()
+        .iter()
+        .any(|symbol| is_between(low, high, symbol))
+}
+
+/// Whether all of the text is instructions, and no symbol of text is within the line at a place.
+fn is_followed(evidence: Evidence, file: &File, place: usize, line: &UnixLine) -> bool
+    requires { place + unix_length line.now < 32768 }
+    ensures { result ≡ is_followed evidence file.now place line.now }
+{
+    is_promised(evidence) && !has_between(file, 2 * place, 2 * (place + line.length()))
+}
+
+/// Whether the line at a place leads to the one after it.
+fn goes_on(evidence: Evidence, file: &File, place: usize, line: &UnixLine) -> bool
+    requires { place + unix_length line.now < 32768 }
+    ensures { result ≡ goes_on evidence file.now place line.now }
 {
     match line {
         UnixLine::Machine(Line::Plain(_)) => false,
-        UnixLine::Machine(Line::Decoded(instruction, _, _)) => !stops(
-            evidence,
-            instruction.row.operation,
-        ),
-        UnixLine::Call(row) => returns(row.call),
+        UnixLine::Machine(Line::Decoded(instruction, _, _)) => {
+            flows(file, place, instruction) || is_followed(evidence, file, place, line)
+        }
+        UnixLine::Call(row) => returns(row.call) || is_followed(evidence, file, place, line),
     }
 }
 
 /// The address after the line at a place, if it goes on there.
-pub(crate) fn next_of(evidence: Evidence, place: usize, line: &UnixLine) -> Option<u16>
+pub(crate) fn next_of(evidence: Evidence, file: &File, place: usize, line: &UnixLine) -> Option<u16>
     requires { place + unix_length line.now < 32768 }
-    ensures { result ≡ next_of evidence place line.now }
+    ensures { result ≡ next_of evidence file.now place line.now }
 {
-    if goes_on(evidence, line) {
+    if goes_on(evidence, file, place, line) {
         Some((2 * (place + line.length())) as u16)
     } else {
         None
+    }
+}
+
+/// The address at which the parent goes on, if the call at a place is fork.
+pub(crate) fn parent_of(file: &File, place: usize, call: SystemCall) -> Option<u16>
+    requires { place < 32768 }
+    ensures { result ≡ parent_of file.now place call }
+{
+    match call {
+        SystemCall::Fork if place + 2 < file.text_words().len() => {
+            Some(address_of(file, place + 2))
+        }
+        _ => None,
     }
 }
 
@@ -100,16 +294,6 @@ pub(crate) fn branch_of(address: u16, operand: Option<Operand>) -> Option<u16>
         Some(Operand::Forward(offset)) => Some(branch_target(address, offset)),
         Some(Operand::Backward(offset)) => Some(branch_back_target(address, offset)),
         _ => None,
-    }
-}
-
-/// Whether a word from the pc stays within the text, by its relocation word if it has one.
-fn is_own_distance(reloc: Option<Reloc>) -> bool
-    ensures { result ≡ is_own_distance reloc }
-{
-    match reloc {
-        Some(reloc) => reloc.0 % 0o20 == 0 || reloc.0 % 0o20 == 3,
-        None => true,
     }
 }
 

@@ -1,8 +1,8 @@
 //! What is suspicious in the text of an object, for `v7-explain`.
 //!
 //! An instruction never begins with a relocated word, and an operand word has the pc bit exactly if its operand counts from the pc.
-//! Instructions lead to instructions. `suspicions_of` finds where an object differs. docs/OBJECTS.md shows which mistakes of an
-//! assembler that finds.
+//! Instructions lead to instructions. `suspicions_of` finds where an object differs, and whether it does so for sure. docs/OBJECTS.md
+//! shows which mistakes of an assembler that finds.
 #![tactic(auto)]
 
 mod branches;
@@ -10,12 +10,10 @@ mod evidence;
 pub mod laws;
 mod leads;
 mod reached;
-mod sure_suspicions;
 mod suspect;
 mod suspicions;
 mod trust;
 
 pub use evidence::Evidence;
-pub use reached::{reached_places, sure_places};
-pub use sure_suspicions::sure_suspicions_of;
-pub use suspicions::suspicions_of;
+pub use reached::reached_places;
+pub use suspicions::{all_odd_of, suspicions_of};

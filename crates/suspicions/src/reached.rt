@@ -5,13 +5,12 @@ ghost use Rattle.instructions.specs.UnixLines.{unix_length};
 ghost use Rattle.instructions.specs.declared.line.Line.TheVariants.{Decoded};
 ghost use Rattle.instructions.specs.declared.unix.UnixLine.TheVariants.{Machine};
 ghost use Rattle.instructions.specs.Instructions.{word_count_of};
-ghost use Rattle.suspicions.specs.Reached.{leads_by, leads_to, visited, visited_all, named, is_distance, has_distance, is_shown_by, shown, shown_from, evident, spread, reached, is_reached};
-ghost use Rattle.suspicions.specs.declared.evidence.Evidence.TheVariants.{Symbols, Distances};
+ghost use Rattle.suspicions.specs.Reached.{leads_by, leads_to, visited, visited_all, is_still, begins, named, is_distance, has_distance, is_shown_by, shown, shown_from, entry, distances, evident, spread, reached, is_reached};
 ghost use Rattle.suspicions.specs.internal.Marks.{AreMarks, is_unmarked};
 
 use crate::evidence::Evidence;
-use crate::leads::{address_of, branch_of, jump, next_of};
-use aout_core::{File, Reloc, Segment, Symbol};
+use crate::leads::{address_of, branch_of, calls_csv, is_text, jump, next_of, parent_of};
+use aout_core::{File, Header, Reloc, Symbol};
 use disassemblies::Sweep;
 use instructions::{Addressing, Instruction, Line, Operand, UnixLine, is_relocated};
 use std::alloc::{AllocError, Global};
@@ -78,15 +77,34 @@ fn visit_all(
     Ok(())
 }
 
-/// The address of a symbol of text, if the word there is not relocated: it may be one of a table of addresses.
-fn named(file: &File, symbol: &Symbol) -> Option<u16>
-    ensures { result ≡ named file.now symbol.now }
+/// Whether a word has a relocation word, and is not relocated.
+fn is_still(reloc: Option<Reloc>) -> bool
+    ensures { result ≡ is_still reloc }
 {
-    let reloc = file
-        .text_reloc()
-        .get(usize::from(symbol.value / 2))
-        .copied();
-    if symbol.type_bits % 0o40 == Segment::TextSeg.number() && !is_relocated(reloc) {
+    match reloc {
+        Some(reloc) => !is_relocated(Some(reloc)),
+        None => false,
+    }
+}
+
+/// Whether an evidence begins with a place that has the address of a symbol of text.
+fn begins(evidence: Evidence, file: &File, place: usize) -> bool
+    requires { place < 32768 }
+    ensures { result ≡ begins evidence file.now place }
+{
+    let reloc = file.text_reloc().get(place).copied();
+    match evidence {
+        Evidence::Names => is_still(reloc),
+        Evidence::Flow => is_still(reloc) && calls_csv(file, place),
+        Evidence::Promise => true,
+    }
+}
+
+/// The address of a symbol of text, if an evidence begins there.
+fn named(evidence: Evidence, file: &File, symbol: &Symbol) -> Option<u16>
+    ensures { result ≡ named evidence file.now symbol.now }
+{
+    if is_text(symbol) && begins(evidence, file, usize::from(symbol.value / 2)) {
         Some(symbol.value)
     } else {
         None
@@ -97,17 +115,18 @@ fn named(file: &File, symbol: &Symbol) -> Option<u16>
 fn visit_symbols(
     marks: &mut [bool],
     found: &mut Vec<usize>,
+    evidence: Evidence,
     file: &File,
-    symbols: &[Symbol],
 ) -> Result<(), AllocError>
     requires { AreMarks marks.old found.old.items }
     ensures found { OnOk result (found.new.items
-        ≡ visited_all (length marks.old) found.old.items (map (named file.now) symbols.now)) }
+        ≡ visited_all (length marks.old) found.old.items (map (named evidence file.now) file.now.symbols)) }
     ensures marks { OnOk result (AreMarks marks.new found.new.items) }
     ensures same { length marks.new ≡ length marks.old }
 {
+    let symbols = file.symbols();
     for symbol in symbols {
-        visit(marks, found, named(file, symbol))?;
+        visit(marks, found, named(evidence, file, symbol))?;
     }
     Ok(())
 }
@@ -165,22 +184,57 @@ fn shown(sweep: &Sweep<'_>, place: usize) -> Option<u16>
     }
 }
 
-/// Notes the places of the lines that have such words.
+/// Notes the places of the lines that have such words, which are evidence of names.
 fn visit_distances(
     marks: &mut [bool],
     found: &mut Vec<usize>,
+    evidence: Evidence,
     sweep: &Sweep<'_>,
 ) -> Result<(), AllocError>
     requires { AreMarks marks.old found.old.items }
     ensures found { OnOk result (found.new.items
-        ≡ visited_all (length marks.old) found.old.items (evident Distances sweep.now)) }
+        ≡ visited_all (length marks.old) found.old.items (distances evidence sweep.now)) }
     ensures marks { OnOk result (AreMarks marks.new found.new.items) }
     ensures same { length marks.new ≡ length marks.old }
 {
+    if evidence != Evidence::Names {
+        return Ok(());
+    }
     let words = sweep.file().text_words();
     for (place, _) in words.iter().enumerate() {
         visit(marks, found, shown(sweep, place))?;
     }
+    Ok(())
+}
+
+/// The entry point of a linked file.
+fn entry(header: &Header) -> Option<u16>
+    ensures { result ≡ entry header.now }
+{
+    if header.flag == 0 {
+        None
+    } else {
+        Some(header.entry_point)
+    }
+}
+
+/// Notes the places with which an evidence begins.
+fn visit_evident(
+    marks: &mut [bool],
+    found: &mut Vec<usize>,
+    evidence: Evidence,
+    sweep: &Sweep<'_>,
+) -> Result<(), AllocError>
+    requires { AreMarks marks.old found.old.items }
+    ensures found { OnOk result (found.new.items
+        ≡ visited_all (length marks.old) found.old.items (evident evidence sweep.now)) }
+    ensures marks { OnOk result (AreMarks marks.new found.new.items) }
+    ensures same { length marks.new ≡ length marks.old }
+{
+    let file = sweep.file();
+    visit(marks, found, entry(file.header()))?;
+    visit_symbols(marks, found, evidence, file)?;
+    visit_distances(marks, found, evidence, sweep)?;
     Ok(())
 }
 
@@ -201,7 +255,7 @@ fn decoded_leads(
     let operation = instruction.row.operation;
     let later = place + 1 + instruction.words_before_second();
     [
-        next_of(evidence, place, &line),
+        next_of(evidence, file, place, &line),
         branch_of(address, instruction.first),
         branch_of(address, instruction.second),
         jump(file, operation, place + 1, instruction.first, word),
@@ -235,12 +289,15 @@ fn visit_leads(
             found,
             &decoded_leads(evidence, file, place, instruction, word, other),
         ),
-        UnixLine::Machine(Line::Plain(_)) => visit_all(
+        UnixLine::Machine(Line::Plain(_)) => Ok(()),
+        UnixLine::Call(row) => visit_all(
             marks,
             found,
-            &[next_of(evidence, place, &line)],
+            &[
+                next_of(evidence, file, place, &line),
+                parent_of(file, place, row.call),
+            ],
         ),
-        UnixLine::Call(_) => visit_all(marks, found, &[next_of(evidence, place, &line)]),
     }
 }
 
@@ -267,27 +324,18 @@ fn spread(
     Ok(())
 }
 
-/// For each word of a file's text, whether its symbols show that it is reached. An error: out of memory. (own choice)
-pub fn reached_places(alloc: Global, sweep: &Sweep<'_>) -> Result<Vec<bool>, AllocError>
+/// For each word of a file's text, whether an evidence shows that it is reached. An error: out of memory. (own choice)
+pub fn reached_places(
+    alloc: Global,
+    evidence: Evidence,
+    sweep: &Sweep<'_>,
+) -> Result<Vec<bool>, AllocError>
     ensures { IfOk result (λ marks. (place : ℕ)
-        → get_or marks.items place false ≡ is_reached Symbols sweep.now place) }
-{
-    let file = sweep.file();
-    let mut marks = vec![in alloc; false; file.text_words().len()]?;
-    let mut found = Vec::new(alloc);
-    visit_symbols(&mut marks, &mut found, file, file.symbols())?;
-    spread(&mut marks, &mut found, Evidence::Symbols, sweep)?;
-    Ok(marks)
-}
-
-/// For each word of a file's text, whether its distances show that it is reached. An error: out of memory. (own choice)
-pub fn sure_places(alloc: Global, sweep: &Sweep<'_>) -> Result<Vec<bool>, AllocError>
-    ensures { IfOk result (λ marks. (place : ℕ)
-        → get_or marks.items place false ≡ is_reached Distances sweep.now place) }
+        → get_or marks.items place false ≡ is_reached evidence sweep.now place) }
 {
     let mut marks = vec![in alloc; false; sweep.file().text_words().len()]?;
     let mut found = Vec::new(alloc);
-    visit_distances(&mut marks, &mut found, sweep)?;
-    spread(&mut marks, &mut found, Evidence::Distances, sweep)?;
+    visit_evident(&mut marks, &mut found, evidence, sweep)?;
+    spread(&mut marks, &mut found, evidence, sweep)?;
     Ok(marks)
 }

@@ -3,26 +3,32 @@ ghost use Rattle.suspicions.specs.SuspicionTexts.{doubt_text};
 ghost use Rattle.std.specs.Prelude.{◌≡◌, ◌<◌, ◌*◌, length};
 
 use crate::leads::address_of;
-use crate::trust::Trust;
+use crate::trust::{Reached, Trust};
 use disassemblies::Sweep;
 
-/// A line of a file's text: the place at which it begins, and how far it is sure that it is an instruction; for each word of the text,
-/// whether that is sure.
+/// A line of a file's text: the place at which it begins, how far it is sure that it is an instruction, and the lines that a branch may
+/// enter.
 #[derive(Clone, Copy)]
 pub(crate) struct Suspect<'a> {
-    pub(crate) sweep: &'a Sweep<'a>,
-    pub(crate) sure: &'a [bool],
+    pub(crate) lines: Reached<'a>,
     pub(crate) start: usize,
     pub(crate) trust: Trust,
 }
 
 impl<'a> Suspect<'a> {
+    /// The file with its lines.
+    pub(crate) fn sweep(&self) -> &'a Sweep<'a>
+        ensures { result.now ≡ self.now.lines.sweep.now }
+    {
+        self.lines.sweep
+    }
+
     /// The address of the line.
     pub(crate) fn address(&self) -> u16
-        requires { self.now.start < length self.now.sweep.now.text_words }
+        requires { self.now.start < length self.now.lines.sweep.now.text_words }
         ensures { result ≡ 2 * self.now.start }
     {
-        address_of(self.sweep.file(), self.start)
+        address_of(self.lines.sweep.file(), self.start)
     }
 }
 

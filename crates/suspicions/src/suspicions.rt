@@ -7,22 +7,23 @@ ghost use Rattle.instructions.specs.Instructions.{instruction_of, word_count_of}
 ghost use Rattle.instructions.specs.Relocated.{is_relocated};
 ghost use Rattle.disassemblies.specs.Starts.{starts, is_start};
 ghost use Rattle.findings.specs.Found.{all_found, Finds, Holds};
-ghost use Rattle.suspicions.specs.declared.evidence.Evidence.TheVariants.{Symbols};
+ghost use Rattle.suspicions.specs.declared.evidence.Evidence.TheVariants.{Names};
 ghost use Rattle.suspicions.specs.Reached.{branch_of, is_reached};
-ghost use Rattle.suspicions.specs.Trust.{is_sure, past_place, sure_ahead, trust};
-ghost use Rattle.suspicions.specs.Branches.{suspicious_branch};
+ghost use Rattle.suspicions.specs.Trust.{trust};
+ghost use Rattle.suspicions.specs.Branches.{of_lines, suspicious_branch};
 ghost use Rattle.suspicions.specs.SuspicionTexts.{relocated_first_text, bit_text, pc_bit_text, pc_bit_in, cut_text, no_instruction_text};
-ghost use Rattle.suspicions.specs.Suspicions.{reloc_place, may_begin, suspicious_first, differ, suspicious_bit, suspicious_by, suspicious_operand};
-ghost use Rattle.suspicions.specs.Suspicions.{suspicious_lack, suspicious_plain, suspicious_line, suspicious_at, suspicious_place, suspicious_words, suspicions};
+ghost use Rattle.suspicions.specs.Suspicions.{reloc_place, may_begin, suspicious_first, differ, is_immediate, suspicious_bit, suspicious_by, suspicious_operand};
+ghost use Rattle.suspicions.specs.Suspicions.{is_foreign, suspicious_lack, suspicious_plain, suspicious_line, suspicious_at, suspicious_place, suspicious_words, suspicions, all_odd};
 
 use crate::branches::{find_branch, word_place};
+use crate::evidence::Evidence;
 use crate::leads::branch_of;
-use crate::reached::{is_marked, reached_places, sure_places};
+use crate::reached::{is_marked, reached_places};
 use crate::suspect::{Suspect, doubt_text};
-use crate::trust::{Trust, past_place, sure_ahead};
+use crate::trust::{Reached, Trust, is_sure};
 use aout_core::{File, Reloc};
 use disassemblies::Sweep;
-use findings::{FilePlaces, Finding, FindingKind, Findings, put_instruction};
+use findings::{FilePlaces, Finding, FindingKind, Findings, odd_of, put_instruction};
 use instructions::{Addressing, Instruction, Line, Operand, UnixLine, decode, is_relocated};
 use std::alloc::{AllocError, Global};
 use texts::Text;
@@ -64,13 +65,19 @@ fn pc_bit_text(findings: &Findings, address: u32, is_set: bool, is_sure: bool) -
 }
 
 /// The same of a word at a place of a line, with the instruction.
-fn pc_bit_in(findings: &Findings, at: &Suspect<'_>, place: usize, is_set: bool) -> Text
+fn pc_bit_in(
+    findings: &Findings,
+    at: &Suspect<'_>,
+    place: usize,
+    is_set: bool,
+    is_sure: bool,
+) -> Text
     requires { place < 2 ^ 20 }
     ensures { Holds result
-        (pc_bit_in at.now.sweep.now at.now.start place is_set at.now.trust.is_reached) }
+        (pc_bit_in at.now.lines.sweep.now at.now.start place is_set is_sure) }
 {
-    let mut text = pc_bit_text(findings, (2 * place) as u32, is_set, at.trust.is_reached);
-    put_instruction(&mut text, at.sweep.named(), at.start);
+    let mut text = pc_bit_text(findings, (2 * place) as u32, is_set, is_sure);
+    put_instruction(&mut text, at.sweep().named(), at.start);
     text
 }
 
@@ -101,16 +108,17 @@ fn may_begin(file: &File, place: usize) -> bool
 
 /// Adds a plain word, if it is relocated.
 fn find_first(findings: &mut Findings, at: &Suspect<'_>)
-    requires { at.now.start < length at.now.sweep.now.text_words }
+    requires { at.now.start < length at.now.lines.sweep.now.text_words }
     ensures { Finds findings.old findings.new
-        (suspicious_first at.now.sweep.now at.now.trust.is_reached at.now.start) }
+        (suspicious_first at.now.lines.sweep.now at.now.trust at.now.start) }
 {
-    let file = at.sweep.file();
+    let file = at.sweep().file();
     if is_relocated(reloc_at(file, at.start))
         && (at.trust.is_reached || may_begin(file, at.start))
     {
-        let text = relocated_first_text(findings, u32::from(at.address()), at.trust.is_reached);
-        findings.find(
+        let text = relocated_first_text(findings, u32::from(at.address()), at.trust.is_sure);
+        findings.find_as(
+            at.trust.is_sure,
             reloc_place(file, at.start),
             FindingKind::RelocatedFirstWord,
             text,
@@ -126,20 +134,36 @@ fn is_unsuitable(reloc: Reloc, addressing: Addressing) -> bool
     is_relocated(Some(reloc)) && reloc.is_pc() != addressing.counts_from_pc()
 }
 
+/// Whether an operand is the word itself.
+fn is_immediate(addressing: Addressing) -> bool
+    ensures { result ≡ is_immediate addressing }
+{
+    match addressing {
+        Addressing::Immediate => true,
+        _ => false,
+    }
+}
+
 /// Adds an operand word at a place whose pc bit does not suit its operand.
 fn find_bit(findings: &mut Findings, at: &Suspect<'_>, place: usize, addressing: Addressing)
     requires { place < 2 ^ 20 }
     ensures { Finds findings.old findings.new
-        (suspicious_bit at.now.sweep.now at.now.trust.is_reached at.now.start place addressing
-        (slice_get at.now.sweep.now.text_reloc place)) }
+        (suspicious_bit at.now.lines.sweep.now at.now.trust.is_sure at.now.start place addressing
+        (slice_get at.now.lines.sweep.now.text_reloc place)) }
 {
-    let file = at.sweep.file();
+    let file = at.sweep().file();
     let Some(reloc) = reloc_at(file, place) else {
         return;
     };
     if is_unsuitable(reloc, addressing) {
-        let text = pc_bit_in(findings, at, place, reloc.is_pc());
-        findings.find(reloc_place(file, place), FindingKind::UnsuitablePcBit, text);
+        let is_sure = at.trust.is_sure && !is_immediate(addressing);
+        let text = pc_bit_in(findings, at, place, reloc.is_pc(), is_sure);
+        findings.find_as(
+            is_sure,
+            reloc_place(file, place),
+            FindingKind::UnsuitablePcBit,
+            text,
+        );
     }
 }
 
@@ -147,7 +171,7 @@ fn find_bit(findings: &mut Findings, at: &Suspect<'_>, place: usize, addressing:
 fn find_operand(findings: &mut Findings, at: &Suspect<'_>, place: usize, operand: Option<Operand>)
     requires { place < 2 ^ 20 }
     ensures { Finds findings.old findings.new
-        (suspicious_operand at.now.sweep.now at.now.trust.is_reached at.now.start place operand) }
+        (suspicious_operand at.now.lines.sweep.now at.now.trust.is_sure at.now.start place operand) }
 {
     let Some(Operand::General(mode, register)) = operand else {
         return;
@@ -160,52 +184,66 @@ fn find_operand(findings: &mut Findings, at: &Suspect<'_>, place: usize, operand
 
 /// A text that the instruction at an address is cut.
 #[tactic(auto, unfolding(crate::specs::SuspicionTexts::cut_text))]
-fn cut_text(findings: &Findings, address: u32) -> Text
-    ensures { Holds result (cut_text address) }
+fn cut_text(findings: &Findings, address: u32, is_sure: bool) -> Text
+    ensures { Holds result (cut_text address is_sure) }
 {
     let mut text = findings.text();
     text.put("the instruction at ");
     text.put_six_digits(address);
     text.put(" is cut by the end of the text");
+    text.put(doubt_text(is_sure));
     text
 }
 
 /// A text that no instruction begins at an address to which one leads.
 #[tactic(auto, unfolding(crate::specs::SuspicionTexts::no_instruction_text))]
-fn no_instruction_text(findings: &Findings, address: u32) -> Text
-    ensures { Holds result (no_instruction_text address) }
+fn no_instruction_text(findings: &Findings, address: u32, is_sure: bool) -> Text
+    ensures { Holds result (no_instruction_text address is_sure) }
 {
     let mut text = findings.text();
     text.put("an instruction leads to ");
     text.put_six_digits(address);
     text.put(", where none begins");
+    text.put(doubt_text(is_sure));
     text
 }
 
-/// Adds a plain word to which an instruction leads.
+/// Whether a word begins an instruction of another PDP-11.
+fn is_foreign(word: u16) -> bool
+    ensures { result ≡ is_foreign word }
+{
+    word / 0o100 == 0o1064
+        || word / 0o100 == 0o1067
+        || word / 0o40 == 0o1720
+        || word / 0o1000 == 0o76
+}
+
+/// Adds a plain word at a place that is reached.
 fn find_lack(findings: &mut Findings, at: &Suspect<'_>, word: u16)
-    requires { at.now.start < length at.now.sweep.now.text_words }
-    ensures { Finds findings.old findings.new (suspicious_lack at.now.start (instruction_of word)) }
+    requires { at.now.start < length at.now.lines.sweep.now.text_words }
+    ensures { Finds findings.old findings.new
+        (suspicious_lack at.now.trust.is_sure at.now.start word (instruction_of word)) }
 {
     let address = u32::from(at.address());
+    let is_sure = at.trust.is_sure;
     if Instruction::from_first_word(word).is_some() {
-        let text = cut_text(findings, address);
-        findings.find(word_place(at), FindingKind::CutInstruction, text);
-    } else {
-        let text = no_instruction_text(findings, address);
-        findings.find(word_place(at), FindingKind::NoInstruction, text);
+        let text = cut_text(findings, address, is_sure);
+        findings.find_as(is_sure, word_place(at), FindingKind::CutInstruction, text);
+    } else if !is_foreign(word) {
+        let text = no_instruction_text(findings, address, is_sure);
+        findings.find_as(is_sure, word_place(at), FindingKind::NoInstruction, text);
     }
 }
 
 /// Adds what is suspicious of a plain word.
 fn find_plain(findings: &mut Findings, at: &Suspect<'_>, word: u16)
-    requires { at.now.start < length at.now.sweep.now.text_words }
+    requires { at.now.start < length at.now.lines.sweep.now.text_words }
     ensures { Finds findings.old findings.new
-        (suspicious_plain at.now.sweep.now at.now.trust at.now.start word) }
+        (suspicious_plain at.now.lines.sweep.now at.now.trust at.now.start word) }
 {
-    if is_relocated(reloc_at(at.sweep.file(), at.start)) {
+    if is_relocated(reloc_at(at.sweep().file(), at.start)) {
         find_first(findings, at);
-    } else if at.trust.is_sure {
+    } else if at.trust.is_reached {
         find_lack(findings, at, word);
     }
 }
@@ -213,9 +251,9 @@ fn find_plain(findings: &mut Findings, at: &Suspect<'_>, word: u16)
 /// Adds what is suspicious of the operand words of an instruction.
 fn find_operands(findings: &mut Findings, at: &Suspect<'_>, instruction: &Instruction)
     requires { at.now.start < 2 ^ 19 }
-    ensures { Finds findings.old findings.new (suspicious_operand at.now.sweep.now
-        at.now.trust.is_reached at.now.start (at.now.start + 1) instruction.now.first
-        ++ suspicious_operand at.now.sweep.now at.now.trust.is_reached at.now.start
+    ensures { Finds findings.old findings.new (suspicious_operand at.now.lines.sweep.now
+        at.now.trust.is_sure at.now.start (at.now.start + 1) instruction.now.first
+        ++ suspicious_operand at.now.lines.sweep.now at.now.trust.is_sure at.now.start
         (at.now.start + 1 + word_count_of instruction.now.first) instruction.now.second) }
 {
     let place = at.start + 1;
@@ -230,12 +268,14 @@ fn find_operands(findings: &mut Findings, at: &Suspect<'_>, instruction: &Instru
 
 /// Adds what is suspicious of the branch that an instruction is.
 fn find_branches(findings: &mut Findings, at: &Suspect<'_>, instruction: &Instruction)
-    requires inside { at.now.start < length at.now.sweep.now.text_words }
-    requires sure { (i : ℕ) → get_or at.now.sure.now i false ≡ is_sure at.now.sweep.now i }
-    ensures { Finds findings.old findings.new (suspicious_branch at.now.sweep.now at.now.trust
-        at.now.start (branch_of (2 * at.now.start) instruction.now.first)
-        ++ suspicious_branch at.now.sweep.now at.now.trust at.now.start
-        (branch_of (2 * at.now.start) instruction.now.second)) }
+    requires inside { at.now.start < length at.now.lines.sweep.now.text_words }
+    requires lines { (i : ℕ) → get_or at.now.lines.marks.now i false
+        ≡ is_reached at.now.lines.evidence at.now.lines.sweep.now i }
+    ensures { Finds findings.old findings.new (suspicious_branch at.now.lines.evidence
+        at.now.lines.sweep.now at.now.trust at.now.start
+        (branch_of (2 * at.now.start) instruction.now.first)
+        ++ suspicious_branch at.now.lines.evidence at.now.lines.sweep.now at.now.trust
+        at.now.start (branch_of (2 * at.now.start) instruction.now.second)) }
 {
     let address = at.address();
     find_branch(findings, at, branch_of(address, instruction.first));
@@ -243,15 +283,17 @@ fn find_branches(findings: &mut Findings, at: &Suspect<'_>, instruction: &Instru
 }
 
 /// Adds what is suspicious of a line.
-pub(crate) fn find_line(findings: &mut Findings, at: &Suspect<'_>)
-    requires inside { at.now.start < length at.now.sweep.now.text_words }
-    requires sure { (i : ℕ) → get_or at.now.sure.now i false ≡ is_sure at.now.sweep.now i }
+fn find_line(findings: &mut Findings, at: &Suspect<'_>)
+    requires inside { at.now.start < length at.now.lines.sweep.now.text_words }
+    requires lines { (i : ℕ) → get_or at.now.lines.marks.now i false
+        ≡ is_reached at.now.lines.evidence at.now.lines.sweep.now i }
     ensures { Finds findings.old findings.new
-        (suspicious_at at.now.sweep.now at.now.trust at.now.start) }
+        (suspicious_at at.now.lines.evidence at.now.lines.sweep.now at.now.trust
+        at.now.start) }
 {
-    let is_inside = at.start < at.sweep.file().text_words().len();
+    let is_inside = at.start < at.sweep().file().text_words().len();
     prove!(is_inside);
-    match at.sweep.line_at(at.start) {
+    match at.sweep().line_at(at.start) {
         UnixLine::Machine(Line::Plain(word)) => find_plain(findings, at, word),
         UnixLine::Machine(Line::Decoded(instruction, _, _)) => {
             find_operands(findings, at, &instruction);
@@ -261,50 +303,88 @@ pub(crate) fn find_line(findings: &mut Findings, at: &Suspect<'_>)
     }
 }
 
-/// A file, and for each word of its text whether symbols or distances show that it is reached, and whether from there on a sure line comes
-/// before a plain word.
+/// A file, and for each word of its text whether names show that it is reached, and whether an evidence of sure places does.
 #[derive(Clone, Copy)]
 struct Marked<'a> {
     sweep: &'a Sweep<'a>,
-    reached: &'a [bool],
-    sure: &'a [bool],
-    ahead: &'a [bool],
+    names: &'a [bool],
+    evidence: Evidence,
+    shown: &'a [bool],
 }
 
-/// How far it is sure that the line at a place is an instruction, if going back from it a sure line comes before a plain word, or not.
-fn trust_at(marked: &Marked<'_>, before: bool, place: usize) -> Trust
-    requires reached { (i : ℕ)
-        → get_or marked.now.reached.now i false ≡ is_reached Symbols marked.now.sweep.now i }
-    requires sure { (i : ℕ) → get_or marked.now.sure.now i false ≡ is_sure marked.now.sweep.now i }
-    requires ahead { (i : ℕ) → get_or marked.now.ahead.now i false
-        ≡ sure_ahead marked.now.sweep.now i (drop i marked.now.sweep.now.text_words) }
-    ensures { result ≡ trust marked.now.sweep.now before place }
+/// The places that names show.
+fn by_names<'a>(marked: &Marked<'a>) -> Reached<'a>
+    ensures names { result.evidence ≡ Names }
+    ensures sweep { result.sweep.now ≡ marked.now.sweep.now }
+    ensures marks { result.marks.now ≡ marked.now.names.now }
 {
-    let is_sure = is_marked(marked.sure, place);
+    Reached {
+        evidence: Evidence::Names,
+        sweep: marked.sweep,
+        marks: marked.names,
+    }
+}
+
+/// The places that the evidence shows.
+fn by_evidence<'a>(marked: &Marked<'a>) -> Reached<'a>
+    ensures evidence { result.evidence ≡ marked.now.evidence }
+    ensures sweep { result.sweep.now ≡ marked.now.sweep.now }
+    ensures marks { result.marks.now ≡ marked.now.shown.now }
+{
+    Reached {
+        evidence: marked.evidence,
+        sweep: marked.sweep,
+        marks: marked.shown,
+    }
+}
+
+/// The lines that a branch may enter.
+fn lines_of<'a>(marked: &Marked<'a>) -> Reached<'a>
+    requires names { (i : ℕ)
+        → get_or marked.now.names.now i false ≡ is_reached Names marked.now.sweep.now i }
+    requires shown { (i : ℕ) → get_or marked.now.shown.now i false
+        ≡ is_reached marked.now.evidence marked.now.sweep.now i }
+    ensures evidence { result.evidence ≡ of_lines marked.now.evidence }
+    ensures sweep { result.sweep.now ≡ marked.now.sweep.now }
+    ensures marks { (i : ℕ) → get_or result.marks.now i false
+        ≡ is_reached result.evidence result.sweep.now i }
+{
+    match marked.evidence {
+        Evidence::Promise => by_evidence(marked),
+        Evidence::Names | Evidence::Flow => by_names(marked),
+    }
+}
+
+/// How far it is sure that the line at a place is an instruction.
+fn trust_at(marked: &Marked<'_>, place: usize) -> Trust
+    requires inside { place < length marked.now.sweep.now.text_words }
+    requires names { (i : ℕ)
+        → get_or marked.now.names.now i false ≡ is_reached Names marked.now.sweep.now i }
+    requires shown { (i : ℕ) → get_or marked.now.shown.now i false
+        ≡ is_reached marked.now.evidence marked.now.sweep.now i }
+    ensures { result ≡ trust marked.now.evidence marked.now.sweep.now place }
+{
+    let is_sure = is_sure(&by_evidence(marked), place);
     Trust {
-        is_reached: is_marked(marked.reached, place) || is_sure,
-        is_between: before && is_marked(marked.ahead, place),
+        is_reached: is_marked(marked.names, place) || is_sure,
         is_sure,
     }
 }
 
 /// Adds what is suspicious at a place.
-fn find_place(findings: &mut Findings, marked: &Marked<'_>, before: bool, place: usize)
+fn find_place(findings: &mut Findings, marked: &Marked<'_>, place: usize)
     requires inside { place < length marked.now.sweep.now.text_words }
-    requires reached { (i : ℕ)
-        → get_or marked.now.reached.now i false ≡ is_reached Symbols marked.now.sweep.now i }
-    requires sure { (i : ℕ) → get_or marked.now.sure.now i false ≡ is_sure marked.now.sweep.now i }
-    requires ahead { (i : ℕ) → get_or marked.now.ahead.now i false
-        ≡ sure_ahead marked.now.sweep.now i (drop i marked.now.sweep.now.text_words) }
+    requires names { (i : ℕ)
+        → get_or marked.now.names.now i false ≡ is_reached Names marked.now.sweep.now i }
+    requires shown { (i : ℕ) → get_or marked.now.shown.now i false
+        ≡ is_reached marked.now.evidence marked.now.sweep.now i }
     ensures { Finds findings.old findings.new
-        (suspicious_place marked.now.sweep.now (trust marked.now.sweep.now before place)
-        (is_start (starts Unix marked.now.sweep.now) place) place) }
+        (suspicious_place marked.now.evidence marked.now.sweep.now place) }
 {
-    let trust = trust_at(marked, before, place);
+    let trust = trust_at(marked, place);
     if trust.is_reached || marked.sweep.is_start(place) {
         let at = Suspect {
-            sweep: marked.sweep,
-            sure: marked.sure,
+            lines: lines_of(marked),
             start: place,
             trust,
         };
@@ -312,46 +392,57 @@ fn find_place(findings: &mut Findings, marked: &Marked<'_>, before: bool, place:
     }
 }
 
-/// Whether a sure line comes before a plain word, going back from the place after this one, by what is so at this one.
-fn before_next(marked: &Marked<'_>, before: bool, place: usize) -> bool
-    requires { (i : ℕ) → get_or marked.now.sure.now i false ≡ is_sure marked.now.sweep.now i }
-    ensures { result ≡ past_place marked.now.sweep.now place before }
-{
-    past_place(marked.sweep, marked.sure, place, before)
-}
-
 /// Adds what is suspicious at each place.
 fn find_places(findings: &mut Findings, marked: &Marked<'_>)
-    requires reached { (i : ℕ)
-        → get_or marked.now.reached.now i false ≡ is_reached Symbols marked.now.sweep.now i }
-    requires sure { (i : ℕ) → get_or marked.now.sure.now i false ≡ is_sure marked.now.sweep.now i }
-    requires ahead { (i : ℕ) → get_or marked.now.ahead.now i false
-        ≡ sure_ahead marked.now.sweep.now i (drop i marked.now.sweep.now.text_words) }
-    ensures { Finds findings.old findings.new (suspicions marked.now.sweep.now) }
+    requires names { (i : ℕ)
+        → get_or marked.now.names.now i false ≡ is_reached Names marked.now.sweep.now i }
+    requires shown { (i : ℕ) → get_or marked.now.shown.now i false
+        ≡ is_reached marked.now.evidence marked.now.sweep.now i }
+    ensures { Finds findings.old findings.new
+        (suspicions marked.now.evidence marked.now.sweep.now) }
 {
     let words = marked.sweep.file().text_words();
-    let mut before = false;
     for (place, _) in words.iter().enumerate() {
-        find_place(findings, marked, before, place);
-        before = before_next(marked, before, place);
+        find_place(findings, marked, place);
     }
 }
 
-/// What is suspicious in the text of an object, in the order of the places. An error: out of memory. (a.out(5), the handbook of the
-/// PDP-11/70; what is suspicious: own choice)
-pub fn suspicions_of(alloc: Global, sweep: &Sweep<'_>) -> Result<Vec<Finding>, AllocError>
-    ensures { IfOk result (λ findings. all_found findings.items ≡ suspicions sweep.now) }
+/// What is suspicious in the text of a file, in the order of the places; the evidence, `Flow` or `Promise`, says which places are sure. An
+/// error: out of memory. (a.out(5), the handbook of the PDP-11/70; what is suspicious: own choice)
+pub fn suspicions_of(
+    alloc: Global,
+    evidence: Evidence,
+    sweep: &Sweep<'_>,
+) -> Result<Vec<Finding>, AllocError>
+    ensures { IfOk result (λ findings.
+        all_found findings.items ≡ suspicions evidence sweep.now) }
 {
     let mut findings = Findings::new(alloc);
-    let reached = reached_places(alloc, sweep)?;
-    let sure = sure_places(alloc, sweep)?;
-    let ahead = sure_ahead(alloc, sweep, &sure)?;
+    let names = reached_places(alloc, Evidence::Names, sweep)?;
+    let shown = reached_places(alloc, evidence, sweep)?;
     let marked = Marked {
         sweep,
-        reached: &reached,
-        sure: &sure,
-        ahead: &ahead,
+        names: &names,
+        evidence,
+        shown: &shown,
     };
     find_places(&mut findings, &marked);
     findings.finish()
+}
+
+/// What is odd of a file, which these bytes begin with, and what is suspicious in it. An error: out of memory.
+pub fn all_odd_of(
+    alloc: Global,
+    evidence: Evidence,
+    bytes: &[u8],
+    sweep: &Sweep<'_>,
+    commons: bool,
+) -> Result<Vec<Finding>, AllocError>
+    ensures { IfOk result (λ found.
+        all_found found.items ≡ all_odd evidence commons bytes.now sweep.now) }
+{
+    let mut found = odd_of(alloc, bytes, sweep.file(), commons)?;
+    let mut more = suspicions_of(alloc, evidence, sweep)?;
+    found.append(&mut more)?;
+    Ok(found)
 }

@@ -1,76 +1,102 @@
 //! How far it is sure that a line is an instruction.
-ghost use Rattle.std.specs.Prelude.{◌≡◌, ◌<◌, ◌||◌, ◌&&◌, ℕ, false, length, drop, get_or, IfOk};
+ghost use Rattle.std.specs.Prelude.{◌≡◌, ◌≤◌, ◌<◌, length, ℕ, false, get_or, IfSome};
+ghost use Rattle.suspicions.specs.Reached.{is_reached};
 ghost use Rattle.suspicions.specs.Trust as spec;
 
+use crate::evidence::Evidence;
+use crate::leads::is_promised;
 use crate::reached::is_marked;
 use disassemblies::Sweep;
-use instructions::{Line, UnixLine};
-use std::alloc::{AllocError, Global};
 
 /// How far it is sure that a line is an instruction.
 #[derive(Clone, Copy)]
 pub(crate) struct Trust {
-    /// Symbols or distances show that its place is reached.
+    /// Names show that its place is reached, or it is sure.
     pub(crate) is_reached: bool,
-    /// The sweep has sure lines before it and after it, with no plain word between them.
-    pub(crate) is_between: bool,
-    /// Distances show that its place is reached.
     pub(crate) is_sure: bool,
 }
 
-impl Trust {
-    /// Whether a branch is looked at.
-    pub(crate) fn is_likely(self) -> bool
-        ensures { result ≡ spec.is_likely self }
-    {
-        self.is_sure || (self.is_reached && self.is_between)
+/// A file, and for each word of its text whether an evidence shows that it is reached.
+#[derive(Clone, Copy)]
+pub(crate) struct Reached<'a> {
+    pub(crate) evidence: Evidence,
+    pub(crate) sweep: &'a Sweep<'a>,
+    pub(crate) marks: &'a [bool],
+}
+
+/// Whether the line at a reached place has the word so many words after it.
+fn has_word_at(reached: &Reached<'_>, start: usize, back: usize) -> bool
+    requires { (i : ℕ) → get_or reached.now.marks.now i false
+        ≡ is_reached reached.now.evidence reached.now.sweep.now i }
+    ensures { result ≡ spec.has_word_at reached.now.evidence reached.now.sweep.now start back }
+{
+    start < reached.sweep.file().text_words().len()
+        && is_marked(reached.marks, start)
+        && back < reached.sweep.line_at(start).length()
+}
+
+/// Whether the line at a reached place so many words before a place has its word.
+fn enters(reached: &Reached<'_>, place: usize, back: usize) -> bool
+    requires { (i : ℕ) → get_or reached.now.marks.now i false
+        ≡ is_reached reached.now.evidence reached.now.sweep.now i }
+    ensures { result ≡ spec.enters reached.now.evidence reached.now.sweep.now place back }
+{
+    place >= back && has_word_at(reached, place - back, back)
+}
+
+/// The nearest reached place before this one whose line has its word.
+pub(crate) fn entered(reached: &Reached<'_>, place: usize) -> Option<usize>
+    requires { (i : ℕ) → get_or reached.now.marks.now i false
+        ≡ is_reached reached.now.evidence reached.now.sweep.now i }
+    ensures value { result ≡ spec.entered reached.now.evidence reached.now.sweep.now place }
+    ensures before { IfSome result (λ start. start ≤ place) }
+{
+    if enters(reached, place, 1) {
+        Some(place - 1)
+    } else if enters(reached, place, 2) {
+        Some(place - 2)
+    } else if enters(reached, place, 3) {
+        Some(place - 3)
+    } else if enters(reached, place, 4) {
+        Some(place - 4)
+    } else {
+        None
     }
 }
 
-fn is_plain(line: &UnixLine) -> bool
-    ensures { result ≡ spec.is_plain line.now }
+/// Whether a line that is reached begins so many words after the one at a place, with a word of it.
+fn is_entered(reached: &Reached<'_>, place: usize, ahead: usize) -> bool
+    requires inside { place < length reached.now.sweep.now.text_words }
+    requires short { ahead ≤ 4 }
+    requires marks { (i : ℕ) → get_or reached.now.marks.now i false
+        ≡ is_reached reached.now.evidence reached.now.sweep.now i }
+    ensures { result ≡ spec.is_entered reached.now.evidence reached.now.sweep.now place ahead }
 {
-    match line {
-        UnixLine::Machine(Line::Plain(_)) => true,
-        UnixLine::Machine(Line::Decoded(..)) | UnixLine::Call(_) => false,
-    }
+    let is_inside = place < reached.sweep.file().text_words().len();
+    prove!(is_inside);
+    ahead < reached.sweep.line_at(place).length() && is_marked(reached.marks, place + ahead)
 }
 
-/// Whether a line of the sweep is a plain word at a place.
-fn breaks(sweep: &Sweep<'_>, place: usize) -> bool
-    ensures { result ≡ spec.breaks sweep.now place }
+/// Whether the line at a place overlaps another one that is reached.
+fn overlaps(reached: &Reached<'_>, place: usize) -> bool
+    requires inside { place < length reached.now.sweep.now.text_words }
+    requires marks { (i : ℕ) → get_or reached.now.marks.now i false
+        ≡ is_reached reached.now.evidence reached.now.sweep.now i }
+    ensures { result ≡ spec.overlaps reached.now.evidence reached.now.sweep.now place }
 {
-    match sweep.line_from(place) {
-        Some(line) => is_plain(&line),
-        None => false,
-    }
+    entered(reached, place).is_some()
+        || is_entered(reached, place, 1)
+        || is_entered(reached, place, 2)
+        || is_entered(reached, place, 3)
+        || is_entered(reached, place, 4)
 }
 
-/// Whether a sure line comes before a plain word, by what is so past a place.
-pub(crate) fn past_place(sweep: &Sweep<'_>, sure: &[bool], place: usize, rest: bool) -> bool
-    requires { (i : ℕ) → get_or sure.now i false ≡ spec.is_sure sweep.now i }
-    ensures { result ≡ spec.past_place sweep.now place rest }
+/// Whether it is sure that an instruction is at a place.
+pub(crate) fn is_sure(reached: &Reached<'_>, place: usize) -> bool
+    requires inside { place < length reached.now.sweep.now.text_words }
+    requires marks { (i : ℕ) → get_or reached.now.marks.now i false
+        ≡ is_reached reached.now.evidence reached.now.sweep.now i }
+    ensures { result ≡ spec.is_sure reached.now.evidence reached.now.sweep.now place }
 {
-    is_marked(sure, place) || (!breaks(sweep, place) && rest)
-}
-
-/// For each word of a file's text, whether from there on a sure line comes before a plain word. An error: out of memory.
-pub(crate) fn sure_ahead(
-    alloc: Global,
-    sweep: &Sweep<'_>,
-    sure: &[bool],
-) -> Result<Vec<bool>, AllocError>
-    requires { (i : ℕ) → get_or sure.now i false ≡ spec.is_sure sweep.now i }
-    ensures { IfOk result (λ ahead. (i : ℕ)
-        → get_or ahead.items i false ≡ spec.sure_ahead sweep.now i (drop i sweep.now.text_words)) }
-{
-    let mut ahead = vec![in alloc; false; sweep.file().text_words().len()]?;
-    let mut place = ahead.len();
-    let mut is_ahead = false;
-    while place > 0 {
-        place -= 1;
-        is_ahead = past_place(sweep, sure, place, is_ahead);
-        ahead[place] = is_ahead;
-    }
-    Ok(ahead)
+    is_marked(reached.marks, place) && (is_promised(reached.evidence) || !overlaps(reached, place))
 }

@@ -2,19 +2,19 @@
 -- or a line of an inventory. (own choice)
 --
 -- What goes to standard output comes with lines for standard error and a status: 1 if there is something to report.
-use Rattle.std.specs.Prelude.{ℕ, Bool, true, false, nat_lt, if◌then◌else◌, codes, List, [], ◌∷◌, ◌++◌, length, map, Option, Some, None}
-use Rattle.std.specs.Prelude.{Result, Ok, Err}
-use Rattle.std.specs.List.{flat_map}
+use Rattle.std.specs.Prelude.{ℕ, ◌-◌, Bool, true, false, nat_lt, if◌then◌else◌, codes, decimal, List, [], ◌∷◌, ◌++◌, length, map, take}
+use Rattle.std.specs.Prelude.{Option, Some, None, Result, Ok, Err}
+use Rattle.std.specs.List.{flat_map, list_any}
 use Rattle.aout_core.specs.{Contents.Contents, Decoding.decode, Decoding.header_in, WellFormed.first_object_fault}
 use Rattle.aout_core.specs.{declared.file.ReadFault.ReadFault, declared.header.Header.Header, declared.object.ObjectFault.ObjectFault}
 use Rattle.disassemblies.specs.{Columns.disassembly, Starts.starts}
 use Rattle.findings.specs.Wrong.{is_damaged, wrong_bytes, wrong_in, wrong_words}
-use Rattle.findings.specs.{Found.Found, Kinds.kind_text, Kinds.or_nothing, Notes.byte_text, Notes.header_lines, Notes.note_text, Odd.odd}
+use Rattle.findings.specs.{Found.Found, Kinds.kind_text, Kinds.or_nothing, Notes.byte_text, Notes.header_lines, Notes.note_text}
 use Rattle.findings.specs.{OtherFiles.is_of_gnu, OtherFiles.likeness}
 use Rattle.instructions.specs.declared.unix.Decoder.TheVariants.{Unix}
 use Rattle.listings.specs.Listing.{listing, note_lines}
 use Rattle.surroundings.specs.{Answer.Answer, Answers.line_front, Answers.only_errors}
-use Rattle.suspicions.specs.{SureSuspicions.sure_suspicions, Suspicions.suspicions}
+use Rattle.suspicions.specs.{Suspicions.all_odd, declared.evidence.Evidence.Evidence}
 use Rattle.texts.specs.{Lines.text_of, Numbers.octal_and_decimal}
 use Rattle.explanations.specs.Inventories.{file_row, refused_row, row_line}
 use Rattle.explanations.specs.{Dumps.dump, Said.explained, Said.printed, declared.inventory.InventoryRow.InventoryRow}
@@ -70,6 +70,32 @@ front_notes path bytes h refused = title path (length bytes) ∷ [] ++ note_if (
 abbrev pub lines_of : List (List ℕ) → List ℕ
 lines_of notes = text_of (note_lines (map printed notes))
 
+-- ---- what is odd
+
+unfoldable pub more_text : ℕ → List ℕ
+more_text more = codes "and " ++ decimal more ++ codes " more that are odd"
+
+-- that there are more than 16, of so many
+abbrev pub more_odd : ℕ → Option (List ℕ)
+more_odd count = if nat_lt 16 count then Some (more_text (count - 16)) else None
+
+-- as notes, the first 16 one by one
+abbrev pub odd_notes : List Found → List (List ℕ)
+odd_notes found = found_notes (codes "odd") (take 16 found) ++ note_if (more_odd (length found))
+
+-- a line with a text, if there is one
+abbrev pub line_if : List ℕ → Option (List ℕ) → List ℕ
+line_if path None = []
+line_if path (Some text) = line_of path text
+
+-- on standard error
+abbrev pub odd_lines : List ℕ → List Found → List ℕ
+odd_lines path found = reports path (take 16 found) ++ line_if path (more_odd (length found))
+
+-- 1 if anything is found that is sure
+abbrev pub status_of : List Found → ℕ
+status_of found = if list_any (λ f. f.is_sure) found then 1 else 0
+
 -- ---- damage
 
 abbrev pub status_in : Option ObjectFault → ℕ
@@ -84,18 +110,18 @@ listing_with c notes findings = listing (explained (starts Unix c) c notes findi
 abbrev pub list_notes : List ℕ → List ℕ → Contents → Option ObjectFault → List (List ℕ)
 list_notes path bytes c refused = front_notes path bytes c.header refused ++ header_lines c.header
 
-abbrev pub list_findings : List ℕ → Contents → Option ObjectFault → List (List ℕ)
-list_findings bytes c refused =
-    found_notes (codes "wrong") (wrong_in refused c) ++ found_notes (codes "odd") (odd bytes c) ++ found_notes (codes "odd") (suspicions c)
-    ++ gnu_notes false bytes
+-- the evidence says what is sure in the instructions
+abbrev pub list_findings : Evidence → List ℕ → Contents → Option ObjectFault → List (List ℕ)
+list_findings e bytes c refused =
+    found_notes (codes "wrong") (wrong_in refused c) ++ odd_notes (all_odd e true bytes c) ++ gnu_notes false bytes
 
 -- what is wrong goes to standard error too, if it is reported
 abbrev pub reported : Bool → List ℕ → List Found → List ℕ
 reported tells path found = if tells then reports path found else []
 
-abbrev pub listed_as : Bool → List ℕ → List ℕ → Contents → Option ObjectFault → Answer
-listed_as tells path bytes c refused = record {
-  output = listing_with c (list_notes path bytes c refused) (list_findings bytes c refused);
+abbrev pub listed_as : Evidence → Bool → List ℕ → List ℕ → Contents → Option ObjectFault → Answer
+listed_as e tells path bytes c refused = record {
+  output = listing_with c (list_notes path bytes c refused) (list_findings e bytes c refused);
   errors = reported tells path (wrong_in refused c);
   status = status_in refused;
 }
@@ -114,15 +140,14 @@ viewed_as view path bytes c refused = record {
   status = status_in refused;
 }
 
--- 1 if anything is found
-abbrev pub status_of : List Found → ℕ
-status_of [] = 0
-status_of (f ∷ fs) = 1
+-- what is odd in an object, but for commons of odd sizes
+abbrev pub checked_object : List ℕ → List Found → Answer
+checked_object path found = only_errors (odd_lines path found) (status_of found)
 
--- why it is not an object: its name, or each bad word; or what is suspicious for sure in an object
-abbrev pub checked_as : List ℕ → Contents → Option ObjectFault → Answer
-checked_as path c None = only_errors (reports path (sure_suspicions c)) (status_of (sure_suspicions c))
-checked_as path c (Some refused) =
+-- why it is not an object: its name, or each bad word; or what is odd in an object
+abbrev pub checked_as : Evidence → List ℕ → List ℕ → Contents → Option ObjectFault → Answer
+checked_as e path bytes c None = checked_object path (all_odd e false bytes c)
+checked_as e path bytes c (Some refused) =
     if is_damaged (Some refused) then only_errors (reports path (wrong_words c)) 1
     else only_errors (line_of path (or_nothing (kind_text c.header (Some refused)))) 1
 
@@ -151,11 +176,6 @@ refused_as tells path bytes fault = record {
   status = 1;
 }
 
--- a line with a text, if there is one
-abbrev pub line_if : List ℕ → Option (List ℕ) → List ℕ
-line_if path None = []
-line_if path (Some text) = line_of path text
-
 abbrev pub gnu_line : List ℕ → List ℕ → List ℕ
 gnu_line path bytes = if is_of_gnu true bytes then line_of path gnu_text else []
 
@@ -168,14 +188,14 @@ abbrev pub by_reading : (Contents → Option ObjectFault → Answer) → (ReadFa
 by_reading file refused (Ok c) = file c (first_object_fault c)
 by_reading file refused (Err fault) = refused fault
 
-abbrev pub listed : Bool → List ℕ → List ℕ → Answer
-listed tells path bytes = by_reading (listed_as tells path bytes) (refused_as tells path bytes) (decode bytes)
+abbrev pub listed : Evidence → Bool → List ℕ → List ℕ → Answer
+listed e tells path bytes = by_reading (listed_as e tells path bytes) (refused_as tells path bytes) (decode bytes)
 
 abbrev pub viewed : View → List ℕ → List ℕ → Answer
 viewed view path bytes = by_reading (viewed_as view path bytes) (refused_as false path bytes) (decode bytes)
 
-abbrev pub checked : List ℕ → List ℕ → Answer
-checked path bytes = by_reading (checked_as path) (λ fault. only_errors (refused_lines path bytes fault) 1) (decode bytes)
+abbrev pub checked : Evidence → List ℕ → List ℕ → Answer
+checked e path bytes = by_reading (checked_as e path bytes) (λ fault. only_errors (refused_lines path bytes fault) 1) (decode bytes)
 
 -- ---- a line of an inventory
 

@@ -4,7 +4,7 @@ use Rattle.surroundings.specs.{Answer.Answer, Answers.only_errors}
 
 abbrev pub usage : List ℕ
 usage =
-    codes "usage: v7-explain [-c|-d|-l|-p|-s|-x] FILE...\n       v7-explain -l -R PATH...\n       v7-explain -o LISTING FILE\n"
+    codes "usage: v7-explain [-c [-t]|-d|-l|-p|-s|-t|-x] FILE...\n       v7-explain -l -R PATH...\n       v7-explain -o LISTING FILE\n"
     ++ codes "       v7-explain -m [-y NAME]... [OPTIONS OF LD] FILE...\n       v7-explain --help | --version\n"
 
 abbrev pub nothing_said : Answer

@@ -17,6 +17,7 @@ use Rattle.v7_explain.specs.declared.program.Task.TheVariants.{Store, MapLink, E
 use Rattle.v7_explain.specs.declared.explaining.Mode.TheVariants.{Listing, Show, Check, Inventory}
 use Rattle.v7_explain.specs.{Maps.IsMapCall, Walks.AreWalked, Walks.Folders, declared.explaining.Mode.Mode, declared.program.Task.Task}
 use Rattle.v7_explain.specs.{declared.views.View.TheVariants.Instructions, declared.views.View.TheVariants.Rows}
+use Rattle.suspicions.specs.declared.evidence.Evidence.TheVariants.{Flow, Promise}
 use Rattle.explanations.specs.declared.rows.Base.TheVariants.{Octal, Hexadecimal}
 use Rattle.instructions.specs.declared.unix.Decoder.TheVariants.{Pdp11, Unix}
 use Rattle.surroundings.specs.declared.answer.Fault.TheVariants as faults
@@ -25,9 +26,9 @@ use Rattle.surroundings.specs.declared.answer.Fault.TheVariants as faults
 
 -- what is shown of a file with this path and these bytes
 abbrev pub said_of : Mode → List ℕ → List ℕ → Answer
-said_of Listing path bytes = listed false path bytes
+said_of (Listing e) path bytes = listed e false path bytes
 said_of (Show view) path bytes = viewed view path bytes
-said_of Check path bytes = checked path bytes
+said_of (Check e) path bytes = checked e path bytes
 said_of Inventory path bytes = inventoried path bytes
 
 -- the file at a path is read and explained, or it is not opened or not read, and a line reports that
@@ -71,7 +72,7 @@ IsStoring to said old new result =
 -- the bytes of a file are listed, and the listing is stored; or memory ran out before
 abbrev pub AfterReading : List ℕ → List ℕ → List ℕ → History → History → Result Answer Fault → Type 0
 AfterReading to path bytes old new result =
-    ((new ≡ old) × (result ≡ Err (faults.Memory refused))) ⊎ IsStoring to (listed true path bytes) old new result
+    ((new ≡ old) × (result ≡ Err (faults.Memory refused))) ⊎ IsStoring to (listed Flow true path bytes) old new result
 
 abbrev pub ReadsAndStores : List ℕ → List ℕ → History → History → Result Answer Fault → Type 0
 ReadsAndStores to path old new result =
@@ -124,12 +125,13 @@ mapping words = mapping_after [] words
 -- how files are explained by the option in front of them, if there is one
 abbrev pub mode_of : List ℕ → Option Mode
 mode_of word =
-    if bytes_eq word (codes "-c") then Some Check
+    if bytes_eq word (codes "-c") then Some (Check Flow)
     else (if bytes_eq word (codes "-d") then Some (Show (Instructions Unix))
     else (if bytes_eq word (codes "-l") then Some Inventory
     else (if bytes_eq word (codes "-p") then Some (Show (Instructions Pdp11))
     else (if bytes_eq word (codes "-s") then Some (Show (Rows Octal))
-    else (if bytes_eq word (codes "-x") then Some (Show (Rows Hexadecimal)) else None)))))
+    else (if bytes_eq word (codes "-t") then Some (Listing Promise)
+    else (if bytes_eq word (codes "-x") then Some (Show (Rows Hexadecimal)) else None))))))
 
 abbrev pub walking : List (List ℕ) → Option Call
 walking words = if are_files words then Some (walk words) else None
@@ -139,11 +141,18 @@ abbrev pub inventory : List (List ℕ) → Option Call
 inventory [] = None
 inventory (first ∷ rest) = if bytes_eq first (codes "-R") then walking rest else explaining Inventory (first ∷ rest)
 
+-- after -c, with -t in front of the paths or without it
+abbrev pub checking : List (List ℕ) → Option Call
+checking [] = None
+checking (first ∷ rest) =
+    if bytes_eq first (codes "-t") then explaining (Check Promise) rest else explaining (Check Flow) (first ∷ rest)
+
 -- after the option the paths, or with no option these paths
 abbrev pub explaining_by : Option Mode → List ℕ → List (List ℕ) → Option Call
 explaining_by (Some Inventory) first rest = inventory rest
+explaining_by (Some (Check e)) first rest = checking rest
 explaining_by (Some mode) first rest = explaining mode rest
-explaining_by None first rest = explaining Listing (first ∷ rest)
+explaining_by None first rest = explaining (Listing Flow) (first ∷ rest)
 
 abbrev pub task_of : List ℕ → Task
 task_of first = if bytes_eq first (codes "-o") then Store else (if bytes_eq first (codes "-m") then MapLink else Explain)

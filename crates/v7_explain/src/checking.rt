@@ -1,4 +1,4 @@
-//! Why files are not objects, and what is suspicious in objects for sure.
+//! Why files are not objects, and what is odd in objects.
 ghost use Rattle.std.specs.Prelude.{◌≡◌, None, IfOk, OnOk, option_map};
 ghost use Rattle.aout_core.specs.WellFormed.{first_object_fault};
 ghost use Rattle.findings.specs.Found.{all_found};
@@ -7,13 +7,15 @@ ghost use Rattle.texts.specs.Texts.{Puts};
 ghost use Rattle.surroundings.specs.Answers.{only_errors};
 ghost use Rattle.v7_explain.specs.Files.{checked, checked_as, gnu_line, line_if, line_of, refused_lines, status_of};
 
-use crate::source::{GNU_NOTE, Source, likeness_of, put_front, put_reports, put_text_line};
+use crate::source::{
+    GNU_NOTE, Source, likeness_of, put_front, put_odd_lines, put_reports, put_text_line,
+};
 use aout_core::{File, Header, ObjectFault, ReadFault, decode_file, object_fault};
 use disassemblies::Sweep;
 use findings::{Finding, is_damaged, is_of_gnu, put_kind, wrong_bytes, wrong_words};
 use std::alloc::{AllocError, Global};
 use surroundings::{Answer, error_answer};
-use suspicions::sure_suspicions_of;
+use suspicions::{Evidence, all_odd_of};
 use texts::Text;
 
 /// Puts a line with a text, if there is one.
@@ -60,34 +62,49 @@ fn put_kind_line(lines: &mut Text, path: &str, header: &Header, refused: Option<
     lines.put("\n");
 }
 
-/// The status after findings: 1 if there are any.
+/// The status after findings: 1 if one is sure.
 fn status_of(found: &[Finding]) -> u8
     ensures { result ≡ status_of (all_found found.now) }
 {
-    match found {
-        [] => 0,
-        _ => 1,
+    if found.iter().any(|finding| finding.is_sure) {
+        1
+    } else {
+        0
     }
 }
 
-/// What is suspicious for sure in an object.
-fn check_object(alloc: Global, path: &str, file: &File) -> Result<Answer, AllocError>
-    ensures { IfOk result (λ answer. answer ≡ checked_as path.now file.now None) }
+/// What is odd in an object.
+fn check_object(
+    alloc: Global,
+    evidence: Evidence,
+    source: Source<'_>,
+    file: &File,
+) -> Result<Answer, AllocError>
+    ensures { IfOk result (λ answer. answer
+        ≡ checked_as evidence source.entry.path.now source.entry.bytes.now file.now None) }
 {
-    let suspicions = sure_suspicions_of(alloc, &Sweep::new(alloc, file)?)?;
+    let sweep = Sweep::new(alloc, file)?;
+    let odd = all_odd_of(alloc, evidence, source.bytes, &sweep, false)?;
     let mut lines = Text::new(alloc);
-    put_reports(&mut lines, path, &suspicions);
-    error_answer(alloc, lines, status_of(&suspicions))
+    put_odd_lines(&mut lines, source.path, &odd);
+    error_answer(alloc, lines, status_of(&odd))
 }
 
-/// Why a file is not an object, if it is not; or what is suspicious for sure in it.
-fn check_file(alloc: Global, path: &str, file: &File) -> Result<Answer, AllocError>
-    ensures { IfOk result (λ answer. answer ≡ checked_as path.now file.now (first_object_fault file.now)) }
+/// Why a file is not an object, if it is not; or what is odd in it.
+fn check_file(
+    alloc: Global,
+    evidence: Evidence,
+    source: Source<'_>,
+    file: &File,
+) -> Result<Answer, AllocError>
+    ensures { IfOk result (λ answer. answer ≡ checked_as evidence source.entry.path.now
+        source.entry.bytes.now file.now (first_object_fault file.now)) }
 {
     let refused = object_fault(file);
     if refused.is_none() {
-        return check_object(alloc, path, file);
+        return check_object(alloc, evidence, source, file);
     }
+    let path = source.path;
     let mut lines = Text::new(alloc);
     if is_damaged(refused) {
         let wrong = wrong_words(alloc, file)?;
@@ -98,13 +115,17 @@ fn check_file(alloc: Global, path: &str, file: &File) -> Result<Answer, AllocErr
     error_answer(alloc, lines, 1)
 }
 
-/// Why the bytes of a file are not an object, if they are not; or what is suspicious for sure in the object.
-pub(crate) fn check(alloc: Global, source: Source<'_>) -> Result<Answer, AllocError>
+/// Why the bytes of a file are not an object, if they are not; or what is odd in the object.
+pub(crate) fn check(
+    alloc: Global,
+    evidence: Evidence,
+    source: Source<'_>,
+) -> Result<Answer, AllocError>
     ensures { IfOk result (λ answer.
-        answer ≡ checked source.entry.path.now source.entry.bytes.now) }
+        answer ≡ checked evidence source.entry.path.now source.entry.bytes.now) }
 {
     match decode_file(alloc, source.bytes)? {
-        Ok(file) => check_file(alloc, source.path, &file),
+        Ok(file) => check_file(alloc, evidence, source, &file),
         Err(fault) => check_refused(alloc, source, fault),
     }
 }

@@ -12,16 +12,17 @@ use crate::source::Source;
 use crate::views::{View, show};
 use std::alloc::{AllocError, Global};
 use surroundings::{Answer, Fault, Office, read_whole};
+use suspicions::Evidence;
 
 /// What is said of each file.
 #[derive(Clone, Copy, PartialEq, Eq)]
 pub(crate) enum Mode {
-    /// A listing.
-    Listing,
+    /// A listing. The evidence says what is sure of its instructions.
+    Listing(Evidence),
     /// Its instructions, or its words in rows.
     Show(View),
-    /// Why it is not an object.
-    Check,
+    /// Why it is not an object, or what is odd in it.
+    Check(Evidence),
     /// A line of an inventory.
     Inventory,
 }
@@ -52,9 +53,9 @@ fn explain(alloc: Global, mode: Mode, source: Source<'_>) -> Result<Answer, Allo
     ensures { IfOk result (λ a. a ≡ said_of mode source.entry.path.now source.entry.bytes.now) }
 {
     match mode {
-        Mode::Listing => list(alloc, source, false),
+        Mode::Listing(evidence) => list(alloc, evidence, source, false),
         Mode::Show(view) => show(alloc, source, view),
-        Mode::Check => check(alloc, source),
+        Mode::Check(evidence) => check(alloc, evidence, source),
         Mode::Inventory => take_inventory(alloc, source),
     }
 }

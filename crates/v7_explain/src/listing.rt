@@ -7,15 +7,15 @@ ghost use Rattle.v7_explain.specs.Files.{list_findings, list_notes, listed, list
 ghost use Rattle.v7_explain.specs.internal.Notes.{HasNotes};
 
 use crate::source::{
-    Source, explain_refused, front_notes, put_found, put_gnu_note, reported, status_in,
+    Source, explain_refused, front_notes, put_found, put_gnu_note, put_odd, reported, status_in,
 };
 use aout_core::{File, ObjectFault, decode_file, object_fault};
 use disassemblies::Sweep;
 use explanations::write_explained;
-use findings::{Finding, Notes, odd_of, put_header, wrong_in};
+use findings::{Finding, Notes, put_header, wrong_in};
 use std::alloc::{AllocError, Global};
 use surroundings::Answer;
-use suspicions::suspicions_of;
+use suspicions::{Evidence, all_odd_of};
 
 /// The notes before a file.
 fn list_notes(alloc: Global, source: Source<'_>, file: &File, refused: Option<ObjectFault>) -> Notes
@@ -30,19 +30,19 @@ fn list_notes(alloc: Global, source: Source<'_>, file: &File, refused: Option<Ob
 /// What is found in a file, as notes after it.
 fn list_findings(
     alloc: Global,
+    evidence: Evidence,
     bytes: &[u8],
     sweep: &Sweep<'_>,
     refused: Option<ObjectFault>,
     wrong: &[Finding],
 ) -> Result<Notes, AllocError>
     requires { all_found wrong.now ≡ wrong_in refused sweep.now }
-    ensures { IfOk result (λ notes. HasNotes notes (list_findings bytes.now sweep.now refused)) }
+    ensures { IfOk result (λ notes. HasNotes notes (list_findings evidence bytes.now sweep.now refused)) }
 {
-    let odd = odd_of(alloc, bytes, sweep.file())?;
+    let odd = all_odd_of(alloc, evidence, bytes, sweep, true)?;
     let mut findings = Notes::new(alloc);
     put_found(&mut findings, "wrong", wrong);
-    put_found(&mut findings, "odd", &odd);
-    put_found(&mut findings, "odd", &suspicions_of(alloc, sweep)?);
+    put_odd(&mut findings, &odd);
     put_gnu_note(alloc, &mut findings, bytes, false)?;
     Ok(findings)
 }
@@ -68,18 +68,19 @@ fn listing_with(
 /// The listing of a file, with its status.
 fn list_file(
     alloc: Global,
+    evidence: Evidence,
     source: Source<'_>,
     is_reported: bool,
     file: &File,
 ) -> Result<Answer, AllocError>
-    ensures { IfOk result (λ answer. answer ≡ listed_as is_reported source.entry.path.now
+    ensures { IfOk result (λ answer. answer ≡ listed_as evidence is_reported source.entry.path.now
         source.entry.bytes.now file.now (first_object_fault file.now)) }
 {
     let refused = object_fault(file);
     let wrong = wrong_in(alloc, file, refused)?;
     let notes = list_notes(alloc, source, file, refused);
     let sweep = Sweep::new(alloc, file)?;
-    let findings = list_findings(alloc, source.bytes, &sweep, refused, &wrong)?;
+    let findings = list_findings(alloc, evidence, source.bytes, &sweep, refused, &wrong)?;
     Ok(Answer {
         output: listing_with(alloc, &sweep, &notes, &findings)?,
         errors: reported(alloc, is_reported, source.path, &wrong)?,
@@ -90,14 +91,15 @@ fn list_file(
 /// The listing of the bytes of a file; what is wrong with them goes to standard error too, if it is reported.
 pub(crate) fn list(
     alloc: Global,
+    evidence: Evidence,
     source: Source<'_>,
     is_reported: bool,
 ) -> Result<Answer, AllocError>
     ensures { IfOk result (λ answer.
-        answer ≡ listed is_reported source.entry.path.now source.entry.bytes.now) }
+        answer ≡ listed evidence is_reported source.entry.path.now source.entry.bytes.now) }
 {
     match decode_file(alloc, source.bytes)? {
-        Ok(file) => list_file(alloc, source, is_reported, &file),
+        Ok(file) => list_file(alloc, evidence, source, is_reported, &file),
         Err(fault) => explain_refused(alloc, source, is_reported, fault),
     }
 }

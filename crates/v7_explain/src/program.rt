@@ -1,6 +1,6 @@
 //! The program, over any files and any streams.
 ghost use Rattle.std.specs.Prelude.{◌≡◌, ◌∷◌, List, ℕ, Option, map, string_bytes};
-ghost use Rattle.v7_explain.specs.Runs.{IsAnswer, IsCall, PerformsExplain, are_files, asked_in, explaining, explaining_by, inventory, mode_of, storing, storing_at, task_of, walking};
+ghost use Rattle.v7_explain.specs.Runs.{IsAnswer, IsCall, PerformsExplain, are_files, asked_in, checking, explaining, explaining_by, inventory, mode_of, storing, storing_at, task_of, walking};
 ghost use Rattle.v7_explain.specs.Walks.{Folder};
 
 use crate::explaining::{Mode, explain_each, explain_walked};
@@ -13,12 +13,13 @@ use instructions::Decoder;
 use std::alloc::Global;
 use std::io::Write;
 use surroundings::{Answer, Fault, Office, Outputs, give, shown_answer, shown_in, usage_answer};
+use suspicions::Evidence;
 
 /// The name of the program.
 pub(crate) const NAME: &str = "v7-explain";
 
 /// How it is called.
-pub(crate) const USAGE: &str = "usage: v7-explain [-c|-d|-l|-p|-s|-x] FILE...
+pub(crate) const USAGE: &str = "usage: v7-explain [-c [-t]|-d|-l|-p|-s|-t|-x] FILE...
        v7-explain -l -R PATH...
        v7-explain -o LISTING FILE
        v7-explain -m [-y NAME]... [OPTIONS OF LD] FILE...
@@ -117,16 +118,35 @@ fn answer_inventory<O: Office, F: Folders>(
     }
 }
 
+/// What is odd in these files, or by the promise that their texts are all instructions, after `-t`.
+fn answer_checked<O: Office>(
+    alloc: Global,
+    office: &mut O,
+    words: &[String],
+) -> Result<Answer, Fault>
+    ensures { (folders : Option (List ℕ → Option Folder))
+        → IsCall folders (checking (map string_bytes words.now))
+        (O.history office.old) (O.history office.new) result }
+{
+    match words {
+        [first, rest @ ..] if first.as_str() == "-t" => {
+            answer_files(alloc, office, Mode::Check(Evidence::Promise), rest)
+        }
+        _ => answer_files(alloc, office, Mode::Check(Evidence::Flow), words),
+    }
+}
+
 /// How files are explained by an option, if this is one.
 fn mode_of(word: &str) -> Option<Mode>
     ensures { result ≡ mode_of word.now }
 {
     match word {
-        "-c" => Some(Mode::Check),
+        "-c" => Some(Mode::Check(Evidence::Flow)),
         "-d" => Some(Mode::Show(View::Instructions(Decoder::Unix))),
         "-l" => Some(Mode::Inventory),
         "-p" => Some(Mode::Show(View::Instructions(Decoder::Pdp11))),
         "-s" => Some(Mode::Show(View::Rows(Base::Octal))),
+        "-t" => Some(Mode::Listing(Evidence::Promise)),
         "-x" => Some(Mode::Show(View::Rows(Base::Hexadecimal))),
         _ => None,
     }
@@ -148,8 +168,9 @@ fn answer_by_mode<O: Office, F: Folders>(
 {
     match mode_of(first) {
         Some(Mode::Inventory) => answer_inventory(alloc, office, folders, rest),
+        Some(Mode::Check(_)) => answer_checked(alloc, office, rest),
         Some(mode) => answer_files(alloc, office, mode, rest),
-        None => answer_files(alloc, office, Mode::Listing, words),
+        None => answer_files(alloc, office, Mode::Listing(Evidence::Flow), words),
     }
 }
 

@@ -1,5 +1,5 @@
 //! A file that is explained, and what is said of it whatever becomes of it.
-ghost use Rattle.std.specs.Prelude.{◌≡◌, ◌∷◌, [], false, length, option_map, IfOk, OnOk};
+ghost use Rattle.std.specs.Prelude.{◌≡◌, ◌∷◌, [], false, length, option_map, take, IfOk, OnOk};
 ghost use Rattle.findings.specs.Found.{all_found};
 ghost use Rattle.findings.specs.Notes.{AddsNotes, finding_text};
 ghost use Rattle.findings.specs.Kinds.{kind_text};
@@ -7,6 +7,7 @@ ghost use Rattle.findings.specs.Wrong.{wrong_bytes};
 ghost use Rattle.surroundings.specs.Answers.{line_front};
 ghost use Rattle.texts.specs.Texts.{Puts};
 ghost use Rattle.v7_explain.specs.Files.{found_notes, front_notes, gnu_notes, header_notes, likeness_of};
+ghost use Rattle.v7_explain.specs.Files.{line_if, more_odd, more_text, odd_lines, odd_notes};
 ghost use Rattle.v7_explain.specs.Files.{line_of, lines_of, note_if, program, refused_as, refused_notes, reported, reports};
 ghost use Rattle.v7_explain.specs.Files.{status_in, title};
 ghost use Rattle.v7_explain.specs.internal.Notes.{HasNotes};
@@ -26,6 +27,9 @@ use texts::Text;
 pub(crate) const GNU_NOTE: &str =
     "this file has the form of GNU's assembler and of 2.11BSD, with symbols of 8 bytes and a table of strings: \
      v7-from-gnu makes an object of it";
+
+/// How many odd things are shown one by one.
+const MOST_ODD: usize = 16;
 
 /// A file: its path and its bytes.
 #[derive(Clone, Copy)]
@@ -87,6 +91,43 @@ pub(crate) fn put_reports(lines: &mut Text, path: &str, wrong: &[Finding])
     }
 }
 
+/// The findings that are shown one by one.
+fn first_of(found: &[Finding]) -> &[Finding]
+    ensures { all_found result.now ≡ take 16 (all_found found.now) }
+{
+    &found[..MOST_ODD.min(found.len())]
+}
+
+/// Puts that so many more are odd.
+#[tactic(auto, unfolding(crate::specs::Files::more_text))]
+fn put_more(text: &mut Text, more: usize)
+    ensures { Puts text.old text.new (more_text more) }
+{
+    text.put("and ");
+    text.put_decimal(more as u64);
+    text.put(" more that are odd");
+}
+
+/// Puts a line that more are odd than are shown, if they are so many.
+#[tactic(auto, unfolding(crate::specs::Files::line_of))]
+fn put_more_line(lines: &mut Text, path: &str, count: usize)
+    ensures { Puts lines.old lines.new (line_if path.now (more_odd count)) }
+{
+    if count > MOST_ODD {
+        put_front(lines, path);
+        put_more(lines, count - MOST_ODD);
+        lines.put("\n");
+    }
+}
+
+/// Puts what is odd as lines for standard error.
+pub(crate) fn put_odd_lines(lines: &mut Text, path: &str, odd: &[Finding])
+    ensures { Puts lines.old lines.new (odd_lines path.now (all_found odd.now)) }
+{
+    put_reports(lines, path, first_of(odd));
+    put_more_line(lines, path, odd.len());
+}
+
 /// What is wrong as lines for standard error, if it is reported.
 pub(crate) fn reported(
     alloc: Global,
@@ -110,6 +151,25 @@ pub(crate) fn put_found(notes: &mut Notes, word: &str, found: &[Finding])
     ensures { AddsNotes notes.old notes.new (found_notes word.now (all_found found.now)) }
 {
     put_findings(notes, word, found);
+}
+
+/// Adds a note that more are odd than are shown, if they are so many.
+fn put_more_note(notes: &mut Notes, count: usize)
+    ensures { AddsNotes notes.old notes.new (note_if (more_odd count)) }
+{
+    if count > MOST_ODD {
+        let mut note = notes.begin();
+        put_more(&mut note, count - MOST_ODD);
+        notes.add(note);
+    }
+}
+
+/// Adds what is odd as notes.
+pub(crate) fn put_odd(notes: &mut Notes, odd: &[Finding])
+    ensures { AddsNotes notes.old notes.new (odd_notes (all_found odd.now)) }
+{
+    put_found(notes, "odd", first_of(odd));
+    put_more_note(notes, odd.len());
 }
 
 /// Adds a note with the path and the size.

@@ -7,14 +7,15 @@ use Rattle.findings.proofs.odd.find_symbols.Goals as goal
 pub loop-number-preserved : goal.loop-number-preserved
 loop-number-preserved c =
     let symbols = c.symbols-symbols.result.now in
+    let commons = c.args.source.now.commons in
     let file = c.args.source.now.file.now in (
       λ whole.
           let put = c.find_symbol.ensures whole in
           let so_far = c.loop-number.invariant.0 put.0 in (
             so_far.0,
-            symbols_more file c.args.source.now.bytes.now symbols c.loop-number.number c.index-symbols-number.result
+            symbols_more commons file c.args.source.now.bytes.now symbols c.loop-number.number c.index-symbols-number.result
                 c.loop-number.findings.found c.find_symbol.new.findings.found
-                (c.args.findings.now.found ++ odd_symbols file c.args.source.now.bytes.now 0 symbols) c.loop-number-test.true
+                (c.args.findings.now.found ++ odd_symbols commons file c.args.source.now.bytes.now 0 symbols) c.loop-number-test.true
                 c.index-symbols-number.is put.1 so_far.1,
           ),
       λ other. noted_more symbols c.loop-number.number c.index-symbols-number.result other

@@ -1,11 +1,10 @@
 use Rattle.std.proofs.Common.{◌≡◌, drop, length}
-use Rattle.suspicions.specs.Reached.{visited_all, shown_from, evident}
-use Rattle.suspicions.specs.{declared.evidence.Evidence.TheVariants.Distances, internal.Marks.AreMarks}
+use Rattle.suspicions.specs.{Reached.visited_all, Reached.shown_from, internal.Marks.AreMarks}
 use Rattle.suspicions.proofs.reached.visit_distances.Given as goal
 
 -- what the places that are left give, and the marks
 abbrev pub invariant-loop-place : goal.invariant-loop-place
 invariant-loop-place l =
     (visited_all (length l.initial.marks) l.found.items (shown_from l.sweep l.place (drop l.place l.words))
-    ≡ visited_all (length l.initial.marks) l.initial.found.items (evident Distances l.sweep))
+    ≡ visited_all (length l.initial.marks) l.initial.found.items (shown_from l.sweep 0 l.words))
     × AreMarks l.marks l.found.items

@@ -5,13 +5,12 @@ use Rattle.suspicions.proofs.suspicions.find_places.Goals as goal
 
 pub loop-place-preserved : goal.loop-place-preserved
 loop-place-preserved c =
+    let evidence = c.args.marked.now.evidence in
     let file = c.args.marked.now.sweep.now in
     λ whole.
     let put = c.find_place.ensures whole in
     let so_far = c.loop-place.invariant put.0 in (
       so_far.0,
-      places_more file c.text_words-words.result.now c.loop-place.before c.before_next-before.result c.loop-place.place
-          c.loop-place.findings.found
-          c.find_place.new.findings.found (c.args.findings.now.found ++ suspicions file) c.loop-place-test.true put.1
-          c.before_next-before.ensures so_far.1,
+      places_more evidence file c.text_words-words.result.now c.loop-place.place c.loop-place.findings.found
+          c.find_place.new.findings.found (c.args.findings.now.found ++ suspicions evidence file) c.loop-place-test.true put.1 so_far.1,
     )
