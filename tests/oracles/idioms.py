@@ -1,7 +1,7 @@
 """Makes objects of the idioms of real assembler text in tests/oracles/data: each says in its first lines what is right about it. `v7 ld`
-takes each, and has nothing to report.
+takes each, and has nothing to report. `v7-explain -c` says nothing of it for sure.
 
-tier: check, 5 seconds; programs: v7 v7-object; for: tests/oracles/data examples/asm.py
+tier: check, 5 seconds; programs: v7 v7-object v7-explain; for: tests/oracles/data examples/asm.py crates/suspicions crates/findings
 """
 import glob
 import os
@@ -11,6 +11,7 @@ from tests.lib.compare import notices, same
 from tests.lib.files import TOP, read, room, write
 from tests.lib.programs import program, ran
 
+IF = "if this is an instruction"
 IDIOMS = sorted(glob.glob(os.path.join(TOP, "tests/oracles/data/*")))
 
 
@@ -26,6 +27,8 @@ def made(path):
 
 def check(path):
     same(f"ld of {path}", ran(program("v7"), "ld", "-r", "-o", "linked", path).texts(), (0, "", ""))
+    status, out, lines = ran(program("v7-explain"), "-c", path).texts()
+    same(f"v7-explain -c of {path}", (status, out, [line for line in lines.split("\n")[:-1] if IF not in line]), (0, "", []))
 
 
 def main():
@@ -34,7 +37,7 @@ def main():
         check(made(path))
     write("damaged.o", b"\1")
     notices(check, "damaged.o")
-    print(f"{len(IDIOMS)} idioms are objects that ld takes, and of which it reports nothing")
+    print(f"{len(IDIOMS)} idioms are objects that ld takes, and of which -c says nothing for sure")
 
 
 if __name__ == "__main__":

@@ -1,29 +1,37 @@
-"""Plants mistakes of assemblers in objects, and counts those of which v7-explain says something new.
+"""Plants mistakes of assemblers in right objects, and compares what v7-explain says of them with tests/oracles/suspicions.py.
 
-tier: check, 60 seconds; programs: v7-explain v7-from-gnu; for: crates/suspicions crates/findings
+tier: check, 120 seconds; programs: v7-explain v7-object v7-from-gnu; for: crates/suspicions crates/findings
 
-The objects are those of examples/ and of the page, 300 that are made here, and the texts of the page as GNU's assembler for the PDP-11
-assembles them, if it is installed. Of each of them v7-explain may say nothing new without a mistake. A pc bit that is
-forgotten, relocation words one word early, and mistakes that instructions show alone have to be found in each object in which they
-change something that is suspicious. All that tests/oracles/suspicions.py finds in an object with a mistake has to be said.
+The right objects are those of examples/ and of the page, 300 that are made here, the idioms of tests/oracles/data, and the texts of the
+page as GNU's assembler for the PDP-11 assembles them, if it is installed. `-c` may say nothing sure of any of them, and no line at all of
+one that a compiler wrote, with `-t` too.
+
+Each kind of mistake has a row. It says in how many objects the mistake was planted, and in how many it is found by `-c`, and by `-c -t`.
+Then it counts the other objects: those with only lines that say "if", those with a line in the listing alone, and those with none. The
+kinds with a star are those that such a check was asked for.
 """
 import glob
 import os
-import random
 import re
 import shutil
 import struct
-import subprocess
 
-from tests.lib.files import TOP, room, write
-from tests.lib.programs import program
-from tests.oracles.disassembly import File, FOUND, SYS
-from tests.oracles.suspicions import ENDS, branches_to, is_plain, operands, starts, suspicions
+from tests.lib.compare import notices, same
+from tests.lib.files import TOP, read_bytes, room, write
+from tests.lib.programs import program, ran
+from tests.oracles.disassembly import File
+from tests.oracles.idioms import IDIOMS, IF, made as made_idiom
+from tests.oracles.planting import BSS, DATA, EXTERNAL, MISTAKES, dice
+from tests.oracles.suspicions import KINDS, surely_wrong
 
-EXPLAIN, FROM_GNU = program("v7-explain"), program("v7-from-gnu")
+EXPLAIN = program("v7-explain")
 ASSEMBLER = shutil.which("pdp11-aout-as")
-dice = random.Random(63)
-TEXT, DATA, EXTERNAL = 2, 4, 0o10
+# so many lines at most are said of a file
+MOST_LINES = 16
+# mistakes are planted in so many objects of each kind
+MOST_PLANTED = 100
+# the one whose fault a lesson asks about: its symbol counts from the beginning of data
+WRONG = [os.path.join(TOP, "examples/total/low.o")]
 
 
 def file_in(data):
@@ -46,239 +54,219 @@ def copy(file):
 # objects that are right
 
 
-def made(number):
-    """A right object: instructions that refer to text, data, bss and externals, from a symbol of text on or without one."""
-    data, bss = dice.randrange(2, 9), 2 * dice.randrange(1, 5)
-    symbols = [(b"_a", 0o40, 0), (b"_b", 0o40, 0), (b"_common", 0o40, 4)]
-    words, relocation, later = [], [], []
+class Maker:
+    """A right object: instructions that refer to text, data, bss and externals. Some begin as C functions do, by `jsr r5,csv`."""
 
-    def put(word, low=0):
-        words.append(word % 65536)
-        relocation.append(low)
-
-    def put_from_pc(low, target):
-        """An operand word of mode 67 or 77; that of data and bss waits until the size of the text is known."""
-        later.append((len(words), target if low in (DATA, DATA + 2) else None))
-        put(target - 2 * len(words) - 2, low + 1)
-
-    def put_address(low, target):
-        if low in (DATA, DATA + 2):
-            later.append((len(words), target))
-        put(target, low)
-
-    def place():
-        """A kind of relocation, and a number that it may have: data and bss are counted from the beginning of data."""
-        external = 16 * dice.randrange(3) + EXTERNAL
-        return dice.choice([(external, 0), (external, 2), (DATA, 2 * dice.randrange(data)), (DATA + 2, 2 * data + 2 * dice.randrange(bss // 2))])
-
-    for _ in range(dice.randrange(3, 20)):
-        kind = dice.randrange(9)
-        if kind == 0:
-            put(0o016700 + dice.randrange(6))
-            put_from_pc(*place())
-        elif kind == 1:
-            put(0o012700 + dice.randrange(6))
-            put_address(*place())
-        elif kind == 2:
-            put(0o004767)
-            put_from_pc(*place())
-        elif kind == 3:
-            put(0o026767)
-            put_from_pc(*place())
-            put_from_pc(*place())
-        elif kind == 4:
-            put(0o016001)
-            put_address(*place())
-        elif kind == 5:
-            put(dice.choice([0o010100, 0o005726, 0o060201, 0o000240]))
-        elif kind == 6:
-            put(0o104404)
-            put_address(*place())
-            put(0o12)
-        elif kind == 7:
-            put(0o017702)
-            put_from_pc(*place())
+    def __init__(self, number):
+        self.words, self.relocation, self.later = [], [], []
+        self.data, self.bss = dice.randrange(2, 9), 2 * dice.randrange(1, 5)
+        self.symbols = []
+        is_function = number % 2
+        if is_function:
+            self.put(0o004567)
+            self.put_from_pc(self.external(b"csv"), 0)
+        for _ in range(dice.randrange(3, 20)):
+            self.put_instruction(dice.randrange(9))
+        if is_function:
+            self.put(0o000167)
+            self.put_from_pc(self.external(b"cret"), 0)
         else:
-            put(0o001000 + (-len(words) - 1) % 256)
-    put(0o000207)
-    for at, target in later:
-        if target is not None:
-            words[at] = (words[at] + 2 * len(words)) % 65536
-    size = 2 * len(words)
-    symbols.append((b"_data", 0o43, size))
-    if number % 3:
-        symbols.append((b"_main", 0o42, 0))
-    return File(words, relocation, symbols, 0o407, [dice.randrange(65536) for _ in range(data)], [0] * data, bss)
+            self.put(0o000207)
+        size = 2 * len(self.words)
+        for at, target in self.later:
+            self.words[at] = (self.words[at] + size) % 65536
+        self.symbols += [(b"_data", 0o43, size), (b"_bss", 0o44, size + 2 * self.data)]
+        if number % 3:
+            self.symbols.append((b"_main", 0o42, 0))
+
+    def put(self, word, low=0):
+        self.words.append(word % 65536)
+        self.relocation.append(low)
+
+    def put_address(self, low, target):
+        """Data and bss are counted from the beginning of data until the size of the text is known."""
+        if low & 0o16 in (DATA, BSS):
+            self.later.append((len(self.words), target))
+        self.put(target, low)
+
+    def put_from_pc(self, low, target):
+        """An operand word of mode 67 or 77."""
+        self.put_address(low + 1, target - 2 * len(self.words) - 2)
+
+    def external(self, name, value=0):
+        """The relocation word of an undefined name or of a common, which is in the table once it is used."""
+        if (name, 0o40, value) not in self.symbols:
+            self.symbols.append((name, 0o40, value))
+        return EXTERNAL + 16 * self.symbols.index((name, 0o40, value))
+
+    def place(self):
+        """A kind of relocation, and a number that it may have."""
+        kind = dice.randrange(300)
+        if kind == 0:
+            return self.external(b"_far"), 2 * dice.randrange(2)
+        if kind == 1:
+            return self.external(b"_common", 4), 2 * dice.randrange(2)
+        return (DATA, 2 * dice.randrange(self.data)) if kind == 2 else (BSS, 2 * self.data + 2 * dice.randrange(self.bss // 2))
+
+    def put_instruction(self, kind):
+        if kind == 0:
+            self.put(0o016700 + dice.randrange(6))
+            self.put_from_pc(*self.place())
+        elif kind == 1:
+            self.put(0o012700 + dice.randrange(6))
+            self.put_address(*self.place())
+        elif kind == 2:
+            self.put(0o004767)
+            self.put_from_pc(self.external(dice.choice([b"_a", b"_b", b"_c"])), 0)
+        elif kind == 3:
+            self.put(0o026767)
+            self.put_from_pc(*self.place())
+            self.put_from_pc(*self.place())
+        elif kind == 4:
+            self.put(0o016001)
+            self.put_address(*self.place())
+        elif kind == 5:
+            self.put(dice.choice([0o010100, 0o005726, 0o060201, 0o000240]))
+        elif kind == 6:
+            self.put(0o104404)
+            self.put_address(*self.place())
+            self.put(0o12)
+        elif kind == 7:
+            self.put(0o017702)
+            self.put_from_pc(*self.place())
+        else:
+            # to the first instruction
+            self.put(0o001000 + (-len(self.words) - 1) % 256)
+
+    def file(self):
+        data = [dice.randrange(65536) for _ in range(self.data - 1)] + [2 * len(self.words)]
+        return File(self.words, self.relocation, self.symbols, 0o407, data, [0] * (self.data - 1) + [DATA], self.bss)
 
 
-# mistakes: each changes a copy of an object, or answers False if the object has no place for it
-
-
-def operand_words(file):
-    """The relocated operand words of the text, and whether each counts from the pc."""
-    for place in sorted(starts(file)):
-        if not is_plain(file, place) and file.words[place] not in SYS:
-            for at, mode, register in operands(file, place):
-                if file.is_relocated(at):
-                    yield at, register == 7 and mode >= 6
-
-
-def one_of(places):
-    """One of these places, or None."""
-    places = list(places)
-    return dice.choice(places) if places else None
-
-
-def forget_pc_bit(file):
-    at = one_of(at for at, counts in operand_words(file) if counts)
-    if at is not None:
-        file.relocation[at] -= 1
-    return at is not None
-
-
-def shift_relocation(file):
-    is_relocated = any(file.relocation)
-    file.relocation = file.relocation[1:] + [0]
-    return is_relocated
-
-
-def count_addend_once(file):
-    at = one_of(at for at, counts in operand_words(file) if counts and file.relocation[at] & 0o16 == EXTERNAL)
-    if at is not None:
-        file.words[at] = (file.words[at] + 2) % 65536
-    return at is not None
-
-
-def count_data_from_0(file):
-    size, changed = 2 * len(file.words), False
-    for words, relocation in ((file.words, file.relocation), (file.data, file.data_relocation)):
-        for at, low in enumerate(relocation):
-            if low & 0o16 in (DATA, DATA + 2):
-                words[at], changed = (words[at] - size) % 65536, True
-    for at, (name, kind, value) in enumerate(file.symbols):
-        if kind & 0o37 in (3, 4):
-            file.symbols[at], changed = (name, kind, (value - size) % 65536), True
-    return changed and size > 0
-
-
-def forget_immediate(file):
-    at = one_of(at for at, counts in operand_words(file) if not counts)
-    if at is not None:
-        file.relocation[at] = 0
-    return at is not None
-
-
-def instructions(file):
-    """The places at which lines begin that are instructions, but for system calls."""
-    return [place for place in sorted(starts(file)) if not is_plain(file, place) and file.words[place] not in SYS]
-
-
-def branches(file):
-    return [place for place in instructions(file) if any(letter == "B" for letter, _ in FOUND[file.words[place]][1])]
-
-
-def count_from_the_branch(file):
-    """A branch counts from its own word, and not from the word after it."""
-    at = one_of(place for place in branches(file) if file.words[place] & 0o377 != 0o177)
-    if at is not None:
-        file.words[at] += 1 if file.words[at] & 0o377 != 0o377 else -0o377
-    return at is not None
-
-
-def branch_too_far(file):
-    """A branch has the low bits of an offset that is too large for it."""
-    at = one_of(branches(file))
-    if at is None:
-        return False
-    word, end = file.words[at] & 0o177400, 2 * len(file.words)
-    outside = [word + offset for offset in range(256) if next(branches_to(File([0] * at + [word + offset]), at)) > end]
-    if not outside:
-        return False
-    file.words[at] = dice.choice(outside)
-    return True
-
-
-def leave_out_the_last_operand(file):
-    """The last word is that of an instruction of two words."""
-    if file.words:
-        file.words[-1], file.relocation[-1] = 0o005067, 0
-    return bool(file.words)
-
-
-def code_wrongly(file):
-    """A word that begins no instruction is put in place of one that goes on."""
-    goes_on = [place for place in instructions(file) if FOUND[file.words[place]][0] not in ENDS and file.line(place)[0] == 1]
-    at = one_of(goes_on)
-    if at is not None:
-        file.words[at] = dice.choice([0o10, 0o77, 0o210, 0o007000, 0o076000, 0o106400])
-    return at is not None
-
-
-MISTAKES = {
-    "the pc bit forgotten": forget_pc_bit,
-    "relocation words one word early": shift_relocation,
-    "an addend of -2 in place of -4": count_addend_once,
-    "data counted from 0": count_data_from_0,
-    "the relocation of an address forgotten": forget_immediate,
-    "a branch that counts from itself": count_from_the_branch,
-    "a branch that is too far": branch_too_far,
-    "the last operand word left out": leave_out_the_last_operand,
-    "a word that is no instruction": code_wrongly,
-}
-# these are found wherever they make something suspicious
-SURE = set(MISTAKES) - {"an addend of -2 in place of -4", "data counted from 0", "the relocation of an address forgotten"}
-# the words of what is suspicious
-SUSPICIOUS = ("pc bit", "first word", "is cut by", "where none begins", "the branch at")
-
-
-def said(files):
-    """What v7-explain says is wrong or odd of each file."""
-    for number, file in enumerate(files):
-        write(f"f{number}.o", file.encoded())
-    done = subprocess.run([EXPLAIN, *(f"f{number}.o" for number in range(len(files)))], stdout=subprocess.PIPE, check=False)
-    parts = re.split(r"^/ f\d+\.o: 0[0-7]+ \(\d+\) bytes$", done.stdout.decode("latin-1"), flags=re.M)[1:]
-    return [{line for line in part.split("\n") if line.startswith(("/ wrong:", "/ odd:"))} for part in parts]
+def objects_of(*patterns):
+    for pattern in patterns:
+        for path in sorted(glob.glob(os.path.join(TOP, pattern))):
+            file = file_in(read_bytes(path))
+            if file and path not in WRONG:
+                yield file
 
 
 def assembled():
     """The texts of the page, by GNU's assembler."""
     for source in sorted(glob.glob(os.path.join(TOP, "tests/page/data/*.s"))):
-        subprocess.run([ASSEMBLER, "-o", "gnu.o", source], check=True)
-        subprocess.run([FROM_GNU, "gnu.o", "ours.o"], check=True)
-        with open("ours.o", "rb") as data:
-            yield file_in(data.read())
+        same(source, ran(ASSEMBLER, "-o", "gnu.o", source).status, 0)
+        same(source, ran(program("v7-from-gnu"), "gnu.o", "ours.o").status, 0)
+        yield file_in(read_bytes("ours.o"))
 
 
-def originals():
-    for folder in ("examples/*.o", "examples/total/*.o", "tests/page/data/*.o"):
-        for path in sorted(glob.glob(os.path.join(TOP, folder))):
-            with open(path, "rb") as data:
-                file = file_in(data.read())
-            if file:
-                yield file
-    yield from (made(number) for number in range(300))
-    if ASSEMBLER and os.path.exists(FROM_GNU):
-        yield from assembled()
+def idioms():
+    for path in IDIOMS:
+        yield file_in(read_bytes(made_idiom(path)))
+
+
+# what is said
+
+
+def stored(files):
+    paths = []
+    for number, file in enumerate(files):
+        data = file.encoded()
+        header = getattr(file, "header", None)
+        paths.append(f"f{number}.o")
+        write(paths[-1], (struct.pack("<8H", *header) if header else data[:16]) + data[16:])
+    return paths
+
+
+def judged(paths, *options):
+    """The lines of `-c` about each file, and whether one of all is sure, by the status."""
+    status, _, text = ran(EXPLAIN, "-c", *options, *paths).texts()
+    lines = {path: set() for path in paths}
+    for line in text.split("\n")[:-1]:
+        path, said = line.removeprefix("v7-explain: ").split(": ", 1)
+        lines[path].add(said)
+    same(f"the status of -c {options}", status, int(any(sure(said) for said in lines.values())))
+    return [lines[path] for path in paths]
+
+
+def listed(paths):
+    """What the listing of each file says is wrong or odd."""
+    parts = re.split(r"^/ f\d+\.o: 0[0-7]+ \(\d+\) bytes$", ran(EXPLAIN, *paths).texts()[1], flags=re.M)[1:]
+    return [{line for line in part.split("\n") if line.startswith(("/ wrong:", "/ odd:"))} for part in parts]
+
+
+def sure(lines):
+    return {line for line in lines if IF not in line}
+
+
+def remarks(lines):
+    """The remarks of these lines on instructions, as tests/oracles/suspicions.py has them."""
+    return {(int(found[1], 8), kind) for line in lines for kind, text in KINDS.items() if (found := re.search(text, line))}
+
+
+def compare(what, file, promise, lines):
+    """What is said as sure of an object's instructions has to be sure, and what is surely wrong has to be said."""
+    wanted, allowed = surely_wrong(file, promise)
+    said = remarks(sure(lines))
+    assert said <= allowed, (what, "is said, and not sure", said - allowed)
+    assert wanted <= said or len(lines) >= MOST_LINES, (what, "is sure, and not said", wanted - said)
+
+
+def check_right(kinds):
+    """Nothing sure is said of a right object, and nothing at all of one that a compiler wrote."""
+    for kind, (files, is_compiled) in kinds.items():
+        paths = stored(files)
+        for options in ((), ("-t",)) if kind != "idioms" else ((),):
+            for number, lines in enumerate(judged(paths, *options)):
+                assert not (lines if is_compiled else sure(lines)), (kind, number, options, lines)
+        print(f"{len(files)} right objects, {kind}: nothing sure" + (", and no line" if is_compiled else ""))
+
+
+def check_mistake(name, plant, files, before):
+    """Plants one kind of mistake; the numbers of its row."""
+    wrong = [copy(file) for file in files]
+    planted = [number for number, file in enumerate(wrong) if plant(file)]
+    paths = stored([wrong[number] for number in planted])
+    after = {options: judged(paths, *options) for options in ((), ("-t",))}
+    after["listing"] = listed(paths)
+    row = [len(planted), 0, 0, 0, 0, 0]
+    for place, number in enumerate(planted):
+        fresh = {options: lines[place] - before[options][number] for options, lines in after.items()}
+        if not hasattr(wrong[number], "header") and not any("wrong" in line for line in fresh["listing"]):
+            for options in ((), ("-t",)):
+                compare((name, number, options), wrong[number], bool(options), after[options][place])
+        found, promised = bool(sure(fresh[()])), bool(sure(fresh[("-t",)]))
+        assert promised or not found, (name, number, "is found by -c, and not by -c -t")
+        row[1] += found
+        row[2] += promised
+        if not promised:
+            row[3 if fresh[()] or fresh[("-t",)] else 4 if fresh["listing"] else 5] += 1
+    return row
 
 
 def main():
-    files = list(originals())
-    before = said(files)
-    fresh = [line for lines in before for line in lines if any(words in line for words in SUSPICIOUS)]
-    assert len(before) == len(files) and not fresh, fresh
-    print(f"{len(files)} objects without mistakes: nothing suspicious")
+    page = ["tests/page/data/*.o"]
+    kinds = {
+        "examples": (list(objects_of("examples/*.o", "examples/total/*.o")), False),
+        "of the page": (list(objects_of(*page)), True),
+        "made": ([Maker(number).file() for number in range(300)], False),
+        "idioms": (list(idioms()), False),
+    }
+    if ASSEMBLER:
+        kinds["by GNU's assembler"] = (list(assembled()), False)
+    notices(compare, "a word that is no instruction", File([0o004567, 0o177774, 0o10], [0, 9, 0], [(b"csv", 0o40, 0), (b"_f", 0o42, 0)]), False, set())
+    check_right(kinds)
+    files = [file for kind, (some, _) in kinds.items() if kind != "idioms" for file in some[:MOST_PLANTED]]
+    paths = stored(files)
+    before = {(): judged(paths), ("-t",): judged(paths, "-t"), "listing": listed(paths)}
+    print(f"{len(MISTAKES)} kinds of mistakes, in {len(files)} objects")
+    print("planted    -c -c -t    if listing silent")
+    named = [0, 0, 0]
     for name, plant in MISTAKES.items():
-        wrong = [copy(file) for file in files]
-        planted = [number for number, file in enumerate(wrong) if plant(file)]
-        after = said([wrong[number] for number in planted])
-        found = [number for number, lines in zip(planted, after) if lines - before[number]]
-        print(f"{name}: planted in {len(planted)} objects, found in {len(found)}")
-        missed = [number for number in planted if number not in found and any(suspicions(wrong[number]))]
-        assert not (name in SURE and missed), missed
-        for number, lines in zip(planted, after):
-            said_of = {line.split(": ", 2)[2] for line in lines if line.startswith("/ odd: ")}
-            untold = [text for _, _, text in suspicions(wrong[number]) if text not in said_of]
-            assert not untold, (name, number, untold)
+        row = check_mistake(name, plant, files, before)
+        print("%7d %5d %5d %5d %7d %6d  %s" % (*row, name))
+        if name.endswith("*"):
+            named = [total + number for total, number in zip(named, row)]
+    print("%7d %5d %5d  of those with a star" % tuple(named))
 
 
 with room():

@@ -1,189 +1,247 @@
-"""What is suspicious in the text of an object, by v7-explain(1), for the scripts that compare it with what v7-explain says."""
+"""What is surely wrong with the instructions of an object, from the PDP-11 processor handbook, v7-explain(1) and OBJECTS, for the scripts
+that compare it with what v7-explain says.
+
+Nothing here comes from the program or from its definitions. A place is sure if an instruction begins there whatever the rest of the text
+is. A remark that is sure makes the status of `v7-explain -c` 1, so none may be said of a right object.
+"""
 from tests.oracles.disassembly import FOUND, SYS, has_word
 
-# the line after these is not reached from them
-ENDS = ("br", "jmp", "rts", "rti", "rtt", "halt", "mark")
-# what these call may not return
-CALLS = ("jsr", "bpt", "iot", "emt", "sys")
-# a line has at most so many words
-MOST_WORDS = 5
-# what is said of a line that may be data
-DOUBT = ", if this is an instruction"
+TEXT, EXTERNAL = 2, 0o10
+# the link register is the pc, so the subroutine comes back to the next line by rts pc
+PC = 7
+# instructions of other PDP-11s: mtps and mfps of the 11/34, those of the floating and of the commercial set
+OTHERS = [range(0o106400, 0o106500), range(0o106700, 0o107000), range(0o075000, 0o075040), range(0o076000, 0o077000)]
+# these do not write their destination
+READ_ONLY = ("tst", "tstb", "cmp", "cmpb", "bit", "bitb", "jmp", "jsr", "mfpi", "mfpd", "tstf", "ldfps", "movie", "movif")
+# the remarks that are judged here
+KINDS = {
+    "relocated": r"the first word of the instruction at (\d+) is relocated",
+    "none begins": r"an instruction leads to (\d+), where none begins",
+    "cut": r"the instruction at (\d+) is cut by the end of the text",
+    "pc bit": r"the pc bit of the word at (\d+) is not set",
+    "branch": r"the branch at (\d+) leads to \d+, and text lies from",
+    "within": r"the branch at (\d+) leads to \d+, within",
+}
+# nothing comes after these, or not for sure: a trap's handler may skip words, and a processor that halts may be started elsewhere
+ENDS = ("br", "jmp", "rts", "rti", "rtt", "halt", "mark", "emt", "bpt", "iot")
+# system calls, by their names: those that do not come back, and those that come back twice
+EXIT, FORK = "exit", "fork"
 
 
-def operands(text, place):
-    """For each operand that has a word, of the instruction at a place: the place of the word, the mode and the register."""
+def instruction(file, place):
+    """The name and the fields of the instruction at a place, without regard to what follows; None if it is a word of another kind."""
+    return FOUND.get(file.words[place])
+
+
+def is_other(word):
+    return any(word in words for words in OTHERS)
+
+
+def operands(file, place):
+    """The operands of the instruction at a place: for each the place of its word, or None, its letter, its mode and its register."""
     at = place + 1
-    for letter, value in FOUND[text.words[place]][1]:
-        if has_word(letter, value):
-            yield at, value >> 3, value & 7
-            at += 1
+    for letter, value in instruction(file, place)[1]:
+        if letter in "SDF" and not (letter == "F" and value < 8):
+            yield (at if has_word(letter, value) else None), letter, value >> 3, value & 7
+            at += has_word(letter, value)
 
 
-def following(word):
-    """How many words follow a first word: operand words, or the arguments of a system call."""
-    return SYS[word][1] if word in SYS else sum(has_word(*field) for field in FOUND[word][1])
-
-
-def is_plain(text, place):
-    """Whether the word at a place begins no instruction: it is relocated, in no row of the table, or cut."""
-    word = text.words[place]
-    return text.is_relocated(place) or word not in FOUND or place + following(word) >= len(text.words)
-
-
-def may_begin(text, place):
-    """Whether the word at a place would begin an instruction, if it were not relocated, whose last word is not relocated either."""
-    word = text.words[place]
-    if word not in FOUND or word in SYS or not 0 < following(word) < len(text.words) - place:
-        return False
-    return not text.is_relocated(place + following(word))
-
-
-def branches_to(text, place):
-    """The addresses to which the instruction at a place branches."""
-    for letter, value in FOUND[text.words[place]][1]:
-        if letter == "B":
-            yield (2 * place + 2 + 2 * (value if value < 128 else value - 256)) % 65536
-        if letter == "O":
-            yield (2 * place + 2 - 2 * value) % 65536
-
-
-def goes_on(text, place, is_strict):
-    """Whether the line at a place leads to that after it. A strict reader does not know whether what it calls returns."""
-    word = text.words[place]
+def length(file, place):
+    """How many words the instruction at a place has, with the arguments of a system call."""
+    word = file.words[place]
     if word in SYS:
-        return SYS[word][0] != "exit"
-    return FOUND[word][0] not in (ENDS + CALLS if is_strict else ENDS)
+        return 1 + SYS[word][1]
+    return 1 + sum(at is not None for at, _, _, _ in operands(file, place))
 
 
-def leads_to(text, place, is_strict):
-    """The addresses to which the line at a place leads."""
-    if is_plain(text, place):
-        return
-    if goes_on(text, place, is_strict):
-        yield 2 * (place + text.line(place)[0])
-    yield from branches_to(text, place)
-    if FOUND[text.words[place]][0] in ("jmp", "jsr"):
-        for at, mode, register in operands(text, place):
-            low = text.relocation[at] & 0o17 if text.relocation is not None else None
-            if (mode, register) == (6, 7) and low in (None, 0, 3):
-                yield (text.words[at] + 2 * at + 2) % 65536
-            if (mode, register) == (3, 7) and low in (None, 2):
-                yield text.words[at]
+def writes_pc(file, place):
+    """Whether an instruction writes the pc, or may: by its destination, by its register, or by counting the pc down."""
+    name, fields = instruction(file, place)
+    if name not in READ_ONLY and fields and fields[-1] in (("D", PC), ("R", PC)):
+        return True
+    if any(mode in (4, 5) and register == PC for _, _, mode, register in operands(file, place)):
+        return True
+    # a quotient, a product or a shift goes into the register, and a counter of sob is one
+    return name in ("mul", "div", "ash", "ashc", "sob") and any(letter == "R" and value | (name != "ash") == PC for letter, value in fields)
 
 
-def closed(text, waiting, is_strict):
-    """The places that these addresses have, those to which the lines there lead, and so on."""
-    found = set()
-    while waiting:
-        address = waiting.pop()
-        place = address // 2
-        if address % 2 == 0 and place < len(text.words) and place not in found:
-            found.add(place)
-            waiting += leads_to(text, place, is_strict)
-    return found
+def writes_ahead(file, place):
+    """Whether an instruction writes the word after it: what is executed there is not what the file has."""
+    name = instruction(file, place)[0]
+    return name not in READ_ONLY and any(letter == "D" and mode == 1 and register == PC for _, letter, mode, register in operands(file, place))
 
 
-def reached(text):
-    """The places that are reached from symbols of text."""
-    values = [value for _, kind, value in text.symbols if kind & 0o37 == 2]
-    return closed(text, [value for value in values if value // 2 < len(text.words) and not text.is_relocated(value // 2)], False)
+def address(file, at):
+    """The place in text that the operand word at a place leads to, by mode 67, if it leads there: an even place, or one and a half."""
+    low = file.relocation[at] & 0o17
+    return (file.words[at] + 2 * at + 2) % 65536 / 2 if low in (0, TEXT + 1) else None
 
 
-def has_distance(text, place):
-    """Whether the line at a place has an operand word that counts from the pc, and is relocated so."""
-    if is_plain(text, place) or text.words[place] in SYS:
-        return False
-    return any(text.is_relocated(at) and text.relocation[at] & 1 and register == 7 and mode >= 6 for at, mode, register in operands(text, place))
+def absolute(file, at):
+    """The same by mode 37: the word is an address."""
+    return file.words[at] / 2 if file.relocation[at] & 0o17 == TEXT else None
 
 
-def sure_places(text):
-    """The places at which it is sure that an instruction begins."""
-    return closed(text, [2 * place for place in starts(text) if has_distance(text, place)], True)
+def branch_target(file, place):
+    """Where the branch or sob at a place leads, in words; None for any other instruction."""
+    for letter, value in instruction(file, place)[1]:
+        if letter == "B":
+            return place + 1 + (value if value < 128 else value - 256)
+        if letter == "O":
+            return place + 1 - value
+    return None
 
 
-def starts(text):
-    """The places at which lines begin."""
-    found, place = set(), 0
-    while place < len(text.words):
-        found.add(place)
-        place += text.line(place)[0]
-    return found
-
-
-class Suspects:
-    """A text, with the places that are reached, those that are sure, and those at which lines of the sweep begin."""
-
-    def __init__(self, text):
-        self.text, self.sure, self.begin = text, sure_places(text), starts(text)
-        self.reached = reached(text) | self.sure
-        self.between = self.between_sure()
-
-    def between_sure(self):
-        """The places that have sure ones before and after them, with no plain word of the sweep between."""
-        breaks = {place for place in self.begin if is_plain(self.text, place)} - self.sure
-        found, last = set(), None
-        for place in sorted(self.sure | breaks):
-            if place in self.sure and last in self.sure:
-                found.update(range(last + 1, place))
-            last = place
-        return found
-
-    def doubt(self, is_sure):
-        return "" if is_sure else DOUBT
-
-    def said(self, place):
-        return f"; the instruction at {2 * place:06o} is {self.text.line(place)[1]}"
-
-    def of_plain(self, place):
-        """Where the file has what is odd in a plain word, and what that is."""
-        text, sure = self.text, place in self.sure
-        if text.is_relocated(place):
-            if place in self.reached or may_begin(text, place):
-                said = f"the first word of the instruction at {2 * place:06o} is relocated{self.doubt(place in self.reached)}"
-                yield "relocation", place, said
-        elif sure and text.words[place] in FOUND:
-            yield "word", place, f"the instruction at {2 * place:06o} is cut by the end of the text"
-        elif sure:
-            yield "word", place, f"an instruction leads to {2 * place:06o}, where none begins"
-
-    def of_operands(self, place):
-        text = self.text
-        for at, mode, register in operands(text, place):
-            is_set, counts = text.relocation[at] & 1, register == 7 and mode >= 6
-            if text.is_relocated(at) and is_set != counts:
-                bit = "is set, and its operand does not count" if is_set else "is not set, and its operand counts"
-                said = f"the pc bit of the word at {2 * at:06o} {bit} from the pc{self.doubt(place in self.reached)}"
-                yield "relocation", at, said + self.said(place)
-
-    def entered(self, place):
-        """The nearest place before this one with a sure line that has its word, or None."""
-        for start in range(place - 1, max(place - MOST_WORDS, -1), -1):
-            if start in self.sure and start + self.text.line(start)[0] > place:
-                return start
+def call_target(file, place):
+    """Where jsr or jmp leads by mode 37 or 67, in words, if it is in this text."""
+    if instruction(file, place)[0] not in ("jsr", "jmp"):
         return None
-
-    def of_branch(self, place):
-        if place not in self.sure and not (place in self.reached and place in self.between):
-            return
-        end, doubt = 2 * len(self.text.words), self.doubt(place in self.sure)
-        for target in branches_to(self.text, place):
-            said = f"the branch at {2 * place:06o} leads to {target:06o}"
-            start = self.entered(target // 2)
-            if target > end:
-                yield "word", place, f"{said}, and text lies from 000000 to {end:06o}{doubt}{self.said(place)}"
-            elif start is not None:
-                yield "word", place, f"{said}, within the instruction at {2 * start:06o}{doubt}{self.said(place)}"
-
-    def all(self):
-        for place in sorted(self.reached | self.begin):
-            if is_plain(self.text, place):
-                yield from self.of_plain(place)
-            elif self.text.words[place] not in SYS:
-                yield from self.of_operands(place)
-                yield from self.of_branch(place)
+    for at, _, mode, register in operands(file, place):
+        if register == PC and at is not None and at < len(file.words) and mode in (3, 6):
+            return (address if mode == 6 else absolute)(file, at)
+    return None
 
 
-def suspicions(text):
-    """What is suspicious in a text: whether the file has it in the word or in its relocation word, the place, and what is said of it."""
-    return [] if text.relocation is None else Suspects(text).all()
+def named(file, place, own):
+    """The name of the external that jsr calls by mode 37 or 67, or, if `own`, of the symbol of text there; or None."""
+    for at, _, mode, register in operands(file, place):
+        if register != PC or at is None or at >= len(file.words) or mode not in (3, 6):
+            continue
+        low, number = file.relocation[at], (file.words[at] + (2 * at + 2 if mode == 6 else 0)) % 65536
+        if low & 0o16 == EXTERNAL and low & 1 == (mode == 6) and number == 0 and low >> 4 < len(file.symbols):
+            return file.symbols[low >> 4][0].rstrip(b"\0")
+        target = call_target(file, place)
+        for name, kind, value in file.symbols if own and target is not None else ():
+            if kind & 0o37 == 2 and value == 2 * target:
+                return name.rstrip(b"\0")
+    return None
+
+
+def is_jsr(file, place, link):
+    name, fields = instruction(file, place)
+    return name == "jsr" and fields[0] == ("R", link)
+
+
+def calls_csv(file, place, own):
+    """Whether `jsr r5,csv` is at a place, with which each function of the Seventh Edition's C compiler begins. Its csv is in a library: one
+    of the object's own is open to choice."""
+    return is_line(file, place) and is_jsr(file, int(place), 5) and named(file, int(place), own) == b"csv"
+
+
+def next_lines(file, place, widely):
+    """Where the instruction at a place goes on, in words: what is surely executed next, or, `widely`, what may be."""
+    name, after = instruction(file, place)[0], place + length(file, place)
+    target = branch_target(file, place)
+    if target is None and (name == "jmp" or is_jsr(file, place, PC) or widely):
+        target = call_target(file, place)
+    if target is not None:
+        yield target
+    if name in ENDS or writes_pc(file, place) and not is_jsr(file, place, PC) or (writes_ahead(file, place) and not widely):
+        return
+    call = SYS.get(file.words[place], ("",))[0]
+    if name == "jsr" and not is_jsr(file, place, PC) and not calls_csv(file, place, widely):
+        return
+    if call == EXIT or name == "sys" and not widely and call in ("", "indir", "exec", "exece"):
+        return
+    yield after
+    if call == FORK:
+        yield after + 1
+
+
+def is_line(file, place):
+    """Whether an instruction is at this place, whole, as it is in the file."""
+    return place == int(place) and 0 <= place < len(file.words) and not file.is_relocated(int(place)) and file.words[int(place)] in FOUND \
+        and place + length(file, int(place)) <= len(file.words)
+
+
+def text_symbols(file):
+    return sorted({value / 2 for _, kind, value in file.symbols if kind & 0o37 == 2 and value < 2 * len(file.words)})
+
+
+def roots(file, promise, widely):
+    """Where an instruction is, whatever else the text has: where a C function begins; by the promise that text has only instructions,
+    at each symbol of text."""
+    return [at for at in text_symbols(file) if at == int(at) and (promise or calls_csv(file, at, widely))]
+
+
+def follow(file, promise, widely, begins, without=()):
+    """The places that are reached from those at which it begins, but not through those in `without`, in words."""
+    reached, symbols, waiting = set(), text_symbols(file), list(begins)
+    while waiting:
+        place = waiting.pop()
+        if place in reached:
+            continue
+        reached.add(place)
+        if not is_line(file, place) or place in without:
+            continue
+        place = int(place)
+        if promise:
+            # what follows from one symbol to the next, whatever the instruction is
+            after = place + length(file, place)
+            if after < len(file.words) and not any(place < symbol < after for symbol in symbols):
+                waiting.append(after)
+        waiting += next_lines(file, place, widely)
+    return reached
+
+
+def likely(file):
+    """Where an instruction may be, by a name, or by a distance that is relocated as an operand of mode 67 or 77 is."""
+    for place in range(len(file.words)):
+        if is_line(file, place) and file.words[place] not in SYS:
+            if any(at is not None and register == PC and mode >= 6 and file.relocation[at] & 0o17 > 1 and file.relocation[at] & 1
+                   for at, _, mode, register in operands(file, place)):
+                yield place
+    yield from text_symbols(file)
+
+
+def overlapping(file, reached):
+    """The places of lines that share a word with another one. A word that begins no instruction is a line of its own."""
+    owners, both = {}, set()
+    for place in reached:
+        words = length(file, int(place)) if is_line(file, place) else 1
+        for at in range(int(place), int(place) + words):
+            if at in owners:
+                both |= {place, owners[at]}
+            owners.setdefault(at, place)
+    return both
+
+
+def sure(file, promise=False):
+    """The places that are sure, and those that may be called so. Open to choice are lines that overlap another one that is reached, or
+    that may be an instruction, and what is reached through them."""
+    possible = roots(file, promise, True)
+    both = overlapping(file, follow(file, promise, True, [*possible, *likely(file)]))
+    return follow(file, promise, False, roots(file, promise, False), both) - both, follow(file, promise, True, possible)
+
+
+def wrong_at(file, place):
+    """What is wrong at a place at which an instruction surely begins: for each the address, and the kind of the remark."""
+    if place < 0 or place >= len(file.words) or place != int(place):
+        return
+    place = int(place)
+    if file.is_relocated(place):
+        yield 2 * place, "relocated"
+        return
+    if file.words[place] not in FOUND:
+        if not is_other(file.words[place]):
+            yield 2 * place, "none begins"
+        return
+    if place + length(file, place) > len(file.words):
+        yield 2 * place, "cut"
+        return
+    if file.words[place] not in SYS:
+        for at, _, mode, register in operands(file, place):
+            if at is not None and file.relocation[at] & 0o17 and register == PC and mode >= 6 and not file.relocation[at] & 1:
+                yield 2 * at, "pc bit"
+    target = branch_target(file, place)
+    if target is not None:
+        yield 2 * place, "within" if 0 <= target <= len(file.words) else "branch"
+
+
+def surely_wrong(file, promise=False):
+    """The remarks that have to be said as sure, and those that may be."""
+    certain, possible = sure(file, promise)
+    wanted = {remark for place in certain for remark in wrong_at(file, place) if remark[1] != "within"}
+    # that a branch leads within another instruction is sure by the promise alone: one of two lines that overlap may be data
+    allowed = {remark for place in possible for remark in wrong_at(file, place) if promise or remark[1] != "within"}
+    return wanted, allowed
