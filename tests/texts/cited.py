@@ -41,7 +41,7 @@ OUTSIDE_REFERENCE: {segment} lies from: to an address outside of it
 EMPTY_NAME: an empty name: an empty name
 UNPRINTABLE_NAME: do not print: bytes that do not print
 BYTES_AFTER_NAME: after the NUL: the NUL of a name
-REPEATED_NAME: has the name of symbol: a name that an earlier symbol of the table has too
+REPEATED_NAME: has the name of symbol: the name of an external that an earlier external of the table has too
 IGNORED_TYPE_BITS: the bits above 77: of type words
 UNKNOWN_TYPE: which the format does not have: a type that the format does not have
 ODD_COMMON: rounded up to even: a common of an odd number of bytes
