@@ -65,7 +65,7 @@ def taken_apart(kind):
     parts = parts_of(file)
     same("read", v7.read(data), (v7.Header(file.magic, *sizes, 0, 0, flag), parts))
     if kind in GOOD:
-        same("check", v7.same(data), len(data))
+        same("check", v7.check(data), len(data))
         same("take_apart", v7.take_apart(data), parts)
         same("make", v7.make(*parts), data)
 
