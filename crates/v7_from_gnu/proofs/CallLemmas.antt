@@ -1,17 +1,25 @@
--- Memory that runs out for the arguments.
-use Rattle.std.proofs.Common.{Option, Some, None, refl, inl, inr}
-use Rattle.std.specs.Prelude.{Err}
+-- What the arguments ask for, by what they are read as.
+use Rattle.std.proofs.Common.{◌≡◌, ℕ, List, Some, None, refl, inl, inr}
+use Rattle.std.specs.Prelude.{Result, Ok, Err}
 use Rattle.aout_core.specs.Refusals.{refused}
-use Rattle.surroundings.specs.{Answer.Answer, Answers.Checks, Events.History, Programs.Calls, declared.answer.Fault.Fault}
-use Rattle.v7_from_gnu.specs.{Checks.path_answer, Jobs.Conversion, Lines.usage, Runs.IsConversion}
+use Rattle.surroundings.proofs.ShownLemmas as calls
+use Rattle.surroundings.specs.{Answer.Answer, Answers.says_usage, Events.History, declared.answer.Fault.Fault}
+use Rattle.v7_from_gnu.specs.{Calls.call_of, Jobs.Conversion, Lines.usage, Runs.IsCall, Runs.IsConversion}
 use Rattle.surroundings.specs.declared.answer.Fault.TheVariants as faults
 
-unchecked : (found : Option Answer) → Checks found (Err (faults.Memory refused))
-unchecked None = refl
-unchecked (Some answer) = inr refl
+-- nothing is asked for
+pub no_call : (words : List (List ℕ)) (h : History) (answer : Answer) → call_of words ≡ None →
+    answer ≡ says_usage usage → IsCall words h h (Ok answer)
+no_call words h answer is e = inr (call_of words, h, (refl, refl), calls.no_call usage IsConversion (call_of words) h answer is e)
 
-pub memory_out : (asked : Option Conversion) (h : History) → Calls usage IsConversion asked h h (Err (faults.Memory refused))
-memory_out None h = (refl, inr refl)
-memory_out (Some c) h = inl (faults.Memory refused, (refl, unchecked (path_answer c.jobs)), refl)
+-- a conversion is asked for, and done
+pub one_call : (words : List (List ℕ)) (call : Conversion) (old new : History) (result : Result Answer Fault) →
+    call_of words ≡ Some call → IsConversion call old new result → IsCall words old new result
+one_call words call old new result is h =
+    inr (call_of words, old, (refl, refl), calls.one_call usage IsConversion (call_of words) call old new result is h)
 
-pub ruleset by_memory = (memory_out)
+-- memory runs out for the arguments
+pub memory_out : (words : List (List ℕ)) (h : History) → IsCall words h h (Err (faults.Memory refused))
+memory_out words h = inl (faults.Memory refused, (refl, refl), refl)
+
+pub ruleset by_call = (no_call, one_call, memory_out)

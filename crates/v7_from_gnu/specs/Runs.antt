@@ -4,9 +4,9 @@
 -- converted before one is stored. So nothing is stored if one is refused. If memory runs out, that is the answer; it does so after a file
 -- was stored only if one was not.
 use Rattle.std.specs.Prelude.{◌≡◌, ℕ, List, [], ◌∷◌, ◌++◌, Option, Some, None, Result, Ok}
-use Rattle.surroundings.specs.Answers.{AnswersOr, IsPerformed, fault_line, only_errors}
+use Rattle.surroundings.specs.Answers.{AnswersOr, IsPerformed, IsShownOr, fault_line, only_errors, shown_in}
 use Rattle.surroundings.specs.Events.{History, Extends, Surroundings, stored}
-use Rattle.surroundings.specs.Programs.{AnswersWords, Finds, Passes, Step, Then}
+use Rattle.surroundings.specs.Programs.{Calls, Finds, Passes, Step, Then}
 use Rattle.surroundings.specs.{Answer.Answer, Sources.stored_text, declared.office.Stored.Stored}
 use Rattle.v7_from_gnu.specs.{Calls.call_of, Checks.ChecksInputs, Checks.path_answer, Converting.outcome, Jobs.Conversion, Jobs.Target}
 use Rattle.v7_from_gnu.specs.{Lines.program, Lines.usage, Plans.Plan, Readings.IsReading}
@@ -31,8 +31,8 @@ IsStoring remarks (t ∷ ts) old new result =
 abbrev pub StoresAll : Plan → Step Answer
 StoresAll plan = Then (Finds (Ok (only_errors plan.remarks 0))) (λ done. IsStoring plan.remarks plan.targets)
 
--- an object is refused that would replace a file, or that goes to the path of another; or else the files are read, and then converted
--- and stored
+-- an object is refused that would replace a file, or whose path another one has; or else the files are read, and then converted and
+-- stored
 abbrev pub IsConversion : Conversion → Step Answer
 IsConversion c =
     Then (ChecksInputs c.jobs) (λ _.
@@ -40,8 +40,15 @@ IsConversion c =
     Then (λ old new read. IsReading old new [] c.jobs read) (λ sources.
     Then (Finds (outcome c.options c.is_quiet sources)) StoresAll)))
 
+-- the conversion that the arguments ask for, or how the program is called, once there is memory for the arguments
+abbrev pub IsCall : List (List ℕ) → Step Answer
+IsCall words = Then (Finds (Ok (call_of words))) (Calls usage IsConversion)
+
+abbrev pub IsAnswer : List (List ℕ) → Step Answer
+IsAnswer words old new result = IsShownOr program usage (shown_in words) old new result (IsCall words old new result)
+
 -- what the arguments ask for is done, and its answer is written
 abbrev pub PerformsFromGnu : {W E : Type 0} → (W → Option (List ℕ)) → (E → Option (List ℕ)) → List (List ℕ) →
     Surroundings W E → Surroundings W E → ℕ → Type 0
 PerformsFromGnu contents error_contents words before after status =
-    IsPerformed contents error_contents program (AnswersWords program usage IsConversion call_of words) before after status
+    IsPerformed contents error_contents program (IsAnswer words) before after status

@@ -1,9 +1,6 @@
 //! The program, over any files and any streams.
 ghost use Rattle.std.specs.Prelude.{map, string_bytes};
-ghost use Rattle.surroundings.specs.Programs.{AnswersWords, Calls};
-ghost use Rattle.v7_from_gnu.specs.Calls.{call_of};
-ghost use Rattle.v7_from_gnu.specs.Lines.{program, usage};
-ghost use Rattle.v7_from_gnu.specs.Runs.{IsConversion, PerformsFromGnu};
+ghost use Rattle.v7_from_gnu.specs.Runs.{IsAnswer, IsCall, PerformsFromGnu};
 
 use crate::arguments::call_of;
 use crate::converting::convert_files;
@@ -19,9 +16,9 @@ pub(crate) const USAGE: &str =
     "usage: v7-from-gnu [-SXxq] IN OUT\n       v7-from-gnu [-SXxq] -o FOLDER FILE...\n       v7-from-gnu --help | --version\n";
 
 /// Does the conversion that the arguments ask for.
-#[tactic(auto, using(surroundings::proofs::ShownLemmas::by_call, crate::proofs::CallLemmas::by_memory))]
+#[tactic(auto, using(crate::proofs::CallLemmas::by_call))]
 fn answer_call<O: Office>(alloc: Global, office: &mut O, words: &[String]) -> Result<Answer, Fault>
-    ensures { Calls usage IsConversion (call_of (map string_bytes words.now))
+    ensures { IsCall (map string_bytes words.now)
         (O.history office.old) (O.history office.new) result }
 {
     match call_of(alloc, words)? {
@@ -33,7 +30,7 @@ fn answer_call<O: Office>(alloc: Global, office: &mut O, words: &[String]) -> Re
 /// Does what the arguments ask for, and returns what is written at the end.
 #[tactic(auto, using(surroundings::proofs::ShownLemmas::by_shown))]
 fn answer<O: Office>(alloc: Global, office: &mut O, words: &[String]) -> Result<Answer, Fault>
-    ensures { AnswersWords program usage IsConversion call_of (map string_bytes words.now)
+    ensures { IsAnswer (map string_bytes words.now)
         (O.history office.old) (O.history office.new) result }
 {
     match shown_in(words) {

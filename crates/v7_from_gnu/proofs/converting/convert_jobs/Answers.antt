@@ -6,19 +6,20 @@ use Rattle.v7_from_gnu.proofs.converting.convert_jobs.Goals as goal
 
 pub returns : goal.returns
 returns g c =
-    let looked_at : c.deref.result.now ≡ c.args.jobs.items = search rules in
-    let same : c.deref-2.result.now ≡ c.args.jobs.items = search rules in
-    let before = g.O.Office.history c.args.office.now in
+    let jobs = c.args.jobs.items in
+    let old = g.O.Office.history c.args.office.now in
     let looked = g.O.Office.history c.check_inputs.new.office in
     let between = g.O.Office.history c.read_all.new.office in
+    let inputs : ChecksInputs jobs old looked (Ok tt) = search rules in
+    let paths : path_answer jobs ≡ None = search rules in
     inr (
       tt,
       looked,
-      subst (λ jobs. ChecksInputs jobs before looked (Ok tt)) looked_at c.in_ok-check_inputs.ensures,
+      inputs,
       inr (
         tt,
         looked,
-        (refl, subst (λ jobs. path_answer jobs ≡ None) same c.in_ok-check_paths.ensures),
+        (refl, paths),
         inr (
           c.in_ok-sources.sources.items,
           between,
@@ -30,59 +31,48 @@ returns g c =
 
 pub returns-in_err-check_inputs : goal.returns-in_err-check_inputs
 returns-in_err-check_inputs g c =
-    let looked_at : c.deref.result.now ≡ c.args.jobs.items = search rules in
-    let before = g.O.Office.history c.args.office.now in
-    let looked = g.O.Office.history c.check_inputs.new.office in
     let fault = c.in_err-check_inputs.field-0.0 in
-    inl (fault, subst (λ jobs. ChecksInputs jobs before looked (Err fault)) looked_at c.in_err-check_inputs.ensures, search rules)
+    let inputs : ChecksInputs c.args.jobs.items (g.O.Office.history c.args.office.now)
+    (g.O.Office.history c.check_inputs.new.office) (Err fault) = search rules in
+    inl (fault, inputs, search rules)
 
 pub returns-in_err-check_paths : goal.returns-in_err-check_paths
 returns-in_err-check_paths g c =
-    let looked_at : c.deref.result.now ≡ c.args.jobs.items = search rules in
-    let same : c.deref-2.result.now ≡ c.args.jobs.items = search rules in
-    let before = g.O.Office.history c.args.office.now in
+    let jobs = c.args.jobs.items in
     let looked = g.O.Office.history c.check_inputs.new.office in
     let fault = c.in_err-check_paths.field-0.0 in
-    inr (
-      tt,
-      looked,
-      subst (λ jobs. ChecksInputs jobs before looked (Ok tt)) looked_at c.in_ok-check_inputs.ensures,
-      inl (fault, (refl, subst (λ jobs. Checks (path_answer jobs) (Err fault)) same c.in_err-check_paths.ensures), search rules),
-    )
+    let inputs : ChecksInputs jobs (g.O.Office.history c.args.office.now) looked (Ok tt) = search rules in
+    let paths : Checks (path_answer jobs) (Err fault) = search rules in
+    inr (tt, looked, inputs, inl (fault, (refl, paths), search rules))
 
 pub returns-in_err-sources : goal.returns-in_err-sources
 returns-in_err-sources g c =
-    let looked_at : c.deref.result.now ≡ c.args.jobs.items = search rules in
-    let same : c.deref-2.result.now ≡ c.args.jobs.items = search rules in
-    let before = g.O.Office.history c.args.office.now in
+    let jobs = c.args.jobs.items in
     let looked = g.O.Office.history c.check_inputs.new.office in
+    let inputs : ChecksInputs jobs (g.O.Office.history c.args.office.now) looked (Ok tt) = search rules in
+    let paths : path_answer jobs ≡ None = search rules in
     inr (
       tt,
       looked,
-      subst (λ jobs. ChecksInputs jobs before looked (Ok tt)) looked_at c.in_ok-check_inputs.ensures,
-      inr (
-        tt,
-        looked,
-        (refl, subst (λ jobs. path_answer jobs ≡ None) same c.in_ok-check_paths.ensures),
-        inl (c.in_err-sources.field-0.0, c.in_err-sources.ensures, search rules),
-      ),
+      inputs,
+      inr (tt, looked, (refl, paths), inl (c.in_err-sources.field-0.0, c.in_err-sources.ensures, search rules)),
     )
 
 pub returns-in_err-plan : goal.returns-in_err-plan
 returns-in_err-plan g c =
-    let looked_at : c.deref.result.now ≡ c.args.jobs.items = search rules in
-    let same : c.deref-2.result.now ≡ c.args.jobs.items = search rules in
-    let before = g.O.Office.history c.args.office.now in
+    let jobs = c.args.jobs.items in
     let looked = g.O.Office.history c.check_inputs.new.office in
     let between = g.O.Office.history c.read_all.new.office in
+    let inputs : ChecksInputs jobs (g.O.Office.history c.args.office.now) looked (Ok tt) = search rules in
+    let paths : path_answer jobs ≡ None = search rules in
     inr (
       tt,
       looked,
-      subst (λ jobs. ChecksInputs jobs before looked (Ok tt)) looked_at c.in_ok-check_inputs.ensures,
+      inputs,
       inr (
         tt,
         looked,
-        (refl, subst (λ jobs. path_answer jobs ≡ None) same c.in_ok-check_paths.ensures),
+        (refl, paths),
         inr (
           c.in_ok-sources.sources.items,
           between,
