@@ -44,11 +44,11 @@ IsConversion c =
 abbrev pub IsCall : List (List ℕ) → Step Answer
 IsCall words = Then (Finds (Ok (call_of words))) (Calls usage IsConversion)
 
-abbrev pub IsAnswer : List (List ℕ) → Step Answer
-IsAnswer words old new result = IsShownOr program usage (shown_in words) old new result (IsCall words old new result)
+abbrev pub AnswersArguments : List (List ℕ) → Step Answer
+AnswersArguments words old new result = IsShownOr program usage (shown_in words) old new result (IsCall words old new result)
 
 -- what the arguments ask for is done, and its answer is written
 abbrev pub PerformsFromGnu : {W E : Type 0} → (W → Option (List ℕ)) → (E → Option (List ℕ)) → List (List ℕ) →
     Surroundings W E → Surroundings W E → ℕ → Type 0
 PerformsFromGnu contents error_contents words before after status =
-    IsPerformed contents error_contents program (IsAnswer words) before after status
+    IsPerformed contents error_contents program (AnswersArguments words) before after status

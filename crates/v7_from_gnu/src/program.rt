@@ -1,6 +1,6 @@
 //! The program, over any files and any streams.
 ghost use Rattle.std.specs.Prelude.{map, string_bytes};
-ghost use Rattle.v7_from_gnu.specs.Runs.{IsAnswer, IsCall, PerformsFromGnu};
+ghost use Rattle.v7_from_gnu.specs.Runs.{AnswersArguments, IsCall, PerformsFromGnu};
 
 use crate::arguments::call_of;
 use crate::converting::convert_files;
@@ -30,7 +30,7 @@ fn answer_call<O: Office>(alloc: Global, office: &mut O, words: &[String]) -> Re
 /// Does what the arguments ask for, and returns what is written at the end.
 #[tactic(auto, using(surroundings::proofs::ShownLemmas::by_shown))]
 fn answer<O: Office>(alloc: Global, office: &mut O, words: &[String]) -> Result<Answer, Fault>
-    ensures { IsAnswer (map string_bytes words.now)
+    ensures { AnswersArguments (map string_bytes words.now)
         (O.history office.old) (O.history office.new) result }
 {
     match shown_in(words) {
