@@ -1,7 +1,7 @@
 -- Rows that follow from the laws of linking alone: no link is computed here.
 use Rattle.std.proofs.Common.{◌≡◌, ℕ, zero, suc, true, false, List, [], ◌∷◌, ◌++◌, Some, None, refl, sym, ◌∙◌, ap, subst, arith, inl, inr}
 use Rattle.std.proofs.lemmas.Slice.Eq.{bytes_eq-Decides}
-use Rattle.std.specs.Prelude.{Ok, codes, slice_get, bytes_eq}
+use Rattle.std.specs.Prelude.{Ok, Err, codes, slice_get, bytes_eq}
 use Rattle.aout_core.specs.{declared.symbol.Symbol.Symbol, declared.symbol.Segment.Segment, declared.symbol.Segment.TheVariants.TextSeg}
 use Rattle.aout_core.specs.{declared.symbol.Segment.TheVariants.DataSeg, declared.reloc.Reloc.Reloc, Contents.Contents}
 use Rattle.link_session.specs.{declared.state.State.State, declared.state.State.TheVariants.Defined}

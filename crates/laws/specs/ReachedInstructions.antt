@@ -3,7 +3,7 @@
 --
 -- The instructions at the sure places are in the program: none begins with a relocated word, and none is cut. Each operand that has a word
 -- is the address of the byte to which the object refers by its relocation word, or it is a number, since each pc bit suits its mode.
-use Rattle.std.specs.Prelude.{◌≡◌, ℕ, ◌+◌, ◌*◌, true, false, if◌then◌else◌, List, [], ◌∷◌, ◌++◌, drop, Option, Some, slice_get, slice_index}
+use Rattle.std.specs.Prelude.{◌≡◌, ℕ, ◌+◌, ◌*◌, true, false, if◌then◌else◌, List, ◌∷◌, ◌++◌, drop, Option, Some, slice_get, slice_index}
 use Rattle.std.specs.List.{AllByRecursion}
 use Rattle.aout_core.specs.{declared.symbol.Symbol.Symbol, declared.reloc.Reloc.Reloc, declared.reloc.Kind.Kind, Contents.Contents}
 use Rattle.aout_core.specs.{Contents.IsWord, WellFormed.kind_of, WellFormed.is_pc_relative}
