@@ -92,9 +92,12 @@ line_if path (Some text) = line_of path text
 abbrev pub odd_lines : List ℕ → List Found → List ℕ
 odd_lines path found = reports path (take 16 found) ++ line_if path (more_odd (length found))
 
+abbrev pub has_sure : List Found → Bool
+has_sure found = list_any (λ f. f.is_sure) found
+
 -- 1 if anything is found that is sure
 abbrev pub status_of : List Found → ℕ
-status_of found = if list_any (λ f. f.is_sure) found then 1 else 0
+status_of found = if has_sure found then 1 else 0
 
 -- ---- damage
 

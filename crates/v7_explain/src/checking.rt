@@ -1,11 +1,12 @@
 //! Why files are not objects, and what is odd in objects.
 ghost use Rattle.std.specs.Prelude.{◌≡◌, None, IfOk, OnOk, option_map};
+ghost use Rattle.std.specs.List.{list_any};
 ghost use Rattle.aout_core.specs.WellFormed.{first_object_fault};
 ghost use Rattle.findings.specs.Found.{all_found};
 ghost use Rattle.findings.specs.Kinds.{kind_text, or_nothing};
 ghost use Rattle.texts.specs.Texts.{Puts};
 ghost use Rattle.surroundings.specs.Answers.{only_errors};
-ghost use Rattle.v7_explain.specs.Files.{checked, checked_as, gnu_line, line_if, line_of, refused_lines, status_of};
+ghost use Rattle.v7_explain.specs.Files.{checked, checked_as, gnu_line, has_sure, line_if, line_of, refused_lines, status_of};
 
 use crate::source::{
     GNU_NOTE, Source, likeness_of, put_front, put_odd_lines, put_reports, put_text_line,
@@ -62,15 +63,24 @@ fn put_kind_line(lines: &mut Text, path: &str, header: &Header, refused: Option<
     lines.put("\n");
 }
 
+fn is_any_sure(found: &[Finding]) -> bool
+    ensures { result ≡ list_any (λ finding. finding.is_sure) found.now }
+{
+    found.iter().any(|finding| finding.is_sure)
+}
+
+/// Whether one of these findings is sure.
+fn has_sure(found: &[Finding]) -> bool
+    ensures { result ≡ has_sure (all_found found.now) }
+{
+    is_any_sure(found)
+}
+
 /// The status after findings: 1 if one is sure.
 fn status_of(found: &[Finding]) -> u8
     ensures { result ≡ status_of (all_found found.now) }
 {
-    if found.iter().any(|finding| finding.is_sure) {
-        1
-    } else {
-        0
-    }
+    if has_sure(found) { 1 } else { 0 }
 }
 
 /// What is odd in an object.

@@ -92,6 +92,7 @@ pub(crate) fn put_reports(lines: &mut Text, path: &str, wrong: &[Finding])
 }
 
 /// The findings that are shown one by one.
+#[tactic(auto, using(crate::proofs::FoundLemmas::by_found))]
 fn first_of(found: &[Finding]) -> &[Finding]
     ensures { all_found result.now ≡ take 16 (all_found found.now) }
 {

@@ -1,5 +1,6 @@
 use Rattle.std.proofs.Common.{rules, ◌≡◌, refl, subst, inl, inr}
 use Rattle.std.specs.Prelude.{true}
+use Rattle.suspicions.specs.declared.evidence.Evidence.TheVariants.{Flow}
 use Rattle.v7_explain.specs.{Files.listed, Runs.IsStoring}
 use Rattle.v7_explain.proofs.storing.store_listing.Goals as goal
 
@@ -8,8 +9,8 @@ returns g c =
     let between = g.O.Office.history c.read_whole.new.office in
     let new = g.O.Office.history c.store.new.office in
     let same : c.deref.result.now ≡ c.in_ok-bytes.bytes.items = search rules in
-    let said : c.in_ok-said.said ≡ listed true c.args.path.now c.in_ok-bytes.bytes.items =
-    subst (λ bytes. c.in_ok-said.said ≡ listed true c.args.path.now bytes) same c.in_ok-said.ensures in
+    let said : c.in_ok-said.said ≡ listed Flow true c.args.path.now c.in_ok-bytes.bytes.items =
+    subst (λ bytes. c.in_ok-said.said ≡ listed Flow true c.args.path.now bytes) same c.in_ok-said.ensures in
     inr (
       g.O.Office.history c.check_output.new.office,
       c.in_ok-check_output.ensures,
