@@ -1,7 +1,7 @@
 -- What a call remarks of a file: what is wrong and odd in it, as records with their texts. (own choice)
 --
 -- Each record has the place of its text among all texts, which are one after another.
-use Rattle.std.specs.Prelude.{ℕ, ◌+◌, List, [], ◌∷◌, ◌++◌, length, Result, Ok, Err}
+use Rattle.std.specs.Prelude.{ℕ, ◌+◌, true, List, [], ◌∷◌, ◌++◌, length, Result, Ok, Err}
 use Rattle.std.specs.List.{flat_map}
 use Rattle.aout_core.specs.{Contents.Contents, Decoding.decode, WellFormed.first_object_fault, declared.file.ReadFault.ReadFault}
 use Rattle.findings.specs.{Found.Found, Wrong.wrong_bytes, Wrong.wrong_in, declared.finding.FindingKind.FindingKind}
