@@ -259,6 +259,12 @@ def notes_of(data):
     return notes + [f"wrong: {note}" for note in at_byte(found)] + [f"odd: {note}" for note in odd[:MOST]], refused
 
 
+def odd_notes(data):
+    """All that is odd in a file but for its instructions."""
+    file = wrong(data)[1]
+    return at_byte(odd_of(file)) if file else []
+
+
 def without_suspicious(notes):
     """Notes without those on instructions, and without how many more things are odd."""
     return [note for note in notes if not SUSPICIOUS.search(note) and not MORE.match(note)]

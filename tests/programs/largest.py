@@ -213,10 +213,17 @@ def recognized(kind):
     same("answer", (status, errors, "\n/ wrong: " in text, note in text), (1, "", True, True))
 
 
+def remarks(data):
+    """What `-c` says of a file, and how many more things are odd than it shows."""
+    said, odd = notes.notes_of(data)[1], [note for note in notes.odd_notes(data) if not note.endswith("rounded up to even")]
+    more = len(odd) - len(said) if said == odd[:notes.MOST] else 0
+    return said + [f"and {more} more that are odd"] * (more > 0)
+
+
 def checked(kind):
     """What v7 ld says of each file, or nothing."""
     files = encoded(kind)
-    refused = [f"v7-explain: {path}: {text}\n" for path, data in files.items() for text in notes.notes_of(data)[1]]
+    refused = [f"v7-explain: {path}: {text}\n" for path, data in files.items() for text in remarks(data)]
     same("answer", answer("v7-explain", "-c", *written(files)), (int(bool(refused)), "", "".join(refused)))
 
 
@@ -277,7 +284,7 @@ def shown_in_rows(kind):
 def inventoried(kind):
     """A line for each file."""
     files = encoded(kind)
-    lines = [notes.inventory_of(path, data) + "\n" for path, data in files.items()]
+    lines = [notes.inventory_of(path, data, len(notes.odd_notes(data))) + "\n" for path, data in files.items()]
     same("answer", answer("v7-explain", "-l", *written(files)), (0, "".join(lines), ""))
 
 
