@@ -15,6 +15,7 @@ set -u
 cd "$(dirname "$0")/../.."
 top=$PWD
 build=${V7_BUILD:-$top/build}
+: "${CC:=cc}" "${CXX:=c++}"
 room=$(mktemp -d)
 trap 'rm -rf "$room"' EXIT
 make -s install-lib PREFIX="$room/installed" LIBDIR="$room/installed/lib" INCLUDEDIR="$room/installed/include" DESTDIR= || exit 1
