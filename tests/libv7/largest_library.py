@@ -45,7 +45,7 @@ def texts(kind):
 def remarked(kind):
     """All that is wrong and odd in a file."""
     data = OTHER_FILES[kind][0] if kind in OTHER_FILES else next(iter(encoded(kind).values()))
-    wanted = [note for note in notes.notes_of(data)[0] if note.startswith(("wrong: ", "odd: "))]
+    wanted = [note for note in notes.notes_of(data)[0] if note.startswith("wrong: ")] + [f"odd: {note}" for note in notes.odd_notes(data)]
     words = {True: "odd", False: "wrong"}
     found = [f"{words[row.kind > v7.REMARK_MORE_BAD_WORDS]}: byte 0{row.byte:o} ({row.byte}): {row.text}" for row in v7.remarks(data)]
     same("remarks", found, wanted)

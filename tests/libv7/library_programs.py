@@ -12,6 +12,7 @@ import v7
 from tests.lib.files import TOP, read_bytes, write
 from tests.lib.programs import program, ran
 
+MOST = 16
 FOUND = re.compile(r"/ (wrong|odd): byte 0[0-7]+ \((\d+)\): (.*)")
 MISTAKE = re.compile(r"v7-object: in\.lst: line (\d+), column (\d+): .*")
 REFUSED = re.compile(r"v7-from-gnu: in\.gnu: byte 0[0-7]+ \((\d+)\): .*")
@@ -56,6 +57,9 @@ class Programs:
         lines = self.run("v7-explain", "in.o")[0].split("\n")
         found = [match.groups() for match in map(FOUND.fullmatch, lines) if match]
         remarks = [("odd" if remark.kind > v7.REMARK_MORE_BAD_WORDS else "wrong", str(remark.byte), remark.text) for remark in v7.remarks(data)]
+        # a listing has the first odd things
+        odd = [remark for remark in remarks if remark[0] == "odd"]
+        remarks = [remark for remark in remarks if remark[0] != "odd"] + odd[:MOST]
         listing = given(v7.listing, data)
         if isinstance(listing, v7.Fault):
             return remarks == found and not any(line and not line.startswith("/") for line in lines)
