@@ -2,7 +2,7 @@
 use link_out::Options;
 use std::alloc::Global;
 
-/// The allocator, and the options of links.
+/// What a command needs beside its arguments: the allocator, and the options by which it links.
 #[derive(Clone, Copy)]
 pub(crate) struct Setting<'a> {
     pub(crate) alloc: Global,
