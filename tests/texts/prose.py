@@ -13,6 +13,7 @@ import re
 import sys
 
 from tests.lib.files import read
+from tests.lib.rattle import NAMED
 
 # a habit, how it is found, a sentence that has it, and the same in plain English
 HABITS = [
@@ -172,7 +173,6 @@ def prose_of(path, lines):
     return list(prose_of_source(path, lines))
 
 
-DEFINED = re.compile(r"\b(?:fn|struct|enum|trait|type|mod|const|static) ([A-Za-z_]\w*)|\b(?:ensures|requires|invariant) (\w+) \{")
 BODY = re.compile(r"(\s*)(?:pub(?:\([^)]*\))? )?(?:struct|enum) \w[^;(]*\{$")
 MEMBER = re.compile(r"\s*(?:pub(?:\([^)]*\))? )?(\w+)(?:: |\(|,$| \{)")
 STATED = re.compile(r"(?:(?:pub|abbrev|unfoldable|record|data|mod) )*([^\s:(){}=]+)(?: [^:=]*)?(?: :|$)|  (?:pub )?([^\s:(){}=]+) : ")
@@ -184,7 +184,7 @@ def names_of_code(lines):
     for number, text in enumerate(lines, 1):
         if re.match(r"\s*//", text):
             continue
-        for item, clause in DEFINED.findall(re.sub(r'"(?:\\.|[^"\\])*"', '""', text)):
+        for item, clause in NAMED.findall(re.sub(r'"(?:\\.|[^"\\])*"', '""', text)):
             yield number, item or clause
         begins = BODY.match(text)
         if begins:
