@@ -49,7 +49,7 @@ WORDS = {
     "the same plainly": ("unasked", "meanwhile", "thereby", "whereby", "therein", "hereby", "whoever"),
 }
 LONGEST = 50
-MOST_LINES = 2990
+MOST_LINES, WIDEST = 2900, 142
 
 # where a habit has to stay: the file, a text of the line, and why
 MOST_EXCEPTIONS = 40
@@ -320,8 +320,10 @@ def dead_in(path, text):
 
 def too_long(texts):
     """Whether README.md and docs have more lines than they may: then a document says what another one says too."""
-    lines = sum(text.count("\n") for path, text in texts.items() if path == "README.md" or path.startswith("docs/"))
-    return [f"README.md and docs have {lines:,} lines, and {MOST_LINES:,} are the most"] if lines > MOST_LINES else []
+    lines = [line for path, text in texts.items() if path == "README.md" or path.startswith("docs/") for line in text.split("\n")[:-1]]
+    wide = [line for line in lines if len(line) > WIDEST and not line.startswith(("|", "    "))]
+    said = [f"README.md and docs have {len(lines):,} lines, and {MOST_LINES:,} are the most"] if len(lines) > MOST_LINES else []
+    return said + [f"a line of {len(line)} columns, and {WIDEST} are the most: {line[:60]}" for line in wide]
 
 
 def make_targets():
@@ -410,7 +412,7 @@ def check_itself():
     shown = ["    $ v7 nm a.o", "", "    make nothing", "", "Run `make other`, and `python3 -m tests none`."]
     if len(list(commands_in("x.md", shown, set(), {"other"}, set()))) != 4:
         faults.append("tests/texts/prose.py: a command that no check runs is not found")
-    if len(too_long({"README.md": "\n", "docs/A.md": "\n" * MOST_LINES})) != 1 or too_long({"docs/A.md": "\n" * MOST_LINES}):
+    if len(too_long({"README.md": "x" * WIDEST + "x\n", "docs/A.md": "\n" * MOST_LINES})) != 2 or too_long({"docs/A.md": "\n" * MOST_LINES}):
         faults.append("tests/texts/prose.py: too many lines are not found")
     return faults
 
