@@ -48,7 +48,7 @@ SCRIPTS = {
     "a place with another object": ("owners", '["span", "owned", label(object.number)]', '["span", "owned", label(0)]'),
     "a count that is one less": ("counts", '`and ${counted(left, "other word")}`', '`and ${counted(left - 1, "other word")}`'),
     "the words after a question on paper": ("paper", "&& (withAnswers || !made.ask);", ";"),
-    "no pc on paper": ("paper", 'octal(word.value), word.pc ? "pc" : "", said]', 'octal(word.value), "", said]'),
+    "no pc on paper": ("paper", 'shown(word.value), word.pc ? "pc" : "", said]', 'shown(word.value), "", said]'),
     "right answers counted as wrong": ("result", "given.filter((one) => one?.isRight).length", "given.filter((one) => one && !one.isRight).length"),
     "a line beside another word": ("beside", '{ "data-own": `${part} ${index}` }', '{ "data-own": `${part} ${index + 1}` }'),
     "a distance between two segments": ("distances", "SEGMENTS[word.kind] === word.part || view.layout >= 0", "word.pc"),

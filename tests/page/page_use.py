@@ -52,6 +52,8 @@ def first_view(page, same):
     same("the words of the page are not nothing", page.run("return document.body.innerText.includes('nothing\\n')"), False)
     page.click("first")
     same("the first action adds main.o", page.run("return [location.hash, document.getElementById('status').textContent]"), ["#objects=1", "Added main.o"])
+    page.type("2")
+    same("the legend after the first step", page.run("return document.getElementById('legend').checkVisibility()"), False)
 
 
 def roles(page, same):
@@ -501,6 +503,11 @@ def paper(page, default, same):
                            "return [asked[0].querySelector('.ask').textContent.slice(0, 3), asked.map((part) => part.nextElementSibling?.tagName ?? '')]")
     same("the first question on paper, and what follows a question", (first, "TABLE" in last), ("1. ", False))
     same("pc and places on paper", page.run("return [...document.querySelectorAll('#paper tr')].map((row) => row.textContent)")[1], "text000002177774pcwaits for _count")
+    page.open("#lesson=2&done=0&numbers=decimal")
+    page.run("window.print = () => {}")
+    page.click("handout")
+    decimal = page.run("return [...document.querySelectorAll('#paper tr')].map((row) => row.textContent)")[3]
+    same("a handout in decimal", decimal, "text665528pcwaits for _twice")
     same("answers on paper", ("Answer: text 000006" in texts[1], "Answer: text 000006" in texts[0]), (True, False))
 
 
