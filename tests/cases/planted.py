@@ -28,7 +28,8 @@ from tests.wrong_bodies import edits
 from tests.programs import largest
 from tests.lib.programs import ran
 from tests.lib.tally import Failed
-from tools.compiling import CRATES, compile_library, compile_program, uses_of
+from tools.compiling import CRATES, compile_program, uses_of
+from tools.sketch import compile_library
 
 CASES = os.path.join(TOP, "tests", "cases", "data")
 PAGE = "docs/internals/PLANTED.md"
@@ -44,7 +45,7 @@ PAGES = "page_data.py: pages"
 LARGEST[PAGES] = "$ v7-lesson\n$ v7\n$ v7-explain\n"
 MODULES = {"largest.py": "tests.programs.largest", "largest_library.py": "tests.libv7.largest_library", "page_data.py": "tests.page.page_data"}
 # what is compiled, and the crate of each
-COMPILED = {**{name: crate for name, (crate, _) in CRATES.items()}, "libv7": "v7_c"}
+COMPILED = {**CRATES, "libv7": "v7_c"}
 # for a command of a case, on a machine with other work too
 SECONDS = "300"
 # a compilation takes a processor and a gigabyte
