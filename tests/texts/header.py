@@ -15,6 +15,7 @@ import sys
 import tempfile
 
 from tests.lib.files import TOP, read, write
+from tests.lib.rattle import functions, items
 
 HEADER = os.path.join(TOP, "include", "v7.h")
 MODULE = os.path.join(TOP, "packaging", "python", "v7.py")
@@ -98,8 +99,8 @@ def plain(text):
     return re.sub(r"/\*.*?\*/", "", text, flags=re.S)
 
 
-# a call of the code for C, with its parameters, and one of these
-CALL, PARAMETER = re.compile(r'pub extern "C" fn (\w+)\((.*?)\) -> u32', re.S), re.compile(r"(\w+): ([^,]+?)(?:,|$)")
+# a parameter of a call of the code
+PARAMETER = re.compile(r"(\w+): ([^,)]+)")
 
 
 # --- the header
@@ -151,8 +152,9 @@ def sources():
 
 def declared_calls(texts):
     """Each call of the code, with its parameters: pairs of a name and a type."""
-    return {name: [(RENAMED.get(word, word), kind.strip()) for word, kind in PARAMETER.findall(words) if kind != "Global"]
-            for name, words in CALL.findall("\n".join(texts.values()))}
+    found = [it for text in texts.values() for item in items(text) for it in functions(item) if 'extern "C"' in it.signature[0]]
+    return {it.name: [(RENAMED.get(word, word), kind.strip()) for word, kind in PARAMETER.findall(" ".join(it.signature)) if kind != "Global"]
+            for it in found}
 
 
 def fields_in_code(texts, name):

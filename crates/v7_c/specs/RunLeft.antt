@@ -33,7 +33,7 @@ is_enough wants size =
 abbrev pub is_known : Request → ℕ → Bool
 is_known q size = nat_le 64 q.size && (nat_le q.wants 7 && is_enough q.wants size)
 
--- what is wanted of the report: 1, the lines; 2, a list; 4, the objects of what the list has
+-- what is wanted of the report: its lines by bit 1, a list by bit 2, and the objects of what that has by bit 4
 abbrev pub wants_of : ℕ → Wants
 wants_of wants = record { report = has_bit wants 1; findings = has_bit wants 2; places = has_bit wants 4 }
 
