@@ -94,13 +94,13 @@ pub fn reached_instruction_law()
 {}
 
 /// Clean objects make a clean program. An object is clean if `v7-explain -c -t` says nothing odd of its instructions for sure, and if, from
-/// each place that `-t` reaches, control stays within its text but for jumps and calls of names. Each `jsr` and `jmp` by modes 37 or 67
-/// there has to refer to the object's own text, or to the name of a text symbol of one of the objects, and to no byte beyond it. The
-/// entry point has to be a text symbol too. (ld(1), the handbook of the PDP-11/70; what is suspicious and what is reached: own choice)
+/// each place that `-t` reaches, control leaves its text only by jumps and calls of names. Each `jsr` and `jmp` by modes 37 or 67 there has
+/// to refer to the object's own text, or to the name of a text symbol of one of the objects, and to no byte beyond it. The entry point has
+/// to be a text symbol too. (ld(1), the handbook of the PDP-11/70; what is suspicious and what is reached: own choice)
 ///
-/// In any link of such objects that keeps symbols, and if no name is multiply defined, follow the program from its entry point: to the line
-/// after an instruction that lets control pass, to the targets of branches, and to those of `jsr` and `jmp` by modes 37 and 67, across
-/// objects. Each place that is reached so is a place of one of the objects that `-t` reaches. Its instruction is in the program as by
+/// The law is about any link of such objects that keeps symbols, in which no name is multiply defined. Follow the program from its entry
+/// point: to the line after an instruction that lets control pass, to the target of a branch, and to that of a `jsr` or `jmp` by modes 37
+/// and 67. Each place that is reached so is a place of one of the objects that `-t` reaches. Its instruction is in the program as by
 /// `reached_instruction_law`, with the operands that the object refers to, unless it is one of another PDP-11. The way ends at a `jsr` whose
 /// link is not the pc, since nobody knows whether control comes back to the next word; its target is followed.
 pub fn clean_law()
