@@ -5,7 +5,7 @@
 #: make lib wheel             proves and builds libv7, and makes its wheel of Python                       kit          20 minutes
 #: make dist                  makes the packages of a release in dist/                                     kit          25 minutes
 #: make page                  makes the page of the lesson, build/lesson.html; `lesson` prints its steps   kit          10 minutes
-#: make install             `make install-lib` and `make uninstall` too: what was built; `make clean` removes it
+#: make install               `make install-lib` and `make uninstall` too: what was built; `make clean` removes it
 #:
 #: make which CHANGED=PATH    which tests and crates a change concerns; or SINCE=COMMIT                    Python       seconds
 #: make check-text            texts, names, limits and quotes, compared with the code                      Python, cc   1 minute

@@ -10,7 +10,9 @@ import os
 import re
 import sys
 
-TOP = os.path.abspath(os.path.join(os.path.dirname(os.path.abspath(__file__)), ".."))
+sys.path.insert(1, os.path.dirname(os.path.dirname(os.path.abspath(__file__))))
+from tests.lib.files import TOP, read, write  # noqa: E402
+
 # the source of the usage of each program but v7
 USAGES = {"v7-explain": "v7_explain/src/program.rt", "v7-from-gnu": "v7_from_gnu/src/program.rt", "v7-lesson": "v7_lesson/src/arguments.rt",
           "v7-object": "v7_object/src/program.rt"}
@@ -22,14 +24,9 @@ TAKES = {"v7 ld": "*.o", "v7-lesson": "*.o", "v7-object": "*.lst", "v7 session":
 VALUES = {None: "-", "NAME": "none", "STEP": "none", "FOLDER": "folder", "LISTING": "*.lst"}
 
 
-def read(path):
-    with open(os.path.join(TOP, path), encoding="utf-8") as file:
-        return file.read()
-
-
 def strings(path):
     """The constants of a source that are texts, by name."""
-    found = re.findall(r'const (\w+): &str =\s*"((?:[^"\\]|\\.)*)";', read(f"crates/{path}"))
+    found = re.findall(r'const (\w+): &str =\s*"((?:[^"\\]|\\.)*)";', read(f"{TOP}/crates/{path}"))
     return {name: text.replace("\\n", "\n") for name, text in found}
 
 
@@ -54,7 +51,7 @@ def plain(line):
 def manual_options(program):
     """The options of a program in its manual, each with its value and its meaning."""
     options = {}
-    for heads, text in re.findall(r"^\.It ((?:Fl \w(?: Ar \w+)?(?: , )?)+)\n((?:(?!\.It|\.El).*\n)*)", read(f"man/{program}.1"), re.M):
+    for heads, text in re.findall(r"^\.It ((?:Fl \w(?: Ar \w+)?(?: , )?)+)\n((?:(?!\.It|\.El).*\n)*)", read(f"{TOP}/man/{program}.1"), re.M):
         sentence = re.split(r"[;.:](?: |$)", " ".join(map(plain, text.split("\n"))).replace(program, "").strip())[0]
         for letter, value in re.findall(r"Fl (\w)(?: Ar (\w+))?", heads):
             options[f"-{letter}"] = value.upper() or None, re.sub(r" +", " ", sentence)
@@ -187,10 +184,8 @@ def texts():
 
 
 def main(folder):
-    os.makedirs(folder, exist_ok=True)
     for name, text in zip(("v7.bash", "_v7"), texts()):
-        with open(f"{folder}/{name}", "w", encoding="utf-8") as file:
-            file.write(text)
+        write(f"{folder}/{name}", text)
 
 
 if __name__ == "__main__":

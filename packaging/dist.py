@@ -21,9 +21,11 @@ import tempfile
 from email.utils import formatdate
 from typing import NamedTuple
 
-sys.path.insert(0, os.path.dirname(os.path.abspath(__file__)))
+sys.path.insert(1, os.path.dirname(os.path.dirname(os.path.abspath(__file__))))
+from tests.lib.files import TOP, read, read_bytes, write  # noqa: E402
+from tests.lib.rattle import crates_in  # noqa: E402
 import installed  # noqa: E402
-from installed import PROGRAMS, TOP, read, write  # noqa: E402
+from installed import PROGRAMS  # noqa: E402
 
 KEPT = "build/proved"
 LIBDIR = "usr/lib/x86_64-linux-gnu"
@@ -44,7 +46,7 @@ def first_line(*words):
 
 
 def digest(path):
-    return hashlib.sha256(read(path, "rb")).hexdigest()
+    return hashlib.sha256(read_bytes(path)).hexdigest()
 
 
 class Release:
@@ -52,10 +54,7 @@ class Release:
 
     def __init__(self, is_checked):
         self.is_checked = is_checked
-        self.version = re.search(r'^#define V7_VERSION "(.*)"$', read("include/v7.h"), re.M)[1]
-        shown = re.search(r'VERSION: &str = "(.*)";', read("crates/aout_core/src/shown.rt"))[1]
-        if shown != self.version:
-            sys.exit(f"include/v7.h has version {self.version}, and the programs show {shown}")
+        self.version = installed.version()
         self.commit, self.date, self.author = asked("git", "show", "-s", "--format=%H\n%ct\n%an <%ae>", "HEAD").split("\n")
         self.date = int(self.date)
         self.is_clean = not asked("git", "status", "--porcelain")
@@ -69,11 +68,7 @@ class Release:
 
     def crates(self):
         """The crates of the repository that the programs and libv7 are made of, and the kit's libraries that they use."""
-        uses = {}
-        for line in read("crates.txt").split("\n"):
-            if line.strip() and not line.startswith("#"):
-                head, _, rest = line.partition(":")
-                uses[head.split()[0]] = rest.split()
+        uses = {name: used for name, (_, used) in crates_in(TOP).items()}
         ours, kits, wanted = set(), {"std"}, [*PROGRAMS, "v7_c"]
         while wanted:
             name = wanted.pop()
@@ -172,7 +167,7 @@ def licences(release, place):
     for name in kits:
         texts = sorted(glob.glob(f"{release.kit}/rattle/{name}/LICENSE*"))
         for text in texts:
-            write(f"{to}/{name}/{os.path.basename(text)}", read(text, "rb"))
+            write(f"{to}/{name}/{os.path.basename(text)}", read_bytes(text))
         if texts:
             lines.append(f"- {name}: licences/{name} has its licence texts, as the kit has them.")
         else:
@@ -182,7 +177,7 @@ def licences(release, place):
     missing = [path for path in system.values() if not os.path.exists(path)]
     for name, path in system.items():
         if os.path.exists(path):
-            write(f"{to}/debian/{name}", read(path, "rb"))
+            write(f"{to}/debian/{name}", read_bytes(path))
     return "\n".join([
         "What the programs and libraries of v7 contain, and under which terms\n",
         "v7 itself: its owner has not chosen a licence yet. Until then nobody is given leave to copy or to change it.\n",
@@ -252,7 +247,7 @@ def pack(release, root, file):
 
 def squeeze(path):
     """Packs a file by gzip without a name and a date."""
-    write(f"{path}.gz", gzip.compress(read(path, "rb"), 9, mtime=0))
+    write(f"{path}.gz", gzip.compress(read_bytes(path), 9, mtime=0))
     os.remove(path)
 
 
@@ -326,7 +321,7 @@ def library_files(root):
     examples = [*(f"examples/{folder}" for folder in ("c", "cpp", "rust")), *sorted(glob.glob("examples/*.o"))]
     installed.documents(to, [*installed.LIBRARY_DOCUMENTS, *examples], False)
     module = f"{root}/usr/lib/python3/dist-packages/v7"
-    write(f"{module}/__init__.py", read("packaging/python/v7.py", "rb"))
+    write(f"{module}/__init__.py", read_bytes("packaging/python/v7.py"))
     write(f"{module}/py.typed", "")
 
 
@@ -362,7 +357,7 @@ def add_notices(release, package, root, notice):
 def control(release, package, root, libc):
     """The files by which dpkg installs a package."""
     files = sorted(path for path in glob.glob(f"{root}/**", recursive=True) if os.path.isfile(path) and not os.path.islink(path))
-    sums = "".join(f"{hashlib.md5(read(path, 'rb')).hexdigest()}  {os.path.relpath(path, root)}\n" for path in files)
+    sums = "".join(f"{hashlib.md5(read_bytes(path)).hexdigest()}  {os.path.relpath(path, root)}\n" for path in files)
     fields = {"version": release.version, "author": release.author, "libc": libc,
               "size": sum((os.path.getsize(path) + 1023) // 1024 for path in files)}
     relations = package.relations.format(**fields)

@@ -17,10 +17,10 @@ import shutil
 import subprocess
 import sys
 
-sys.path.insert(0, os.path.dirname(os.path.abspath(__file__)))
+sys.path.insert(1, os.path.dirname(os.path.dirname(os.path.abspath(__file__))))
+from tests.lib.files import TOP, read, read_bytes, write  # noqa: E402
 import completion  # noqa: E402
 
-TOP = completion.TOP
 # the program of each crate
 PROGRAMS = {"v7": "v7", "v7_from_gnu": "v7-from-gnu", "v7_object": "v7-object", "v7_explain": "v7-explain", "v7_lesson": "v7-lesson"}
 # the pages, each with the folder of its objects and its objects
@@ -38,17 +38,6 @@ STYLE = """body { max-width: 100ch; margin: 1em auto; padding: 0 1em; font-famil
 pre, table { overflow-x: auto; display: block } pre { background: #eee; padding: 0.5em }
 table { border-collapse: collapse } td, th { border: 1px solid #aaa; padding: 0.2em 0.5em; vertical-align: top } img { max-width: 100% }
 """
-
-
-def read(path, mode="r"):
-    with open(path, mode, encoding=None if "b" in mode else "utf-8") as file:
-        return file.read()
-
-
-def write(path, text):
-    os.makedirs(os.path.dirname(path), exist_ok=True)
-    with open(path, "wb") as file:
-        file.write(text.encode() if isinstance(text, str) else text)
 
 
 def version():
@@ -181,7 +170,7 @@ def documents(to, names, has_html, made=()):
         if path.startswith("man/"):
             write(f"{to}/{place}", manual_page(f"{TOP}/{path}"))
         elif not path.endswith(".md"):
-            write(f"{to}/{place}", read(f"{TOP}/{path}", "rb"))
+            write(f"{to}/{place}", read_bytes(f"{TOP}/{path}"))
         else:
             text = read(f"{TOP}/{path}")
             if path == README:
@@ -205,11 +194,11 @@ def lesson(program, folder, files):
 def put(build, to, has_html=None, made=()):
     """The programs of a folder, and what comes with them, below a folder. `made` are the files that are made besides."""
     for name in PROGRAMS.values():
-        write(f"{to}/bin/{name}", read(f"{build}/{name}", "rb"))
+        write(f"{to}/bin/{name}", read_bytes(f"{build}/{name}"))
     shutil.copytree(f"{TOP}/page", f"{to}/share/v7/page")
     for path in files_in(["man"]):
         if not path.endswith(".3"):
-            write(f"{to}/share/man/man{path[-1]}/{os.path.basename(path)}", read(f"{TOP}/{path}", "rb"))
+            write(f"{to}/share/man/man{path[-1]}/{os.path.basename(path)}", read_bytes(f"{TOP}/{path}"))
     documents(f"{to}/share/doc/v7", DOCUMENTS, has_tools() if has_html is None else has_html, [*PAGES, *made])
     for name, (folder, files) in PAGES.items():
         write(f"{to}/share/doc/v7/{name}", lesson(os.path.abspath(f"{build}/v7-lesson"), folder, files))

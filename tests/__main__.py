@@ -178,8 +178,7 @@ def run_unproved(tests):
 
 def programs_with(crate):
     """The programs, and libv7, that have a crate in them."""
-    heads = {**{name: head for name, (head, _) in CRATES.items()}, "libv7.so": "v7_c"}
-    return {name for name, head in heads.items() if crate in {it.name for it in crates_under(head)}}
+    return {name for name, head in {**CRATES, "libv7.so": "v7_c"}.items() if crate in {it.name for it in crates_under(head)}}
 
 
 def concern(path, test):

@@ -28,7 +28,8 @@ from tests.wrong_bodies import edits
 from tests.programs import largest
 from tests.lib.programs import ran
 from tests.lib.tally import Failed
-from tools.compiling import CRATES, compile_library, compile_program, uses_of
+from tools.compiling import CRATES, compile_program, uses_of
+from tools.sketch import compile_library
 
 CASES = os.path.join(TOP, "tests", "cases", "data")
 PAGE = "docs/internals/PLANTED.md"
@@ -44,7 +45,7 @@ PAGES = "page_data.py: pages"
 LARGEST[PAGES] = "$ v7-lesson\n$ v7\n$ v7-explain\n"
 MODULES = {"largest.py": "tests.programs.largest", "largest_library.py": "tests.libv7.largest_library", "page_data.py": "tests.page.page_data"}
 # what is compiled, and the crate of each
-COMPILED = {**{name: crate for name, (crate, _) in CRATES.items()}, "libv7": "v7_c"}
+COMPILED = {**CRATES, "libv7": "v7_c"}
 # for a command of a case, on a machine with other work too
 SECONDS = "300"
 # a compilation takes a processor and a gigabyte
@@ -120,7 +121,7 @@ def row_fails(folder, name):
     script, row = name.split(": ")
     words = [MODULES[script], *([] if name == PAGES else [row])]
     done = ran(sys.executable, "-m", *words, cwd=TOP, env={**os.environ, "LIBV7": os.path.join(folder, "libv7.so"), "V7_BUILD": folder})
-    if not re.search(r"^(?:programs|libv7): [01] of 1 answers .*\n\Z|^\d+ things of pages were compared|CalledProcessError", done.said(), re.M):
+    if not re.search(r"^(?:programs|libv7): [01] of 1 answers .*\n\Z|^\d+ things of pages were compared|(?:CalledProcess|JSONDecode)Error", done.said(), re.M):
         raise Fault(done.said())
     return done.status != 0
 

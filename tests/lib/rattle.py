@@ -1,11 +1,96 @@
-"""Sources in Rattle, and the list of crates."""
+"""What scripts read of sources in Rattle (`.rt`), of definitions (`.antt`), and of the list of crates: once for all."""
 import os
 import re
+from typing import NamedTuple
 
 from tests.lib.files import read
 
 # the head of a function: what is before it, whether it is public, and its name
 FUNCTION = re.compile(r'^( *)(pub(?:\(\w+\))? )?(?:const |unsafe |extern "C" )*fn (\w+)', re.M)
+CLAUSE = re.compile(r"\s*(?:ensures|requires|invariant)\b")
+# what a source gives a name: an item, or a clause
+NAMED = re.compile(r"\b(?:fn|struct|enum|trait|type|mod|const|static) ([A-Za-z_]\w*)|\b(?:ensures|requires|invariant) (\w+) \{")
+TEXT = re.compile(r'"(?:\\.|[^"\\])*"|\'(?:\\.[^\']*|[^\'\\])\'')
+# a definition: what says of which kind it is, its name, and what follows; and a constructor or a field
+STATED = re.compile(r"^((?:(?:abbrev|unfoldable|record|data|def|rec|pub) +)*)([^\s({:]+)(.*)$")
+MEMBER = re.compile(r"^ +(?:pub )?([^\s:(){}=]+) :", re.M)
+
+
+class Function(NamedTuple):
+    """A function: what it is given (`pub `, or nothing), and the lines of its head, and of each clause of its contract."""
+    name: str
+    given: str
+    signature: list
+    clauses: list
+
+    def head(self):
+        """Its head and its contract."""
+        return "\n".join(line for part in (self.signature, *self.clauses) for line in part)
+
+
+class Definition(NamedTuple):
+    """A definition: its name, whether it is public, what follows the name, the names that it gives, and its lines."""
+    name: str
+    is_public: bool
+    rest: str
+    names: set
+    lines: list
+
+
+def depth(lines):
+    """How many brackets are open after some lines, past those in texts and characters."""
+    plain = TEXT.sub("", "\n".join(lines))
+    return sum(map(plain.count, "({[")) - sum(map(plain.count, ")}]"))
+
+
+def items(text):
+    """The items at the left of a source, each as its lines, without its tests, and without attributes and comments before them."""
+    item = []
+    for line in re.sub(r"#\[cfg\(test\)\].*", "", text, flags=re.S).split("\n"):
+        if item or line and not line.startswith(("#", "//", " ", "}")):
+            item.append(line)
+        if item and (line in ("}", "{}") or not line.startswith((" ", ")", "{")) and line.endswith((";", "}"))):
+            yield item
+            item = []
+    if item:
+        yield item
+
+
+def clauses(lines):
+    """The clauses with which some lines begin, each as its lines."""
+    while lines and CLAUSE.match(lines[0]):
+        length = next((at for at in range(1, len(lines)) if depth(lines[:at]) <= 0), len(lines))
+        yield lines[:length]
+        lines = lines[length:]
+
+
+def every_clause(lines):
+    """Each clause of some lines, wherever it is."""
+    return [next(clauses(lines[at:])) for at, line in enumerate(lines) if CLAUSE.match(line)]
+
+
+def functions(lines):
+    """The functions of some lines."""
+    for at, line in enumerate(lines):
+        found = FUNCTION.match(line)
+        if found:
+            end = at + 1
+            while depth(lines[at:end]) > 0 and not lines[end - 1].endswith("{") and end < len(lines):
+                end += 1
+            yield Function(found[3], found[2] or "", lines[at:end], [*clauses(lines[end:])])
+
+
+def definitions(text):
+    """The definitions of a file. Imports, comments and empty lines belong to none; an empty line ends one."""
+    lines = []
+    for line in text.split("\n") + [""]:
+        if line.strip() and not re.match(r" *--|(?:pub )?(?:use|mod) |module ", line):
+            lines.append(line)
+        elif lines and not line.strip():
+            words, name, rest = STATED.match(lines[0].strip()).groups()
+            names = {name, *MEMBER.findall("\n".join(lines))} if "data" in words.split() else {name}
+            yield Definition(name, "pub" in words.split(), rest.strip(), names, lines)
+            lines = []
 
 
 def crates_in(top):

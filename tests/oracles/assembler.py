@@ -1,8 +1,10 @@
 """Compares what examples/asm.py makes with what GNU's assembler and `v7-from-gnu` made of the same source, byte for byte, and with the
-objects that were written by hand; and each of its messages with the line and the column of the mistake.
+objects that were written by hand; and each of its messages with the line and the column of the mistake. Each listing of examples makes
+the object of its name.
 
-tier: check, 5 seconds; programs: v7-from-gnu; for: examples crates/gnu_objects
+tier: check, 5 seconds; programs: v7-from-gnu v7-object; for: examples crates/gnu_objects crates/listings
 """
+import glob
 import os
 import sys
 import tempfile
@@ -52,6 +54,10 @@ def main():
             made = asm.assembled(read(os.path.join(EXAMPLES, f"{name}.s")))
             same(f"{name}.s", made, read_bytes(stored))
             notices(same, f"{name}.s", made, read_bytes(stored)[:-1])
+        for listing in glob.glob(f"{EXAMPLES}/*.lst") + glob.glob(f"{EXAMPLES}/total/*.lst"):
+            same(listing, ran(program("v7-object"), listing, f"{room}/listed").texts(), (0, "", ""))
+            if os.path.exists(listing[:-3] + "o"):
+                same(listing, read_bytes(f"{room}/listed"), read_bytes(listing[:-3] + "o"))
         for source, wanted in MISTAKES:
             path = os.path.join(room, "mistake.s")
             write(path, source)

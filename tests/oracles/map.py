@@ -14,13 +14,12 @@ a map of some names too (-y), with names that are too long, absent or asked for 
 """
 import os
 import random
-import struct
 import sys
 
 from tests.lib.compare import notices, same
 from tests.lib.files import TOP, read_bytes, room, write
 from tests.lib.programs import program, ran
-from tests.oracles import disassembly
+from tests.oracles import disassembly, model
 
 EXAMPLES = os.path.join(TOP, "examples")
 OPTIONS = [[], ["-n"], ["-i"], ["-r"], ["-r", "-d"], ["-x"], ["-X"], ["-s"], ["-u", "_forced"], ["-e", "_a"], ["-d"]]
@@ -204,20 +203,13 @@ def check_report(what, found, report):
     return undefined
 
 
-class File:
-    """An object or a linked file, as far as limits need it."""
-
-    def __init__(self, data):
-        self.magic, self.text, self.data, self.bss, table, self.entry, _, flag = struct.unpack("<8H", data[:16])
-        segments = 0 if flag else self.text + self.data
-        at = 16 + self.text + self.data
-        self.relocation = struct.unpack_from(f"<{segments // 2}H", data, at)
-        symbols = (struct.unpack_from("<8sHH", data, at + segments + place) for place in range(0, table, 12))
-        self.symbols = [(name.split(b"\0")[0], kind) for name, kind, _ in symbols]
-
-
 def file_at(path):
-    return File(read_bytes(path))
+    return model.read_file(read_bytes(path))
+
+
+def sizes_of(file):
+    """The bytes of text, data and bss."""
+    return [file.size(segment) for segment in model.SEGMENTS]
 
 
 def limit(label, used, most):
@@ -226,10 +218,9 @@ def limit(label, used, most):
     return f"  {label:<14}{used:>8}{most:>8}{left}"
 
 
-def sum_limits(objects):
-    """The limits of all objects together."""
-    sums = [sum(sizes) for sizes in zip(*((o.text, o.data, o.bss) for o in objects))]
-    return [limit(label, used, 65534) for label, used in zip(("text", "data", "bss"), sums)]
+def sum_limits(sizes):
+    """The limits of the sizes of all objects together."""
+    return [limit(label, sum(used), 65534) for label, used in zip(("text", "data", "bss"), zip(*sizes))]
 
 
 def end_of(options, sizes):
@@ -242,9 +233,9 @@ def end_of(options, sizes):
 def limits_of(options, paths, linked, end):
     """The limits of a link that is made: of its objects, of its end, of the linked file, and of its names."""
     objects = [file_at(path) for path in paths]
-    names = {name for o in objects for name, kind in o.symbols if kind & 0o40} | ({b"_forced"} if "-u" in options else set())
-    number = max((reloc >> 4 for reloc in linked.relocation if reloc & 0o16 == 0o10), default=0)
-    lines = [*sum_limits(objects), limit("end of bss", end, 65535), limit("symbols", len(linked.symbols), 5461)]
+    names = {it.name for o in objects for it in o.symbols if it.type & 0o40} | ({b"_forced"} if "-u" in options else set())
+    number = max((reloc >> 4 for words in linked.words.values() for _, reloc in words if reloc & 0o16 == 0o10), default=0)
+    lines = [*sum_limits(map(sizes_of, objects)), limit("end of bss", end, 65535), limit("symbols", len(linked.symbols), 5461)]
     return lines + [limit("symbol number", number, 4095)] * ("-r" in options) + [limit("externals", len(names), 65535)]
 
 
@@ -264,7 +255,8 @@ def check_segments(what, found, options, paths, linked):
     """Each segment begins where the one before it ends, but for data, which begins by the options; commons are in the bss of the file."""
     objects = [file_at(path) for path in paths]
     bss = sum(o.bss for o in objects)
-    sizes = [("text", linked.text), ("data", linked.data), ("commons", linked.bss - bss), ("bss", bss)]
+    text, data, all_bss = sizes_of(linked)
+    sizes = [("text", text), ("data", data), ("commons", all_bss - bss), ("bss", bss)]
     lines, at = [], 0
     for name, size in sizes:
         if name == "data" and "-n" in options:
@@ -415,8 +407,7 @@ def largest_of(objects):
 def check_sizes(what, objects):
     """The limits of objects whose link is refused, and the largest of them."""
     found = parts(explain(*[f"{place}.o" for place in range(len(objects))])[1])
-    sizes = [File(struct.pack("<8H", 0o407, 2 * o.text, 2 * o.data, 2 * o.bss, 0, 0, 0, 1) + bytes(2 * (o.text + o.data))) for o in objects]
-    same(f"{what}: limits", found["Limits"][:3], sum_limits(sizes))
+    same(f"{what}: limits", found["Limits"][:3], sum_limits((2 * o.text, 2 * o.data, 2 * o.bss) for o in objects))
     same(f"{what}: largest objects", found["Largest objects"], largest_of(objects))
 
 

@@ -10,11 +10,10 @@ objects of instructions.
 import random
 import re
 import struct
-import subprocess
 
 from tests.lib.compare import notices, same
 from tests.lib.files import room, write
-from tests.lib.programs import program
+from tests.lib.programs import program, ran
 from tests.oracles.disassembly import File as Text
 
 PROGRAMS = {0o405: "an overlay", 0o407: "a program", 0o410: "a program, pure text", 0o411: "a program, separate text and data"}
@@ -372,12 +371,17 @@ def files():
     yield from (random_code() for _ in range(1000))
 
 
+def answered(status, *words):
+    """What v7-explain writes, which has to end with this status."""
+    came = ran(EXPLAIN, *words).texts()
+    same(" ".join(words[:2]), came[0], status)
+    return came[1:]
+
+
 def explained(paths):
     """The notes of each file, in order."""
-    done = subprocess.run([EXPLAIN, *paths], stdout=subprocess.PIPE, stderr=subprocess.PIPE, check=False)
-    assert (done.returncode, done.stderr) == (1, b""), (done.returncode, done.stderr)
     notes = []
-    for line in re.findall(r"^/ (.*)$", done.stdout.decode("ascii"), re.M):
+    for line in re.findall(r"^/ (.*)$", answered(1, *paths)[0], re.M):
         if re.match(r"f\d+\.o: ", line):
             notes.append([])
         notes[-1].append(line)
@@ -386,10 +390,8 @@ def explained(paths):
 
 def checked(paths):
     """What `-c` says of each file."""
-    done = subprocess.run([EXPLAIN, "-c", *paths], stdout=subprocess.PIPE, stderr=subprocess.PIPE, check=False)
-    assert (done.returncode, done.stdout) == (1, b""), done
     lines = {path: [] for path in paths}
-    for line in done.stderr.decode("ascii").splitlines():
+    for line in answered(1, "-c", *paths)[1].splitlines():
         path, _, text = line.removeprefix("v7-explain: ").partition(": ")
         lines[path].append(text)
     return lines
@@ -397,9 +399,7 @@ def checked(paths):
 
 def inventoried(paths):
     """The line of each file in an inventory."""
-    done = subprocess.run([EXPLAIN, "-l", *paths], stdout=subprocess.PIPE, stderr=subprocess.PIPE, check=False)
-    assert (done.returncode, done.stderr) == (0, b""), done
-    return done.stdout.decode("ascii").splitlines()
+    return answered(0, "-l", *paths)[0].splitlines()
 
 
 def compare(path, data, found, expected):
@@ -421,7 +421,7 @@ def main():
         compare(path, data, without_suspicious(notes), expected)
         compare(f"-c {path}", data, without_suspicious(refused[path]), why)
         sure = [note for note in refused[path] if DOUBT not in note and not MORE.match(note)]
-        alone = subprocess.run([EXPLAIN, "-c", path], stderr=subprocess.DEVNULL, check=False).returncode
+        alone = ran(EXPLAIN, "-c", path).status
         # one that is sure may not be shown
         if sure or len(refused[path]) <= MOST:
             compare(f"-c {path}", data, [alone], [1 if sure else 0])

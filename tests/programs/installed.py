@@ -17,7 +17,7 @@ import sys
 import tempfile
 
 import installed
-from tests.lib.files import TOP, write
+from tests.lib.files import TOP, read, write
 from tests.lib.programs import BUILD
 
 NOBODY = 65534
@@ -41,14 +41,14 @@ class Page(html.parser.HTMLParser):
 
 def names_in(path):
     """The places in a file that a link can name."""
-    text = installed.read(path)
+    text = read(path)
     if path.endswith(".html"):
         return Page(text).names
     return {re.sub(r"[^\w\- ]", "", name.lower()).replace(" ", "-") for name in re.findall(r"^#+ (.*)$", text, re.M)}
 
 
 def links_of(path):
-    text = installed.read(path)
+    text = read(path)
     if path.endswith(".html"):
         return Page(text).links
     return [target + (heading or "") for line, is_prose in installed.prose(text) if is_prose
@@ -70,7 +70,7 @@ def dead_in(path):
 
 def wide_in(path):
     """The lines of prose that are too wide. A word alone may be."""
-    for number, (line, is_prose) in enumerate(installed.prose(installed.read(path)), 1):
+    for number, (line, is_prose) in enumerate(installed.prose(read(path)), 1):
         if is_prose and len(line) > installed.WIDTH and not line.startswith(("|", "#", "!")) and " " in line.strip():
             yield f"{path}:{number}: {len(line)} columns"
 
@@ -95,7 +95,7 @@ def make():
         subprocess.run([sys.executable, script, "copy", stage, dest, "/usr/local"], check=True)
         root = f"{dest}/usr/local"
         faults, pages, links = look(root)
-        version = re.search(r'^#define V7_VERSION "(.*)"', installed.read(f"{TOP}/include/v7.h"), re.M)[1]
+        version = re.search(r'^#define V7_VERSION "(.*)"', read(f"{TOP}/include/v7.h"), re.M)[1]
         write(f"{root}/planted.md", "[a link](none.md)\n")
         faults += [] if look(f"{root}/planted.md")[0] else ["a planted link that is dead is not found"]
         os.remove(f"{root}/planted.md")

@@ -14,6 +14,7 @@ import re
 import sys
 
 from tests.lib.files import read, write
+from tests.lib.rattle import functions, items
 
 USES = "crates/library_uses/src"
 LIBRARIES = [
@@ -43,23 +44,6 @@ def modules(crate):
         yield module, "", (names | types if "/" in module else names)
 
 
-def items(text):
-    """The items of a file, each as its lines. A line that begins with an attribute or a comment is left out."""
-    item = []
-    for line in text.splitlines():
-        if item or line and not line.startswith(("#", "//", " ", "}")):
-            item.append(line)
-        if item and (line in ("}", "{}") or not line.startswith((" ", ")", "{")) and line.endswith((";", "}"))):
-            yield item
-            item = []
-    if item:
-        yield item
-
-
-def balanced(text):
-    return text.count("{") == text.count("}") and text.count("(") == text.count(")")
-
-
 def joined(lines):
     """Some lines as one: the parameters of a function, or a clause."""
     text = " ".join(line.strip() for line in lines)
@@ -75,34 +59,14 @@ def shortened(text, receiver):
     return text
 
 
-def functions(lines, is_trait=False):
-    """The public functions of some lines, each with its name, its head and its clauses."""
-    form = re.compile(r"\s*(?:pub )?fn (\w+)" if is_trait else r"\s*pub fn (\w+)")
-    at = 0
-    while at < len(lines):
-        found = form.match(lines[at])
-        if not found:
-            at += 1
-            continue
-        head = [lines[at]]
-        while not balanced(joined(head)) or not re.match(r"\s*(ensures|requires|where)\b|\s*\{", lines[at + 1]):
-            if balanced(joined(head)) and head[-1].endswith((";", "{}")) or head[-1].endswith("{"):
-                break
-            at += 1
-            head.append(lines[at])
-        signature = re.sub(r"\s*(;|\{\}|\{)$", "", joined(head)).replace("pub fn", "fn", 1)
-        receiver = re.search(r"\(([^,)]*)", signature)[1]
-        clauses = []
-        at += 1
-        while at < len(lines) and re.match(r"\s*(ensures|requires)\b", lines[at]):
-            clause = [lines[at]]
-            while not balanced(joined(clause)):
-                at += 1
-                clause.append(lines[at])
-            kind, name, text = re.match(r"(\w+\*?) ?(\w*) ?\{ (.*) \};?$", joined(clause)).groups()
-            clauses.append(f"  {kind}{name and ' ' + name}: {shortened(text, receiver)}")
-            at += 1
-        yield found[1], signature, clauses
+def listed(item, is_trait=False):
+    """The public functions of an item, each with its name, its head and its clauses in one line each."""
+    for it in functions(item):
+        if is_trait or it.given == "pub ":
+            signature = re.sub(r"\s*(;|\{\}|\{)$", "", joined(it.signature)).replace("pub fn", "fn", 1)
+            receiver = re.search(r"\(([^,)]*)", signature)[1]
+            clauses = [re.match(r"(\w+\*?) ?(\w*) ?\{ (.*) \};?$", joined(lines)).groups() for lines in it.clauses]
+            yield it.name, signature, [f"  {kind}{name and ' ' + name}: {shortened(text, receiver)}" for kind, name, text in clauses]
 
 
 def ghosts(lines, is_shown):
@@ -141,13 +105,13 @@ def contracts_of(item, prefix, names):
     implemented = IMPL.match(item[0])
     trait = re.match(r"pub trait (\w+)(.*?) \{$", item[0])
     if alone and exported(alone[1]):
-        for name, signature, clauses in functions(item):
+        for name, signature, clauses in listed(item):
             yield signature.replace(f"fn {name}", f"fn {prefix}{name}", 1)
             yield from clauses
     elif trait and exported(trait[1]):
         yield f"trait {prefix}{trait[1]}{trait[2]}"
         yield from ghosts(item, lambda name: name in SEEN)
-        for name, signature, clauses in functions(item, is_trait=True):
+        for name, signature, clauses in listed(item, is_trait=True):
             yield signature.replace(f"fn {name}", f"fn {prefix}{trait[1]}::{name}", 1)
             yield from clauses
     elif implemented and exported(implemented[3]):
@@ -162,10 +126,9 @@ def contracts_of(item, prefix, names):
                 yield f"impl {of} for {shown}"
                 yield from seen
         else:
-            for function, signature, clauses in functions(item):
+            for function, signature, clauses in listed(item):
                 yield signature.replace(f"fn {function}", f"fn {prefix}{name}::{function}", 1) + bounds(generics)
                 yield from clauses
-
 
 
 # --- the head of lib.rt
@@ -227,8 +190,8 @@ def caller_in(path, uses):
 def page_for(crate, text, uses):
     """The page as the sources give it; its paragraph, and which file is quoted, are its own."""
     text = CALLER.sub(lambda found: found[1] + (caller_in(found[2], uses) if found[2] in uses else ""), text, count=1)
-    listed = "\n".join(contracts(crate))
-    return CONTRACTS.sub(lambda found: f"{found[1]}{KEY}\n\n```text\n{listed}\n```\n", text, count=1)
+    lines = "\n".join(contracts(crate))
+    return CONTRACTS.sub(lambda found: f"{found[1]}{KEY}\n\n```text\n{lines}\n```\n", text, count=1)
 
 
 def words_of(crate):

@@ -1,28 +1,18 @@
 """Sees that what documents cite is there.
 
-INDEX has places: `CRATE/file::name` is a function, a type or a constant of the code, or a definition if the file is one of specs/; in the
-column of tests it is a test, or `FILE.case::name` a case. PROOFS names contracts, and definitions with their files. It quotes the code, and LIBRARY the examples: a block that is indented by
+PROOFS quotes the code, and LIBRARY the examples: a block that is indented by
 four blanks quotes the file whose path, in backquotes, is the last one before it; its comments are the page's own, and a clause that the
 file has on several lines may be on one. A block of commands is not a quotation. TRUST has the theorem as README states it, word for
 word. The manual and the second writings have each kind of remark that v7.h has.
 
-tier: text, 2 seconds; for: docs/internals/INDEX.md docs/PROOFS.md docs/TRUST.md docs/LIBRARY.md man/v7-explain.1 crates/findings
+tier: text, 2 seconds; for: docs/PROOFS.md docs/TRUST.md docs/LIBRARY.md man/v7-explain.1 crates/findings
 """
-import glob
-import os
 import re
 import unittest
-from collections import defaultdict
 
 from tests.lib.compare import notices, same
 from tests.lib.files import read
 
-INDEX = "docs/internals/INDEX.md"
-CELL = re.compile(r"`(?:(\w+)/)?([\w/]+|\w+\.case)::(\w+)`")
-CODE = r"\b(?:fn|const|static|struct|enum|trait) {}\b"
-DEFINITION = r"^(?:abbrev|unfoldable|record|data|def) (?:rec )?(?:pub )?{}(?=[ :]|$)|^ *(?:abbrev |unfoldable |record |data )?pub (?:data |record |abbrev )?{}(?=[ :]|$)"
-CASE = r"^case {}$"
-TEST = r"#\[test\]\s+(?:#\[[^\n]*\]\s+)*fn {}\b"
 COMMANDS = ("cc ", "c++ ", "python3 ", "rustc ")
 # each kind of remark, a text of its line in the second writings, and a text of the manual on it
 REMARKS = """
@@ -53,60 +43,6 @@ NO_INSTRUCTION: where none begins: a word that begins no instruction
 BRANCH_OUTSIDE: the branch at: leads out of the text
 BRANCH_WITHIN: the branch at: within another instruction
 """
-
-
-def rows(text):
-    """The rows of INDEX: the number of each line, its cells, and the heading of each column."""
-    header = []
-    for number, line in enumerate(text.split("\n"), 1):
-        if line.startswith("|") and not set(line.strip()) <= set("|-"):
-            cells = [cell.strip() for cell in line.strip().strip("|").split(" | ")]
-            if cells[1:] == ["Code", "Definition", "Proved by", "Test"]:
-                header = cells
-            else:
-                yield number, cells, header
-
-
-def fault_of(crate, file, name, column):
-    """Why a place of INDEX is not there, or None."""
-    is_case = column == "Test" and not crate and file.endswith(".case")
-    is_definition = file.split("/")[-1][0].isupper()
-    path = f"tests/cases/data/{file}" if is_case else f"crates/{crate}/specs/{file}.antt" if is_definition else f"crates/{crate}/src/{file}.rt"
-    if not os.path.exists(path):
-        return f"there is no {path}"
-    form = CASE if is_case else DEFINITION if is_definition else TEST if column == "Test" else CODE
-    return None if re.search(form.replace("{}", re.escape(name)), read(path), re.M) else f"{path} has no {name}"
-
-
-def index_faults(text):
-    """What is wrong in INDEX."""
-    for number, cells, header in rows(text):
-        if len(cells) != len(header):
-            yield f"{INDEX}:{number}: {len(cells)} cells"
-            continue
-        for column, cell in list(zip(header, cells))[1:]:
-            names = CELL.findall(cell)
-            if not names or len(names) != cell.count("`") // 2:
-                yield f"{INDEX}:{number}: nothing, or no place, under {column}"
-            yield from (f"{INDEX}:{number}: {fault}" for crate, file, name in names if (fault := fault_of(crate, file, name, column)))
-
-
-def proof_faults(text):
-    """The contracts and definitions that PROOFS names and that are not there: a function, a type or a clause; and a name in a file."""
-    code = "\n".join(read(path) for path in glob.glob("crates/*/src/**/*.rt", recursive=True))
-    known = {*re.findall(r"\b(?:fn|struct|enum|trait|ensures) (\w+)", code), *os.listdir("crates"), "Display"}
-    files = defaultdict(str)
-    for path in glob.glob("crates/*/specs/**/*.antt", recursive=True):
-        files[os.path.basename(path)[:-5]] += read(path)
-    for number, line in enumerate(text.split("\n"), 1):
-        cells = line.split(" | ") if line.startswith("| ") else []
-        if len(cells) == 4 and cells[1] != "Contract of":
-            names = [name.split("::")[-1] for name in re.findall(r"`([^`]+)`", cells[1])]
-            yield from (f"docs/PROOFS.md:{number}: there is no {name} with a contract" for name in names if name not in known)
-            for listed, places in re.findall(r"((?:`[^`]+`(?:, | and )?)+) \(([^)]*)\)", cells[2]):
-                theirs = "".join(files[place] for place in re.findall(r"[A-Z]\w+", places))
-                names = re.findall(r"`(?:\w+\.)?([^`]+)`", listed) if "the kit" not in places else []
-                yield from (f"docs/PROOFS.md:{number}: {places} has no {name}" for name in names if not re.search(rf"(?<!\w){re.escape(name)}(?!\w)", theirs))
 
 
 def quotes(text):
@@ -164,12 +100,6 @@ class Cited(unittest.TestCase):
             same("faults", list(faults(of)), [])
         notices(none, text.replace(known, changed))
         none(text)
-
-    def test_index(self):
-        self.compare(index_faults, read(INDEX), "::read_file`", "::read_files`")
-
-    def test_proofs(self):
-        self.compare(proof_faults, read("docs/PROOFS.md"), "`decode` (Decoding)", "`decode` (Encoding)")
 
     def test_quotes(self):
         for page, known, changed in (("docs/PROOFS.md", "self.old.entries ≡ []", "self.old.entries ≡ self.new.entries"),

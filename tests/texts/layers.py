@@ -1,5 +1,5 @@
 """Draws the crates by the sections of crates.txt, each with its layer: a crate uses only crates of lower layers. Compares the picture with
-that of docs/ARCHITECTURE.md, and sees that PROOFS and INDEX have the sections too.
+that of docs/ARCHITECTURE.md, and sees that the headings of docs/PROOFS.md begin with the sections of their crates.
 
 usage: python3 -m tests.texts.layers            compares; status 1 if they differ
        python3 -m tests.texts.layers -p         prints the picture
@@ -43,7 +43,7 @@ def picture(parts):
 
 
 def wrong_headings(parts, text):
-    """The headings of PROOFS or INDEX that begin with other sections than those of the crates that they name."""
+    """The headings of PROOFS that begin with other sections than those of the crates that they name."""
     for heading, names in re.findall(r"^## ([\w ]+): .*?((?: \(.*\))?)$", text, re.M):
         of_crates = {section for section, crates in parts.items() if {*crates} & {*re.findall(r"`(\w+)`", names)}}
         named = {it[:1].lower() + it[1:] for it in heading.split(" and ")}
@@ -52,9 +52,8 @@ def wrong_headings(parts, text):
 
 
 def compare(parts, text):
-    """The picture is in a text, each crate in a section, and the sections are in the headings of PROOFS and INDEX."""
-    for page in ("docs/PROOFS.md", "docs/internals/INDEX.md"):
-        same(f"{page}: headings with other sections", [*wrong_headings(parts, read(page))], [])
+    """The picture is in a text, each crate in a section, and the sections are in the headings of PROOFS."""
+    same("docs/PROOFS.md: headings with other sections", [*wrong_headings(parts, read("docs/PROOFS.md"))], [])
     same("crates of the sections", sorted(name for names in parts.values() for name in names), sorted(crates_in(TOP)))
     shown = re.findall(r"\n\n((?:    \w[\w ]* \d .*\n(?:    .*\n)*)+)\n", text)
     same(f"{PAGE}: the picture", "".join(shown).split("\n")[:-1], picture(parts))

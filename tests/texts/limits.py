@@ -1,6 +1,7 @@
 """Compares the limits that the documents name with the constants of the code that enforce them. Where a constant, or the number in a
-document, is another one, the text of the document is not found. Each limit is changed once to see that this is noticed. The version
-of Python in README is the one that the scripts need, as far as words that came with a version show.
+document, is another one, the text of the document is not found. Each limit is changed once to see that this is noticed. The version of
+v7.h is that of the programs and packages. The version of Python in README is the one that the scripts need, as far as words that came
+with a version show.
 
 tier: text, 1 seconds; for: docs/LINK.md README.md
 """
@@ -63,6 +64,9 @@ LIMITS = [
     }),
 ]
 
+# where the version is
+VERSIONS = {"crates/surroundings/src/shown.rt": 'VERSION: &str = "{}";', "packaging/python/v7.py": '__version__ = "{}"', "README.md": "version {}, ",
+            "packaging/rust/Cargo.toml": '\nversion = "{}"', "packaging/rust/v7-sys/Cargo.toml": '\nversion = "{}"'}
 # words that came with a version of Python
 NEWER = {9: r"\.remove(?:prefix|suffix)\(|\bmath\.lcm\(|\bast\.unparse\(|[\"\']user[\"\']: |-> (?:list|dict|tuple|set)\[",
          10: r"^ *match .*:$|\bstrict=|\bpairwise\(|\bbit_count\(", 11: r"\btomllib\b|\bStrEnum\b|\bExceptionGroup\b"}
@@ -75,8 +79,8 @@ def value_of(path, name):
 
 
 def missing(value, texts):
-    """The documents that do not have a limit with this value."""
-    return [page for page, text in texts.items() if text.format(f"{value:,}") not in read(page)]
+    """The files that do not have a text with this value."""
+    return [page for page, text in texts.items() if text.format(f"{value:,}" if isinstance(value, int) else value) not in read(page)]
 
 
 def wrong_python():
@@ -87,7 +91,10 @@ def wrong_python():
 
 
 def main():
-    faults = wrong_python()
+    version = re.search(r'^#define V7_VERSION "(.*)"', read("include/v7.h"), re.M)[1]
+    faults = wrong_python() + [f"{page}: not version {version}" for page in missing(version, VERSIONS)]
+    if missing(version + ".1", VERSIONS) != list(VERSIONS):
+        faults.append("another version is not noticed")
     for path, name, texts in LIMITS:
         value = value_of(path, name)
         if value is None:

@@ -10,23 +10,22 @@ from collections import defaultdict
 
 from tests.lib.compare import notices, same
 from tests.lib.files import read
+from tests.lib.rattle import definitions
 
-STATED = re.compile(r"^((?:(?:abbrev|unfoldable|record|data|def|rec|pub) )+)([^\s:({]+)(.*)$", re.M)
 NOTED = """
-row_of 7 place_text 6 program 5 number_text 4 name_of 4 name_in 4 size_text 4 unless 4 shown 4 header_of 3 with_names 3 asked_by 3
+row_of 7 place_text 6 program 5 number_text 4 name_of 4 name_in 4 size_text 4 unless 4 shown 4 header_of 3 with_names 3
 Answer 3 symbol_at 3 word_text 3 range_text 3 is_shown 3 place_of 3 instruction_text 3 object_of 3 line_of 3 words_of 3 listed 3
-bytes_of 3 object_in 3 entry_of 3 IsStoring 3 is_text 3
+bytes_of 3 object_in 3 entry_of 3 IsStoring 3 is_text 3 Says 3
 """
 
 
-def definitions():
+def promised():
     """The names that promises may cite: for each the crates that define it, with its types."""
     found = defaultdict(lambda: defaultdict(set))
     for path in glob.glob("crates/*/specs/**/*.antt", recursive=True):
-        if "/internal" not in path:
-            for words, name, rest in STATED.findall(read(path)):
-                if "pub" in words.split() and name not in ("mod", "use"):
-                    found[name][path.split("/")[1]].add(rest.strip())
+        for it in definitions(read(path)) if "/internal" not in path else []:
+            if it.is_public:
+                found[it.name][path.split("/")[1]].add(it.rest)
     return found
 
 
@@ -44,7 +43,7 @@ def compare(found):
 
 
 def main():
-    found = definitions()
+    found = promised()
     notices(compare, {**found, "image": {"a": {": ℕ"}, "b": {": Bool"}, "c": {": ℕ"}}})
     print(f"{len(found)} definitions; {compare(found)} names that three crates have with several types are noted")
 

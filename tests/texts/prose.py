@@ -13,6 +13,7 @@ import re
 import sys
 
 from tests.lib.files import read
+from tests.lib.rattle import NAMED
 
 # a habit, how it is found, a sentence that has it, and the same in plain English
 HABITS = [
@@ -48,7 +49,7 @@ WORDS = {
     "the same plainly": ("unasked", "meanwhile", "thereby", "whereby", "therein", "hereby", "whoever"),
 }
 LONGEST = 50
-MOST_LINES = 2990
+MOST_LINES, WIDEST = 2900, 142
 
 # where a habit has to stay: the file, a text of the line, and why
 MOST_EXCEPTIONS = 40
@@ -172,7 +173,6 @@ def prose_of(path, lines):
     return list(prose_of_source(path, lines))
 
 
-DEFINED = re.compile(r"\b(?:fn|struct|enum|trait|type|mod|const|static) ([A-Za-z_]\w*)|\b(?:ensures|requires|invariant) (\w+) \{")
 BODY = re.compile(r"(\s*)(?:pub(?:\([^)]*\))? )?(?:struct|enum) \w[^;(]*\{$")
 MEMBER = re.compile(r"\s*(?:pub(?:\([^)]*\))? )?(\w+)(?:: |\(|,$| \{)")
 STATED = re.compile(r"(?:(?:pub|abbrev|unfoldable|record|data|mod) )*([^\s:(){}=]+)(?: [^:=]*)?(?: :|$)|  (?:pub )?([^\s:(){}=]+) : ")
@@ -184,7 +184,7 @@ def names_of_code(lines):
     for number, text in enumerate(lines, 1):
         if re.match(r"\s*//", text):
             continue
-        for item, clause in DEFINED.findall(re.sub(r'"(?:\\.|[^"\\])*"', '""', text)):
+        for item, clause in NAMED.findall(re.sub(r'"(?:\\.|[^"\\])*"', '""', text)):
             yield number, item or clause
         begins = BODY.match(text)
         if begins:
@@ -320,8 +320,10 @@ def dead_in(path, text):
 
 def too_long(texts):
     """Whether README.md and docs have more lines than they may: then a document says what another one says too."""
-    lines = sum(text.count("\n") for path, text in texts.items() if path == "README.md" or path.startswith("docs/"))
-    return [f"README.md and docs have {lines:,} lines, and {MOST_LINES:,} are the most"] if lines > MOST_LINES else []
+    lines = [line for path, text in texts.items() if path == "README.md" or path.startswith("docs/") for line in text.split("\n")[:-1]]
+    wide = [line for line in lines if len(line) > WIDEST and not line.startswith(("|", "    "))]
+    said = [f"README.md and docs have {len(lines):,} lines, and {MOST_LINES:,} are the most"] if len(lines) > MOST_LINES else []
+    return said + [f"a line of {len(line)} columns, and {WIDEST} are the most: {line[:60]}" for line in wide]
 
 
 def make_targets():
@@ -410,7 +412,7 @@ def check_itself():
     shown = ["    $ v7 nm a.o", "", "    make nothing", "", "Run `make other`, and `python3 -m tests none`."]
     if len(list(commands_in("x.md", shown, set(), {"other"}, set()))) != 4:
         faults.append("tests/texts/prose.py: a command that no check runs is not found")
-    if len(too_long({"README.md": "\n", "docs/A.md": "\n" * MOST_LINES})) != 1 or too_long({"docs/A.md": "\n" * MOST_LINES}):
+    if len(too_long({"README.md": "x" * WIDEST + "x\n", "docs/A.md": "\n" * MOST_LINES})) != 2 or too_long({"docs/A.md": "\n" * MOST_LINES}):
         faults.append("tests/texts/prose.py: too many lines are not found")
     return faults
 

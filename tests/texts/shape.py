@@ -14,6 +14,7 @@ import subprocess
 import sys
 
 from tests.lib.files import read
+from tests.lib.rattle import every_clause
 
 # the files that have lines over TOO_WIDE, each with how many
 NOTED = """
@@ -34,8 +35,6 @@ crates/v7_c/proofs/slot/Slot/of/Proof.antt 3
 # tests that compare nothing, or that are judged by another: `cases -b` plays cases that have to fail
 NO_COMPARER = ["cases", "demo", "dist", "recheck", "room", "simulate"]
 WIDE, TOO_WIDE, WIDE_CLAUSE = 140, 160, 100
-CLAUSE = re.compile(r"^\s*(?:ensures|requires|invariant)\b")
-QUOTED = re.compile(r'"(?:\\.|[^"\\])*"|\'(?:\\.[^\']*|[^\'\\])\'')
 STATEMENT = re.compile(r"^(?:pub )?([^\s:(){}]+) : ")
 
 
@@ -56,21 +55,6 @@ def lemmas(path):
     return len(found), sum(at > 0 and text[at - 1].startswith("--") for at in found)
 
 
-def clauses(path):
-    """The clauses of a source, each as its lines: up to the brace that closes it, past braces in texts and characters."""
-    text = lines(path)
-    for at, line in enumerate(text):
-        if not CLAUSE.match(line):
-            continue
-        depth, last = 0, at
-        for last in range(at, len(text)):
-            plain = QUOTED.sub("", text[last])
-            depth += plain.count("{") - plain.count("}")
-            if depth <= 0:
-                break
-        yield text[at:last + 1]
-
-
 def unplanted():
     """The tests that do not show that they can fail: none of their comparers is given a planted difference."""
     tests = [path for path in glob.glob("tests/*/*.*") + glob.glob("tools/*.sh") if re.search(r"^(?:# )?tier: ", read(path), re.M)]
@@ -87,7 +71,7 @@ def main():
         crates[path.split("/")[1]] += len(text)
     every = [(path, line) for path, text in texts.items() for line in text]
     told = [lemmas(path) for path in proofs if "/proofs/" in path]
-    widths = [max(map(len, clause)) for path in sources for clause in clauses(path)]
+    widths = [max(map(len, clause)) for path in sources for clause in every_clause(lines(path))]
     print(f"lines of .antt files: {len(every)}, of which {sum(line.startswith(('use ', 'pub use ')) for _, line in every)} are imports")
     for crate, count in crates.most_common(5):
         print(f"  {crate}: {count}")

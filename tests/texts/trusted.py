@@ -1,19 +1,20 @@
-"""Lists the definitions that a reader has to trust, and fails where a promise leads to others.
+"""Follows each promise to the definitions that a reader has to trust, and writes what PROOFS, TRUST and INDEX say of them.
 
-A promise is the contract of a public function, or what contracts see of a public type. From the definitions that it cites
-this follows the imports. Each file that they lead to has to be in specs/ of its crate, not in a folder of INTERNAL there.
-Nothing in src/ or specs/ of a crate may import the internals of another.
+A promise is the contract of a public function, or what contracts see of a public type. From the definitions that it cites this follows
+the imports. Each file that they lead to has to be in specs/ of its crate, not in a folder of INTERNAL there, and nothing in src/ or
+specs/ of a crate may import the internals of another.
 
-First come the definitions that the theorem leads to, the first claim of docs/PROOFS.md, definition by definition. The others are
-counted apart. The two tables of "What a reader has to trust" there have these lines by file, and no others; the table of claims has
-how many lines each claim leads to. The function `link` is left out of claims, since `linking_law` ties it to the relation.
+docs/PROOFS.md has by hand what each promise means, and whose contract it is: a function or a type of the crates of the heading, or
+of those that the cell names. docs/internals/INDEX.md is written from that and the code. It has the file of each contract, the
+definitions that it cites, and how many lines it leads to. It has all files of definitions too, those of the theorem apart. The theorem
+is the first claim of PROOFS, which is followed definition by definition. The function `link` is left out of claims, since
+`linking_law` ties it to the relation. Lines are those of definitions, without imports, comments and empty lines.
 
-The lines that are counted are those of definitions: imports, comments and empty lines are left out.
-
-usage: python3 -m tests.texts.trusted        compares, and lists
-       python3 -m tests.texts.trusted -w     writes the numbers into docs/PROOFS.md and docs/TRUST.md
-tier: text, 4 seconds; for: docs/PROOFS.md docs/TRUST.md
+usage: python3 -m tests.texts.trusted        compares
+       python3 -m tests.texts.trusted -w     writes INDEX, and the numbers of PROOFS and TRUST
+tier: text, 6 seconds; for: docs/PROOFS.md docs/TRUST.md docs/internals/INDEX.md
 """
+import functools
 import glob
 import os
 import re
@@ -21,29 +22,38 @@ import sys
 
 from tests.lib.compare import notices, same
 from tests.lib.files import read, write
+from tests.lib.rattle import definitions, functions, items
+from tests.texts.layers import sections
 
-PROOFS = "docs/PROOFS.md"
+PROOFS, TRUST, INDEX = "docs/PROOFS.md", "docs/TRUST.md", "docs/internals/INDEX.md"
+# what is written by hand has at most so many words: quotes, numbers and INDEX are compared with the code
+MOST_WORDS = 6000
 # the laws that are the theorem: the first claim begins with what they cite
 THEOREM = ("crates/laws/src/commands.rt", ["session_law", "undo_law"])
 # the files that a reader begins with, and the pages that say how many lines they have
 FIRST = ["aout_core/specs/Contents", "link_session/specs/Mentions", "link_laws/specs/relation/LinkedFrom"]
-FIRST_LINES = re.compile(r"(?<=files of `specs/`, )\d+(?= lines)")
-
+FIRST_LINES = re.compile(r"files of `specs/`, \d+ lines")
 # folders of what loops and private functions do
 INTERNAL = ["internal"]
-
 # definitions name no constants of the code, but for the ids by which `command_words` knows its options, and the rows of
 # `instructions`, in the laws that compare them with the definitions' tables
 IDS = [("command_words", "words"), ("command_words", "link_words"), ("instructions", "table"), ("instructions", "call_table")]
-
-LIBRARIES = [
-    "aout_core", "texts", "surroundings", "link_session", "tool_options", "link_out", "link_laws", "symtools", "session_states", "link_maps",
-    "command_words", "v7tools", "laws", "gnu_objects", "listings", "instructions", "disassemblies", "findings", "suspicions",
-    "explanations", "map_texts", "finding_objects", "library_calls", "v7_c", "v7_from_gnu", "v7_object", "v7_explain",
-]
+# crates whose definitions nobody has to trust: examples, tests and the lesson
+OTHERS = ["v7", "conformance", "loose", "v7_lesson", "library_uses", "fixtures", "device_tests"]
+LIBRARIES = [crate for crates in sections().values() for crate in crates if crate not in OTHERS]
 IMPORT = re.compile(r"^ *(?:pub )?(?:ghost )?use Rattle\.(\w+)\.(specs|proofs)(?:\.([\w.]+?))?(?:\.\{([^}]*)\}|(?: as (\w+))?);?$")
+# in a cell of PROOFS a name: a function or a type, after the module or the type that it is of
+NAME = re.compile(r"`(?:(\w+)::)?(\w+)`")
+HEADER = """\
+# Index
+
+For each promise of [PROOFS](../PROOFS.md): where its contract is, which definitions the contract cites, and how many lines of definitions
+it leads to, in all files. The second table has these files. `python3 -m tests.texts.trusted -w` writes this page from the code.
+"""
 faults = []
 
+
+# --- sources and definitions
 
 def imports(text):
     """Each name that is brought in, with the crate, the folder and the module that it is from, and its name there."""
@@ -69,122 +79,72 @@ def exported(crate):
     return modules, names
 
 
-def pieces(text):
-    """The top-level items of a source file, its tests left out."""
-    text = re.sub(r"#\[cfg\(test\)\].*", "", text, flags=re.S)
-    item = []
-    for line in text.split("\n"):
-        item.append(line)
-        if line in ("}", "{}") or (line.endswith(";") and not line.startswith(" ")):
-            yield "\n".join(item)
-            item = []
-
-
-def clauses(item, wanted):
-    """The contracts of the functions of an item that are wanted, and what contracts see of a type."""
-    found = []
-    for match in re.finditer(r'^ *(pub(?:\(crate\))? )?(?:extern "C" )?fn (\w+).*?\{\}?$', item, re.M | re.S):
-        if wanted(match[1] == "pub ", match[2]):
-            found.append(match[0])
-    for match in re.finditer(r"^ *ghost (\w+) = (.*);$", item, re.M):
-        if match[1] not in ("invariant", "inverse", "inverse_ok"):
-            found.append(match[2])
-    return "\n".join(found)
-
-
-def promises(crate):
-    """The names that the promises of a crate cite, each with where it is from and which file cites it."""
-    modules, names = exported(crate)
+@functools.lru_cache(None)
+def contracts(crate):
+    """The contracts of a crate: of each function, and of what contracts see of a type, the source, the module, the type or the trait,
+    the name, whether it is public, and each definition that it cites with where that is from."""
+    found, (modules, names) = [], exported(crate)
     for path in sorted(glob.glob(f"crates/{crate}/src/**/*.rt", recursive=True)):
-        module = path.split("/src/")[1][:-3]
-        is_open = module == "lib" or module in modules
-        given = names.get(module, set())
-        text = read(path)
-        outer = [line for line in text.split("\n") if line.startswith("ghost use")]
-        for item in pieces(text):
-            head = re.search(r"^impl(?:<.*?>)? (?:(.*) for )?(\w+)", item, re.M)
-            if head:
-                is_given = is_open or head[2] in given
-                cited = clauses(item, lambda public, name: is_given and (public or head[1])) if is_given else ""
-            else:
-                cited = clauses(item, lambda public, name: public and (is_open or name in given))
-            words = set(re.findall(r"\w+", cited))
-            scope = dict(imports("\n".join(outer)))
-            if head:
-                scope.update(imports(item))
-            for word in sorted(words & set(scope)):
-                yield word, scope[word], path
-
-
-def trusted():
-    """The files that the promises lead to."""
-    reached, waiting = set(), []
-    for crate in LIBRARIES:
-        for word, place, path in promises(crate):
-            waiting.append((place, f"{path} cites {word}"))
-    while waiting:
-        (crate, folder, module, _), why = waiting.pop()
-        if module.startswith("declared"):
-            if module.endswith("TheConstants") and "/specs/" in why and (crate, module.split(".")[1]) not in IDS:
-                faults.append(f"{why}, a constant of the code")
-            continue
-        if folder == "proofs" or module.split(".")[0] in INTERNAL:
-            faults.append(f"{why}, of {crate}/{folder}/{module.replace('.', '/')}")
-            continue
-        path = f"crates/{crate}/specs/{module.replace('.', '/')}.antt"
-        if path in reached:
-            continue
-        reached.add(path)
-        for name, place in imports(read(path)):
-            waiting.append((place, f"{path} imports {name}"))
-    return reached
-
-
-def other_internals():
-    """Imports of the internals of another crate."""
-    for path in glob.glob("crates/*/src/**/*.rt", recursive=True) + glob.glob("crates/*/specs/**/*.antt", recursive=True):
-        for name, (crate, folder, module, _) in imports(read(path)):
-            if module.split(".")[0] in INTERNAL and path.split("/")[1] != crate:
-                faults.append(f"{path} imports {name}, of the internals of {crate}")
-
-
-def is_definition(line):
-    return line.strip() and not re.match(r" *--|(?:pub )?use |module ", line)
-
-
-def count(path):
-    """How many lines of definitions a file has."""
-    return sum(1 for line in read(path).split("\n") if is_definition(line))
-
-
-def placed(crate, name):
-    """The file of definitions of this name, in specs/ or in a folder of it that is not internal."""
-    paths = [path for path in glob.glob(f"crates/{crate}/specs/**/{name}.antt", recursive=True) if path.split("/")[3] not in INTERNAL]
-    if len(paths) != 1:
-        faults.append(f"crates/{crate}/specs has {len(paths)} files {name}.antt")
-    return paths[0] if paths else f"crates/{crate}/specs/{name}.antt"
+        module, text = path.split("/src/")[1][:-3], read(path)
+        is_open, given = module == "lib" or module in modules, names.get(module, set())
+        outer = dict(imports("\n".join(line for line in text.split("\n") if line.startswith("ghost use"))))
+        for item in items(text):
+            of, kind = re.match(r"(?:impl(?:<.*?>)? (?:(.*?) for )?|(?:pub )?trait |.*)(\w*)", item[0]).groups()
+            is_impl, scope = item[0].startswith("impl"), {**outer, **dict(imports("\n".join(item)))}
+            seen = [it for it in re.findall(r"^ *ghost (\w+) = (.*);$", "\n".join(item), re.M) if it[0] not in ("invariant", "inverse", "inverse_ok")]
+            heads = [(it.name, bool(of) or it.given == "pub ", it.head()) for it in functions(item)]
+            for name, is_public, cited in [*heads, *((name, True, text) for name, text in seen)]:
+                is_given = is_open or (kind if is_impl else name) in given
+                words = sorted({*re.findall(r"\w+", cited)} & {*scope})
+                found.append((path, module, kind if is_impl or item[0].startswith(("pub trait", "trait")) else "", name, is_given and is_public, {word: scope[word] for word in words}))
+    return found
 
 
 def path_of(crate, module):
     return f"crates/{crate}/specs/{module.replace('.', '/')}.antt"
 
 
-def definitions(path):
-    """The definitions of a file: the names that each gives, and its lines."""
-    found, lines = [], []
-    for line in read(path).split("\n") + [""]:
-        if is_definition(line):
-            lines.append(line)
-        elif lines and not line.strip():
-            names = {re.match(r" *(?:(?:abbrev|record|data|def|rec|pub|unfoldable) +)*([^\s({:]+)", lines[0])[1]}
-            if re.match(r"(?:pub )?data ", lines[0]):
-                names |= set(re.findall(r"^ +(?:pub )?([\w-]+) :", "\n".join(lines), re.M))
-            found.append((names, lines))
-            lines = []
-    return found
+@functools.lru_cache(None)
+def in_file(path):
+    """The definitions of a file of definitions, and what it imports."""
+    return [*definitions(read(path))], dict(imports(read(path)))
 
 
-def lines_of_claim(starts):
+def count(path):
+    """How many lines of definitions a file has."""
+    return sum(len(it.lines) for it in in_file(path)[0])
+
+
+# --- what promises lead to
+
+def trusted():
+    """The files that the promises lead to."""
+    reached, waiting = set(), []
+    for crate in LIBRARIES:
+        for path, _, _, _, is_public, cited in contracts(crate):
+            waiting += [(place, f"{path} cites {word}") for word, place in cited.items() if is_public]
+    while waiting:
+        (crate, folder, module, _), why = waiting.pop()
+        if module.startswith("declared"):
+            if module.endswith("TheConstants") and "/specs/" in why and (crate, module.split(".")[1]) not in IDS:
+                faults.append(f"{why}, a constant of the code")
+        elif folder == "proofs" or module.split(".")[0] in INTERNAL:
+            faults.append(f"{why}, of {crate}/{folder}/{module.replace('.', '/')}")
+        elif (path := path_of(crate, module)) not in reached:
+            reached.add(path)
+            waiting += [(place, f"{path} imports {name}") for name, place in in_file(path)[1].items()]
+    return reached
+
+
+def other_internals():
+    """Imports of the internals of another crate."""
+    for path in glob.glob("crates/*/src/**/*.rt", recursive=True) + glob.glob("crates/*/specs/**/*.antt", recursive=True):
+        for name, (crate, _, module, _) in imports(read(path)):
+            if module.split(".")[0] in INTERNAL and path.split("/")[1] != crate:
+                faults.append(f"{path} imports {name}, of the internals of {crate}")
+
+
+def led_to(starts):
     """How many lines of definitions some names lead to, by file."""
     reached, waiting = {}, list(starts)
     while waiting:
@@ -192,8 +152,8 @@ def lines_of_claim(starts):
         path = path_of(crate, module)
         if not os.path.exists(path) or (crate, module, name) == ("link_out", "function.Link", "link"):
             continue
-        items, scope = definitions(path), dict(imports(read(path)))
-        places = {own: place for place, (names, _) in enumerate(items) for own in names}
+        known, scope = in_file(path)
+        places = {own: place for place, it in enumerate(known) for own in it.names}
         if name not in places:
             if name in scope and scope[name][1] == "specs":
                 waiting.append((scope[name][0], *scope[name][2:]))
@@ -201,18 +161,16 @@ def lines_of_claim(starts):
         place = places[name]
         if place in reached.setdefault(path, {}):
             continue
-        reached[path][place] = len(items[place][1])
-        for word in set(re.findall(r"[\w-]+", "\n".join(items[place][1]))):
+        reached[path][place] = len(known[place].lines)
+        for word in set(re.findall(r"[\w-]+", "\n".join(known[place].lines))):
             if word in places and places[word] != place:
                 waiting.append((crate, module, word))
             elif word in scope and scope[word][1] == "specs" and not scope[word][2].startswith("declared"):
                 waiting.append((scope[word][0], *scope[word][2:]))
-    return {path: sum(items.values()) for path, items in reached.items()}
+    return {path: sum(lines.values()) for path, lines in reached.items()}
 
 
-def section(title):
-    return read(PROOFS).split(f"\n## {title}\n")[1].split("\n## ")[0]
-
+# --- PROOFS
 
 def named_definitions():
     """Where each definition is, by its name."""
@@ -220,16 +178,15 @@ def named_definitions():
     for path in glob.glob("crates/*/specs/**/*.antt", recursive=True):
         crate, module = path.split("/")[1], path.split("/specs/")[1][:-5].replace("/", ".")
         if crate in LIBRARIES and module.split(".")[0] not in INTERNAL + ["declared"]:
-            for names, _ in definitions(path):
-                for name in names:
-                    where.setdefault(name, []).append((crate, module, name))
+            for name in {name for it in in_file(path)[0] for name in it.names}:
+                where.setdefault(name, []).append((crate, module, name))
     return where
 
 
-def claims():
-    """The claims of docs/PROOFS.md: each with the lines that it leads to, by file, and its row."""
+def claims(text):
+    """The claims of PROOFS: each with the lines that it leads to, by file, and its row."""
     where = named_definitions()
-    for row in re.findall(r"^\| (?:[^|\n]+ \| ){3}\d+ \| \d+ \|$", section("What to trust for each claim"), re.M):
+    for row in re.findall(r"^\| (?:[^|\n]+ \| ){3}\d+ \| \d+ \|$", text, re.M):
         claim, _, names = row.strip("| ").split(" | ")[:3]
         starts = []
         for name in re.findall(r"`([\w.]+)`", names):
@@ -238,94 +195,126 @@ def claims():
             if len(found) != 1:
                 faults.append(f"{PROOFS}: {claim}: {len(found)} definitions are called {name}")
             starts += found
-        yield claim, lines_of_claim(starts), row
-
-
-def with_numbers(row, found):
-    """A row of the claims with its numbers."""
-    return re.sub(r"\d+ \| \d+ \|$", f"{sum(found.values())} | {len(found)} |", row)
-
-
-def rows_of_files():
-    """The rows of the tables of docs/PROOFS.md that name files: which table, the crate, and the row."""
-    tables = section("What a reader has to trust").split("\n### ")
-    for table, text in enumerate(tables[1:3]):
-        for row in re.findall(r"^\| `\w+` \|.*$", text, re.M):
-            yield table, re.match(r"\| `(\w+)`", row)[1], row
-
-
-def with_lines(row, crate, lines):
-    """A row of files with their numbers, and the files that it names."""
-    named = []
-
-    def number(match):
-        named.append(placed(crate, match[1]))
-        return f"{match[1]} {lines.get(named[-1], 0)}"
-
-    return re.sub(r"\b([A-Z]\w+) \d+", number, row), named
+        yield led_to(starts), row
 
 
 def cited_by_theorem():
     """The definitions that the laws of the theorem cite."""
     path, laws = THEOREM
-    words = [re.findall(r"\w+", clauses(item, lambda _, name: name in laws)) for item in pieces(read(path))]
-    return {word for found in words for word in found} & dict(imports(read(path))).keys()
+    return {word for it in contracts(path.split("/")[1]) if it[0] == path and it[3] in laws for word in it[5]}
 
 
-def print_lines(title, lines):
+def promises(text):
+    """The contracts that the tables of PROOFS name: each with the line, and the crates where it may be."""
+    crates = []
+    for number, line in enumerate(text.split("\n"), 1):
+        if line.startswith("## "):
+            crates = [it for it in re.findall(r"`(\w+)`", line) if it in LIBRARIES + OTHERS]
+        cells = line.strip("| ").split(" | ")
+        if crates and line.startswith("| ") and len(cells) in (2, 3) and cells[1] != "Contract of":
+            own = [it for it in re.findall(r"`(\w+)`", cells[1]) if it in LIBRARIES + OTHERS]
+            yield from ((number, own or crates, *name) for name in NAME.findall(cells[1]) if name[1] not in own)
+
+
+def contract_of(crates, of, name):
+    """The contracts of this name: those of a module or a type, if it is named."""
+    found = [it for crate in crates for it in contracts(crate) if of in ("", it[1].split("/")[-1], it[2])]
+    return [it for it in found if it[3] == name] or [it for it in found if not of and it[2] == name]
+
+
+def unknown(text):
+    """The names in the tables of PROOFS that are of no contract, or of several, and the definitions of laws that are not there."""
+    for number, crates, of, name in promises(text):
+        found = {it[0] for it in contract_of(crates, of, name)}
+        if len(found) != 1:
+            yield f"{PROOFS}:{number}: {len(found)} contracts are called {of and of + '::'}{name} in {', '.join(crates)}"
+    where = named_definitions()
+    for number, line in enumerate(text.split("\n"), 1):
+        laws = re.match(r"\| [^|]* \| `\w+::\w+_law` \| ([^|]*) \|$", line)
+        for name in re.findall(r"`(\w+)`", laws[1]) if laws else []:
+            if not any(crate == "laws" for crate, _, _ in where.get(name, [])):
+                yield f"{PROOFS}:{number}: laws has no definition {name}"
+
+
+def rows_of_index(text):
+    """For each source with a contract that PROOFS names, the names of those, and what they cite."""
+    sources = {}
+    for _, crates, of, name in promises(text):
+        for path, _, kind, own, _, cited in contract_of(crates, of, name):
+            contracts_here, cites = sources.setdefault(path, ({}, {}))
+            contracts_here[f"{kind and kind + '::'}{own}" if own == name else name] = 1
+            cites.update(cited)
+    return sources
+
+
+def index(text, theorem, rest):
+    """The page INDEX, by PROOFS, the lines that the theorem leads to, and those of other promises."""
+    sources = rows_of_index(text)
+    page = [HEADER]
+    for section, crates in sections().items():
+        rows = [(path, *sources[path]) for crate in crates for path in sorted(sources) if path.split("/")[1] == crate]
+        if rows:
+            page.append(f"## {section[0].upper()}{section[1:]}\n\n| Source | Contracts | Definitions that they cite | Lines |\n|---|---|---|---|")
+        for path, names, cited in rows:
+            places = [(crate, module, name) for crate, folder, module, name in cited.values() if folder == "specs" and not module.startswith("declared")]
+            files = {}
+            for crate, module, name in places:
+                files.setdefault((crate != path.split("/")[1]) * f"{crate}/" + module.replace(".", "/"), []).append(name)
+            cites = "; ".join(f"{file}: {', '.join(f'`{name}`' for name in sorted({*own}))}" for file, own in sorted(files.items()))
+            shown = ", ".join(f"`{name}`" for name in names)
+            page.append(f"| [`{path[7:]}`](../../{path}) | {shown} | {cites} | {sum(led_to(places).values())} |")
+        page += [""] * bool(rows)
+    page.append("## What a reader has to trust\n\n| Crate | The theorem leads to | Other promises lead to |\n|---|---|---|")
     for crate in LIBRARIES:
-        files = {path: n for path, n in sorted(lines.items()) if path.startswith(f"crates/{crate}/")}
-        print(f"{title}, {crate}: {sum(files.values())} lines in {len(files)} files")
-        for path, n in files.items():
-            print(f"  {n:4} {path}")
-    print(f"{title}: {sum(lines.values())} lines in {len(lines)} files")
+        cells = [", ".join(f"{path.split('/specs/')[1][:-5]} {n}" for path, n in sorted(lines.items()) if path.startswith(f"crates/{crate}/"))
+                 for lines in (theorem, rest)]
+        page += [f"| `{crate}` | {cells[0]} | {cells[1]} |"] * any(cells)
+    page.append(f"| in all | {sum(theorem.values())} lines in {len(theorem)} files | {sum(rest.values())} lines in {len(rest)} |")
+    return re.sub(r"(\n\|[^\n]*\|)\n\n(?=\|)", r"\1\n", "\n".join(page)) + "\n"
+
+
+def words_by_hand(text):
+    """How many words of PROOFS are its own: without quoted code, and without the numbers and the rows' bars."""
+    return sum(bool(re.search(r"\w", word)) for word in re.sub(r"^ {4}.*$|\b\d+ \| \d+ \|$", "", text, flags=re.M).split())
 
 
 def expected():
-    """What docs/PROOFS.md and docs/TRUST.md should say: each page with the texts that it has, and those that it should have."""
-    all_claims = list(claims())
-    theorem = all_claims[0][1]
-    if set(re.findall(r"`(\w+)`", all_claims[0][2].split(" | ")[2])) != cited_by_theorem():
+    """The pages as they should be, and how far what is there may lead."""
+    pages = {path: read(path) for path in (PROOFS, TRUST, INDEX)}
+    all_claims = list(claims(pages[PROOFS]))
+    theorem = all_claims[0][0]
+    if set(re.findall(r"`(\w+)`", all_claims[0][1].split(" | ")[2])) != cited_by_theorem():
         faults.append(f"{PROOFS}: the first claim should begin with {', '.join(sorted(cited_by_theorem()))}")
-    whole = {path: count(path) for path in trusted()}
-    rest = {path: n - theorem.get(path, 0) for path, n in whole.items() if n > theorem.get(path, 0)}
-    print_lines("the theorem", theorem)
-    print_lines("other promises", rest)
-    print(f"in all: {sum(whole.values())} lines in {len(whole)} files")
-    changes = [(PROOFS, row, with_numbers(row, found)) for _, found, row in all_claims]
-    for claim, found, _ in all_claims:
-        print(f"{claim}: {sum(found.values())} lines in {len(found)} files")
-    known = (set(), set())
-    for table, crate, row in rows_of_files():
-        changed, named = with_lines(row, crate, (theorem, rest)[table])
-        known[table].update(named)
-        changes.append((PROOFS, row, changed))
-    for files, lines in zip(known, (theorem, rest)):
-        faults.extend(f"{path}, {lines[path]} lines, is not in its table of {PROOFS}" for path in sorted(lines.keys() - files))
-        faults.extend(f"{path} is in a table of {PROOFS}, and no such promise leads to it" for path in sorted(files - lines.keys()))
+    rest = {path: n - theorem.get(path, 0) for path in trusted() if (n := count(path)) > theorem.get(path, 0)}
+    for found, row in all_claims:
+        pages[PROOFS] = pages[PROOFS].replace(row, re.sub(r"\d+ \| \d+ \|$", f"{sum(found.values())} | {len(found)} |", row))
     first = sum(count(f"crates/{name}.antt") for name in FIRST)
-    for page in (PROOFS, "docs/TRUST.md"):
-        said = FIRST_LINES.search(read(page))
-        if not said:
-            faults.append(f"{page} does not say how many lines the first files have")
-        else:
-            changes.append((page, f"files of `specs/`, {said[0]} lines", f"files of `specs/`, {first} lines"))
-    return changes
+    for page in (PROOFS, TRUST):
+        pages[page], said = FIRST_LINES.subn(f"files of `specs/`, {first} lines", pages[page])
+        faults.extend([f"{page} does not say how many lines the first files have"] * (said != 1))
+    pages[INDEX] = index(pages[PROOFS], theorem, rest)
+    return pages
 
 
 def main():
     other_internals()
-    changes = expected()
-    page, row, _ = changes[-2]
-    notices(same, page, row, re.sub(r"\d+", "0", row))
-    for page, old, new in changes:
-        if old != new and sys.argv[1:] == ["-w"]:
-            write(page, read(page).replace(old, new))
-        elif old != new:
-            faults.append(f"{page}: {old} should be {new}")
+    pages = expected()
+    words = words_by_hand(pages[PROOFS])
+    if words > MOST_WORDS:
+        faults.append(f"{PROOFS} has {words:,} words by hand, and {MOST_WORDS:,} are the most")
+    for known, changed in (("`read_file`", "`read_files`"), ("`UndoLaw` |", "`UndoneLaw` |")):
+        notices(same, "names", [*unknown(pages[PROOFS].replace(known, changed))], [])
+    faults.extend(unknown(pages[PROOFS]))
+    notices(same, PROOFS, re.sub(r"\d", "0", pages[PROOFS]).split("\n"), pages[PROOFS].split("\n"))
+    for page, text in pages.items():
+        if sys.argv[1:] == ["-w"]:
+            write(page, text)
+        same(f"{page}, by the code; -w writes it", read(page).split("\n"), text.split("\n"))
     for fault in faults:
         print(f"fault: {fault}")
+    print(f"{words:,} words of {PROOFS} are by hand; {INDEX} has {pages[INDEX].count('.rt`](')} sources; {pages[INDEX].split('| in all | ')[1][:-3]}")
     sys.exit(1 if faults else 0)
 
 
-main()
+if __name__ == "__main__":
+    main()
