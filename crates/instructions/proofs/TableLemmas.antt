@@ -52,7 +52,8 @@ pub record Sound (r : Row) : Type 0 where
 
 -- what two functions have in common at each row of the table they have at the row of a word
 module _ {X : Type 0} (f g : Row → X) where
-  at_first : (r o : Row) (b : Bool) (rest : Option Row) → f r ≡ g r → (rest ≡ Some o → f o ≡ g o) → cond b (Some r) rest ≡ Some o → f o ≡ g o
+  at_first : (r o : Row) (b : Bool) (rest : Option Row) → f r ≡ g r → (rest ≡ Some o → f o ≡ g o) →
+      cond b (Some r) rest ≡ Some o → f o ≡ g o
   at_first r o true rest same later e = let first : r ≡ o = cc in subst (λ (x : Row). f x ≡ g x) first same
   at_first r o false rest same later e = later e
 
