@@ -322,7 +322,10 @@ enum v7_remark_kind {
     V7_REMARK_CUT_INSTRUCTION = 23,
     V7_REMARK_NO_INSTRUCTION = 24,
     V7_REMARK_BRANCH_OUTSIDE = 25,
-    V7_REMARK_BRANCH_WITHIN = 26
+    V7_REMARK_BRANCH_WITHIN = 26,
+    V7_REMARK_UNSUITABLE_REFERENCE = 27,
+    V7_REMARK_UNSUITABLE_ADDRESS = 28,
+    V7_REMARK_ABSOLUTE_TEXT = 29
 };
 struct v7_remark {
     size_t place;     /* the byte of the file, from 0 */

@@ -92,7 +92,10 @@ DROP_DEBUGGER, DROP_UNUSED, DROP_LOCALS = 1, 2, 4
     REMARK_NO_INSTRUCTION,
     REMARK_BRANCH_OUTSIDE,
     REMARK_BRANCH_WITHIN,
-) = range(1, 27)
+    REMARK_UNSUITABLE_REFERENCE,
+    REMARK_UNSUITABLE_ADDRESS,
+    REMARK_ABSOLUTE_TEXT,
+) = range(1, 30)
 
 # why a name is reported
 MULTIPLY_DEFINED, RESERVED_NAME, ENTRY_NOT_IN_TEXT, UNDEFINED_NAME = 1, 2, 3, 4
@@ -210,7 +213,7 @@ class Map(NamedTuple):
 
 
 class Remark(NamedTuple):
-    """A remark on a file: one of REMARK_SHORT_HEADER to REMARK_BRANCH_WITHIN, the byte of the file, and the text; and the part that the
+    """A remark on a file: one of REMARK_SHORT_HEADER to REMARK_ABSOLUTE_TEXT, the byte of the file, and the text; and the part that the
     byte is in, or that its relocation word belongs to, with the index of the word, text before data, or the number of the symbol. A byte
     that is elsewhere has the part 0."""
 

@@ -13,7 +13,7 @@ use Rattle.library_calls.specs.declared.remarks_call.Located.{Located}
 use Rattle.library_calls.specs.{declared.remarks_call.RemarkRecord.RemarkRecord, declared.remarks_call.Remarks.Remarks}
 use Rattle.findings.specs.declared.finding.FindingKind.TheVariants as kinds
 
--- what is wrong has 1 to 7, what is odd 8 to 20, and what is suspicious 21 to 26
+-- what is wrong has 1 to 7, what is odd 8 to 20, and what is suspicious 21 to 29
 abbrev pub kind_number : FindingKind → ℕ
 kind_number kinds.ShortHeader = 1
 kind_number kinds.BadMagic = 2
@@ -41,6 +41,9 @@ kind_number kinds.CutInstruction = 23
 kind_number kinds.NoInstruction = 24
 kind_number kinds.BranchOutside = 25
 kind_number kinds.BranchWithin = 26
+kind_number kinds.UnsuitableReference = 27
+kind_number kinds.UnsuitableAddress = 28
+kind_number kinds.AbsoluteText = 29
 
 -- ---- the part of a file that a byte is in, and the word or the symbol there
 

@@ -25,7 +25,7 @@ pub struct RemarkRecord {
     /// Where its text begins among all texts, from 0.
     pub text: usize,
     pub text_size: usize,
-    /// What is remarked: 1 to 7 are wrong, 8 to 20 odd, 21 to 26 suspicious.
+    /// What is remarked: 1 to 7 are wrong, 8 to 20 odd, 21 to 29 suspicious.
     pub kind: u32,
     /// The part that the byte is in, as a `LongPart` has its number, or that its relocation is of; else 0.
     pub part: u32,
@@ -80,6 +80,9 @@ fn kind_number(kind: FindingKind) -> u32
         FindingKind::NoInstruction => 24,
         FindingKind::BranchOutside => 25,
         FindingKind::BranchWithin => 26,
+        FindingKind::UnsuitableReference => 27,
+        FindingKind::UnsuitableAddress => 28,
+        FindingKind::AbsoluteText => 29,
     }
 }
 

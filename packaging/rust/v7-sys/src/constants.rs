@@ -97,6 +97,9 @@ pub const V7_REMARK_CUT_INSTRUCTION: u32 = 23;
 pub const V7_REMARK_NO_INSTRUCTION: u32 = 24;
 pub const V7_REMARK_BRANCH_OUTSIDE: u32 = 25;
 pub const V7_REMARK_BRANCH_WITHIN: u32 = 26;
+pub const V7_REMARK_UNSUITABLE_REFERENCE: u32 = 27;
+pub const V7_REMARK_UNSUITABLE_ADDRESS: u32 = 28;
+pub const V7_REMARK_ABSOLUTE_TEXT: u32 = 29;
 
 // enum v7_link_option
 pub const V7_RELOCATABLE: u32 = 1;
