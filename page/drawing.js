@@ -58,8 +58,8 @@ function allReferences(state) {
     return state.list.flatMap((number, place) => PARTS.flatMap((part, which) => [...DATA.objects[number].references[part]].map(([index, reference]) => {
         const id = wordKey(part, state.fronts[place][which] + 2 * index);
         const own = DATA.objects[number].groupTargets[reference.group];
-        const to = idOfPlace(placeOf(state, state.referenceStarts[place] + reference.number, layout));
-        return { place, part, index, id, to, name: own.kind < 0 ? own.name : "" };
+        const meant = placeOf(state, state.referenceStarts[place] + reference.number, layout);
+        return { place, part, index, id, to: idOfPlace(meant), number: meant % WORD, name: own.kind < 0 ? own.name : "" };
     })));
 }
 

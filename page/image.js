@@ -89,17 +89,7 @@ function objectRows(context, place, part) {
 
 // ---- places that are no words
 // the places that words refer to, by their ids, which are no words
-function spotsOf(state) {
-    const spots = new Map();
-    const layout = isLinked(state) ? view.layout : -1;
-    const count = state.places.length / PLACE_NUMBERS;
-    for (let reference = 0; reference < count; reference++) {
-        const number = placeOf(state, reference, layout);
-        const id = idOfPlace(number);
-        if (id && !/^(text|data)-\d+$/.test(id)) spots.set(id, number % WORD);
-    }
-    return spots;
-}
+const spotsOf = (state) => new Map(allReferences(state).filter(({ to }) => to && !isWordKey(to)).map(({ to, number }) => [to, number]));
 
 // the names in bss, or in the commons of a link, by the ids of their places
 function namesIn(state, kind, bases) {

@@ -1,12 +1,10 @@
 // Keys and clicks. Image, names and marks are each one stop of the tabulator, with arrow keys inside.
 "use strict";
 
-const KEYS = new Map([["w", "withdraw"], ["arrowleft", "back"], ["arrowright", "forth"], ["a", "addresses"], ["d", "decimal"], ["f", "flick"], ["m", "maps"],
-    ["l", "presenter"], ["o", "whole"]]);
-[..."pnir"].forEach((key, i) => KEYS.set(key, `layout${i}`));
 // the keys that leave the state as it is, and act under an open question too
 const QUIET = new Set(["d", "l", "o"]);
-const LISTS = ["image", "names", "marks"];
+// the lists of rows that can be chosen: those of the cards are there as long as these are unfolded
+const lists = () => ["image", "names", "marks", ...[...document.querySelectorAll("#cards [role=listbox]")].map(({ id }) => id)];
 
 // for each list the row that keys move from
 const active = { image: "", names: "", marks: "" };
@@ -16,8 +14,8 @@ const rowsIn = (list) => [...byId(list).querySelectorAll("[role=option]")];
 
 // tells the browser which row of each list is active
 function setActive() {
-    for (const list of LISTS) {
-        const row = byId(active[list]);
+    for (const list of lists()) {
+        const row = byId(active[list] ?? "");
         const isThere = row && byId(list).contains(row);
         for (const other of byId(list).querySelectorAll(".active")) if (other !== row) other.classList.remove("active");
         if (isThere) {
@@ -32,7 +30,7 @@ function moveTo(list, row) {
     if (!row) return;
     active[list] = row.id;
     const key = row.dataset.key;
-    if (key.startsWith("fold ")) setActive();
+    if (/^(fold |none$)/.test(key)) setActive();
     else choose(key, list !== "image");
     if (byId(active[list])) bring(byId(active[list]));
 }
@@ -109,10 +107,12 @@ function shortcut(event) {
     }
     if (event.shiftKey) return undefined;
     if (key === "q") return switchPlace();
+    if (event.target.tagName === "SELECT" && key.length > 1) return undefined;
     if (isAsked() && !QUIET.has(key)) return key === "enter" ? pressNext(event) : questionKey(event, key);
-    const element = byId(KEYS.get(key) ?? (/^[1-9]$/.test(key) ? `add${key}` : ""));
+    const element = document.querySelector(`[aria-keyshortcuts~="${CSS.escape(key)}" i]`);
     if (!element) return key === "enter" ? pressNext(event) : undefined;
     event.preventDefault();
+    if (element.id === "addresses") return show({ ...view, layout: key === "a" && view.layout < 0 ? 0 : "pnir".indexOf(key) });
     return element.click();
 }
 
@@ -134,14 +134,13 @@ function switchKeys() {
 function watchBar() {
     const acts = {
         withdraw, back: () => history.back(), forth: () => history.forward(), keys: switchKeys, guides: () => closeGuide(true),
-        addresses: () => show({ ...view, layout: view.layout < 0 ? 0 : -1 }), decimal: () => show({ ...view, decimal: !view.decimal }),
-        whole: switchWhole, flick, presenter: switchPresenter,
+        decimal: () => show({ ...view, decimal: !view.decimal }), whole: switchWhole, flick, presenter: switchPresenter,
         maps: () => { areMapsShown = !areMapsShown; showMaps(stateNow()); draw(); },
     };
-    LAYOUTS.forEach((_, i) => { acts[`layout${i}`] = () => show({ ...view, layout: i }); });
     for (const [id, act] of Object.entries(acts)) {
         byId(id).addEventListener("click", () => { if (byId(id).getAttribute("aria-disabled") !== "true") act(); });
     }
+    byId("addresses").addEventListener("change", (event) => show({ ...view, layout: Number(event.target.value) }));
 }
 
 // the whole image in its order, or the scene of the step
@@ -169,7 +168,7 @@ function watchTabs() {
 }
 
 function watchKeys() {
-    LISTS.forEach(watchList);
+    lists().forEach(watchList);
     watchBar();
     document.addEventListener("keydown", shortcut);
 }

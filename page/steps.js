@@ -41,8 +41,7 @@ function stepText() {
 function showBar() {
     const isOff = { withdraw: view.list.length === 0, back: at === 0, forth: at === last, flick: view.gone < 0 && view.list.length === 0 };
     for (const [id, off] of Object.entries(isOff)) byId(id).setAttribute("aria-disabled", String(off));
-    byId("addresses").setAttribute("aria-pressed", String(view.layout >= 0));
-    LAYOUTS.forEach((_, i) => byId(`layout${i}`).setAttribute("aria-pressed", String(view.layout === i)));
+    byId("addresses").value = String(view.layout);
     byId("decimal").setAttribute("aria-pressed", String(isDecimal()));
     byId("flick").setAttribute("aria-pressed", String(view.gone >= 0));
     byId("flick").firstChild.textContent = view.gone >= 0 ? "After " : "Before ";
@@ -124,7 +123,7 @@ function showNotes(state) {
 
 // brings a row onto the stage, if it is not wholly there: so rows stay where they are, if they can
 function bring(row) {
-    const rooms = [".stage", ".names", ".known"].map((name) => row?.closest(name)).filter((one) => one && getComputedStyle(one).overflowY === "auto");
+    const rooms = [".stage", ".names", ".known", ".side"].map((name) => row?.closest(name)).filter((one) => one && getComputedStyle(one).overflowY === "auto");
     const [box, room] = [row?.getBoundingClientRect(), rooms[0]?.getBoundingClientRect()];
     if (!box || !room || (box.top >= room.top && box.bottom <= room.bottom)) return;
     row.scrollIntoView({ block: box.height > room.height ? "start" : "center" });
@@ -242,6 +241,7 @@ function flick() {
 function choose(key, isLed) {
     chosen = key;
     showChosen(false, () => (isLed ? byId(isWordKey(key) ? key : chosenPlace(stateNow())) : null));
+    unfoldCard();
 }
 
 window.addEventListener("popstate", (event) => {

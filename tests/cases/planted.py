@@ -121,7 +121,7 @@ def row_fails(folder, name):
     script, row = name.split(": ")
     words = [MODULES[script], *([] if name == PAGES else [row])]
     done = ran(sys.executable, "-m", *words, cwd=TOP, env={**os.environ, "LIBV7": os.path.join(folder, "libv7.so"), "V7_BUILD": folder})
-    if not re.search(r"^(?:programs|libv7): [01] of 1 answers .*\n\Z|^\d+ things of pages were compared|CalledProcessError", done.said(), re.M):
+    if not re.search(r"^(?:programs|libv7): [01] of 1 answers .*\n\Z|^\d+ things of pages were compared|(?:CalledProcess|JSONDecode)Error", done.said(), re.M):
         raise Fault(done.said())
     return done.status != 0
 

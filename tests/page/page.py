@@ -4,27 +4,30 @@ takes the tour and the lessons by keys alone, and measures the stage with the si
 examples: layout and stage in Firefox too, if it is installed. The pictures of docs/pictures are compared with the page. Faults are
 planted (tests/page/page_planted.py), and have to be found.
 
-usage: python3 -m tests.page.page [-p|-s|-r] [QUESTIONS FILE...]     five FILEs
-       -p plants faults alone, -s measures the stage alone, and -r looks at the rest
-tier: all, 1500 seconds; programs: v7 v7-lesson v7-explain; for: crates/v7_lesson page examples/lessons.txt docs/pictures; needs: chromium chromedriver selenium firefox-esr
+usage: python3 -m tests.page.page [-j JOBS] [-s SEED] [PART..]     all parts or these, so many side by side; eight objects are made from the seed
+       the parts: firefox, layout, stage, planted, states, use
+tier: all, 1500 seconds; words: -j 4; programs: v7 v7-lesson v7-explain; for: crates/v7_lesson page examples/lessons.txt docs/pictures; needs: chromium chromedriver selenium firefox-esr
 """
+import argparse
 import os
 import random
 import re
-import statistics
 import sys
 import tempfile
+import time
 import traceback
+from concurrent.futures import ThreadPoolExecutor, as_completed
 from itertools import permutations
 
 from tests.lib.compare import notices
+from tests.lib.programs import ran
 from tests.page import page_data
 from tests.page import page_pictures
 from tests.page.page_browser import Chromium, Firefox, Keys, firefox
 from tests.page.page_data import LAYOUTS, Tools, faults, made_objects, object_of, program_files, program_in_c, same, sixteen_objects, tables_and_bss, words_of
 from tests.page.page_layout import look_everywhere, look_in_firefox
 from tests.page.page_planted import plant_all
-from tests.page.page_stage import SIZES, WHOLE, first, response as click_times, stage
+from tests.page.page_stage import SIZES, WHOLE, response, response_with_all, stage
 from tests.page.page_use import use_all
 
 # what the page shows, as lines of text; a word is its segment and the texts of its parts
@@ -204,8 +207,7 @@ def clicks(tools, page, files):
     page.click("forth")
     page.wait("return location.hash === '#objects=1,2'")
     same("step forth", lines_on(page.read()), lines_on(added))
-    page.click("addresses")
-    page.click("layout1")
+    page.pick("addresses", "-n (n)")
     kept = page.read()
     same("address", kept["hash"], "#objects=1,2&addresses=-n")
     page.open(kept["hash"])
@@ -255,26 +257,8 @@ CLICKS = {"an object": ("objects=1,2,3,4", "#add5"), "Withdraw": ("objects=1,2,3
           "a word": ("objects=1,2,3,4,5", ".word.bound"), "a name": ("objects=1,2,3,4,5", ".name"), "a fold": ("objects=1,2,3,4,5", ".fold")}
 
 
-def response(page):
-    """Prints the processor's time for each click, with the two frames after it: the middle of five."""
-    times = []
-    for what, (state, selector) in CLICKS.items():
-        taken = []
-        for _ in range(5):
-            page.open("#" + state)
-            page.settle()
-            before = page.busy()
-            page.run("document.querySelector(arguments[0]).click()", selector)
-            page.settle()
-            taken.append(page.busy() - before)
-        times.append(f"{what} {statistics.median(taken):.0f}")
-    print("milliseconds of the processor for a click, with five objects of 500 words: " + ", ".join(times), flush=True)
-
-
-def five_of_500(tools):
+def five_of_500(tools, path, given):
     """Each word of five objects of 500 words can be reached, in the image and in each link; what changed is never folded."""
-    given = made_objects(tools, 5, 500)
-    path = tools.page_of(given, "five.html")
     same("bytes of five objects of 500 words", os.path.getsize(path) <= 5_000_000, True)
     page = Page(path)
     for order in ("1,2,3,4,5", "5,3,1", "2,4"):
@@ -292,9 +276,8 @@ def five_of_500(tools):
         shown = compare_state(tools, page, f"five objects, {order}", len(here), here)
         same(f"{order}: words", len(shown["words"]), 500 * len(here))
         compare_addresses(tools, page, f"five objects, {order}", here)
-    response(page)
+    response(page, "five objects of 500 words", CLICKS)
     page.quit()
-    return path
 
 
 def full(tools, files):
@@ -306,118 +289,136 @@ def full(tools, files):
     page.quit()
 
 
-def stages(tools, default, files, compiled, many):
-    """The stage of four pages, in both browsers. Of all steps that bind words nine of ten are whole in view."""
-    given, seed = program_in_c(files), random.randrange(10_000)
-    made = made_objects(tools, 8, 60, seed)
-    pages = ((default, files, "the default page"), (tools.page_of(given, "stage.html"), given, "a program in C"), (compiled, many, "sixteen objects"),
-             (tools.page_of(made, "made.html"), made, f"eight objects of seed {seed}"))
+class Given:
+    """The objects whose pages are looked at, and these pages."""
+
+    def __init__(self, tools, seed):
+        self.questions, *self.files = page_data.GIVEN
+        self.default = tools.page_of(self.files, "default.html", self.questions)
+        self.program, self.tables, self.compiled = program_in_c(self.files), tables_and_bss(self.files), sixteen_objects()
+        self.course, self.tables_page = (tools.page_of(one, name, f"{os.path.dirname(one[0])}/lessons.txt") for one, name in ((self.program, "course.html"), (self.tables, "tables.html")))
+        self.compiled_page = tools.page_of(self.compiled, "sixteen.html")
+        made = made_objects(tools, 8, 60, seed)
+        self.staged = ((self.default, self.files, "the default page"), (tools.page_of(self.program, "program.html"), self.program, "a program in C"),
+                       (self.compiled_page, self.compiled, "sixteen objects"), (tools.page_of(made, "made.html"), made, f"eight objects of seed {seed}"))
+        self.five = made_objects(tools, 5, 500)
+        self.looked_at = {"the default page": self.default, "five objects": tools.page_of(program_files(self.files), "five-objects.html"),
+                          "five of 500 words": tools.page_of(self.five, "five.html"), "sixteen objects": self.compiled_page}
+
+
+def planted(tools, given):
+    """Each fault that is planted is found."""
+    page = Page(given.default)
+    count = plant_all(tools, page, given.default, given.questions, given.files, given.staged[1][0], given.program, given.compiled_page, given.compiled, LAYOUTS, same)
+    page.quit()
+    print(f"{count} faults were planted", flush=True)
+
+
+def stages(tools, given):
+    """The stage of four pages in Chromium. Of all steps that bind words nine of ten are whole in view."""
     page = Page()
-    counts = [stage(tools, page, path, given, LAYOUTS, same, what) for path, given, what in pages]
+    counts = [stage(tools, page, path, objects, LAYOUTS, same, what) for path, objects, what in given.staged]
     steps, whole = (sum(both) for both in zip(*counts))
     print(f"{whole} of {steps} steps are whole in view at 1366 x 768", flush=True)
     same("steps whole in view, nine of ten", 10 * whole >= 9 * steps, True)
-    page.load(compiled)
-    click_times(page, first(len(many)))
+    response_with_all(page, given.compiled_page, len(given.compiled))
     page.quit()
+
+
+def in_firefox(tools, given):
+    """The stage and the layout of the pages in Firefox."""
     if not firefox():
         print("not measured in Firefox, as it is not installed: Debian's package is firefox-esr")
         return
     for zoom, sizes in ((1, SIZES[:-1]), (2, SIZES[-1:])):
         page = Firefox(zoom)
         try:
-            for path, given, what in pages:
-                stage(tools, page, path, given, LAYOUTS, same, what, sizes)
-            page.load(compiled)
-            click_times(page, first(len(many)))
+            for path, objects, what in given.staged:
+                stage(tools, page, path, objects, LAYOUTS, same, what, sizes)
+            response_with_all(page, given.compiled_page, len(given.compiled))
         finally:
             page.quit()
+    say_counts("Firefox", look_in_firefox(given.looked_at, faults))
 
 
-def layouts(tools, default, files, five, compiled):
-    """The layout of four pages, in all sizes and in both browsers."""
-    program_page = tools.page_of(files, "program.html")
-    pages = {"the default page": default, "five objects": program_page, "five of 500 words": five, "sixteen objects": compiled}
+def say_counts(name, counts):
+    print(f"looked at in {name}: " + ", ".join(f"{count} {what}" for what, count in sorted(counts.items())), flush=True)
+    same(f"nothing was counted in {name} of", [what for what, count in counts.items() if count == 0], [])
+
+
+def layouts(_, given):
+    """The layout of four pages in all sizes in Chromium."""
     page = Page()
-    counts = look_everywhere(page, pages, faults)
+    say_counts("Chromium", look_everywhere(page, given.looked_at, faults))
     page.quit()
-    print("looked at in Chromium: " + ", ".join(f"{count} {name}" for name, count in sorted(counts.items())), flush=True)
-    same("nothing was counted of", [name for name, count in counts.items() if count == 0], [])
-    if firefox():
-        counts = look_in_firefox(pages, faults)
-        print("looked at in Firefox: " + ", ".join(f"{count} {name}" for name, count in sorted(counts.items())), flush=True)
-        same("nothing was counted in Firefox of", [name for name, count in counts.items() if count == 0], [])
 
 
-def planted(tools, default, questions, files, compiled, many):
-    """Each fault that is planted is found."""
-    page = Page(default)
-    given = program_in_c(files)
-    count = plant_all(tools, page, default, questions, files, tools.page_of(given, "planted.html"), given, compiled, many, LAYOUTS, same)
+def uses(tools, given):
+    """The page is used as a student does."""
+    page = Page(given.default)
+    pages = [(given.default, given.files), (given.course, given.program), (given.tables_page, given.tables), (given.compiled_page, given.compiled)]
+    use_all(tools, page, given.default, given.course, given.compiled_page, pages, LAYOUTS, same)
     page.quit()
-    print(f"{count} faults were planted", flush=True)
 
 
-def compare_states(tools, files, default):
+def states(tools, given):
     """Each state of five objects, and of some larger ones."""
+    files = given.files
     page = Page(tools.page_of(files[:4]))
     clicks(tools, page, files)
     by_keyboard(tools, page, files)
     page.open("")
     walk(tools, page, files[:4], [])
     page.quit()
-    page = Page(default)
+    page = Page(given.default)
     every_state(tools, page, files)
     page_pictures.compare(page, same)
     page.quit()
     program(tools, program_files(files))
     large(tools, files)
     full(tools, files)
-    print(f"{page_data.compared} things of states were compared", flush=True)
+    five_of_500(tools, given.looked_at["five of 500 words"], given.five)
 
 
-def check(tools, only, questions, files):
-    """All that is looked at, or a part of it."""
-    default = tools.page_of(files, "default.html", questions)
-    many = sixteen_objects()
-    compiled = tools.page_of(many, "sixteen.html")
-    print(f"bytes of sixteen objects: {os.path.getsize(compiled)}")
-    if only in ("", "-p"):
-        planted(tools, default, questions, files, compiled, many)
-    if only in ("", "-s"):
-        stages(tools, default, files, compiled, many)
-    if only in ("", "-r"):
-        check_rest(tools, default, files, compiled)
+# the parts, the longest first
+PARTS = {"firefox": in_firefox, "layout": layouts, "stage": stages, "planted": planted, "states": states, "use": uses}
 
 
-def check_rest(tools, default, files, compiled):
-    """The page's use, all states, and the layout."""
-    given = program_in_c(files)
-    program_page = tools.page_of(given, "course.html", os.path.join(os.path.dirname(given[0]), "lessons.txt"))
-    made = tables_and_bss(files)
-    tables = tools.page_of(made, "tables.html", os.path.join(os.path.dirname(made[0]), "lessons.txt"))
-    page = Page(default)
-    use_all(tools, page, default, program_page, compiled, [(default, files), (program_page, given), (tables, made), (compiled, sixteen_objects())], LAYOUTS, same)
-    page.quit()
-    compare_states(tools, files, default)
-    layouts(tools, default, program_files(files), five_of_500(tools), compiled)
-
-
-def main():
-    only = "".join(sys.argv[1:2]) if sys.argv[1:2] in (["-p"], ["-s"], ["-r"]) else ""
-    questions, *files = sys.argv[2 if only else 1:] or page_data.GIVEN
+def run_part(name, seed):
+    """A part in this process: whether it has found faults."""
     notices(page_data.planted)
     with tempfile.TemporaryDirectory() as room:
         try:
-            check(Tools(room), only, questions, files)
+            tools = Tools(room)
+            PARTS[name](tools, Given(tools, seed))
         except (Exception, KeyboardInterrupt) as error:  # the faults that were found are printed all the same
             faults.append(f"{type(error).__name__}: {error}")
             traceback.print_exc()
     print(f"{page_data.compared} things were compared")
     for fault in faults[:20]:
         print(fault)
-    return 1 if faults else 0
+    return bool(faults)
+
+
+def run_parts(names, seed, jobs):
+    """Parts side by side, each in a process of its own: how many have found faults."""
+    began, count = time.monotonic(), 0
+    with ThreadPoolExecutor(jobs) as pool:
+        waiting = {pool.submit(ran, sys.executable, "-m", "tests.page.page", "-s", str(seed), name): name for name in names}
+        for done in as_completed(waiting):
+            print(f"--- {waiting[done]}, {time.monotonic() - began:.0f} s after the start\n{done.result().said()}", end="", flush=True)
+            count += done.result().status != 0
+    return count
+
+
+def main():
+    parser = argparse.ArgumentParser()
+    parser.add_argument("-j", type=int, default=2, dest="jobs")
+    parser.add_argument("-s", type=int, default=random.randrange(10_000), dest="seed")
+    parser.add_argument("parts", nargs="*", default=list(PARTS))
+    words = parser.parse_args()
+    return run_part(*words.parts, words.seed) if len(words.parts) == 1 else run_parts(words.parts, words.seed, words.jobs)
 
 
 if __name__ == "__main__":
-    sys.exit(main())
+    sys.exit(bool(main()))

@@ -18,6 +18,7 @@ try:
     from selenium.webdriver.chrome.service import Service
     from selenium.webdriver.common.action_chains import ActionChains
     from selenium.webdriver.common.keys import Keys
+    from selenium.webdriver.support.ui import Select
 except ImportError:
     if os.path.exists(SYSTEM) and os.path.realpath(sys.executable) != os.path.realpath(SYSTEM):
         os.execv(SYSTEM, [SYSTEM, "-m", sys.modules["__main__"].__spec__.name, *sys.argv[1:]])  # the system's Python has the package, if another one comes first
@@ -110,6 +111,10 @@ class Chromium:
 
     def click(self, name):
         self.driver.find_element("id", name).click()
+
+    def pick(self, name, option):
+        """Chooses an option of a list by its text."""
+        Select(self.driver.find_element("id", name)).select_by_visible_text(option)
 
     def press_at(self, x, y):
         """Presses the mouse at a spot of the window."""

@@ -374,11 +374,13 @@ def compare_objects(tools, files, data):
         same(f"{path}: source", one.get("source"), wanted if os.path.exists(listing) else None)
 
 
-def without_data(tools):
-    """A word that refers to data where there is none means no end of data in a link."""
-    given = [written(os.path.join(tools.room, "empty.o"), object_of([(2, 0o4)], []))]
-    data, _ = states_in(tools.page_of(given, "empty.html"))
-    compare_states(tools, given, data, "an object without data")
+def odd_places(tools):
+    """A word that refers to data where there is none means no end of data in a link. One that means a place after text means no data with
+    -i, although data have this address there."""
+    for what, content in (("without data", object_of([(2, 0o4)], [])), ("with a place after text", object_of([(6, 0o2), (0, 0)], [], [1, 2, 3, 4]))):
+        given = [written(os.path.join(tools.room, "odd.o"), content)]
+        data, _ = states_in(tools.page_of(given, "odd.html"))
+        compare_states(tools, given, data, f"an object {what}")
 
 
 def listing_of_another(tools, files):
@@ -393,11 +395,11 @@ def listing_of_another(tools, files):
 
 
 # ---- files that are refused, and counts
-def object_of(words, symbols):
-    """An object of text words with their relocation words and of symbols."""
-    text = struct.pack(f"<{len(words)}H", *(word for word, _ in words)) + struct.pack(f"<{len(words)}H", *(bits for _, bits in words))
+def object_of(words, symbols, data=()):
+    """An object of text words with their relocation words, of symbols, and of data without relocation."""
+    both = [*(word for word, _ in words), *data, *(bits for _, bits in words), *(0 for _ in data)]
     table = b"".join(struct.pack("<8sHH", name.encode(), kind, value) for name, kind, value in symbols)
-    return struct.pack("<8H", 0o407, 2 * len(words), 0, 0, len(table), 0, 0, 0) + text + table
+    return struct.pack("<8H", 0o407, 2 * len(words), 2 * len(data), 0, len(table), 0, 0, 0) + struct.pack(f"<{len(both)}H", *both) + table
 
 
 def written(path, content):
@@ -442,6 +444,16 @@ def full(tools, files):
     refused = [(state["list"], state["object"], state["refused"]) for state in data["states"] if "refused" in state]
     same("refused", refused, [([0], [1], "text full"), ([1], [0], "text full")])
     return path
+
+
+def name_of_nine_letters(tools):
+    """The name of a common is an answer, and no longer name that begins by its eight letters."""
+    given = written(os.path.join(tools.room, "eight.o"), object_of([(0, 0)], [("_letters", 0o40, 2)]))
+    for name in ("_letters", "_letterss"):
+        path = written(os.path.join(tools.room, "eight.txt"), f"lesson One\nadd eight.o\nask commons Which?\nname {name}\n".encode())
+        done = subprocess.run([tools.lesson, "-p", tools.page, "-q", path, given], capture_output=True, text=True)
+        wanted = "" if len(name) == 8 else f"v7-lesson: {path}: line 4: {name} is no answer\n"
+        same(f"the answer {name}", (done.returncode, done.stderr), (2 if wanted else 0, wanted))
 
 
 def counts(tools, files):
@@ -513,9 +525,10 @@ def check_data(tools, questions, files):
     full(tools, files)
     bad_questions(tools, files, same)
     questions_of_all_kinds(tools, files, same)
+    name_of_nine_letters(tools)
     counts(tools, files)
     listing_of_another(tools, files)
-    without_data(tools)
+    odd_places(tools)
     given, many = program_in_c(files), sixteen_objects()
     for one in (given, tables_and_bss(files)):
         same_objects(os.path.dirname(one[0]))

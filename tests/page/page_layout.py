@@ -108,7 +108,7 @@ counts.badges = badges.length;
 apart(badges.map((badge) => ({ box: badge.getBoundingClientRect(), text: badge.textContent })), "the badges");
 for (const row of document.querySelectorAll(".word, .name, .card .head, .mark")) if (seen(row)) apart(textBoxes(row), "the texts");
 // nothing that can be pressed is covered
-for (const button of document.querySelectorAll("button, summary, input")) {
+for (const button of document.querySelectorAll("button, summary, input, select")) {
     const box = button.getBoundingClientRect();
     const [x, y] = [(box.left + box.right) / 2, (box.top + box.bottom) / 2];
     if (!seen(button) || isClipped(button) || button.closest(".adds") || x < 0 || y < 0 || x > innerWidth || y > innerHeight) continue;

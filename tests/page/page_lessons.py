@@ -39,7 +39,6 @@ QUESTIONS = [
     (ONE + "ask undefined Which?\nname _count", 4, "_count is no answer"),
     (ONE + "ask undefined Which?\nname _nothing", 4, "_nothing is no answer"),
     (ONE + "ask commons Which?\nname _countxyz", 4, "_countxyz is no answer"),
-    (ONE + "ask commons Which?\nname _countxyzw", 4, "_countxyzw is no answer"),
     (ONE + "ask reported Which?\nname _count", 4, "_count is no answer"),
     (ONE + "ask reported Which?\nsay So.\nname _twice", 5, "an answer to no question"),
     (ONE + "ask undefined Which?\nadd twice.o\nname _twice", 5, "an answer to no question"),

@@ -9,7 +9,7 @@ from tests.page import page_pictures
 from tests.page.page_layout import look
 from tests.page.page_lessons import lesson_answers
 from tests.page.page_stage import STEP, VIEW, choices, compare_ends, compare_given, first, moved, owners
-from tests.page.page_use import distances, maps, numbers, old_browser, paper, practice, reasons, result
+from tests.page.page_use import beside, distances, maps, numbers, old_browser, paper, practice, reasons, result
 
 # scripts that plant a fault into the page that is shown, and the measure that has to find it
 STAGE = {
@@ -37,7 +37,8 @@ LAYOUT = {
 }
 # changes of the scripts, and the measure that has to find each
 SCRIPTS = {
-    "reasons exchanged": ("reasons", '() => "That is what the word is now, and the step changes it."', '() => "The step does not overwrite the word."'),
+    "reasons exchanged": ("reasons", '() => "That is what the word is now, and the step changes it."', '({ wait }) => `The step leaves the word at ${keyText(wait.word)} as it is.`'),
+    "a reason for a word of another segment": ("reasons", '`${wordText(one)}: add the address where ${targetText(one.word)} begins in this link.`', '"It refers to bss 000000: add the address where bss begins in this link."'),
     "decimal read as octal": ("numbers", "return parseInt(typed, 10);", "return parseInt(typed, 8);"),
     "a number of a lesson that is octal in decimal too": ("numbers", '(typeof part === "number" ? small(part) : part)', '(typeof part === "number" ? part.toString(8) : part)'),
     "-n with data at 0 in the maps": ("maps", '["data", bases[1], bases[2]]', '["data", layout === 1 ? 0 : bases[1], bases[2]]'),
@@ -47,8 +48,9 @@ SCRIPTS = {
     "a place with another object": ("owners", '["span", "owned", label(object.number)]', '["span", "owned", label(0)]'),
     "a count that is one less": ("counts", '`and ${counted(left, "other word")}`', '`and ${counted(left - 1, "other word")}`'),
     "the words after a question on paper": ("paper", "&& (withAnswers || !made.ask);", ";"),
-    "no pc on paper": ("paper", 'octal(word.value), word.pc ? "pc" : "", said]', 'octal(word.value), "", said]'),
+    "no pc on paper": ("paper", 'shown(word.value), word.pc ? "pc" : "", said]', 'shown(word.value), "", said]'),
     "right answers counted as wrong": ("result", "given.filter((one) => one?.isRight).length", "given.filter((one) => one && !one.isRight).length"),
+    "a line beside another word": ("beside", '{ "data-own": `${part} ${index}` }', '{ "data-own": `${part} ${index + 1}` }'),
     "a distance between two segments": ("distances", "SEGMENTS[word.kind] === word.part || view.layout >= 0", "word.pc"),
 }
 LABEL_AS_PROPERTY = "addEventListener('DOMContentLoaded', () => { if (typeof showAll === 'undefined') return; withAttributes = (element, all) => { for (const name in all) element[name === 'id' ? 'id' : name.replace(/-(.)/, (_, c) => c.toUpperCase())] = all[name]; return element; }; showAll(); });"
@@ -124,7 +126,7 @@ def in_scripts(tools, page, path, files, layouts, room, change):
     measures = {"reasons": lambda: reasons(tools, page, [(changed, files)], found.same, 20), "numbers": lambda: numbers(page, changed, found.same),
                 "maps": lambda: maps(tools, page, changed, files, layouts, found.same), "practice": lambda: practice(tools, page, changed, files, found.same),
                 "owners": lambda: owners(page, changed, files, found.same), "counts": lambda: counts(page, changed, len(files), found.same), "paper": lambda: paper(page, changed, found.same),
-                "result": lambda: result(page, changed, found.same), "distances": lambda: distances(page, changed, found.same)}
+                "result": lambda: result(page, changed, found.same), "beside": lambda: beside(page, changed, files, found.same), "distances": lambda: distances(page, changed, found.same)}
     measures[kind]()
     return found.faults
 

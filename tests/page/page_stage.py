@@ -424,25 +424,36 @@ def search(tools, page, same, files):
 
 
 CLICKED = {"Withdraw": "#withdraw", "a word": ".word.bound", "a name": ".name.changed", "a fold": ".fold", "Addresses": "#addresses"}
+CLICK = """
+const element = document.querySelector(arguments[0]);
+if (element.matches("select")) element.value = "0";
+element.dispatchEvent(element.matches("select") ? new Event("change") : new MouseEvent("click", { bubbles: true }));
+"""
 
 
-def response(page, state):
-    """Prints how long a click takes with all objects, with the two frames after it: the middle of five, in milliseconds of the processor
+def response(page, objects, clicks):
+    """Prints how long a click takes in its state, with the two frames after it: the middle of five, in milliseconds of the processor
     in Chromium, and by the clock in Firefox, which does not say more. The aim is 100; docs/internals/COSTS.md says what misses it."""
     page.size(1366, 768)
     times = {}
-    for what, selector in CLICKED.items():
+    for what, (state, selector) in clicks.items():
         taken = []
         for _ in range(5):
             page.open("#" + state)
             page.settle()
             before = page.busy()
-            page.run("document.querySelector(arguments[0]).click()", selector)
+            page.run(CLICK, selector)
             page.settle()
             taken.append(page.busy() - before)
         times[what] = sorted(taken)[2]
     said = ", ".join(f"{what} {time:.0f}" for what, time in times.items())
-    print(f"{page.name}: milliseconds for a click with all objects: {said}", flush=True)
+    print(f"{page.name}: milliseconds for a click with {objects}: {said}", flush=True)
+
+
+def response_with_all(page, path, count):
+    """The same with all objects of a page."""
+    page.load(path)
+    response(page, "all objects", {what: (first(count), selector) for what, selector in CLICKED.items()})
 
 
 # all names, and so many of the words that refer to something

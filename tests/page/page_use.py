@@ -52,6 +52,8 @@ def first_view(page, same):
     same("the words of the page are not nothing", page.run("return document.body.innerText.includes('nothing\\n')"), False)
     page.click("first")
     same("the first action adds main.o", page.run("return [location.hash, document.getElementById('status').textContent]"), ["#objects=1", "Added main.o"])
+    page.type("2")
+    same("the legend after the first step", page.run("return document.getElementById('legend').checkVisibility()"), False)
 
 
 def roles(page, same):
@@ -59,7 +61,7 @@ def roles(page, same):
     page.open("#objects=1,2")
     tree = page.roles()
     for role, name in (("heading", "What a linker does"), ("heading", "Objects"), ("heading", "Names"), ("heading", "Marks"), ("button", "One step back"),
-                       ("button", "One step forward"), ("button", "Addresses of a link with -n"), ("button", "Addresses of a partial link, with -r"),
+                       ("button", "One step forward"), ("combobox", "Addresses of a link"), ("listbox", "Words of main.o"),
                        ("button", "Decimal numbers"), ("button", "Shortcut keys"), ("region", "Objects"), ("main", ""), ("region", "Names and marks"),
                        ("listbox", "Merged image"), ("listbox", "Names"), ("listbox", "Marks"), ("region", "main.o"), ("region", "twice.o"),
                        ("option", "_twice text 000012 undefined changed"), ("group", "text 14 bytes"), ("status", "")):
@@ -297,24 +299,34 @@ const wrong = choicesOf(wait).filter((one) => !one.isRight);
 const known = namesOf(stateNow()).find(({ name }) => name === wait.name);
 const numbers = { value: [wait.before, wait.number + 2], where: [known?.number ?? 2, (wait.number ?? 0) + 2, 0] }[wait.kind] ?? [];
 for (const number of new Set(numbers)) if (number !== wait.number) wrong.push({ number, isRight: false });
-return wrong.map((given) => [wait.kind, wait.act?.[0] ?? "", givenText(given), reasonOf(given, wait), view.list, known ? [known.kind, known.number] : null, wait.before ?? null]);
+return wrong.map((given) => [wait.kind, wait.act?.[0] ?? "", givenText(given), reasonOf(given, wait), view.list, known ? [known.kind, known.number] : null, wait]);
 """
 
 
-def reason_wanted(kind, act, text, lines, known, before):
+def word_wanted(line):
+    """What `v7-lesson` says of a word, as a reason says it."""
+    said = re.match(r"(?:text|data) [0-7]{6} [0-7]{6} (?:pc )?(waits for \S+|text [0-7]{6}|data [0-7]{6}|bss [0-7]{6}|\w+)", line)[1]
+    return f"It {said}" if said.startswith("waits") else "It is a number" if said == "a" and " pc " not in line else f"refers to {said}"
+
+
+def reason_wanted(kind, act, text, lines, known, wait):
     """How the reason of a wrong answer begins, or what it has, by what `v7-lesson` says of the state."""
+    line_of = lambda key: next((line for line in lines if line.startswith(key + " ")), "")
     if kind in ("refers", "changes") and text != "no word":
-        line = next(line for line in lines if line.startswith(text + " "))
-        waits = re.search(r"waits for (\S+)", line)
-        if kind == "changes" and act == "withdraw" and not waits:
-            return "The addition of "
-        return f"It waits for {waits[1]}" if waits else "It is a number" if "a number" in line and " pc " not in line else "refers to "
+        wanted = word_wanted(line_of(text))
+        return "The addition of " if kind == "changes" and act == "withdraw" and "waits" not in wanted else wanted
     if kind == "changes":
         return "will change"
     if kind == "names":
         return f"{text} is "
-    if kind == "value" and int(text, 8) == before:
-        return "That is what the word is now"
+    if kind == "defines":
+        return f"{text} "
+    if kind == "value":
+        part, offset = wait["word"].split("-")
+        line = line_of(f"{part} {int(offset):06o}")
+        if int(text, 8) == wait["before"]:
+            return "That is what the word is now"
+        return word_wanted(line) if act == "link" and " pc " not in line else "subtract" if act in ("link", "withdraw") else "the word"
     if kind == "where" and known and act == "link" and text.isdigit() and int(text, 8) == known[1] and known[0] in ("text", "data", "bss"):
         return f"That is its offset in {known[0]}"
     return ""
@@ -330,9 +342,9 @@ def reasons(tools, page, paths, same, least=97):
                 page.run("goTo(arguments[0], arguments[1])", guide, done)
                 wrong = page.run(WRONG_ANSWERS)
                 same(f"lesson {guide}, question {done + 1}: a wrong answer", not page.run("return isAsked()") or len(wrong) > 0, True)
-                for kind, act, text, reason, here, known, before in wrong:
+                for kind, act, text, reason, here, known, wait in wrong:
                     lines = tools.step(len(here), [files[number] for number in here])
-                    wanted = reason_wanted(kind, act, text, lines, known, before)
+                    wanted = reason_wanted(kind, act, text, lines, known, wait)
                     same(f"lesson {guide}, question {done + 1}, {text}: {reason}", (len(reason) > 15, wanted in reason, "undefined" in reason and kind != "names"), (True, True, False))
                     count += 1
     print(f"{count} wrong answers have a reason", flush=True)
@@ -491,6 +503,11 @@ def paper(page, default, same):
                            "return [asked[0].querySelector('.ask').textContent.slice(0, 3), asked.map((part) => part.nextElementSibling?.tagName ?? '')]")
     same("the first question on paper, and what follows a question", (first, "TABLE" in last), ("1. ", False))
     same("pc and places on paper", page.run("return [...document.querySelectorAll('#paper tr')].map((row) => row.textContent)")[1], "text000002177774pcwaits for _count")
+    page.open("#lesson=2&done=0&numbers=decimal")
+    page.run("window.print = () => {}")
+    page.click("handout")
+    decimal = page.run("return [...document.querySelectorAll('#paper tr')].map((row) => row.textContent)")[3]
+    same("a handout in decimal", decimal, "text665528pcwaits for _twice")
     same("answers on paper", ("Answer: text 000006" in texts[1], "Answer: text 000006" in texts[0]), (True, False))
 
 
@@ -588,6 +605,55 @@ def distances(page, program, same):
     same("words with and without a distance", {is_one for _, is_one in words}, {True, False})
 
 
+# ---- the object beside the image
+# the lines of cards that are marked, and what is chosen
+MARKED = "return [chosen, [...document.querySelectorAll('#cards [aria-selected=true]')].map((row) => row.textContent)];"
+SEEN_LINE = "const row = document.querySelector('#cards [aria-selected=true]')?.getBoundingClientRect(); return Boolean(row) && row.height > 0 && row.top >= 0 && row.bottom <= innerHeight;"
+
+
+def lines_of_cards(files):
+    """For each word of the merged image the place of its line in the cards, and how the line begins: its offset and value in the object."""
+    found, fronts = {}, {"text": 0, "data": 0}
+    for number, path in enumerate(files):
+        with open(path, "rb") as file:
+            stored = file.read()
+        sizes = struct.unpack_from("<2H", stored, 2)
+        for part, size, start in (("text", sizes[0], 0), ("data", sizes[1], sizes[0])):
+            for index, word in enumerate(struct.unpack_from(f"<{size // 2}H", stored, 16 + start)):
+                found[f"{part}-{fronts[part] + 2 * index}"] = f"line-{number}-{part}-{index}", f"{start + 2 * index:06o}{word:06o}"
+            fronts[part] += size
+    return found
+
+
+def beside(page, path, files, same):
+    """A word that is chosen has its line marked in the card of its object, which can be seen; a line leads to the word that it has become."""
+    page.load(path)
+    page.size(1366, 768)
+    page.open("#objects=" + ",".join(str(number) for number in range(1, len(files))))
+    wanted = lines_of_cards(files[:-1])
+    keys = list(wanted)[::max(1, len(wanted) // 20)]
+    for key in keys:
+        line, start = wanted[key]
+        page.run("choose(arguments[0], true)", key)
+        page.settle()
+        chosen, marked = page.run(MARKED)
+        same(f"the line of {key}", (chosen, [text[:12] for text in marked], page.run(SEEN_LINE)), (key, [start], True))
+        page.run("choose('', false)")
+        page.run("const words = document.querySelectorAll('.given')[Number(arguments[0].split('-')[1])]; words.open = true;", line)
+        page.wait("return document.getElementById(arguments[0]) !== null", line)
+        page.run("document.getElementById(arguments[0]).click()", line)
+        same(f"the word of {line}", page.run(MARKED)[0], key)
+        page.run("choose('', false)")
+    page.run("document.querySelectorAll('.given').forEach((words) => { words.open = true; })")
+    page.wait("return document.querySelectorAll('#cards [role=listbox]').length === arguments[0]", len(files))
+    page.run("document.querySelector('#given-0').focus()")
+    page.type(Keys.END)
+    same("the last line of an object, by keys", [text[:12] for text in page.run(MARKED)[1]], [[start for line, start in wanted.values() if line.startswith("line-0-")][-1]])
+    page.run("document.querySelector('#cards .card:last-child [role=option]').click()")
+    same("a line of an object that is not there", page.run("return chosen !== 'none' && document.querySelector('#cards .card:last-child [aria-selected=true]') === null"), True)
+    print(f"{len(keys)} words have their lines in the cards of {len(files)} objects", flush=True)
+
+
 def use_all(tools, page, default, program, compiled, pages, layouts, same):
     first_view(page, same)
     roles(page, same)
@@ -606,6 +672,8 @@ def use_all(tools, page, default, program, compiled, pages, layouts, same):
         maps(tools, page, path, files, layouts, same)
         practice(tools, page, path, files, same)
     result(page, default, same)
+    for path, files in (pages[0], pages[3]):
+        beside(page, path, files, same)
     old_browser(page, default, same)
     distances(page, program, same)
     reasons(tools, page, pages, same)
