@@ -39,7 +39,7 @@ PACKAGES = {
     "cc": "gcc", "c++": "g++", "pkg-config": "pkg-config", "valgrind": "valgrind", "mypy": "mypy", "venv": "python3-venv", "rustc": "rustc",
     "cargo": "cargo", "groff": "groff", "man": "man-db", "mandoc": "mandoc", "zsh": "zsh", "chromium": "chromium",
     "chromedriver": "chromium-driver", "selenium": "python3-selenium", "firefox-esr": "firefox-esr", "debootstrap": "debootstrap",
-    "lintian": "lintian", "faketime": "faketime", "pdp11": "simh",
+    "lintian": "lintian", "faketime": "faketime", "cmark-gfm": "cmark-gfm", "pdp11": "simh",
 }
 # for a whole run of one crate, on a machine with other work too
 SECONDS = "1800"

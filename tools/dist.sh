@@ -18,7 +18,7 @@
 # alone. What drives the cases, tests/cases/cases.py, runs outside. It skips those that watch a program, since the programs of a package are
 # linked statically. The module of python3-v7 and the wheel run outside too. Wanted: root, Debian's debootstrap and lintian.
 #
-# tier: all, 7000 seconds; words: all; for: packaging tools/dist.sh; needs: debootstrap lintian faketime
+# tier: all, 7000 seconds; words: all; for: packaging tools/dist.sh; needs: debootstrap lintian faketime cmark-gfm mandoc
 set -u
 cd "$(dirname "$0")/.."
 top=$PWD
