@@ -290,7 +290,7 @@ int main(int argc, char **argv)
 {
     static const char letters[] = "rsxXnid";
     static unsigned char forced[64 * 8];
-    struct v7_request request = {.size = sizeof request, .mode = V7_LINK};
+    struct v7_request request = {.size = sizeof request};
     const char *letter_at;
     uint32_t status;
     int i, k;

@@ -35,7 +35,7 @@ reloc_inside [] i h = absurd (omega arith)
 reloc_inside (r ∷ rs) zero h = (r, refl)
 reloc_inside (r ∷ rs) (suc i) h = reloc_inside rs i (omega arith)
 
-word_small : (ws : List ℕ) (i w : ℕ) → AllByRecursion IsWord ws → slice_get ws i ≡ Some w → w < 65536
+pub word_small : (ws : List ℕ) (i w : ℕ) → AllByRecursion IsWord ws → slice_get ws i ≡ Some w → w < 65536
 word_small [] i w all e = absurd cc
 word_small (x ∷ ws) zero w all e = let same : x ≡ w = cc in subst (λ (n : ℕ). n < 65536) same all.0
 word_small (x ∷ ws) (suc i) w all e = word_small ws i w all.1 e

@@ -30,6 +30,9 @@ pub mod InstructionPlaceLemmas
 mod OperandWordLemmas
 pub mod OperandPlaceLemmas
 pub mod ReachedInstructionLemmas
+pub mod FlowLemmas
+pub mod LeadLemmas
+pub mod CleanProgramLemmas
 pub mod CallLemmas
 pub mod RunLemmas
 pub mod DiskLemmas

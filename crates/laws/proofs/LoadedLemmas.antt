@@ -85,7 +85,7 @@ found_by layout Undefined has = absurd has
 found_by layout Absolute has = absurd has
 found_by layout Other has = absurd has
 
-found_in : (forced : List (List ℕ)) (os : List Contents) (o : Choices) (x : Outcome) → link forced os o ≡ Ok x →
+pub found_in : (forced : List (List ℕ)) (os : List Contents) (o : Choices) (x : Outcome) → link forced os o ≡ Ok x →
     (segment : Segment) → HasPlace segment → has_segment x.file.header.magic segment (space_of segment) ≡ true
 found_in forced os o x linked segment has =
     ap (λ (m : ℕ). has_segment m segment (space_of segment)) (sym (magic_is forced os o x linked))
@@ -112,7 +112,7 @@ module _ (file : Contents) (space : Space) where
   bytes BssSeg has n w e = absurd has
   bytes Other has n w e = absurd has
 
-  word_there : (segment : Segment) → HasWords segment → has_segment file.header.magic segment space ≡ true →
+  pub word_there : (segment : Segment) → HasWords segment → has_segment file.header.magic segment space ≡ true →
       2 * length (segment_words segment file) ≡ bytes_of file.header segment →
       (n w : ℕ) → slice_get (segment_words segment file) n ≡ Some w → IsWordAt file space (first_address file.header segment + 2 * n) w
   word_there segment has there long n w e =

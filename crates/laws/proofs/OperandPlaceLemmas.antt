@@ -41,7 +41,7 @@ one_number a b low high =
     let h : a / 256 ≡ b / 256 = same_Some (a / 256) (b / 256) high in
     omega arith
 
-one_word : (file : Contents) (space : Space) (address a b : ℕ) → IsWordAt file space address a → IsWordAt file space address b → a ≡ b
+pub one_word : (file : Contents) (space : Space) (address a b : ℕ) → IsWordAt file space address a → IsWordAt file space address b → a ≡ b
 one_word file space address a b p q = one_number a b (sym p.low ∙ q.low) (sym p.high ∙ q.high)
 
 -- what is found by a word in two ways is found at the same place
@@ -280,7 +280,7 @@ has_its_word DecrementDeferred r a e = absurd cc
 has_its_word Index r a e = refl
 has_its_word IndexDeferred r a e = refl
 
-takes_its_word : (operand : Option Operand) (a : Addressing) → addressing_of operand ≡ Some a → takes_word operand ≡ true
+pub takes_its_word : (operand : Option Operand) (a : Addressing) → addressing_of operand ≡ Some a → takes_word operand ≡ true
 takes_its_word None a e = absurd cc
 takes_its_word (Some (operands.General m r)) a e = has_its_word m r a e
 takes_its_word (Some (operands.Accumulator v)) a e = absurd cc

@@ -42,7 +42,7 @@ words_after (w ∷ ws) zero h = refl
 words_after (w ∷ ws) (suc i) h = words_after ws i (omega arith)
 
 -- splits the words from a place on into the first and the others
-words_from : (ws : List ℕ) (i : ℕ) → i < length ws → drop i ws ≡ slice_index ws i ∷ drop (i + 1) ws
+pub words_from : (ws : List ℕ) (i : ℕ) → i < length ws → drop i ws ≡ slice_index ws i ∷ drop (i + 1) ws
 words_from ws i h = let e : suc i ≡ i + 1 = omega arith in words_after ws i h ∙ ap (λ (n : ℕ). slice_index ws i ∷ drop n ws) e
 
 head_of : (ws : List ℕ) (i w : ℕ) (more : List ℕ) → drop i ws ≡ w ∷ more →
@@ -56,7 +56,7 @@ head_of (v ∷ ws) zero w more e =
 head_of (v ∷ ws) (suc i) w more e = head_of ws i w more e
 
 -- so the line there is that of the first word
-at_head : (ws : List ℕ) (i w : ℕ) (more : List ℕ) → drop i ws ≡ w ∷ more → line_at ws i ≡ line_of (instruction_of w) w more
+pub at_head : (ws : List ℕ) (i w : ℕ) (more : List ℕ) → drop i ws ≡ w ∷ more → line_at ws i ≡ line_of (instruction_of w) w more
 at_head ws i w more e =
     let next : i + 1 ≡ suc i = omega arith in
     ap (λ (n : ℕ). line_of (instruction_of (slice_index ws i)) (slice_index ws i) (drop n ws)) next ∙ head_of ws i w more e
@@ -84,13 +84,13 @@ made_by_sys w (d ∷ calls) c all e =
         ap instruction_of (sym (eqb-true (call_word d) w is)) ∙ first ∙ ap made (same_Some d c h)
     by false is h later = later h
 
-call_made : (w : ℕ) (c : CallRow) → call_by Unix w ≡ Some c → instruction_of w ≡ made c
+pub call_made : (w : ℕ) (c : CallRow) → call_by Unix w ≡ Some c → instruction_of w ≡ made c
 unfolding call_of
 call_made w c e = made_by_sys w system_calls c each_made_by_sys e
 
 -- the line at a place at which the word is not relocated
 
-word_at : (ws : List ℕ) (i w : ℕ) (following : List ℕ) → drop i ws ≡ w ∷ following → slice_index ws i ≡ w
+pub word_at : (ws : List ℕ) (i w : ℕ) (following : List ℕ) → drop i ws ≡ w ∷ following → slice_index ws i ≡ w
 word_at [] zero w following e = absurd cc
 word_at [] (suc i) w following e = absurd cc
 word_at (v ∷ ws) zero w following e = let same : v ≡ w = cc in same
@@ -100,16 +100,16 @@ still_line : (b : Bool) (moved line : UnixLine) → b ≡ false → (if b then m
 still_line true moved line e = absurd cc
 still_line false moved line e = refl
 
-line_there : (k : Contents) (i : ℕ) → is_relocated (slice_get k.text_reloc i) ≡ false →
+pub line_there : (k : Contents) (i : ℕ) → is_relocated (slice_get k.text_reloc i) ≡ false →
     unix_line_in Unix k i ≡ unix_line (call_by Unix (slice_index k.text_words i)) k.text_words i
 line_there k i still =
     still_line (is_relocated (slice_get k.text_reloc i)) (Machine (Plain (slice_index k.text_words i)))
     (unix_line_at Unix k.text_words i) still
 
-abbrev decoded : Instruction → List ℕ → Line
+abbrev pub decoded : Instruction → List ℕ → Line
 decoded i following = Decoded i (word_for i.first 0 following) (word_for i.second (word_count_of i.first) following)
 
-decoded_by : (o : Option Instruction) (w : ℕ) (following : List ℕ) (instruction : Instruction) → o ≡ Some instruction →
+pub decoded_by : (o : Option Instruction) (w : ℕ) (following : List ℕ) (instruction : Instruction) → o ≡ Some instruction →
     is_cut o following ≡ false → line_of o w following ≡ decoded instruction following
 decoded_by None w following instruction e whole = absurd cc
 decoded_by (Some i) w following instruction e whole =
@@ -241,7 +241,7 @@ said_by a r kind false e is bit =
     }
 
 -- what the machine makes of a word is a word
-value_small : (a : Addressing) (next w : ℕ) → machine_value a next w ≡ (0 + machine_value a next w) % 65536
+pub value_small : (a : Addressing) (next w : ℕ) → machine_value a next w ≡ (0 + machine_value a next w) % 65536
 value_small Relative next w = let e : (w + next) % 65536 ≡ (0 + (w + next) % 65536) % 65536 = omega arith in e
 value_small RelativeDeferred next w = let e : (w + next) % 65536 ≡ (0 + (w + next) % 65536) % 65536 = omega arith in e
 value_small Absolute next w = let e : w % 65536 ≡ (0 + w % 65536) % 65536 = omega arith in e

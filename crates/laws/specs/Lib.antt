@@ -10,6 +10,7 @@ pub mod Instructions
 pub mod OperandWords
 pub mod OperandPlaces
 pub mod ReachedInstructions
+pub mod CleanPrograms
 pub mod Disks
 pub mod StepsByCommands
 pub mod SessionsByCommands

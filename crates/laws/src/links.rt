@@ -5,6 +5,7 @@ ghost use Rattle.laws.specs.Instructions.{InstructionsAreKept, TextsAreKept, Ins
 ghost use Rattle.laws.specs.OperandWords.{OperandsGiveNames, OperandsGiveSegments};
 ghost use Rattle.laws.specs.OperandPlaces.{OperandsAreThere, JumpsArrive, PointersToSegments, PointersToNames};
 ghost use Rattle.laws.specs.ReachedInstructions.{ReachedInstructionsAreKept, SurePlacesBegin};
+ghost use Rattle.laws.specs.CleanPrograms.{CleanObjectsMakeCleanPrograms};
 ghost use Rattle.laws.specs.Listings.{UndefinedAreListed, UndefinedLines, RowLines, ExternalsAreListed, SizesAreSums};
 ghost use Rattle.laws.specs.Isomorphism.{PlacesAreApart, PlacesAreLoaded, BytesHavePlaces, OrdersAreRenumbered, LinksAreIsomorphic, LinksKeepReferents};
 ghost use Rattle.laws.specs.Maps.{AddressesAreOfTheFile, NoWordIsMissing, WordsReferToTheirName};
@@ -90,6 +91,20 @@ pub fn instruction_law()
 pub fn reached_instruction_law()
     ensures reached { ReachedInstructionsAreKept }
     ensures sure { SurePlacesBegin }
+{}
+
+/// Clean objects make a clean program. An object is clean if `v7-explain -c -t` says nothing odd of its instructions for sure, and if, from
+/// each place that `-t` reaches, control leaves its text only by jumps and calls of names. Each `jsr` and `jmp` by modes 37 or 67 there has
+/// to refer to the object's own text, or to the name of a text symbol of one of the objects, and to no byte beyond it. The entry point has
+/// to be a text symbol too. (ld(1), the handbook of the PDP-11/70; what is suspicious and what is reached: own choice)
+///
+/// The law is about any link of such objects that keeps symbols, in which no name is multiply defined. Follow the program from its entry
+/// point: to the line after an instruction that lets control pass, to the target of a branch, and to that of a `jsr` or `jmp` by modes 37
+/// and 67. Each place that is reached so is a place of one of the objects that `-t` reaches. Its instruction is in the program as by
+/// `reached_instruction_law`, with the operands that the object refers to, unless it is one of another PDP-11. The way ends at a `jsr` whose
+/// link is not the pc, since nobody knows whether control comes back to the next word; its target is followed.
+pub fn clean_law()
+    ensures { CleanObjectsMakeCleanPrograms }
 {}
 
 /// What the machine makes of an operand word of a linked program: in modes 67 and 77 the sum of the word and the address after it, and

@@ -16,6 +16,14 @@ abbrev pub letter_in : List (List ℕ) → Option (ℕ × List (List ℕ))
 letter_in [] = None
 letter_in (word ∷ words) = option_map (λ letter. (letter, words)) (one_letter (letters_of word))
 
+-- the arguments after the option of this letter, if they begin with it
+abbrev pub rest_if : ℕ → Option (ℕ × List (List ℕ)) → Option (List (List ℕ))
+rest_if letter None = None
+rest_if letter (Some option) = if eqb option.0 letter then Some option.1 else None
+
+abbrev pub after_letter : ℕ → List (List ℕ) → Option (List (List ℕ))
+after_letter letter words = rest_if letter (letter_in words)
+
 -- these are paths: there is one, and the first is not an option
 abbrev pub paths_if : Option (List ℕ) → List (List ℕ) → Option (List (List ℕ))
 paths_if (Some letters) words = None

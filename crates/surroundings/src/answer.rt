@@ -3,9 +3,11 @@ ghost use Rattle.std.specs.Prelude.{◌≡◌, ◌++◌, [], false, IfOk};
 ghost use Rattle.aout_core.specs.Refusals.{refused};
 ghost use Rattle.aout_core.specs.Wires.{Writes};
 ghost use Rattle.surroundings.specs.declared.answer.Fault.TheVariants.{Memory};
-ghost use Rattle.surroundings.specs.Answers.{Gives, HasAnswer, answer_in, errors_unless, failed_at, fault_answer, only_errors, says_usage, status_unless};
+ghost use Rattle.surroundings.specs.Answers.{AnswersStored, Gives, HasAnswer, answer_in, errors_unless, failed_at, fault_answer, only_errors, says_usage, status_unless};
+ghost use Rattle.surroundings.specs.Sources.{stored_text};
 
 use crate::lines::put_fault_line;
+use crate::office::{Stored, stored_text};
 use crate::outputs::Outputs;
 use aout_core::{DeviceFault, Refused, Wire};
 use std::alloc::{AllocError, AllocFailed, Global};
@@ -94,6 +96,24 @@ pub fn usage_answer(alloc: Global, usage: &str) -> Result<Answer, AllocError>
     let mut errors = Text::new(alloc);
     errors.put(usage);
     error_answer(alloc, errors, 2)
+}
+
+/// The answer after a file was to be stored at a path. (own choice)
+///
+/// Errors: `Answered` if the file was not stored, with the line that says why; `Memory` if memory runs out for that line.
+pub fn answer_stored(
+    alloc: Global,
+    program: &str,
+    path: &str,
+    stored: Stored,
+    answer: Answer,
+) -> Result<Answer, Fault>
+    ensures { AnswersStored program.now path.now answer (stored_text stored) result }
+{
+    match stored_text(stored) {
+        None => Ok(answer),
+        Some(why) => Err(fault_at(alloc, program, path, why)),
+    }
 }
 
 /// Writes the name of a program, and a text after it.

@@ -2,7 +2,7 @@
 ghost use Rattle.std.specs.Prelude.{◌≡◌, drop, map, string_bytes, IfOk};
 ghost use Rattle.std.specs.Option.{option_map};
 ghost use Rattle.std.specs.Vec.Iter.{into_iter_items};
-ghost use Rattle.surroundings.specs.Arguments.{letter_in, letters_of, paths_in};
+ghost use Rattle.surroundings.specs.Arguments.{after_letter, letter_in, letters_of, paths_in};
 
 use std::alloc::{AllocError, Global};
 use std::env::Args;
@@ -54,6 +54,15 @@ pub fn letter_in(words: &[String]) -> Option<(u8, &[String])>
         Some([letter]) => Some((*letter, rest)),
         _ => None,
     }
+}
+
+/// The arguments after the option of this letter, if they begin with it. (own choice)
+pub fn after_letter(words: &[String], letter: u8) -> Option<&[String]>
+    ensures { option_map (λ rest. map string_bytes rest.now) result
+        ≡ after_letter letter (map string_bytes words.now) }
+{
+    let (found, rest) = letter_in(words)?;
+    if found == letter { Some(rest) } else { None }
 }
 
 /// These arguments, if they are paths: there is one, and the first is not an option. (own choice)

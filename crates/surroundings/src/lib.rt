@@ -12,7 +12,8 @@
 //! Functions:
 //!
 //! - `words`: the arguments of a program
-//! - `letters_of`, `letter_in`, `paths_in`: the letters of an option, the option that arguments begin with, and arguments that are paths
+//! - `letters_of`, `letter_in`, `after_letter`, `paths_in`: the letters of an option, the option that arguments begin with, the arguments
+//!   after it, and arguments that are paths
 //! - `hold_streams`: keeps files from the descriptors of closed standard streams
 //! - `end`: the status of a program that ended, or could not begin
 //! - `read_whole`: all bytes of a file
@@ -20,7 +21,7 @@
 //! - `stored_text`: what is said of a file that was not stored
 //! - `nodes_at`, `is_input`, `check_output`: the files to which paths lead; whether an output is one of the inputs, and refuses it
 //! - `shown_in`, `show`: what the first argument asks a program to show of itself; shows it
-//! - `error_answer`, `fault_at`, `usage_answer`, `shown_answer`: answers
+//! - `error_answer`, `fault_at`, `usage_answer`, `shown_answer`, `answer_stored`: answers
 //! - `put_line_front`, `put_fault_line`: the lines in which a program says something of a path
 //! - `put_object_fault`: why a file is not an object, in such a line
 //! - `give`: writes an answer
@@ -38,8 +39,8 @@ mod shown;
 mod sources;
 mod standard_error;
 
-pub use answer::{Answer, Fault, error_answer, fault_at, give, usage_answer};
-pub use arguments::{letter_in, letters_of, paths_in, words};
+pub use answer::{Answer, Fault, answer_stored, error_answer, fault_at, give, usage_answer};
+pub use arguments::{after_letter, letter_in, letters_of, paths_in, words};
 pub use disk::{Disk, store_on, store_text_on};
 pub use held::{end, hold_streams};
 pub use lines::{put_fault_line, put_line_front, put_object_fault};

@@ -31,14 +31,14 @@ IsStoring remarks (t ∷ ts) old new result =
 abbrev pub StoresAll : Plan → Step Answer
 StoresAll plan = Then (Finds (Ok (only_errors plan.remarks 0))) (λ done. IsStoring plan.remarks plan.targets)
 
--- an object is refused that would replace a file, or whose path another one has; or else the files are read, and then converted and
--- stored
+-- the files are read, and then converted and stored
+abbrev pub IsConverting : Conversion → Step Answer
+IsConverting c =
+    Then (λ old new read. IsReading old new [] c.jobs read) (λ sources. Then (Finds (outcome c.options c.is_quiet sources)) StoresAll)
+
+-- an object is refused that would replace a file, or whose path another one has; or else that is done
 abbrev pub IsConversion : Conversion → Step Answer
-IsConversion c =
-    Then (ChecksInputs c.jobs) (λ _.
-    Then (Passes (path_answer c.jobs)) (λ _.
-    Then (λ old new read. IsReading old new [] c.jobs read) (λ sources.
-    Then (Finds (outcome c.options c.is_quiet sources)) StoresAll)))
+IsConversion c = Then (ChecksInputs c.jobs) (λ _. Then (Passes (path_answer c.jobs)) (λ _. IsConverting c))
 
 -- the conversion that the arguments ask for, or how the program is called, once there is memory for the arguments
 abbrev pub IsCall : List (List ℕ) → Step Answer

@@ -7,7 +7,7 @@ ghost use Rattle.surroundings.specs.Answers.{Faults};
 ghost use Rattle.texts.specs.Texts.{Puts};
 ghost use Rattle.v7_from_gnu.specs.Converting.{all_remarks, converted_from, outcome, refusal_answer, remark_lines, remarks_of, target_of, with_names};
 ghost use Rattle.v7_from_gnu.specs.Lines.{remark_line};
-ghost use Rattle.v7_from_gnu.specs.Runs.{IsConversion};
+ghost use Rattle.v7_from_gnu.specs.Runs.{IsConversion, IsConverting};
 ghost use Rattle.v7_from_gnu.specs.internal.Lists.{RefusedAs};
 
 use crate::arguments::{Conversion, Job};
@@ -210,7 +210,23 @@ fn make_plan(
     }
 }
 
-/// Converts files: checks their paths, reads all, converts all, and then writes the objects.
+/// Converts files after their paths were checked: reads all, converts all, and then writes the objects.
+fn convert_checked<O: Office>(
+    alloc: Global,
+    office: &mut O,
+    options: Options,
+    is_quiet: bool,
+    jobs: Vec<Job>,
+) -> Result<Answer, Fault>
+    ensures { IsConverting (record { options = options; is_quiet = is_quiet; jobs = jobs.items })
+        (O.history office.old) (O.history office.new) result }
+{
+    let sources = read_all(alloc, office, jobs)?;
+    let plan = make_plan(alloc, options, is_quiet, sources)?;
+    store_all(alloc, office, &plan)
+}
+
+/// Converts files, and checks their paths first.
 fn convert_jobs<O: Office>(
     alloc: Global,
     office: &mut O,
@@ -223,9 +239,7 @@ fn convert_jobs<O: Office>(
 {
     check_inputs(alloc, office, &jobs)?;
     check_paths(alloc, &jobs)?;
-    let sources = read_all(alloc, office, jobs)?;
-    let plan = make_plan(alloc, options, is_quiet, sources)?;
-    store_all(alloc, office, &plan)
+    convert_checked(alloc, office, options, is_quiet, jobs)
 }
 
 /// Does a conversion.

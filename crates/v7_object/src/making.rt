@@ -10,9 +10,7 @@ use crate::program::NAME;
 use aout_core::File;
 use listings::{ListingFault, read_listing};
 use std::alloc::{AllocError, Global};
-use surroundings::{
-    Answer, Fault, Office, check_output, error_answer, fault_at, read_whole, stored_text,
-};
+use surroundings::{Answer, Fault, Office, answer_stored, check_output, error_answer, read_whole};
 use texts::Text;
 
 /// The answer with the first mistake of a listing.
@@ -48,10 +46,8 @@ fn store<O: Office>(alloc: Global, office: &mut O, to: &str, file: &File) -> Res
     ensures { IsStoring to.now file.now (O.history office.old) (O.history office.new) result }
 {
     let done = silent(alloc)?;
-    match stored_text(office.store(to, file)) {
-        None => Ok(done),
-        Some(why) => Err(fault_at(alloc, NAME, to, why)),
-    }
+    let stored = office.store(to, file);
+    answer_stored(alloc, NAME, to, stored, done)
 }
 
 /// Makes the file of a listing.

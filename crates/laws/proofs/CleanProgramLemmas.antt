@@ -1,0 +1,461 @@
+-- Each place of a program of clean objects that control reaches is a reached place of one of them.
+use Rattle.std.proofs.Common.{◌≡◌, ◌≢◌, ℕ, zero, suc, ◌+◌, ◌*◌, ◌/◌, ◌%◌, ◌<◌, ◌≤◌, ◌⊎◌, inl, inr, Bool, true, false, ◌||◌, ◌&&◌, not, eqb}
+use Rattle.std.proofs.Common.{if◌then◌else◌, List, [], ◌∷◌, ◌++◌, length, map, drop, Option, Some, None, refl, sym, ◌∙◌, ap, subst, arith}
+use Rattle.std.proofs.{lemmas.Bool.and_from, lemmas.Bool.eqb-true, lemmas.Bool.eq-eqb, lemmas.List.length-drop, lemmas.Option.same_Some}
+use Rattle.std.proofs.lemmas.Option.{slice_get_within}
+use Rattle.std.specs.{Prelude.slice_get, Prelude.slice_index, Prelude.IfSome, Prelude.Ok, List.list_any, List.AllByRecursion}
+use Rattle.aout_core.specs.WellFormed.{kind_numbered, kind_of, is_pc_relative, masked_type, segment_numbered, is_external}
+use Rattle.aout_core.specs.{declared.symbol.Symbol.Symbol, declared.symbol.Segment.TheVariants.TextSeg, declared.reloc.Reloc.Reloc}
+use Rattle.aout_core.specs.declared.reloc.Kind.{Kind}
+use Rattle.aout_core.specs.{Contents.Contents, Contents.IsWord, Strip.stripped, Words.plus}
+use Rattle.link_session.specs.{Starts.total, Sessions.IsObject}
+use Rattle.link_session.proofs.ListLemmas.{all_split}
+use Rattle.tool_options.specs.{declared.options.Keep.TheVariants.Nothing, Choices.Choices}
+use Rattle.link_out.specs.{Results.Outcome, function.Link.link}
+use Rattle.link_laws.specs.relation.LinkedFrom.{IsLinkedFrom}
+use Rattle.link_laws.proofs.LinkedTheorem.{linked_exactly}
+use Rattle.instructions.specs.{Instructions.instruction_of, Instructions.jumps, Instructions.word_count_of, Lines.word_for}
+use Rattle.instructions.specs.declared.mode.Addressing.TheVariants.{Immediate, Absolute, Relative, RelativeDeferred, Indexed}
+use Rattle.instructions.specs.{Modes.addressing, Modes.counts_from_pc, declared.mode.Addressing.Addressing, Texts.number}
+use Rattle.instructions.specs.{declared.operation.Operation.Operation, declared.operand.Operand.Operand}
+use Rattle.instructions.specs.{declared.instruction.Instruction.Instruction, declared.line.Line.TheVariants.Plain}
+use Rattle.instructions.specs.{declared.call_table.CallRow.CallRow, declared.unix.Decoder.TheVariants.Unix}
+use Rattle.instructions.specs.{declared.unix.UnixLine.UnixLine, declared.unix.UnixLine.TheVariants.Machine}
+use Rattle.instructions.specs.{declared.unix.UnixLine.TheVariants.Call, Relocated.is_relocated, Alike.is_cut}
+use Rattle.instructions.proofs.AlikeLemmas.{get_inside}
+use Rattle.disassemblies.specs.Lines.{unix_line_in}
+use Rattle.suspicions.specs.declared.evidence.Evidence.TheVariants.{Flow, Promise}
+use Rattle.suspicions.specs.{ReachedLaw.is_place, ReachedLaw.IsReached, ReachedLaw.Evident, ReachedLaw.Led, Trust.is_sure, Reached.is_reached}
+use Rattle.suspicions.specs.Reached.{is_text, named, evident, leads_by, leads_to, jump, jump_of, jump_by, is_own_distance, is_own_address}
+use Rattle.suspicions.specs.Suspicions.{is_foreign, is_immediate}
+use Rattle.suspicions.proofs.{ReachLemmas.reached_places, SureLemmas.sure_below, SureLemmas.sure_places, SureLemmas.sure_words}
+use Rattle.laws.specs.{Core.of_instructions, Core.IsWordAt, Operands.Defines, OperandWords.machine_value}
+use Rattle.laws.specs.OperandPlaces.{addressing_of, IsDirect, kind_meant, IsOwnByte, IsNamedByte, IsAddress, HasOperand}
+use Rattle.laws.specs.ReachedInstructions.{kind_said, HasOperandSaid, KeepsInstruction, IsNoDistance}
+use Rattle.laws.specs.CleanPrograms.{TextSymbol, RefersToText, StaysInside, IsClean, BeginsAtSymbol, IsKept, IsOfObject}
+use Rattle.laws.specs.CleanPrograms.{CleanObjectsMakeCleanPrograms}
+use Rattle.laws.proofs.{InstructionLemmas.text_within, InstructionLemmas.word_small, InstructionPlaceLemmas.instructions_there, LoadedLemmas.whole_words}
+use Rattle.laws.proofs.{LoadedLemmas.word_there, LoadedLemmas.found_in, OperandPlaceLemmas.one_word}
+use Rattle.laws.proofs.ReachedInstructionLemmas.{decoded, words_from, value_small, reached_instructions_kept, sure_places_begin}
+use Rattle.laws.proofs.FlowLemmas.{Lines, Calls, Instructs, Ends, whole_at, lines_at}
+use Rattle.laws.proofs.LeadLemmas.{any_here, any_later, or-nothing, placed, place_is, Within, call_leads, JumpBy, instruction_leads}
+use Rattle.aout_core.specs.declared.reloc.Kind.TheVariants as kinds
+use Rattle.instructions.specs.declared.operand.Operand.TheVariants as operands
+
+-- a symbol of text shows its place
+
+shows : (f : Symbol → Option ℕ) (more : List (Option ℕ)) (ss : List Symbol) (n j : ℕ) (s : Symbol) → slice_get ss n ≡ Some s →
+    is_place j (f s) ≡ true → list_any (is_place j) (map f ss ++ more) ≡ true
+shows f more [] n j s e h = absurd cc
+shows f more (t ∷ ss) zero j s e h =
+    let same : t ≡ s = same_Some t s e in
+    any_here (is_place j (f t)) (list_any (is_place j) (map f ss ++ more)) (ap (λ (u : Symbol). is_place j (f u)) same ∙ h)
+shows f more (t ∷ ss) (suc n) j s e h =
+    any_later (is_place j (f t)) (list_any (is_place j) (map f ss ++ more)) (shows f more ss n j s e h)
+
+named_at : (k : Contents) (s : Symbol) (j : ℕ) → is_text s ≡ true → s.value ≡ 2 * j → is_place j (named Promise k s) ≡ true
+named_at k s j text even = by (is_text s) text
+  where
+    by : (t : Bool) → t ≡ true → is_place j (if t && true then Some s.value else None) ≡ true
+    by true e = place_is j s.value even
+    by false e = absurd cc
+
+symbol_reached : (k : Contents) (n j : ℕ) (s : Symbol) → slice_get k.symbols n ≡ Some s → is_text s ≡ true → s.value ≡ 2 * j →
+    j < length k.text_words → IsReached Promise k j
+symbol_reached k n j s at text even below =
+    Evident j below
+    (any_later (is_place j (if eqb k.header.flag 0 then None else Some k.header.entry_point))
+    (list_any (is_place j) (map (named Promise k) k.symbols ++ []))
+    (shows (named Promise k) [] k.symbols n j s at (named_at k s j text even)))
+
+-- a jump by a word that refers to the object's own text leads there
+
+text_number : (n : ℕ) → kind_numbered n ≡ Some kinds.TextSeg → n ≡ 1
+text_number zero e = absurd cc
+text_number (suc zero) e = refl
+text_number (suc (suc zero)) e = absurd cc
+text_number (suc (suc (suc zero))) e = absurd cc
+text_number (suc (suc (suc (suc zero)))) e = absurd cc
+text_number (suc (suc (suc (suc (suc n))))) e = absurd cc
+
+one_bit : (n : ℕ) (b : Bool) → eqb n 1 ≡ b → (b ≡ true → n ≡ 1) × (b ≡ false → n ≡ 1 → ⊥)
+one_bit n true e = (λ h. eqb-true n 1 e, λ h. absurd cc)
+one_bit n false e = (λ h. absurd cc, λ h is. let bad : true ≡ false = sym (eq-eqb n 1 is) ∙ e in cc)
+
+own_distance : (r : Reloc) → kind_said Relative r ≡ Some kinds.TextSeg → (is_relocated (Some r) ≡ true → is_pc_relative r ≡ true) →
+    is_own_distance (Some r) ≡ true
+own_distance r said bit = by (eqb (r.0 % 16) 0) refl said
+  where
+    by : (t : Bool) → eqb (r.0 % 16) 0 ≡ t → (if not t then kind_of r else Some kinds.TextSeg) ≡ Some kinds.TextSeg →
+        (eqb (r.0 % 16) 0 || eqb (r.0 % 16) 3) ≡ true
+    by true e h = any_here (eqb (r.0 % 16) 0) (eqb (r.0 % 16) 3) e
+    by false e h =
+        let kind = text_number (r.0 / 2 % 8) h in
+        let pc = (one_bit (r.0 % 2) true (bit (ap not e))).0 refl in
+        any_later (eqb (r.0 % 16) 0) (eqb (r.0 % 16) 3) (eq-eqb (r.0 % 16) 3 (omega arith))
+
+own_address : (r : Reloc) → kind_said Absolute r ≡ Some kinds.TextSeg → (is_relocated (Some r) ≡ true → is_pc_relative r ≡ false) →
+    is_own_address (Some r) ≡ true
+own_address r said bit = by (eqb (r.0 % 16) 0) refl said
+  where
+    by : (t : Bool) → eqb (r.0 % 16) 0 ≡ t → (if not t then kind_of r else Some kinds.Absolute) ≡ Some kinds.TextSeg →
+        eqb (r.0 % 16) 2 ≡ true
+    by true e h = absurd cc
+    by false e h =
+        let kind = text_number (r.0 / 2 % 8) h in
+        let pc = (one_bit (r.0 % 2) false (bit (ap not e))).1 refl in
+        eq-eqb (r.0 % 16) 2 (omega arith)
+
+leads_if : (t : Bool) (n m : ℕ) → t ≡ true → n ≡ m → (if t then Some n else None) ≡ Some m
+leads_if true n m e is = ap (λ (v : ℕ). Some v) is
+leads_if false n m e is = absurd cc
+
+module _ (r : Reloc) (next n : ℕ) (small : n < 65536) where
+  jumps_own : (way : Addressing) → IsDirect way → kind_said way r ≡ Some kinds.TextSeg →
+      (is_relocated (Some r) ≡ true → is_pc_relative r ≡ counts_from_pc way) → jump_by (Some r) next n (Some way) ≡ Some (machine_value way next n)
+  jumps_own Relative d said bit = leads_if (is_own_distance (Some r)) (plus n next) (plus n next) (own_distance r said bit) refl
+  jumps_own Absolute d said bit =
+      leads_if (is_own_address (Some r)) n (n % 65536) (own_address r said bit) (let e : n ≡ n % 65536 = omega arith in e)
+  jumps_own Immediate (inl e) said bit = absurd cc
+  jumps_own Immediate (inr e) said bit = absurd cc
+  jumps_own RelativeDeferred (inl e) said bit = absurd cc
+  jumps_own RelativeDeferred (inr e) said bit = absurd cc
+  jumps_own Indexed (inl e) said bit = absurd cc
+  jumps_own Indexed (inr e) said bit = absurd cc
+
+jump_when : (t : Bool) (o : Option ℕ) (n : ℕ) → t ≡ true → o ≡ Some n → (if t then o else None) ≡ Some n
+jump_when true o n e is = is
+jump_when false o n e is = absurd cc
+
+own_jump_of : (k : Contents) (place : ℕ) (x : Option Operand) (word : Option ℕ) (way : Addressing) (r : Reloc) → number word < 65536 →
+    addressing_of x ≡ Some way → IsDirect way → slice_get k.text_reloc place ≡ Some r → kind_said way r ≡ Some kinds.TextSeg →
+    (is_relocated (Some r) ≡ true → is_pc_relative r ≡ counts_from_pc way) →
+    jump_of k place x word ≡ Some (machine_value way (2 * place + 2) (number word))
+own_jump_of k place None word way r small mode direct at said bit = absurd cc
+own_jump_of k place (Some (operands.General m register)) word way r small mode direct at said bit =
+    ap (λ (o : Option Reloc). jump_by o (2 * place + 2) (number word) (addressing m register)) at
+    ∙ ap (λ (o : Option Addressing). jump_by (Some r) (2 * place + 2) (number word) o) mode
+    ∙ jumps_own r (2 * place + 2) (number word) small way direct said bit
+own_jump_of k place (Some (operands.Accumulator v)) word way r small mode direct at said bit = absurd cc
+own_jump_of k place (Some (operands.Register v)) word way r small mode direct at said bit = absurd cc
+own_jump_of k place (Some (operands.Forward v)) word way r small mode direct at said bit = absurd cc
+own_jump_of k place (Some (operands.Backward v)) word way r small mode direct at said bit = absurd cc
+own_jump_of k place (Some (operands.Number v)) word way r small mode direct at said bit = absurd cc
+
+not_immediate : (way : Addressing) → IsDirect way → is_immediate way ≡ true → ⊥
+not_immediate Immediate (inl e) h = absurd cc
+not_immediate Immediate (inr e) h = absurd cc
+not_immediate Relative d h = absurd cc
+not_immediate Absolute d h = absurd cc
+not_immediate RelativeDeferred d h = absurd cc
+not_immediate Indexed d h = absurd cc
+
+-- a place of the program is a reached place of an object
+pub record IsAt (os : List Contents) (place : ℕ) : Type 0 where
+  pub before : List Contents
+  pub k : Contents
+  pub after : List Contents
+  pub all : os ≡ before ++ k ∷ after
+  pub i : ℕ
+  pub at : place ≡ total TextSeg before / 2 + i
+  pub reached : IsReached Promise k i
+
+module _ (forced : List (List ℕ)) (os : List Contents) (o : Choices) (x : Outcome) (good : AllByRecursion IsObject os)
+    (l : IsLinkedFrom forced os o x) (small : x.file.header.text_size ≤ 65535) where
+  file_fits : 2 * length x.file.text_words ≤ 65535
+  file_fits = omega (arith, l.holds.text_words, l.holds.text, small)
+
+  -- an object of the program, and where its text begins
+  module _ (before : List Contents) (k : Contents) (after : List Contents) (all : os ≡ before ++ k ∷ after) where
+    objects : AllByRecursion IsObject before × AllByRecursion IsObject (k ∷ after)
+    objects = all_split IsObject before (k ∷ after) (subst (λ (ys : List Contents). AllByRecursion IsObject ys) all good)
+
+    even : 2 * (total TextSeg before / 2) ≡ total TextSeg before
+    even = whole_words TextSeg tt before objects.0
+
+    ends_within : total TextSeg before / 2 + length k.text_words ≤ length x.file.text_words
+    ends_within = text_within forced os o x good l before k after all objects.1.0
+
+  -- a symbol of text is at a reached place, if it is at a place of the program
+  symbol_at : (s : TextSymbol os) (place address : ℕ) → address ≡ total TextSeg s.before + s.symbol.value →
+      2 * place ≡ address % 65536 → IsAt os place
+  symbol_at s place address sum is =
+      let start : ℕ = total TextSeg s.before / 2 in
+      let whole : 2 * (total TextSeg s.before / 2) ≡ total TextSeg s.before = even s.before s.k s.after s.all in
+      let inside = ends_within s.before s.k s.after s.all in
+      let value : 2 * (total TextSeg s.before / 2) + s.symbol.value ≡ 2 * place = omega (arith, file_fits, s.inside, inside, whole) in
+      let half : s.symbol.value ≡ 2 * (s.symbol.value / 2) = omega (arith, value) in
+      record {
+        before = s.before;
+        k = s.k;
+        after = s.after;
+        all = s.all;
+        i = s.symbol.value / 2;
+        at = omega (arith, value);
+        reached =
+            symbol_reached s.k s.number (s.symbol.value / 2) s.symbol s.is_there s.is_in_text half (omega (arith, s.inside));
+      }
+
+  -- and defines its name
+  symbol_defines : (s : TextSymbol os) (name : List ℕ) → is_external s.symbol ≡ true → s.symbol.name ≡ name →
+      Defines s.k name TextSeg s.symbol.value
+  symbol_defines s name outer names =
+      let two : masked_type s.symbol ≡ 2 = eqb-true (masked_type s.symbol) 2 s.is_in_text in
+      record {
+        number = s.number;
+        symbol = s.symbol;
+        is_there = s.is_there;
+        outer = outer;
+        inner = ap (λ (n : ℕ). eqb n 0) two;
+        names = names;
+        is = ap segment_numbered two;
+        value = omega arith;
+      }
+
+module _ (forced : List (List ℕ)) (before : List Contents) (k : Contents) (after : List Contents) (o : Choices) (x : Outcome)
+    (good : AllByRecursion IsObject (before ++ k ∷ after)) (clean : IsClean (before ++ k ∷ after) k)
+    (kept : o.keep ≢ Nothing) (l : IsLinkedFrom forced (before ++ k ∷ after) o x) (once : x.report.multiples ≡ [])
+    (small : x.file.header.text_size ≤ 65535) (i : ℕ) (r : IsReached Promise k i) where
+  sure : is_sure Promise k i ≡ true
+  sure = and_from (is_reached Promise k i) true ((reached_places Promise k i).1 r) refl
+
+  still : is_relocated (slice_get k.text_reloc i) ≡ false
+  still = (sure_words Promise k clean.quiet i sure).0
+
+  linked : link forced (before ++ k ∷ after) o ≡ Ok x
+  linked = (linked_exactly forced (before ++ k ∷ after) o x good).1 l
+
+  -- an instruction begins there, unless it is one of another PDP-11, and is in the program
+  pub kept_there : is_foreign (slice_index k.text_words i) ≡ false → IsKept o x l.rows (before ++ k ∷ after) before k i
+  kept_there own =
+      let b = sure_places_begin Promise k clean.quiet i sure own in
+      record {
+        begins = b;
+        kept =
+            reached_instructions_kept forced before k after o x good clean.words Promise clean.quiet l i sure b.w b.following b.here
+            b.instruction b.is b.whole;
+      }
+
+  -- to another place of the object
+  within_object : (q : ℕ) (line : UnixLine) → unix_line_in Unix k i ≡ line →
+      Within (total TextSeg before / 2) (length k.text_words) q (leads_by Promise k i line) → IsAt (before ++ k ∷ after) q
+  within_object q line is w = record {
+    before = before;
+    k = k;
+    after = after;
+    all = refl;
+    i = w.j;
+    at = w.at;
+    reached =
+        Led i w.j r w.below
+        (subst (λ (m : UnixLine). list_any (is_place w.j) (leads_by Promise k i m) ≡ true) (sym is) w.led);
+  }
+
+  module _ (q : ℕ) (instruction : Instruction) (w : ℕ) (f : List ℕ) (here : drop i k.text_words ≡ w ∷ f)
+      (is : instruction_of w ≡ Some instruction) (uncut : is_cut (instruction_of w) f ≡ false)
+      (line : unix_line_in Unix k i ≡ Machine (decoded instruction f))
+      (by : JumpBy x.file k (total TextSeg before / 2) i q instruction (leads_by Promise k i (Machine (decoded instruction f)))) where
+    said : HasOperandSaid (before ++ k ∷ after) o x before k instruction.row.operation by.goes.way by.place
+    said =
+        (reached_instructions_kept forced before k after o x good clean.words Promise clean.quiet l i sure w f here instruction is uncut).operands
+        by.operand by.place by.is by.goes.way by.goes.mode (λ v at near. absurd (not_immediate by.goes.way by.goes.direct near))
+
+    -- the machine finds the target by the word of the program
+    value : machine_value by.goes.way (said.operand.address + 2) said.operand.word ≡ 2 * q
+    value =
+        let whole = even forced (before ++ k ∷ after) o x good l small before k after refl in
+        let below = slice_get_within k.text_words by.place said.operand.w said.operand.word_in in
+        let inside = ends_within forced (before ++ k ∷ after) o x good l small before k after refl in
+        let v = get_inside x.file.text_words (total TextSeg before / 2 + by.place) (omega (arith, below, inside)) in
+        let at : said.operand.address ≡ 0 + 2 * (total TextSeg before / 2 + by.place) = omega (arith, said.operand.place.sum, whole) in
+        let there : IsWordAt x.file of_instructions (0 + 2 * (total TextSeg before / 2 + by.place)) v.0 =
+        word_there x.file of_instructions TextSeg tt (found_in forced (before ++ k ∷ after) o x linked TextSeg tt)
+        (omega (arith, l.holds.text_words, l.holds.text)) (total TextSeg before / 2 + by.place) v.0 v.1 in
+        let same : said.operand.word ≡ v.0 =
+        one_word x.file of_instructions (0 + 2 * (total TextSeg before / 2 + by.place)) said.operand.word v.0
+        (subst (λ (n : ℕ). IsWordAt x.file of_instructions n said.operand.word) at said.operand.is_there) there in
+        let found : number by.word ≡ v.0 = ap number (by.there ∙ v.1) in
+        let next : said.operand.address + 2 ≡ 2 * (total TextSeg before / 2 + by.place) + 2 = omega (arith, at) in
+        ap (λ (n : ℕ). machine_value by.goes.way n said.operand.word) next
+        ∙ ap (λ (n : ℕ). machine_value by.goes.way (2 * (total TextSeg before / 2 + by.place) + 2) n) (same ∙ sym found)
+        ∙ by.goes.value
+
+    meant : (kind : Kind) → kind_said by.goes.way said.operand.r ≡ Some kind → kind_meant by.goes.way said.operand.r ≡ Some kind
+    meant kind e = said.meant ∙ sym said.said ∙ e
+
+    -- what the word gives in the object
+    abbrev in_object : ℕ
+    in_object = machine_value by.goes.way (2 * by.place + 2) said.operand.w
+
+    -- the object's own text
+    to_own_text : kind_said by.goes.way said.operand.r ≡ Some kinds.TextSeg → IsAt (before ++ k ∷ after) q
+    to_own_text e =
+        let own : IsOwnByte k (kind_meant by.goes.way said.operand.r) in_object TextSeg in_object = record {
+          meant = kinds.TextSeg;
+          is = meant kinds.TextSeg e;
+          segment = refl;
+          byte = value_small by.goes.way (2 * by.place + 2) said.operand.w;
+        } in
+        let there = said.operand.segments TextSeg in_object own in
+        let same : number by.own_word ≡ said.operand.w = ap number (by.here ∙ said.operand.word_in) in
+        let narrow : number by.own_word < 65536 =
+        subst (λ (n : ℕ). n < 65536) (sym same) (word_small k.text_words by.place said.operand.w clean.words said.operand.word_in) in
+        let leads : jump k instruction.row.operation by.place by.operand by.own_word ≡ Some in_object =
+        jump_when (jumps instruction.row.operation) (jump_of k by.place by.operand by.own_word) in_object by.goes.jumps
+        (own_jump_of k by.place by.operand by.own_word by.goes.way said.operand.r narrow by.goes.mode by.goes.direct said.operand.reloc_in
+        e said.bit ∙ ap (λ (n : ℕ). Some (machine_value by.goes.way (2 * by.place + 2) n)) same) in
+        let low : in_object < 2 * length k.text_words =
+        subst (λ (u : Option ℕ). IfSome u (λ a. a < 2 * length k.text_words)) leads by.ends in
+        let whole = even forced (before ++ k ∷ after) o x good l small before k after refl in
+        let inside = ends_within forced (before ++ k ∷ after) o x good l small before k after refl in
+        let sum : 2 * (total TextSeg before / 2) + in_object ≡ 2 * q =
+        own_sum (total TextSeg before) in_object there.address (length k.text_words) (length x.file.text_words) q low whole inside
+        (file_fits forced (before ++ k ∷ after) o x good l small) there.place.sum (sym value ∙ there.is) in
+        let half : in_object ≡ 2 * (in_object / 2) = omega (arith, sum) in
+        within_object q (Machine (decoded instruction f)) line (record {
+          j = in_object / 2;
+          at = omega (arith, sum);
+          below = omega (arith, low);
+          led =
+              by.led (in_object / 2) (ap (λ (u : Option ℕ). is_place (in_object / 2) u) leads ∙ place_is (in_object / 2) in_object half);
+        })
+      where
+        own_sum : (total n address length long q : ℕ) → n < 2 * length → 2 * (total / 2) ≡ total → total / 2 + length ≤ long →
+            2 * long ≤ 65535 → address ≡ 0 + total + n → 2 * q ≡ address % 65536 → 2 * (total / 2) + n ≡ 2 * q
+        own_sum total n address length long q a b c d e f = omega arith
+
+    -- a name of text
+    to_name : RefersToText (before ++ k ∷ after) k by.goes.way by.place said.operand.r → IsAt (before ++ k ∷ after) q
+    to_name n =
+        let same : n.word ≡ said.operand.w = same_Some n.word said.operand.w (sym n.is_there ∙ said.operand.word_in) in
+        let just : in_object ≡ 0 = ap (λ (v : ℕ). machine_value by.goes.way (2 * by.place + 2) v) (sym same) ∙ n.just in
+        let named : IsNamedByte k n.target.k (kind_meant by.goes.way said.operand.r) said.operand.r in_object TextSeg
+        n.target.symbol.value = record {
+          is = meant kinds.External n.kind;
+          symbol = n.mention;
+          named = n.named;
+          start = n.target.symbol.value;
+          defined =
+              symbol_defines forced (before ++ k ∷ after) o x good l small n.target n.mention.name n.outer n.names;
+          byte = no_further in_object n.target.symbol.value just;
+        } in
+        let there = said.operand.names kept once n.target.before n.target.k n.target.after n.target.all TextSeg n.target.symbol.value named in
+        symbol_at forced (before ++ k ∷ after) o x good l small n.target q there.address (omega (arith, there.place.sum))
+        (sym value ∙ there.is)
+      where
+        no_further : (n v : ℕ) → n ≡ 0 → plus (0 + v) n ≡ (0 + v) % 65536
+        no_further n v e = let sum : (0 + v + n) % 65536 ≡ (0 + v) % 65536 = omega arith in sum
+
+    -- so the jump arrives at a reached place
+    pub jump_arrives : IsAt (before ++ k ∷ after) q
+    jump_arrives = elim (clean.jumps i r instruction (word_for instruction.first 0 f)
+        (word_for instruction.second (word_count_of instruction.first) f) line by.goes.jumps by.operand
+        by.place by.is by.goes.way by.goes.mode by.goes.direct said.operand.r said.operand.reloc_in) [
+          | inl e ↦ to_own_text e
+          | inr n ↦ to_name n
+        ]
+
+  -- where the line leads in the program
+  module _ (q : ℕ) (below : q < length x.file.text_words)
+      (led : list_any (is_place q) (leads_to Flow (stripped x.file) (total TextSeg before / 2 + i)) ≡ true) where
+    abbrev p : ℕ
+    p = total TextSeg before / 2 + i
+
+    by_lines : Lines x.file k (total TextSeg before / 2 + i) i → IsAt (before ++ k ∷ after) q
+    by_lines (Calls c here there) =
+        within_object q (Call c) here
+        (call_leads x.file k (total TextSeg before / 2) p i q c refl
+        (subst (λ (line : UnixLine). AllByRecursion (λ o. IfSome o (λ a. a < 2 * length k.text_words)) (leads_by Flow k i line)) here
+        (clean.stays i r).ends)
+        ((clean.stays i r).parent c here)
+        (subst (λ (line : UnixLine). list_any (is_place q) (leads_by Flow (stripped x.file) p line) ≡ true) there led))
+    by_lines (Instructs instruction w f g is uncut at_object at_program here there) =
+        let fits = file_fits forced (before ++ k ∷ after) o x good l small in
+        let inside = ends_within forced (before ++ k ∷ after) o x good l small before k after refl in
+        elim (instruction_leads x.file k (total TextSeg before / 2) p i q w f g instruction refl (omega (arith, fits, below))
+        (omega (arith, fits, inside)) at_object at_program is
+        (subst (λ (line : UnixLine). AllByRecursion (λ o. IfSome o (λ a. a < 2 * length k.text_words)) (leads_by Flow k i line)) here
+        (clean.stays i r).ends)
+        (subst (λ (line : UnixLine). list_any (is_place q) (leads_by Flow (stripped x.file) p line) ≡ true) there led)) [
+          | inl own ↦ within_object q (Machine (decoded instruction f)) here own
+          | inr by ↦ jump_arrives q instruction w f at_object is uncut here by
+        ]
+    by_lines (Ends w there) =
+        let none : false ≡ true = subst (λ (line : UnixLine). list_any (is_place q) (leads_by Flow (stripped x.file) p line) ≡ true) there led in
+        absurd cc
+
+    pub leads_there : IsAt (before ++ k ∷ after) q
+    leads_there =
+        let place = sure_below Promise k i sure in
+        let w : ℕ = slice_index k.text_words i in
+        let f : List ℕ = drop (i + 1) k.text_words in
+        let here : drop i k.text_words ≡ slice_index k.text_words i ∷ drop (i + 1) k.text_words = words_from k.text_words i place in
+        let whole = (sure_places Promise k clean.quiet i sure).0 in
+        let uncut = whole_at k i w f here still whole in
+        let t = instructions_there forced before k after o x good clean.words l i w f here still uncut in
+        let inside = ends_within forced (before ++ k ∷ after) o x good l small before k after refl in
+        let longer = more_left k.text_words x.file.text_words i (total TextSeg before / 2) w t.more place inside t.there in
+        by_lines (lines_at x.file k (total TextSeg before / 2 + i) i w f t.more here t.there longer still whole)
+      where
+        more_left : (ws vs : List ℕ) (i start w : ℕ) (more : List ℕ) → i < length ws → start + length ws ≤ length vs →
+            drop (start + i) vs ≡ w ∷ more → length (drop (i + 1) ws) ≤ length more
+        more_left ws vs i start w more a b e =
+            let long : length (drop (start + i) vs) ≡ length (w ∷ more) = ap (λ (xs : List ℕ). length xs) e in
+            omega (arith, length-drop (i + 1) ws, length-drop (start + i) vs)
+
+-- the same of an object among others
+
+step_from : (forced : List (List ℕ)) (os : List Contents) (o : Choices) (x : Outcome) (before : List Contents) (k : Contents)
+    (after : List Contents) → os ≡ before ++ k ∷ after → AllByRecursion IsObject os → IsClean os k → o.keep ≢ Nothing →
+    IsLinkedFrom forced os o x → x.report.multiples ≡ [] → x.file.header.text_size ≤ 65535 → (i : ℕ) → IsReached Promise k i →
+    (q : ℕ) → q < length x.file.text_words →
+    list_any (is_place q) (leads_to Flow (stripped x.file) (total TextSeg before / 2 + i)) ≡ true → IsAt os q
+step_from forced os o x before k after all good clean kept l once small i r q below led =
+    subst (λ (ys : List Contents). AllByRecursion IsObject ys → IsClean ys k → IsLinkedFrom forced ys o x → IsAt ys q) (sym all)
+    (λ g c m. leads_there forced before k after o x g c kept m once small i r q below led) good clean l
+
+kept_from : (forced : List (List ℕ)) (os : List Contents) (o : Choices) (x : Outcome) (before : List Contents) (k : Contents)
+    (after : List Contents) → os ≡ before ++ k ∷ after → AllByRecursion IsObject os → IsClean os k → o.keep ≢ Nothing →
+    (l : IsLinkedFrom forced os o x) → x.report.multiples ≡ [] → x.file.header.text_size ≤ 65535 → (i : ℕ) → IsReached Promise k i →
+    is_foreign (slice_index k.text_words i) ≡ false → IsKept o x l.rows os before k i
+kept_from forced os o x before k after all good clean kept l once small i r own =
+    subst (λ (ys : List Contents). AllByRecursion IsObject ys → IsClean ys k → (m : IsLinkedFrom forced ys o x) →
+    IsKept o x m.rows ys before k i) (sym all) (λ g c m. kept_there forced before k after o x g c kept m once small i r own) good clean l
+
+module _ (forced : List (List ℕ)) (os : List Contents) (o : Choices) (x : Outcome) (good : AllByRecursion IsObject os)
+    (clean : AllByRecursion (IsClean os) os) (kept : o.keep ≢ Nothing) (l : IsLinkedFrom forced os o x)
+    (once : x.report.multiples ≡ []) (small : x.file.header.text_size ≤ 65535) (begins : BeginsAtSymbol os x) where
+  clean_in : (before : List Contents) (k : Contents) (after : List Contents) → os ≡ before ++ k ∷ after → IsClean os k
+  clean_in before k after all =
+      (all_split (IsClean os) before (k ∷ after) (subst (λ (ys : List Contents). AllByRecursion (IsClean os) ys) all clean)).1.0
+
+  run_at : (place : ℕ) → IsReached Flow (stripped x.file) place → IsAt os place
+  run_at place (Evident p below led) =
+      let is : x.file.header.entry_point ≡ 2 * p =
+      placed p x.file.header.entry_point (or-nothing (is_place p (Some x.file.header.entry_point)) led) in
+      let fits = file_fits forced os o x good l small in
+      symbol_at forced os o x good l small begins.first p x.file.header.entry_point begins.is (omega (arith, is, below, fits))
+  run_at place (Led from p r below led) = go (run_at from r)
+    where
+      go : IsAt os from → IsAt os p
+      go a =
+          step_from forced os o x a.before a.k a.after a.all good (clean_in a.before a.k a.after a.all) kept l once small a.i a.reached p below
+          (subst (λ (n : ℕ). list_any (is_place p) (leads_to Flow (stripped x.file) n) ≡ true) a.at led)
+
+  of_object : (place : ℕ) → IsAt os place → IsOfObject o x l.rows os place
+  of_object place a = record {
+    before = a.before;
+    k = a.k;
+    after = a.after;
+    all = a.all;
+    i = a.i;
+    at = a.at;
+    reached = a.reached;
+    instruction =
+        kept_from forced os o x a.before a.k a.after a.all good (clean_in a.before a.k a.after a.all) kept l once small a.i a.reached;
+  }
+
+-- for `clean_law`: control reaches only reached places of the objects, with their instructions
+pub clean_objects : CleanObjectsMakeCleanPrograms
+clean_objects forced os o x good clean kept l once small begins place run =
+    of_object forced os o x good clean kept l once small begins place (run_at forced os o x good clean kept l once small begins place run)

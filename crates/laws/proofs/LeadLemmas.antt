@@ -1,0 +1,443 @@
+-- Where a line of a program leads: within the text of its object, or by a jump or a call.
+use Rattle.std.proofs.Common.{◌≡◌, ℕ, zero, suc, ◌+◌, ◌-◌, ◌*◌, ◌/◌, ◌%◌, ◌<◌, ◌≤◌, ◌⊎◌, inl, inr, Bool, true, false, ◌||◌, ◌&&◌, eqb, nat_lt}
+use Rattle.std.proofs.Common.{if◌then◌else◌, List, [], ◌∷◌, length, drop, Option, Some, None, refl, sym, ◌∙◌, ap, subst, arith}
+use Rattle.std.proofs.{lemmas.Option.same_Some, lemmas.Bool.and_parts, lemmas.Bool.and_from, lemmas.Bool.or_cases, lemmas.Bool.eqb-true}
+use Rattle.std.proofs.lemmas.Bool.{eq-eqb, lt-ltb}
+use Rattle.std.specs.Prelude.{slice_get, IfSome, not}
+use Rattle.std.specs.List.{list_any, AllByRecursion}
+use Rattle.aout_core.specs.{Contents.Contents, Strip.stripped, Words.plus}
+use Rattle.instructions.specs.Instructions.{instruction_of, instruction_in, instruction as made_of, field_operand, word_count_of}
+use Rattle.instructions.specs.Instructions.{following_words, jumps}
+use Rattle.instructions.specs.{Lines.word_for, Operands.is_missing, Operands.operand_of, Texts.number, Fields.place as bit, Fields.size}
+use Rattle.instructions.specs.{Rows.row_of, declared.table.Row.Row, declared.field.Field.Field, Modes.addressing}
+use Rattle.instructions.specs.declared.mode.Addressing.TheVariants.{Immediate, Absolute, Relative, RelativeDeferred, Indexed}
+use Rattle.instructions.specs.{declared.mode.Addressing.Addressing, declared.operation.Operation.Operation}
+use Rattle.instructions.specs.{declared.operand.Operand.Operand, declared.instruction.Instruction.Instruction}
+use Rattle.instructions.specs.{declared.call.SystemCall.SystemCall, declared.call_table.CallRow.CallRow}
+use Rattle.instructions.specs.{declared.line.Line.TheVariants.Decoded, declared.unix.UnixLine.UnixLine}
+use Rattle.instructions.specs.{declared.unix.UnixLine.TheVariants.Machine, declared.unix.UnixLine.TheVariants.Call}
+use Rattle.suspicions.specs.{ReachedLaw.is_place, Reached.passes, Reached.flows, Reached.calls_csv, Reached.calls_by_r5, Reached.is_pc_itself}
+use Rattle.suspicions.specs.Reached.{may_write_pc, is_followed, returns, next_of, parent_of, branch_of, jump, jump_of, jump_by, leads_by}
+use Rattle.suspicions.specs.declared.evidence.Evidence.TheVariants.{Flow, Promise}
+use Rattle.instructions.specs.{Operands.takes_word}
+use Rattle.instructions.proofs.AlikeLemmas.{get_from}
+use Rattle.laws.specs.{OperandPlaces.addressing_of, OperandPlaces.IsDirect, OperandPlaces.IsOperand, OperandWords.machine_value}
+use Rattle.laws.proofs.{ReachedInstructionLemmas.decoded, OperandPlaceLemmas.takes_its_word}
+use Rattle.instructions.specs.declared.operand.Operand.TheVariants as operands
+use Rattle.instructions.specs.declared.operation.Operation.TheVariants as operations
+use Rattle.instructions.specs.declared.field.Field.TheVariants as fields
+use Rattle.instructions.specs.declared.call.SystemCall.TheVariants as calls
+
+-- one of several addresses
+
+pub any_here : (t u : Bool) → t ≡ true → (t || u) ≡ true
+any_here true u e = refl
+any_here false u e = absurd cc
+
+pub any_later : (t u : Bool) → u ≡ true → (t || u) ≡ true
+any_later true u e = refl
+any_later false u e = e
+
+-- an address is that of a place
+pub placed : (q address : ℕ) → is_place q (Some address) ≡ true → address ≡ 2 * q
+placed q address e =
+    let both = and_parts (eqb (address % 2) 0) (eqb (address / 2) q) e in
+    let even = eqb-true (address % 2) 0 both.0 in
+    let half = eqb-true (address / 2) q both.1 in
+    omega arith
+
+pub place_is : (q address : ℕ) → address ≡ 2 * q → is_place q (Some address) ≡ true
+place_is q address e =
+    and_from (eqb (address % 2) 0) (eqb (address / 2) q) (eq-eqb (address % 2) 0 (omega arith)) (eq-eqb (address / 2) q (omega arith))
+
+-- a line leads on if a test holds
+leads_on : (t : Bool) (q address : ℕ) → is_place q (if t then Some address else None) ≡ true → (t ≡ true) × (address ≡ 2 * q)
+leads_on true q address e = (refl, placed q address e)
+leads_on false q address e = absurd cc
+
+leads_on_back : (t : Bool) (q address : ℕ) → t ≡ true → address ≡ 2 * q → is_place q (if t then Some address else None) ≡ true
+leads_on_back true q address e is = place_is q address is
+leads_on_back false q address e is = absurd cc
+
+on_below : (t : Bool) (address limit : ℕ) → t ≡ true → IfSome (if t then Some address else None) (λ a. a < limit) → address < limit
+on_below true address limit e h = h
+on_below false address limit e h = absurd cc
+
+-- an address of the program that is one of the object, moved with its text
+pub record Within (start length q : ℕ) (own : List (Option ℕ)) : Type 0 where
+  pub j : ℕ
+  pub at : q ≡ start + j
+  pub below : j < length
+  pub led : list_any (is_place j) own ≡ true
+
+below : (o : Option ℕ) (limit a : ℕ) → o ≡ Some a → IfSome o (λ b. b < limit) → a < limit
+below o limit a e h = subst (λ (x : Option ℕ). IfSome x (λ b. b < limit)) e h
+
+-- calls
+
+pub or-nothing : (b : Bool) → (b || false) ≡ true → b ≡ true
+or-nothing true e = refl
+or-nothing false e = absurd cc
+
+-- the parent of `sys fork`
+parent_leads : (file k : Contents) (start p i q : ℕ) (call : SystemCall) → p ≡ start + i →
+    (call ≡ calls.Fork → i + 2 < length k.text_words) → is_place q (parent_of (stripped file) p call) ≡ true →
+    (j : ℕ) × (q ≡ start + j) × (j < length k.text_words) × (is_place j (parent_of k i call) ≡ true)
+parent_leads file k start p i q calls.Fork at inside e =
+    let there = leads_on (nat_lt (p + 2) (length file.text_words)) q (2 * (p + 2)) e in
+    let has : i + 2 < length k.text_words = inside refl in
+    (i + 2, omega (arith, there.1), has, leads_on_back (nat_lt (i + 2) (length k.text_words)) (i + 2) (2 * (i + 2)) (lt i has) refl)
+  where
+    lt : (i : ℕ) → i + 2 < length k.text_words → nat_lt (i + 2) (length k.text_words) ≡ true
+    lt i h = lt-ltb (i + 2) (length k.text_words) h
+parent_leads file k start p i q _ at inside e = absurd cc
+
+-- a call leads on within the text
+pub call_leads : (file k : Contents) (start p i q : ℕ) (c : CallRow) → p ≡ start + i →
+    AllByRecursion (λ o. IfSome o (λ a. a < 2 * length k.text_words)) (leads_by Flow k i (Call c)) →
+    (c.call ≡ calls.Fork → i + 2 < length k.text_words) → list_any (is_place q) (leads_by Flow (stripped file) p (Call c)) ≡ true →
+    Within start (length k.text_words) q (leads_by Promise k i (Call c))
+call_leads file k start p i q c at ends parent e = elim (or_cases
+    (is_place q (if returns c.call || false then Some (2 * (p + (1 + c.words))) else None)) (is_place q (parent_of (stripped file) p c.call) || false) e) [
+      | inl h ↦
+          let on = leads_on (returns c.call || false) q (2 * (p + (1 + c.words))) h in
+          let inside = on_below (returns c.call || false) (2 * (i + (1 + c.words))) (2 * length k.text_words) on.0 ends.0 in
+          record {
+            j = i + (1 + c.words);
+            at = omega (arith, on.1);
+            below = omega (arith, inside);
+            led =
+                any_here (is_place (i + (1 + c.words)) (next_of Promise k i (Call c)))
+                (is_place (i + (1 + c.words)) (parent_of k i c.call) || false)
+                (leads_on_back (returns c.call || is_followed Promise k i (Call c)) (i + (1 + c.words)) (2 * (i + (1 + c.words)))
+                (any_here (returns c.call) (is_followed Promise k i (Call c)) (or-nothing (returns c.call) on.0)) refl);
+          }
+      | inr h ↦
+          let led = parent_leads file k start p i q c.call at parent (or-nothing (is_place q (parent_of (stripped file) p c.call)) h) in
+          record {
+            j = led.0;
+            at = led.1;
+            below = led.2;
+            led =
+                any_later (is_place led.0 (next_of Promise k i (Call c))) (is_place led.0 (parent_of k i c.call) || false)
+                (any_here (is_place led.0 (parent_of k i c.call)) false led.3);
+          }
+    ]
+
+-- control comes to the line after an instruction of the program only if it does in the object
+
+nothing-and : (b : Bool) → (b && false) ≡ false
+nothing-and true = refl
+nothing-and false = refl
+
+no_csv : (file : Contents) (p : ℕ) → calls_csv (stripped file) p ≡ false
+no_csv file p = nothing-and (calls_by_r5 (slice_get file.text_words p))
+
+more_comes_back : (a b : Bool) → (a || false) ≡ true → (a || b) ≡ true
+more_comes_back true b e = refl
+more_comes_back false b e = absurd cc
+
+passes_more : (operation : Operation) (a b : Bool) → passes operation (a || false) ≡ true → passes operation (a || b) ≡ true
+passes_more operations.Jsr a b e = more_comes_back a b e
+passes_more _ a b e = e
+
+flows_more : (file k : Contents) (p i : ℕ) (instruction : Instruction) → flows (stripped file) p instruction ≡ true →
+    flows k i instruction ≡ true
+flows_more file k p i instruction e =
+    let both = and_parts (not (may_write_pc instruction))
+    (passes instruction.row.operation (is_pc_itself instruction.first || calls_csv (stripped file) p)) e in
+    and_from (not (may_write_pc instruction)) (passes instruction.row.operation (is_pc_itself instruction.first || calls_csv k i)) both.0
+    (passes_more instruction.row.operation (is_pc_itself instruction.first) (calls_csv k i)
+    (subst (λ (b : Bool). passes instruction.row.operation (is_pc_itself instruction.first || b) ≡ true) (no_csv file p) both.1))
+
+-- branches
+
+-- the distance of a branch back is short
+abbrev IsShort : Option Operand → Type 0
+IsShort (Some (operands.Backward v)) = v < 0o400
+IsShort _ = Unit {0}
+
+short_field : (f : Field) (v : ℕ) → v < 0o400 → IsShort (Some (operand_of f v))
+short_field fields.Floating v h = by (nat_lt v 8)
+  where
+    by : (t : Bool) → IsShort (Some (if t then operands.Accumulator v else operand_of fields.Source v))
+    by true = tt
+    by false = tt
+short_field fields.Backward v h = h
+short_field _ v h = tt
+
+small_field : (f : Field) (w : ℕ) → w / bit f % size f < 0o400
+small_field fields.Source w = omega arith
+small_field fields.Destination w = omega arith
+small_field fields.Floating w = omega arith
+small_field fields.Register w = omega arith
+small_field fields.LowRegister w = omega arith
+small_field fields.Accumulator w = omega arith
+small_field fields.Forward w = omega arith
+small_field fields.Backward w = omega arith
+small_field fields.Byte w = omega arith
+small_field fields.SixBits w = omega arith
+small_field fields.ThreeBits w = omega arith
+
+short_operand : (f : Option Field) (w : ℕ) → IsShort (field_operand f w)
+short_operand None w = tt
+short_operand (Some f) w = short_field f (w / bit f % size f) (small_field f w)
+
+short_in : (o : Option Row) (w : ℕ) (instruction : Instruction) → instruction_in o w ≡ Some instruction →
+    IsShort instruction.first × IsShort instruction.second
+short_in None w instruction e = absurd cc
+short_in (Some row) w instruction e = by (is_missing (field_operand row.first w) || is_missing (field_operand row.second w)) e
+  where
+    by : (t : Bool) → (if t then None else Some (made_of row w)) ≡ Some instruction → IsShort instruction.first × IsShort instruction.second
+    by true e = absurd cc
+    by false e =
+        let same : made_of row w ≡ instruction = same_Some (made_of row w) instruction e in
+        subst (λ (i : Instruction). IsShort i.first × IsShort i.second) same (short_operand row.first w, short_operand row.second w)
+
+pub branch_leads : (x : Option Operand) (start length p i q : ℕ) → IsShort x → p ≡ start + i → 2 * (start + length) < 65536 →
+    IfSome (branch_of (2 * i) x) (λ a. a < 2 * length) → is_place q (branch_of (2 * p) x) ≡ true →
+    (j : ℕ) × (q ≡ start + j) × (j < length) × (is_place j (branch_of (2 * i) x) ≡ true)
+branch_leads (Some (operands.Forward v)) start length p i q short at fits inside e =
+    forward (if nat_lt v 0o200 then 0 else 0o177000) inside
+    (placed q ((2 * p + 2 + 2 * v + (if nat_lt v 0o200 then 0 else 0o177000)) % 0o200000) e)
+  where
+    forward : (c : ℕ) → (2 * i + 2 + 2 * v + c) % 0o200000 < 2 * length → (2 * p + 2 + 2 * v + c) % 0o200000 ≡ 2 * q →
+        (j : ℕ) × (q ≡ start + j) × (j < length) × (is_place j (Some ((2 * i + 2 + 2 * v + c) % 0o200000)) ≡ true)
+    forward c small is =
+        let sum : 2 * start + (2 * i + 2 + 2 * v + c) % 0o200000 ≡ 2 * q = omega arith in (
+          (2 * i + 2 + 2 * v + c) % 0o200000 / 2,
+          omega arith,
+          omega arith,
+          place_is ((2 * i + 2 + 2 * v + c) % 0o200000 / 2) ((2 * i + 2 + 2 * v + c) % 0o200000) (omega arith),
+        )
+branch_leads (Some (operands.Backward v)) start length p i q short at fits inside e =
+    let is : (2 * p + 0o400002 - 2 * v) % 0o200000 ≡ 2 * q = placed q ((2 * p + 0o400002 - 2 * v) % 0o200000) e in
+    let small : (2 * i + 0o400002 - 2 * v) % 0o200000 < 2 * length = inside in
+    let close : v < 0o400 = short in
+    let sum : 2 * start + (2 * i + 0o400002 - 2 * v) % 0o200000 ≡ 2 * q = omega arith in (
+      (2 * i + 0o400002 - 2 * v) % 0o200000 / 2,
+      omega arith,
+      omega arith,
+      place_is ((2 * i + 0o400002 - 2 * v) % 0o200000 / 2) ((2 * i + 0o400002 - 2 * v) % 0o200000) (omega arith),
+    )
+branch_leads None start length p i q short at fits inside e = absurd cc
+branch_leads (Some (operands.General m r)) start length p i q short at fits inside e = absurd cc
+branch_leads (Some (operands.Accumulator v)) start length p i q short at fits inside e = absurd cc
+branch_leads (Some (operands.Register r)) start length p i q short at fits inside e = absurd cc
+branch_leads (Some (operands.Number v)) start length p i q short at fits inside e = absurd cc
+
+-- jumps and calls
+
+-- an operand leads to a place of the program by a jump or a call; this is the place of its word
+pub record GoesBy (operation : Operation) (place q : ℕ) (x : Option Operand) (word : Option ℕ) : Type 0 where
+  pub jumps : jumps operation ≡ true
+  pub way : Addressing
+  pub mode : addressing_of x ≡ Some way
+  pub direct : IsDirect way
+  pub value : machine_value way (2 * place + 2) (number word) ≡ 2 * q
+
+module _ (file : Contents) (operation : Operation) (place q : ℕ) (x : Option Operand) (word : Option ℕ) (fits : 2 * q < 65536) where
+  by_way : jumps operation ≡ true → (o : Option Addressing) → addressing_of x ≡ o →
+      is_place q (jump_by None (2 * place + 2) (number word) o) ≡ true → GoesBy operation place q x word
+  by_way j None m e = absurd cc
+  by_way j (Some Relative) m e =
+      record { jumps = j; way = Relative; mode = m; direct = inl refl; value = placed q (plus (number word) (2 * place + 2)) e }
+  by_way j (Some Absolute) m e =
+      let is : number word ≡ 2 * q = placed q (number word) e in
+      record { jumps = j; way = Absolute; mode = m; direct = inr refl; value = let v : number word % 65536 ≡ 2 * q = omega arith in v }
+  by_way j (Some Immediate) m e = absurd cc
+  by_way j (Some RelativeDeferred) m e = absurd cc
+  by_way j (Some Indexed) m e = absurd cc
+
+by_operand : (file : Contents) (operation : Operation) (place q : ℕ) (x : Option Operand) (word : Option ℕ) → 2 * q < 65536 →
+    jumps operation ≡ true → is_place q (jump_of (stripped file) place x word) ≡ true → GoesBy operation place q x word
+by_operand file operation place q None word fits j e = absurd cc
+by_operand file operation place q (Some (operands.General m r)) word fits j e =
+    by_way file operation place q (Some (operands.General m r)) word fits j (addressing m r) refl e
+by_operand file operation place q (Some (operands.Accumulator v)) word fits j e = absurd cc
+by_operand file operation place q (Some (operands.Register v)) word fits j e = absurd cc
+by_operand file operation place q (Some (operands.Forward v)) word fits j e = absurd cc
+by_operand file operation place q (Some (operands.Backward v)) word fits j e = absurd cc
+by_operand file operation place q (Some (operands.Number v)) word fits j e = absurd cc
+
+goes_by : (file : Contents) (operation : Operation) (place q : ℕ) (x : Option Operand) (word : Option ℕ) → 2 * q < 65536 →
+    is_place q (jump (stripped file) operation place x word) ≡ true → GoesBy operation place q x word
+goes_by file operation place q x word fits e = by (jumps operation) refl e
+  where
+    by : (t : Bool) → jumps operation ≡ t → is_place q (if t then jump_of (stripped file) place x word else None) ≡ true →
+        GoesBy operation place q x word
+    by true j e = by_operand file operation place q x word fits j e
+    by false j e = absurd cc
+
+-- the operand word of an operand at a place of a text
+word_is : (x : Option Operand) (n p w : ℕ) (ws g : List ℕ) → takes_word x ≡ true → drop p ws ≡ w ∷ g →
+    word_for x n g ≡ slice_get ws (p + 1 + n)
+word_is x n p w ws g takes e =
+    ap (λ (t : Bool). if t then slice_get g n else None) takes
+    ∙ ap (λ (xs : List ℕ). slice_get xs (suc n)) (sym e)
+    ∙ get_from ws p (suc n)
+    ∙ (let sum : p + suc n ≡ p + 1 + n = omega arith in ap (λ (m : ℕ). slice_get ws m) sum)
+
+-- a jump of the program, and the same operand in the object
+pub record JumpBy (file k : Contents) (start i q : ℕ) (instruction : Instruction) (own : List (Option ℕ)) : Type 0 where
+  pub operand : Option Operand
+  pub place : ℕ
+  pub is : IsOperand instruction i operand place
+  pub word : Option ℕ
+  pub there : word ≡ slice_get file.text_words (start + place)
+  pub goes : GoesBy instruction.row.operation (start + place) q operand word
+  pub own_word : Option ℕ
+  pub here : own_word ≡ slice_get k.text_words place
+  pub ends : IfSome (jump k instruction.row.operation place operand own_word) (λ a. a < 2 * length k.text_words)
+  pub led : (j : ℕ) → is_place j (jump k instruction.row.operation place operand own_word) ≡ true → list_any (is_place j) own ≡ true
+
+module _ (file k : Contents) (start p i q w : ℕ) (f g : List ℕ) (instruction : Instruction) (at : p ≡ start + i) (fits : 2 * q < 65536)
+    (here : drop i k.text_words ≡ w ∷ f) (there : drop p file.text_words ≡ w ∷ g) (own : List (Option ℕ)) where
+  jump_by_operand : (x : Option Operand) (n : ℕ) → IsOperand instruction i x (i + 1 + n) →
+      IfSome (jump k instruction.row.operation (i + 1 + n) x (word_for x n f)) (λ a. a < 2 * length k.text_words) →
+      ((j : ℕ) → is_place j (jump k instruction.row.operation (i + 1 + n) x (word_for x n f)) ≡ true → list_any (is_place j) own ≡ true) →
+      is_place q (jump (stripped file) instruction.row.operation (p + 1 + n) x (word_for x n g)) ≡ true →
+      JumpBy file k start i q instruction own
+  jump_by_operand x n is ends led e =
+      let goes = goes_by file instruction.row.operation (p + 1 + n) q x (word_for x n g) fits e in
+      let takes : takes_word x ≡ true = takes_its_word x goes.way goes.mode in
+      let sum : p + 1 + n ≡ start + (i + 1 + n) = omega arith in
+      record {
+        operand = x;
+        place = i + 1 + n;
+        is = is;
+        word = word_for x n g;
+        there = word_is x n p w file.text_words g takes there ∙ ap (λ (m : ℕ). slice_get file.text_words m) sum;
+        goes = subst (λ (m : ℕ). GoesBy instruction.row.operation m q x (word_for x n g)) sum goes;
+        own_word = word_for x n f;
+        here = word_is x n i w k.text_words f takes here;
+        ends = ends;
+        led = led;
+      }
+
+module _ (file k : Contents) (start p i q w : ℕ) (f g : List ℕ) (instruction : Instruction) (at : p ≡ start + i) (fits : 2 * q < 65536)
+    (inside : 2 * (start + length k.text_words) < 65536) (here : drop i k.text_words ≡ w ∷ f) (there : drop p file.text_words ≡ w ∷ g)
+    (is : instruction_of w ≡ Some instruction)
+    (ends : AllByRecursion (λ o. IfSome o (λ a. a < 2 * length k.text_words)) (leads_by Flow k i (Machine (decoded instruction f)))) where
+  abbrev own : List (Option ℕ)
+  own = leads_by Promise k i (Machine (decoded instruction f))
+
+  abbrev operation : Operation
+  operation = instruction.row.operation
+
+  abbrev line_size : ℕ
+  line_size = 1 + following_words instruction
+
+  abbrev words_first : ℕ
+  words_first = word_count_of instruction.first
+
+  abbrev jump_first : Option ℕ
+  jump_first = jump k operation (i + 1) instruction.first (word_for instruction.first 0 f)
+
+  abbrev jump_second : Option ℕ
+  jump_second = jump k operation (i + 1 + words_first) instruction.second (word_for instruction.second words_first f)
+
+  abbrev jumps_after : ℕ → Bool
+  jumps_after j = is_place j jump_first || (is_place j jump_second || false)
+
+  abbrev after_next : ℕ → Bool
+  after_next j =
+      is_place j (branch_of (2 * i) instruction.first) || (is_place j (branch_of (2 * i) instruction.second) || jumps_after j)
+
+  abbrev is_next : ℕ → Bool
+  is_next j = is_place j (next_of Promise k i (Machine (decoded instruction f)))
+
+  -- to the line after it
+  next_leads : is_place q (if flows (stripped file) p instruction || false then Some (2 * (p + line_size)) else None) ≡ true →
+      Within start (length k.text_words) q own
+  next_leads e =
+      let on = leads_on (flows (stripped file) p instruction || false) q (2 * (p + line_size)) e in
+      let flow : flows k i instruction ≡ true =
+      flows_more file k p i instruction (or-nothing (flows (stripped file) p instruction) on.0) in
+      let low = on_below (flows k i instruction || false) (2 * (i + line_size)) (2 * length k.text_words)
+      (any_here (flows k i instruction) false flow) ends.0 in
+      record {
+        j = i + line_size;
+        at = omega (arith, on.1);
+        below = omega (arith, low);
+        led =
+            any_here (is_next (i + line_size)) (after_next (i + line_size))
+            (leads_on_back (flows k i instruction || is_followed Promise k i (Machine (decoded instruction f))) (i + line_size) (2 * (i + line_size))
+            (any_here (flows k i instruction) (is_followed Promise k i (Machine (decoded instruction f))) flow) refl);
+      }
+
+  -- to the target of a branch
+  branches_lead : (x : Option Operand) → IsShort x → IfSome (branch_of (2 * i) x) (λ a. a < 2 * length k.text_words) →
+      ((j : ℕ) → is_place j (branch_of (2 * i) x) ≡ true → list_any (is_place j) own ≡ true) → is_place q (branch_of (2 * p) x) ≡ true →
+      Within start (length k.text_words) q own
+  branches_lead x short low led e =
+      let b = branch_leads x start (length k.text_words) p i q short at inside low e in
+      record { j = b.0; at = b.1; below = b.2; led = led b.0 b.3 }
+
+  abbrev JumpsBy : Type 0
+  JumpsBy = JumpBy file k start i q instruction own
+
+  first_jumps : is_place q (jump (stripped file) operation (p + 1) instruction.first (word_for instruction.first 0 g)) ≡ true → JumpsBy
+  first_jumps e =
+      let none : i + 1 ≡ i + 1 + 0 = omega arith in
+      let none_too : p + 1 ≡ p + 1 + 0 = omega arith in
+      jump_by_operand file k start p i q w f g instruction at fits here there own instruction.first 0 (inl (refl, sym none))
+      (subst (λ (m : ℕ). IfSome (jump k operation m instruction.first (word_for instruction.first 0 f)) (λ a. a < 2 * length k.text_words))
+      none ends.1.1.1.0)
+      (λ j h. any_later (is_next j) (after_next j) (any_later (is_place j (branch_of (2 * i) instruction.first))
+      (is_place j (branch_of (2 * i) instruction.second) || jumps_after j)
+      (any_later (is_place j (branch_of (2 * i) instruction.second)) (jumps_after j)
+      (any_here (is_place j jump_first) (is_place j jump_second || false)
+      (subst (λ (m : ℕ). is_place j (jump k operation m instruction.first (word_for instruction.first 0 f)) ≡ true) (sym none) h)))))
+      (subst (λ (m : ℕ). is_place q (jump (stripped file) operation m instruction.first (word_for instruction.first 0 g)) ≡ true) none_too e)
+
+  second_jumps : is_place q (jump (stripped file) operation (p + 1 + words_first) instruction.second
+      (word_for instruction.second words_first g)) ≡ true → JumpsBy
+  second_jumps e =
+      jump_by_operand file k start p i q w f g instruction at fits here there own instruction.second words_first (inr (refl, refl))
+      ends.1.1.1.1.0
+      (λ j h. any_later (is_next j) (after_next j) (any_later (is_place j (branch_of (2 * i) instruction.first))
+      (is_place j (branch_of (2 * i) instruction.second) || jumps_after j)
+      (any_later (is_place j (branch_of (2 * i) instruction.second)) (jumps_after j)
+      (any_later (is_place j jump_first) (is_place j jump_second || false)
+      (any_here (is_place j jump_second) false h)))))
+      e
+
+  abbrev next : Bool
+  next = is_place q (if flows (stripped file) p instruction || false then Some (2 * (p + line_size)) else None)
+
+  abbrev branch_one : Bool
+  branch_one = is_place q (branch_of (2 * p) instruction.first)
+
+  abbrev branch_two : Bool
+  branch_two = is_place q (branch_of (2 * p) instruction.second)
+
+  abbrev jump_one : Bool
+  jump_one = is_place q (jump (stripped file) operation (p + 1) instruction.first (word_for instruction.first 0 g))
+
+  abbrev jump_two : Bool
+  jump_two = is_place q (jump (stripped file) operation (p + 1 + words_first) instruction.second
+      (word_for instruction.second words_first g))
+
+  pub instruction_leads : list_any (is_place q) (leads_by Flow (stripped file) p (Machine (decoded instruction g))) ≡ true →
+      Within start (length k.text_words) q own ⊎ JumpsBy
+  instruction_leads e =
+      let short = short_in (row_of w) w instruction is in
+      elim (or_cases next (branch_one || (branch_two || (jump_one || (jump_two || false)))) e) [
+        | inl h ↦ inl (next_leads h)
+        | inr a ↦ elim (or_cases branch_one (branch_two || (jump_one || (jump_two || false))) a) [
+          | inl h ↦ inl (branches_lead instruction.first short.0 ends.1.0
+              (λ j b. any_later (is_next j) (after_next j) (any_here (is_place j (branch_of (2 * i) instruction.first))
+              (is_place j (branch_of (2 * i) instruction.second) || jumps_after j) b)) h)
+          | inr b ↦ elim (or_cases branch_two (jump_one || (jump_two || false)) b) [
+            | inl h ↦ inl (branches_lead instruction.second short.1 ends.1.1.0
+                (λ j b. any_later (is_next j) (after_next j) (any_later (is_place j (branch_of (2 * i) instruction.first))
+                (is_place j (branch_of (2 * i) instruction.second) || jumps_after j)
+                (any_here (is_place j (branch_of (2 * i) instruction.second)) (jumps_after j) b))) h)
+            | inr c ↦ elim (or_cases jump_one (jump_two || false) c) [
+              | inl h ↦ inr (first_jumps h)
+              | inr d ↦ inr (second_jumps (or-nothing jump_two d))
+            ]
+          ]
+        ]
+      ]
