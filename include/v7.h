@@ -3,7 +3,7 @@
  * /usr/share/doc/libv7-dev. The header needs C99, or C++98 with <stdint.h>.
  *
  * Each call takes bytes and gives bytes, and only a `struct v7_session` is kept for the next call. An object or a file is the bytes of
- * an a.out file. v7_run, v7_map and v7_state take a list of objects, the bytes of each separately.
+ * an a.out file. v7_run and v7_map take a list of objects, the bytes of each separately.
  *
  * Sizes are in bytes. A call takes memory from malloc and gives it back before it returns, but for what a session keeps. Calls share
  * nothing else, so threads may make them at once.
@@ -19,13 +19,13 @@
  * buffers of size 0 asks for the sizes. With any other fault nothing is written either, and the sizes are 0.
  *
  * Each call returns a status as the program v7 does: 2 if there is a fault, and so no result, 1 if a link was made and there is
- * something to report, or if an edit was not made, and otherwise 0. *ANSWER is always filled. docs/LINK.md has all limits.
+ * something to report, and otherwise 0. *ANSWER is always filled. docs/LINK.md has all limits.
  *
  * V7_NO_MEMORY comes only at a stage at which nothing is refused. A call takes memory after it has accepted the options, the
  * form, the names and the sizes of parts, and for a file only if it is whole. So V7_NO_MEMORY never comes in place of 1 to 6, of 11
- * to 14 for a file, or of 7 and 11 to 14 for the first edit. Before a link reads an object it enters the forced names: if there are
- * none, V7_NO_MEMORY does not come in place of 11 to 14 for the first object either. Once an object or an edit is accepted, memory may
- * run out there, and V7_NO_MEMORY may come in place of any later fault: the answer does not say which request failed.
+ * to 14 for a file. Before a link reads an object it enters the forced names: if there are none, V7_NO_MEMORY does not come in
+ * place of 11 to 14 for the first object either. Once an object is accepted, memory may run out there, and V7_NO_MEMORY may come
+ * in place of any later fault: the answer does not say which request failed.
  */
 #ifndef V7_H
 #define V7_H
@@ -54,7 +54,6 @@ enum v7_fault {
     V7_CUT_NAMES = 4,          /* the size of the forced names is not a multiple of 8 */
     V7_MANY_NAMES = 5,         /* more than 64 different names are forced; `place` is the number of the first too many */
     V7_TOO_LONG = 6,           /* more than 32,767 words of text or data, 65,535 bytes of bss, or 5,461 symbols; `word` is the part */
-    V7_NO_EDIT = 7,            /* an edit is neither V7_ADD nor V7_WITHDRAW; `place` is its number */
     V7_NO_SESSION = 8,         /* no session is begun; for v7_session_new, one is begun already */
     /* the bytes of a file */
     V7_SHORT_HEADER = 11,      /* fewer than 16 bytes */
@@ -71,6 +70,7 @@ enum v7_fault {
     V7_DATA_FULL = 32,         /* the data would pass them */
     V7_BSS_FULL = 33,          /* bss would pass them */
     V7_NAMES_FULL = 34,        /* there would be more than 65,535 external names */
+    V7_NOTHING = 35,           /* a session has no object to withdraw */
     /* the link */
     V7_DOES_NOT_FIT = 41,      /* the program would end past 65,535 */
     V7_TOO_MANY_SYMBOLS = 42,  /* its table would have more than 5,461 symbols */
@@ -106,14 +106,7 @@ enum v7_fault {
     V7_LOCAL_WORD = 89         /* it refers to a local that is dropped */
 };
 
-/* what a session replies to an edit, beside 31 to 34 for an object that would pass a limit; V7_NOTHING is the fault of
- * v7_session_withdraw */
-enum v7_reply {
-    V7_DONE = 0,
-    V7_NOTHING = 35            /* there is nothing to withdraw */
-};
-
-/* What a fault or a reply means, in a few words. Another number gives "unknown fault". */
+/* What a fault means, in a few words. Another number gives "unknown fault". */
 static inline const char *v7_strerror(uint32_t fault)
 {
     switch (fault) {
@@ -131,8 +124,6 @@ static inline const char *v7_strerror(uint32_t fault)
         return "more than 64 names are forced";
     case V7_TOO_LONG:
         return "too many words, bytes of bss or symbols";
-    case V7_NO_EDIT:
-        return "no such edit";
     case V7_NO_SESSION:
         return "no session, or one already";
     case V7_SHORT_HEADER:
@@ -230,15 +221,14 @@ struct v7_answer {
                          * the first part that is too long, of enum v7_part. 61 to 75: the column, or 0xffffffff if it is larger.
                          * v7_from_gnu: with V7_BAD_MAGIC the word that is there, with V7_ODD_SIZE the part, with
                          * V7_TOO_MANY_SYMBOLS how many symbols stay, and with 82 to 89 as described there. Otherwise 0 */
-    size_t place;       /* a number, counted from 0. For the faults 11 to 34 of a link it is that of the object, for 7 to 24 of a
-                         * session that of the edit, and for V7_MANY_NAMES that of the name. For 61 to 75 it is the line, counted
-                         * from 1. For v7_from_gnu it is the byte of the file. For V7_NO_MEMORY it is that of an object or edit
-                         * which the call reached, or 0. Otherwise 0 */
+    size_t place;       /* a number, counted from 0. For the faults 11 to 34 of a link it is that of the object, and for
+                         * V7_MANY_NAMES that of the name. For 61 to 75 it is the line, counted from 1. For v7_from_gnu it is the
+                         * byte of the file. For V7_NO_MEMORY it is that of an object which the call reached, or 0. Otherwise 0 */
     size_t size;        /* the size of the result; 0 for v7_take_apart and v7_read */
-    size_t report_size; /* for v7_state the number of replies, for v7_remarks the number of remarks; otherwise 0 */
+    size_t report_size; /* for v7_remarks the number of remarks; otherwise 0 */
 };
 
-/* The part of an object that is too long. */
+/* The part of an object that is too long, or of a file that a remark is about. */
 enum v7_part { V7_TEXT_PART = 1, V7_DATA_PART = 2, V7_BSS_PART = 3, V7_SYMBOLS_PART = 4 };
 
 /* The version of the library: 65,536 for each major version, 256 for each minor version, and the patch. It is V7_VERSION_NUMBER if
@@ -332,23 +322,27 @@ enum v7_remark_kind {
     V7_REMARK_CUT_INSTRUCTION = 23,
     V7_REMARK_NO_INSTRUCTION = 24,
     V7_REMARK_BRANCH_OUTSIDE = 25,
-    V7_REMARK_BRANCH_WITHIN = 26
+    V7_REMARK_BRANCH_WITHIN = 26,
+    V7_REMARK_UNSUITABLE_REFERENCE = 27,
+    V7_REMARK_UNSUITABLE_ADDRESS = 28,
+    V7_REMARK_ABSOLUTE_TEXT = 29
 };
 struct v7_remark {
     size_t place;     /* the byte of the file, from 0 */
     size_t text;      /* where its text begins in TEXTS */
     size_t text_size;
     uint32_t kind;    /* of enum v7_remark_kind */
+    uint32_t part;    /* of enum v7_part: the part that has the byte, or the word to which it is the relocation; 0 for another byte */
+    uint32_t word;    /* the index of that word, text before data, from 0, or the number of the symbol; otherwise 0 */
 };
 uint32_t v7_remarks(const unsigned char *bytes, size_t size, unsigned char *texts, size_t text_room, struct v7_remark *remarks,
                     size_t remark_room, struct v7_answer *answer);
 
-/* v7_run links objects, as `v7 ld` does, or makes the edits of a session first. It takes the bytes of each object separately, and what
+/* v7_run links objects, as `v7 ld` does. It takes the bytes of each object separately, and what
  * follows an object in its bytes is not looked at, so an object that is cut short is refused itself. Request and result begin with their
  * sizes: set these to `sizeof`, and set all fields; what is 0 asks for nothing. A later library may know longer structs. This one takes
- * shorter ones too, and does not touch what they lack: for a link whose report is wanted as lines alone, the request may end after
- * `object_count`, and the result after `report_room`. Without V7_PLACES the result may end after `reply_room`. The size of a buffer is
- * counted in what it holds: bytes, findings, replies or places. */
+ * shorter results too, and does not touch what they lack: without V7_PLACES one may end after `finding_room`, and without V7_FINDINGS
+ * too after `report_room`. The size of a buffer is counted in what it holds: bytes, findings or places. */
 enum v7_link_option {
     V7_RELOCATABLE = 1,   /* -r: keeps relocation, so that the result is an object */
     V7_STRIP = 2,         /* -s: keeps no symbols; wins over the next two */
@@ -361,14 +355,6 @@ enum v7_link_option {
 struct v7_slice {
     const unsigned char *bytes;
     size_t size;
-};
-/* Each edit is a letter: V7_ADD adds the next of the objects after those that are kept, and V7_WITHDRAW withdraws the last object that
- * is kept. Objects after the last that is added are not looked at, so the first N edits with the same objects give the session as it
- * was after N edits. An edit that was not made leaves the session as it was, and the status is 1. */
-enum v7_edit { V7_ADD = 'a', V7_WITHDRAW = 'w' };
-enum v7_mode {
-    V7_LINK = 0,   /* link all objects: `edits` are not read, and there are no replies */
-    V7_SESSION = 1 /* add and withdraw by the edits, and link what is left */
 };
 enum v7_want {
     V7_REPORT = 1,   /* the report as lines */
@@ -385,26 +371,23 @@ struct v7_finding { /* a name that is reported, in the order of the report's lin
     unsigned char name[8]; /* filled up with NULs */
     uint32_t kind;         /* of enum v7_finding_kind */
 };
-/* The objects of a finding, by their numbers; SIZE_MAX if there is none. In a link these are the numbers in `objects`. In a session they
- * count the objects that are kept, in their order. */
+/* The objects of a finding, by their numbers in `objects`; SIZE_MAX if there is none. */
 struct v7_finding_place {
     size_t first;   /* the first object that defines the name; if none does, the first that has a symbol of it */
     size_t further; /* for V7_MULTIPLY_DEFINED, the object of this further definition */
 };
 struct v7_request {
     size_t size;
-    uint32_t mode;    /* of enum v7_mode */
     uint32_t options; /* bits of enum v7_link_option */
     uint32_t wants;   /* bits of enum v7_want: buffers for what is not wanted are left alone, and its size is 0 */
     struct v7_slice entry;  /* the name of the entry point, at most 8 bytes, or of size 0 if there is none */
     struct v7_slice forced; /* names that are mentioned before all objects, 8 bytes each, filled up with NULs */
     const struct v7_slice *objects; /* without objects the program is empty */
     size_t object_count;
-    struct v7_slice edits;
 };
 struct v7_result {
     size_t size;
-    uint32_t fault; /* these three as in struct v7_answer; in a session, `place` is the number of the edit for 7 to 24 */
+    uint32_t fault; /* these three as in struct v7_answer */
     uint32_t word;
     size_t place;
     size_t file_size; /* what each buffer needs, also with V7_NO_ROOM; with another fault 0 */
@@ -414,22 +397,17 @@ struct v7_result {
     unsigned char *report;
     size_t report_room;
     size_t finding_count;
-    size_t reply_count;
     struct v7_finding *findings;
     size_t finding_room;
-    unsigned char *replies;
-    size_t reply_room;
     size_t place_count;
     struct v7_finding_place *places;
     size_t place_room;
 };
 
-/* Does what REQUEST asks for. File, replies and what is wanted of the report are all written, or none is. `replies` gets a byte for each
- * edit: V7_DONE, V7_NOTHING if there was nothing to withdraw, or 31 to 34 if the object was not added. The first fault that applies is
- * given. V7_NO_OPTION also stands for a mode or a want that this library does not know, and for a struct that is too short for them. Then
- * come 2 to 5. In a link 11 to 34 follow for each object in turn, and in a session V7_NO_EDIT, 11 to 14 (also if there is no further
- * object) and 21 to 24 for each edit in turn. Then 41 to 43 come, V7_NO_MEMORY as described above, and V7_NO_ROOM last. A result that
- * ends before `file` stays as it was, and the status is 2. */
+/* Makes the link that REQUEST asks for. The file and what is wanted of the report are all written, or none is. The first fault that
+ * applies is given. V7_NO_OPTION also stands for a want that this library does not know, and for a struct that is too short for what is
+ * wanted. Then come 2 to 5, 11 to 34 for each object in turn, 41 to 43, V7_NO_MEMORY as described above, and V7_NO_ROOM last. A result
+ * that ends before `file` stays as it was, and the status is 2. */
 uint32_t v7_run(const struct v7_request *request, struct v7_result *result);
 
 /* The map of a link, as `v7-explain -m` shows it; v7-explain(1) describes it. Objects, names and uses are numbered from 0. */
@@ -456,7 +434,7 @@ struct v7_map_object {
     uint16_t bss_size;
 };
 enum v7_map_name_state {
-    V7_NAME_IS_PLACED = 1,   /* type and value are those of the link */
+    V7_NAME_IS_PLACED = 1,   /* the table of the link has it; else type and value are 0 */
     V7_NAME_IS_UNDEFINED = 2,
     V7_NAME_IS_MULTIPLE = 4  /* it is multiply defined */
 };
@@ -522,30 +500,12 @@ struct v7_map {
     size_t limit_room;
 };
 
-/* Gives the map of the link that REQUEST asks for; its mode is V7_LINK, and what it wants is not looked at. All objects are read first.
- * Then a link that is refused has a map too, and the status is 1. Faults: those of a link by v7_run but for 31 to 43, which are in the
- * map. V7_NO_OPTION also stands for another mode, and for a struct that is too short. A map that ends before `objects` stays as it was,
- * and the status is 2. */
+/* Gives the map of the link that REQUEST asks for; what it wants is not looked at. All objects are read first. Then a link that is
+ * refused has a map too, and the status is 1. Faults: those of v7_run but for 31 to 43, which are in the map. V7_NO_OPTION also stands
+ * for a struct that is too short. A map that ends before `objects` stays as it was, and the status is 2. */
 uint32_t v7_map(const struct v7_request *request, struct v7_map *map);
 
-/* Makes the edits of REQUEST as v7_run does, and writes what the session then shows, without a link; its mode is V7_SESSION, and its
- * options, its entry point and what it wants are not looked at. ROOM gets it as lines, each with its
- * newline, or as one JSON object. It has the words of the merged text and data, each with its offset in bytes, its value and
- * what it refers to or waits for. It has the size of bss in bytes, the external names with what is known of each, and the names
- * that are multiply defined. And it has the marks of the last object that is kept: what its addition overwrote, in order, and
- * nothing else. A word appears in them at most once. A name may appear more than once, as a common that grows several times:
- * its first mark has what was known of it before the addition, and each later one what the change before it led to. Lines have
- * offsets and values in octal and sizes in decimal; a byte of a name that does not print, a blank and a backslash are \ooo there.
- * JSON has all numbers in decimal; a byte of a name that does not print, a quote and a backslash are \u00xx there. v7(3) lists
- * the members of the JSON object. REPLIES are those of v7_run; `report_size` is how many there are. The status is 1 if an edit
- * was not made. State and replies are both written, or neither is. Faults, the first that applies: V7_NO_OPTION for FORM, another
- * mode, or a struct that is too short, 4 and 5, then for each edit in turn those of v7_run. V7_NO_MEMORY comes as described above, and
- * V7_NO_ROOM last. */
-enum v7_form { V7_LINES = 0, V7_JSON = 1 };
-uint32_t v7_state(uint32_t form, const struct v7_request *request, unsigned char *replies, size_t replies_size, unsigned char *room,
-                  size_t room_size, struct v7_answer *answer);
-
-/* A session that is kept, so that an edit costs what the edit is, and not what is there. The struct is the caller's, and at first all of it
+/* A session is kept between calls, so an edit costs what the edit is, and not what is there. The struct is the caller's, and at first all of it
  * is 0, as after `struct v7_session session = {0};`. A call that has a fault leaves the session as it was. Other calls may come between. */
 struct v7_session {
     uint32_t is_open; /* 1 after v7_session_new, 0 after v7_session_free */
@@ -564,13 +524,20 @@ uint32_t v7_session_add(struct v7_session *session, const unsigned char *bytes, 
 /* Withdraws the object that was added last. It needs no memory. Faults: V7_NO_SESSION, V7_NOTHING if there is none. */
 uint32_t v7_session_withdraw(struct v7_session *session, struct v7_answer *answer);
 
-/* Links what is there, and gives it as v7_run does; RESULT has no replies. Of REQUEST the mode is V7_LINK, V7_PLACES is not wanted, and
- * forced names, objects and edits are not looked at. Faults, the first that applies: V7_NO_OPTION as there, V7_NO_SESSION, 1 to 3, 41 to
- * 43, V7_NO_MEMORY, and V7_NO_ROOM last. */
+/* Links what is there, and gives it as v7_run does. Of REQUEST V7_PLACES is not wanted, and forced names and objects are not looked at.
+ * Faults, the first that applies: V7_NO_OPTION as there, V7_NO_SESSION, 1 to 3, 41 to 43, V7_NO_MEMORY, and V7_NO_ROOM last. */
 uint32_t v7_session_link(struct v7_session *session, const struct v7_request *request, struct v7_result *result);
 
-/* Writes what the session shows, as v7_state does. Faults, the first that applies: V7_NO_SESSION, V7_NO_OPTION for FORM, V7_NO_MEMORY,
+/* Writes what the session shows, as lines, each with its newline, or as one JSON object. It has the words of the merged text and data,
+ * each with its offset in bytes, its value and what it refers to or waits for. It has the size of bss in bytes, the external names with
+ * what is known of each, and the names that are multiply defined. And it has the marks of the last object that is there: what its
+ * addition overwrote, in order, and nothing else. A word appears in them at most once. A name may appear more than once, as a common
+ * that grows several times: its first mark has what was known of it before the addition, and each later one what the change before it
+ * led to. Lines have offsets and values in octal and sizes in decimal; a byte of a name that does not print, a blank and a backslash are
+ * \ooo there. JSON has all numbers in decimal; a byte of a name that does not print, a quote and a backslash are \u00xx there. v7(3)
+ * lists the members of the JSON object. Faults, the first that applies: V7_NO_SESSION, V7_NO_OPTION for FORM, V7_NO_MEMORY,
  * V7_NO_ROOM. */
+enum v7_form { V7_LINES = 0, V7_JSON = 1 };
 uint32_t v7_session_state(struct v7_session *session, uint32_t form, unsigned char *room, size_t room_size, struct v7_answer *answer);
 
 /* Ends the session, if one is begun, and gives its memory back. All of the struct is then as it was at first. The status is 0. */

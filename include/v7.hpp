@@ -164,7 +164,7 @@ private:
 
     v7_request request(const std::vector<v7_slice> &slices, std::uint32_t wants) const
     {
-        return {sizeof(v7_request), V7_LINK, options, wants, detail::slice(entry), detail::slice(forced), slices.data(), slices.size(), {nullptr, 0}};
+        return {sizeof(v7_request), options, wants, detail::slice(entry), detail::slice(forced), slices.data(), slices.size()};
     }
 
     template <class Call> static Program run(Call call)

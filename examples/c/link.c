@@ -32,7 +32,7 @@ static int read_object(const char *path, struct v7_slice *object)
 /* Links the objects into buffers of the sizes that the first call asks for. */
 static uint32_t link_objects(const struct v7_slice *objects, size_t count, struct v7_result *result)
 {
-    struct v7_request request = {.size = sizeof request, .mode = V7_LINK, .wants = V7_REPORT, .objects = objects, .object_count = count};
+    struct v7_request request = {.size = sizeof request, .wants = V7_REPORT, .objects = objects, .object_count = count};
     uint32_t status = v7_run(&request, result);
 
     if (result->fault != V7_NO_ROOM)

@@ -157,9 +157,11 @@ static void print_objects(void)
     }
 }
 
-/* The letter that nm has for the type and the value of an external symbol. */
+/* The letter that nm has for the type and the value of an external symbol; a link that is refused has no table with them. */
 static char letter(const struct v7_map_name *name)
 {
+    if (!(name->state & V7_NAME_IS_PLACED))
+        return ' ';
     switch (name->type & 037) {
     case 0:
         return name->value ? 'C' : 'U';
@@ -290,7 +292,7 @@ int main(int argc, char **argv)
 {
     static const char letters[] = "rsxXnid";
     static unsigned char forced[64 * 8];
-    struct v7_request request = {.size = sizeof request, .mode = V7_LINK};
+    struct v7_request request = {.size = sizeof request};
     const char *letter_at;
     uint32_t status;
     int i, k;

@@ -6,7 +6,7 @@ int main(int argc, char **argv)
 {
     static unsigned char bytes[16][1 << 18], program[1 << 18], report[1 << 20];
     struct v7_slice objects[16];
-    struct v7_request request = {.size = sizeof request, .mode = V7_LINK, .wants = V7_REPORT, .objects = objects};
+    struct v7_request request = {.size = sizeof request, .wants = V7_REPORT, .objects = objects};
     struct v7_result result = {.size = sizeof result, .file = program, .file_room = sizeof program, .report = report, .report_room = sizeof report};
 
     for (int i = 0; i < 16 && i + 1 < argc; i++) {

@@ -174,7 +174,7 @@ int main(int argc, char **argv)
     static unsigned char program[BYTES * 4];
     static struct v7_finding findings[FINDINGS];
     static struct v7_slice objects[MOST];
-    struct v7_request request = {.size = sizeof request, .mode = V7_LINK, .wants = V7_FINDINGS, .objects = objects};
+    struct v7_request request = {.size = sizeof request, .wants = V7_FINDINGS, .objects = objects};
     struct v7_result result = {.size = sizeof result, .file = program, .file_room = sizeof program, .findings = findings, .finding_room = FINDINGS};
     uint32_t status;
     FILE *out;

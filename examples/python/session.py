@@ -44,9 +44,11 @@ def main():
     same("withdrawn", session.link(), alone)
     same("shown as before", session.text(), shown)
     session.withdraw()
-    session.withdraw()
-    same("nothing left", session.link().status, 1)
-    same("replies", session.replies, [0, 0, 0, 0, v7.Session.NOTHING])
+    same("nothing left", session.link(), v7.link([]))
+    try:
+        session.withdraw()
+    except v7.Fault as fault:
+        same("nothing to withdraw", str(fault), "nothing to withdraw")
     session.add(HALF)
     same("the other one", session.link().file, v7.link([HALF]).file)
 

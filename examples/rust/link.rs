@@ -8,11 +8,10 @@ use std::{env, fs, mem, process};
 #[repr(C)]
 struct Slice(*const u8, usize);
 
-/// `struct v7_request`, up to the edits of a session.
+/// `struct v7_request`.
 #[repr(C)]
 struct Request {
     size: usize,
-    mode: u32,
     options: u32,
     wants: u32,
     entry: Slice,
@@ -49,7 +48,6 @@ fn main() {
     let slices: Vec<Slice> = objects.iter().map(|object| Slice(object.as_ptr(), object.len())).collect();
     let request = Request {
         size: mem::size_of::<Request>(),
-        mode: 0,
         options: 0,
         wants: REPORT,
         entry: Slice(null(), 0),

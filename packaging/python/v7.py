@@ -42,7 +42,6 @@ _KEEPING = ctypes.PyDLL(_PATH)
 _NO_ROOM = 60
 # the largest file of a link: a header, words and relocation words of full segments, and a full table
 _MOST = 16 + 4 * 65534 + 12 * 5461
-_LINK = 0
 _REPORT, _FINDINGS, _PLACES = 1, 2, 4
 
 # options of a link
@@ -93,7 +92,10 @@ DROP_DEBUGGER, DROP_UNUSED, DROP_LOCALS = 1, 2, 4
     REMARK_NO_INSTRUCTION,
     REMARK_BRANCH_OUTSIDE,
     REMARK_BRANCH_WITHIN,
-) = range(1, 27)
+    REMARK_UNSUITABLE_REFERENCE,
+    REMARK_UNSUITABLE_ADDRESS,
+    REMARK_ABSOLUTE_TEXT,
+) = range(1, 30)
 
 # why a name is reported
 MULTIPLY_DEFINED, RESERVED_NAME, ENTRY_NOT_IN_TEXT, UNDEFINED_NAME = 1, 2, 3, 4
@@ -211,11 +213,15 @@ class Map(NamedTuple):
 
 
 class Remark(NamedTuple):
-    """A remark on a file: one of REMARK_SHORT_HEADER to REMARK_BRANCH_WITHIN, the byte of the file, and the text."""
+    """A remark on a file: one of REMARK_SHORT_HEADER to REMARK_ABSOLUTE_TEXT, the byte of the file, and the text; and the part that the
+    byte is in, or that its relocation word belongs to, with the index of the word, text before data, or the number of the symbol. A byte
+    that is elsewhere has the part 0."""
 
     kind: int
     byte: int
     text: str
+    part: int
+    word: int
 
 
 class Parts(NamedTuple):
@@ -249,7 +255,6 @@ FAULTS: Dict[int, str] = {
     4: "the size of the forced names is not a multiple of 8",
     5: "more than 64 names are forced",
     6: "too many words, bytes of bss or symbols",
-    7: "no such edit",
     8: "no session, or one already",
     11: "short header",
     12: "bad magic number",
@@ -317,7 +322,7 @@ class _FindingPlace(ctypes.Structure):
 
 
 class _Remark(ctypes.Structure):
-    _fields_ = [*((name, ctypes.c_size_t) for name in ("place", "text", "text_size")), ("kind", ctypes.c_uint32)]
+    _fields_ = [*((name, ctypes.c_size_t) for name in ("place", "text", "text_size")), *((name, ctypes.c_uint32) for name in ("kind", "part", "word"))]
 
 
 class _Header(ctypes.Structure):
@@ -345,14 +350,12 @@ class _Session(ctypes.Structure):
 class _Request(ctypes.Structure):
     _fields_ = [
         ("size", ctypes.c_size_t),
-        ("mode", ctypes.c_uint32),
         ("options", ctypes.c_uint32),
         ("wants", ctypes.c_uint32),
         ("entry", _Slice),
         ("forced", _Slice),
         ("objects", ctypes.POINTER(_Slice)),
         ("object_count", ctypes.c_size_t),
-        ("edits", _Slice),
     ]
 
 
@@ -369,11 +372,8 @@ class _Result(ctypes.Structure):
         ("report", ctypes.c_void_p),
         ("report_room", ctypes.c_size_t),
         ("finding_count", ctypes.c_size_t),
-        ("reply_count", ctypes.c_size_t),
         ("findings", ctypes.POINTER(_Finding)),
         ("finding_room", ctypes.c_size_t),
-        ("replies", ctypes.c_void_p),
-        ("reply_room", ctypes.c_size_t),
         ("place_count", ctypes.c_size_t),
         ("places", ctypes.POINTER(_FindingPlace)),
         ("place_room", ctypes.c_size_t),
@@ -462,7 +462,7 @@ class Fault(Exception):
             where = f", byte {answer.place}" if answer.fault != 1 else ""
         elif 60 < answer.fault < 76:
             where = f", line {answer.place}, column {answer.word}"
-        elif 10 < answer.fault < 40:
+        elif 10 < answer.fault < 35:
             where += f", object {answer.place}"
         super().__init__(text + where)
         self.fault: int = answer.fault
@@ -676,6 +676,9 @@ def remarks(data: bytes) -> List[Remark]:
     >>> for remark in remarks(b"\\7\\1"):
     ...     print(remark.kind == REMARK_SHORT_HEADER, remark.byte, remark.text)
     True 2 short header: the file ends here, and a header has 16 bytes
+    >>> [remark] = remarks(make(text=[(0o240, NUMBER), (0o207, NUMBER)], symbols=[("", ABSOLUTE, 0)]))
+    >>> remark.kind == REMARK_EMPTY_NAME, remark.part == SYMBOLS_PART, remark.word
+    (True, True, 0)
     """
     sizes, answer = (0, 0), _Answer()
     for _ in range(2):
@@ -686,7 +689,10 @@ def remarks(data: bytes) -> List[Remark]:
         sizes = answer.size, answer.report_size
     if answer.fault:
         raise Fault(answer)
-    return [Remark(each.kind, each.place, texts.raw[each.text : each.text + each.text_size].decode("latin-1")) for each in found[: answer.report_size]]
+    return [
+        Remark(each.kind, each.place, texts.raw[each.text : each.text + each.text_size].decode("latin-1"), each.part, each.word)
+        for each in found[: answer.report_size]
+    ]
 
 
 def _padded(what: str, name: str) -> bytes:
@@ -717,7 +723,7 @@ class _Run:
         self._slices = (_Slice * max(len(self._parts), 1))(*(_Slice(data, len(data)) for data in self._parts))
         self._names = [_latin("entry", entry), _forced(forced)]
         named, names = (_Slice(data, len(data)) for data in self._names)
-        self._request = _Request(ctypes.sizeof(_Request), _LINK, _fitting("options", options, 32), wants, named, names, self._slices, len(self._parts))
+        self._request = _Request(ctypes.sizeof(_Request), _fitting("options", options, 32), wants, named, names, self._slices, len(self._parts))
         self._result = _Result(size=ctypes.sizeof(_Result))
         self.status, self.file, self.report = 2, b"", ""
         self.findings: List[Any] = []
@@ -940,21 +946,22 @@ class Session:
     ...         session.add(make(text=[(0, NUMBER)] * 32767))
     ...     except Fault as fault:
     ...         print(fault)
-    ...     for _ in range(3):
+    ...     for _ in range(2):
     ...         session.withdraw()
-    ...     session.replies == [Session.DONE] * 4 + [Session.NOTHING]
+    ...     try:
+    ...         session.withdraw()
+    ...     except Fault as fault:
+    ...         print(fault)
     text full, object 2
-    True
+    nothing to withdraw
     """
 
-    DONE, NOTHING = 0, 35
     _LINES, _JSON = 0, 1
 
     def __init__(self, objects: Iterable[bytes] = (), entry: str = "", forced: Iterable[str] = ()) -> None:
         self._handle = _Session()
         self.entry, self.forced = entry, tuple(_items("forced", forced))
         self._kept: List[bytes] = []
-        self._replies: List[int] = []
         # the size of the last state that was shown, and how many bytes are kept
         self._size = self._bytes = 0
         names = _forced(self.forced)
@@ -984,30 +991,19 @@ class Session:
         self._call("v7_session_add", ctypes.c_char_p(whole), ctypes.c_size_t(len(whole)))
         self._kept.append(whole)
         self._bytes += len(whole)
-        self._replies.append(self.DONE)
 
     def withdraw(self) -> None:
-        """Withdraws the object that was added last. If there is none, `replies` says so."""
-        if self._kept:
-            self._call("v7_session_withdraw")
-            self._bytes -= len(self._kept[-1])
-        self._replies.append(self.DONE if self._kept else self.NOTHING)
-        del self._kept[-1:]
-
-    @property
-    def replies(self) -> List[int]:
-        """A number for each addition and withdrawal: DONE or NOTHING. An addition that raises a fault has none."""
-        return list(self._replies)
+        """Withdraws the object that was added last. If there is none, a `Fault` is raised."""
+        self._call("v7_session_withdraw")
+        self._bytes -= len(self._kept.pop())
 
     def link(self, options: int = 0) -> Program:
-        """The link of what is there. The status is 1 also if there was nothing to withdraw."""
-        program = self._run(options, _REPORT).program()
-        return program._replace(status=self._status(program.status))
+        """The link of what is there."""
+        return self._run(options, _REPORT).program()
 
     def link_findings(self, options: int = 0) -> Found:
         """The same with its report as `Findings`."""
-        found = self._run(options, _FINDINGS).found()
-        return found._replace(status=self._status(found.status))
+        return self._run(options, _FINDINGS).found()
 
     def link_places(self, options: int = 0) -> List[Finding]:
         """What is reported of the link, with the numbers of the objects that are there."""
@@ -1030,14 +1026,11 @@ class Session:
         answer = _Answer()
         if getattr(_KEEPING, name)(ctypes.byref(self._handle), *words, ctypes.byref(answer)):
             # an object has the number that it would have had
-            answer.place += len(self._kept) if 10 < answer.fault < 40 else 0
+            answer.place += len(self._kept) if 10 < answer.fault < 35 else 0
             raise Fault(answer)
 
     def _run(self, options: int, wants: int) -> _Run:
         return _Run((), options, self.entry, self.forced, wants, self._handle, self._bytes).finish()
-
-    def _status(self, status: int) -> int:
-        return max(status, int(any(self._replies)))
 
     def _shown(self, form: int) -> str:
         state = _given("v7_session_state", ctypes.byref(self._handle), ctypes.c_uint32(form), guess=self._size, library=_KEEPING)

@@ -1,6 +1,6 @@
 """Compares libv7 with the second linker, tests/oracles/model.py, on random links and sessions, always the same; in half of them objects are
 damaged. It compares the status of a link, every byte of the file, and the report as lines, as a list, and as a list with objects, or the
-fault, its object and its word. For a session it also compares the replies to its edits and the names that it shows. Maps of links, some of
+fault, its object and its word. For a session it also compares what each edit gives and the names that are shown. Maps of links, some of
 them over a limit, are compared with tests/oracles/map_model.py, record by record.
 
 usage: python3 -m tests.libv7.agree_library LINKS SESSIONS MAPS      with the module v7 on the path
@@ -158,26 +158,26 @@ def map_case(number):
 
 
 def model_edit(states, edit):
-    """The reply of the model to an edit, or why its object is not added."""
+    """What the model gives for an edit: nothing, or why it is not made."""
+    if edit is None and len(states) == 1:
+        return "nothing to withdraw"
     if edit is None:
-        if len(states) > 1:
-            states.pop()
-            return v7.Session.DONE
-        return v7.Session.NOTHING
+        states.pop()
+        return None
     try:
         states.append(model.Merged([*states[-1].objects, model.read_object(edit)], states[-1].forced))
-        return v7.Session.DONE
+        return None
     except model.Refused as refused:
         return str(refused)
 
 
 def library_edit(session, edit):
-    """The reply of the library to an edit, or the fault of its object."""
+    """What the library gives for an edit: nothing, or its fault."""
     try:
         session.withdraw() if edit is None else session.add(edit)
+        return None
     except v7.Fault as fault:
         return fault_of(fault)[0]
-    return session.replies[-1]
 
 
 def by_session(session, options):
@@ -190,7 +190,7 @@ def by_session(session, options):
 
 
 def session_case(number):
-    """What model and library give for a session: the replies, the externals, and the link."""
+    """What model and library give for a session: the edits, the externals, and the link."""
     rng = random.Random(f"session {number}")
     names = rng.sample(agree.NAMES, rng.choice([2, 3, 5, 8]))
     arguments = arguments_of(rng, names)
@@ -201,10 +201,8 @@ def session_case(number):
     theirs = [model_edit(states, edit) for edit in edits]
     shown = [external["name"] for external in session.state()["externals"]]
     known = [text(name) for name in states[-1].externals]
-    status = int(v7.Session.NOTHING in theirs)
     try:
-        given, placed = linked(states[-1], arguments)
-        expected = by_all_calls(((max(given[0], status), *given[1:]), placed))
+        expected = by_all_calls(linked(states[-1], arguments))
     except model.Refused as refused:
         expected = [(str(refused), 0)] * 3
     return (theirs, known, expected), (ours, shown, by_session(session, options_of(arguments)))

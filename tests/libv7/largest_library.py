@@ -1,7 +1,7 @@
 """Makes each call of libv7 with the largest input of each kind, those of tests/programs/largest.py, and expects an answer: no call may say that
 there is no memory. What is expected is computed by tests/oracles/model.py and tests/oracles/disassembly.py, or below.
 
-usage: python3 -m tests.libv7.largest_library [ROW ..]      all rows of the table, or these: 'v7_state, v7_run, objects'
+usage: python3 -m tests.libv7.largest_library [ROW ..]      all rows of the table, or these: 'v7_session_state, v7_session_link, objects'
 """
 import dataclasses
 import sys
@@ -137,10 +137,10 @@ def edited(kind):
     objects = list(encoded(kind).values())
     with v7.Session(objects) as session:
         same("what is there", given(session.link), wanted(largest.merged(objects), ""))
-        for _ in range(len(objects) + 1):
+        for _ in objects:
             session.withdraw()
-        same("what is left", tuple(session.link()), (1, wanted(largest.merged([]), "")[1], ""))
-        same("replies", session.replies, [v7.Session.DONE] * (2 * len(objects)) + [v7.Session.NOTHING])
+        same("what is left", tuple(session.link()), (0, wanted(largest.merged([]), "")[1], ""))
+        same("nothing to withdraw", given(session.withdraw), v7.FAULTS[35])
 
 
 def known(kind):
@@ -174,7 +174,7 @@ TABLE = [
     ("v7_check, v7_take_apart, v7_run", bad, [kind for kind in KINDS if kind.startswith("bad")]),
     ("v7_run, v7_map", linked, GOOD),
     ("a session of edits", edited, GOOD),
-    ("v7_state, v7_run", known, GOOD),
+    ("v7_session_state, v7_session_link", known, GOOD),
     ("v7_disassemble_words", words_shown, [largest.WORDS, 100000]),
 ]
 

@@ -107,24 +107,22 @@ def parts():
 
 
 def refused_at(session, data):
-    """The fault of an addition and the number of its object; None if it is made."""
+    """The fault of an addition and the number of its object, or with None that of a withdrawal; None if it is made."""
     try:
-        session.add(data)
+        session.withdraw() if data is None else session.add(data)
     except v7.Fault as fault:
         return fault.fault, fault.place
     return None
 
 
-def replies():
+def refused_edits():
     """What sessions say of additions that are not made and of withdrawals, and what they keep."""
     one, full = v7.make(text=[(7, v7.NUMBER)]), v7.make(text=[(0, v7.NUMBER)] * 32767)
     session = v7.Session([one])
     yield [refused_at(session, data) for data in (full, one[:-2], one[:9], v7.strip(one))] == [(31, 1), (14, 1), (11, 1), (22, 1)]
-    yield session.replies == [0] and session.link() == v7.link([one])
-    session.withdraw()
-    session.withdraw()
-    yield session.replies == [0, 0, 35]
-    yield session.link().status == 1
+    yield session.link() == v7.link([one])
+    yield [refused_at(session, None) for _ in range(2)] == [None, (35, 0)]
+    yield session.link() == v7.link([])
     yield refused_at(session, full + b"more") is None and refused_at(session, one) == (31, 1)
     yield session.state()["objects"] == 1
     yield blamed_in([one, one[:-2], one]) == (14, 1)
@@ -132,7 +130,7 @@ def replies():
     for _ in range(100):
         session.add(one)
         session.withdraw()
-    yield session._kept == [] and session.replies == [0] * 200
+    yield session._kept == []
     yield session.link() == v7.link([])
 
 
@@ -243,7 +241,7 @@ def main():
         "types": [*wrong_types()],
         "blame": [*blames()],
         "parts": [*parts()],
-        "replies": [*replies()],
+        "refused edits": [*refused_edits()],
         "instructions": [*instructions()],
         "cut files": [*cut_files()],
         "listings": [*listings()],

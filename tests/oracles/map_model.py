@@ -90,7 +90,7 @@ class Names:
         uses = self.uses_of[name]
         definitions = [use for use in uses if use[2].kind != model.UNDEFINED]
         commons = [use for use in uses if use[2].kind == model.UNDEFINED and use[2].value]
-        shown, state = (definitions + commons + uses)[0][2], 0
+        shown, state = model.Symbol(name, 0, 0), 0
         if self.laid and self.laid.is_placed:
             shown, state = self.laid.symbol_of(self.merged.externals[name]), v7.NAME_IS_PLACED
         if not definitions and not commons and name not in model.RESERVED:

@@ -9,6 +9,11 @@ one that a compiler wrote, with `-t` too.
 Each kind of mistake has a row. It says in how many objects the mistake was planted, and in how many it is found by `-c`, and by `-c -t`.
 Then it counts the other objects: those with only lines that say "if", those with a line in the listing alone, and those with none. The
 kinds with a star are those that such a check was asked for.
+
+The other ones can be right, so no check of one object is sure of them. A number may be meant where `$N`, `N(r)` or a word of data has no
+relocation, `_x+2` by an operand that is not called, and a vector by an absolute address below 001000. A word that has lost its relocation to
+an external refers to the beginning of its own text. Names may be local. `-c` is sure of functions that begin with `jsr r5,csv` alone, which
+half of the objects have, and `-c -t` of nothing in an object without a symbol of text.
 """
 import glob
 import os

@@ -32,7 +32,7 @@ TYPES = (0, 1, 2, 3, 4, 0o24, 0o37)
 # of bad relocation words, and of odd things, so many are shown one by one
 MOST = 16
 # what is odd of instructions; and what is said if more is odd than is shown
-SUSPICIOUS = re.compile(r"the first word of the|the pc bit of|an instruction leads to|is cut by the end of|the branch at")
+SUSPICIOUS = re.compile(r"the first word of the|the pc bit of|an instruction leads to|is cut by the end of|the branch at|the word at \d+ (?:counts|is of a call|adds)")
 DOUBT = ", if this is an instruction"
 MORE = re.compile(r"and (\d+) more that are odd$")
 dice = random.Random(42)

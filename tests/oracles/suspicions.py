@@ -6,7 +6,7 @@ is. A remark that is sure makes the status of `v7-explain -c` 1, so none may be 
 """
 from tests.oracles.disassembly import FOUND, SYS, has_word
 
-TEXT, EXTERNAL = 2, 0o10
+TEXT, DATA, BSS, EXTERNAL = 2, 4, 6, 0o10
 # the link register is the pc, so the subroutine comes back to the next line by rts pc
 PC = 7
 # instructions of other PDP-11s: mtps and mfps of the 11/34, those of the floating and of the commercial set
@@ -21,7 +21,16 @@ KINDS = {
     "pc bit": r"the pc bit of the word at (\d+) is not set",
     "branch": r"the branch at (\d+) leads to \d+, and text lies from",
     "within": r"the branch at (\d+) leads to \d+, within",
+    "call of data": r"the word at (\d+) is of a call or a jump, and refers to (?:a common|\d+, which is in data or bss)",
+    "reference": r"the word at (\d+) (?:counts from the pc to|is of a call or a jump, and (?:adds|refers to the odd)|adds \d+ to a common)",
+    "symbol": r"of text has value (\d+), (?:which is odd|where text ends|within)",
+    "text word": r"the word at (\d+) is of kind text and refers to \d+, (?:which is odd|where text ends|within)",
+    "absolute": r"is absolute with value (\d+), which is in text, and no symbol is of text",
 }
+# these are sure by the promise alone: one of two lines that overlap may be data, and a program may put code into data when it runs
+PROMISED = ("within", "call of data")
+# addresses below this one may be vectors
+VECTORS = 0o1000
 # nothing comes after these, or not for sure: a trap's handler may skip words, and a processor that halts may be started elsewhere
 ENDS = ("br", "jmp", "rts", "rti", "rtt", "halt", "mark", "emt", "bpt", "iot")
 # system calls, by their names: those that do not come back, and those that come back twice
@@ -103,12 +112,13 @@ def call_target(file, place):
 
 
 def named(file, place, own):
-    """The name of the external that jsr calls by mode 37 or 67, or, if `own`, of the symbol of text there; or None."""
+    """The name of the external that jsr calls by mode 37 or 67, or, if `own`, of the symbol of text there or of an external to which a number
+    is added; or None."""
     for at, _, mode, register in operands(file, place):
         if register != PC or at is None or at >= len(file.words) or mode not in (3, 6):
             continue
         low, number = file.relocation[at], (file.words[at] + (2 * at + 2 if mode == 6 else 0)) % 65536
-        if low & 0o16 == EXTERNAL and low & 1 == (mode == 6) and number == 0 and low >> 4 < len(file.symbols):
+        if low & 0o16 == EXTERNAL and low & 1 == (mode == 6) and (own or number == 0) and low >> 4 < len(file.symbols):
             return file.symbols[low >> 4][0].rstrip(b"\0")
         target = call_target(file, place)
         for name, kind, value in file.symbols if own and target is not None else ():
@@ -233,15 +243,71 @@ def wrong_at(file, place):
         for at, _, mode, register in operands(file, place):
             if at is not None and file.relocation[at] & 0o17 and register == PC and mode >= 6 and not file.relocation[at] & 1:
                 yield 2 * at, "pc bit"
+            goes = instruction(file, place)[0] in ("jmp", "jsr") and mode in (3, 6)
+            if at is not None and register == PC and mode in (3, 6, 7) and (kind := wrong_reference(file, at, goes, mode >= 6)):
+                yield 2 * at, kind
     target = branch_target(file, place)
     if target is not None:
         yield 2 * place, "within" if 0 <= target <= len(file.words) else "branch"
 
 
+def wrong_external(file, at, goes, beyond):
+    """What is wrong with an operand word that refers to so many bytes beyond an external. What is called begins where its name says; memory
+    of a common, which is undefined and has a value, has so many bytes."""
+    number = file.relocation[at] >> 4
+    _, kind, value = file.symbols[number] if number < len(file.symbols) else (b"", 0o40, 0)
+    size = value if kind & 0o77 == 0o40 else 0
+    if goes:
+        return "call of data" if size else "reference" if beyond else None
+    return "reference" if size and beyond >= size else None
+
+
+def wrong_reference(file, at, goes, from_pc):
+    """What is wrong with what the operand word at a place refers to, whose instruction goes there, or has memory there."""
+    low, text, data = file.relocation[at] & 0o17, 2 * len(file.words), 2 * len(file.data) + file.bss
+    number = (file.words[at] + (2 * at + 2) * from_pc) % 65536
+    if low and low % 2 != from_pc:
+        return None
+    if low & 0o16 == EXTERNAL:
+        return wrong_external(file, at, goes, number)
+    if low & 0o16 in (DATA, BSS):
+        return "call of data" if goes else None
+    if low == 1:
+        # of kind absolute: a link moves data and bss, so the number is not that of theirs
+        return "reference" if text <= number < text + data and number >= VECTORS else None
+    if low == 0 and from_pc and (number > text or number == text and data and not goes):
+        # not relocated, so it stays at the same distance; but other segments move
+        return "reference"
+    return "reference" if goes and number % 2 and (from_pc or low) else None
+
+
+def wrong_addresses(file, reached):
+    """What is wrong with addresses in text by the promise that all of it is instructions, of which some are at these places: no instruction
+    begins there. For each what is at fault: the value of a symbol, or the address of a word."""
+    size, data = 2 * len(file.words), 2 * len(file.data) + file.bss
+    inner = {2 * at for place in reached if is_line(file, place) for at in range(int(place) + 1, int(place) + length(file, int(place)))}
+
+    def begins_none(number):
+        return number < size and (number % 2 or number in inner) or number == size and data
+
+    for words, relocation, start in ((file.words, file.relocation, 0), (file.data, file.data_relocation, size)):
+        for at, low in enumerate(relocation):
+            if low & 0o17 == TEXT and begins_none(words[at]):
+                yield start + 2 * at, "text word"
+    is_named = any(kind & 0o37 == 2 for _, kind, _ in file.symbols)
+    for _, kind, value in file.symbols:
+        if kind & 0o37 == 2 and begins_none(value):
+            yield value, "symbol"
+        if kind & 0o77 == 0o41 and value < size and not is_named:
+            yield value, "absolute"
+
+
 def surely_wrong(file, promise=False):
     """The remarks that have to be said as sure, and those that may be."""
     certain, possible = sure(file, promise)
-    wanted = {remark for place in certain for remark in wrong_at(file, place) if remark[1] != "within"}
-    # that a branch leads within another instruction is sure by the promise alone: one of two lines that overlap may be data
-    allowed = {remark for place in possible for remark in wrong_at(file, place) if promise or remark[1] != "within"}
+    wanted = {remark for place in certain for remark in wrong_at(file, place) if remark[1] != "within" and (promise or remark[1] not in PROMISED)}
+    allowed = {remark for place in possible for remark in wrong_at(file, place) if promise or remark[1] not in PROMISED}
+    if promise:
+        wanted |= set(wrong_addresses(file, certain))
+        allowed |= set(wrong_addresses(file, possible))
     return wanted, allowed

@@ -42,6 +42,9 @@ CUT_INSTRUCTION: is cut by the end of the text: cut by the end of the text
 NO_INSTRUCTION: where none begins: a word that begins no instruction
 BRANCH_OUTSIDE: the branch at: leads out of the text
 BRANCH_WITHIN: the branch at: within another instruction
+UNSUITABLE_REFERENCE: counts from the pc to: to what its instruction cannot mean
+UNSUITABLE_ADDRESS: is of kind text and refers to: at which no instruction begins
+ABSOLUTE_TEXT: no symbol is of text: absolute with an address of the text
 """
 
 

@@ -28,9 +28,7 @@ CODE = {
     "v7_part": ("library_calls/src/cause.rt", r"LongPart::{Name} => (\d+),", 1),
     "v7_nm_option": ("library_calls/src/requests.rt", r"\b{name}: has_bit\(bits, (\d+)\)", 1),
     "v7_link_option": ("library_calls/src/requests.rt", r"\b{name}: has_bit\(bits, (\d+)\)", 1),
-    "v7_reply": ("library_calls/src/edits.rt", r"None => (\d+),", 1),
-    "v7_form": ("library_calls/src/state_call.rt", r"(\d+) => Ok\(Form::{Name}\)", 1),
-    "v7_edit": ("library_calls/src/edits.rt", r"(b'\w') => Ok\(Edit::{Name}\),", 1),
+    "v7_form": ("library_calls/src/kept_calls.rt", r"(\d+) => Ok\(state_{name}\(", 1),
     "v7_finding_kind": ("library_calls/src/reported.rt", r"named\(alloc, (\d+), &report\.{name}", 1),
     "v7_remark_kind": ("library_calls/src/remarks_call.rt", r"FindingKind::{Name} => (\d+),", 1),
     "v7_relocation": ("aout_core/src/reloc.rt", r"(\d+) => Some\(Kind::{Name}\)", 2),
@@ -50,8 +48,7 @@ OTHERS = {
     "V7_DROP_UNUSED": ("library_calls/src/gnu_call.rt", r"has_bit\(bits, (\d+)\) \{\s*Locals::KeepNeeded", 1),
     "V7_DROP_LOCALS": ("library_calls/src/gnu_call.rt", r"has_bit\(bits, (\d+)\) \{\s*Locals::KeepNone", 1),
     "V7_FORCE_COMMONS": ("library_calls/src/requests.rt", r"\bcommons: has_bit\(bits, (\d+)\)", 1),
-    "V7_DONE": ("library_calls/src/edits.rt", r"Some\(_\) => (\d+),", 1),
-    "V7_ADD": ("library_calls/src/edits.rt", r"(b'\w') => Ok\(Edit::Add\(", 1),
+    "V7_NOTHING": ("library_calls/src/cause.rt", r"Cause::NothingKept => (\d+),", 1),
     "V7_MULTIPLY_DEFINED": ("library_calls/src/reported.rt", r"named\(alloc, (\d+), &report\.multiples", 1),
     "V7_RESERVED_NAME": ("library_calls/src/reported.rt", r"named\(alloc, (\d+), &report\.reserved", 1),
     "V7_ENTRY_NOT_IN_TEXT": ("library_calls/src/reported.rt", r"named\(alloc, (\d+), &\[\*name\]\)", 1),
@@ -59,11 +56,9 @@ OTHERS = {
     "V7_NUMBER": ("aout_core/src/reloc.rt", r"(\d+) => Some\(Kind::Absolute\)", 2),
     "V7_FROM_PC": ("aout_core/src/reloc.rt", r"self\.0 & (\d+) == 1", 1),
     "V7_EXTERNAL": ("aout_core/src/symbol.rt", r"self\.type_bits / (0o\d+) % 2", 1),
-    "V7_LINK": ("v7_c/src/run.rt", r"request\.mode == (\d+) \{\s*run_link\(", 1),
-    "V7_SESSION": ("v7_c/src/run.rt", r"request\.mode == (\d+) \|\| is_wanted\(", 1),
-    "V7_REPORT": ("v7_c/src/run.rt", r"report: if is_wanted\(wants, (\d+)\)", 1),
-    "V7_FINDINGS": ("v7_c/src/run.rt", r"findings: if is_wanted\(wants, (\d+)\)", 1),
-    "V7_PLACES": ("v7_c/src/run.rt", r"is_placed = is_wanted\(request\.wants, (\d+)\)", 1),
+    "V7_REPORT": ("v7_c/src/run.rt", r"report: is_wanted\(wants, (\d+)\)", 1),
+    "V7_FINDINGS": ("v7_c/src/run.rt", r"findings: is_wanted\(wants, (\d+)\)", 1),
+    "V7_PLACES": ("v7_c/src/run.rt", r"places: is_wanted\(wants, (\d+)\)", 1),
     "V7_NAME_IS_PLACED": ("link_maps/src/name_records.rt", r"bit\(is_placed, (\d+)\)", 1),
     "V7_NAME_IS_UNDEFINED": ("link_maps/src/name_records.rt", r"bit\(stays_undefined\(uses\), (\d+)\)", 1),
     "V7_NAME_IS_MULTIPLE": ("link_maps/src/name_records.rt", r"bit\(is_multiple, (\d+)\)", 1),
@@ -89,7 +84,7 @@ WORDS = {"TextPart": "Text", "DataPart": "Data", "BssPart": "Bss", "SymbolsPart"
 RENAMED = {"type_bits": "type", "data_words": "data"}
 # how the module names constants: those of these enums as attributes, and of others not
 PYTHON = {"v7_part": "{}", "v7_nm_option": "{}", "v7_link_option": "{}", "v7_relocation": "{}", "v7_segment": "{}",
-          "v7_reply": "Session.{}", "v7_form": "Session._{}", "v7_want": "_{}", "v7_map_name_state": "{}",
+          "v7_form": "Session._{}", "v7_want": "_{}", "v7_map_name_state": "{}",
           "v7_map_use_kind": "{}", "v7_map_limit_kind": "{}", "v7_gnu_option": "{}", "v7_remark_kind": "{}", "v7_finding_kind": "{}"}
 SIZES = {"u8": 1, "u16": 2, "u32": 4, "u64": 8, "usize": 8}
 # types of v7-sys with the bytes of these
@@ -300,7 +295,7 @@ def compare_python(header, enums, python):
             known = attribute(python, form.format(constant[3:]))
             if known != value:
                 yield f"{constant}: {value} in C, and {known} in Python"
-    numbers = {**enums["v7_fault"], **enums["v7_reply"]}
+    numbers = enums["v7_fault"]
     texts = texts_of(header, numbers)
     if texts != python.FAULTS:
         yield f"the texts of faults: {sorted(set(texts.items()) ^ set(python.FAULTS.items()))} in C or in Python alone"
@@ -413,12 +408,12 @@ def compare(header, texts, python, rust):
 
 # what is changed, in the header or in the code, to see that it is found: a field, its place, its type, a constant, a call
 PLANTED = [
-    ("v7.h", "uint32_t word;  ", "uint32_t words; "),
+    ("v7.h", "uint32_t word;      /* V7_BAD", "uint32_t words;     /* V7_BAD"),
     ("v7.h", "    uint16_t value;\n    uint16_t reloc;", "    uint16_t reloc;\n    uint16_t value;"),
     ("v7.h", "    unsigned char name[8];\n    uint16_t type;", "    unsigned char name[9];\n    uint16_t type;"),
     ("v7.h", "V7_ODD_SIZE = 13", "V7_ODD_SIZE = 15"),
     ("v7.h", "V7_SPLIT = 32", "V7_SPLIT = 16"),
-    ("v7.h", "V7_WITHDRAW = 'w'", "V7_WITHDRAW = 'u'"),
+    ("v7.h", "V7_JSON = 1", "V7_JSON = 2"),
     ("v7.h", 'return "odd size"', 'return "odd"'),
     ("v7.h", "V7_VERSION_NUMBER 0x000400", "V7_VERSION_NUMBER 0x000401"),
     ("v7.h", "uint32_t v7_version(void);", ""),

@@ -1,4 +1,4 @@
-"""Prints how large and how wide the definitions, proofs and clauses are. An error is a file with more lines over 160 columns than are
+"""Prints how large the repository is, beside what it was at 4b07d0a9, and how large and how wide definitions, proofs and clauses are. An error is a file with more lines over 160 columns than are
 noted, and a test whose comparer is not given a planted difference.
 
 A clause is what `ensures`, `requires` or `invariant` says, in one line or many; it is wide if one of its lines is. A lemma is a
@@ -15,6 +15,7 @@ import sys
 
 from tests.lib.files import read
 from tests.lib.rattle import every_clause
+from tests.wrong_bodies.edits import edits_of
 
 # the files that have lines over TOO_WIDE, each with how many
 NOTED = """
@@ -34,14 +35,27 @@ crates/v7_c/proofs/slot/Slot/of/Proof.antt 3
 """
 # tests that compare nothing, or that are judged by another: `cases -b` plays cases that have to fail
 NO_COMPARER = ["cases", "demo", "dist", "recheck", "room", "simulate"]
+# what is counted, and how many there were at 4b07d0a9: lines of the files with these endings
+LINES = [("code", (".rt",), 42559), ("definitions and proofs", (".antt",), 73534), ("scripts", (".py", ".sh"), 16879),
+         ("documents", (".md", ".1", ".3", ".5", ".7"), 8393)]
+FILES, CRATES, WRONG_BODIES = 2732, 35, 694
 WIDE, TOO_WIDE, WIDE_CLAUSE = 140, 160, 100
 STATEMENT = re.compile(r"^(?:pub )?([^\s:(){}]+) : ")
 
 
-def files(*endings):
-    """The files of the repository's crates with these endings."""
-    listed = subprocess.run(["git", "ls-files", "-co", "--exclude-standard", "crates"], stdout=subprocess.PIPE, check=True, text=True)
-    return sorted(it for it in listed.stdout.split("\n") if it.endswith(endings) and os.path.exists(it))
+def files(*endings, below="."):
+    """The files of the repository with these endings."""
+    listed = subprocess.run(["git", "ls-files", "-co", "--exclude-standard", below], stdout=subprocess.PIPE, check=True, text=True)
+    return sorted(it for it in listed.stdout.split("\n") if it.endswith(endings) and os.path.isfile(it))
+
+
+def tell_sums():
+    """Prints what the repository has beside what it had."""
+    for name, endings, before in LINES:
+        print(f"lines of {name}: {sum(len(lines(path)) for path in files(*endings))}, before {before}")
+    crates = [os.path.basename(path) for path in glob.glob("crates/*")]
+    print(f"files: {len(files(''))}, before {FILES}; crates: {len(crates)}, before {CRATES}; "
+          f"wrong bodies: {sum(len(edits_of(name)) for name in crates)}, before {WRONG_BODIES}")
 
 
 def lines(path):
@@ -64,7 +78,8 @@ def unplanted():
 
 
 def main():
-    proofs, sources = files(".antt"), files(".rt")
+    tell_sums()
+    proofs, sources = files(".antt", below="crates"), files(".rt", below="crates")
     texts = {path: lines(path) for path in proofs}
     crates = collections.Counter()
     for path, text in texts.items():

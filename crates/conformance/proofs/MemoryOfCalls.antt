@@ -2,7 +2,7 @@
 use Rattle.std.proofs.Common.{◌≡◌, ℕ, zero, suc, ◌<◌, List, [], ◌∷◌, Some, Err, refl, inl, inr, arith}
 use Rattle.std.specs.Prelude.{◌⊎◌, IsOk}
 use Rattle.aout_core.specs.Encoding.{header_encoding}
-use Rattle.library_calls.specs.MemoryWanted.{HasBody, LinkMayRunOut, SessionMayRunOut, StateMayRunOut}
+use Rattle.library_calls.specs.MemoryWanted.{HasBody, LinkMayRunOut}
 use Rattle.library_calls.specs.{declared.cause.Cause.TheVariants.Excluded, declared.cause.Cause.TheVariants.LongName, FileAnswers.names_in}
 use Rattle.library_calls.specs.{FileAnswers.sizes_in, FileAnswers.stripped_in, LinkRequests.choices_in, ObjectParts.file_for}
 use Rattle.library_calls.specs.{ObjectParts.parts_in, ObjectParts.pieces}
@@ -67,17 +67,6 @@ excluded_first = refl
 
 long_name_after : choices_in 32 nine_letters ≡ Err LongName
 long_name_after = refl
-
--- ---- sessions: `b` is not an edit
-
-edits_before_link : (place : ℕ) → SessionMayRunOut 0 [] [] (98 ∷ []) [] place → ⊥
-edits_before_link place (inl (inl (first, inl (letter, body)))) = let e : 98 ≡ 97 = letter in absurd (omega (arith, e))
-edits_before_link place (inl (inl (first, inr ok))) = absurd (cc)
-edits_before_link place (inl (inr (ok, h))) = h
-edits_before_link place (inr (first, h)) = h
-
-form_before_edits : (forced letters : List ℕ) (objects : List (List ℕ)) (place : ℕ) → StateMayRunOut 2 forced letters objects place → ⊥
-form_before_edits forced letters objects place (form, names, rest) = absurd (cc)
 
 -- ---- objects in GNU's form
 

@@ -1,13 +1,14 @@
 //! The calls that take bytes and give bytes: what they give, and why they give nothing.
+use crate::fixtures::samples::{A_O, B_O, C_O, D_O, G_O};
+use crate::fixtures::{TWO_OBJECTS, UNDEFINED, sized};
 use aout_core::{ObjectFault, ReadFault};
-use fixtures::samples::{A_O, B_O, C_O, D_O, G_O};
-use fixtures::{TWO_OBJECTS, UNDEFINED, sized};
 use library_calls::{
     Cause, LinkRequest, LongPart, ObjectBytes, ObjectParts, ObjectWord, Refusal, ReportedName,
-    Shown, add_bytes, begin_session, check, disassemble, disassemble_words, from_gnu, from_listing,
-    link_session, list_file, list_symbols, make, read_apart, remarks_of, run_link, run_session,
-    show_session, show_sizes, state_of, strip, take_apart, withdraw_last,
+    Wants, add_bytes, begin_session, check, disassemble, disassemble_words, from_gnu, from_listing,
+    link_session, list_file, list_symbols, make, read_apart, remarks_of, run_link, show_sizes,
+    state_of, strip, take_apart, withdraw_last,
 };
+use link_session::{AddFault, Session};
 use std::alloc::Global;
 use std::test::Fail;
 
@@ -16,6 +17,13 @@ const STRIPPED: LinkRequest<'static> = LinkRequest {
     options: 2,
     entry: &[],
     forced: &[],
+};
+
+/// The lines of the report alone.
+const REPORT: Wants = Wants {
+    report: true,
+    findings: false,
+    places: false,
 };
 
 /// The bytes of two objects.
@@ -184,11 +192,11 @@ fn links(alloc: Global, options: u32, two: (&[u8], &[u8]), file: &[u8], report: 
         options,
         ..STRIPPED
     };
-    run_link(alloc, &request, false, &both(two)).is_ok_and(|given| {
+    run_link(alloc, &request, REPORT, &both(two)).is_ok_and(|given| {
         given.status == u8::from(!report.is_empty())
-            && given.replies.is_empty()
             && given.file.as_slice() == file
             && given.report.as_slice() == report.as_bytes()
+            && given.findings.is_empty()
     })
 }
 
@@ -201,7 +209,7 @@ fn objects_linked(rt: HostRuntime) {
 
 /// Why there is no link of two objects.
 fn refusal(alloc: Global, request: &LinkRequest<'_>, two: (&[u8], &[u8])) -> Option<Refusal> {
-    run_link(alloc, request, false, &both(two)).err()
+    run_link(alloc, request, REPORT, &both(two)).err()
 }
 
 #[test]
@@ -243,32 +251,52 @@ fn findings_listed(rt: HostRuntime) {
         finding(b"_f\0\0\0\0\0\0", 4),
         finding(b"_g\0\0\0\0\0\0", 4),
     ];
-    let given = run_link(rt.alloc(), &request, false, &both((&C_O, &G_O)));
+    let wants = Wants {
+        report: false,
+        findings: true,
+        places: false,
+    };
+    let given = run_link(rt.alloc(), &request, wants, &both((&C_O, &G_O)));
     assert!(rt;
         given.is_ok_and(|given| given.status == 1
+            && given.report.is_empty()
             && given.file.as_slice() == UNDEFINED.as_slice()
             && given.findings.as_slice() == found.as_slice())
     );
 }
 
-/// What the edits with two objects give: the replies, the status and the file.
-fn runs(alloc: Global, edits: &[u8], two: (&[u8], &[u8]), want: (&[u8], u8, &[u8])) -> bool {
-    run_session(alloc, &STRIPPED, false, edits, &both(two)).is_ok_and(|given| {
-        given.replies.as_slice() == want.0
-            && given.status == want.1
-            && given.file.as_slice() == want.2
-    })
+/// Adds these objects to a session, and tells the number of the first that is refused, if there is one.
+fn add_all(alloc: Global, session: &mut Session, objects: &[&[u8]]) -> Option<Cause> {
+    for bytes in objects {
+        if let Err(cause) = add_bytes(alloc, session, bytes) {
+            return Some(cause);
+        }
+    }
+    None
+}
+
+/// Whether a session that links to this file has no report.
+fn keeps(alloc: Global, session: &Session, file: &[u8]) -> bool {
+    link_session(alloc, session, REPORT, 2, b"").is_ok_and(|given| given.status == 0
+        && given.file.as_slice() == file)
 }
 
 #[test]
-fn replies_to_edits(rt: HostRuntime) -> Result<(), Fail> {
+fn objects_kept(rt: HostRuntime) -> Result<(), Fail> {
     let alloc = rt.alloc();
-    let two: (&[u8], &[u8]) = (&A_O, &B_O);
-    assert!(rt; runs(alloc, b"aa", two, (&[0, 0], 0, &TWO_OBJECTS)));
-    assert!(rt; runs(alloc, b"wa", two, (&[35, 0], 1, ONE_OBJECT)));
+    let mut session = begin_session(alloc, b"").ok().ok_or("not begun")?;
+    assert!(rt; withdraw_last(&mut session) == Err(Cause::NothingKept));
+    assert!(rt; add_all(alloc, &mut session, &[&A_O, &B_O]).is_none());
+    assert!(rt; keeps(alloc, &session, &TWO_OBJECTS));
+    assert!(rt; withdraw_last(&mut session) == Ok(()));
+    assert!(rt; keeps(alloc, &session, ONE_OBJECT));
     let large = sized(alloc, 65_534)?;
-    let alone = strip(alloc, &large).ok().ok_or("not stripped")?;
-    assert!(rt; runs(alloc, b"aa", (&large, &B_O), (&[0, 31], 1, &alone)));
+    let cause = Cause::NotAdded(AddFault::TextFull);
+    assert!(rt; add_bytes(alloc, &mut session, &large) == Err(cause));
+    assert!(rt; keeps(alloc, &session, ONE_OBJECT));
+    let cause = Cause::BadFile(ReadFault::Truncated);
+    assert!(rt; add_bytes(alloc, &mut session, &C_O[..47]) == Err(cause));
+    assert!(rt; link_session(alloc, &session, REPORT, 128, b"").err() == Some(Cause::NoOption));
     Ok(())
 }
 
@@ -288,79 +316,56 @@ const FIRST: &str =
 const BOTH: &str =
     "{\"objects\":2,\"text\":[{\"offset\":0,\"value\":2551,\"pc\":false,\"target\":\"number\"},{\"offset\":2,\"value\":2,\"pc\":true,\"target\":\"text\"},{\"offset\":4,\"value\":160,\"pc\":false,\"target\":\"number\"},{\"offset\":6,\"value\":135,\"pc\":false,\"target\":\"number\"}],\"data\":[],\"bss\":0,\"externals\":[{\"name\":\"_f\",\"state\":\"text\",\"value\":6}],\"multiples\":[],\"marks\":[{\"name\":\"_f\",\"was\":{\"state\":\"undefined\",\"value\":0}},{\"segment\":\"text\",\"offset\":2,\"was\":{\"value\":65532,\"pc\":true,\"target\":\"external\",\"name\":\"_f\"}}]}";
 
-/// What is shown after the edits with `c.o` and `d.o`.
-fn shown(alloc: Global, form: u32, forced: &[u8], edits: &[u8]) -> Result<Shown, Refusal> {
-    show_session(alloc, form, forced, edits, &both((&C_O, &D_O)))
-}
-
-/// Whether the edits have these replies, and this state as JSON.
-fn shows(alloc: Global, forced: &[u8], edits: &[u8], replies: &[u8], state: &str) -> bool {
-    shown(alloc, JSON, forced, edits).is_ok_and(|shown| {
-        shown.status == u8::from(replies.contains(&35))
-            && shown.replies.as_slice() == replies
-            && shown.state.as_slice() == state.as_bytes()
-    })
+/// Whether a session with these forced names and objects has this state as JSON, and shows nothing in a form that does not exist.
+fn shows(alloc: Global, forced: &[u8], objects: &[&[u8]], state: &str) -> bool {
+    let Ok(mut session) = begin_session(alloc, forced) else {
+        return false;
+    };
+    add_all(alloc, &mut session, objects).is_none()
+        && gives(state_of(alloc, &session, JSON), state.as_bytes())
+        && state_of(alloc, &session, 2).err() == Some(Cause::NoOption)
 }
 
 #[test]
 fn json_shown(rt: HostRuntime) {
     let alloc = rt.alloc();
-    assert!(rt; shows(alloc, b"", b"a", &[0], FIRST));
-    assert!(rt; shows(alloc, b"", b"aa", &[0, 0], BOTH));
-    assert!(rt; shows(alloc, b"", b"waaw", &[35, 0, 0, 0], FIRST));
-    assert!(rt; shows(alloc, ODD_NAME.0, b"", &[], ODD_NAME.1));
+    assert!(rt; shows(alloc, b"", &[&C_O], FIRST));
+    assert!(rt; shows(alloc, b"", &[&C_O, &D_O], BOTH));
+    assert!(rt; shows(alloc, ODD_NAME.0, &[], ODD_NAME.1));
+    let refusal = Refusal {
+        cause: Cause::CutNames,
+        place: 0,
+    };
+    assert!(rt; begin_session(alloc, b"_f").err() == Some(refusal));
 }
 
 #[test]
-fn session_kept(rt: HostRuntime) -> Result<(), Fail> {
+fn state_after_a_withdrawal(rt: HostRuntime) -> Result<(), Fail> {
     let alloc = rt.alloc();
     let mut session = begin_session(alloc, b"").ok().ok_or("not begun")?;
-    assert!(rt; add_bytes(alloc, &mut session, &C_O) == Ok(()));
-    assert!(rt; gives(state_of(alloc, &session, JSON), FIRST.as_bytes()));
-    assert!(rt; add_bytes(alloc, &mut session, &D_O) == Ok(()));
-    assert!(rt; gives(state_of(alloc, &session, JSON), BOTH.as_bytes()));
-    let cause = Cause::BadFile(ReadFault::Truncated);
-    assert!(rt; add_bytes(alloc, &mut session, &C_O[..47]) == Err(cause));
+    assert!(rt; add_all(alloc, &mut session, &[&C_O, &D_O]).is_none());
     assert!(rt; withdraw_last(&mut session) == Ok(()));
     assert!(rt; gives(state_of(alloc, &session, JSON), FIRST.as_bytes()));
-    assert!(rt; withdraw_last(&mut session) == Ok(()));
-    assert!(rt; withdraw_last(&mut session) == Err(Cause::NothingKept));
-    assert!(rt; add_bytes(alloc, &mut session, &A_O) == Ok(()));
-    let linked = link_session(alloc, &session, 2, b"")
-        .ok()
-        .ok_or("not linked")?;
-    assert!(rt; linked.status == 0 && linked.file.as_slice() == ONE_OBJECT);
-    assert!(rt; link_session(alloc, &session, 128, b"").err() == Some(Cause::NoOption));
     Ok(())
 }
 
-#[test]
-fn states_refused(rt: HostRuntime) {
-    let alloc = rt.alloc();
-    let cause = Cause::NoOption;
-    assert!(rt; shown(alloc, 2, b"", b"x").err() == Some(Refusal { cause, place: 0 }));
-    let cause = Cause::NoEdit;
-    assert!(rt; shown(alloc, LINES, b"", b"ax").err() == Some(Refusal { cause, place: 1 }));
-    let cause = Cause::BadFile(ReadFault::ShortHeader);
-    assert!(rt; shown(alloc, JSON, b"", b"aaa").err() == Some(Refusal { cause, place: 2 }));
-}
-
-/// Whether the state of 65,534 bytes of text has this size, and ends with this.
-fn ends(alloc: Global, form: u32, size: usize, end: &str) -> Result<bool, Fail> {
-    let large = sized(alloc, 65_534)?;
-    let objects = [ObjectBytes { bytes: &large }];
-    Ok(show_session(alloc, form, b"", b"a", &objects).is_ok_and(|shown| {
-        shown.state.len() == size && shown.state.as_slice().ends_with(end.as_bytes())
-    }))
+/// Whether a state in this form has this size, and ends with this.
+fn ends(alloc: Global, session: &Session, form: u32, size: usize, end: &str) -> bool {
+    state_of(alloc, session, form).is_ok_and(|state| state.len() == size
+        && state.as_slice().ends_with(end.as_bytes()))
 }
 
 #[test]
 fn large_state_shown(rt: HostRuntime) -> Result<(), Fail> {
+    let alloc = rt.alloc();
+    let mut session = begin_session(alloc, b"").ok().ok_or("not begun")?;
+    let large = sized(alloc, 65_534)?;
+    assert!(rt; add_bytes(alloc, &mut session, &large) == Ok(()));
     let last_line = "  text 177774  000000     a number\n";
     let last =
         "{\"offset\":65532,\"value\":0,\"pc\":false,\"target\":\"number\"}],\"data\":[],\"bss\":0,\"externals\":[],\"multiples\":[],\"marks\":[]}";
-    assert!(rt; ends(rt.alloc(), LINES, 32_767 * 35, last_line)?);
-    assert!(rt; ends(rt.alloc(), JSON, 1_829_478, last)?);
+    assert!(rt; ends(alloc, &session, LINES, 32_767 * 35, last_line));
+    assert!(rt; ends(alloc, &session, JSON, 1_829_478, last));
     Ok(())
 }
 

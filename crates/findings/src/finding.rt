@@ -63,6 +63,12 @@ pub enum FindingKind {
     BranchOutside,
     /// A branch leads to an operand word of an instruction.
     BranchWithin,
+    /// An operand refers to what its instruction cannot mean, as a call that leads to a common.
+    UnsuitableReference,
+    /// A symbol of text, or a word of kind text, has an address at which no instruction begins.
+    UnsuitableAddress,
+    /// An external is absolute and has an address of the text, and no symbol is of text.
+    AbsoluteText,
 }
 
 /// What is found at a byte of a file.

@@ -30,7 +30,7 @@ pub use finding::{Finding, FindingKind, Findings, put_finding_text, put_findings
 pub use heading::put_header;
 pub use kind::put_kind;
 pub use notes::Notes;
-pub use odd::odd_of;
+pub use odd::{odd_of, put_symbol_title};
 pub use other_files::{OtherForm, header_of, is_of_gnu, likeness, other_form};
 pub use places::FilePlaces;
 pub use wrong::{is_damaged, put_instruction, wrong_bytes, wrong_in, wrong_words};

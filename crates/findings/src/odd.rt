@@ -92,16 +92,23 @@ struct Numbered<'a> {
     place: usize,
 }
 
-/// A text that begins with what a finding calls a symbol.
+/// Appends what a finding calls symbol `number`: `symbol 3 _f`. (own choice)
 #[tactic(auto, unfolding(crate::specs::OddTexts::symbol_title))]
+pub fn put_symbol_title(text: &mut Text, number: usize, symbol: &Symbol)
+    ensures { Puts text.old text.new (symbol_title number symbol.now.name) }
+{
+    text.put("symbol ");
+    text.put_decimal(number as u64);
+    text.put(" ");
+    text.put_printable_name(symbol.name.as_bytes());
+}
+
+/// A text that begins with what a finding calls a symbol.
 fn titled(findings: &Findings, at: &Numbered<'_>) -> Text
     ensures { Holds result (symbol_title at.now.number at.now.symbol.now.name) }
 {
     let mut text = findings.text();
-    text.put("symbol ");
-    text.put_decimal(at.number as u64);
-    text.put(" ");
-    text.put_printable_name(at.symbol.name.as_bytes());
+    put_symbol_title(&mut text, at.number, at.symbol);
     text
 }
 

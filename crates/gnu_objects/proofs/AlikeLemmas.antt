@@ -1,31 +1,26 @@
 -- What a map finds for a name once a name, or a symbol that counts, has been put in.
 use Rattle.std.proofs.Common.{◌≡◌, ℕ, ◌+◌, ◌<◌, Bool, true, false, cond, not, ◌&&◌, nat_eq, if◌then◌else◌, List, drop, take, length, Option}
-use Rattle.std.proofs.Common.{Some, None, Result, Ok, Err, OnErr, get_or, refl, sym, ap, ◌∙◌}
-use Rattle.std.proofs.{lemmas.Cmp.nat_list_eq_equiv, lemmas.List.drop_more}
+use Rattle.std.proofs.Common.{Some, None, Result, OnErr, get_or, refl, sym, ap, ◌∙◌, rules}
+use Rattle.std.proofs.{lemmas.List.drop_more}
 use Rattle.std.specs.Cmp.Lexicographic.{pointwise, same_text}
 use Rattle.indexmap.specs.IndexMap.{IndexMap, get}
-use Rattle.gnu_objects.specs.Staying.{are_alike, counts, alike_with}
+use Rattle.gnu_objects.specs.Staying.{are_alike, alike_with}
 use Rattle.gnu_objects.specs.internal.AlikeNames.{other_than, found, first_number, PutsName, PutsSymbol, PutsSymbolsFrom, FindsNoLess}
-use Rattle.gnu_objects.specs.{declared.alike.Equals.Equals, declared.symbols.GnuSymbol.GnuSymbol, GnuForm.name_at}
+use Rattle.gnu_objects.specs.{declared.alike.Equals.Equals, declared.symbols.GnuSymbol.GnuSymbol}
 
 pub alike-symm : (a b : List ℕ) → are_alike a b ≡ are_alike b a
-alike-symm a b =
-    ap (λ (t : Bool). t && not (pointwise nat_eq a b)) (nat_list_eq_equiv.symm (take 8 a) (take 8 b))
-    ∙ ap (λ (t : Bool). pointwise nat_eq (take 8 b) (take 8 a) && not t) (nat_list_eq_equiv.symm a b)
+alike-symm a b = search rules
 
 in_front : (t : Bool) (n : ℕ) (a b c : Option ℕ) → c ≡ first_number a b →
     (if t then Some n else c) ≡ first_number (if t then Some n else a) b
-in_front true n a b c e = refl
-in_front false n a b c e = e
+in_front t n a b c e = search rules
 
 later_none : (a b : Option ℕ) → first_number a b ≡ None → b ≡ None
-later_none None b e = e
-later_none (Some n) b e = absurd cc
+later_none a b e = search rules
 
 -- what holds at any rate holds at an error
 pub any_err : {X E : Type 0} (r : Result X E) (P : Type 0) → P → OnErr r P
-any_err (Ok x) P p = tt
-any_err (Err e) P p = p
+any_err r h p = search rules
 
 module _ {S : Type 0} where
   pub puts_name : (name : List ℕ) (number : ℕ) (e : Equals) (old new : IndexMap (List ℕ) Equals S) →
@@ -75,13 +70,7 @@ module _ {S : Type 0} where
       n < length symbols → PutsSymbol strings externals n (get_or symbols n d) before after →
       PutsSymbolsFrom strings externals (n + 1) (drop (n + 1) symbols) old before →
       PutsSymbolsFrom strings externals n (drop n symbols) old after
-  puts_more strings externals symbols n d old before after inside puts so_far q =
-      let s : GnuSymbol = get_or symbols n d in
-      let rest : List GnuSymbol = drop (n + 1) symbols in
-      puts q
-      ∙ in_front (counts strings externals s && are_alike q (name_at strings s.place)) n
-      (alike_with strings externals q (n + 1) rest) (found old q) (found before q) (so_far q)
-      ∙ sym (ap (λ (l : List GnuSymbol). first_number (alike_with strings externals q n l) (found old q)) (drop_more symbols n d inside))
+  puts_more strings externals symbols n d old before after inside puts so_far q = search (rules, in_front, drop_more)
 
   -- what is found for no name at last was found for none before
   pub finds_no_less : (strings : List ℕ) (externals : Bool) (n : ℕ) (rest : List GnuSymbol)

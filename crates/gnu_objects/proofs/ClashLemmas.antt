@@ -1,26 +1,24 @@
 -- Files of whose externals none is found clash with none of those whose names are put in.
-use Rattle.std.proofs.Common.{◌≡◌, ℕ, ◌+◌, Bool, true, false, ◌&&◌, ◌||◌, if◌then◌else◌, List, [], ◌∷◌, ◌++◌, take, Option, Some, None}
+use Rattle.std.proofs.Common.{◌≡◌, ℕ, ◌+◌, Bool, true, false, ◌&&◌, if◌then◌else◌, List, [], ◌∷◌, ◌++◌, take, Option, None, rules}
 use Rattle.std.proofs.Common.{refl, sym, ap, ◌∙◌, subst}
+use Rattle.std.proofs.lemmas.Bool.{or_parts}
 use Rattle.std.specs.List.{list_any}
 use Rattle.indexmap.specs.IndexMap.{IndexMap}
 use Rattle.aout_core.specs.Decoding.{header_in}
 use Rattle.gnu_objects.specs.GnuForm.{name_at, strings_of, symbols_of}
 use Rattle.gnu_objects.specs.Staying.{are_alike, counts, alike_with, is_some}
-use Rattle.gnu_objects.specs.Clashes.{clash_at, clash_of, clash_first, first_clash_from, first_clash, clash_in, found_first}
+use Rattle.gnu_objects.specs.Clashes.{clash_at, first_clash_from, first_clash, clash_in, found_first}
 use Rattle.gnu_objects.specs.Clashes.{clash_among_from}
 use Rattle.gnu_objects.specs.internal.AlikeNames.{found, first_number, PutsSymbols, FindsNoLess}
 use Rattle.gnu_objects.specs.internal.Files.{external_alike, NoneAlike, HasNames, is_found, may_clash, clash_among_files}
 use Rattle.gnu_objects.specs.{declared.alike.Equals.Equals, declared.clash.Clash.Clash, declared.symbols.GnuSymbol.GnuSymbol}
 use Rattle.gnu_objects.proofs.AlikeLemmas.{alike-symm}
+use Rattle.gnu_objects.proofs.DistinctLemmas.{no_number, none_is}
 
 -- no symbol of these that counts is alike with a name
 abbrev NoneOf : List ℕ → List ℕ → List GnuSymbol → Type 0
 NoneOf strings q [] = Unit {0}
 NoneOf strings q (s ∷ rest) = ((counts strings true s && are_alike q (name_at strings s.place)) ≡ false) × NoneOf strings q rest
-
-no_number : (b : Bool) (m : ℕ) (later : Option ℕ) → (if b then Some m else later) ≡ None → (b ≡ false) × (later ≡ None)
-no_number true m later e = absurd cc
-no_number false m later e = (refl, e)
 
 none_of : (strings q : List ℕ) (m : ℕ) (rest : List GnuSymbol) → alike_with strings true q m rest ≡ None → NoneOf strings q rest
 none_of strings q m [] e = tt
@@ -30,8 +28,7 @@ none_of strings q m (s ∷ rest) e =
 
 alike_none : (strings q : List ℕ) (m : ℕ) (rest : List GnuSymbol) → NoneOf strings q rest → alike_with strings true q m rest ≡ None
 alike_none strings q m [] h = refl
-alike_none strings q m (s ∷ rest) h =
-    ap (λ (b : Bool). if b then Some m else alike_with strings true q (m + 1) rest) h.0 ∙ alike_none strings q (m + 1) rest h.1
+alike_none strings q m (s ∷ rest) h = cc (alike_none strings q (m + 1) rest h.1)
 
 -- each symbol of one file that counts is alike with none of another
 abbrev NonePairs : List ℕ → List GnuSymbol → List ℕ → List GnuSymbol → Type 0
@@ -40,12 +37,10 @@ NonePairs strings symbols others (t ∷ rest) =
     (counts others true t ≡ true → NoneOf strings (name_at others t.place) symbols) × NonePairs strings symbols others rest
 
 and_first : (a b : Bool) → a ≡ true → (a && b) ≡ false → b ≡ false
-and_first true b e f = f
-and_first false b e f = absurd cc
+and_first a b e f = search rules
 
 and_none : (a b : Bool) → (a ≡ true → b ≡ false) → (a && b) ≡ false
-and_none true b h = h refl
-and_none false b h = refl
+and_none a b h = search rules
 
 -- the same from the other side, for one symbol of the first file
 turned : (strings : List ℕ) (s : GnuSymbol) (rest_of : List GnuSymbol) (others : List ℕ) (symbols : List GnuSymbol) →
@@ -65,34 +60,27 @@ fewer strings s rest_of others [] h = tt
 fewer strings s rest_of others (t ∷ rest) h = ((λ counted. (h.0 counted).1), fewer strings s rest_of others rest h.1)
 
 no_clash_at : (c : Bool) (n : ℕ) (o : Option ℕ) → (c ≡ true → o ≡ None) → (if c then clash_at n o else None) ≡ None
-no_clash_at true n o h = ap (clash_at n) (h refl)
-no_clash_at false n o h = refl
+no_clash_at c n o h = search rules
 
 no_clash : (strings : List ℕ) (rest_of : List GnuSymbol) (n : ℕ) (others : List ℕ) (symbols : List GnuSymbol) →
     NonePairs strings rest_of others symbols → first_clash_from strings others symbols n rest_of ≡ None
 no_clash strings [] n others symbols h = refl
-no_clash strings (s ∷ rest_of) n others symbols h =
-    let own : clash_of strings n s others symbols ≡ None =
-    no_clash_at (counts strings true s) n (alike_with others true (name_at strings s.place) 0 symbols)
-    (λ counted. alike_none others (name_at strings s.place) 0 symbols (turned strings s rest_of others symbols counted h)) in
-    ap (λ (c : Option Clash). clash_first c (first_clash_from strings others symbols (n + 1) rest_of)) own
-    ∙ no_clash strings rest_of (n + 1) others symbols (fewer strings s rest_of others symbols h)
-
-none_is : (o : Option ℕ) → is_some o ≡ false → o ≡ None
-none_is None e = refl
-none_is (Some m) e = absurd cc
-
-or_none : (a b : Bool) → (a || b) ≡ false → (a ≡ false) × (b ≡ false)
-or_none true b e = absurd cc
-or_none false b e = (refl, e)
+no_clash strings (s ∷ rest_of) n others symbols h = search (
+  rules,
+  no_clash_at,
+  alike_none,
+  turned,
+  fewer,
+  no_clash strings rest_of (n + 1)
+      others symbols (fewer strings s rest_of others symbols h),
+)
 
 none_more : (files : List (List ℕ)) (f q : List ℕ) → NoneAlike files q → external_alike f q ≡ None → NoneAlike (files ++ f ∷ []) q
 none_more [] f q h e = (e, tt)
 none_more (x ∷ files) f q h e = (h.0, none_more files f q h.1 e)
 
 both_none : (a b : Option ℕ) → first_number a b ≡ None → (a ≡ None) × (b ≡ None)
-both_none None b e = (refl, e)
-both_none (Some n) b e = absurd cc
+both_none a b e = search rules
 
 module _ {S : Type 0} where
   -- nothing is found for the externals of a file, so none is alike with an external of an earlier one
@@ -101,7 +89,7 @@ module _ {S : Type 0} where
       NonePairs (strings_of f (header_in (take 16 f))) (symbols_of f (header_in (take 16 f))) others symbols
   pairs_of names f others [] h e = tt
   pairs_of names f others (t ∷ rest) h e =
-      let head = or_none (is_found names others t) (list_any (is_found names others) rest) e in (
+      let head = or_parts (is_found names others t) (list_any (is_found names others) rest) e in (
         (λ counted. none_of (strings_of f (header_in (take 16 f))) (name_at others t.place) 0 (symbols_of f (header_in (take 16 f)))
             (h (name_at others t.place) (none_is (found names (name_at others t.place))
             (and_first (counts others true t) (is_some (found names (name_at others t.place))) counted head.0)))),
@@ -128,9 +116,7 @@ module _ {S : Type 0} where
   pub has_more : (files : List (List ℕ)) (f : List ℕ) (old new : IndexMap (List ℕ) Equals S) → HasNames files old →
       PutsSymbols (strings_of f (header_in (take 16 f))) true (symbols_of f (header_in (take 16 f))) old new →
       HasNames (files ++ f ∷ []) new
-  has_more files f old new h puts q unfound =
-      let none = both_none (external_alike f q) (found old q) (sym (puts q) ∙ unfound) in
-      none_more files f q (h q none.1) none.0
+  has_more files f old new h puts q unfound = search (rules, both_none, none_more)
 
   pub keeps_names : (files : List (List ℕ)) (old new : IndexMap (List ℕ) Equals S) → HasNames files old →
       FindsNoLess old new → HasNames files new

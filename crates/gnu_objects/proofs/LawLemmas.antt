@@ -1,9 +1,8 @@
 -- The law of conversion.
-use Rattle.std.proofs.Common.{◌≡◌, ℕ, ◌+◌, ◌/◌, Bool, true, false, not, eqb, if◌then◌else◌, List, ◌++◌, map, take, drop, length, Option}
-use Rattle.std.proofs.Common.{Some, None, refl, ap, ◌∙◌, subst}
+use Rattle.std.proofs.Common.{◌≡◌, ℕ, ◌+◌, ◌/◌, Bool, List, ◌++◌, map, take, drop, length, Option}
+use Rattle.std.proofs.Common.{None, refl, ap, ◌∙◌, subst, rules}
 use Rattle.std.proofs.lemmas.List.{take-append-drop}
 use Rattle.std.specs.Prelude.{Result, Ok}
-use Rattle.aout_core.specs.declared.object.ObjectFault.TheVariants.{NotAnObject, NoRelocation}
 use Rattle.aout_core.specs.WellFormed.{first_bad_word, first_object_fault}
 use Rattle.aout_core.specs.{declared.header.Header.Header, declared.object.ObjectFault.ObjectFault, Contents.Contents, Decoding.header_in}
 use Rattle.gnu_objects.specs.GnuRefusals.{header_refusal, strings_refusal, first_bad_symbol, linked_refusal, count_refusal, first_alike}
@@ -17,22 +16,13 @@ use Rattle.gnu_objects.proofs.ReferenceLemmas.{both_none, bad_split, dropped_spl
 use Rattle.gnu_objects.proofs.{StayingLemmas.length-staying, StayingLemmas.kept_fused, DistinctLemmas.distinct}
 
 unless_ok : (r : Option Refusal) (x : Result Contents Refusal) (c : Contents) → unless r x ≡ Ok c → (r ≡ None) × (x ≡ Ok c)
-unless_ok None x c e = (refl, e)
-unless_ok (Some r) x c e = absurd (cc)
+unless_ok r x c e = search rules
 
 object_ok : (f : Option ObjectFault) (x c : Contents) → object_unless f x ≡ Ok c → (f ≡ None) × (x ≡ c)
-object_ok None x c e = let same : x ≡ c = cc in (refl, same)
-object_ok (Some f) x c e = absurd (cc)
+object_ok f x c e = search rules
 
 object_words : (c : Contents) → first_object_fault c ≡ None → first_bad_word c.symbols 0 (c.text_reloc ++ c.data_reloc) ≡ None
-object_words c e = by (eqb c.header.magic 0o407) (eqb c.header.flag 0) e
-  where
-    by : (m f : Bool) → (if not m then Some NotAnObject
-        else (if not f then Some NoRelocation else first_bad_word c.symbols 0 (c.text_reloc ++ c.data_reloc))) ≡ None →
-        first_bad_word c.symbols 0 (c.text_reloc ++ c.data_reloc) ≡ None
-    by true true e = e
-    by true false e = absurd (cc)
-    by false f e = absurd (cc)
+object_words c e = search rules
 
 -- a file by its tables
 abbrev file_of : List ℕ → Header → List ℕ → List GnuSymbol → List ℕ → GnuFile

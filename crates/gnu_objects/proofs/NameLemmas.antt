@@ -1,18 +1,9 @@
 -- The bytes before the first NUL have none.
-use Rattle.std.proofs.Common.{◌≡◌, ◌==◌, ℕ, Bool, true, false, cond, List, [], ◌∷◌, take, Some, None, refl, sym, ap, ◌∙◌}
+use Rattle.std.proofs.Common.{◌≡◌, ◌==◌, ℕ, List, take, Some, None, sym, ap, ◌∙◌}
 use Rattle.std.proofs.Math.Seq.{take-length}
 use Rattle.std.specs.List.{position}
-use Rattle.aout_core.proofs.NameLemmas.{nul_found, nul_missing, take-before_nul}
+use Rattle.aout_core.proofs.NameLemmas.{nul_found, nul_missing, take-before_nul, before_nul-twice}
 use Rattle.aout_core.specs.Names.{before_nul}
-
-pub before_nul-before_nul : (xs : List ℕ) → before_nul (before_nul xs) ≡ before_nul xs
-before_nul-before_nul [] = refl
-before_nul-before_nul (b ∷ xs) = by (b == 0) refl (before_nul-before_nul xs)
-  where
-    by : (c : Bool) → (b == 0) ≡ c → before_nul (before_nul xs) ≡ before_nul xs
-        → before_nul (cond c [] (b ∷ before_nul xs)) ≡ cond c [] (b ∷ before_nul xs)
-    by true e h = refl
-    by false e h = ap (λ c. cond c [] (b ∷ before_nul (before_nul xs))) e ∙ ap (λ l. b ∷ l) h
 
 -- what `position` answered
 pub front_found : (xs : List ℕ) (n : ℕ) → Some n ≡ position (λ b. b == 0) xs → take n xs ≡ before_nul xs
@@ -23,4 +14,4 @@ front_missing xs e = sym (take-length xs) ∙ ap (λ k. take k xs) (nul_missing 
 
 -- the same bytes have no NUL
 pub no_nul_in : (name xs : List ℕ) → name ≡ before_nul xs → before_nul name ≡ name
-no_nul_in name xs e = ap before_nul e ∙ before_nul-before_nul xs ∙ sym e
+no_nul_in name xs e = ap before_nul e ∙ before_nul-twice xs ∙ sym e

@@ -1,6 +1,6 @@
 -- How many symbols stay before each.
-use Rattle.std.proofs.Common.{◌≡◌, ℕ, zero, suc, ◌+◌, ◌*◌, ◌/◌, ◌%◌, ◌≤◌, ◌<◌, ◌⊎◌, inl, inr, Bool, true, false, if◌then◌else◌, List, []}
-use Rattle.std.proofs.Common.{◌∷◌, ◌++◌, take, length, min, get_or, refl, sym, ap, ◌∙◌, arith}
+use Rattle.std.proofs.Common.{◌≡◌, ℕ, zero, suc, ◌+◌, ◌*◌, ◌/◌, ◌%◌, ◌≤◌, ◌<◌, Bool, true, false, List, []}
+use Rattle.std.proofs.Common.{◌∷◌, ◌++◌, take, length, min, get_or, refl, sym, ap, ◌∙◌, arith, rules}
 use Rattle.std.proofs.lemmas.List.FromFn.{get_or-map-range_with_len, length-map-range_with_len, map-range_with_len_more}
 use Rattle.std.proofs.{lemmas.Bool.cases_lt, lemmas.List.take_all}
 use Rattle.aout_core.specs.declared.reloc.Reloc.{Reloc}
@@ -22,8 +22,7 @@ pub count_small : (flags : List Bool) (n : ℕ) → count (take n flags) ≤ n
 count_small flags n = omega (arith, count_le (take n flags), length_take flags n)
 
 pub one_if_small : (b : Bool) → one_if b ≤ 1
-one_if_small true = omega arith
-one_if_small false = omega arith
+one_if_small b = search rules
 
 -- one symbol more
 count_next : (flags : List Bool) (n : ℕ) (d : Bool) → n < length flags →
@@ -36,8 +35,7 @@ count_next (false ∷ flags) (suc n) d h = count_next flags n d (omega arith)
 
 pub count_more : (flags : List Bool) (n : ℕ) (d : Bool) → n < length flags →
     count (take (n + 1) flags) ≡ count (take n flags) + one_if (get_or flags n d)
-count_more flags n d h =
-    let next : n + 1 ≡ suc n = omega arith in ap (λ (k : ℕ). count (take k flags)) next ∙ count_next flags n d h
+count_more flags n d h = search (rules, count_next)
 
 pub count_all : (flags : List Bool) → count flags ≡ count (take (length flags) flags)
 count_all flags = sym (ap count (take_all (length flags) flags (omega arith)))
@@ -56,22 +54,11 @@ ranks_more flags n before old new is pushed counted =
 -- the rank of a symbol, by its number or that of the end
 pub rank : (flags : List Bool) (n before : ℕ) (ranks : List ℕ) → ranks ≡ ranks_of flags →
     before ≡ min n (length flags) → get_or ranks before 0 ≡ count (take n flags)
-rank flags n before ranks are is =
-    ap (λ (l : List ℕ). get_or l before 0) are
-    ∙ get_or-map-range_with_len (λ k. count (take k flags)) 0 (length flags + 1) before before 0 (omega (arith, is)) (omega arith)
-    ∙ by (cases_lt n (length flags))
-  where
-    by : (n < length flags) ⊎ (length flags ≤ n) → count (take before flags) ≡ count (take n flags)
-    by (inl below) = let same : before ≡ n = omega (arith, is, below) in ap (λ (k : ℕ). count (take k flags)) same
-    by (inr above) =
-        let past : length flags ≤ before = omega (arith, is, above) in
-        ap count (take_all before flags past) ∙ sym (ap count (take_all n flags above))
+rank flags n before ranks are is = search (rules, get_or-map-range_with_len, cases_lt, take_all)
 
 abbrev reloc : ℕ → Reloc
 reloc n = record { 0 = n }
 
 pub renumbered_by : (flags : List Bool) (w r : ℕ) → refers w ≡ true → r ≡ count (take (w / 16) flags) →
     reloc (16 * r + w % 16) ≡ renumbered flags w
-renumbered_by flags w r on is =
-    ap (λ (k : ℕ). reloc (16 * k + w % 16)) is
-    ∙ sym (ap (λ (b : Bool). reloc (if b then 16 * count (take (w / 16) flags) + w % 16 else w)) on)
+renumbered_by flags w r on is = search rules

@@ -1,10 +1,10 @@
 -- What the words of a converted object refer to.
-use Rattle.std.proofs.Common.{◌≡◌, ℕ, zero, suc, ◌+◌, ◌*◌, ◌/◌, ◌%◌, ◌<◌, ◌≤◌, Bool, true, false, ◌==◌, eqb, eqb-true, if◌then◌else◌, List}
-use Rattle.std.proofs.Common.{[], ◌∷◌, ◌++◌, map, take, length, Option, Some, None, option_map, slice_get, refl, sym, ap, ◌∙◌, arith, ◌⊎◌}
-use Rattle.std.proofs.Common.{inl, inr}
+use Rattle.std.proofs.Common.{◌≡◌, ℕ, zero, suc, ◌+◌, ◌*◌, ◌/◌, ◌%◌, ◌<◌, ◌≤◌, Bool, true, false, eqb-true, List}
+use Rattle.std.proofs.Common.{[], ◌∷◌, ◌++◌, map, take, length, Option, Some, None, option_map, slice_get, refl, sym, ap, ◌∙◌, arith}
+use Rattle.std.proofs.Common.{rules}
 use Rattle.std.proofs.{lemmas.Bool.cases_lt, lemmas.List.length-map, lemmas.Option.slice_get-map, lemmas.Option.slice_get_past}
-use Rattle.aout_core.specs.WellFormed.{kind_numbered, kind_of, symbol_number, is_wanted, kind_fault, word_fault, first_of, first_bad_word}
-use Rattle.aout_core.specs.{declared.object.ObjectFault.ObjectFault, declared.object.ObjectFault.TheVariants.BadSymbolNumber}
+use Rattle.aout_core.specs.WellFormed.{kind_numbered, kind_of, symbol_number, word_fault, first_of, first_bad_word}
+use Rattle.aout_core.specs.{declared.object.ObjectFault.ObjectFault}
 use Rattle.aout_core.specs.{declared.reloc.Reloc.Reloc, declared.reloc.Kind.TheVariants.External, declared.symbol.Symbol.Symbol}
 use Rattle.aout_core.specs.{Contents.Contents}
 use Rattle.gnu_objects.specs.GnuRefusals.{refused_first, dropped_refusal, word_refusal, first_dropped_word}
@@ -14,12 +14,10 @@ use Rattle.gnu_objects.specs.{Staying.count, Converted.renumbered, Converted.con
 use Rattle.gnu_objects.proofs.StayingLemmas.{length-kept, kept_at}
 
 pub both_none : (a b : Option Refusal) → refused_first a b ≡ None → (a ≡ None) × (b ≡ None)
-both_none None b e = (refl, e)
-both_none (Some r) b e = absurd (cc)
+both_none a b e = search rules
 
 first_none : (a b : Option ObjectFault) → first_of a b ≡ None → (a ≡ None) × (b ≡ None)
-first_none None b e = (refl, e)
-first_none (Some f) b e = absurd (cc)
+first_none a b e = search rules
 
 pub bad_split : (symbols : List Symbol) (i : ℕ) (xs ys : List Reloc) → first_bad_word symbols i (xs ++ ys) ≡ None →
     (first_bad_word symbols i xs ≡ None) × ((j : ℕ) × (first_bad_word symbols j ys ≡ None))
@@ -49,22 +47,11 @@ same_kind c w = omega arith
 new_number : (c w : ℕ) → (16 * c + w % 16) / 16 ≡ c
 new_number c w = omega arith
 
-kind_external : (n : ℕ) → kind_numbered n ≡ Some External → n ≡ 4
-kind_external zero e = absurd (cc)
-kind_external (suc zero) e = absurd (cc)
-kind_external (suc (suc zero)) e = absurd (cc)
-kind_external (suc (suc (suc zero))) e = absurd (cc)
-kind_external (suc (suc (suc (suc zero)))) e = refl
-kind_external (suc (suc (suc (suc (suc n))))) e = absurd (cc)
-
 abbrev reloc : ℕ → Reloc
 reloc w = record { 0 = w }
 
 not_external : (w : ℕ) → refers w ≡ false → kind_of (reloc w) ≡ Some External → ⊥
-not_external w e k =
-    let four : w / 2 % 8 ≡ 4 = kind_external (w / 2 % 8) k in
-    let bad : true ≡ false = sym (ap (λ (n : ℕ). n == 4) four) ∙ e in
-    cc
+not_external w e k = search rules
 
 is_kind_external : (w : ℕ) → refers w ≡ true → kind_of (reloc w) ≡ Some External
 is_kind_external w e = ap kind_numbered (eqb-true (w / 2 % 8) 4 e)
@@ -84,12 +71,7 @@ take_past (x ∷ xs) (suc k) le = ap (λ l. x ∷ l) (take_past xs k (omega arit
 
 wanted : (symbols : List Symbol) (i : ℕ) (r : Reloc) → kind_of r ≡ Some External →
     slice_get symbols (symbol_number r) ≡ None → word_fault symbols i r ≡ None → ⊥
-wanted symbols i r kind missing e =
-    let fault : word_fault symbols i r ≡ Some (BadSymbolNumber i) =
-    ap (λ k. kind_fault symbols i k (symbol_number r)) kind
-    ∙ ap (λ (o : Option Symbol). if is_wanted o then None else Some (BadSymbolNumber i)) missing in
-    let bad : Some (BadSymbolNumber i) ≡ None = sym fault ∙ e in
-    cc
+wanted symbols i r kind missing e = search rules
 
 referred : (strings : List ℕ) (symbols : List GnuSymbol) (flags : List Bool) (i k : ℕ) → length flags ≡ length symbols →
     k < length symbols → dropped_refusal strings i k (slice_get symbols k) (slice_get flags k) ≡ None →
@@ -117,57 +99,26 @@ refers_alike : (g : GnuFile) (c : Contents) (flags : List Bool) (i j w : ℕ) �
     dropped_refusal g.strings i (w / 16) (slice_get g.symbols (w / 16)) (slice_get flags (w / 16)) ≡ None →
     kind_of (new_reloc flags w) ≡ Some External → word_fault c.symbols j (new_reloc flags w) ≡ None →
     RefersAlike g c (w / 16) (symbol_number (new_reloc flags w))
-refers_alike g c flags i j w beside table stays kind good = by (cases_lt (w / 16) (length g.symbols))
-  where
-    number : symbol_number (new_reloc flags w) ≡ count (take (w / 16) flags)
-    number = new_number (count (take (w / 16) flags)) w
-
-    at : (s : GnuSymbol) × (slice_get g.symbols (w / 16) ≡ Some s) × (slice_get flags (w / 16) ≡ Some true) →
-        RefersAlike g c (w / 16) (symbol_number (new_reloc flags w))
-    at (s, is, flag) =
-        let there : slice_get c.symbols (symbol_number (new_reloc flags w)) ≡ Some (converted_symbol g.strings s) =
-        ap (λ (l : List Symbol). slice_get l (symbol_number (new_reloc flags w))) table
-        ∙ ap (λ (n : ℕ). slice_get (map (converted_symbol g.strings) (kept flags g.symbols)) n) number
-        ∙ slice_get-map (converted_symbol g.strings) (kept flags g.symbols) (count (take (w / 16) flags))
-        ∙ ap (λ (o : Option GnuSymbol). option_map (converted_symbol g.strings) o) (kept_at flags g.symbols (w / 16) s is flag) in
-        (s, is, there)
-
-    by : (w / 16 < length g.symbols) ⊎ (length g.symbols ≤ w / 16) → RefersAlike g c (w / 16) (symbol_number (new_reloc flags w))
-    by (inl lt) = at (referred g.strings g.symbols flags i (w / 16) beside lt stays)
-    by (inr past) =
-        let all : count (take (w / 16) flags) ≡ count flags = ap count (take_past flags (w / 16) (omega arith)) in
-        let many : length c.symbols ≡ count flags =
-        ap length table ∙ length-map (kept flags g.symbols) (converted_symbol g.strings) ∙ length-kept flags g.symbols beside in
-        let place : length c.symbols ≤ symbol_number (new_reloc flags w) = omega (arith, number) in
-        absurd (wanted c.symbols j (new_reloc flags w) kind (slice_get_past c.symbols (symbol_number (new_reloc flags w)) place) good)
-
-abbrev chosen_reloc : List Bool → ℕ → Bool → Reloc
-chosen_reloc flags w b = record { 0 = if b then 16 * count (take (w / 16) flags) + w % 16 else w }
+refers_alike g c flags i j w beside table stays kind good = search (
+  rules,
+  cases_lt,
+  new_number,
+  slice_get-map,
+  option_map,
+  kept_at,
+  referred,
+  take_past,
+  length-map,
+  length-kept,
+  wanted,
+  slice_get_past,
+)
 
 same_reference : (g : GnuFile) (c : Contents) (flags : List Bool) (i j w : ℕ) →
     length flags ≡ length g.symbols → c.symbols ≡ map (converted_symbol g.strings) (kept flags g.symbols) →
     word_refusal g.strings g.symbols flags i w ≡ None → word_fault c.symbols j (renumbered flags w) ≡ None →
     IsSameReference g c (reloc w) (renumbered flags w)
-same_reference g c flags i j w beside table stays good = by (refers w) refl stays good
-  where
-    by : (b : Bool) → refers w ≡ b →
-        (if b then dropped_refusal g.strings i (w / 16) (slice_get g.symbols (w / 16)) (slice_get flags (w / 16)) else None) ≡ None →
-        word_fault c.symbols j (chosen_reloc flags w b) ≡ None → IsSameReference g c (reloc w) (chosen_reloc flags w b)
-    by false e stays good = record {
-      pc = refl;
-      kind = refl;
-      number = λ _. refl;
-      refers = λ k. absurd (not_external w e k);
-    }
-    by true e stays good =
-        let kind : kind_of (new_reloc flags w) ≡ kind_of (reloc w) = ap kind_numbered (same_kind (count (take (w / 16) flags)) w) in
-        let external : kind_of (reloc w) ≡ Some External = is_kind_external w e in
-        record {
-          pc = ap (λ (n : ℕ). eqb n 1) (same_pc (count (take (w / 16) flags)) w);
-          kind = kind;
-          number = λ other. absurd (other external);
-          refers = λ _. refers_alike g c flags i j w beside table stays (kind ∙ external) good;
-        }
+same_reference g c flags i j w beside table stays good = search (rules, not_external, same_kind, is_kind_external, same_pc, refers_alike)
 
 pub references : (g : GnuFile) (c : Contents) (flags : List Bool) (i j : ℕ) (ws : List ℕ) →
     length flags ≡ length g.symbols → c.symbols ≡ map (converted_symbol g.strings) (kept flags g.symbols) →

@@ -9,8 +9,7 @@ use Rattle.gnu_objects.specs.{declared.options.Locals.Locals, declared.symbols.G
 pub length-staying_from : (locals : Locals) (strings : List ℕ) (symbols : List GnuSymbol) (words : List ℕ) (n : ℕ) (rest : List GnuSymbol) →
     length (staying_from locals strings symbols words n rest) ≡ length rest
 length-staying_from locals strings symbols words n [] = refl
-length-staying_from locals strings symbols words n (s ∷ rest) =
-    ap (λ (k : ℕ). suc k) (length-staying_from locals strings symbols words (n + 1) rest)
+length-staying_from locals strings symbols words n (s ∷ rest) = cc (length-staying_from locals strings symbols words (n + 1) rest)
 
 pub length-staying : (locals : Locals) (strings : List ℕ) (symbols : List GnuSymbol) (words : List ℕ) →
     length (staying locals strings symbols words) ≡ length symbols

@@ -2,11 +2,8 @@ pub mod FileLemmas
 pub mod ReportTextLemmas
 pub mod ForcedNameLemmas
 pub mod EachLemmas
-pub mod EditLemmas
-pub mod StateLemmas
 pub mod MapLemmas
 pub mod MemoryLemmas
-pub mod NextLemmas
 pub mod NumberLemmas
 pub mod ListingLemmas
 pub mod GnuLemmas

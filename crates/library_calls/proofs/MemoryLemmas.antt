@@ -1,28 +1,24 @@
 -- Where memory may run out, stage by stage.
-use Rattle.std.proofs.Common.{◌≡◌, ℕ, Bool, List, [], Result, Ok, Err, refl, sym, ap, ◌∙◌, subst, inl, inr}
+use Rattle.std.proofs.Common.{◌≡◌, ℕ, List, [], Result, Ok, Err, refl, sym, ap, ◌∙◌, subst, inl}
 use Rattle.std.specs.Prelude.{IfErr, IsOk, IsOkAnd}
 use Rattle.aout_core.specs.{Refusals.refused, Contents.Contents}
-use Rattle.link_session.specs.{Edits.Change, Labelled.Labelled, Labelled.objects, Undo.Kept}
+use Rattle.link_session.specs.{Labelled.Labelled, Labelled.objects, Undo.Kept}
 use Rattle.tool_options.specs.Choices.{Choices}
 use Rattle.link_out.specs.{declared.linked.LinkFault.LinkFault, function.Link.link, Inputs.with_inputs, Results.Outcome, Steps.and_then}
 use Rattle.link_out.specs.{Steps.refused_as}
 use Rattle.library_calls.specs.LinkAnswers.{numbered, objects_in, parts_linked, refusal_of, taken_each}
+use Rattle.library_calls.specs.declared.run_call.Wants.{Wants}
 use Rattle.library_calls.specs.RunAnswers.{RunOutput, objects_run, parts_run, run_output}
-use Rattle.library_calls.specs.MemoryWanted.{LinkMayRunOut, MayRunOutInLink, MayRunOutInRun, MayRunOutInSession, SessionMayRunOut}
+use Rattle.library_calls.specs.MemoryWanted.{LinkMayRunOut, MayRunOutInLink}
 use Rattle.library_calls.specs.{declared.cause.Cause.Cause, declared.cause.Cause.TheVariants.Memory}
 use Rattle.library_calls.specs.{declared.cause.Cause.TheVariants.NotLinked, declared.cause.Refusal.Refusal, Causes.at}
-use Rattle.library_calls.specs.{LinkRequests.choices_in, LinkRequests.forced_in, SessionAnswers.changes_in}
+use Rattle.library_calls.specs.{LinkRequests.choices_in, LinkRequests.forced_in}
 use Rattle.link_out.specs.Inputs as inputs
 
-there_is_one : (r : Result Outcome LinkFault) (x : Outcome) → refused_as NotLinked r ≡ Ok x → IsOk r
+-- a link was made, so there is one
+pub there_is_one : (r : Result Outcome LinkFault) (x : Outcome) → refused_as NotLinked r ≡ Ok x → IsOk r
 there_is_one (Ok y) x h = refl
 there_is_one (Err fault) x h = absurd (cc)
-
--- memory may run out for what is made of a link
-pub memory_after_link : {A : Type 0} (given : Result A Cause) (r : Result Outcome LinkFault) (x : Outcome) →
-    refused_as NotLinked r ≡ Ok x → IfErr given (λ cause. cause ≡ Memory refused → IsOk r)
-memory_after_link (Ok a) r x h = tt
-memory_after_link (Err cause) r x h = λ memory. there_is_one r x h
 
 -- all parts are taken: the link of them is that of their objects
 module _ (forced : List (List ℕ)) (o : Choices) (parts : List (List ℕ)) where
@@ -43,41 +39,35 @@ module _ (forced : List (List ℕ)) (o : Choices) (parts : List (List ℕ)) wher
   parts_link : (os : List Contents) → taken_each forced parts ≡ Ok os → parts_linked forced o parts ≡ at 0 (refused_as NotLinked (link forced os o))
   parts_link os taken = by_taken (with_inputs forced [] (numbered 0 parts)) os taken
 
-  run_by : (is_placed : Bool) (os : List Contents) (r : Result Outcome LinkFault) →
-      and_then (at 0 (refused_as NotLinked r)) (λ x. Ok (run_output is_placed forced os [] x))
-      ≡ at 0 (and_then (refused_as NotLinked r) (λ x. Ok (run_output is_placed forced os [] x)))
-  run_by is_placed os (Ok x) = refl
-  run_by is_placed os (Err fault) = refl
+  run_by : (w : Wants) (os : List Contents) (r : Result Outcome LinkFault) →
+      and_then (at 0 (refused_as NotLinked r)) (λ x. Ok (run_output w forced os x))
+      ≡ at 0 (and_then (refused_as NotLinked r) (λ x. Ok (run_output w forced os x)))
+  run_by w os (Ok x) = refl
+  run_by w os (Err fault) = refl
 
-  run_is : (is_placed : Bool) (k : Kept) → k.forced ≡ forced → taken_each forced parts ≡ Ok (objects k.entries) →
-      parts_run is_placed forced o parts ≡ at 0 (objects_run is_placed k.forced o [] (objects k.entries))
-  run_is is_placed k names taken =
+  run_is : (w : Wants) (k : Kept) → k.forced ≡ forced → taken_each forced parts ≡ Ok (objects k.entries) →
+      parts_run w forced o parts ≡ at 0 (objects_run w k.forced o (objects k.entries))
+  run_is w k names taken =
       let os = objects k.entries in
       ap (λ (r : Result (List Contents) Refusal).
-      and_then r (λ l. and_then (parts_linked forced o parts) (λ x. Ok (run_output is_placed forced l [] x)))) taken
-      ∙ ap (λ (r : Result Outcome Refusal). and_then r (λ x. Ok (run_output is_placed forced os [] x))) (parts_link os taken)
-      ∙ run_by is_placed os (link forced os o)
-      ∙ ap (λ (f : List (List ℕ)). at 0 (objects_run is_placed f o [] os)) (sym names)
+      and_then r (λ l. and_then (parts_linked forced o parts) (λ x. Ok (run_output w forced l x)))) taken
+      ∙ ap (λ (r : Result Outcome Refusal). and_then r (λ x. Ok (run_output w forced os x))) (parts_link os taken)
+      ∙ run_by w os (link forced os o)
+      ∙ ap (λ (f : List (List ℕ)). at 0 (objects_run w f o os)) (sym names)
 
-  pub parts_given : (is_placed : Bool) (k : Kept) (replies : List ℕ) (x : RunOutput) → k.forced ≡ forced →
-      taken_each forced parts ≡ Ok (objects k.entries) → replies ≡ [] →
-      objects_run is_placed k.forced o replies (objects k.entries) ≡ Ok x → parts_run is_placed forced o parts ≡ Ok x
-  parts_given is_placed k replies x names taken none given =
-      run_is is_placed k names taken
-      ∙ ap (at 0) (ap (λ (l : List ℕ). objects_run is_placed k.forced o l (objects k.entries)) (sym none) ∙ given)
+  pub parts_given : (w : Wants) (k : Kept) (x : RunOutput) → k.forced ≡ forced → taken_each forced parts ≡ Ok (objects k.entries) →
+      objects_run w k.forced o (objects k.entries) ≡ Ok x → parts_run w forced o parts ≡ Ok x
+  parts_given w k x names taken given = run_is w k names taken ∙ ap (at 0) given
 
-  pub parts_not_linked : (is_placed : Bool) (k : Kept) (replies : List ℕ) (cause : Cause) → k.forced ≡ forced →
-      taken_each forced parts ≡ Ok (objects k.entries) → replies ≡ [] →
-      objects_run is_placed k.forced o replies (objects k.entries) ≡ Err cause →
-      parts_run is_placed forced o parts ≡ Err (record { cause = cause; place = 0 })
-  parts_not_linked is_placed k replies cause names taken none refused_so =
-      run_is is_placed k names taken
-      ∙ ap (at 0) (ap (λ (l : List ℕ). objects_run is_placed k.forced o l (objects k.entries)) (sym none) ∙ refused_so)
+  pub parts_not_linked : (w : Wants) (k : Kept) (cause : Cause) → k.forced ≡ forced →
+      taken_each forced parts ≡ Ok (objects k.entries) → objects_run w k.forced o (objects k.entries) ≡ Err cause →
+      parts_run w forced o parts ≡ Err (record { cause = cause; place = 0 })
+  parts_not_linked w k cause names taken refused_so = run_is w k names taken ∙ ap (at 0) refused_so
 
-  pub parts_not_taken : (is_placed : Bool) (r : Refusal) → taken_each forced parts ≡ Err r → parts_run is_placed forced o parts ≡ Err r
-  parts_not_taken is_placed r taken =
+  pub parts_not_taken : (w : Wants) (r : Refusal) → taken_each forced parts ≡ Err r → parts_run w forced o parts ≡ Err r
+  parts_not_taken w r taken =
       ap (λ (t : Result (List Contents) Refusal).
-      and_then t (λ l. and_then (parts_linked forced o parts) (λ x. Ok (run_output is_placed forced l [] x)))) taken
+      and_then t (λ l. and_then (parts_linked forced o parts) (λ x. Ok (run_output w forced l x)))) taken
 
   is_linked : (r : Result Outcome LinkFault) → IsOk r → IsOk (at 0 (refused_as NotLinked r))
   is_linked (Ok x) h = refl
@@ -103,13 +93,3 @@ link_runs_out bits entry bytes parts o forced (Ok a) first second h = tt
 link_runs_out bits entry bytes parts o forced (Err r) first second h = λ memory.
     subst (λ (c : Result Choices Cause). IsOkAnd c (λ x. IsOkAnd (forced_in bytes) (λ names. MayRunOutInLink names x parts r.place))) first
     (subst (λ (n : Result (List (List ℕ)) Refusal). IsOkAnd n (λ names. MayRunOutInLink names o parts r.place)) second (h memory))
-
--- memory may run out for what all edits do
-pub run_without_memory : (bits : ℕ) (entry bytes letters : List ℕ) (parts : List (List ℕ)) (o : Choices)
-    (forced : List (List ℕ)) (cs : List Change) → choices_in bits entry ≡ Ok o → forced_in bytes ≡ Ok forced →
-    changes_in letters parts ≡ Ok cs → MayRunOutInRun forced o cs → SessionMayRunOut bits entry bytes letters parts 0
-run_without_memory bits entry bytes letters parts o forced cs first second third h =
-    subst (λ (r : Result Choices Cause).
-    IsOkAnd r (λ x. IsOkAnd (forced_in bytes) (λ names. MayRunOutInSession names x letters parts 0))) (sym first)
-    (subst (λ (r : Result (List (List ℕ)) Refusal). IsOkAnd r (λ names. MayRunOutInSession names o letters parts 0)) (sym second)
-    (inr (refl, subst (λ (r : Result (List Change) Refusal). IsOkAnd r (MayRunOutInRun forced o)) (sym third) h)))

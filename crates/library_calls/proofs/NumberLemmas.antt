@@ -1,23 +1,19 @@
 -- No refusal of the definitions has the number of no memory.
-use Rattle.std.proofs.Common.{◌≡◌, ℕ, zero, suc, ◌+◌, Bool, true, false, cond, if◌then◌else◌, nat_lt, eqb, not, List, [], ◌∷◌, ◌++◌, length}
-use Rattle.std.proofs.Common.{take, drop, ◌/◌, ◌%◌, Option, Some, None, Result, Ok, Err, refl, sym, ap, subst}
+use Rattle.std.proofs.Common.{◌≡◌, ℕ, Bool, true, false, if◌then◌else◌, nat_lt, eqb, not, List, [], ◌∷◌, length}
+use Rattle.std.proofs.Common.{◌%◌, Option, Some, None, Result, Ok, Err, refl, sym, ap, subst}
 use Rattle.std.specs.Prelude.{IfErr}
 use Rattle.aout_core.specs.{declared.header.Header.Header, declared.object.ObjectFault.ObjectFault, Contents.Contents, Contents.is_magic}
 use Rattle.aout_core.specs.{Contents.has_whole_sizes, Decoding.contents_in, Decoding.header_in, Encoding.encoding, Encoding.file_length}
 use Rattle.aout_core.specs.{WellFormed.first_object_fault, Strip.stripped}
 use Rattle.instructions.specs.declared.unix.Decoder.TheVariants.{Pdp11}
 use Rattle.link_out.specs.Steps.{and_then, refused_as, unless}
-use Rattle.library_calls.specs.declared.cause.Cause.TheVariants.{NoOption, CutNames, ManyNames, TooLong, NoEdit, BadFile, BadObject}
+use Rattle.library_calls.specs.declared.cause.Cause.TheVariants.{NoOption, TooLong, BadFile, BadObject}
 use Rattle.library_calls.specs.FileAnswers.{checked_in, disassembled_in, file_in, names_in, nm_options_in, nm_options_of, object_in}
 use Rattle.library_calls.specs.FileAnswers.{object_of, sizes_in, stripped_in}
 use Rattle.library_calls.specs.ObjectParts.{Pieces, contents_for, file_for, header_for, header_of, made_of, parts_in, pieces_of, whole_in}
-use Rattle.library_calls.specs.SessionAnswers.{change_in, changes_in, first_part, parts_after, with_edit, with_edits}
 use Rattle.library_calls.specs.{declared.cause.Cause.Cause, declared.cause.Refusal.Refusal, Causes.at, Causes.mistake_of, Causes.number_of}
 use Rattle.library_calls.specs.{Causes.reason_number, ListingAnswers.described_in, ListingAnswers.listed, ListingAnswers.listed_in}
-use Rattle.library_calls.specs.{LinkRequests.forced_in, LinkRequests.name_of, LinkRequests.with_names, declared.state_call.Form.Form}
-use Rattle.library_calls.specs.{StateAnswers.Asked, StateAnswers.asked_in, StateAnswers.form_in}
-use Rattle.tool_options.specs.ForcedNames.{takes, with_name}
-use Rattle.link_session.specs.{Edits.Change, Edits.addition, Edits.withdrawal, Labelled.objects, Limits.refusal}
+use Rattle.link_session.specs.{Labelled.objects, Limits.refusal}
 use Rattle.symtools.specs.{NmLists.nm_text, SizeLines.size_text}
 use Rattle.disassemblies.specs.Columns.{disassembly}
 use Rattle.listings.specs.{Reading.read, declared.fault.Fault.Fault, declared.fault.Reason.Reason}
@@ -162,67 +158,3 @@ pub not_memory_made : (p : Pieces) → CauseIsNotMemory (made_of p)
 not_memory_made p =
     not_memory_then (file_for p) (λ c. and_then (object_of c) (λ o. Ok (encoding o))) (not_memory_parts p)
     (λ c. not_memory_then (object_of c) (λ o. Ok (encoding o)) (not_memory_object_of c) (λ o. tt))
-
--- ---- what is asked for
-
-not_memory_name : (b : Bool) (number : ℕ) (r : Result (List (List ℕ)) Refusal) → IsNotMemory r →
-    IsNotMemory (cond b r (Err (record { cause = ManyNames; place = number })))
-not_memory_name true number r h = h
-not_memory_name false number r h = other 5 refl
-
-not_memory_some_names : (n number : ℕ) (names : List (List ℕ)) (bytes : List ℕ) → IsNotMemory (with_names n number names bytes)
-not_memory_some_names zero number names bytes = tt
-not_memory_some_names (suc n) number names bytes =
-    not_memory_name (takes names (name_of (take 8 bytes))) number
-    (with_names n (number + 1) (with_name names (name_of (take 8 bytes))) (drop 8 bytes))
-    (not_memory_some_names n (number + 1) (with_name names (name_of (take 8 bytes))) (drop 8 bytes))
-
-not_memory_forced_by : (b : Bool) (r : Result (List (List ℕ)) Refusal) → IsNotMemory r →
-    IsNotMemory (if b then r else Err (record { cause = CutNames; place = 0 }))
-not_memory_forced_by true r h = h
-not_memory_forced_by false r h = other 4 refl
-
-not_memory_forced : (bytes : List ℕ) → IsNotMemory (forced_in bytes)
-not_memory_forced bytes =
-    not_memory_forced_by (eqb (length bytes % 8) 0) (with_names (length bytes / 8) 0 [] bytes)
-    (not_memory_some_names (length bytes / 8) 0 [] bytes)
-
--- ---- sessions
-
-not_memory_change_by : (adding withdrawing : Bool) (bytes : List ℕ) →
-    CauseIsNotMemory (if adding then and_then (object_in bytes) (λ o. Ok (addition (record { label = []; object = o })))
-    else (if withdrawing then Ok withdrawal else Err NoEdit))
-not_memory_change_by true withdrawing bytes =
-    not_memory_then (object_in bytes) (λ o. Ok (addition (record { label = []; object = o }))) (not_memory_object bytes) (λ o. tt)
-not_memory_change_by false true bytes = tt
-not_memory_change_by false false bytes = other 7 refl
-
-not_memory_edit : (letter : ℕ) (bytes : List ℕ) (before : List Change) → CauseIsNotMemory (with_edit letter bytes before)
-not_memory_edit letter bytes before =
-    not_memory_then (change_in letter bytes) (λ c. Ok (before ++ c ∷ []))
-    (not_memory_change_by (eqb letter 97) (eqb letter 119) bytes) (λ c. tt)
-
-not_memory_edits : (number : ℕ) (before : List Change) (letters : List ℕ) (parts : List (List ℕ)) →
-    IsNotMemory (with_edits number before letters parts)
-not_memory_edits number before [] parts = tt
-not_memory_edits number before (letter ∷ letters) parts =
-    is_not_memory_then (at number (with_edit letter (first_part parts) before))
-    (λ more. with_edits (number + 1) more letters (parts_after letter parts))
-    (is_not_memory_at number (with_edit letter (first_part parts) before) (not_memory_edit letter (first_part parts) before)) (λ more.
-    not_memory_edits (number + 1) more letters (parts_after letter parts))
-
-not_memory_form : (form : ℕ) → CauseIsNotMemory (form_in form)
-not_memory_form zero = tt
-not_memory_form (suc zero) = tt
-not_memory_form (suc (suc n)) = other 1 refl
-
-abbrev asked : Form → List (List ℕ) → List Change → Result Asked Refusal
-asked f names cs = Ok (record { form = f; forced = names; changes = cs })
-
-pub not_memory_asked : (form : ℕ) (forced letters : List ℕ) (parts : List (List ℕ)) → IsNotMemory (asked_in form forced letters parts)
-not_memory_asked form forced letters parts =
-    is_not_memory_then (at 0 (form_in form))
-    (λ f. and_then (forced_in forced) (λ names. and_then (changes_in letters parts) (asked f names)))
-    (is_not_memory_at 0 (form_in form) (not_memory_form form))
-    (λ f. is_not_memory_then (forced_in forced) (λ names. and_then (changes_in letters parts) (asked f names)) (not_memory_forced forced)
-    (λ names. is_not_memory_then (changes_in letters parts) (asked f names) (not_memory_edits 0 [] letters parts) (λ cs. tt)))

@@ -8,7 +8,7 @@ use Rattle.gnu_objects.specs.declared.refusal.Size.TheVariants.{TextSize, DataSi
 use Rattle.link_session.specs.declared.entry.AddFault.{AddFault}
 use Rattle.link_out.specs.{declared.linked.LinkFault.LinkFault, Steps.refused_as}
 use Rattle.listings.specs.{declared.fault.Fault.Fault, declared.fault.Reason.Reason}
-use Rattle.library_calls.specs.declared.cause.Cause.TheVariants.{NoOption, Excluded, LongName, CutNames, ManyNames, TooLong, NoEdit}
+use Rattle.library_calls.specs.declared.cause.Cause.TheVariants.{NoOption, Excluded, LongName, CutNames, ManyNames, TooLong}
 use Rattle.library_calls.specs.declared.cause.Cause.TheVariants.{NoSession, NothingKept}
 use Rattle.library_calls.specs.declared.cause.Cause.TheVariants.{BadFile, BadObject, NotAdded, NotLinked, BadListing, NotConverted, Memory}
 use Rattle.library_calls.specs.{declared.cause.Cause.Cause, declared.cause.Refusal.Refusal}
@@ -90,7 +90,6 @@ number_of LongName = 3
 number_of CutNames = 4
 number_of ManyNames = 5
 number_of (TooLong part) = 6
-number_of NoEdit = 7
 number_of NoSession = 8
 number_of (BadFile reads.ShortHeader) = 11
 number_of (BadFile reads.BadMagic) = 12

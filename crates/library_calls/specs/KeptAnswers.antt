@@ -1,15 +1,17 @@
 -- What the calls of a session that is kept do to it, and what they give. (own choice)
 --
 -- A call that is refused leaves the session as it was. The objects have no labels.
-use Rattle.std.specs.Prelude.{◌≡◌, ◌⊎◌, ℕ, false, List, [], ◌∷◌, Option, Some, None, Result, Ok, Err, IsOk, IsOkAnd}
+use Rattle.std.specs.Prelude.{◌≡◌, ◌⊎◌, ℕ, zero, suc, List, [], Option, Some, None, Result, Ok, Err, IsOk, IsOkAnd}
 use Rattle.aout_core.specs.Contents.{Contents}
-use Rattle.link_session.specs.{Edits.last_of, Labelled.Labelled, Labelled.objects, Limits.refusal, Undo.Kept}
+use Rattle.link_session.specs.{Edits.last_of, Labelled.Labelled, Labelled.objects, Limits.refusal, Undo.Kept, Undo.IsJournal}
 use Rattle.link_session.specs.Sessions.{Adds, Withdraws, nothing_kept}
-use Rattle.link_out.specs.{function.Link.link, Steps.and_then, Steps.unless}
-use Rattle.library_calls.specs.declared.cause.Cause.TheVariants.{NotAdded, NothingKept}
+use Rattle.link_out.specs.{function.Link.link, Steps.and_then, Steps.refused_as, Steps.unless}
+use Rattle.tool_options.specs.Choices.{Choices}
+use Rattle.library_calls.specs.declared.cause.Cause.TheVariants.{NoOption, NotAdded, NotLinked, NothingKept}
 use Rattle.library_calls.specs.{declared.cause.Cause.Cause, declared.cause.Refusal.Refusal, FileAnswers.object_in}
 use Rattle.library_calls.specs.{LinkRequests.choices_in, LinkRequests.forced_in, MemoryWanted.HasBody}
-use Rattle.library_calls.specs.{RunAnswers.RunOutput, RunAnswers.objects_run, StateAnswers.encoded_in, StateAnswers.form_in}
+use Rattle.library_calls.specs.{RunAnswers.RunOutput, RunAnswers.output_with, declared.run_call.Wants.Wants}
+use Rattle.session_states.specs.{StateJson.state_json, StateLines.state_lines}
 
 -- a session of no objects with these forced names
 abbrev pub begun_in : List ℕ → Result Kept Refusal
@@ -43,14 +45,23 @@ pub record TakesLast (old new : Kept) : Type 0 where
   pub found : last_in old ≡ Ok last
   pub takes : Withdraws old new last
 
--- the link of what is kept, without replies and without the objects of what is reported
-abbrev pub kept_run : ℕ → List ℕ → Kept → Result RunOutput Cause
-kept_run bits entry k = and_then (choices_in bits entry) (λ o. objects_run false k.forced o [] (objects k.entries))
+-- the link of what is kept, without the objects of what is reported
+abbrev pub kept_with : Wants → Choices → Kept → Result RunOutput Cause
+kept_with w o k = and_then (refused_as NotLinked (link k.forced (objects k.entries) o)) (λ x. Ok (output_with w [] x))
+
+abbrev pub kept_run : Wants → ℕ → List ℕ → Kept → Result RunOutput Cause
+kept_run w bits entry k = and_then (choices_in bits entry) (λ o. kept_with w o k)
 
 -- memory may run out for it, if there is one
 abbrev pub MayRunOutToLink : ℕ → List ℕ → Kept → Type 0
 MayRunOutToLink bits entry k = IsOkAnd (choices_in bits entry) (λ o. IsOk (link k.forced (objects k.entries) o))
 
--- what the session shows, in this form
+-- what is there of the last addition, its marks, takes it back, and is exactly the difference that it made
+abbrev pub HasJournal : Kept → Type 0
+HasJournal k = IsJournal k.forced (objects k.entries) k.journal
+
+-- what the session shows, in this form: 0, lines; 1, JSON
 abbrev pub shown_in : ℕ → Kept → Result (List ℕ) Cause
-shown_in form k = and_then (form_in form) (λ f. Ok (encoded_in f k))
+shown_in zero k = Ok (state_lines k)
+shown_in (suc zero) k = Ok (state_json k)
+shown_in (suc (suc n)) k = Err NoOption

@@ -3,8 +3,6 @@ pub mod FileAnswers
 pub mod LinkRequests
 pub mod LinkAnswers
 pub mod ObjectParts
-pub mod SessionAnswers
-pub mod StateAnswers
 pub mod MemoryWanted
 pub mod RunAnswers
 pub mod KeptAnswers

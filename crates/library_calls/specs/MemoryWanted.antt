@@ -1,15 +1,12 @@
 -- For which inputs a call may answer that memory ran out, and with which place. (own choice)
 --
 -- A call works in stages, and each lacks memory only if nothing is refused up to there. The answer does not reveal which request
--- failed. So once an object or an edit is accepted, memory may have run out there, whatever is refused later.
-use Rattle.std.specs.Prelude.{◌≡◌, ◌≢◌, ◌⊎◌, ℕ, ◌+◌, ◌<◌, List, [], ◌∷◌, get_or, length, take, Result, IsOk, IsOkAnd}
+-- failed. So once an object is accepted, memory may have run out there, whatever is refused later.
+use Rattle.std.specs.Prelude.{◌≡◌, ◌≢◌, ◌⊎◌, ℕ, ◌+◌, ◌<◌, List, [], get_or, length, take, Result, IsOk, IsOkAnd}
 use Rattle.aout_core.specs.{Contents.Contents, Decoding.header_in, Encoding.file_length}
-use Rattle.link_session.specs.{Edits.Change, Edits.survivors, Labelled.objects}
 use Rattle.tool_options.specs.Choices.{Choices}
-use Rattle.link_out.specs.function.Link.{link}
-use Rattle.library_calls.specs.SessionAnswers.{change_in, changes_in, first_part, parts_after}
 use Rattle.library_calls.specs.{declared.cause.Refusal.Refusal, FileAnswers.file_in, LinkAnswers.parts_linked, LinkAnswers.taken_each}
-use Rattle.library_calls.specs.{LinkRequests.choices_in, LinkRequests.forced_in, StateAnswers.form_in}
+use Rattle.library_calls.specs.{LinkRequests.choices_in, LinkRequests.forced_in}
 
 -- the bytes begin with a whole file, and it has more than its header: it is read before its words are checked
 pub record HasBody (bytes : List ℕ) : Type 0 where
@@ -39,36 +36,3 @@ MayRunOutInLink forced o parts place =
 abbrev pub LinkMayRunOut : ℕ → List ℕ → List ℕ → List (List ℕ) → ℕ → Type 0
 LinkMayRunOut bits entry forced parts place =
     IsOkAnd (choices_in bits entry) (λ o. IsOkAnd (forced_in forced) (λ names. MayRunOutInLink names o parts place))
-
--- ---- edits of a session
-
--- memory may run out for an edit: to read its object, or to keep the edit
-abbrev pub MayRunOutForEdit : ℕ → List ℕ → Type 0
-MayRunOutForEdit letter bytes = ((letter ≡ 97) × HasBody bytes) ⊎ IsOk (change_in letter bytes)
-
--- memory may run out for the edit of number `place`, if the first of these has this number; those before it are read
-abbrev pub MayRunOutInEdits : ℕ → List ℕ → List (List ℕ) → ℕ → Type 0
-MayRunOutInEdits number [] parts place = ⊥
-MayRunOutInEdits number (letter ∷ letters) parts place =
-    ((place ≡ number) × MayRunOutForEdit letter (first_part parts))
-    ⊎ (IsOk (change_in letter (first_part parts)) × MayRunOutInEdits (number + 1) letters (parts_after letter parts) place)
-
--- memory may run out for forced names, for a change, or for the link of what is left, if there is one
-abbrev pub MayRunOutInRun : List (List ℕ) → Choices → List Change → Type 0
-MayRunOutInRun forced o changes = (forced ≢ []) ⊎ ((changes ≢ []) ⊎ IsOk (link forced (objects (survivors forced changes)) o))
-
--- memory may run out for an edit; or for forced names, for a change, or for the link, once all edits are read
-abbrev pub MayRunOutInSession : List (List ℕ) → Choices → List ℕ → List (List ℕ) → ℕ → Type 0
-MayRunOutInSession forced o letters parts place =
-    MayRunOutInEdits 0 letters parts place ⊎ ((place ≡ 0) × IsOkAnd (changes_in letters parts) (MayRunOutInRun forced o))
-
--- not before the options and the forced names are accepted
-abbrev pub SessionMayRunOut : ℕ → List ℕ → List ℕ → List ℕ → List (List ℕ) → ℕ → Type 0
-SessionMayRunOut bits entry forced letters parts place =
-    IsOkAnd (choices_in bits entry) (λ o. IsOkAnd (forced_in forced) (λ names. MayRunOutInSession names o letters parts place))
-
--- a state has to be written even if there is no edit
-abbrev pub StateMayRunOut : ℕ → List ℕ → List ℕ → List (List ℕ) → ℕ → Type 0
-StateMayRunOut form forced letters parts place =
-    IsOk (form_in form) × IsOk (forced_in forced)
-    × (MayRunOutInEdits 0 letters parts place ⊎ ((place ≡ 0) × IsOk (changes_in letters parts)))

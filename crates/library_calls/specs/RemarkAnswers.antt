@@ -1,15 +1,19 @@
 -- What a call remarks of a file: what is wrong and odd in it, as records with their texts. (own choice)
 --
 -- Each record has the place of its text among all texts, which are one after another.
-use Rattle.std.specs.Prelude.{ℕ, ◌+◌, true, List, [], ◌∷◌, ◌++◌, length, Result, Ok, Err}
+use Rattle.std.specs.Prelude.{ℕ, ◌+◌, ◌-◌, ◌/◌, true, ◌||◌, nat_le, nat_lt, if◌then◌else◌, List, [], ◌∷◌, ◌++◌, length, Option, Some, None}
+use Rattle.std.specs.Prelude.{Result, Ok, Err}
 use Rattle.std.specs.List.{flat_map}
+use Rattle.aout_core.specs.Encoding.{relocation_at, symbols_at, file_length}
+use Rattle.aout_core.specs.declared.header.Header.{Header}
 use Rattle.aout_core.specs.{Contents.Contents, Decoding.decode, WellFormed.first_object_fault, declared.file.ReadFault.ReadFault}
 use Rattle.findings.specs.{Found.Found, Wrong.wrong_bytes, Wrong.wrong_in, declared.finding.FindingKind.FindingKind}
 use Rattle.suspicions.specs.{Suspicions.all_odd, declared.evidence.Evidence.TheVariants.Flow}
+use Rattle.library_calls.specs.declared.remarks_call.Located.{Located}
 use Rattle.library_calls.specs.{declared.remarks_call.RemarkRecord.RemarkRecord, declared.remarks_call.Remarks.Remarks}
 use Rattle.findings.specs.declared.finding.FindingKind.TheVariants as kinds
 
--- what is wrong has 1 to 7, what is odd 8 to 20, and what is suspicious 21 to 26
+-- what is wrong has 1 to 7, what is odd 8 to 20, and what is suspicious 21 to 29
 abbrev pub kind_number : FindingKind → ℕ
 kind_number kinds.ShortHeader = 1
 kind_number kinds.BadMagic = 2
@@ -37,22 +41,57 @@ kind_number kinds.CutInstruction = 23
 kind_number kinds.NoInstruction = 24
 kind_number kinds.BranchOutside = 25
 kind_number kinds.BranchWithin = 26
+kind_number kinds.UnsuitableReference = 27
+kind_number kinds.UnsuitableAddress = 28
+kind_number kinds.AbsoluteText = 29
+
+-- ---- the part of a file that a byte is in, and the word or the symbol there
+
+abbrev pub elsewhere : Located
+elsewhere = record { part = 0; word = 0 }
+
+-- 1, text, or 2, data; the index counts text before data
+abbrev pub at_word : Header → ℕ → Located
+at_word h index = record { part = if nat_lt index (h.text_size / 2) then 1 else 2; word = index }
+
+-- a relocation word is where the word is to which it belongs; 4 is the symbol table
+abbrev pub located_in : Header → ℕ → Located
+located_in h place =
+    if nat_lt place 16 || nat_le (file_length h) place then elsewhere
+    else (if nat_le (symbols_at h) place then record { part = 4; word = (place - symbols_at h) / 12 }
+    else (if nat_le (relocation_at h) place then at_word h ((place - relocation_at h) / 2)
+    else at_word h ((place - 16) / 2)))
+
+-- bytes that do not begin with a file have no parts
+abbrev pub located_if : Option Header → ℕ → Located
+located_if None place = elsewhere
+located_if (Some h) place = located_in h place
 
 -- the texts, one after another
 abbrev pub texts_of : List Found → List ℕ
 texts_of found = flat_map (λ (f : Found). f.text) found
 
 -- the records of these, whose texts begin at this place of all texts
-abbrev pub records_from : ℕ → List Found → List RemarkRecord
-records_from at [] = []
-records_from at (f ∷ fs) =
-    record { place = f.place; text = at; text_size = length f.text; kind = kind_number f.kind } ∷ records_from (at + length f.text) fs
+abbrev pub records_from : Option Header → ℕ → List Found → List RemarkRecord
+records_from h at [] = []
+records_from h at (f ∷ fs) = record {
+  place = f.place;
+  text = at;
+  text_size = length f.text;
+  kind = kind_number f.kind;
+  part = (located_if h f.place).part;
+  word = (located_if h f.place).word;
+} ∷ records_from h (at + length f.text) fs
 
 -- ---- what is remarked
 
 abbrev pub wrong_by : List ℕ → Result Contents ReadFault → List Found
 wrong_by bytes (Err fault) = wrong_bytes fault bytes
 wrong_by bytes (Ok c) = wrong_in (first_object_fault c) c
+
+abbrev pub header_by : Result Contents ReadFault → Option Header
+header_by (Err fault) = None
+header_by (Ok c) = Some c.header
 
 abbrev pub odd_by : List ℕ → Result Contents ReadFault → List Found
 odd_by bytes (Err fault) = []
@@ -69,16 +108,16 @@ abbrev pub status_by : List Found → ℕ
 status_by [] = 0
 status_by (f ∷ fs) = 1
 
-abbrev pub remarked_by : List Found → List Found → Output RemarkRecord
-remarked_by wrong odd = record {
+abbrev pub remarked_by : Option Header → List Found → List Found → Output RemarkRecord
+remarked_by h wrong odd = record {
   status = status_by wrong;
   bytes = texts_of (wrong ++ odd);
-  records = records_from 0 (wrong ++ odd);
+  records = records_from h 0 (wrong ++ odd);
 }
 
 -- what is wrong in the bytes, and then what is odd in the file that they begin with
 abbrev pub remarked_in : List ℕ → Output RemarkRecord
-remarked_in bytes = remarked_by (wrong_by bytes (decode bytes)) (odd_by bytes (decode bytes))
+remarked_in bytes = remarked_by (header_by (decode bytes)) (wrong_by bytes (decode bytes)) (odd_by bytes (decode bytes))
 
 abbrev pub remarks_in : Remarks → Output RemarkRecord
 remarks_in x = record { status = x.status; bytes = x.texts.items; records = x.records.items }

@@ -39,8 +39,6 @@ pub enum Cause {
     ManyNames,
     /// 6: this part of an object is longer than a header can say.
     TooLong(LongPart),
-    /// 7: a letter is not an edit.
-    NoEdit,
     /// 8: no session is begun, or one is begun already.
     NoSession,
     /// 11 to 14: the bytes do not begin with an a.out file.
@@ -66,7 +64,7 @@ pub enum Cause {
 pub struct Refusal {
     /// Why there is no answer.
     pub cause: Cause,
-    /// The number of the object that is not taken, of the forced name, or of the edit, from 0. For a mistake in a listing it is the line,
+    /// The number of the object that is not taken, or of the forced name, from 0. For a mistake in a listing it is the line,
     /// from 1, and for an object in GNU's form the byte, from 0. For other causes it is 0.
     pub place: usize,
 }
@@ -162,7 +160,7 @@ fn object_number(fault: ObjectFault) -> u32
 }
 
 /// The number of a limit that an object passes.
-pub(crate) fn addition_number(fault: AddFault) -> u8
+fn addition_number(fault: AddFault) -> u32
     ensures { result ≡ number_of (Cause.NotAdded fault) }
 {
     match fault {
@@ -310,11 +308,10 @@ impl Cause {
             Cause::CutNames => 4,
             Cause::ManyNames => 5,
             Cause::TooLong(_) => 6,
-            Cause::NoEdit => 7,
             Cause::NoSession => 8,
             Cause::BadFile(fault) => read_number(fault),
             Cause::BadObject(fault) => object_number(fault),
-            Cause::NotAdded(fault) => u32::from(addition_number(fault)),
+            Cause::NotAdded(fault) => addition_number(fault),
             Cause::NothingKept => 35,
             Cause::NotLinked(fault) => link_number(fault),
             Cause::BadListing(fault) => reason_number(fault.reason),

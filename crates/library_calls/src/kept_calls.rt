@@ -1,27 +1,24 @@
 //! A session that is kept from one call to the next.
-ghost use Rattle.std.specs.Prelude.{◌≡◌, ◌≢◌, false, [], None, Ok, Err, IsOk, IfOk, IfErr, OnOk, OnErr};
+ghost use Rattle.std.specs.Prelude.{◌≡◌, ◌≢◌, [], None, Ok, Err, IsOk, IfOk, IfErr, OnOk, OnErr};
 ghost use Rattle.aout_core.specs.Refusals.{refused};
 ghost use Rattle.link_session.specs.Labelled.{objects};
 ghost use Rattle.link_session.specs.Limits.{refusal};
 ghost use Rattle.link_session.specs.Sessions.{Adds};
-ghost use Rattle.link_out.specs.Outcomes.{outcome_of};
 ghost use Rattle.link_out.specs.Steps.{unless};
 ghost use Rattle.link_out.specs.function.Link.{link};
-ghost use Rattle.library_calls.specs.KeptAnswers.{AddsBytes, MayRunOutToAdd, MayRunOutToLink, TakesLast, begun_in, kept_run, last_in, shown_in, taken_in};
-ghost use Rattle.library_calls.specs.RunAnswers.{objects_run, results_of, run_output};
+ghost use Rattle.library_calls.specs.KeptAnswers.{AddsBytes, HasJournal, MayRunOutToAdd, MayRunOutToLink, TakesLast, begun_in, kept_run, kept_with, last_in, shown_in, taken_in};
+ghost use Rattle.library_calls.specs.RunAnswers.{results_of};
 ghost use Rattle.library_calls.specs.declared.cause.Cause.TheVariants.{Memory, NotAdded, NothingKept};
 
 use crate::cause::{Cause, Refusal};
 use crate::first::first_object;
-use crate::reported::{all_findings, lines_of};
 use crate::requests::{forced_names, tool_options};
-use crate::run_call::{RunResult, link_kept};
-use crate::state_call::{encoded, form_in};
-use crate::written::bytes_of;
+use crate::run_call::{RunResult, Wants, given_of, link_kept};
 use aout_core::Object;
-use link_out::{Linked, Options};
+use link_out::Options;
 use link_session::Session;
-use std::alloc::{AllocError, Global};
+use session_states::{state_json, state_lines};
+use std::alloc::Global;
 
 /// Begins a session of no objects with forced names, 8 bytes each, filled up with NULs. (own choice)
 ///
@@ -84,62 +81,58 @@ pub fn withdraw_last(session: &mut Session) -> Result<(), Cause>
     }
 }
 
-/// The bytes of a link, and its report in both forms.
-fn given_of(alloc: Global, linked: &Linked) -> Result<RunResult, AllocError>
-    ensures { IfOk result (λ given.
-        results_of given ≡ run_output false [] [] [] (outcome_of linked.now)) }
-{
-    Ok(RunResult {
-        status: linked.report.status(),
-        replies: Vec::new(alloc),
-        file: bytes_of(alloc, &linked.file)?,
-        report: lines_of(alloc, &linked.report)?,
-        findings: all_findings(alloc, &linked.report)?,
-        places: Vec::new(alloc),
-    })
-}
-
 /// The link of what a session keeps, with these options.
-fn run_kept(alloc: Global, session: &Session, options: &Options) -> Result<RunResult, Cause>
-    ensures ok { IfOk result (λ given. objects_run false session.now.forced options.now []
-        (objects session.now.entries) ≡ Ok (results_of given)) }
-    ensures err { IfErr result (λ cause. cause ≢ Memory refused → objects_run false session.now.forced
-        options.now [] (objects session.now.entries) ≡ Err cause) }
+#[tactic(auto, using(crate::proofs::MemoryLemmas::there_is_one))]
+fn run_kept(
+    alloc: Global,
+    session: &Session,
+    wants: Wants,
+    options: &Options,
+) -> Result<RunResult, Cause>
+    ensures ok { IfOk result (λ given. kept_with wants options.now session.now ≡ Ok (results_of given)) }
+    ensures err { IfErr result (λ cause.
+        cause ≢ Memory refused → kept_with wants options.now session.now ≡ Err cause) }
     ensures memory { IfErr result (λ cause. cause ≡ Memory refused
         → IsOk (link session.now.forced (objects session.now.entries) options.now)) }
 {
     let linked = link_kept(alloc, session, options)?;
-    Ok(given_of(alloc, &linked)?)
+    Ok(given_of(alloc, wants, &linked, Vec::new(alloc))?)
 }
 
-/// Links what a session keeps, and returns the report as `run_link` does. There are no replies, and no objects of what is reported. (ld(1))
+/// Links what a session keeps, and returns what is wanted of the report, but for the objects of what is reported. (ld(1))
 ///
 /// Errors, the first that applies: `NoOption`, 1, `Excluded`, 2, and `LongName`, 3, if the options or the name of the entry point are wrong;
 /// `NotLinked`, 41 to 43, if there is no link. `Memory`, 50, if memory runs out for the link.
 pub fn link_session(
     alloc: Global,
     session: &Session,
+    wants: Wants,
     options: u32,
     entry: &[u8],
 ) -> Result<RunResult, Cause>
-    ensures ok { IfOk result (λ given. kept_run options entry.now session.now ≡ Ok (results_of given)) }
+    ensures ok { IfOk result (λ given. kept_run wants options entry.now session.now ≡ Ok (results_of given)) }
     ensures err { IfErr result (λ cause.
-        cause ≢ Memory refused → kept_run options entry.now session.now ≡ Err cause) }
+        cause ≢ Memory refused → kept_run wants options entry.now session.now ≡ Err cause) }
     ensures memory { IfErr result (λ cause.
         cause ≡ Memory refused → MayRunOutToLink options entry.now session.now) }
 {
     let options = tool_options(options, entry)?;
-    run_kept(alloc, session, &options)
+    run_kept(alloc, session, wants, &options)
 }
 
-/// What a session shows, in the form of this number, as `show_session` returns it. (own choice)
+/// What a session shows: with form 0 the lines of `session_states::state_lines`, and with form 1 the JSON of
+/// `session_states::state_json`. (own choice)
 ///
 /// Errors: `NoOption`, 1, if the form is another number. `Memory`, 50, if memory runs out for the text.
 pub fn state_of(alloc: Global, session: &Session, form: u32) -> Result<Vec<u8>, Cause>
     ensures ok { IfOk result (λ state. shown_in form session.now ≡ Ok state.items) }
     ensures err { IfErr result (λ cause. cause ≢ Memory refused → shown_in form session.now ≡ Err cause) }
     ensures memory { IfErr result (λ cause. cause ≡ Memory refused → IsOk (shown_in form session.now)) }
+    ensures journal { IfOk result (λ _. HasJournal session.now) }
 {
-    let form = form_in(form)?;
-    encoded(alloc, session, form)
+    match form {
+        0 => Ok(state_lines(alloc, session)?),
+        1 => Ok(state_json(alloc, session)?),
+        _ => Err(Cause::NoOption),
+    }
 }

@@ -1,36 +1,33 @@
 //! Answers the calls of libv7: bytes of files in, bytes of files and text out.
 //!
 //! ```rust
-//! let request = LinkRequest {
-//!     options: 2,
-//!     entry: b"",
-//!     forced: b"",
+//! let wants = Wants {
+//!     report: false,
+//!     findings: false,
+//!     places: false,
 //! };
-//! run_link(alloc, &request, false, objects)
+//! run_link(alloc, &request, wants, objects)
 //! ```
 //!
 //! Types:
 //!
 //! - `LinkRequest`: options, entry point and forced names of a link
 //! - `ObjectBytes`: bytes that begin with an object
-//! - `RunResult`: what a link or a session gives, its report as lines and as a list
+//! - `RunResult`, `Wants`: what a link gives, its report as lines and as a list, and what is wanted of it
 //! - `ReportedName`, `FindingPlace`: a name that is reported, and its objects
 //! - `Mapped`, `MapHead`: the map of a link, and what becomes of it
 //! - `MapRecords`, `ObjectRecord`, `NameRecord`, `UseRecord`, `LimitRecord`: the records of a map
-//! - `Shown`, `Form`: the state that a session shows, and in which form
 //! - `ObjectParts`, `PartLists`: the parts that an object is made of, and those that one is taken apart into
 //! - `FileLists`: the parts of any file
 //! - `ObjectWord`, `SymbolRow`: a word with its relocation word, and a symbol, of these parts
-//! - `Cause`, `Refusal`: why a call has no answer, and for which object or edit
+//! - `Cause`, `Refusal`: why a call has no answer, and for which object
 //! - `LongPart`: the part of an object that is too long
 //! - `Remarks`, `RemarkRecord`: what is wrong and odd in a file, as records and their texts
 //!
 //! Functions:
 //!
 //! - `run_link`: links objects
-//! - `run_session`: makes edits, and links what they leave
 //! - `map_link`: gives the map of a link
-//! - `show_session`: makes edits, and shows the state that they leave
 //! - `begin_session`, `add_bytes`, `withdraw_last`: a session that is kept, and edits of it
 //! - `link_session`, `state_of`: its link, and its state
 //! - `make`, `take_apart`: an object of its parts, and the parts of an object
@@ -43,13 +40,12 @@
 //! - `from_gnu`: the object that one in GNU's form becomes
 //! - `remarks_of`: what is wrong and odd in a file
 //!
-//! Nothing else is kept between two calls. An object is the bytes that begin with it: its header gives its length.
+//! Only a session is kept between two calls. An object is the bytes that begin with it: its header gives its length.
 #![tactic(auto)]
 
 mod apart;
 mod cause;
 mod disassembly;
-mod edits;
 mod file_calls;
 mod first;
 mod gnu_call;
@@ -62,7 +58,6 @@ mod remarks_call;
 mod reported;
 mod requests;
 mod run_call;
-mod state_call;
 mod taking;
 mod written;
 
@@ -81,5 +76,4 @@ pub use parts::{FileLists, ObjectBytes, ObjectParts, ObjectWord, PartLists, Symb
 pub use remarks_call::{RemarkRecord, Remarks, remarks_of};
 pub use reported::ReportedName;
 pub use requests::LinkRequest;
-pub use run_call::{RunResult, run_link, run_session};
-pub use state_call::{Form, Shown, show_session};
+pub use run_call::{RunResult, Wants, run_link};

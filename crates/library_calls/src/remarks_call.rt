@@ -1,18 +1,18 @@
 //! What is wrong and odd in a file, as records.
-ghost use Rattle.std.specs.Prelude.{◌≡◌, ◌++◌, ◌∷◌, [], IfOk, IfErr, true};
+ghost use Rattle.std.specs.Prelude.{◌≡◌, ◌∷◌, ◌<◌, ◌^◌, [], IfOk, IfErr, None, Some, true};
 ghost use Rattle.aout_core.specs.Refusals.{refused};
 ghost use Rattle.aout_core.specs.WellFormed.{first_object_fault};
 ghost use Rattle.findings.specs.Found.{all_found, found_in};
 ghost use Rattle.findings.specs.Wrong.{wrong_in};
 ghost use Rattle.suspicions.specs.Suspicions.{all_odd};
 ghost use Rattle.suspicions.specs.declared.evidence.Evidence.TheVariants.{Flow};
-ghost use Rattle.library_calls.specs.RemarkAnswers.{kind_number, records_from, remarked_by, remarked_in, remarks_in, status_by, texts_of};
+ghost use Rattle.library_calls.specs.RemarkAnswers.{at_word, kind_number, located_in, located_if, records_from, remarked_by, remarked_in, remarks_in, status_by, texts_of};
 ghost use Rattle.library_calls.specs.declared.cause.Cause.TheVariants.{Memory};
 
 use crate::cause::Cause;
-use aout_core::{File, decode_file, object_fault};
+use aout_core::{File, Header, decode_file, object_fault};
 use disassemblies::Sweep;
-use findings::{Finding, FindingKind, wrong_bytes, wrong_in};
+use findings::{FilePlaces, Finding, FindingKind, wrong_bytes, wrong_in};
 use std::alloc::{AllocError, Global};
 use suspicions::{Evidence, all_odd_of};
 
@@ -25,8 +25,19 @@ pub struct RemarkRecord {
     /// Where its text begins among all texts, from 0.
     pub text: usize,
     pub text_size: usize,
-    /// What is remarked: 1 to 7 are wrong, 8 to 20 odd, 21 to 26 suspicious.
+    /// What is remarked: 1 to 7 are wrong, 8 to 20 odd, 21 to 29 suspicious.
     pub kind: u32,
+    /// The part that the byte is in, as a `LongPart` has its number, or that its relocation is of; else 0.
+    pub part: u32,
+    /// The index of the word, text before data, from 0, or the number of the symbol; else 0.
+    pub word: u32,
+}
+
+/// A part of a file, and a word or a symbol in it.
+#[derive(Clone, Copy)]
+struct Located {
+    part: u32,
+    word: u32,
 }
 
 /// All remarks on a file. (own choice)
@@ -69,18 +80,66 @@ fn kind_number(kind: FindingKind) -> u32
         FindingKind::NoInstruction => 24,
         FindingKind::BranchOutside => 25,
         FindingKind::BranchWithin => 26,
+        FindingKind::UnsuitableReference => 27,
+        FindingKind::UnsuitableAddress => 28,
+        FindingKind::AbsoluteText => 29,
+    }
+}
+
+/// The word of this index.
+fn at_word(header: &Header, index: usize) -> Located
+    requires { index < 2 ^ 20 }
+    ensures { result ≡ at_word header.now index }
+{
+    let is_text = index < usize::from(header.text_size) / 2;
+    Located {
+        part: if is_text { 1 } else { 2 },
+        word: index as u32,
+    }
+}
+
+/// Where a byte of a file is: in text, data or their relocation, in the symbol table, or elsewhere.
+fn located_in(header: &Header, place: usize) -> Located
+    ensures { result ≡ located_in header.now place }
+{
+    let places = FilePlaces::of(header);
+    if place < places.text || places.end <= place {
+        return Located { part: 0, word: 0 };
+    }
+    if places.symbols <= place {
+        return Located {
+            part: 4,
+            word: ((place - places.symbols) / 12) as u32,
+        };
+    }
+    if places.relocation <= place {
+        return at_word(header, (place - places.relocation) / 2);
+    }
+    at_word(header, (place - places.text) / 2)
+}
+
+/// The same of bytes that may not begin with a file.
+fn located_if(header: &Option<Header>, place: usize) -> Located
+    ensures { result ≡ located_if header.now place }
+{
+    match header {
+        Some(header) => located_in(header, place),
+        None => Located { part: 0, word: 0 },
     }
 }
 
 /// The record of a finding whose text begins at this place of all texts.
-fn record_of(finding: &Finding, text: usize) -> RemarkRecord
-    ensures { result ∷ [] ≡ records_from text (found_in finding.now ∷ []) }
+fn record_of(header: &Option<Header>, finding: &Finding, text: usize) -> RemarkRecord
+    ensures { result ∷ [] ≡ records_from header.now text (found_in finding.now ∷ []) }
 {
+    let at = located_if(header, finding.place);
     RemarkRecord {
         place: finding.place,
         text,
         text_size: finding.text.len(),
         kind: kind_number(finding.kind),
+        part: at.part,
+        word: at.word,
     }
 }
 
@@ -88,16 +147,17 @@ fn record_of(finding: &Finding, text: usize) -> RemarkRecord
 fn put_records(
     texts: &mut Vec<u8>,
     records: &mut Vec<RemarkRecord>,
+    header: &Option<Header>,
     findings: &[Finding],
 ) -> Result<(), AllocError>
     requires texts { texts.old.items ≡ [] }
     requires records { records.old.items ≡ [] }
     ensures texts { IfOk result (λ _. texts.new.items ≡ texts_of (all_found findings.now)) }
     ensures records { IfOk result (λ _.
-        records.new.items ≡ records_from 0 (all_found findings.now)) }
+        records.new.items ≡ records_from header.now 0 (all_found findings.now)) }
 {
     for finding in findings {
-        records.push(record_of(finding, texts.len()))?;
+        records.push(record_of(header, finding, texts.len()))?;
         texts.extend_from_slice(&finding.text)?;
     }
     Ok(())
@@ -114,9 +174,14 @@ fn status_by(wrong: &[Finding]) -> u8
 }
 
 /// The remarks of what is wrong, and of what is odd.
-fn remarks_by(alloc: Global, wrong: Vec<Finding>, odd: Vec<Finding>) -> Result<Remarks, AllocError>
+fn remarks_by(
+    alloc: Global,
+    header: &Option<Header>,
+    wrong: Vec<Finding>,
+    odd: Vec<Finding>,
+) -> Result<Remarks, AllocError>
     ensures { IfOk result (λ x.
-        remarks_in x ≡ remarked_by (all_found wrong.items) (all_found odd.items)) }
+        remarks_in x ≡ remarked_by header.now (all_found wrong.items) (all_found odd.items)) }
 {
     let status = status_by(&wrong);
     let mut found = wrong;
@@ -124,7 +189,7 @@ fn remarks_by(alloc: Global, wrong: Vec<Finding>, odd: Vec<Finding>) -> Result<R
     found.append(&mut rest)?;
     let mut texts = Vec::new(alloc);
     let mut records = Vec::new(alloc);
-    put_records(&mut texts, &mut records, &found)?;
+    put_records(&mut texts, &mut records, header, &found)?;
     Ok(Remarks {
         status,
         texts,
@@ -134,14 +199,14 @@ fn remarks_by(alloc: Global, wrong: Vec<Finding>, odd: Vec<Finding>) -> Result<R
 
 /// The remarks on a file that is in these bytes.
 fn file_remarks(alloc: Global, bytes: &[u8], file: &File) -> Result<Remarks, AllocError>
-    ensures { IfOk result (λ x. remarks_in x ≡ remarked_by
+    ensures { IfOk result (λ x. remarks_in x ≡ remarked_by (Some file.now.header)
         (wrong_in (first_object_fault file.now) file.now)
         (all_odd Flow true bytes.now file.now)) }
 {
     let wrong = wrong_in(alloc, file, object_fault(file))?;
     let sweep = Sweep::new(alloc, file)?;
     let odd = all_odd_of(alloc, Evidence::Flow, bytes, &sweep, true)?;
-    remarks_by(alloc, wrong, odd)
+    remarks_by(alloc, &Some(*file.header()), wrong, odd)
 }
 
 /// What is wrong and odd in the file that the bytes begin with, or what is wrong with bytes that do not begin with a file, as
@@ -156,7 +221,7 @@ pub fn remarks_of(alloc: Global, bytes: &[u8]) -> Result<Remarks, Cause>
         Ok(file) => Ok(file_remarks(alloc, bytes, &file)?),
         Err(fault) => {
             let wrong = wrong_bytes(alloc, bytes, fault)?;
-            Ok(remarks_by(alloc, wrong, Vec::new(alloc))?)
+            Ok(remarks_by(alloc, &None, wrong, Vec::new(alloc))?)
         }
     }
 }

@@ -1,37 +1,20 @@
 //! Objects taken into a session from their bytes.
-ghost use Rattle.std.specs.Prelude.{◌≡◌, ◌≢◌, ◌⊎◌, None, Ok, Err, IfOk, IfErr, IsOk};
+ghost use Rattle.std.specs.Prelude.{◌≡◌, ◌≢◌, ◌⊎◌, Ok, Err, IfOk, IfErr, IsOk};
 ghost use Rattle.aout_core.specs.Refusals.{refused};
 ghost use Rattle.link_session.specs.Labelled.{objects};
-ghost use Rattle.link_session.specs.Limits.{refusal};
 ghost use Rattle.library_calls.specs.LinkAnswers.{each_of, taken_each};
 ghost use Rattle.library_calls.specs.MemoryWanted.{HasBody, MayRunOutInParts};
-ghost use Rattle.library_calls.specs.internal.Taken.{with_first, with_object};
+ghost use Rattle.library_calls.specs.internal.Taken.{with_first};
 ghost use Rattle.library_calls.specs.declared.cause.Cause.TheVariants.{Memory};
 
 use crate::cause::{Cause, Refusal};
-use crate::first::first_object;
+use crate::kept_calls::add_bytes;
 use crate::parts::ObjectBytes;
-use aout_core::Object;
 use link_session::{Forced, Session};
 use std::alloc::Global;
 
-/// Adds an object, without a label.
-fn add(alloc: Global, session: &mut Session, object: Object) -> Result<(), Cause>
-    ensures forced { session.new.forced ≡ session.old.forced }
-    ensures ok { IfOk result (λ _. with_object session.old.forced
-        (objects session.old.entries) object ≡ Ok (objects session.new.entries)) }
-    ensures err { IfErr result (λ cause. cause ≢ Memory refused
-        → with_object session.old.forced (objects session.old.entries) object ≡ Err cause) }
-    ensures memory { IfErr result (λ cause. cause ≡ Memory refused
-        → refusal session.old.forced (objects session.old.entries) object ≡ None) }
-{
-    match session.add(String::new(alloc), object) {
-        Ok(()) => Ok(()),
-        Err(refused) => Err(Cause::from(refused.cause)),
-    }
-}
-
 /// Adds the object that the bytes begin with.
+#[tactic(auto, using(crate::proofs::KeptLemmas::by_first))]
 fn take_first(alloc: Global, session: &mut Session, bytes: &[u8]) -> Result<(), Cause>
     ensures forced { session.new.forced ≡ session.old.forced }
     ensures ok { IfOk result (λ _. with_first session.old.forced
@@ -41,8 +24,10 @@ fn take_first(alloc: Global, session: &mut Session, bytes: &[u8]) -> Result<(), 
     ensures memory { IfErr result (λ cause. cause ≡ Memory refused → HasBody bytes.now
         ⊎ IsOk (with_first session.old.forced (objects session.old.entries) bytes.now)) }
 {
-    let object = first_object(alloc, bytes)?;
-    add(alloc, session, object)
+    match add_bytes(alloc, session, bytes) {
+        Ok(()) => Ok(()),
+        Err(cause) => Err(cause),
+    }
 }
 
 /// A session with the object that each of the parts begins with, in their order, up to the first that is not taken.

@@ -1,6 +1,6 @@
 //! A use of each library, which the library's CALLING.md quotes, and a run of all of them. With the words `state FORCED EDITS
-//! OBJECT..` it shows a session as `v7_state` of libv7 does, for the cases of docs/CASES.md: the forced names and each object are
-//! those of a file, and the edits are letters.
+//! OBJECT..` it shows a session as libv7 does, for the cases of docs/CASES.md: the forced names and each object are those of a file,
+//! and the edits are letters, `a` to add the next object and `w` to withdraw the last.
 #![tactic(auto)]
 
 mod bytes;
@@ -25,7 +25,7 @@ use conversion::converted_object;
 use disassembly::disassembled;
 use externals::externals_and_sizes;
 use gnu_objects::{Locals, Options};
-use library_calls::{ObjectBytes, show_session};
+use library_calls::{Cause, ObjectBytes, add_bytes, begin_session, state_of, withdraw_last};
 use line::put_first;
 use link_session::{Session, Starts};
 use listed::read_back;
@@ -201,17 +201,45 @@ fn use_all(rt: &HostRuntime) -> Result<()> {
     Ok(show_second(rt)?)
 }
 
+/// The number of the reply to an edit: 0 if it was made.
+fn reply(fault: Option<Cause>) -> u32 {
+    match fault {
+        None => 0,
+        Some(cause) => cause.number(),
+    }
+}
+
+/// Makes the edits, and returns the reply to each.
+fn replies_to(
+    rt: &HostRuntime,
+    session: &mut Session,
+    edits: &str,
+    paths: &[String],
+) -> Result<Vec<u32>> {
+    let mut replies = Vec::new(rt.alloc());
+    let mut rest = paths.iter();
+    for letter in edits.bytes() {
+        if letter == b'a' {
+            let path = rest.next().ok_or_else(|| anyhow!("no further object"))?;
+            let bytes = bytes_at(rt, path)?;
+            replies.push(reply(add_bytes(rt.alloc(), session, &bytes).err()))?;
+        } else {
+            replies.push(reply(withdraw_last(session).err()))?;
+        }
+    }
+    Ok(replies)
+}
+
 /// Prints the replies to the edits of a session, and then the lines of its state.
 fn show_state(rt: &HostRuntime, forced: &str, edits: &str, paths: &[String]) -> Result<()> {
-    let forced = bytes_at(rt, forced)?;
-    let all = all_bytes(rt, paths)?;
-    let objects = as_objects(rt, &all)?;
-    match show_session(rt.alloc(), 0, &forced, edits.as_bytes(), &objects) {
-        Ok(shown) => {
-            println!(rt; "{:?}", shown.replies)?;
-            Ok(io::writer(rt).write_all(&shown.state)?)
-        }
-        Err(refusal) => Err(anyhow!("edit {}", refusal.place)),
+    let Ok(mut session) = begin_session(rt.alloc(), &bytes_at(rt, forced)?) else {
+        return Err(anyhow!("{forced}: forced names"));
+    };
+    let replies = replies_to(rt, &mut session, edits, paths)?;
+    println!(rt; "{:?}", replies)?;
+    match state_of(rt.alloc(), &session, 0) {
+        Ok(state) => Ok(io::writer(rt).write_all(&state)?),
+        Err(_) => Err(anyhow!("no memory")),
     }
 }
 

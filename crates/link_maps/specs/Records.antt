@@ -11,7 +11,7 @@ use Rattle.tool_options.specs.NameLists.{is_among}
 use Rattle.link_session.specs.{Labelled.number_or_none, Labelled.objects, Mentions.externals, Undo.Kept, Undo.image_of}
 use Rattle.link_out.specs.{declared.linked.Linked.Linked, declared.linked.LinkFault.LinkFault}
 use Rattle.link_maps.specs.Members.{Member, capped, start_in}
-use Rattle.link_maps.specs.Uses.{Use, is_common, is_definition, name_of, stays_undefined, telling}
+use Rattle.link_maps.specs.Uses.{Use, is_common, is_definition, name_of, stays_undefined}
 use Rattle.link_maps.specs.{declared.outcome.Outcome.Outcome, declared.places.Places.Places, declared.name_records.NameRecord.NameRecord}
 use Rattle.link_maps.specs.{declared.records.ObjectRecord.ObjectRecord, declared.records.UseRecord.UseRecord}
 use Rattle.link_maps.specs.{declared.references.Before.Before, declared.references.ReferringWord.ReferringWord, Rows.row_at}
@@ -89,11 +89,7 @@ is_user u = is_some u.object && not (is_definition u)
 abbrev pub first_user : List Use → ℕ
 first_user us = object_at us (position is_user us)
 
--- the symbol of a name: its row in the table of the link, or else that of `telling`
-abbrev pub symbol_shown : Option Symbol → List Use → Option Symbol
-symbol_shown (Some row) us = Some row
-symbol_shown None us = telling us
-
+-- the type word and the value of a name in the table of the link; 0 if it is not there
 abbrev pub type_shown : Option Symbol → ℕ
 type_shown None = 0
 type_shown (Some s) = s.type_bits
@@ -116,8 +112,8 @@ name_record name row is_multiple us = record {
   next_definer = next_definer us;
   user = first_user us;
   state = name_state (is_some row) is_multiple us;
-  type_bits = type_shown (symbol_shown row us);
-  value = value_shown (symbol_shown row us);
+  type_bits = type_shown row;
+  value = value_shown row;
 }
 
 -- what a link knows of names: the session, the rows of its externals if it fits, and the names of the linker that are taken

@@ -2,9 +2,9 @@
 ghost use Rattle.std.specs.Prelude.{◌≡◌, map, position, IfOk};
 ghost use Rattle.tool_options.specs.NameLists.{is_among};
 ghost use Rattle.link_maps.specs.internal.Known.{knowledge};
-ghost use Rattle.link_maps.specs.Records.{after, bit, by_name, definer, first_user, is_multiple_in, is_user, name_state, next_definer, object_at, record_of, record_with, row_among, symbol_shown, type_shown, value_shown};
+ghost use Rattle.link_maps.specs.Records.{after, bit, by_name, definer, first_user, is_multiple_in, is_user, name_state, next_definer, object_at, record_of, record_with, row_among, type_shown, value_shown};
 
-use crate::names::{first_definition, stays_undefined, telling};
+use crate::names::{first_definition, stays_undefined};
 use crate::outcome::row_of;
 use crate::records::{number_or_none, padded, uses_of_name};
 use crate::uses::Use;
@@ -24,11 +24,11 @@ pub struct NameRecord {
     pub next_definer: usize,
     /// The number of the first object with a symbol of the name that does not define it, likewise.
     pub user: usize,
-    /// 1 if the table of the link has it, so that its value is that of the link; and 2 if it stays undefined, and 4 if it is multiply defined.
+    /// 1 if the table of the link has it, and 2 if it stays undefined, and 4 if it is multiply defined.
     pub state: u32,
-    /// The type word of its symbol.
+    /// The type word of its symbol in that table; 0 if it is not there.
     pub type_bits: u16,
-    /// The value of its symbol.
+    /// The value of that symbol, likewise.
     pub value: u16,
 }
 
@@ -99,29 +99,20 @@ fn first_user(uses: &[Use]) -> usize
     object_at(uses, user_place(uses))
 }
 
-fn symbol_shown(row: &Option<Symbol>, uses: &[Use]) -> Option<Symbol>
-    ensures { result ≡ symbol_shown row.now uses.now }
+fn type_shown(row: &Option<Symbol>) -> u16
+    ensures { result ≡ type_shown row.now }
 {
     match row {
-        Some(row) => Some(*row),
-        None => telling(uses),
-    }
-}
-
-fn type_shown(symbol: &Option<Symbol>) -> u16
-    ensures { result ≡ type_shown symbol.now }
-{
-    match symbol {
-        Some(symbol) => symbol.type_bits,
+        Some(row) => row.type_bits,
         None => 0,
     }
 }
 
-fn value_shown(symbol: &Option<Symbol>) -> u16
-    ensures { result ≡ value_shown symbol.now }
+fn value_shown(row: &Option<Symbol>) -> u16
+    ensures { result ≡ value_shown row.now }
 {
-    match symbol {
-        Some(symbol) => symbol.value,
+    match row {
+        Some(row) => row.value,
         None => 0,
     }
 }
@@ -165,16 +156,14 @@ fn name_record(known: &Known<'_>, name: &Name, uses: &[Use]) -> NameRecord
     ensures { result ≡ record_with (knowledge known.now) uses.now name.now }
 {
     let row = row_among(known, name);
-    let is_placed = row.is_some();
-    let symbol = symbol_shown(&row, uses);
     NameRecord {
         name: padded(name),
         definer: definer(uses),
         next_definer: next_definer(uses),
         user: first_user(uses),
-        state: name_state(is_placed, is_multiple(known, name), uses),
-        type_bits: type_shown(&symbol),
-        value: value_shown(&symbol),
+        state: name_state(row.is_some(), is_multiple(known, name), uses),
+        type_bits: type_shown(&row),
+        value: value_shown(&row),
     }
 }
 

@@ -1,20 +1,20 @@
 -- An image that takes in an object becomes the image of the objects with that one.
-use Rattle.std.proofs.Common.{◌≡◌, ℕ, ◌+◌, List, [], ◌∷◌, ◌++◌, map, Option, Some, None, refl, sym, ◌∙◌, ap}
+use Rattle.std.proofs.Common.{◌≡◌, ℕ, ◌+◌, List, [], ◌∷◌, ◌++◌, map, Option, Some, None, refl, sym, ◌∙◌, ap, rules}
 use Rattle.std.specs.{Prelude.slice_get, Prelude.⊤, List.AllByRecursion}
-use Rattle.aout_core.specs.WellFormed.{segment_of, kind_of, is_pc_relative, symbol_number, first_of, IsWellFormed}
-use Rattle.aout_core.specs.{declared.symbol.Symbol.Symbol, declared.symbol.Segment.Segment, declared.reloc.Reloc.Reloc}
-use Rattle.aout_core.specs.{declared.reloc.Kind.Kind, Contents.Contents, Words.plus, Words.minus}
-use Rattle.link_session.specs.Mentions.{Mention, mention, statement, statement_by, mentions, mentions_in, externals_in, names_of}
+use Rattle.aout_core.specs.WellFormed.{first_of, IsWellFormed}
+use Rattle.aout_core.specs.{declared.symbol.Segment.Segment, declared.reloc.Reloc.Reloc}
+use Rattle.aout_core.specs.{Contents.Contents, Words.plus}
+use Rattle.link_session.specs.Mentions.{Mention, mentions, mentions_in, names_of}
 use Rattle.link_session.specs.Mentions.{names_by_first_mention, place_of}
 use Rattle.link_session.specs.States.{Definition, state, state_by, first_definition, wanted_size, multiple_names}
-use Rattle.link_session.specs.Cells.{Referent, to_segment, to_name, referent, referent_by, segment_target, name_target, name_in, target_of}
-use Rattle.link_session.specs.Cells.{target_shift, offset_in, if_pc, cell, words_of, cells}
+use Rattle.link_session.specs.Cells.{Referent, to_segment, to_name, referent, segment_target, target_of}
+use Rattle.link_session.specs.Cells.{cell, words_of, cells}
 use Rattle.link_session.specs.Image.{named_states, image, state_in, state_at}
-use Rattle.link_session.specs.internal.Additions.{state_for, place_in, with_mentions, all_clashes, bound_by, binding_at, binding, bound_or}
-use Rattle.link_session.specs.internal.Additions.{settled_cell, mention_by, mentions_by, reference, own_cell, own_cells, next_shifts}
+use Rattle.link_session.specs.internal.Additions.{all_clashes, bound_by, binding_at, binding}
+use Rattle.link_session.specs.internal.Additions.{settled_cell, own_cell, own_cells, next_shifts}
 use Rattle.link_session.specs.internal.Additions.{next_mentions, next_named, joined_image}
 use Rattle.link_session.specs.{declared.cell.Cell.Cell, declared.cell.Target.Target, declared.state.State.State}
-use Rattle.link_session.specs.{declared.relocate.Shifts.Shifts, Starts.shift, Starts.shift_by, Sessions.IsObject}
+use Rattle.link_session.specs.{declared.relocate.Shifts.Shifts, Starts.shift, Sessions.IsObject}
 use Rattle.tool_options.specs.NameLists.{new_names}
 use Rattle.link_session.proofs.MentionLemmas.{names_by_first_mention-append, is_among-externals, get_place}
 use Rattle.link_session.proofs.CellLemmas.{rebound, bound, RefersAmong, AllReferAmong, cells_more, all_made}
@@ -24,7 +24,6 @@ use Rattle.link_session.proofs.ListLemmas.{all_map, get_append, index_get, get_m
 use Rattle.link_session.proofs.{StateLemmas.first_definition-append, MarkLemmas.awaited, MarkLemmas.bound-awaited}
 use Rattle.link_session.proofs.{WellFormedLemmas.objects_refer, UpdateLemmas.image_own, TotalLemmas.text_total, TotalLemmas.data_total}
 use Rattle.aout_core.specs.declared.symbol.Segment.TheVariants as segments
-use Rattle.aout_core.specs.declared.reloc.Kind.TheVariants as kinds
 use Rattle.link_session.specs.declared.cell.Target.TheVariants as targets
 
 -- the cell, bound, if its name has a definition among later mentions
@@ -40,21 +39,11 @@ WaitsAmong ms (targets.External i) =
 WaitsAmong ms _ = ⊤
 
 segment_waits : (ms : List Mention) (segment : Segment) → WaitsAmong ms (segment_target segment)
-segment_waits ms segments.Undefined = tt
-segment_waits ms segments.Absolute = tt
-segment_waits ms segments.TextSeg = tt
-segment_waits ms segments.DataSeg = tt
-segment_waits ms segments.BssSeg = tt
-segment_waits ms segments.Other = tt
+segment_waits ms segment = search rules
 
 referent_waits : (ms : List Mention) (q : Referent) → RefersAmong (names_of ms) q → WaitsAmong ms (target_of ms q)
 referent_waits ms (to_segment segment) h = segment_waits ms segment
-referent_waits ms (to_name name) h = by_definition (first_definition ms name) refl
-  where
-    by_definition : (d : Option Definition) → first_definition ms name ≡ d →
-        WaitsAmong ms (name_target (state_by d (wanted_size ms name)) (place_of name (names_by_first_mention ms)))
-    by_definition (Some d) e = segment_waits ms d.0
-    by_definition None e = (name, get_place (names_by_first_mention ms) name (is_among-externals ms name ∙ h), e, refl)
+referent_waits ms (to_name name) h = search (rules, segment_waits, get_place, is_among-externals)
 
 -- so do all cells of the objects
 pub cells_wait : (ms : List Mention) (segment : Segment) (os : List Contents) →
@@ -93,13 +82,7 @@ binding-awaited ms ns c h = by_target c.target h
 
 settled_cell-bound : (ms ns : List Mention) (c : Cell) → WaitsAmong ms c.target →
     settled_cell (named_states (ms ++ ns)) c ≡ bound (names_by_first_mention ms) ns c
-settled_cell-bound ms ns c h =
-    ap (λ (b : Option Cell). bound_or b c) (binding-awaited ms ns c h)
-    ∙ by_definition (awaited (names_by_first_mention ms) ns c.target) ∙ sym (bound-awaited (names_by_first_mention ms) ns c)
-  where
-    by_definition : (d : Option Definition) → bound_or (rebinding d c) c ≡ rebound d c
-    by_definition None = refl
-    by_definition (Some d) = refl
+settled_cell-bound ms ns c h = search (rules, binding-awaited, awaited, bound-awaited, rebound)
 
 all_settled : (ms ns : List Mention) (cs : List Cell) → AllByRecursion (λ c. WaitsAmong ms c.target) cs →
     map (settled_cell (named_states (ms ++ ns))) cs ≡ map (bound (names_by_first_mention ms) ns) cs
@@ -110,8 +93,7 @@ all_settled ms ns (c ∷ cs) h = λ i. settled_cell-bound ms ns c h.0 i ∷ all_
 pub cells_settled : (ms ns : List Mention) (segment : Segment) (os : List Contents) →
     AllByRecursion (λ o. AllReferAmong (names_of ms) o (words_of segment o)) os →
     map (settled_cell (named_states (ms ++ ns))) (cells ms segment os) ≡ cells (ms ++ ns) segment os
-cells_settled ms ns segment os h =
-    all_settled ms ns (cells ms segment os) (cells_wait ms segment os h) ∙ sym (cells_more ms ns segment os h)
+cells_settled ms ns segment os h = search (rules, all_settled, cells_wait, cells_more)
 
 -- what is added to the addresses of an object after these
 abbrev shifts_after : List Contents → Contents → Shifts
@@ -119,70 +101,27 @@ shifts_after os o = record { text = shift os o segments.TextSeg; «data» = shif
 
 pub next_shifts-after : (forced : List (List ℕ)) (os : List Contents) (o : Contents) → AllByRecursion IsObject os →
     next_shifts (image forced os) o ≡ shifts_after os o
-next_shifts-after forced os o h = λ i. record {
-  text = minus (text_total (mentions forced os) os h i) 0;
-  «data» = minus (data_total (mentions forced os) os h i) o.header.text_size;
-  bss = shift os o segments.BssSeg;
-}
+next_shifts-after forced os o h = search (rules, text_total, data_total)
 
 -- the mentions that the code makes by the sizes of the image are those of the definition
 pub next_mentions-in : (forced : List (List ℕ)) (os : List Contents) (o : Contents) → AllByRecursion IsObject os →
     next_mentions (image forced os) o ≡ mentions_in os o
-next_mentions-in forced os o h = ap (λ (s : Shifts). mentions_by s o.symbols) (next_shifts-after forced os o h) ∙ each (externals_in o)
-  where
-    says : (segment : Segment) (value : ℕ) → statement_by (shift_by (shifts_after os o)) segment value ≡ statement os o segment value
-    says segments.Undefined value = refl
-    says segments.Absolute value = refl
-    says segments.TextSeg value = refl
-    says segments.DataSeg value = refl
-    says segments.BssSeg value = refl
-    says segments.Other value = refl
-
-    each : (ss : List Symbol) → map (mention_by (shifts_after os o)) ss ≡ map (mention os o) ss
-    each [] = refl
-    each (s ∷ ss) = λ i. record { name = s.name; says = says (segment_of s) s.value i } ∷ each ss i
+next_mentions-in forced os o h = search (rules, next_shifts-after)
 
 -- the names after an addition are those of the longer list of objects
 pub next_named-states : (forced : List (List ℕ)) (os : List Contents) (o : Contents) → AllByRecursion IsObject os →
     next_named (image forced os) o ≡ named_states (mentions forced os ++ mentions_in os o)
-next_named-states forced os o h =
-    ap (λ (ms : List Mention). with_mentions (named_states (mentions forced os)) ms) (next_mentions-in forced os o h)
-    ∙ with_mentions-named_states (mentions forced os) (mentions_in os o)
+next_named-states forced os o h = cc (next_mentions-in forced os o h, with_mentions-named_states (mentions forced os) (mentions_in os o))
 
 -- an object's own cell is the cell of the word
 own_cell-is : (ms : List Mention) (os : List Contents) (o : Contents) (segment : Segment) (w : ℕ) (r : Reloc) →
     own_cell (named_states ms) o.symbols (shifts_after os o) (shift os o segment) w r ≡ cell ms os o segment w r
-own_cell-is ms os o segment w r = λ i. record {
-  value = minus (plus w (by_kind (kind_of r) i).0) (if_pc r (shift os o segment));
-  target = (by_kind (kind_of r) i).1;
-  pc = is_pc_relative r;
-}
-  where
-    of_name : (name : List ℕ) → (let p : ℕ × Target = (
-      offset_in (state_for (named_states ms) name),
-      name_target (state_for (named_states ms) name) (place_in (named_states ms) name),
-    ) in p)
-        ≡ (target_shift ms os o (to_name name), target_of ms (to_name name))
-    of_name name =
-        λ i. (
-          offset_in (state_for-named_states ms name i),
-          name_target (state_for-named_states ms name i) (place_of name (keys-named_states ms i)),
-        )
-
-    by_kind : (kind : Option Kind) → reference (named_states ms) o.symbols (shifts_after os o) (symbol_number r) kind
-        ≡ (target_shift ms os o (referent_by o (symbol_number r) kind), target_of ms (referent_by o (symbol_number r) kind))
-    by_kind None = refl
-    by_kind (Some kinds.Absolute) = refl
-    by_kind (Some kinds.TextSeg) = refl
-    by_kind (Some kinds.DataSeg) = refl
-    by_kind (Some kinds.BssSeg) = refl
-    by_kind (Some kinds.External) = of_name (name_in (slice_get o.symbols (symbol_number r)))
+own_cell-is ms os o segment w r = search (rules, state_for-named_states, keys-named_states)
 
 own_cells-are : (ms : List Mention) (os : List Contents) (o : Contents) (segment : Segment) (words : List (ℕ × Reloc)) →
     map (λ (wr : ℕ × Reloc). own_cell (named_states ms) o.symbols (shifts_after os o) (shift os o segment) wr.0 wr.1) words
     ≡ map (λ wr. cell ms os o segment wr.0 wr.1) words
-own_cells-are ms os o segment [] = refl
-own_cells-are ms os o segment (wr ∷ words) = λ i. own_cell-is ms os o segment wr.0 wr.1 i ∷ own_cells-are ms os o segment words i
+own_cells-are ms os o segment words = search (rules, own_cell-is)
 
 -- many lemmas need only this of what a session keeps
 pub well_formed : (os : List Contents) → AllByRecursion IsObject os → AllByRecursion IsWellFormed os

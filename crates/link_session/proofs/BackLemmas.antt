@@ -1,23 +1,20 @@
 -- The marks of mentions bring the earlier states back, lie inside the image, and are few.
 use Rattle.std.proofs.Common.{◌≡◌, ℕ, zero, suc, ◌≤◌, ◌<◌, Bool, true, false, cond, ◌&&◌, List, [], ◌∷◌, take, length, refl, ◌∙◌, ap, arith}
-use Rattle.std.proofs.Common.{length-append, nat_lt}
+use Rattle.std.proofs.Common.{length-append, nat_lt, rules}
 use Rattle.std.proofs.lemmas.Bool.{ltb-true, ltb-false}
-use Rattle.std.specs.{List.AllByRecursion, Map.keys_of}
+use Rattle.std.specs.{List.AllByRecursion}
 use Rattle.link_session.specs.internal.Additions.{state_for, place_in, with_mention, with_mentions, changes, state_mark, state_marks}
-use Rattle.link_session.specs.{declared.state.State.State, declared.state.State.TheVariants.Defined}
-use Rattle.link_session.specs.{declared.state.State.TheVariants.Wanted, declared.mark.Mark.TheVariants.StateWas, Mentions.Mention}
+use Rattle.link_session.specs.{declared.state.State.State}
+use Rattle.link_session.specs.{declared.mark.Mark.TheVariants.StateWas, Mentions.Mention}
 use Rattle.link_session.specs.{Image.Image, Image.Named, Image.state_at, Undo.with_state, Undo.put_all_back, Undo.IsInside}
 use Rattle.link_session.specs.{internal.Updates.updated_state}
-use Rattle.tool_options.specs.NameLists.{is_among}
 use Rattle.link_session.proofs.MarkLemmas.{put_all_back-append, take_grown, take_with_state}
 use Rattle.link_session.proofs.{MentionedLemmas.with_mention-is, MentionedLemmas.next_state, ListLemmas.all_append}
 
 -- States.
 
 unchanged : (was says : State) → changes was says ≡ false → updated_state was says ≡ was
-unchanged (Defined segment offset) says h = refl
-unchanged (Wanted size) (Defined segment offset) h = absurd (cc)
-unchanged (Wanted size) (Wanted more) h = let no = ltb-false size more h in ap (λ (n : ℕ). Wanted n) (omega arith)
+unchanged was says h = search rules
 
 same_state : (es : Named) (i : ℕ) → with_state es i (state_at es i) ≡ es
 same_state [] i = refl
@@ -39,20 +36,10 @@ length-with_state (e ∷ es) (suc i) s = ap suc (length-with_state es i s)
 -- the names that were there before, after one more mention
 front_mentioned : (kept : ℕ) (es : Named) (m : Mention) → kept ≤ length es →
     take kept (with_mention es m) ≡ take kept (with_state es (place_in es m.name) (next_state es m))
-front_mentioned kept es m h =
-    ap (λ (l : Named). take kept l) (with_mention-is es m)
-    ∙ take_grown (with_state es (place_in es m.name) (next_state es m)) (cond (is_among (keys_of es) m.name) []
-    ((m.name, next_state es m) ∷ [])) kept (omega (arith, length-with_state es (place_in es m.name) (next_state es m)))
+front_mentioned kept es m h = search (rules, with_mention-is, take_grown, next_state, length-with_state)
 
 longer : (es : Named) (m : Mention) → length es ≤ length (with_mention es m)
-longer es m =
-    omega (
-      arith,
-      ap (λ (l : Named). length l) (with_mention-is es m),
-      length-with_state es (place_in es m.name) (next_state es m),
-      length-append (with_state es (place_in es m.name) (next_state es m))
-          (cond (is_among (keys_of es) m.name) [] ((m.name, next_state es m) ∷ [])),
-    )
+longer es m = search (rules, with_mention-is, length-with_state, next_state, length-append)
 
 abbrev with_named : Image → Named → Image
 with_named m es = record m { externals = es }
@@ -96,27 +83,11 @@ mentions_back m kept es (k ∷ ms) h =
 -- the marks of mentions may be put back: each is of a name that the image had
 pub states_inside : (m : Image) (es : Named) (ms : List Mention) → AllByRecursion (IsInside m) (state_marks (length m.externals) es ms)
 states_inside m es [] = tt
-states_inside m es (k ∷ ms) =
-    all_append (IsInside m) (state_mark (length m.externals) es k) (state_marks (length m.externals) (with_mention es k) ms)
-    (by_place (nat_lt (place_in es k.name) (length m.externals)) refl (changes (state_for es k.name) k.says))
-    (states_inside m (with_mention es k) ms)
-  where
-    by_place : (t : Bool) → nat_lt (place_in es k.name) (length m.externals) ≡ t → (u : Bool) →
-        AllByRecursion (IsInside m) (cond (t && u) (StateWas (place_in es k.name) (state_for es k.name) ∷ []) [])
-    by_place true e true = (ltb-true (place_in es k.name) (length m.externals) e, tt)
-    by_place true e false = tt
-    by_place false e u = tt
+states_inside m es (k ∷ ms) = search (rules, all_append, ltb-true, states_inside m (with_mention es k) ms)
 
 -- How many marks there are.
 
 -- an addition needs room for one mark of each mention, and no more
 pub states_few : (kept : ℕ) (es : Named) (ms : List Mention) → length (state_marks kept es ms) ≤ length ms
 states_few kept es [] = omega arith
-states_few kept es (k ∷ ms) =
-    let rest = states_few kept (with_mention es k) ms in
-    let here = by_tests (nat_lt (place_in es k.name) kept && changes (state_for es k.name) k.says) in
-    omega (arith, length-append (state_mark kept es k) (state_marks kept (with_mention es k) ms))
-  where
-    by_tests : (t : Bool) → length (cond t (StateWas (place_in es k.name) (state_for es k.name) ∷ []) []) ≤ 1
-    by_tests true = omega arith
-    by_tests false = omega arith
+states_few kept es (k ∷ ms) = search (rules, length-append, states_few kept (with_mention es k) ms)

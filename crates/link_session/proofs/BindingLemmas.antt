@@ -1,8 +1,8 @@
 -- Binding as a change of the whole image: one cell, a chain, an external, and several externals.
 use Rattle.std.proofs.Common.{◌≡◌, ◌<◌, ◌+◌, ℕ, zero, suc, List, [], ◌∷◌, map, length, refl, ◌∙◌, sym, ap, subst, arith, cond, Some, None}
-use Rattle.std.proofs.Common.{slice_index_or, slice_set}
+use Rattle.std.proofs.Common.{slice_index_or, slice_set, rules}
 use Rattle.link_session.specs.internal.Chains.{Link, IsBoundTo, AreChained, link_at, walk, waits_at, bound_if}
-use Rattle.link_session.specs.internal.Fields.{threads_in, with_cells, with_heads, HoldsChains, LeavesMarksIn, KeepsCapacity}
+use Rattle.link_session.specs.internal.Fields.{threads_in, with_heads, HoldsChains, LeavesMarksIn, KeepsCapacity}
 use Rattle.link_session.specs.internal.Bindings.{Bindable, bindable_in, settled, settled_all, IsSettled, KeepsRest, IsChainIn, IsPlaceIn}
 use Rattle.link_session.specs.internal.Bindings.{BindsAt, BindsTo}
 use Rattle.link_session.specs.{declared.bind.Definition.Definition, declared.cell.Cell.Cell, declared.mark.Mark.Mark}
@@ -13,35 +13,21 @@ use Rattle.link_session.specs.{internal.Restores.LeavesMarks, internal.Settled.s
 use Rattle.link_session.specs.{internal.Threads.Threads, internal.Threads.cut_by_state, internal.Threads.cut_heads}
 use Rattle.link_session.proofs.WalkLemmas.{begun, next_inside, step, shorter}
 use Rattle.link_session.proofs.RestoreLemmas.{chain_left, all_texts, all_datas, all_marks}
-use Rattle.link_session.proofs.FewLemmas.{chain_noted, defined_noted, noted_then}
+use Rattle.link_session.proofs.FewLemmas.{chain_noted, defined_noted}
 use Rattle.link_session.proofs.NamesLemmas.{all_one, none_left, unsettled, leaves_then}
 use Rattle.link_session.proofs.{ChainedLemmas.cut_to, EmptyChainLemmas.no_text, EmptyChainLemmas.no_data}
 
 -- What stays.
 
 capacity_same : (m : Merged) → KeepsCapacity m m
-capacity_same m =
-    record { text = omega arith; «data» = omega arith; text_links = omega arith; data_links = omega arith; heads = omega arith }
-
-capacity_then : (old mid new : Merged) → KeepsCapacity old mid → KeepsCapacity mid new → KeepsCapacity old new
-capacity_then old mid new p q = record {
-  text = omega (arith, p.text, q.text);
-  «data» = omega (arith, p.data, q.data);
-  text_links = omega (arith, p.text_links, q.text_links);
-  data_links = omega (arith, p.data_links, q.data_links);
-  heads = omega (arith, p.heads, q.heads);
-}
+capacity_same m = search rules
 
 pub rest_same : (m : Merged) → KeepsRest m m
 rest_same m = record { image = refl; threads = refl; capacity = capacity_same m }
 
 -- what two steps of binding leave alone, both together leave alone
 pub rest_then : (old mid new : Merged) → KeepsRest old mid → KeepsRest mid new → KeepsRest old new
-rest_then old mid new p q = record {
-  image = q.image ∙ ap (with_cells new.text_cells.items new.data_cells.items) p.image;
-  threads = q.threads ∙ ap (with_heads new.heads.items) p.threads;
-  capacity = capacity_then old mid new p.capacity q.capacity;
-}
+rest_then old mid new p q = search rules
 
 link_same : (old new : Merged) → KeepsRest old new → (p : Place) →
     link_at new.text_links.items new.data_links.items p ≡ link_at old.text_links.items old.data_links.items p
@@ -66,12 +52,7 @@ module _ (old mid : Merged) (h : HoldsChains old) (same : threads_in mid ≡ thr
 -- before the loop over a chain nothing is bound
 pub chain_begun : (to : Definition) (head : Link) (m : Merged) (marks : List Mark) → IsChainIn m head →
     BindsTo to head head m m marks marks
-chain_begun to head m marks ends = record {
-  bound =
-      begun m.text_links.items m.data_links.items head to.segment to.offset m.text_cells.items m.data_cells.items marks ends;
-  heads = refl;
-  rest = rest_same m;
-}
+chain_begun to head m marks ends = search (rules, begun, rest_same)
 
 module _ (to : Definition) (head next : Link) (old mid : Merged) (marks mid_marks : List Mark)
     (w : BindsTo to head next old mid marks mid_marks) (p : Place) (here : next ≡ Some p) where
@@ -89,9 +70,7 @@ module _ (to : Definition) (head next : Link) (old mid : Merged) (marks mid_mark
 
   -- the loop may read and write the cell at the next place: it is in the image
   pub chain_inside : IsPlaceIn mid p
-  chain_inside =
-      next_inside ts ds head to.segment to.offset texts datas marks next mid.text_cells.items mid.data_cells.items mid_marks
-      w.bound p here
+  chain_inside = search (rules, next_inside)
 
   module _ (new : Merged) (new_marks : List Mark) (b : BindsAt to p mid new mid_marks new_marks) (link : Link)
       (goes_on : link ≡ link_at new.text_links.items new.data_links.items p) where
@@ -115,11 +94,7 @@ module _ (to : Definition) (head next : Link) (old mid : Merged) (marks mid_mark
 
     -- the loop ends, since each turn leaves a shorter chain
     pub chain_shorter : length (walk (length texts + length datas) ts ds link) < length (walk (length texts + length datas) ts ds next)
-    chain_shorter =
-        subst (λ (l : Link). length (walk (length texts + length datas) ts ds l) < length (walk (length texts + length datas) ts ds next))
-        (sym at)
-        (shorter ts ds head to.segment to.offset texts datas marks next mid.text_cells.items mid.data_cells.items mid_marks
-        w.bound p here)
+    chain_shorter = search (rules, at, shorter)
 
 -- The chain of an external, once it is cut to where binding stopped.
 
@@ -134,20 +109,19 @@ module _ (to : Definition) (k : ℕ) (next : Link) (old mid : Merged) (marks new
 
   -- with the head that the loop ends at, all chains are right again
   pub chain_cut : AreChained mid.text_cells.items mid.data_cells.items mid.text_links.items mid.data_links.items heads
-  chain_cut =
-      subst (λ (P : Type 0). P)
-      (λ i. AreChained mid.text_cells.items mid.data_cells.items (sym w.rest.threads i).text_links (sym w.rest.threads i).data_links
-      (sym cut i))
-      (cut_to texts_of datas_of old.text_links.items old.data_links.items old.heads.items h k to.segment to.offset next marks
-      mid.text_cells.items mid.data_cells.items new_marks w.bound)
+  chain_cut = grind (
+    arith,
+    cut_to texts_of datas_of old.text_links.items old.data_links.items old.heads.items h k to.segment to.offset
+        next marks mid.text_cells.items mid.data_cells.items new_marks w.bound,
+  )
 
   -- the marks that the loop made undo it
   pub chain_back : LeavesMarks texts_of datas_of old.heads.items mid.text_cells.items mid.data_cells.items heads marks new_marks
-  chain_back =
-      subst (λ (hs : List Link). LeavesMarks texts_of datas_of old.heads.items mid.text_cells.items mid.data_cells.items hs marks
-      new_marks) (sym cut)
-      (chain_left old.text_links.items old.data_links.items texts_of datas_of old.heads.items h k to.segment to.offset next
-      marks mid.text_cells.items mid.data_cells.items new_marks w.bound)
+  chain_back = grind (
+    arith,
+    chain_left old.text_links.items old.data_links.items texts_of datas_of old.heads.items h k to.segment
+        to.offset next marks mid.text_cells.items mid.data_cells.items new_marks w.bound,
+  )
 
   -- it was bound to its end, and the external is defined so
   module _ (end : next ≡ None) (es : Named) (defined : state_at es k ≡ Defined to.segment to.offset) where
@@ -155,10 +129,11 @@ module _ (to : Definition) (k : ℕ) (next : Link) (old mid : Merged) (marks new
     bound_same cs = ap (λ (s : State). map (λ (c : Cell). cond (waits_at k c.target) (bound_or (bound_by s c) c) c) cs) (sym defined)
 
     texts_settled : mid.text_cells.items ≡ map (settled_at es k) texts_of
-    texts_settled =
-        all_texts old.text_links.items old.data_links.items texts_of datas_of old.heads.items h k to.segment to.offset next
-        marks mid.text_cells.items mid.data_cells.items new_marks w.bound end
-        ∙ bound_same texts_of
+    texts_settled = cc (
+      all_texts old.text_links.items old.data_links.items texts_of datas_of old.heads.items h k to.segment to.offset next
+          marks mid.text_cells.items mid.data_cells.items new_marks w.bound end,
+      bound_same texts_of,
+    )
 
     datas_settled : mid.data_cells.items ≡ map (settled_at es k) datas_of
     datas_settled =
@@ -167,9 +142,7 @@ module _ (to : Definition) (k : ℕ) (next : Link) (old mid : Merged) (marks new
         ∙ bound_same datas_of
 
     heads_cut : heads ≡ cut_by_state (state_at es k) k old.heads.items
-    heads_cut =
-        cut ∙ ap (λ (l : Link). slice_set old.heads.items k l) end
-        ∙ ap (λ (s : State). cut_by_state s k old.heads.items) (sym defined)
+    heads_cut = search rules
 
     -- the cells and heads after the loop are those of the definition
     pub chain_bound :
@@ -195,30 +168,17 @@ set_none (h ∷ hs) zero e = ap (λ (l : Link). l ∷ hs) e
 set_none (h ∷ hs) (suc k) e = ap (λ (l : List Link). h ∷ l) (set_none hs k e)
 
 heads_stay : (s : State) (heads : List Link) (k : ℕ) → slice_index_or heads k None ≡ None → heads ≡ cut_by_state s k heads
-heads_stay (Defined segment offset) heads k e = set_none heads k e
-heads_stay (Wanted size) heads k e = refl
+heads_stay s heads k e = search (rules, set_none)
 
 -- no loop is needed for an external without a head: no cell waits for it
 pub none_waits : (m : Merged) (k : ℕ) → HoldsChains m → slice_index_or m.heads.items k None ≡ None →
     bindable_in m ≡ settled m.externals.entries k (bindable_in m)
-none_waits m k h empty = λ i. record {
-  texts =
-      no_text m.externals.entries k m.text_cells.items m.data_cells.items m.text_links.items m.data_links.items
-      (slice_index_or m.heads.items k None) empty (h.each k) i;
-  datas =
-      no_data m.externals.entries k m.text_cells.items m.data_cells.items m.text_links.items m.data_links.items
-      (slice_index_or m.heads.items k None) empty (h.each k) i;
-  heads = heads_stay (state_at m.externals.entries k) m.heads.items k empty i;
-}
+none_waits m k h empty = search (rules, no_text, no_data, heads_stay)
 
 -- nor for one that is still wanted
 pub none_defined : (m : Merged) (k size : ℕ) → state_at m.externals.entries k ≡ Wanted size →
     bindable_in m ≡ settled m.externals.entries k (bindable_in m)
-none_defined m k size wanted = λ i. record {
-  texts = unsettled m.externals.entries k size wanted m.text_cells.items i;
-  datas = unsettled m.externals.entries k size wanted m.data_cells.items i;
-  heads = ap (λ (s : State). cut_by_state s k m.heads.items) (sym wanted) i;
-}
+none_defined m k size wanted = search (rules, unsettled)
 
 -- One external after another.
 
@@ -229,27 +189,19 @@ module _ (old mid new : Merged) (marks mid_marks new_marks : List Mark) (r : Kee
   -- the marks of one external and of those after it, in turn, undo all that was bound
   pub back_then : HoldsChains old → HoldsChains mid → LeavesMarksIn old mid marks mid_marks →
       LeavesMarksIn mid new mid_marks new_marks → LeavesMarksIn old new marks new_marks
-  back_then h g a b =
-      leaves_then old.text_cells.items old.data_cells.items mid.text_cells.items mid.data_cells.items new.text_cells.items
-      new.data_cells.items old.heads.items mid.heads.items new.heads.items marks mid_marks new_marks
-      (texts_bound old old h refl mid g r.threads) (datas_bound old old h refl mid g r.threads) a b
+  back_then h g a b = search (rules, leaves_then, texts_bound)
 
   -- and are one for each cell that became bound
   pub few_then : NotesBound old.externals.entries old.text_cells.items old.data_cells.items mid.text_cells.items
       mid.data_cells.items marks mid_marks → NotesBound mid.externals.entries mid.text_cells.items mid.data_cells.items
       new.text_cells.items new.data_cells.items mid_marks new_marks → NotesBound old.externals.entries
       old.text_cells.items old.data_cells.items new.text_cells.items new.data_cells.items marks new_marks
-  few_then a b =
-      noted_then old.externals.entries old.text_cells.items old.data_cells.items mid.text_cells.items mid.data_cells.items
-      new.text_cells.items new.data_cells.items marks mid_marks new_marks a
-      (subst (λ (es : Named). NotesBound es mid.text_cells.items mid.data_cells.items new.text_cells.items
-      new.data_cells.items mid_marks new_marks) names_same b)
+  few_then a b = search rules
 
   -- binding the first external, and then the others, is what the definition makes of all
   pub settled_then : (k : ℕ) (ks : List ℕ) → IsSettled (k ∷ []) mid new →
       settled_all old.externals.entries (k ∷ ks) (bindable_in mid) ≡ settled_all old.externals.entries ks (bindable_in new)
-  settled_then k ks one =
-      ap (settled_all old.externals.entries ks) (sym (one ∙ ap (λ (es : Named). settled es k (bindable_in mid)) names_same))
+  settled_then k ks one = search rules
 
 -- Several externals, list by list.
 

@@ -1,10 +1,10 @@
 -- The marks of a chain bring its cells back.
-use Rattle.std.proofs.Common.{◌≡◌, ◌<◌, ◌⊎◌, inl, inr, ℕ, zero, suc, Bool, true, false, cond, ◌||◌, List, [], ◌∷◌, ◌++◌, length, Option}
-use Rattle.std.proofs.Common.{Some, slice_index_or, refl, sym, ap, ◌∙◌, subst, arith}
+use Rattle.std.proofs.Common.{◌≡◌, ◌<◌, ◌⊎◌, inl, inr, ℕ, zero, suc, Bool, true, false, ◌||◌, List, [], ◌∷◌, ◌++◌, length}
+use Rattle.std.proofs.Common.{Some, slice_index_or, refl, sym, ap, ◌∙◌, subst, arith, rules}
 use Rattle.std.proofs.lemmas.Bool.{cases_eq}
 use Rattle.std.specs.{Prelude.slice_get, List.AllByRecursion}
 use Rattle.aout_core.specs.declared.symbol.Segment.{Segment}
-use Rattle.link_session.specs.internal.Chains.{Link, is_on, IsWithin, bound_to, bound_where, nowhere, marks_of, heads_back}
+use Rattle.link_session.specs.internal.Chains.{Link, is_on, IsWithin, bound_where, nowhere, marks_of, heads_back}
 use Rattle.link_session.specs.{declared.cell.Cell.Cell, declared.mark.Mark.Mark, declared.mark.Mark.TheVariants.CellWas}
 use Rattle.link_session.specs.{declared.mark.Mark.TheVariants.StateWas, declared.mark.Place.Place, declared.mark.Place.TheVariants.InText}
 use Rattle.link_session.specs.{declared.mark.Place.TheVariants.InData, Image.Image, Undo.put_all_back, Undo.IsInside}
@@ -14,8 +14,7 @@ use Rattle.link_session.proofs.ChainLemmas.{length-bound_where, other_number}
 get_unbound : (test : ℕ → Bool) (segment : Segment) (offset : ℕ) (cs : List Cell) (i : ℕ) → test i ≡ false →
     slice_get (bound_where test segment offset cs) i ≡ slice_get cs i
 get_unbound test segment offset [] i h = refl
-get_unbound test segment offset (c ∷ cs) zero h =
-    ap (λ (t : Bool). let o : Option Cell = Some (cond t (bound_to segment offset c) c) in o) h
+get_unbound test segment offset (c ∷ cs) zero h = search rules
 get_unbound test segment offset (c ∷ cs) (suc i) h = get_unbound (λ n. test (suc n)) segment offset cs i h
 
 get_inside : (cs : List Cell) (i : ℕ) → i < length cs → slice_get cs i ≡ Some (slice_index_or cs i nowhere)
@@ -39,12 +38,7 @@ module _ (texts datas : List Cell) where
 
   text_marked : (ps : List Place) (i : ℕ) → is_on ps (InText i) ≡ true → IsMarked i (text_writes (marks_of texts datas ps))
   text_marked [] i e = absurd (cc)
-  text_marked (InText j ∷ ps) i e = by_order (cases_eq i j) (text_marked ps i)
-    where
-      by_order : (i ≡ j) ⊎ (i ≡ j → ⊥) → (is_on ps (InText i) ≡ true → IsMarked i (text_writes (marks_of texts datas ps))) →
-          (j ≡ i) ⊎ IsMarked i (text_writes (marks_of texts datas ps))
-      by_order (inl same) rest = inl (sym same)
-      by_order (inr ne) rest = inr (rest (ap (λ (t : Bool). t || is_on ps (InText i)) (sym (other_number i j ne)) ∙ e))
+  text_marked (InText j ∷ ps) i e = search (rules, cases_eq, text_writes, other_number, text_marked ps i)
   text_marked (InData j ∷ ps) i e = text_marked ps i e
 
   data_marked : (ps : List Place) (i : ℕ) → is_on ps (InData i) ≡ true → IsMarked i (data_writes (marks_of texts datas ps))
@@ -63,14 +57,8 @@ module _ (texts datas : List Cell) where
     data_cells = put_back_all (data_writes (marks_of texts datas ps)) m.data_cells;
   })
   only_cells [] m = refl
-  only_cells (InText i ∷ ps) m = ap (put_cell i) (only_cells ps m)
-    where
-      put_cell : ℕ → Image → Image
-      put_cell i n = put_all_back (CellWas (InText i) (slice_index_or texts i nowhere) ∷ []) n
-  only_cells (InData i ∷ ps) m = ap (put_cell i) (only_cells ps m)
-    where
-      put_cell : ℕ → Image → Image
-      put_cell i n = put_all_back (CellWas (InData i) (slice_index_or datas i nowhere) ∷ []) n
+  only_cells (InText i ∷ ps) m = cc (only_cells ps m)
+  only_cells (InData i ∷ ps) m = cc (only_cells ps m)
 
   module _ (segment : Segment) (offset : ℕ) (ps : List Place) (h : Inside ps) where
     text_back : put_back_all (text_writes (marks_of texts datas ps)) (bound_where (λ i. is_on ps (InText i)) segment offset texts) ≡ texts

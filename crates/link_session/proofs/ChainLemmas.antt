@@ -1,6 +1,7 @@
 -- Chains as lists of places.
-use Rattle.std.proofs.Common.{◌≡◌, ◌≢◌, ◌<◌, ◌≤◌, ◌+◌, ◌⊎◌, inl, inr, ℕ, zero, suc, Bool, true, false, cond, ◌||◌, List, [], ◌∷◌, ◌++◌, map}
-use Rattle.std.proofs.Common.{length, Some, None, nat_eq, slice_index_or, slice_set, eqb, refl, sym, ap, ◌∙◌, subst, arith}
+use Rattle.std.proofs.lemmas.Grind.{common_steps}
+use Rattle.std.proofs.Common.{◌≡◌, ◌≢◌, ◌<◌, ◌≤◌, ◌+◌, ℕ, zero, suc, Bool, true, false, cond, ◌||◌, List, [], ◌∷◌, ◌++◌, map}
+use Rattle.std.proofs.Common.{length, Some, None, nat_eq, slice_index_or, slice_set, eqb, refl, sym, ap, ◌∙◌, subst, arith, rules}
 use Rattle.std.proofs.{lemmas.List.length-map, lemmas.Bool.cases_eq, lemmas.Bool.or_parts, lemmas.Bool.Decides.nat_tests}
 use Rattle.std.proofs.{lemmas.Map.Keys.IsDistinct-cons, lemmas.Map.Steps.length-le_from_distinct_below}
 use Rattle.std.specs.List.{IsDistinct, list_any, AllByRecursion}
@@ -26,18 +27,14 @@ pub bound_at : (segment : Segment) (offset i : ℕ) (target : Target) (cs : List
       target = target;
       pc = (slice_index_or cs i nowhere).pc;
     }) ≡ bound_one segment offset i cs
-bound_at segment offset i target cs h t =
-    (λ k. slice_set cs i
-    (record { value = plus (slice_index_or cs i nowhere).value offset; target = t k; pc = (slice_index_or cs i nowhere).pc }))
-    ∙ bound_one-set segment offset i cs nowhere h
+bound_at segment offset i target cs h t = cc (bound_one-set segment offset i cs nowhere h)
 
 -- one more cell is bound
 pub bound_where-one : (segment : Segment) (offset : ℕ) (f g : ℕ → Bool) (i : ℕ) → f i ≡ false → g i ≡ true →
     ((j : ℕ) → i ≢ j → f j ≡ g j) → (cs : List Cell) →
     bound_one segment offset i (bound_where f segment offset cs) ≡ bound_where g segment offset cs
 bound_where-one segment offset f g i off on others [] = refl
-bound_where-one segment offset f g zero off on others (c ∷ cs) =
-    rw (off, on) (λ k. bound_to segment offset c ∷ bound_where (λ n. others (suc n) (λ e. omega arith) k) segment offset cs)
+bound_where-one segment offset f g zero off on others (c ∷ cs) = search rules
 bound_where-one segment offset f g (suc i) off on others (c ∷ cs) =
     λ k. cond (others 0 (λ e. omega arith) k) (bound_to segment offset c) c ∷ bound_where-one segment offset
     (λ n. f (suc n)) (λ n. g (suc n)) i off on (λ j ne. others (suc j) (λ e. ne (omega arith))) cs k
@@ -57,11 +54,7 @@ length-bound_where test segment offset (c ∷ cs) = ap suc (length-bound_where (
 pub index_where : (test : ℕ → Bool) (segment : Segment) (offset : ℕ) (cs : List Cell) (i : ℕ) → (test i ≡ true → i < length cs) →
     slice_index_or (bound_where test segment offset cs) i nowhere
     ≡ cond (test i) (bound_to segment offset (slice_index_or cs i nowhere)) (slice_index_or cs i nowhere)
-index_where test segment offset [] i h = by_test (test i) refl
-  where
-    by_test : (t : Bool) → test i ≡ t → nowhere ≡ cond t (bound_to segment offset nowhere) nowhere
-    by_test true e = let below = h e in absurd (omega arith)
-    by_test false e = refl
+index_where test segment offset [] i h = search rules
 index_where test segment offset (c ∷ cs) zero h = refl
 index_where test segment offset (c ∷ cs) (suc i) h =
     index_where (λ n. test (suc n)) segment offset cs i (λ e. let below = h e in omega arith)
@@ -70,17 +63,8 @@ index_where test segment offset (c ∷ cs) (suc i) h =
 
 -- a place that is added at the end of a list is on it, and no other comes
 pub on_last : (ps : List Place) (p q : Place) → is_on (ps ++ q ∷ []) p ≡ (is_on ps p || same_place p q)
-on_last [] p q = by_test (same_place p q)
-  where
-    by_test : (t : Bool) → (t || false) ≡ t
-    by_test true = refl
-    by_test false = refl
-on_last (x ∷ ps) p q = by_test (same_place p x) (on_last ps p q)
-  where
-    by_test : (t : Bool) → is_on (ps ++ q ∷ []) p ≡ (is_on ps p || same_place p q) →
-        (t || is_on (ps ++ q ∷ []) p) ≡ ((t || is_on ps p) || same_place p q)
-    by_test true h = refl
-    by_test false h = h
+on_last [] p q = search rules
+on_last (x ∷ ps) p q = search (rules, on_last ps p q)
 
 -- these two compute tests of numbers: of a number with itself
 pub own_number : (i : ℕ) → nat_eq i i ≡ true
@@ -92,70 +76,38 @@ other_number i j ne = grind (arith, nat_tests)
 
 -- these two compute a test of two parts: if the second part fails
 pub or_false : (t : Bool) → (t || false) ≡ t
-or_false true = refl
-or_false false = refl
+or_false t = search rules
 
 -- and if it holds
 pub or_true : (t : Bool) → (t || true) ≡ true
-or_true true = refl
-or_true false = refl
+or_true t = search rules
 
 same_sym : (p q : Place) → same_place p q ≡ same_place q p
-same_sym (InText i) (InText j) = by_order (cases_eq i j)
-  where
-    by_order : (i ≡ j) ⊎ (i ≡ j → ⊥) → nat_eq i j ≡ nat_eq j i
-    by_order (inl e) = rw e refl
-    by_order (inr ne) = other_number i j ne ∙ sym (other_number j i (λ e. ne (sym e)))
-same_sym (InData i) (InData j) = by_order (cases_eq i j)
-  where
-    by_order : (i ≡ j) ⊎ (i ≡ j → ⊥) → nat_eq i j ≡ nat_eq j i
-    by_order (inl e) = rw e refl
-    by_order (inr ne) = other_number i j ne ∙ sym (other_number j i (λ e. ne (sym e)))
-same_sym (InText i) (InData j) = refl
-same_sym (InData i) (InText j) = refl
+same_sym p q = search rules
 
 -- the test of two places decides whether they are equal
 pub same_is : (p q : Place) → same_place p q ≡ true → p ≡ q
-same_is (InText i) (InText j) e = let same : i ≡ j = grind (arith, nat_tests) in ap (λ (n : ℕ). InText n) same
-same_is (InData i) (InData j) e = let same : i ≡ j = grind (arith, nat_tests) in ap (λ (n : ℕ). InData n) same
-same_is (InText i) (InData j) e = absurd (cc)
-same_is (InData i) (InText j) e = absurd (cc)
+same_is p q e = search rules
 
 -- two parts of a chain
 pub on_either : (ps qs : List Place) (p : Place) → is_on (ps ++ qs) p ≡ (is_on ps p || is_on qs p)
 on_either [] qs p = refl
-on_either (x ∷ ps) qs p = by_test (same_place p x) (on_either ps qs p)
-  where
-    by_test : (t : Bool) → is_on (ps ++ qs) p ≡ (is_on ps p || is_on qs p) → (t || is_on (ps ++ qs) p) ≡ ((t || is_on ps p) || is_on qs p)
-    by_test true h = refl
-    by_test false h = h
+on_either (x ∷ ps) qs p = search (rules, on_either ps qs p)
 
 -- if the places of a list differ, so do those of each part
 pub apart_parts : (ps qs : List Place) → AreApart (ps ++ qs) → AreApart ps × AreApart qs
 apart_parts [] qs h = (tt, h)
-apart_parts (p ∷ ps) qs h =
-    let both = apart_parts ps qs h.1 in
-    (((or_parts (is_on ps p) (is_on qs p) (sym (on_either ps qs p) ∙ h.0)).0, both.0), both.1)
+apart_parts (p ∷ ps) qs h = search (rules, or_parts, on_either, apart_parts ps qs h.1)
 
 -- and no place is in both parts
 pub apart_from : (ps qs : List Place) → AreApart (ps ++ qs) → (p : Place) → is_on ps p ≡ true → is_on qs p ≡ false
 apart_from [] qs h p e = absurd (cc)
-apart_from (q ∷ ps) qs h p e = by_test (same_place p q) refl e (apart_from ps qs h.1 p)
-  where
-    by_test : (t : Bool) → same_place p q ≡ t → (t || is_on ps p) ≡ true → (is_on ps p ≡ true → is_on qs p ≡ false) → is_on qs p ≡ false
-    by_test true s x rest = ap (is_on qs) (same_is p q s) ∙ (or_parts (is_on ps q) (is_on qs q) (sym (on_either ps qs q) ∙ h.0)).1
-    by_test false s x rest = rest x
+apart_from (q ∷ ps) qs h p e = search (rules, same_is, or_parts, on_either, apart_from ps qs h.1 p)
 
 -- the place after a prefix of a chain is not in that prefix
 pub not_after : (done rest : List Place) (p : Place) → AreApart (done ++ p ∷ rest) → is_on done p ≡ false
 not_after [] rest p h = refl
-not_after (q ∷ done) rest p h =
-    let here : same_place q p ≡ false = on_middle done h.0 in
-    rw (same_sym p q ∙ here) (not_after done rest p h.1)
-  where
-    on_middle : (ps : List Place) → is_on (ps ++ p ∷ rest) q ≡ false → same_place q p ≡ false
-    on_middle [] e = (or_parts (same_place q p) (is_on rest q) e).0
-    on_middle (x ∷ ps) e = on_middle ps (or_parts (same_place q x) (is_on (ps ++ p ∷ rest) q) e).1
+not_after (q ∷ done) rest p h = grind (arith, common_steps, same_sym, or_parts, not_after done rest p h.1)
 
 -- At most as many places as there are cells.
 
@@ -164,14 +116,7 @@ number t (InText i) = i
 number t (InData j) = t + j
 
 numbers_apart : (t d : ℕ) (p q : Place) → IsWithin t d p → IsWithin t d q → same_place p q ≡ false → eqb (number t p) (number t q) ≡ false
-numbers_apart t d (InText i) (InText j) h k e = e
-numbers_apart t d (InText i) (InData j) h k e = other_number i (t + j) (λ same. omega arith)
-numbers_apart t d (InData i) (InText j) h k e = other_number (t + i) j (λ same. omega arith)
-numbers_apart t d (InData i) (InData j) h k e = by_order (cases_eq i j)
-  where
-    by_order : (i ≡ j) ⊎ (i ≡ j → ⊥) → nat_eq (t + i) (t + j) ≡ false
-    by_order (inl same) = absurd (let yes : nat_eq i j ≡ true = rw same (own_number j) in cc)
-    by_order (inr ne) = other_number (t + i) (t + j) (λ same. ne (omega arith))
+numbers_apart t d p q h k e = search rules
 
 all_apart : (t d : ℕ) (p : Place) → IsWithin t d p → (ps : List Place) → AllByRecursion (IsWithin t d) ps →
     is_on ps p ≡ false → AllByRecursion (λ y. eqb (number t p) y ≡ false) (map (number t) ps)
@@ -185,37 +130,26 @@ distinct t d [] a h = tt
 distinct t d (p ∷ ps) a h = IsDistinct-cons eqb (number t p) (map (number t) ps) (all_apart t d p h.0 ps h.1 a.0) (distinct t d ps a.1 h.1)
 
 number_below : (t d : ℕ) (p : Place) → IsWithin t d p → number t p < t + d
-number_below t d (InText i) h = omega arith
-number_below t d (InData j) h = omega arith
+number_below t d p h = search rules
 
 below : (t d : ℕ) (ps : List Place) → AllByRecursion (IsWithin t d) ps → (q : ℕ) → list_any (eqb q) (map (number t) ps) ≡ true → q < t + d
 below t d [] h q e = absurd (cc)
-below t d (p ∷ ps) h q e = by_order (cases_eq q (number t p)) (below t d ps h.1 q)
-  where
-    by_order : (q ≡ number t p) ⊎ (q ≡ number t p → ⊥) → (list_any (eqb q) (map (number t) ps) ≡ true → q < t + d) → q < t + d
-    by_order (inl same) rest = let b = number_below t d p h.0 in omega arith
-    by_order (inr ne) rest = rest (let other : eqb q (number t p) ≡ false = other_number q (number t p) ne in rw other at e)
+below t d (p ∷ ps) h q e = search (rules, cases_eq, number_below, other_number, below t d ps h.1 q)
 
 -- places that differ are no more than the words of the image: so each walk along a chain ends
 pub few_places : (t d : ℕ) (ps : List Place) → AreApart ps → AllByRecursion (IsWithin t d) ps → length ps ≤ t + d
-few_places t d ps a h =
-    let few = length-le_from_distinct_below (map (number t) ps) (t + d) (distinct t d ps a h) (below t d ps h) in
-    omega (arith, few, length-map ps (number t))
+few_places t d ps a h = omega (
+  arith,
+  length-le_from_distinct_below (map (number t) ps) (t + d) (distinct t d ps a h) (below t d ps h),
+  distinct t d ps a h,
+  below t d ps h,
+  length-map ps (number t),
+)
 
 -- a place on a list of places inside the cells is inside
 pub on_inside : (t d : ℕ) (ps : List Place) (p : Place) → AllByRecursion (IsWithin t d) ps → is_on ps p ≡ true → IsWithin t d p
 on_inside t d [] p h e = absurd (cc)
-on_inside t d (q ∷ ps) p h e = by_test (same_place p q) refl e (on_inside t d ps p h.1)
-  where
-    by_place : (p q : Place) → same_place p q ≡ true → IsWithin t d q → IsWithin t d p
-    by_place (InText i) (InText j) s k = let same : i ≡ j = grind (arith, nat_tests) in omega arith
-    by_place (InData i) (InData j) s k = let same : i ≡ j = grind (arith, nat_tests) in omega arith
-    by_place (InText i) (InData j) s k = absurd (cc)
-    by_place (InData i) (InText j) s k = absurd (cc)
-
-    by_test : (u : Bool) → same_place p q ≡ u → (u || is_on ps p) ≡ true → (is_on ps p ≡ true → IsWithin t d p) → IsWithin t d p
-    by_test true s x rest = by_place p q s h.0
-    by_test false s x rest = rest x
+on_inside t d (q ∷ ps) p h e = search (rules, nat_tests, on_inside t d ps p h.1)
 
 -- Walks.
 
@@ -235,8 +169,7 @@ pub walk-is : (n : ℕ) (ts ds : List Link) (next : Link) (rest : List Place) �
 walk-is zero ts ds next [] c h = refl
 walk-is zero ts ds next (p ∷ ps) c h = absurd (omega arith)
 walk-is (suc n) ts ds next [] c h = ap (walk (suc n) ts ds) c
-walk-is (suc n) ts ds next (p ∷ ps) c h =
-    ap (walk (suc n) ts ds) c.0 ∙ ap (λ (l : List Place). p ∷ l) (walk-is n ts ds (link_at ts ds p) ps c.1 (omega arith))
+walk-is (suc n) ts ds next (p ∷ ps) c h = cc (walk-is n ts ds (link_at ts ds p) ps c.1 (omega arith))
 
 -- the first place of what is ahead
 pub record Ahead (ts ds : List Link) (rest : List Place) (p : Place) : Type 0 where
@@ -248,13 +181,7 @@ pub record Ahead (ts ds : List Link) (rest : List Place) (p : Place) : Type 0 wh
 pub next_ahead : (ts ds : List Link) (next : Link) (rest : List Place) (p : Place) → IsChain ts ds next rest →
     next ≡ Some p → Ahead ts ds rest p
 next_ahead ts ds next [] p c e = absurd (let bad = sym c ∙ e in cc)
-next_ahead ts ds next (q ∷ rest) p c e =
-    let same : q ≡ p = (let b = sym c.0 ∙ e in cc) in
-    record {
-      tail = rest;
-      is = ap (λ (r : Place). r ∷ rest) same;
-      goes_on = subst (λ (r : Place). IsChain ts ds (link_at ts ds r) rest) same c.1;
-    }
+next_ahead ts ds next (q ∷ rest) p c e = search rules
 
 -- without a next place, nothing of the chain is left
 pub none_ahead : (ts ds : List Link) (next : Link) (rest : List Place) → IsChain ts ds next rest → next ≡ None → rest ≡ []

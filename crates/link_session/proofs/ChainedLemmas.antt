@@ -1,6 +1,6 @@
 -- All chains of an image: while a name is bound, while names are added, and while the cells of an object are put last.
-use Rattle.std.proofs.Common.{◌≡◌, ◌≢◌, ◌<◌, ◌+◌, ◌||◌, ◌⊎◌, inl, inr, ℕ, zero, suc, Bool, true, false, cond, List, [], ◌∷◌, ◌++◌, map}
-use Rattle.std.proofs.Common.{length, Some, None, nat_eq, slice_index_or, slice_set, refl, sym, ap, ◌∙◌, subst, arith, length-append}
+use Rattle.std.proofs.Common.{◌≡◌, ◌≢◌, ◌<◌, ◌+◌, ◌||◌, ◌⊎◌, ℕ, zero, suc, Bool, true, false, List, [], ◌∷◌, ◌++◌, map}
+use Rattle.std.proofs.Common.{length, Some, None, slice_index_or, slice_set, refl, sym, ap, ◌∙◌, subst, arith, length-append, rules}
 use Rattle.std.proofs.Common.{append_assoc, append-nil}
 use Rattle.std.proofs.lemmas.Bool.{cases_eq}
 use Rattle.std.specs.{Prelude.⊤, List.AllByRecursion}
@@ -9,18 +9,13 @@ use Rattle.link_session.specs.internal.Chains.{Link, IsChain, is_on, AreApart, I
 use Rattle.link_session.specs.internal.Chains.{waits_at, FindsWaiting, Waits, head_for, with_head, threaded, AreChained}
 use Rattle.link_session.specs.{declared.cell.Cell.Cell, declared.cell.Target.Target, declared.state.State.TheVariants.Defined}
 use Rattle.link_session.specs.{declared.mark.Mark.Mark, declared.mark.Place.Place, declared.mark.Place.TheVariants.InText}
-use Rattle.link_session.specs.{declared.mark.Place.TheVariants.InData, Image.Named, Image.state_at, internal.Additions.bound_by}
-use Rattle.link_session.specs.{internal.Additions.bound_or, internal.Settled.settled_at}
-use Rattle.link_session.proofs.ChainLemmas.{length-bound_where, on_either, apart_parts, apart_from, own_number, chain-unique, none_ahead}
+use Rattle.link_session.specs.{declared.mark.Place.TheVariants.InData, Image.Named, Image.state_at}
+use Rattle.link_session.specs.{internal.Settled.settled_at}
+use Rattle.link_session.proofs.ChainLemmas.{length-bound_where, on_either, apart_parts, apart_from, chain-unique, none_ahead}
 use Rattle.link_session.proofs.WaitLemmas.{bound_on_chain, rest_finds, other_finds}
 use Rattle.link_session.proofs.PushLemmas.{push_text, pass_text, push_data, pass_data}
 use Rattle.link_session.proofs.{ListLemmas.all_split, CountLemmas.waits_is}
 use Rattle.link_session.specs.declared.cell.Target.TheVariants as targets
-
-index_set_same : {A : Type 0} (xs : List A) (k : ℕ) (x d : A) → k < length xs → slice_index_or (slice_set xs k x) k d ≡ x
-index_set_same [] k x d h = absurd (omega arith)
-index_set_same (y ∷ xs) zero x d h = refl
-index_set_same (y ∷ xs) (suc k) x d h = index_set_same xs k x d (omega arith)
 
 -- the same also where there is no head, if there is nothing to put then
 index_set_link : (heads : List Link) (k : ℕ) (link : Link) → (slice_index_or heads k None ≡ None → link ≡ None) →
@@ -30,11 +25,7 @@ index_set_link (y ∷ heads) zero link h = refl
 index_set_link (y ∷ heads) (suc k) link h = index_set_link heads k link h
 
 index_set_other : {A : Type 0} (xs : List A) (k j : ℕ) (x d : A) → k ≢ j → slice_index_or (slice_set xs k x) j d ≡ slice_index_or xs j d
-index_set_other [] k j x d ne = refl
-index_set_other (y ∷ xs) zero zero x d ne = absurd (ne refl)
-index_set_other (y ∷ xs) zero (suc j) x d ne = refl
-index_set_other (y ∷ xs) (suc k) zero x d ne = refl
-index_set_other (y ∷ xs) (suc k) (suc j) x d ne = index_set_other xs k j x d (λ e. ne (ap suc e))
+index_set_other xs k j x d ne = search rules
 
 index_more : {A : Type 0} (xs : List A) (k : ℕ) (d : A) → slice_index_or (xs ++ d ∷ []) k d ≡ slice_index_or xs k d
 index_more [] zero d = refl
@@ -68,10 +59,7 @@ module _ (texts datas : List Cell) (ts ds heads : List Link) (a : AreChained tex
 
     inside_still : (ps : List Place) → AllByRecursion (IsWithin (length texts) (length datas)) ps →
         AllByRecursion (IsWithin (length bound_texts) (length bound_datas)) ps
-    inside_still ps h =
-        subst (λ (P : Type 0). P)
-        (λ i. AllByRecursion (IsWithin (sym (length-bound_where (λ j. is_on w.done (InText j)) segment offset texts) i)
-        (sym (length-bound_where (λ j. is_on w.done (InData j)) segment offset datas) i)) ps) h
+    inside_still ps h = search (rules, length-bound_where)
 
     on_all : (p : Place) → is_on w.done p ≡ true → is_on (w.done ++ w.rest) p ≡ true
     on_all p e = on_either w.done w.rest p ∙ ap (λ (t : Bool). t || is_on w.rest p) e
@@ -112,24 +100,13 @@ module _ (texts datas : List Cell) (ts ds heads : List Link) (a : AreChained tex
     }
 
     head_set : slice_index_or (slice_set heads k next) k None ≡ next
-    head_set = index_set_link heads k next (λ e.
-        let none : w.done ++ w.rest ≡ [] = none_ahead ts ds (slice_index_or heads k None) (w.done ++ w.rest) w.visits e in
-        subst (IsChain ts ds next) (nothing_after w.done w.rest none) w.ahead)
+    head_set = search (rules, index_set_link, none_ahead, nothing_after)
 
     by_order : (j : ℕ) → (k ≡ j) ⊎ (k ≡ j → ⊥) → Waits ts ds (slice_index_or (slice_set heads k next) j None) bound_texts bound_datas j
-    by_order j (inl same) =
-        subst (λ (n : ℕ). Waits ts ds (slice_index_or (slice_set heads k next) n None) bound_texts bound_datas n) same
-        (subst (λ (l : Link). Waits ts ds l bound_texts bound_datas k) (sym head_set) own_chain)
-    by_order j (inr ne) =
-        subst (λ (l : Link). Waits ts ds l bound_texts bound_datas j) (sym (index_set_other heads k j next None ne))
-        (other_chain j ne)
+    by_order j h = search (rules, head_set, own_chain, index_set_other, other_chain)
 
     bound_chained : AreChained bound_texts bound_datas ts ds (slice_set heads k next)
-    bound_chained = record {
-      text = a.text ∙ sym (length-bound_where (λ j. is_on w.done (InText j)) segment offset texts);
-      «data» = a.data ∙ sym (length-bound_where (λ j. is_on w.done (InData j)) segment offset datas);
-      each = λ j. by_order j (cases_eq k j);
-    }
+    bound_chained = search (rules, length-bound_where, by_order, cases_eq)
 
     -- while a chain is bound, its head may be set to the next place at any time, and all chains are right
     pub cut_to : AreChained new_texts new_datas ts ds (slice_set heads k next)
@@ -160,19 +137,11 @@ module _ (texts datas : List Cell) (ts ds heads : List Link) (a : AreChained tex
   -- the same by the state of the name
   pub cut_named : (es : Named) (k : ℕ) (segment : Segment) (offset : ℕ) → state_at es k ≡ Defined segment offset →
       AreChained (map (settled_at es k) texts) (map (settled_at es k) datas) ts ds (slice_set heads k None)
-  cut_named es k segment offset at =
-      subst (λ (P : Type 0). P)
-      (λ i. AreChained (map (λ (c : Cell). cond (waits_at k c.target) (bound_or (bound_by (sym at i) c) c) c) texts)
-      (map (λ (c : Cell). cond (waits_at k c.target) (bound_or (bound_by (sym at i) c) c) c) datas) ts ds (slice_set heads k None))
-      (cut_one k segment offset)
+  cut_named es k segment offset at = grind (arith, cut_one k segment offset)
 
   -- one more name has an empty chain
   pub one_more_head : AreChained texts datas ts ds (heads ++ None ∷ [])
-  one_more_head = record {
-    text = a.text;
-    «data» = a.data;
-    each = λ k. subst (λ (l : Link). Waits ts ds l texts datas k) (sym (index_more heads k None)) (a.each k);
-  }
+  one_more_head = search (rules, index_more)
 
 -- a cell that waits waits for one of so many names
 abbrev pub WaitsBelow : ℕ → Target → Type 0
@@ -181,34 +150,15 @@ WaitsBelow n _ = ⊤
 
 head_there : (heads : List Link) (k : ℕ) (link : Link) (t : Target) → t ≡ targets.External k →
     WaitsBelow (length heads) t → slice_index_or (with_head t link heads) k None ≡ link
-head_there heads k link t e h =
-    let below : k < length heads = subst (WaitsBelow (length heads)) e h in
-    ap (λ (u : Target). slice_index_or (with_head u link heads) k None) e ∙ index_set_same heads k link None below
+head_there heads k link t e h = search rules
 
 head_elsewhere : (heads : List Link) (k : ℕ) (link : Link) (t : Target) → waits_at k t ≡ false →
     slice_index_or (with_head t link heads) k None ≡ slice_index_or heads k None
-head_elsewhere heads k link targets.Absolute e = refl
-head_elsewhere heads k link targets.TextSeg e = refl
-head_elsewhere heads k link targets.DataSeg e = refl
-head_elsewhere heads k link targets.BssSeg e = refl
-head_elsewhere heads k link (targets.External i) e = by_order (cases_eq i k)
-  where
-    by_order : (i ≡ k) ⊎ (i ≡ k → ⊥) → slice_index_or (slice_set heads i link) k None ≡ slice_index_or heads k None
-    by_order (inl same) = absurd (let yes : nat_eq i k ≡ true = rw same (own_number k) in cc)
-    by_order (inr ne) = index_set_other heads i k link None ne
+head_elsewhere heads k link t e = search rules
 
 -- a cell that is put in front of its chain adds no external
 pub length-with_head : (heads : List Link) (t : Target) (link : Link) → length (with_head t link heads) ≡ length heads
-length-with_head heads targets.Absolute link = refl
-length-with_head heads targets.TextSeg link = refl
-length-with_head heads targets.DataSeg link = refl
-length-with_head heads targets.BssSeg link = refl
-length-with_head heads (targets.External i) link = same heads i
-  where
-    same : (hs : List Link) (i : ℕ) → length (slice_set hs i link) ≡ length hs
-    same [] i = refl
-    same (h ∷ hs) zero = refl
-    same (h ∷ hs) (suc i) = ap suc (same hs i)
+length-with_head heads t link = search rules
 
 module _ (texts datas : List Cell) (ts ds heads : List Link) (c : Cell) (a : AreChained texts datas ts ds heads)
     (h : WaitsBelow (length heads) c.target) where
@@ -236,31 +186,14 @@ module _ (texts datas : List Cell) (ts ds heads : List Link) (c : Cell) (a : Are
   -- the same for a cell of data
   pub one_data : AreChained texts (datas ++ c ∷ []) ts (ds ++ head_for c.target heads ∷ [])
       (with_head c.target (Some (InData (length datas))) heads)
-  one_data = record {
-    text = a.text;
-    «data» = (let e = a.data in omega (arith, length-append ds (head_for c.target heads ∷ []), length-append datas (c ∷ [])));
-    each = λ k. by_test k (waits_at k c.target) refl;
-  }
-    where
-      by_test : (k : ℕ) (t : Bool) → waits_at k c.target ≡ t → Waits ts (ds ++ head_for c.target heads ∷ [])
-          (slice_index_or (with_head c.target (Some (InData (length datas))) heads) k None) texts (datas ++ c ∷ []) k
-      by_test k true e =
-          let name = waits_is k c.target e in
-          subst (λ (P : Type 0). P) (λ i. Waits ts (ds ++ sym (ap (λ (t : Target). head_for t heads) name) i ∷ [])
-          (sym (head_there heads k (Some (InData (length datas))) c.target name h) i) texts (datas ++ c ∷ []) k)
-          (push_data ts ds (slice_index_or heads k None) texts datas k c (a.each k) a.data e)
-      by_test k false e =
-          subst (λ (l : Link). Waits ts (ds ++ head_for c.target heads ∷ []) l texts (datas ++ c ∷ []) k)
-          (sym (head_elsewhere heads k (Some (InData (length datas))) c.target e))
-          (pass_data ts ds (slice_index_or heads k None) texts datas k c (a.each k) (head_for c.target heads) a.data e)
+  one_data = search (rules, length-append, waits_is, head_there, push_data, head_elsewhere, pass_data)
 
 -- all cells of text of an object are put last
 pub all_text : (texts datas : List Cell) (ts ds heads : List Link) (cs : List Cell) →
     AreChained texts datas ts ds heads → AllByRecursion (λ c. WaitsBelow (length heads) c.target) cs →
     AreChained (texts ++ cs) datas (ts ++ (threaded (λ i. InText i) (length texts) cs heads).0) ds
     (threaded (λ i. InText i) (length texts) cs heads).1
-all_text texts datas ts ds heads [] a h =
-    subst (λ (P : Type 0). P) (λ i. AreChained (sym (append-nil texts) i) datas (sym (append-nil ts) i) ds heads) a
+all_text texts datas ts ds heads [] a h = search rules
 all_text texts datas ts ds heads (c ∷ cs) a h =
     let p : Place = InText (length texts) in
     let links : List Link → List Link = λ l. l in
@@ -280,8 +213,7 @@ pub all_data : (texts datas : List Cell) (ts ds heads : List Link) (cs : List Ce
     AreChained texts datas ts ds heads → AllByRecursion (λ c. WaitsBelow (length heads) c.target) cs →
     AreChained texts (datas ++ cs) ts (ds ++ (threaded (λ i. InData i) (length datas) cs heads).0)
     (threaded (λ i. InData i) (length datas) cs heads).1
-all_data texts datas ts ds heads [] a h =
-    subst (λ (P : Type 0). P) (λ i. AreChained texts (sym (append-nil datas) i) ts (sym (append-nil ds) i) heads) a
+all_data texts datas ts ds heads [] a h = search rules
 all_data texts datas ts ds heads (c ∷ cs) a h =
     let p : Place = InData (length datas) in
     let n : length (datas ++ c ∷ []) ≡ length datas + 1 = length-append datas (c ∷ []) in

@@ -1,26 +1,17 @@
 -- A state that mentions change does not come back.
-use Rattle.std.proofs.Common.{◌≡◌, ◌≢◌, ℕ, max, Bool, true, false, cond, List, [], ◌∷◌, ◌++◌, Option, refl, sym, ap, ◌∙◌, arith}
+use Rattle.std.proofs.Common.{◌≡◌, ◌≢◌, ℕ, Bool, true, false, cond, List, [], ◌∷◌, ◌++◌, refl, sym, ap, ◌∙◌, rules}
 use Rattle.std.proofs.Common.{append_assoc, append-nil}
-use Rattle.std.proofs.lemmas.Bool.{eqb-true}
-use Rattle.link_session.specs.{declared.state.State.State, declared.state.State.TheVariants.Defined}
-use Rattle.link_session.specs.{declared.state.State.TheVariants.Wanted, Marks.same_state, Marks.state_changed, Marks.states_changed}
-use Rattle.link_session.specs.{Mentions.Mention, States.Definition, States.state, States.state_by, internal.Updates.updated_state}
-use Rattle.link_session.proofs.{StateLemmas.state-append, DifferenceLemmas.own_state, UpdateLemmas.definition_same}
+use Rattle.link_session.specs.{declared.state.State.State}
+use Rattle.link_session.specs.{Marks.same_state, Marks.state_changed, Marks.states_changed}
+use Rattle.link_session.specs.{Mentions.Mention, States.state, internal.Updates.updated_state}
+use Rattle.link_session.proofs.{StateLemmas.state-append, DifferenceLemmas.own_state}
 
 is_same : (s t : State) → same_state s t ≡ true → t ≡ s
-is_same (Defined segment offset) (Defined again place) e =
-    ap (λ (d : Option Definition). state_by d 0) (sym (definition_same again place (segment, offset) e))
-is_same (Defined segment offset) (Wanted size) e = absurd (cc)
-is_same (Wanted size) (Defined segment offset) e = absurd (cc)
-is_same (Wanted size) (Wanted more) e = let same : size ≡ more = eqb-true size more e in ap (λ (n : ℕ). Wanted n) (sym same)
+is_same s t e = search rules
 
 -- a state that is the same in the end was the same in between
 never_back : (s first later : State) → updated_state (updated_state s first) later ≡ s → updated_state s first ≡ s
-never_back (Defined segment offset) first later e = refl
-never_back (Wanted size) (Defined segment offset) later e = absurd (cc)
-never_back (Wanted size) (Wanted more) (Defined segment offset) e = absurd (cc)
-never_back (Wanted size) (Wanted more) (Wanted last) e =
-    let most : max (max size more) last ≡ size = cc in ap (λ (n : ℕ). Wanted n) (omega arith)
+never_back s first later e = search rules
 
 -- one mention, and those after it
 one_by_one : (earlier : List Mention) (m : Mention) (ms : List Mention) (name : List ℕ) →

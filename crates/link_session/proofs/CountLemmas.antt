@@ -1,17 +1,15 @@
 -- A chain has as many places as cells that wait for its external, and each name that is bound leaves so many fewer cells to bind.
-use Rattle.std.proofs.Common.{◌≡◌, ◌≢◌, ◌<◌, ◌+◌, ◌⊎◌, inl, inr, ℕ, zero, suc, Bool, true, false, cond, ◌||◌, List, [], ◌∷◌, map, length}
-use Rattle.std.proofs.Common.{is_some, refl, sym, ap, ◌∙◌, arith}
-use Rattle.std.proofs.lemmas.Bool.{cases_eq}
+use Rattle.std.proofs.Common.{◌≡◌, ◌≢◌, ◌<◌, ◌+◌, ℕ, zero, suc, Bool, true, false, cond, ◌||◌, List, [], ◌∷◌, map, length}
+use Rattle.std.proofs.Common.{is_some, refl, sym, ap, ◌∙◌, arith, rules}
 use Rattle.std.specs.List.{AllByRecursion}
 use Rattle.aout_core.specs.declared.symbol.Segment.{Segment}
-use Rattle.link_session.specs.internal.Additions.{bound_by, binding_at, binding, bound_or}
-use Rattle.link_session.specs.internal.Chains.{Link, is_on, AreApart, IsWithin, waits_at, FindsWaiting, Waits, bound_to}
-use Rattle.link_session.specs.{declared.cell.Cell.Cell, declared.cell.Target.Target, declared.state.State.State}
+use Rattle.link_session.specs.internal.Additions.{binding_at}
+use Rattle.link_session.specs.internal.Chains.{Link, is_on, AreApart, IsWithin, waits_at, FindsWaiting, Waits}
+use Rattle.link_session.specs.{declared.cell.Cell.Cell, declared.cell.Target.Target}
 use Rattle.link_session.specs.{declared.state.State.TheVariants.Defined, declared.mark.Place.Place, declared.mark.Place.TheVariants.InText}
 use Rattle.link_session.specs.{declared.mark.Place.TheVariants.InData, Cells.segment_target, Image.Named, Image.state_at}
 use Rattle.link_session.specs.{internal.Counts.waiting_for, internal.Counts.to_bind, internal.Settled.settled_at}
 use Rattle.link_session.proofs.ChainLemmas.{own_number, other_number}
-use Rattle.aout_core.specs.declared.symbol.Segment.TheVariants as segments
 use Rattle.link_session.specs.declared.cell.Target.TheVariants as targets
 
 -- how many indices of cells pass the test
@@ -19,14 +17,10 @@ abbrev pub count_where : (ℕ → Bool) → List Cell → ℕ
 count_where test [] = 0
 count_where test (c ∷ cs) = cond (test 0) 1 0 + count_where (λ i. test (suc i)) cs
 
-count_same : (f g : ℕ → Bool) → ((i : ℕ) → f i ≡ g i) → (cs : List Cell) → count_where f cs ≡ count_where g cs
-count_same f g h cs = λ i. count_where (λ n. h n i) cs
-
 count_one : (f g : ℕ → Bool) (i : ℕ) (cs : List Cell) → i < length cs → f i ≡ false → g i ≡ true →
     ((j : ℕ) → i ≢ j → f j ≡ g j) → count_where g cs ≡ 1 + count_where f cs
 count_one f g i [] lt off on others = absurd (omega arith)
-count_one f g zero (c ∷ cs) lt off on others =
-    let rest = count_same (λ n. f (suc n)) (λ n. g (suc n)) (λ n. others (suc n) (λ e. omega arith)) cs in rw (off, on) (omega arith)
+count_one f g zero (c ∷ cs) lt off on others = search rules
 count_one f g (suc i) (c ∷ cs) lt off on others =
     let rest = count_one (λ n. f (suc n)) (λ n. g (suc n)) i cs (omega arith) off on (λ j ne. others (suc j) (λ e. ne (omega arith))) in
     let first = ap (λ (t : Bool). let n : ℕ = cond t 1 0 in n) (others 0 (λ e. omega arith)) in
@@ -68,62 +62,17 @@ waiting_counted test k (c ∷ cs) h =
 -- a chain has as many places as cells that wait
 pub chain_counted : (ts ds : List Link) (head : Link) (texts datas : List Cell) (k : ℕ) →
     (w : Waits ts ds head texts datas k) → length w.places ≡ length (waiting_for k texts) + length (waiting_for k datas)
-chain_counted ts ds head texts datas k w =
-    omega (
-      arith,
-      places_counted w.places texts datas w.apart w.inside,
-      waiting_counted (λ i. is_on w.places (InText i)) k texts w.text,
-      waiting_counted (λ i. is_on w.places (InData i)) k datas w.data,
-    )
+chain_counted ts ds head texts datas k w = search (rules, places_counted, waiting_counted)
 
 segment_stays : (es : Named) (segment : Segment) (c : Cell) → is_some (binding_at es (segment_target segment) c) ≡ false
-segment_stays es segments.Undefined c = refl
-segment_stays es segments.Absolute c = refl
-segment_stays es segments.TextSeg c = refl
-segment_stays es segments.DataSeg c = refl
-segment_stays es segments.BssSeg c = refl
-segment_stays es segments.Other c = refl
+segment_stays es segment c = search rules
 
 -- what the test whether a cell waits decides
 pub waits_is : (k : ℕ) (t : Target) → waits_at k t ≡ true → t ≡ targets.External k
-waits_is k targets.Absolute e = absurd (cc)
-waits_is k targets.TextSeg e = absurd (cc)
-waits_is k targets.DataSeg e = absurd (cc)
-waits_is k targets.BssSeg e = absurd (cc)
-waits_is k (targets.External i) e = by_order (cases_eq i k)
-  where
-    by_order : (i ≡ k) ⊎ (i ≡ k → ⊥) → targets.External i ≡ targets.External k
-    by_order (inl same) = ap (λ (n : ℕ). targets.External n) same
-    by_order (inr other) = absurd (let bad = other_number i k other in cc)
+waits_is k t e = search rules
 
 -- once the chain of a defined name is bound, so many fewer cells are to be bound
 pub fewer_to_bind : (es : Named) (k : ℕ) (segment : Segment) (offset : ℕ) → state_at es k ≡ Defined segment offset → (cs : List Cell) →
     length (to_bind es cs) ≡ length (waiting_for k cs) + length (to_bind es (map (settled_at es k) cs))
 fewer_to_bind es k segment offset at [] = refl
-fewer_to_bind es k segment offset at (c ∷ cs) = by_test (waits_at k c.target) refl (fewer_to_bind es k segment offset at cs)
-  where
-    rest : List Cell
-    rest = map (settled_at es k) cs
-
-    by_test : (t : Bool) → waits_at k c.target ≡ t →
-        length (to_bind es cs) ≡ length (waiting_for k cs) + length (to_bind es (map (settled_at es k) cs)) →
-        length (to_bind es (c ∷ cs)) ≡ length (cond t (c ∷ waiting_for k cs) (waiting_for k cs))
-        + length (to_bind es (cond t (bound_or (bound_by (state_at es k) c) c) c ∷ map (settled_at es k) cs))
-    by_test true e h =
-        let binds : is_some (binding es c) ≡ true = ap (λ (t : Target). is_some (binding_at es t c)) (waits_is k c.target e)
-        ∙ ap (λ (s : State). is_some (bound_by s c)) at in
-        let bound : bound_or (bound_by (state_at es k) c) c ≡ bound_to segment offset c =
-        ap (λ (s : State). bound_or (bound_by s c) c) at in
-        let stays : is_some (binding es (bound_to segment offset c)) ≡ false = segment_stays es segment (bound_to segment offset c) in
-        ap (λ (t : Bool). length (cond t (c ∷ to_bind es cs) (to_bind es cs))) binds
-        ∙ (let sum : suc (length (to_bind es cs))
-        ≡ suc (length (waiting_for k cs)) + length (to_bind es (map (settled_at es k) cs)) = omega arith in sum)
-        ∙ ap (λ (t : Bool). suc (length (waiting_for k cs)) + length (cond t (bound_to segment offset c ∷
-        to_bind es (map (settled_at es k) cs)) (to_bind es (map (settled_at es k) cs)))) (sym stays)
-        ∙ ap (λ (b : Cell). suc (length (waiting_for k cs)) + length (to_bind es (b ∷ map (settled_at es k) cs))) (sym bound)
-    by_test false e h = by_binding (is_some (binding es c))
-      where
-        by_binding : (t : Bool) → length (cond t (c ∷ to_bind es cs) (to_bind es cs)) ≡ length (waiting_for k cs)
-            + length (cond t (c ∷ to_bind es (map (settled_at es k) cs)) (to_bind es (map (settled_at es k) cs)))
-        by_binding true = omega arith
-        by_binding false = h
+fewer_to_bind es k segment offset at (c ∷ cs) = search (rules, waits_is, segment_stays, fewer_to_bind es k segment offset at cs)

@@ -1,44 +1,35 @@
 -- The marks that an addition leaves are the difference that it makes.
-use Rattle.std.proofs.Common.{◌≡◌, ◌≢◌, ◌<◌, ◌+◌, ℕ, zero, suc, max, Bool, true, false, not, ◌||◌, ◌&&◌, cond, List, [], ◌∷◌, ◌++◌, map}
-use Rattle.std.proofs.Common.{length, Some, slice_index_or, nat_lt, refl, sym, ap, ◌∙◌, subst, arith, eq-eqb}
-use Rattle.std.proofs.lemmas.Bool.{eqb-true, ltb-false, ltb-true, lt-ltb, or_parts}
+use Rattle.std.proofs.Common.{◌≡◌, ◌≢◌, ◌<◌, ◌+◌, ℕ, zero, suc, Bool, true, false, not, ◌||◌, ◌&&◌, cond, List, [], ◌∷◌, ◌++◌, map}
+use Rattle.std.proofs.Common.{length, Some, slice_index_or, nat_lt, refl, sym, ap, ◌∙◌, subst, arith, rules}
+use Rattle.std.proofs.lemmas.Bool.{lt-ltb, or_parts}
 use Rattle.std.proofs.{lemmas.List.length-map, lemmas.Slice.Eq.bytes_eq-Decides}
-use Rattle.std.specs.{Prelude.bytes_eq, Prelude.eqb, Prelude.slice_get, List.AllByRecursion}
+use Rattle.std.specs.{Prelude.bytes_eq, Prelude.slice_get, List.AllByRecursion}
 use Rattle.aout_core.specs.Contents.{Contents}
 use Rattle.link_session.specs.Image.{Image, Named, image, named_states}
 use Rattle.link_session.specs.Marks.{HoldCell, IsDifference, cells_marked, states_marked, same_state, state_changed, states_changed}
 use Rattle.link_session.specs.Mentions.{Mention, mentions, mentions_in, names_of, names_by_first_mention, externals, place_of}
 use Rattle.link_session.specs.internal.Additions.{place_in, state_for, with_mention, changes, state_mark, state_marks, settled_cell}
 use Rattle.link_session.specs.internal.Additions.{next_named}
-use Rattle.link_session.specs.internal.Restores.{HoldBound, TakesBack, gets_bound, is_waiting}
+use Rattle.link_session.specs.internal.Restores.{HoldBound, TakesBack}
 use Rattle.link_session.specs.internal.Threads.{next_texts, next_datas}
-use Rattle.link_session.specs.{declared.cell.Cell.Cell, declared.state.State.State, declared.state.State.TheVariants.Defined}
-use Rattle.link_session.specs.{declared.state.State.TheVariants.Wanted, declared.mark.Mark.Mark, declared.mark.Mark.TheVariants.StateWas}
+use Rattle.link_session.specs.{declared.cell.Cell.Cell, declared.state.State.State}
+use Rattle.link_session.specs.{declared.mark.Mark.Mark, declared.mark.Mark.TheVariants.StateWas}
 use Rattle.link_session.specs.{declared.mark.Place.TheVariants.InText, declared.mark.Place.TheVariants.InData, Sessions.IsObject}
 use Rattle.link_session.specs.{States.state, internal.Chains.Link, internal.Chains.nowhere, internal.Updates.updated_state}
 use Rattle.tool_options.specs.NameLists.{is_among, new_names}
 use Rattle.link_session.proofs.MentionLemmas.{names_by_first_mention-append, place_of-append}
 use Rattle.link_session.proofs.MentionedLemmas.{keys-named_states, state_for-named_states, with_mention-named_states}
-use Rattle.link_session.proofs.UpdateLemmas.{own_definition, own_name, state_mention}
+use Rattle.link_session.proofs.UpdateLemmas.{own_name, state_mention}
 use Rattle.link_session.proofs.{AdditionLemmas.joined_image-is, AdditionLemmas.next_mentions-in, ChainLemmas.own_number}
 use Rattle.link_session.proofs.{ChainLemmas.other_number, ListLemmas.get_append, ListLemmas.get_mapped, ListLemmas.index_get}
-use Rattle.link_session.proofs.{MarkedLemmas.none_bound, MarkedLemmas.states_marked-append}
+use Rattle.link_session.proofs.{MarkedLemmas.states_marked-append, UndoLemmas.slice_get-below}
 use Rattle.tool_options.proofs.NameListLemmas.{is_among-append}
 
 -- Cells.
 
 -- a cell that gets bound is a cell that changes
 held : (was is : Cell) (marked : List Cell) → HoldBound was is marked → HoldCell was is marked
-held was is marked h = record { same = unchanged; changed = λ other. by_test (gets_bound was is) refl other }
-  where
-    unchanged : is ≡ was → marked ≡ []
-    unchanged e =
-        h.holds ∙ ap (λ (c : Cell). cond (gets_bound was c) (was ∷ []) []) e
-        ∙ ap (λ (t : Bool). cond t (was ∷ []) []) (none_bound (is_waiting was.target))
-
-    by_test : (t : Bool) → gets_bound was is ≡ t → is ≢ was → marked ≡ was ∷ []
-    by_test true e other = h.holds ∙ ap (λ (t : Bool). cond t (was ∷ []) []) e
-    by_test false e other = absurd (other (h.stays e))
+held was is marked h = search rules
 
 -- a cell, and what an object that settles all cells and appends its own makes of it
 cell_held : (f : Cell → Cell) (cs own new : List Cell) (marked : List Cell) → map f cs ++ own ≡ new →
@@ -56,22 +47,11 @@ cell_held f cs own new marked e i was is there then h =
 
 -- a state is the same as itself, by the test
 pub own_state : (s : State) → same_state s s ≡ true
-own_state (Defined segment offset) = own_definition segment offset
-own_state (Wanted size) = eq-eqb size size refl
+own_state s = search rules
 
 -- a mention changes a state if and only if the state then is another
 changes_is : (was says : State) → changes was says ≡ not (same_state was (updated_state was says))
-changes_is (Defined segment offset) says = ap not (sym (own_definition segment offset))
-changes_is (Wanted size) (Defined segment offset) = refl
-changes_is (Wanted size) (Wanted more) = by_tests (nat_lt size more) refl (eqb size (max size more)) refl
-  where
-    by_tests : (t : Bool) → nat_lt size more ≡ t → (u : Bool) → eqb size (max size more) ≡ u → t ≡ not u
-    by_tests true te true ue = absurd (let lt = ltb-true size more te in let same = eqb-true size (max size more) ue in omega arith)
-    by_tests true te false ue = refl
-    by_tests false te true ue = refl
-    by_tests false te false ue =
-        absurd (let ge = ltb-false size more te in let own = eq-eqb size (max size more) (omega arith) in
-        let bad : true ≡ false = sym own ∙ ue in cc)
+changes_is was says = search rules
 
 -- Names.
 
@@ -90,19 +70,8 @@ one_at_place (n ∷ ns) other name i at e = by_test (bytes_eq other n) refl i at
 
 is_there : (names : List (List ℕ)) (name : List ℕ) (i : ℕ) → slice_get names i ≡ Some name → is_among names name ≡ true
 is_there [] name i at = absurd (cc)
-is_there (n ∷ ns) name zero at =
-    let same : n ≡ name = cc in ap (λ (x : List ℕ). bytes_eq name x || is_among ns name) same
-    ∙ ap (λ (t : Bool). t || is_among ns name) (own_name name)
-is_there (n ∷ ns) name (suc i) at = by_test (bytes_eq name n) (is_there ns name i at)
-  where
-    by_test : (t : Bool) → is_among ns name ≡ true → (t || is_among ns name) ≡ true
-    by_test true e = refl
-    by_test false e = e
-
-below_length : {A : Type 0} (xs : List A) (i : ℕ) (x : A) → slice_get xs i ≡ Some x → i < length xs
-below_length [] i x at = absurd (cc)
-below_length (y ∷ ys) zero x at = omega arith
-below_length (y ∷ ys) (suc i) x at = let rest = below_length ys i x at in omega arith
+is_there (n ∷ ns) name zero at = search rules
+is_there (n ∷ ns) name (suc i) at = search (rules, is_there ns name i at)
 
 -- a new name was not seen
 not_seen : (seen xs : List (List ℕ)) (name : List ℕ) → is_among (new_names seen xs) name ≡ true → is_among seen name ≡ false
@@ -242,5 +211,5 @@ taken_difference forced os o heads marks good b = record {
     kept : (forced : List (List ℕ)) (os : List Contents) (i : ℕ) (name : List ℕ) →
         slice_get (externals forced os) i ≡ Some name → i < length (image forced os).externals
     kept forced os i name there =
-        let below = below_length (externals forced os) i name there in
+        let below = slice_get-below (externals forced os) i name there in
         let same = length-map {B = List ℕ × State} (externals forced os) (λ n. (n, state (mentions forced os) n)) in omega arith

@@ -1,6 +1,6 @@
 -- How many marks there are once chains are bound, and that they are no more than an addition may leave.
 use Rattle.std.proofs.Common.{◌≡◌, ◌≤◌, ◌+◌, ℕ, Bool, cond, List, [], ◌∷◌, ◌++◌, map, length, Option, Some, None, is_some, refl, ap, ◌∙◌}
-use Rattle.std.proofs.Common.{arith, length-append}
+use Rattle.std.proofs.Common.{arith, length-append, rules}
 use Rattle.std.proofs.lemmas.List.{length-map}
 use Rattle.std.specs.{Prelude.filter, List.AllByRecursion}
 use Rattle.aout_core.specs.{declared.symbol.Segment.Segment, Contents.Contents}
@@ -31,18 +31,7 @@ pub defined_noted : (es : Named) (k : ℕ) (segment : Segment) (offset : ℕ) �
     (texts datas new_texts new_datas : List Cell) (old new : List Mark) →
     new_texts ≡ map (settled_at es k) texts → new_datas ≡ map (settled_at es k) datas →
     NotesWaiting k texts datas old new → NotesBound es texts datas new_texts new_datas old new
-defined_noted es k segment offset at texts datas new_texts new_datas old new t d e =
-    let ft = fewer_to_bind es k segment offset at texts in
-    let fd = fewer_to_bind es k segment offset at datas in
-    let nt = ap (λ (cs : List Cell). length (to_bind es cs)) t in
-    let nd = ap (λ (cs : List Cell). length (to_bind es cs)) d in
-    omega (arith, e)
-
--- marks after marks
-pub noted_then : (es : Named) (texts datas mid_texts mid_datas new_texts new_datas : List Cell) (old mid new : List Mark) →
-    NotesBound es texts datas mid_texts mid_datas old mid → NotesBound es mid_texts mid_datas new_texts new_datas mid new →
-    NotesBound es texts datas new_texts new_datas old new
-noted_then es texts datas mid_texts mid_datas new_texts new_datas old mid new a b = omega (arith, a, b)
+defined_noted es k segment offset at texts datas new_texts new_datas old new t d e = search (rules, fewer_to_bind)
 
 -- to be bound are the cells that wait for a name of the object
 to_bind_wait : (ms : List Mention) (os : List Contents) (o : Contents) (cs : List Cell) → AllByRecursion (λ c. WaitsAmong ms c.target) cs →

@@ -1,6 +1,6 @@
 -- The heads of chains while names are bound, while externals are added, and while they are cut to an earlier length.
-use Rattle.std.proofs.Common.{◌≡◌, ◌≤◌, ◌+◌, ◌-◌, ℕ, zero, suc, List, [], ◌∷◌, ◌++◌, map, take, length, replicate, Some, None, slice_set}
-use Rattle.std.proofs.Common.{refl, sym, ap, ◌∙◌, subst, arith, length-append, append-nil, append_assoc}
+use Rattle.std.proofs.Common.{◌≡◌, ◌≤◌, ◌+◌, ◌-◌, ℕ, zero, suc, List, [], ◌∷◌, ◌++◌, map, take, length, replicate, Some, None}
+use Rattle.std.proofs.Common.{refl, sym, ap, ◌∙◌, subst, arith, length-append, append-nil, append_assoc, rules}
 use Rattle.std.proofs.lemmas.List.{length-replicate, take_at}
 use Rattle.link_session.specs.internal.Chains.{Link, with_head, threaded, heads_back, AreChained}
 use Rattle.link_session.specs.internal.Settled.{settled_at, settled_over}
@@ -11,28 +11,20 @@ use Rattle.link_session.specs.{declared.mark.Mark.TheVariants.StateWas, declared
 use Rattle.link_session.proofs.ChainedLemmas.{cut_named, one_more_head, length-with_head}
 use Rattle.link_session.proofs.NamesLemmas.{unsettled, all_one, none_left}
 
-length-slice_set : {A : Type 0} (xs : List A) (k : ℕ) (x : A) → length (slice_set xs k x) ≡ length xs
-length-slice_set [] k x = refl
-length-slice_set (y ∷ ys) zero x = refl
-length-slice_set (y ∷ ys) (suc k) x = ap suc (length-slice_set ys k x)
-
 -- Names that are bound.
 
 length-cut_by_state : (s : State) (k : ℕ) (heads : List Link) → length (cut_by_state s k heads) ≡ length heads
-length-cut_by_state (Defined segment offset) k heads = length-slice_set heads k None
-length-cut_by_state (Wanted size) k heads = refl
+length-cut_by_state s k heads = search rules
 
 -- a head is cut in its place: there is still one for each external
 pub length-cut_heads : (es : Named) (ks : List ℕ) (heads : List Link) → length (cut_heads es ks heads) ≡ length heads
 length-cut_heads es [] heads = refl
-length-cut_heads es (k ∷ ks) heads =
-    length-cut_heads es ks (cut_by_state (state_at es k) k heads) ∙ length-cut_by_state (state_at es k) k heads
+length-cut_heads es (k ∷ ks) heads = cc (length-cut_heads es ks (cut_by_state (state_at es k) k heads), length-cut_by_state (state_at es k) k heads)
 
 -- the chains of several names are bound, and cut
 pub cut_all : (es : Named) (ks : List ℕ) (texts datas : List Cell) (ts ds heads : List Link) → AreChained texts datas ts ds heads →
     AreChained (map (settled_over es ks) texts) (map (settled_over es ks) datas) ts ds (cut_heads es ks heads)
-cut_all es [] texts datas ts ds heads a =
-    subst (λ (P : Type 0). P) (λ i. AreChained (sym (none_left es texts) i) (sym (none_left es datas) i) ts ds heads) a
+cut_all es [] texts datas ts ds heads a = search (rules, none_left)
 cut_all es (k ∷ ks) texts datas ts ds heads a =
     subst (λ (P : Type 0). P) (λ i. AreChained (sym (all_one es k ks texts) i) (sym (all_one es k ks datas) i) ts ds
     (cut_heads es ks (cut_by_state (state_at es k) k heads)))
@@ -51,9 +43,13 @@ cut_all es (k ∷ ks) texts datas ts ds heads a =
 pub more_heads : (n : ℕ) (texts datas : List Cell) (ts ds heads : List Link) → AreChained texts datas ts ds heads →
     AreChained texts datas ts ds (heads ++ replicate n None)
 more_heads zero texts datas ts ds heads a = subst (λ (hs : List Link). AreChained texts datas ts ds hs) (sym (append-nil heads)) a
-more_heads (suc n) texts datas ts ds heads a =
-    subst (λ (hs : List Link). AreChained texts datas ts ds hs) (append_assoc heads (None ∷ []) (replicate n None))
-    (more_heads n texts datas ts ds (heads ++ None ∷ []) (one_more_head texts datas ts ds heads a))
+more_heads (suc n) texts datas ts ds heads a = search (
+  rules,
+  append_assoc,
+  one_more_head,
+  more_heads n texts datas ts ds (heads ++ None ∷ [])
+      (one_more_head texts datas ts ds heads a),
+)
 
 -- the same, if there are enough heads already
 pub grown_chained : (n : ℕ) (texts datas : List Cell) (ts ds heads : List Link) → AreChained texts datas ts ds heads →
@@ -62,9 +58,7 @@ grown_chained n texts datas ts ds heads a = more_heads (n - length heads) texts 
 
 -- after growing there is a head for each external
 pub length-grown_heads : (n : ℕ) (heads : List Link) → length heads ≤ n → length (grown_heads n heads) ≡ n
-length-grown_heads n heads h =
-    let none : Link = None in
-    omega (arith, length-append heads (replicate (n - length heads) none), length-replicate (n - length heads) none)
+length-grown_heads n heads h = search (rules, length-append, length-replicate)
 
 -- externals without heads before
 pub grown_none : (n : ℕ) → grown_heads n [] ≡ replicate n None
@@ -79,8 +73,7 @@ cut_grown n k heads e = take_at heads (replicate (n - length heads) None) k e
 -- cells that are put in front of their chains add no head
 pub length-threaded_heads : (at : ℕ → Place) (n : ℕ) (cs : List Cell) (heads : List Link) → length (threaded at n cs heads).1 ≡ length heads
 length-threaded_heads at n [] heads = refl
-length-threaded_heads at n (c ∷ cs) heads =
-    length-threaded_heads at (n + 1) cs (with_head c.target (Some (at n)) heads) ∙ length-with_head heads c.target (Some (at n))
+length-threaded_heads at n (c ∷ cs) heads = search (rules, length-with_head, length-threaded_heads at (n + 1) cs (with_head c.target (Some (at n)) heads))
 
 -- Heads that are put back.
 

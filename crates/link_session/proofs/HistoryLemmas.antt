@@ -1,5 +1,6 @@
 -- The threads of a list of objects hold the chains of its image.
-use Rattle.std.proofs.Common.{◌≡◌, ◌≤◌, ℕ, List, [], ◌∷◌, ◌++◌, map, length, None, refl, sym, ap, ◌∙◌, subst, arith, append_assoc}
+use Rattle.std.proofs.lemmas.Grind.{common_steps}
+use Rattle.std.proofs.Common.{◌≡◌, ◌≤◌, ℕ, List, [], ◌∷◌, ◌++◌, map, length, refl, sym, ap, ◌∙◌, subst, arith, append_assoc, rules}
 use Rattle.std.proofs.Common.{append-nil}
 use Rattle.std.proofs.lemmas.List.{length-replicate, length-map}
 use Rattle.std.specs.List.{AllByRecursion}
@@ -9,9 +10,9 @@ use Rattle.link_session.specs.internal.Additions.{place_in, settled_cell, extern
 use Rattle.link_session.specs.internal.Threads.{Threads, with_texts, with_datas, next_texts, next_datas, bound_heads, next_heads}
 use Rattle.link_session.specs.internal.Threads.{next_threads, threads_from, forced_threads, threads_of, IsThreaded}
 use Rattle.link_session.specs.{declared.cell.Cell.Cell, declared.cell.Target.Target, declared.state.State.State}
-use Rattle.link_session.specs.{declared.mark.Place.TheVariants.InText, declared.mark.Place.TheVariants.InData, Earlier.with_earlier}
+use Rattle.link_session.specs.{declared.mark.Place.TheVariants.InData, Earlier.with_earlier}
 use Rattle.link_session.specs.{States.state, Cells.cells, Image.Image, Image.named_states, Image.image, Image.Named, Sessions.IsObject}
-use Rattle.link_session.specs.{internal.Chains.Link, internal.Chains.threaded, internal.Chains.AreChained, internal.Settled.settled_over}
+use Rattle.link_session.specs.{internal.Chains.threaded, internal.Chains.AreChained, internal.Settled.settled_over}
 use Rattle.link_session.specs.{internal.Settled.places_of, internal.Settled.IsCovered}
 use Rattle.link_session.proofs.AdditionLemmas.{WaitsAmong, cells_wait, next_named-states, well_formed, joined_image-is}
 use Rattle.link_session.proofs.HeadLemmas.{cut_all, more_heads, grown_chained, length-cut_heads, length-grown_heads, length-threaded_heads}
@@ -20,7 +21,6 @@ use Rattle.link_session.proofs.{WellFormedLemmas.objects_refer, ListLemmas.all_a
 use Rattle.link_session.proofs.{UndoLemmas.slice_get-below, PushLemmas.new_chain, ChainedLemmas.WaitsBelow, ChainedLemmas.all_text}
 use Rattle.link_session.proofs.{ChainedLemmas.all_data, CoverLemmas.all_covered}
 use Rattle.aout_core.specs.declared.symbol.Segment.TheVariants as segments
-use Rattle.link_session.specs.declared.cell.Target.TheVariants as targets
 
 -- One more object.
 
@@ -32,33 +32,18 @@ threads_from-append forced (p ∷ ps) qs t = threads_from-append forced ps qs (n
 -- the threads of one more object are those that its addition makes of the earlier ones
 pub threads_push : (forced : List (List ℕ)) (os : List Contents) (o : Contents) →
     threads_of forced (os ++ o ∷ []) ≡ next_threads (image forced os) o (threads_of forced os)
-threads_push forced os o =
-    ap (λ (ps : List (List Contents × Contents)). threads_from forced ps (forced_threads forced)) (with_earlier-append [] os (o ∷ []))
-    ∙ threads_from-append forced (with_earlier [] os) ((os, o) ∷ []) (forced_threads forced)
+threads_push forced os o = search (rules, with_earlier-append, threads_from-append)
 
 -- the forced names alone: no cells, and so many empty chains
 pub forced_threaded : (forced : List (List ℕ)) → IsThreaded (image forced []) (forced_threads forced)
-forced_threaded forced = record {
-  chained =
-      more_heads (length (externals forced [])) [] [] [] [] []
-      (record { text = refl; «data» = refl; each = λ k. new_chain [] [] [] [] k tt tt });
-  heads =
-      length-replicate (length (externals forced [])) none
-      ∙ sym (length-map {B = List ℕ × State} (externals forced []) (λ n. (n, state (mentions forced []) n)));
-}
-  where
-    none : Link
-    none = None
+forced_threaded forced = grind (arith, common_steps, more_heads, new_chain, length-replicate, length-map)
 
 -- Cells that are put last.
 
 texts_last : (texts datas cs : List Cell) (t : Threads) → AreChained texts datas t.text_links t.data_links t.heads →
     AllByRecursion (λ c. WaitsBelow (length t.heads) c.target) cs →
     AreChained (texts ++ cs) datas (with_texts cs t).text_links (with_texts cs t).data_links (with_texts cs t).heads
-texts_last texts datas cs t a h =
-    subst (λ (n : ℕ). AreChained (texts ++ cs) datas (t.text_links ++ (threaded (λ i. InText i) n cs t.heads).0)
-    t.data_links (threaded (λ i. InText i) n cs t.heads).1) (sym a.text)
-    (all_text texts datas t.text_links t.data_links t.heads cs a h)
+texts_last texts datas cs t a h = grind (arith, all_text texts datas t.text_links t.data_links t.heads cs a h)
 
 datas_last : (texts datas cs : List Cell) (t : Threads) → AreChained texts datas t.text_links t.data_links t.heads →
     AllByRecursion (λ c. WaitsBelow (length t.heads) c.target) cs →
@@ -70,11 +55,7 @@ datas_last texts datas cs t a h =
 
 -- a cell that waits for one of the names waits below their number
 waits_below : (ms : List Mention) (t : Target) → WaitsAmong ms t → WaitsBelow (length (names_by_first_mention ms)) t
-waits_below ms targets.Absolute h = tt
-waits_below ms targets.TextSeg h = tt
-waits_below ms targets.DataSeg h = tt
-waits_below ms targets.BssSeg h = tt
-waits_below ms (targets.External i) h = slice_get-below (names_by_first_mention ms) i h.0 h.1
+waits_below ms t h = search (rules, slice_get-below)
 
 module _ (forced : List (List ℕ)) (os : List Contents) (o : Contents) (good : AllByRecursion IsObject os) where
   abbrev es : Named
@@ -139,9 +120,7 @@ module _ (forced : List (List ℕ)) (os : List Contents) (o : Contents) (good : 
       grown = record t { heads = next_heads (image forced os) o t.heads }
 
       heads_grown : length (next_heads (image forced os) o t.heads) ≡ length es
-      heads_grown =
-          length-grown_heads (length es) (bound_heads (image forced os) o t.heads)
-          (let e = h.heads in omega (arith, length-cut_heads es ks t.heads, no_fewer))
+      heads_grown = search (rules, length-grown_heads, length-cut_heads, no_fewer)
 
       settled_chained : AreChained (map (settled_cell es) (image forced os).text_cells)
           (map (settled_cell es) (image forced os).data_cells) t.text_links t.data_links (next_heads (image forced os) o t.heads)
@@ -155,16 +134,10 @@ module _ (forced : List (List ℕ)) (os : List Contents) (o : Contents) (good : 
       with_texts_chained : AreChained (joined_image (image forced os) o).text_cells (map (settled_cell es) (image forced os).data_cells)
           (with_texts (next_texts (image forced os) o) grown).text_links t.data_links
           (with_texts (next_texts (image forced os) o) grown).heads
-      with_texts_chained =
-          texts_last (map (settled_cell es) (image forced os).text_cells)
-          (map (settled_cell es) (image forced os).data_cells) (next_texts (image forced os) o) grown settled_chained
-          (subst (λ (n : ℕ). AllByRecursion (λ (c : Cell). WaitsBelow n c.target) (next_texts (image forced os) o))
-          (sym heads_grown) texts_below)
+      with_texts_chained = search (rules, texts_last, settled_chained, heads_grown, texts_below)
 
       heads_then : length (with_texts (next_texts (image forced os) o) grown).heads ≡ length es
-      heads_then =
-          length-threaded_heads (λ i. InText i) (length t.text_links) (next_texts (image forced os) o)
-          (next_heads (image forced os) o t.heads) ∙ heads_grown
+      heads_then = search (rules, length-threaded_heads, heads_grown)
 
       pub threaded_next : IsThreaded (joined_image (image forced os) o) (next_threads (image forced os) o t)
       threaded_next = record {
@@ -198,5 +171,4 @@ threaded_of forced os good = from [] os (forced_threads forced) tt good (forced_
 -- binding the names that an object mentions binds each cell that its addition has to bind
 pub image_covered : (forced : List (List ℕ)) (os : List Contents) (o : Contents) → AllByRecursion IsObject os →
     IsCovered (image forced os) o
-image_covered forced os o good =
-    record { text = covered forced os o good segments.TextSeg; «data» = covered forced os o good segments.DataSeg }
+image_covered forced os o good = search (rules, covered)

@@ -1,5 +1,5 @@
 -- The image while an object is joined to it.
-use Rattle.std.proofs.Common.{◌≡◌, ℕ, ◌+◌, ◌*◌, ◌≤◌, List, ◌++◌, map, length, refl, ◌∙◌, ap, subst, arith, None}
+use Rattle.std.proofs.Common.{◌≡◌, ℕ, ◌+◌, ◌≤◌, List, ◌++◌, map, length, refl, ◌∙◌, ap, subst, arith, None, rules}
 use Rattle.std.specs.{Prelude.filter, Map.keys_of}
 use Rattle.aout_core.specs.{declared.symbol.Symbol.Symbol, Contents.Contents, WellFormed.is_external}
 use Rattle.link_session.specs.internal.Settled.{settled_over, places_of, IsCovered}
@@ -7,7 +7,7 @@ use Rattle.link_session.specs.internal.Threads.{Threads, IsThreaded, cut_heads, 
 use Rattle.link_session.specs.internal.Restores.{Restores, LeavesMarks, TakesBack}
 use Rattle.link_session.specs.internal.Fields.{sizes_of, with_cells, with_heads, with_own_cells, with_own_threads, threads_by}
 use Rattle.link_session.specs.internal.Fields.{with_heads_back}
-use Rattle.link_session.specs.internal.Additions.{with_mentions, all_clashes, mention_by, mentions_by, state_marks, settled_cell, new_count}
+use Rattle.link_session.specs.internal.Additions.{with_mentions, all_clashes, mention_by, mentions_by, state_marks, settled_cell}
 use Rattle.link_session.specs.internal.Additions.{next_limit, next_shifts, next_mentions, next_named, entered, joined_image}
 use Rattle.link_session.specs.{declared.relocate.Shifts.Shifts, Image.Image, Image.Named, declared.cell.Cell.Cell, declared.mark.Mark.Mark}
 use Rattle.link_session.specs.{internal.Chains.Link, internal.Counts.NotesBound, Undo.undo}
@@ -21,25 +21,11 @@ pub entered-is : (m n : Image) (o f : Contents) (shifts : Shifts) (symbols : Lis
     n ≡ m → f ≡ o → symbols ≡ f.symbols → shifts ≡ next_shifts m o →
     es ≡ with_mentions n.externals (mentions_by shifts symbols) → xs ≡ n.multiples ++ all_clashes n.externals
     (mentions_by shifts symbols) → (record n { externals = es; multiples = xs }) ≡ entered m o
-entered-is m n o f shifts symbols es xs made file table moved names multiples = λ i. record {
-  text_cells = (made i).text_cells;
-  data_cells = (made i).data_cells;
-  bss_total = (made i).bss_total;
-  externals = (names ∙ (λ j. with_mentions (made j).externals (mentions_by (moved j) (all j)))) i;
-  multiples = (multiples ∙ (λ j. (made j).multiples ++ all_clashes (made j).externals (mentions_by (moved j) (all j)))) i;
-}
-  where
-    all : symbols ≡ o.symbols
-    all = table ∙ ap (λ (c : Contents). c.symbols) file
+entered-is m n o f shifts symbols es xs made file table moved names multiples = search rules
 
 -- the names stay within their limit
 pub few_named : (m : Image) (o : Contents) → next_limit m o ≡ None → length (next_named m o) ≤ 65535
-few_named m o h =
-    let w = within_limit (2 * length m.text_cells + o.header.text_size) (2 * length m.data_cells + o.header.data_size)
-    (m.bss_total + o.header.bss_size) (length m.externals + new_count (keys_of m.externals) o.symbols) h in
-    let same = ap (λ (ns : List (List ℕ)). length (new_names (keys_of m.externals) ns))
-    (names_of-map (mention_by (next_shifts m o)) (λ (s : Symbol). s.name) (λ s. refl) (filter is_external o.symbols)) in
-    omega (arith, length-with_mentions m.externals (next_mentions m o), same, w.names)
+few_named m o h = search (rules, within_limit, names_of-map, length-with_mentions)
 
 -- the names grow by no more than the external entries
 pub few_new : (m : Image) (o : Contents) → length (next_named m o) ≤ length m.externals + length (filter is_external o.symbols)
@@ -72,22 +58,12 @@ module _ (m n : Image) (o : Contents) (symbols : List Symbol) (made : n ≡ ente
   pub bound-is : IsCovered m o → (b : Image) → b ≡ with_cells b.text_cells b.data_cells n →
       b.text_cells ≡ map (settled_over n.externals (places_of n.externals symbols)) n.text_cells →
       b.data_cells ≡ map (settled_over n.externals (places_of n.externals symbols)) n.data_cells → b ≡ bound_image m o
-  bound-is covered b others texts datas =
-      others
-      ∙ (λ i. record {
-        text_cells = texts_are covered b.text_cells texts i;
-        data_cells = datas_are covered b.data_cells datas i;
-        bss_total = (made i).bss_total;
-        externals = (made i).externals;
-        multiples = (made i).multiples;
-      })
+  bound-is covered b others texts datas = search rules
 
   -- the heads then
   pub heads-are : (t u v : Threads) → u ≡ t → v ≡ with_heads v.heads u →
       v.heads ≡ cut_heads n.externals (places_of n.externals symbols) u.heads → v ≡ with_heads (bound_heads m o t.heads) t
-  heads-are t u v same others heads =
-      others ∙ (λ i. with_heads ((heads ∙ (λ j. cut_heads (made j).externals (places_of (made j).externals (table j)) (same j).heads)) i)
-      (same i))
+  heads-are t u v same others heads = search rules
 
   -- the marks of what was bound, and of the mentions, take the object back
   pub marks-are : IsCovered m o → (t u : Threads) → u ≡ t → (texts datas : List Cell) (heads : List Link)

@@ -1,5 +1,5 @@
 -- What a session keeps of threads: of no objects, of one more object, and without the last one.
-use Rattle.std.proofs.Common.{◌≡◌, ℕ, List, [], ◌∷◌, ◌++◌, refl, sym, ap, subst, ◌∙◌}
+use Rattle.std.proofs.Common.{◌≡◌, ℕ, List, [], ◌∷◌, ◌++◌, refl, sym, ap, ◌∙◌, arith}
 use Rattle.std.specs.List.{AllByRecursion}
 use Rattle.aout_core.specs.Contents.{Contents}
 use Rattle.link_session.specs.internal.Threads.{Threads, bound_heads, next_threads, forced_threads, threads_of, undo_threads, UndoesThreads}
@@ -12,8 +12,7 @@ use Rattle.link_session.proofs.{AdditionLemmas.joined_image-is, WithdrawalLemmas
 -- kept threads hold the chains of the image
 pub kept_threaded : (forced : List (List ℕ)) (os : List Contents) (journal : List (List Mark)) (t : Threads) →
     AllByRecursion IsObject os → KeepsThreads forced os journal t → IsThreaded (image forced os) t
-kept_threaded forced os journal t good k =
-    subst (λ (u : Threads). IsThreaded (image forced os) u) (sym k.threads) (threaded_of forced os good)
+kept_threaded forced os journal t good k = grind (arith, threaded_of forced os good)
 
 -- the chains of a new session are kept
 pub forced_kept : (forced : List (List ℕ)) → KeepsThreads forced [] [] (forced_threads forced)
@@ -38,9 +37,4 @@ module _ (forced : List (List ℕ)) (os : List Contents) (o : Contents) (journal
   -- and those of a withdrawal
   pub kept_pop : KeepsThreads forced (os ++ o ∷ []) (journal ++ marks ∷ []) t →
       KeepsThreads forced os journal (undo_threads marks (image forced (os ++ o ∷ [])) (image forced os) t)
-  kept_pop k =
-      let pop = journal_pop (UndoesThreads forced) os o journal marks k.undoes in
-      record {
-        threads = ap (λ (u : Threads). undo_threads marks (image forced (os ++ o ∷ [])) (image forced os) u) k.threads ∙ pop.1;
-        undoes = pop.0;
-      }
+  kept_pop k = grind (arith, journal_pop (UndoesThreads forced) os o journal marks k.undoes)

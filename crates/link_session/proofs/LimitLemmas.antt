@@ -1,6 +1,6 @@
 -- How many names the entries of an object add, and the limits of an image.
-use Rattle.std.proofs.Common.{◌≡◌, ℕ, ◌≤◌, Bool, true, false, cond, not, ◌&&◌, ◌||◌, is_some, Some, List, [], ◌∷◌, ◌++◌, map, length, refl}
-use Rattle.std.proofs.Common.{ap, arith}
+use Rattle.std.proofs.Common.{◌≡◌, ℕ, ◌≤◌, Bool, true, false, not, ◌&&◌, is_some, List, [], ◌∷◌, ◌++◌, length, refl}
+use Rattle.std.proofs.Common.{ap, arith, rules}
 use Rattle.std.proofs.lemmas.List.{length-map}
 use Rattle.std.specs.{Prelude.bytes_eq, Prelude.filter, List.list_any, Map.keys_of, Map.lookup}
 use Rattle.aout_core.specs.{declared.symbol.Symbol.Symbol, WellFormed.is_external}
@@ -11,39 +11,22 @@ use Rattle.tool_options.proofs.NameListLemmas.{is_among-append}
 -- a key is found where it is one of the keys
 pub found-is_among : (es : Named) (name : List ℕ) → is_some (lookup (bytes_eq name) es) ≡ is_among (keys_of es) name
 found-is_among [] name = refl
-found-is_among (e ∷ es) name = by_test (bytes_eq name e.0) (found-is_among es name)
-  where
-    by_test : (t : Bool) → is_some (lookup (bytes_eq name) es) ≡ is_among (keys_of es) name →
-        is_some (cond t (Some e.1) (lookup (bytes_eq name) es)) ≡ (t || is_among (keys_of es) name)
-    by_test true h = refl
-    by_test false h = h
+found-is_among (e ∷ es) name = search (rules, found-is_among es name)
 
 -- an external entry has the name
 pub external-is_among : (symbols : List Symbol) (name : List ℕ) →
     list_any (λ s. is_external s && bytes_eq name s.name) symbols ≡ is_among (external_names symbols) name
 external-is_among [] name = refl
-external-is_among (s ∷ ss) name = by_test (is_external s) (external-is_among ss name)
-  where
-    by_test : (t : Bool) → list_any (λ s. is_external s && bytes_eq name s.name) ss ≡ is_among (external_names ss) name →
-        ((t && bytes_eq name s.name) || list_any (λ s. is_external s && bytes_eq name s.name) ss)
-        ≡ is_among (map (λ (s : Symbol). s.name) (cond t (s ∷ filter is_external ss) (filter is_external ss))) name
-    by_test true h = ap (λ (b : Bool). bytes_eq name s.name || b) h
-    by_test false h = h
+external-is_among (s ∷ ss) name = search (rules, external-is_among ss name)
 
 -- an object has no more new names than symbols: so much room is enough
 pub length-new_names : (seen xs : List (List ℕ)) → length (new_names seen xs) ≤ length xs
 length-new_names seen [] = omega arith
-length-new_names seen (x ∷ xs) = by_test (is_among seen x) (length-new_names (seen ++ x ∷ []) xs)
-  where
-    by_test : (t : Bool) → length (new_names (seen ++ x ∷ []) xs) ≤ length xs →
-        length (cond t (new_names (seen ++ x ∷ []) xs) (x ∷ new_names (seen ++ x ∷ []) xs)) ≤ length (x ∷ xs)
-    by_test true h = omega arith
-    by_test false h = omega arith
+length-new_names seen (x ∷ xs) = search (rules, length-new_names (seen ++ x ∷ []) xs)
 
 -- no more names than entries
 pub new_count-le : (seen : List (List ℕ)) (symbols : List Symbol) → new_count seen symbols ≤ length (filter is_external symbols)
-new_count-le seen symbols =
-    omega (arith, length-new_names seen (external_names symbols), length-map (filter is_external symbols) (λ (s : Symbol). s.name))
+new_count-le seen symbols = search (rules, length-new_names, length-map)
 
 -- whether an entry is counted
 abbrev pub counts : List (List ℕ) → List Symbol → Symbol → Bool
@@ -51,11 +34,7 @@ counts keys before s = is_external s && not (is_among (keys ++ external_names be
 
 -- an entry whose name is known adds none
 pub known_counts : (keys : List (List ℕ)) (before : List Symbol) (s : Symbol) → is_among keys s.name ≡ true → false ≡ counts keys before s
-known_counts keys before s h = rw (is_among-append keys (external_names before) s.name, h) (by_test (is_external s))
-  where
-    by_test : (t : Bool) → false ≡ (t && false)
-    by_test true = refl
-    by_test false = refl
+known_counts keys before s h = search (rules, is_among-append)
 
 -- another does where no earlier entry has its name
 pub unknown_counts : (keys : List (List ℕ)) (before : List Symbol) (s : Symbol) → is_external s ≡ true → is_among keys s.name ≡ false →

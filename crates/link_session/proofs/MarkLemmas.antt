@@ -1,11 +1,11 @@
 -- Marks put back in turn, the prefixes of lists that grow, and what cells await.
-use Rattle.std.proofs.Common.{◌≡◌, ℕ, zero, suc, ◌≤◌, List, [], ◌∷◌, ◌++◌, map, take, length, Option, None, refl, ap, arith}
+use Rattle.std.proofs.Common.{◌≡◌, ℕ, zero, suc, ◌≤◌, List, [], ◌∷◌, ◌++◌, map, take, length, Option, None, refl, ap, arith, rules}
 use Rattle.std.proofs.lemmas.List.{length-map, take_at}
 use Rattle.std.specs.Prelude.{slice_index_or}
 use Rattle.link_session.specs.{declared.cell.Cell.Cell, declared.cell.Target.Target, declared.state.State.State, declared.mark.Mark.Mark}
 use Rattle.link_session.specs.{Mentions.Mention, States.Definition, States.first_definition, Image.Image, Undo.with_state, Undo.put_back}
 use Rattle.link_session.specs.{Undo.put_all_back}
-use Rattle.link_session.proofs.CellLemmas.{rebound, bound_at, bound}
+use Rattle.link_session.proofs.CellLemmas.{rebound, bound}
 use Rattle.link_session.specs.declared.cell.Target.TheVariants as targets
 
 -- marks are put back one part after the other
@@ -34,14 +34,7 @@ awaited names later _ = None
 -- what later mentions make of a cell depends only on what they define for its target
 pub bound-awaited : (names : List (List ℕ)) (later : List Mention) (c : Cell) →
     bound names later c ≡ rebound (awaited names later c.target) c
-bound-awaited names later c = by_target c.target
-  where
-    by_target : (t : Target) → bound_at names later t c ≡ rebound (awaited names later t) c
-    by_target targets.Absolute = refl
-    by_target targets.TextSeg = refl
-    by_target targets.DataSeg = refl
-    by_target targets.BssSeg = refl
-    by_target (targets.External i) = refl
+bound-awaited names later c = search rules
 
 -- the first elements of a longer list, each changed
 pub cut_front : {A : Type 0} (f : A → A) (xs ys : List A) → take (length xs) (map f xs ++ ys) ≡ map f xs

@@ -1,6 +1,6 @@
 -- The names and states after the mentions of an object.
-use Rattle.std.proofs.Common.{◌≡◌, ℕ, zero, suc, ◌+◌, Bool, true, false, cond, ◌||◌, List, [], ◌∷◌, ◌++◌, map, length, refl, sym, ◌∙◌, ap}
-use Rattle.std.proofs.Common.{arith, add-one, append_assoc, append-nil, length-append}
+use Rattle.std.proofs.Common.{◌≡◌, ℕ, zero, suc, ◌+◌, Bool, true, false, cond, List, [], ◌∷◌, ◌++◌, map, length, refl, sym, ◌∙◌, ap}
+use Rattle.std.proofs.Common.{arith, add-one, append_assoc, append-nil, length-append, rules}
 use Rattle.std.proofs.lemmas.List.{map-append, length-map}
 use Rattle.std.specs.{Prelude.bytes_eq, Map.keys_of}
 use Rattle.indexmap.specs.IndexMap.{insert_entry}
@@ -8,7 +8,7 @@ use Rattle.link_session.specs.Mentions.{Mention, names_of, names_by_first_mentio
 use Rattle.link_session.specs.Image.{named_states, Named, state_at, state_in}
 use Rattle.link_session.specs.internal.Additions.{state_for, place_in, with_mention, with_mentions, all_clashes}
 use Rattle.link_session.specs.{declared.state.State.State, declared.state.State.TheVariants.Wanted, States.state, States.multiple_names}
-use Rattle.link_session.specs.{Undo.with_state, internal.Updates.updated_state, internal.Updates.clashes}
+use Rattle.link_session.specs.{Undo.with_state, internal.Updates.updated_state}
 use Rattle.tool_options.specs.NameLists.{is_among, new_names}
 use Rattle.tool_options.proofs.NameListLemmas.{seen_again, new_names-seen}
 use Rattle.link_session.proofs.UpdateLemmas.{unmentioned, externals_mention, multiples_mention, says_alone}
@@ -29,13 +29,7 @@ keys-beside f (n ∷ ns) = ap (λ (ks : List (List ℕ)). n ∷ ks) (keys-beside
 pub insert_entry-is : (es : Named) (name : List ℕ) (s : State) → insert_entry bytes_eq es name s ≡ with_state es
     (place_in es name) s ++ cond (is_among (keys_of es) name) [] ((name, s) ∷ [])
 insert_entry-is [] name s = refl
-insert_entry-is (e ∷ es) name s = by_test (bytes_eq name e.0) (insert_entry-is es name s)
-  where
-    by_test : (t : Bool) → insert_entry bytes_eq es name s ≡ with_state es (place_in es name) s
-        ++ cond (is_among (keys_of es) name) [] ((name, s) ∷ []) → cond t ((e.0, s) ∷ es) (e ∷ insert_entry bytes_eq es name s)
-        ≡ with_state (e ∷ es) (cond t 0 (place_of name (keys_of es) + 1)) s ++ cond (t || is_among (keys_of es) name) [] ((name, s) ∷ [])
-    by_test true h = ap (λ (l : Named). (e.0, s) ∷ l) (sym (append-nil es))
-    by_test false h = rw add-one (ap (λ (l : Named). e ∷ l) h)
+insert_entry-is (e ∷ es) name s = search (rules, append-nil, add-one, insert_entry-is es name s)
 
 -- the state that a mention leaves its name in
 abbrev pub next_state : Named → Mention → State
@@ -49,42 +43,23 @@ with_mention-is es m = insert_entry-is es m.name (next_state es m)
 -- a mention renames no external, and adds its name last if that is new
 pub keys-with_mention : (es : Named) (m : Mention) →
     keys_of (with_mention es m) ≡ keys_of es ++ cond (is_among (keys_of es) m.name) [] (m.name ∷ [])
-keys-with_mention es m =
-    ap keys_of (with_mention-is es m)
-    ∙ map-append (λ (e : List ℕ × State). e.0) (with_state es (place_in es m.name) (next_state es m))
-    (cond (is_among (keys_of es) m.name) [] ((m.name, next_state es m) ∷ []))
-    ∙ (λ i. keys-with_state es (place_in es m.name) (next_state es m) i ++ last (is_among (keys_of es) m.name) i)
-  where
-    last : (t : Bool) → keys_of (cond t [] ((m.name, next_state es m) ∷ [])) ≡ cond t [] (m.name ∷ [])
-    last true = refl
-    last false = refl
+keys-with_mention es m = search (rules, with_mention-is, map-append, keys-with_state)
 
 -- how many names there are after the mentions
 pub length-with_mentions : (es : Named) (ms : List Mention) →
     length (with_mentions es ms) ≡ length es + length (new_names (keys_of es) (names_of ms))
 length-with_mentions es [] = omega arith
-length-with_mentions es (m ∷ ms) =
-    length-with_mentions (with_mention es m) ms
-    ∙ (λ i. keys_length i + length (new_names (keys-with_mention es m i) (names_of ms)))
-    ∙ by_test (is_among (keys_of es) m.name) refl
-  where
-    keys_length : length (with_mention es m) ≡ length es + length (cond (is_among (keys_of es) m.name) [] (m.name ∷ []))
-    keys_length =
-        sym (length-map (with_mention es m) (λ (e : List ℕ × State). e.0))
-        ∙ ap (λ (ns : List (List ℕ)). length ns) (keys-with_mention es m)
-        ∙ length-append (keys_of es) (cond (is_among (keys_of es) m.name) [] (m.name ∷ []))
-        ∙ ap (λ (n : ℕ). n + length (cond (is_among (keys_of es) m.name) [] (m.name ∷ []))) (length-map es (λ (e : List ℕ × State). e.0))
-
-    by_test : (t : Bool) → is_among (keys_of es) m.name ≡ t →
-        (length es + length (cond t [] (m.name ∷ []))) + length (new_names (keys_of es ++ cond t [] (m.name ∷ [])) (names_of ms))
-        ≡ length es + length (cond t (new_names (keys_of es ++ m.name ∷ []) (names_of ms))
-        (m.name ∷ new_names (keys_of es ++ m.name ∷ []) (names_of ms)))
-    by_test true h =
-        let same : new_names (keys_of es ++ []) (names_of ms) ≡ new_names (keys_of es ++ m.name ∷ []) (names_of ms) =
-        rw append-nil (new_names-seen (keys_of es) (keys_of es ++ m.name ∷ []) (names_of ms)
-        (λ n. sym (seen_again (keys_of es) m.name h n))) in
-        let lengths = ap (λ (ns : List (List ℕ)). length ns) same in omega arith
-    by_test false h = omega arith
+length-with_mentions es (m ∷ ms) = search (
+  rules,
+  keys-with_mention,
+  length-map,
+  length-append,
+  append-nil,
+  new_names-seen,
+  seen_again,
+  length-with_mentions
+      (with_mention es m) ms,
+)
 
 -- the keys of names with states are the names
 pub keys-named_states : (ms : List Mention) → keys_of (named_states ms) ≡ names_by_first_mention ms
@@ -97,13 +72,7 @@ at_place f ns name h = ap state_in (get_mapped {B = List ℕ × State} (λ n. (n
 after_place : (f : List ℕ → State) (ns : List (List ℕ)) (name : List ℕ) → is_among ns name ≡ false →
     state_at (map {B = List ℕ × State} (λ n. (n, f n)) ns) (place_of name ns) ≡ Wanted 0
 after_place f [] name h = refl
-after_place f (n ∷ ns) name h = by_test (bytes_eq name n) h (after_place f ns name)
-  where
-    by_test : (t : Bool) → (t || is_among ns name) ≡ false →
-        (is_among ns name ≡ false → state_at (map {B = List ℕ × State} (λ k. (k, f k)) ns) (place_of name ns) ≡ Wanted 0) →
-        state_at ((n, f n) ∷ map {B = List ℕ × State} (λ k. (k, f k)) ns) (cond t 0 (place_of name ns + 1)) ≡ Wanted 0
-    by_test true h rest = absurd (cc)
-    by_test false h rest = rw add-one (rest h)
+after_place f (n ∷ ns) name h = search (rules, add-one, after_place f ns name)
 
 -- the state found is the state of the name
 pub state_for-named_states : (ms : List Mention) (name : List ℕ) → state_for (named_states ms) name ≡ state ms name
@@ -123,39 +92,31 @@ one name s = (name, s) ∷ []
 
 -- one more mention
 pub with_mention-named_states : (ms : List Mention) (m : Mention) → with_mention (named_states ms) m ≡ named_states (ms ++ m ∷ [])
-with_mention-named_states ms m =
-    with_mention-is (named_states ms) m
-    ∙ (λ i. with_state (named_states ms) (place_of m.name (keys-named_states ms i))
-    (updated_state (state_for-named_states ms m.name i) m.says)
-    ++ cond (is_among (keys-named_states ms i) m.name) [] (one m.name (updated_state (state_for-named_states ms m.name i) m.says)))
-    ∙ ap (λ (l : Named). with_state (named_states ms) (place_of m.name (names_by_first_mention ms))
-    (updated_state (state ms m.name) m.says) ++ l) (last (is_among (names_by_first_mention ms) m.name) refl)
-    ∙ sym (externals_mention ms m)
-  where
-    last : (t : Bool) → is_among (names_by_first_mention ms) m.name ≡ t →
-        cond t [] (one m.name (updated_state (state ms m.name) m.says)) ≡ cond (is_among (names_of ms) m.name) [] (one m.name m.says)
-    last true h = let known : is_among (names_of ms) m.name ≡ true = sym (is_among-externals ms m.name) ∙ h in rw known refl
-    last false h =
-        let unknown : is_among (names_of ms) m.name ≡ false = sym (is_among-externals ms m.name) ∙ h in
-        let mention_of : updated_state (state ms m.name) m.says ≡ m.says =
-        ap (λ (s : State). updated_state s m.says) (unmentioned ms m.name unknown) ∙ says_alone m.says in
-        rw (unknown, mention_of) refl
+with_mention-named_states ms m = search (
+  rules,
+  with_mention-is,
+  keys-named_states,
+  state_for-named_states,
+  externals_mention,
+  is_among-externals,
+  unmentioned,
+  says_alone,
+)
 
 -- several more mentions
 pub with_mentions-named_states : (ms ns : List Mention) → with_mentions (named_states ms) ns ≡ named_states (ms ++ ns)
 with_mentions-named_states ms [] = ap named_states (sym (append-nil ms))
-with_mentions-named_states ms (n ∷ ns) =
-    ap (λ (es : Named). with_mentions es ns) (with_mention-named_states ms n)
-    ∙ with_mentions-named_states (ms ++ n ∷ []) ns ∙ ap named_states (append_assoc ms (n ∷ []) ns)
+with_mentions-named_states ms (n ∷ ns) = cc (with_mention-named_states ms n, with_mentions-named_states (ms ++ n ∷ []) ns, append_assoc ms (n ∷ []) ns)
 
 -- the names that an addition notes as multiply defined are those that the longer list has more
 pub all_clashes-named_states : (ms ns : List Mention) → multiple_names (ms ++ ns) ≡ multiple_names ms ++ all_clashes (named_states ms) ns
 all_clashes-named_states ms [] = ap multiple_names (append-nil ms) ∙ sym (append-nil (multiple_names ms))
-all_clashes-named_states ms (n ∷ ns) =
-    ap multiple_names (sym (append_assoc ms (n ∷ []) ns))
-    ∙ all_clashes-named_states (ms ++ n ∷ []) ns
-    ∙ (λ i. (multiples_mention ms n ∙ ap (λ (s : State). multiple_names ms ++ cond (clashes s n.says) (n.name ∷ []) [])
-    (sym (state_for-named_states ms n.name))) i
-    ++ all_clashes (sym (with_mention-named_states ms n) i) ns)
-    ∙ append_assoc (multiple_names ms) (cond (clashes (state_for (named_states ms) n.name) n.says) (n.name ∷ []) [])
-    (all_clashes (with_mention (named_states ms) n) ns)
+all_clashes-named_states ms (n ∷ ns) = search (
+  rules,
+  append_assoc,
+  multiples_mention,
+  state_for-named_states,
+  with_mention-named_states,
+  all_clashes-named_states (ms ++ n ∷
+      []) ns,
+)

@@ -1,16 +1,17 @@
 -- The mentions and names of objects after others, and of as long objects in their place.
-use Rattle.std.proofs.Common.{◌≡◌, ℕ, ◌+◌, max, Bool, true, false, cond, ◌||◌, List, [], ◌∷◌, ◌++◌, map, Option, None, refl, sym, ◌∙◌, ap}
-use Rattle.std.proofs.Common.{append_assoc, append-nil, arith}
+use Rattle.std.proofs.lemmas.Grind.{common_steps}
+use Rattle.std.proofs.Common.{◌≡◌, ℕ, ◌+◌, Bool, true, false, cond, ◌||◌, List, [], ◌∷◌, ◌++◌, map, refl, sym, ◌∙◌, ap}
+use Rattle.std.proofs.Common.{append_assoc, append-nil, arith, rules}
 use Rattle.std.proofs.{lemmas.List.Concat.flat_map-append, lemmas.List.map-append, lemmas.List.map-id, lemmas.List.Sums.sum_by-append}
 use Rattle.std.proofs.{lemmas.Bool.or_left, lemmas.Bool.or_right, lemmas.Slice.Eq.bytes_eq-Decides}
-use Rattle.std.specs.{Prelude.bytes_eq, List.flat_map}
+use Rattle.std.specs.{List.flat_map}
 use Rattle.aout_core.specs.declared.symbol.Segment.TheVariants.{Undefined, Absolute, TextSeg, DataSeg, BssSeg, Other}
-use Rattle.aout_core.specs.WellFormed.{first_of, segment_of}
+use Rattle.aout_core.specs.WellFormed.{segment_of}
 use Rattle.aout_core.specs.{declared.symbol.Symbol.Symbol, declared.symbol.Segment.Segment, Contents.Contents, Words.plus, Words.minus}
 use Rattle.link_session.specs.Mentions.{Mention, statement, mention, mentions_in, externals_in, forced_mention, names_of}
 use Rattle.link_session.specs.{declared.state.State.State, declared.state.State.TheVariants.Defined}
-use Rattle.link_session.specs.{declared.state.State.TheVariants.Wanted, Earlier.with_earlier, Starts.size_of, Starts.own, Starts.total}
-use Rattle.link_session.specs.{Starts.shift, States.Definition, States.first_definition, States.wanted_size, States.state_by, States.state}
+use Rattle.link_session.specs.{declared.state.State.TheVariants.Wanted, Earlier.with_earlier, Starts.own, Starts.total}
+use Rattle.link_session.specs.{Starts.shift, States.state}
 use Rattle.tool_options.specs.NameLists.{is_among, new_names}
 use Rattle.link_session.proofs.{EarlierLemmas.with_earlier-append, MentionLemmas.names_of-map}
 use Rattle.tool_options.proofs.NameListLemmas.{new_names-append, is_among-append, is_among-new_names, new_names-seen, seen_again}
@@ -23,21 +24,11 @@ start bs BssSeg = total BssSeg bs
 start bs _ = 0
 
 start-append : (xs ys : List Contents) (segment : Segment) → start (xs ++ ys) segment ≡ start xs segment + start ys segment
-start-append xs ys Undefined = refl
-start-append xs ys Absolute = refl
-start-append xs ys Other = refl
-start-append xs ys TextSeg = sum_by-append (size_of TextSeg) xs ys
-start-append xs ys DataSeg = sum_by-append (size_of DataSeg) xs ys
-start-append xs ys BssSeg = sum_by-append (size_of BssSeg) xs ys
+start-append xs ys segment = search (rules, sum_by-append)
 
 shift-start : (earlier : List Contents) (o : Contents) (segment : Segment) →
     shift earlier o segment ≡ minus (start earlier segment) (own o segment)
-shift-start earlier o Undefined = refl
-shift-start earlier o Absolute = refl
-shift-start earlier o Other = refl
-shift-start earlier o TextSeg = refl
-shift-start earlier o DataSeg = refl
-shift-start earlier o BssSeg = refl
+shift-start earlier o segment = search rules
 
 -- objects with the same sizes in all
 abbrev pub AreAsLong : List Contents → List Contents → Type 0
@@ -53,8 +44,7 @@ as_long_self xs segment = refl
 
 -- only the sizes of earlier objects count
 pub shift_same : (xs ys : List Contents) (o : Contents) (segment : Segment) → AreAsLong xs ys → shift xs o segment ≡ shift ys o segment
-shift_same xs ys o segment h =
-    shift-start xs o segment ∙ ap (λ (n : ℕ). minus n (own o segment)) (h segment) ∙ sym (shift-start ys o segment)
+shift_same xs ys o segment h = search (rules, shift-start)
 
 -- a list made of blocks, one for each object, after these
 abbrev pub blocks : {A : Type 0} → (List Contents → Contents → List A) → List Contents → List Contents → List A
@@ -73,23 +63,14 @@ blocks_same {A = A} f same xs ys (o ∷ os) h =
 -- what is made object by object is split by this into that of the first objects and the rest
 pub blocks-append : {A : Type 0} (f : List Contents → Contents → List A) (earlier xs ys : List Contents) →
     blocks f earlier (xs ++ ys) ≡ blocks f earlier xs ++ blocks f (earlier ++ xs) ys
-blocks-append f earlier xs ys =
-    ap (λ (ps : List (List Contents × Contents)). flat_map (λ q. f q.0 q.1) ps) (with_earlier-append earlier xs ys)
-    ∙ flat_map-append _ (with_earlier earlier xs) (with_earlier (earlier ++ xs) ys)
+blocks-append f earlier xs ys = search (rules, with_earlier-append, flat_map-append)
 
 -- an object that stands for several of the same sizes, with their blocks
 pub one_for_many : {A : Type 0} (f : List Contents → Contents → List A) →
     ((xs ys : List Contents) (o : Contents) → AreAsLong xs ys → f xs o ≡ f ys o) →
     (bs os cs : List Contents) (m : Contents) → AreAsLong (m ∷ []) os → f bs m ≡ blocks f bs os →
     blocks f [] (bs ++ m ∷ cs) ≡ blocks f [] (bs ++ (os ++ cs))
-one_for_many {A = A} f same bs os cs m long middle =
-    blocks-append f [] bs (m ∷ cs)
-    ∙ ap (λ (rest : List A). blocks f [] bs ++ rest)
-    (ap (λ (front : List A). front ++ blocks f (bs ++ m ∷ []) cs) middle
-    ∙ ap (λ (back : List A). blocks f bs os ++ back)
-    (blocks_same f same (bs ++ m ∷ []) (bs ++ os) cs (as_long_append bs bs (m ∷ []) os (as_long_self bs) long))
-    ∙ sym (blocks-append f bs os cs))
-    ∙ sym (blocks-append f [] bs (os ++ cs))
+one_for_many {A = A} f same bs os cs m long middle = search (rules, blocks-append, blocks_same, as_long_append, as_long_self)
 
 statement_same : (xs ys : List Contents) (o : Contents) (segment : Segment) (value : ℕ) → AreAsLong xs ys →
     statement xs o segment value ≡ statement ys o segment value
@@ -127,22 +108,11 @@ raise bs m = record { name = m.name; says = raised bs m.says }
 -- a shift after further objects
 pub shift_raised : (bs earlier : List Contents) (o : Contents) (segment : Segment) (v : ℕ) →
     plus v (shift (bs ++ earlier) o segment) ≡ plus (start bs segment) (plus v (shift earlier o segment))
-shift_raised bs earlier o segment v =
-    ap (λ (n : ℕ). plus v n) (shift-start (bs ++ earlier) o segment)
-    ∙ sums (start (bs ++ earlier) segment) (start bs segment) (start earlier segment) (own o segment) (start-append bs earlier segment)
-    ∙ ap (λ (n : ℕ). plus (start bs segment) (plus v n)) (sym (shift-start earlier o segment))
-  where
-    sums : (T B S n : ℕ) → T ≡ B + S → plus v (minus T n) ≡ plus B (plus v (minus S n))
-    sums T B S n e = omega arith
+shift_raised bs earlier o segment v = search (rules, shift-start, start-append)
 
 statement_raised : (bs earlier : List Contents) (o : Contents) (segment : Segment) (value : ℕ) →
     statement (bs ++ earlier) o segment value ≡ raised bs (statement earlier o segment value)
-statement_raised bs earlier o Undefined value = refl
-statement_raised bs earlier o Absolute value = ap (λ (n : ℕ). Defined Absolute n) (shift_raised bs earlier o Absolute value)
-statement_raised bs earlier o Other value = ap (λ (n : ℕ). Defined Absolute n) (shift_raised bs earlier o Absolute value)
-statement_raised bs earlier o TextSeg value = ap (λ (n : ℕ). Defined TextSeg n) (shift_raised bs earlier o TextSeg value)
-statement_raised bs earlier o DataSeg value = ap (λ (n : ℕ). Defined DataSeg n) (shift_raised bs earlier o DataSeg value)
-statement_raised bs earlier o BssSeg value = ap (λ (n : ℕ). Defined BssSeg n) (shift_raised bs earlier o BssSeg value)
+statement_raised bs earlier o segment value = grind (arith, common_steps, shift_raised)
 
 -- more objects that come first raise what an object mentions, and change nothing else
 pub mentions_in_raised : (bs earlier : List Contents) (o : Contents) →
@@ -158,11 +128,7 @@ mentions_in_raised bs earlier o = from (externals_in o)
 
 mentions_raised : (bs earlier os : List Contents) → mentions_after (bs ++ earlier) os ≡ map (raise bs) (mentions_after earlier os)
 mentions_raised bs earlier [] = refl
-mentions_raised bs earlier (o ∷ os) =
-    ap (λ (es : List Contents). mentions_in (bs ++ earlier) o ++ mentions_after es os) (append_assoc bs earlier (o ∷ []))
-    ∙ ap (λ (rest : List Mention). mentions_in (bs ++ earlier) o ++ rest) (mentions_raised bs (earlier ++ o ∷ []) os)
-    ∙ ap (λ (front : List Mention). front ++ map (raise bs) (mentions_after (earlier ++ o ∷ []) os)) (mentions_in_raised bs earlier o)
-    ∙ sym (map-append (raise bs) (mentions_in earlier o) (mentions_after (earlier ++ o ∷ []) os))
+mentions_raised bs earlier (o ∷ os) = search (rules, append_assoc, mentions_in_raised, map-append, mentions_raised bs (earlier ++ o ∷ []) os)
 
 -- the mentions of objects after others, from those of the objects alone
 pub mentions_after-raised : (bs os : List Contents) → mentions_after bs os ≡ map (raise bs) (mentions_after [] os)
@@ -176,14 +142,7 @@ names_of_raised bs ms = names_of-map (raise bs) (λ (m : Mention). m.name) (λ m
 pub forced_front : (forced : List (List ℕ)) (ms : List Mention) (name : List ℕ) →
     state (map forced_mention forced ++ ms) name ≡ state ms name
 forced_front [] ms name = refl
-forced_front (n ∷ ns) ms name =
-    by_test (bytes_eq name n) (first_definition (map forced_mention ns ++ ms) name)
-    (wanted_size (map forced_mention ns ++ ms) name) ∙ forced_front ns ms name
-  where
-    by_test : (t : Bool) (d : Option Definition) (size : ℕ) →
-        state_by (cond t (first_of None d) d) (cond t (max 0 size) size) ≡ state_by d size
-    by_test true d size = ap (λ (k : ℕ). state_by d k) (omega arith)
-    by_test false d size = refl
+forced_front (n ∷ ns) ms name = search (rules, forced_front ns ms name)
 
 -- forced names are mentioned under their own names
 pub names_of_forced : (forced : List (List ℕ)) → names_of (map forced_mention forced) ≡ forced

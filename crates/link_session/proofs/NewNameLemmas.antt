@@ -73,9 +73,7 @@ all_new-is seen fresh (s ∷ ss) = all_new-is seen (with_new seen fresh s) ss �
 
 -- there are as many as the symbols add
 pub length-all_new : (seen : List (List ℕ)) (ss : List Symbol) → length (with_all_new seen [] ss) ≡ new_count seen ss
-length-all_new seen ss =
-    ap (λ (l : List (List ℕ)). length l) (all_new-is seen [] ss)
-    ∙ ap (λ (l : List (List ℕ)). length (new_names l (external_names ss))) (append-nil seen)
+length-all_new seen ss = cc (all_new-is seen [] ss, append-nil seen)
 
 -- a name for each entry
 pub length-keys : (es : Named) → length es ≡ length (keys_of es)

@@ -1,5 +1,5 @@
 -- The place of a name in an image, and the state there.
-use Rattle.std.proofs.Common.{◌≡◌, ℕ, zero, suc, ◌+◌, ◌<◌, ◌≤◌, ◌⊎◌, inl, inr, Bool, true, false, cond, not, List, [], ◌∷◌, length}
+use Rattle.std.proofs.Common.{◌≡◌, ℕ, zero, suc, ◌≤◌, Bool, List, [], ◌∷◌, length, rules}
 use Rattle.std.proofs.Common.{position, Some, None, refl, sym, ◌∙◌, ap, arith, add-one}
 use Rattle.std.proofs.{lemmas.Bool.le-ltb, lemmas.Bool.lt-ltb, lemmas.Bool.cases_lt, lemmas.List.length-map}
 use Rattle.std.specs.{Prelude.bytes_eq, Prelude.slice_get, Prelude.filter, List.position_or_len, Map.keys_of, Map.lookup}
@@ -10,44 +10,17 @@ use Rattle.link_session.specs.{Image.Named, Image.state_in, Image.state_at, inte
 -- the place at which the code finds a name, or puts it if it is new, is that of the definition
 pub place_is : (name : List ℕ) (names : List (List ℕ)) → position_or_len (bytes_eq name) names ≡ place_of name names
 place_is name [] = refl
-place_is name (n ∷ ns) = by_test (bytes_eq name n) (place_is name ns)
-  where
-    by_test : (t : Bool) → position_or_len (bytes_eq name) ns ≡ place_of name ns →
-        cond (not t) (1 + position_or_len (bytes_eq name) ns) 0 ≡ cond t 0 (place_of name ns + 1)
-    by_test true h = refl
-    by_test false h = omega arith
+place_is name (n ∷ ns) = search (rules, place_is name ns)
 
 pub place_of-le : (name : List ℕ) (names : List (List ℕ)) → place_of name names ≤ length names
 place_of-le name [] = omega arith
-place_of-le name (n ∷ ns) = by_test (bytes_eq name n) (place_of-le name ns)
-  where
-    by_test : (t : Bool) → place_of name ns ≤ length ns → cond t 0 (place_of name ns + 1) ≤ length (n ∷ ns)
-    by_test true h = omega arith
-    by_test false h = omega arith
+place_of-le name (n ∷ ns) = search (rules, place_of-le name ns)
 
 found : (name : List ℕ) (names : List (List ℕ)) (i : ℕ) → position (bytes_eq name) names ≡ Some i → place_of name names ≡ i
-found name names i e = by_order (cases_lt (position_or_len (bytes_eq name) names) (length names))
-  where
-    by_order : (position_or_len (bytes_eq name) names < length names)
-        ⊎ (length names ≤ position_or_len (bytes_eq name) names) → place_of name names ≡ i
-    by_order (inl below) =
-        let test = lt-ltb (position_or_len (bytes_eq name) names) (length names) below in
-        let here : Some (position_or_len (bytes_eq name) names) ≡ Some i = rw test at e in
-        let same : position_or_len (bytes_eq name) names ≡ i = cc in
-        sym (place_is name names) ∙ same
-    by_order (inr above) =
-        let test = le-ltb (position_or_len (bytes_eq name) names) (length names) above in
-        absurd (let none : None ≡ Some i = rw test at e in cc)
+found name names i e = search (rules, cases_lt, lt-ltb, place_is, le-ltb)
 
 missing : (name : List ℕ) (names : List (List ℕ)) → position (bytes_eq name) names ≡ None → place_of name names ≡ length names
-missing name names e = by_order (cases_lt (position_or_len (bytes_eq name) names) (length names))
-  where
-    by_order : (position_or_len (bytes_eq name) names < length names)
-        ⊎ (length names ≤ position_or_len (bytes_eq name) names) → place_of name names ≡ length names
-    by_order (inl below) =
-        let test = lt-ltb (position_or_len (bytes_eq name) names) (length names) below in
-        absurd (let none : Some (position_or_len (bytes_eq name) names) ≡ None = rw test at e in cc)
-    by_order (inr above) = omega (arith, place_is name names, place_of-le name names)
+missing name names e = search (rules, cases_lt, lt-ltb, place_is, place_of-le)
 
 -- a name that is found stands at its place
 pub found_place : (es : Named) (name : List ℕ) (i : ℕ) → Some i ≡ position (bytes_eq name) (keys_of es) → i ≡ place_in es name
@@ -68,36 +41,18 @@ missing_state es name e = ap state_in (sym (after es)) ∙ ap (state_at es) (mis
 -- a name with a state stands at its place
 pub known_state : (es : Named) (name : List ℕ) (was : State) → lookup (bytes_eq name) es ≡ Some was → was ≡ state_for es name
 known_state [] name was h = absurd (cc)
-known_state (e ∷ es) name was h = by_test (bytes_eq name e.0) h (known_state es name was)
-  where
-    by_test : (t : Bool) → cond t (Some e.1) (lookup (bytes_eq name) es) ≡ Some was →
-        (lookup (bytes_eq name) es ≡ Some was → was ≡ state_for es name) →
-        was ≡ state_at (e ∷ es) (cond t 0 (place_in es name + 1))
-    by_test true h rest = let same : e.1 ≡ was = cc in sym same
-    by_test false h rest = rw add-one (rest h)
+known_state (e ∷ es) name was h = search (rules, add-one, known_state es name was)
 
 -- so does one that a lookup does not find
 pub unknown_state : (es : Named) (name : List ℕ) → lookup (bytes_eq name) es ≡ None → Wanted 0 ≡ state_for es name
 unknown_state [] name h = refl
-unknown_state (e ∷ es) name h = by_test (bytes_eq name e.0) h (unknown_state es name)
-  where
-    by_test : (t : Bool) → cond t (Some e.1) (lookup (bytes_eq name) es) ≡ None →
-        (lookup (bytes_eq name) es ≡ None → Wanted 0 ≡ state_for es name) →
-        Wanted 0 ≡ state_at (e ∷ es) (cond t 0 (place_in es name + 1))
-    by_test true h rest = absurd (cc)
-    by_test false h rest = rw add-one (rest h)
+unknown_state (e ∷ es) name h = search (rules, add-one, unknown_state es name)
 
 -- a state that is written again at its place
 pub written_again : (es : Named) (name : List ℕ) (first then : State) →
     set_value_at (insert_entry bytes_eq es name first) (place_in es name) then ≡ insert_entry bytes_eq es name then
 written_again [] name first then = refl
-written_again (e ∷ es) name first then = by_test (bytes_eq name e.0) (written_again es name first then)
-  where
-    by_test : (t : Bool) → set_value_at (insert_entry bytes_eq es name first) (place_in es name) then ≡ insert_entry bytes_eq es name then →
-        set_value_at (cond t ((e.0, first) ∷ es) (e ∷ insert_entry bytes_eq es name first)) (cond t 0 (place_in es name + 1)) then
-        ≡ cond t ((e.0, then) ∷ es) (e ∷ insert_entry bytes_eq es name then)
-    by_test true h = refl
-    by_test false h = rw add-one (ap (λ (l : Named). e ∷ l) h)
+written_again (e ∷ es) name first then = search (rules, add-one, written_again es name first then)
 
 -- a state that is written after the last name changes nothing
 pub with_state-after : (es : Named) (i : ℕ) (s : State) → length es ≤ i → with_state es i s ≡ es
@@ -108,8 +63,4 @@ with_state-after (e ∷ es) (suc i) s h = ap (λ (l : Named). e ∷ l) (with_sta
 -- those that pass a test are no more than all: sums of them fit if the whole does
 pub filter_le : {A : Type 0} (p : A → Bool) (xs : List A) → length (filter p xs) ≤ length xs
 filter_le p [] = omega arith
-filter_le {A = A} p (x ∷ xs) = by_test (p x) (filter_le p xs)
-  where
-    by_test : (t : Bool) → length (filter p xs) ≤ length xs → length (cond t (x ∷ filter p xs) (filter p xs)) ≤ length (x ∷ xs)
-    by_test true h = omega arith
-    by_test false h = omega arith
+filter_le {A = A} p (x ∷ xs) = search (rules, filter_le p xs)

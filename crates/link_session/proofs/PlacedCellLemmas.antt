@@ -1,13 +1,13 @@
 -- The cells of an object by the places of its symbols: they are those by the names.
-use Rattle.std.proofs.Common.{◌≡◌, ℕ, ◌+◌, Bool, true, false, cond, List, [], ◌∷◌, ◌++◌, Option, Some, None, refl, ◌∙◌, ap}
+use Rattle.std.proofs.Common.{◌≡◌, ℕ, ◌+◌, true, List, [], ◌∷◌, ◌++◌, Option, Some, None, refl, rules}
 use Rattle.std.specs.{Prelude.slice_get, Prelude.⊤, List.AllByRecursion}
-use Rattle.aout_core.specs.WellFormed.{kind_of, symbol_number, is_pc_relative, is_wanted, kind_fault, word_fault, first_bad_word}
+use Rattle.aout_core.specs.WellFormed.{kind_of, symbol_number, is_wanted, kind_fault, word_fault, first_bad_word}
 use Rattle.aout_core.specs.WellFormed.{IsWellFormed}
 use Rattle.aout_core.specs.{declared.symbol.Symbol.Symbol, declared.reloc.Reloc.Reloc, declared.reloc.Kind.Kind}
-use Rattle.aout_core.specs.{declared.object.ObjectFault.ObjectFault, Contents.Contents, Words.plus, Words.minus}
+use Rattle.aout_core.specs.{Contents.Contents}
 use Rattle.link_session.specs.internal.Additions.{reference, own_cell, own_cells, all_places, placed_reference, placed_cell, placed_cells}
-use Rattle.link_session.specs.{declared.cell.Cell.Cell, declared.cell.Target.Target, declared.relocate.Shifts.Shifts, Cells.name_target}
-use Rattle.link_session.specs.{Cells.offset_in, Cells.if_pc, Image.Named, Image.state_at}
+use Rattle.link_session.specs.{declared.relocate.Shifts.Shifts}
+use Rattle.link_session.specs.{Image.Named}
 use Rattle.link_session.proofs.WellFormedLemmas.{first_of_none, well_formed_parts}
 use Rattle.link_session.proofs.{ListLemmas.all_split, PlacedLemmas.wanted_place}
 use Rattle.aout_core.specs.declared.reloc.Kind.TheVariants as kinds
@@ -18,16 +18,7 @@ IsFit symbols number (Some kinds.External) = is_wanted (slice_get symbols number
 IsFit symbols number _ = ⊤
 
 fit : (symbols : List Symbol) (i number : ℕ) (kind : Option Kind) → kind_fault symbols i kind number ≡ None → IsFit symbols number kind
-fit symbols i number None h = tt
-fit symbols i number (Some kinds.Absolute) h = tt
-fit symbols i number (Some kinds.TextSeg) h = tt
-fit symbols i number (Some kinds.DataSeg) h = tt
-fit symbols i number (Some kinds.BssSeg) h = tt
-fit symbols i number (Some kinds.External) h = by_test (is_wanted (slice_get symbols number)) h
-  where
-    by_test : (t : Bool) → cond t None (Some (ObjectFault.BadSymbolNumber i)) ≡ None → t ≡ true
-    by_test true h = refl
-    by_test false h = absurd (cc)
+fit symbols i number kind h = search rules
 
 all_fit : (symbols : List Symbol) (i : ℕ) (rs : List Reloc) → first_bad_word symbols i rs ≡ None →
     AllByRecursion (λ r. IsFit symbols (symbol_number r) (kind_of r)) rs
@@ -39,30 +30,17 @@ all_fit symbols i (r ∷ rs) h =
 module _ (es : Named) (symbols : List Symbol) (shifts : Shifts) where
   placed_reference-is : (number : ℕ) (kind : Option Kind) → IsFit symbols number kind →
       placed_reference es (all_places es symbols) shifts number kind ≡ reference es symbols shifts number kind
-  placed_reference-is number None h = refl
-  placed_reference-is number (Some kinds.Absolute) h = refl
-  placed_reference-is number (Some kinds.TextSeg) h = refl
-  placed_reference-is number (Some kinds.DataSeg) h = refl
-  placed_reference-is number (Some kinds.BssSeg) h = refl
-  placed_reference-is number (Some kinds.External) h =
-      ap (λ (k : ℕ). let r : ℕ × Target = (offset_in (state_at es k), name_target (state_at es k) k) in r)
-      (wanted_place es symbols number h)
+  placed_reference-is number kind h = search (rules, wanted_place)
 
   cell-is : (own_shift w : ℕ) (r : Reloc) → IsFit symbols (symbol_number r) (kind_of r) →
       placed_cell es (all_places es symbols) shifts own_shift w r ≡ own_cell es symbols shifts own_shift w r
-  cell-is own_shift w r h =
-      ap (λ (p : ℕ × Target). let c : Cell = record {
-        value = minus (plus w p.0) (if_pc r own_shift);
-        target = p.1;
-        pc = is_pc_relative r;
-      } in c) (placed_reference-is (symbol_number r) (kind_of r) h)
+  cell-is own_shift w r h = cc (placed_reference-is (symbol_number r) (kind_of r) h)
 
   cells-are : (own_shift : ℕ) (ws : List ℕ) (rs : List Reloc) → AllByRecursion (λ r. IsFit symbols (symbol_number r) (kind_of r)) rs →
       placed_cells es (all_places es symbols) shifts own_shift ws rs ≡ own_cells es symbols shifts own_shift ws rs
   cells-are own_shift [] rs h = refl
   cells-are own_shift (w ∷ ws) [] h = refl
-  cells-are own_shift (w ∷ ws) (r ∷ rs) h =
-      let here = cell-is own_shift w r h.0 in let rest = cells-are own_shift ws rs h.1 in λ i. here i ∷ rest i
+  cells-are own_shift (w ∷ ws) (r ∷ rs) h = cc (cell-is own_shift w r h.0, cells-are own_shift ws rs h.1)
 
 -- the cells of an object's words
 module _ (es : Named) (o : Contents) (shifts : Shifts) (own_shift : ℕ) (well : IsWellFormed o) (places : List ℕ)
@@ -76,13 +54,9 @@ module _ (es : Named) (o : Contents) (shifts : Shifts) (own_shift : ℕ) (well :
   -- the code makes the cells of text by the places of names, and they are those by the names
   pub placed_texts : placed_cells es places shifts own_shift o.text_words o.text_reloc
       ≡ own_cells es o.symbols shifts own_shift o.text_words o.text_reloc
-  placed_texts =
-      ap (λ (ps : List ℕ). placed_cells es ps shifts own_shift o.text_words o.text_reloc) same
-      ∙ cells-are es o.symbols shifts own_shift o.text_words o.text_reloc both.0
+  placed_texts = cc (cells-are es o.symbols shifts own_shift o.text_words o.text_reloc both.0)
 
   -- the same of data
   pub placed_datas : placed_cells es places shifts own_shift o.data_words o.data_reloc
       ≡ own_cells es o.symbols shifts own_shift o.data_words o.data_reloc
-  placed_datas =
-      ap (λ (ps : List ℕ). placed_cells es ps shifts own_shift o.data_words o.data_reloc) same
-      ∙ cells-are es o.symbols shifts own_shift o.data_words o.data_reloc both.1
+  placed_datas = cc (cells-are es o.symbols shifts own_shift o.data_words o.data_reloc both.1)

@@ -1,14 +1,14 @@
 -- The places of an object's symbols among the names.
-use Rattle.std.proofs.Common.{◌≡◌, ℕ, zero, suc, ◌+◌, ◌≤◌, Bool, true, false, cond, ◌&&◌, ◌||◌, eqb, List, [], ◌∷◌, ◌++◌, length, map, refl}
-use Rattle.std.proofs.Common.{sym, ◌∙◌, ap, arith}
+use Rattle.std.proofs.Common.{◌≡◌, ℕ, zero, suc, ◌≤◌, Bool, true, false, cond, List, [], ◌∷◌, ◌++◌, length, map, refl}
+use Rattle.std.proofs.Common.{sym, ◌∙◌, ap, arith, rules}
 use Rattle.std.proofs.lemmas.Bool.{or_left, or_right}
-use Rattle.std.specs.{Prelude.bytes_eq, Prelude.filter, Prelude.slice_get, Prelude.slice_index_or, Map.keys_of}
-use Rattle.aout_core.specs.{declared.symbol.Symbol.Symbol, WellFormed.is_external, WellFormed.masked_type, WellFormed.is_wanted}
+use Rattle.std.specs.{Prelude.filter, Prelude.slice_get, Prelude.slice_index_or, Map.keys_of}
+use Rattle.aout_core.specs.{declared.symbol.Symbol.Symbol, WellFormed.is_external, WellFormed.is_wanted}
 use Rattle.link_session.specs.internal.Additions.{place_in, with_mention, with_mentions, mention_by, mentions_by, no_place, all_places}
-use Rattle.link_session.specs.{declared.cell.Cell.Cell, declared.relocate.Shifts.Shifts, declared.state.State.State}
+use Rattle.link_session.specs.{declared.cell.Cell.Cell, declared.relocate.Shifts.Shifts}
 use Rattle.link_session.specs.{declared.state.State.TheVariants.Wanted, Mentions.Mention, Mentions.place_of, Cells.name_in, Image.Named}
 use Rattle.link_session.specs.{Image.state_at, internal.Chains.Link, internal.Settled.settled_at, internal.Settled.settled_over}
-use Rattle.link_session.specs.{internal.Settled.places_of, internal.Threads.cut_by_state, internal.Threads.cut_heads}
+use Rattle.link_session.specs.{internal.Settled.places_of, internal.Threads.cut_heads}
 use Rattle.tool_options.specs.NameLists.{is_among}
 use Rattle.tool_options.proofs.NameListLemmas.{is_among-append}
 use Rattle.link_session.proofs.{MentionLemmas.place_of-append, MentionedLemmas.keys-with_mention, NamesLemmas.unsettled}
@@ -24,15 +24,11 @@ noted_places shifts es (s ∷ ss) =
 -- a name that is there keeps its place
 kept_once : (es : Named) (m : Mention) (name : List ℕ) → is_among (keys_of es) name ≡ true →
     place_in (with_mention es m) name ≡ place_in es name
-kept_once es m name h =
-    ap (place_of name) (keys-with_mention es m) ∙ place_of-append (keys_of es) (cond (is_among (keys_of es) m.name) [] (m.name ∷ [])) name h
+kept_once es m name h = search (rules, keys-with_mention, place_of-append)
 
 still_among : (es : Named) (m : Mention) (name : List ℕ) → is_among (keys_of es) name ≡ true →
     is_among (keys_of (with_mention es m)) name ≡ true
-still_among es m name h =
-    ap (λ (ns : List (List ℕ)). is_among ns name) (keys-with_mention es m)
-    ∙ is_among-append (keys_of es) (cond (is_among (keys_of es) m.name) [] (m.name ∷ [])) name
-    ∙ or_left _ _ h
+still_among es m name h = search (rules, keys-with_mention, is_among-append, or_left)
 
 kept : (es : Named) (ms : List Mention) (name : List ℕ) → is_among (keys_of es) name ≡ true →
     place_in (with_mentions es ms) name ≡ place_in es name
@@ -42,32 +38,13 @@ kept es (m ∷ ms) name h = kept (with_mention es m) ms name (still_among es m n
 -- a name that is not there gets the place after the last
 place_last : (ns : List (List ℕ)) (name : List ℕ) → is_among ns name ≡ false → place_of name (ns ++ name ∷ []) ≡ place_of name ns
 place_last [] name h = ap (λ (t : Bool). cond t 0 1) (own_name name)
-place_last (n ∷ ns) name h = by_test (bytes_eq name n) h (place_last ns name)
-  where
-    by_test : (t : Bool) → (t || is_among ns name) ≡ false →
-        (is_among ns name ≡ false → place_of name (ns ++ name ∷ []) ≡ place_of name ns) →
-        cond t 0 (place_of name (ns ++ name ∷ []) + 1) ≡ cond t 0 (place_of name ns + 1)
-    by_test true h rest = absurd (cc)
-    by_test false h rest = ap (λ (k : ℕ). k + 1) (rest h)
+place_last (n ∷ ns) name h = search (rules, place_last ns name)
 
 mentioned_place : (es : Named) (m : Mention) → place_in (with_mention es m) m.name ≡ place_in es m.name
-mentioned_place es m = ap (place_of m.name) (keys-with_mention es m) ∙ by_test (is_among (keys_of es) m.name) refl
-  where
-    by_test : (t : Bool) → is_among (keys_of es) m.name ≡ t →
-        place_of m.name (keys_of es ++ cond t [] (m.name ∷ [])) ≡ place_of m.name (keys_of es)
-    by_test true h = place_of-append (keys_of es) [] m.name h
-    by_test false h = place_last (keys_of es) m.name h
+mentioned_place es m = search (rules, keys-with_mention, place_of-append, place_last)
 
 mentioned_among : (es : Named) (m : Mention) → is_among (keys_of (with_mention es m)) m.name ≡ true
-mentioned_among es m =
-    ap (λ (ns : List (List ℕ)). is_among ns m.name) (keys-with_mention es m)
-    ∙ is_among-append (keys_of es) (cond (is_among (keys_of es) m.name) [] (m.name ∷ [])) m.name
-    ∙ by_test (is_among (keys_of es) m.name) refl
-  where
-    by_test : (t : Bool) → is_among (keys_of es) m.name ≡ t →
-        (is_among (keys_of es) m.name || is_among (cond t [] (m.name ∷ [])) m.name) ≡ true
-    by_test true h = or_left _ _ h
-    by_test false h = or_right _ _ (or_left _ _ (own_name m.name))
+mentioned_among es m = search (rules, keys-with_mention, is_among-append, or_left, or_right, own_name)
 
 -- what is noted is where the names stand in the end
 pub noted-all : (shifts : Shifts) (es : Named) (ss : List Symbol) →
@@ -122,22 +99,11 @@ module _ (es : Named) (few : length es ≤ 65535) where
   -- and so are the heads
   pub cut_places : (ss : List Symbol) (heads : List Link) → cut_heads es (all_places es ss) heads ≡ cut_heads es (places_of es ss) heads
   cut_places [] heads = refl
-  cut_places (s ∷ ss) heads = by_test (is_external s) (cut_places ss)
-    where
-      by_test : (t : Bool) → ((l : List Link) → cut_heads es (all_places es ss) l ≡ cut_heads es (places_of es ss) l) →
-          cut_heads es (cond t (place_in es s.name) no_place ∷ all_places es ss) heads
-          ≡ cut_heads es
-          (map (place_in es) (map (λ (x : Symbol). x.name) (cond t (s ∷ filter is_external ss) (filter is_external ss)))) heads
-      by_test true rest = rest (cut_by_state (state_at es (place_in es s.name)) (place_in es s.name) heads)
-      by_test false rest = ap (λ (x : State). cut_heads es (all_places es ss) (cut_by_state x no_place heads)) nowhere ∙ rest heads
+  cut_places (s ∷ ss) heads = search (rules, nowhere, cut_places ss)
 
 -- the place of a symbol that a relocation word may refer to
 pub wanted_place : (es : Named) (ss : List Symbol) (i : ℕ) → is_wanted (slice_get ss i) ≡ true →
     slice_index_or (all_places es ss) i no_place ≡ place_in es (name_in (slice_get ss i))
 wanted_place es [] i h = absurd (cc)
-wanted_place es (s ∷ ss) zero h = by_test (is_external s) h
-  where
-    by_test : (t : Bool) → (t && eqb (masked_type s) 0) ≡ true → cond t (place_in es s.name) no_place ≡ place_in es s.name
-    by_test true h = refl
-    by_test false h = absurd (cc)
+wanted_place es (s ∷ ss) zero h = search rules
 wanted_place es (s ∷ ss) (suc i) h = wanted_place es ss i h

@@ -1,11 +1,11 @@
 -- The chains of externals while a cell is put last, in front of its chain, and how many places a chain has.
 use Rattle.std.proofs.Common.{◌≡◌, ◌<◌, ◌≤◌, ◌+◌, ℕ, suc, Bool, true, false, ◌||◌, List, [], ◌∷◌, ◌++◌, length, Some, None, slice_index_or}
-use Rattle.std.proofs.Common.{refl, sym, ap, ◌∙◌, subst, arith, length-append}
+use Rattle.std.proofs.Common.{refl, sym, ap, ◌∙◌, subst, arith, length-append, rules}
 use Rattle.std.proofs.{Math.Seq.get_or-append_seam, lemmas.List.get_or_append_left}
 use Rattle.std.specs.List.{AllByRecursion}
 use Rattle.link_session.specs.internal.Chains.{Link, link_at, IsChain, is_on, IsWithin, waits_at, FindsWaiting, Waits}
 use Rattle.link_session.specs.{declared.cell.Cell.Cell, declared.mark.Place.Place, declared.mark.Place.TheVariants.InText}
-use Rattle.link_session.specs.{declared.mark.Place.TheVariants.InData, Marks.same_place}
+use Rattle.link_session.specs.{declared.mark.Place.TheVariants.InData}
 use Rattle.link_session.proofs.{ListLemmas.all_map, ChainLemmas.own_number, ChainLemmas.other_number}
 
 -- Links that grow.
@@ -13,22 +13,12 @@ use Rattle.link_session.proofs.{ListLemmas.all_map, ChainLemmas.own_number, Chai
 chain_grown_text : (ts ds : List Link) (x : Link) (d : ℕ) (head : Link) (ps : List Place) →
     AllByRecursion (IsWithin (length ts) d) ps → IsChain ts ds head ps → IsChain (ts ++ x ∷ []) ds head ps
 chain_grown_text ts ds x d head [] h c = c
-chain_grown_text ts ds x d head (p ∷ ps) h c =
-    (c.0, subst (λ (l : Link). IsChain (ts ++ x ∷ []) ds l ps) (sym (same p h.0)) (chain_grown_text ts ds x d (link_at ts ds p) ps h.1 c.1))
-  where
-    same : (p : Place) → IsWithin (length ts) d p → link_at (ts ++ x ∷ []) ds p ≡ link_at ts ds p
-    same (InText i) lt = get_or_append_left ts (x ∷ []) None i lt
-    same (InData i) lt = refl
+chain_grown_text ts ds x d head (p ∷ ps) h c = search (rules, get_or_append_left, chain_grown_text ts ds x d (link_at ts ds p) ps h.1 c.1)
 
 chain_grown_data : (ts ds : List Link) (x : Link) (t : ℕ) (head : Link) (ps : List Place) →
     AllByRecursion (IsWithin t (length ds)) ps → IsChain ts ds head ps → IsChain ts (ds ++ x ∷ []) head ps
 chain_grown_data ts ds x t head [] h c = c
-chain_grown_data ts ds x t head (p ∷ ps) h c =
-    (c.0, subst (λ (l : Link). IsChain ts (ds ++ x ∷ []) l ps) (sym (same p h.0)) (chain_grown_data ts ds x t (link_at ts ds p) ps h.1 c.1))
-  where
-    same : (p : Place) → IsWithin t (length ds) p → link_at ts (ds ++ x ∷ []) p ≡ link_at ts ds p
-    same (InText i) lt = refl
-    same (InData i) lt = get_or_append_left ds (x ∷ []) None i lt
+chain_grown_data ts ds x t head (p ∷ ps) h c = search (rules, get_or_append_left, chain_grown_data ts ds x t (link_at ts ds p) ps h.1 c.1)
 
 -- Tests of cells.
 
@@ -53,30 +43,20 @@ none_finds k (c ∷ cs) h = (sym h.0, none_finds k cs h.1)
 -- a new name has an empty chain
 pub new_chain : (ts ds : List Link) (texts datas : List Cell) (k : ℕ) → NoneWaits k texts → NoneWaits k datas →
     Waits ts ds None texts datas k
-new_chain ts ds texts datas k t d =
-    record { places = []; visits = refl; apart = tt; inside = tt; text = none_finds k texts t; «data» = none_finds k datas d }
+new_chain ts ds texts datas k t d = search (rules, none_finds)
 
 -- Places after the last cell.
 
 new_text : (t d : ℕ) (ps : List Place) → AllByRecursion (IsWithin t d) ps → is_on ps (InText t) ≡ false
 new_text t d [] h = refl
-new_text t d (p ∷ ps) h = by_place p h.0 (new_text t d ps h.1)
-  where
-    by_place : (p : Place) → IsWithin t d p → is_on ps (InText t) ≡ false → (same_place (InText t) p || is_on ps (InText t)) ≡ false
-    by_place (InText i) lt e = let other = other_number t i (λ same. omega arith) in rw other e
-    by_place (InData i) lt e = e
+new_text t d (p ∷ ps) h = search (rules, other_number, new_text t d ps h.1)
 
 new_data : (t d : ℕ) (ps : List Place) → AllByRecursion (IsWithin t d) ps → is_on ps (InData d) ≡ false
 new_data t d [] h = refl
-new_data t d (p ∷ ps) h = by_place p h.0 (new_data t d ps h.1)
-  where
-    by_place : (p : Place) → IsWithin t d p → is_on ps (InData d) ≡ false → (same_place (InData d) p || is_on ps (InData d)) ≡ false
-    by_place (InText i) lt e = e
-    by_place (InData i) lt e = let other = other_number d i (λ same. omega arith) in rw other e
+new_data t d (p ∷ ps) h = search (rules, other_number, new_data t d ps h.1)
 
 wider : (t d u v : ℕ) → t ≤ u → d ≤ v → (p : Place) → IsWithin t d p → IsWithin u v p
-wider t d u v h k (InText i) lt = omega arith
-wider t d u v h k (InData i) lt = omega arith
+wider t d u v h k p lt = search rules
 
 module _ (ts ds : List Link) (head : Link) (texts datas : List Cell) (k : ℕ) (c : Cell) (w : Waits ts ds head texts datas k) where
   more_text : length (texts ++ c ∷ []) ≡ length texts + 1

@@ -1,18 +1,18 @@
 -- The marks of one chain, and of several, bring cells and heads back.
-use Rattle.std.proofs.Common.{◌≡◌, ◌<◌, ℕ, zero, suc, Bool, true, ◌||◌, List, [], ◌∷◌, ◌++◌, map, length, None, slice_index_or, slice_set}
-use Rattle.std.proofs.Common.{refl, sym, ap, ◌∙◌, subst, arith, append-nil}
+use Rattle.std.proofs.Common.{◌≡◌, ◌<◌, ℕ, zero, suc, Bool, true, List, [], ◌∷◌, ◌++◌, map, length, None, slice_index_or, slice_set}
+use Rattle.std.proofs.Common.{sym, ap, ◌∙◌, subst, arith, rules}
 use Rattle.std.specs.List.{AllByRecursion}
 use Rattle.aout_core.specs.declared.symbol.Segment.{Segment}
-use Rattle.link_session.specs.internal.Chains.{Link, is_on, IsWithin, IsBoundTo, FindsWaiting, bound_if, bound_where, cell_at, nowhere}
-use Rattle.link_session.specs.internal.Chains.{marks_of, heads_back, AreChained}
+use Rattle.link_session.specs.internal.Chains.{Link, is_on, IsWithin, IsBoundTo, FindsWaiting, bound_if, cell_at, nowhere}
+use Rattle.link_session.specs.internal.Chains.{marks_of, AreChained}
 use Rattle.link_session.specs.{declared.cell.Cell.Cell, declared.cell.Target.TheVariants.External, declared.mark.Mark.Mark}
 use Rattle.link_session.specs.{declared.mark.Place.Place, declared.mark.Place.TheVariants.InText, declared.mark.Place.TheVariants.InData}
-use Rattle.link_session.specs.{Undo.put_all_back, Undo.IsInside, Marks.cells_marked, internal.Restores.Restores}
+use Rattle.link_session.specs.{internal.Restores.Restores}
 use Rattle.link_session.specs.{internal.Restores.LeavesMarks, internal.Restores.HoldBound}
 use Rattle.link_session.proofs.{ListLemmas.all_append, ChainLemmas.on_inside, ChainLemmas.on_either, ChainLemmas.apart_parts}
 use Rattle.link_session.proofs.{ChainLemmas.chain-unique, WalkLemmas.done_inside, WalkLemmas.cell_now, WalkLemmas.ended}
 use Rattle.link_session.proofs.{MarkLemmas.put_all_back-append, MarkedLemmas.cells_marked-append, MarkedLemmas.states_marked-append}
-use Rattle.link_session.proofs.{MarkedLemmas.no_states, MarkedLemmas.chain_marked, MarkedLemmas.none_held, MarkedLemmas.bound_held}
+use Rattle.link_session.proofs.{MarkedLemmas.no_states, MarkedLemmas.chain_marked, MarkedLemmas.bound_held}
 use Rattle.link_session.proofs.{MarkedLemmas.held_then, WaitLemmas.bound_on_chain, WaitLemmas.heads_back-chain, CountLemmas.waits_is}
 use Rattle.link_session.proofs.{ChainBackLemmas.chain_back, ChainBackLemmas.chain_inside, ChainBackLemmas.heads_back-append}
 
@@ -30,10 +30,7 @@ module _ (ts ds : List Link) (texts datas : List Cell) (heads : List Link) (a : 
   inside_done = done_inside ts ds (slice_index_or heads k None) segment offset texts datas marks next new_texts new_datas new_marks w
 
   on_places : (p : Place) → is_on w.done p ≡ true → is_on (a.each k).places p ≡ true
-  on_places p e =
-      ap (λ (ps : List Place). is_on ps p)
-      (chain-unique ts ds (slice_index_or heads k None) (a.each k).places (w.done ++ w.rest) (a.each k).visits w.visits)
-      ∙ on_either w.done w.rest p ∙ ap (λ (t : Bool). t || is_on w.rest p) e
+  on_places p e = search (rules, chain-unique, on_either)
 
   waits_there : (p : Place) → is_on w.done p ≡ true → (cell_at texts datas p).target ≡ External k
   waits_there (InText i) e =
@@ -63,21 +60,16 @@ module _ (ts ds : List Link) (texts datas : List Cell) (heads : List Link) (a : 
 
   -- all of it
   all_done : next ≡ None → w.done ≡ (a.each k).places
-  all_done e =
-      ended ts ds (slice_index_or heads k None) segment offset texts datas marks next new_texts new_datas new_marks w e
-      (a.each k).places (a.each k).visits
+  all_done e = cc (ended ts ds (slice_index_or heads k None) segment offset texts datas marks next new_texts new_datas new_marks w e
+      (a.each k).places (a.each k).visits)
 
   -- once a chain is at its end, all cells of text that waited are bound
   pub all_texts : next ≡ None → new_texts ≡ map (bound_if k segment offset) texts
-  all_texts e =
-      w.text ∙ ap (λ (ps : List Place). bound_where (λ i. is_on ps (InText i)) segment offset texts) (all_done e)
-      ∙ bound_on_chain segment offset k (λ i. is_on (a.each k).places (InText i)) texts (a.each k).text
+  all_texts e = search (rules, all_done, bound_on_chain)
 
   -- the same of data
   pub all_datas : next ≡ None → new_datas ≡ map (bound_if k segment offset) datas
-  all_datas e =
-      w.data ∙ ap (λ (ps : List Place). bound_where (λ i. is_on ps (InData i)) segment offset datas) (all_done e)
-      ∙ bound_on_chain segment offset k (λ i. is_on (a.each k).places (InData i)) datas (a.each k).data
+  all_datas e = search (rules, all_done, bound_on_chain)
 
   -- and the marks are those of the whole chain
   pub all_marks : next ≡ None → new_marks ≡ marks ++ marks_of texts datas (a.each k).places
@@ -88,30 +80,17 @@ pub restores_then : (texts datas mid_texts mid_datas new_texts new_datas : List 
     (ks ls : List Mark) → length mid_texts ≡ length texts → length mid_datas ≡ length datas →
     Restores texts datas heads mid_texts mid_datas mid_heads ks → Restores mid_texts mid_datas mid_heads new_texts
     new_datas new_heads ls → Restores texts datas heads new_texts new_datas new_heads (ks ++ ls)
-restores_then texts datas mid_texts mid_datas new_texts new_datas heads mid_heads new_heads ks ls lt ld r s = record {
-  cells = λ m mt md.
-      put_all_back-append ks ls m
-      ∙ ap (put_all_back ks) (s.cells m mt md)
-      ∙ r.cells (record m { text_cells = mid_texts; data_cells = mid_datas }) refl refl;
-  heads_are = heads_back-append ks ls new_heads ∙ ap (heads_back ks) s.heads_are ∙ r.heads_are;
-  inside = λ m mt md. all_append (IsInside m) ks ls (r.inside m mt md) (s.inside m (mt ∙ sym lt) (md ∙ sym ld));
-  cells_are = λ p.
-      subst (HoldBound (cell_at texts datas p) (cell_at new_texts new_datas p)) (sym (cells_marked-append p ks ls))
-      (held_then (cell_at texts datas p) (cell_at mid_texts mid_datas p) (cell_at new_texts new_datas p)
-      (cells_marked p ks) (cells_marked p ls) (r.cells_are p) (s.cells_are p));
-  no_states = λ i. states_marked-append i ks ls ∙ (λ j. r.no_states i j ++ s.no_states i j);
-}
+restores_then texts datas mid_texts mid_datas new_texts new_datas heads mid_heads new_heads ks ls lt ld r s = search (
+  rules,
+  put_all_back-append,
+  heads_back-append,
+  all_append,
+  cells_marked-append,
+  held_then,
+  no_states,
+  states_marked-append,
+)
 
 -- nothing changes and nothing is marked
 pub nothing_left : (texts datas : List Cell) (heads : List Link) (old : List Mark) → LeavesMarks texts datas heads texts datas heads old old
-nothing_left texts datas heads old = record {
-  marks = [];
-  last = sym (append-nil old);
-  restores = record {
-    cells = λ m mt md. λ i. record m { text_cells = mt i; data_cells = md i };
-    heads_are = refl;
-    inside = λ m mt md. tt;
-    cells_are = λ p. none_held (cell_at texts datas p);
-    no_states = λ i. refl;
-  };
-}
+nothing_left texts datas heads old = search rules

@@ -1,6 +1,6 @@
 -- What a session's fields are worth after an addition and after a withdrawal.
 use Rattle.std.proofs.Common.{◌≡◌, ℕ, suc, ◌-◌, ◌≤◌, List, [], ◌∷◌, ◌++◌, map, length, replicate, Some, None, refl, sym, ◌∙◌, ap, subst}
-use Rattle.std.proofs.Common.{arith, length-append, append-nil}
+use Rattle.std.proofs.Common.{arith, length-append, append-nil, rules}
 use Rattle.std.proofs.lemmas.List.{map-append, length-map, same_from_push}
 use Rattle.std.specs.{Prelude.slice_get, Prelude.filter, List.AllByRecursion, Map.keys_of}
 use Rattle.aout_core.specs.Contents.{Contents}
@@ -12,7 +12,7 @@ use Rattle.link_session.specs.internal.Fields.{IsSession}
 use Rattle.link_session.specs.internal.Additions.{with_mentions, settled_cell, next_limit, next_named, joined_image}
 use Rattle.link_session.specs.internal.Threads.{Threads, IsThreaded, KeepsThreads, next_threads, next_texts, next_datas}
 use Rattle.link_session.specs.{declared.state.State.State, declared.merged.Sizes.Sizes, declared.session.UndoRecord.UndoRecord}
-use Rattle.link_session.specs.{Earlier.with_earlier, Labelled.Labelled, Labelled.objects, Image.Image, Image.image, Image.named_states}
+use Rattle.link_session.specs.{Labelled.Labelled, Labelled.objects, Image.Image, Image.image, Image.named_states}
 use Rattle.link_session.specs.{Limits.limit_passed, Limits.refusal, Sessions.newest, Sessions.Adds, Sessions.IsObject}
 use Rattle.link_session.specs.{internal.Settled.IsCovered, internal.Chains.Link, internal.Restores.TakesBack}
 use Rattle.link_session.proofs.JournalLemmas.{journal_push, journal_pop, journal_empty}
@@ -37,15 +37,12 @@ session_covered forced es undo_records m t o s =
 -- why an object is refused, read off the fields
 pub refusal-fields : (forced : List (List ℕ)) (es : List Labelled) (undo_records : List UndoRecord) (m : Image)
     (t : Threads) (o : Contents) → IsSession forced es undo_records m t → refusal forced (objects es) o ≡ next_limit m o
-refusal-fields forced es undo_records m t o s =
-    refusal-next_limit forced (objects es) o s.good ∙ ap (λ (n : Image). next_limit n o) (sym s.image)
+refusal-fields forced es undo_records m t o s = cc (refusal-next_limit forced (objects es) o s.good)
 
 -- the kept sizes of one more object
 sizes_push : (forced : List (List ℕ)) (os : List Contents) (o : Contents) →
     sizes_before forced (os ++ o ∷ []) ≡ sizes_before forced os ++ sizes_of (image forced os) ∷ []
-sizes_push forced os o =
-    ap (λ (ps : List (List Contents × Contents)). map (λ p. sizes_of (image forced p.0)) ps) (with_earlier-append [] os (o ∷ []))
-    ∙ map-append (λ (p : List Contents × Contents). sizes_of (image forced p.0)) (with_earlier [] os) ((os, o) ∷ [])
+sizes_push forced os o = search (rules, with_earlier-append, map-append)
 
 module _ (forced : List (List ℕ)) (es : List Labelled) (undo_records : List UndoRecord) (m : Image)
     (t : Threads) (e : Labelled) (undo_record : UndoRecord) (s : IsSession forced es undo_records m t)
@@ -68,9 +65,7 @@ module _ (forced : List (List ℕ)) (es : List Labelled) (undo_records : List Un
   }
 
   of_last : AreMarksOfLast forced undo_record.marks.items (objects es ++ e.object ∷ []) (objects es)
-  of_last o split =
-      subst (λ (x : Contents). AreMarksOf forced (objects es) x undo_record.marks.items)
-      (same_from_push (objects es) (objects es) e.object o split).1 are_marks
+  of_last o split = search (rules, same_from_push, are_marks)
 
   -- the fields after an addition
   pub added_session : (n : Image) (u : Threads) → IsObject e.object → next_limit m e.object ≡ None →
@@ -114,13 +109,7 @@ module _ (forced : List (List ℕ)) (es : List Labelled) (undo_records : List Un
   -- what the addition says of the state
   pub adds : Adds (record { forced = forced; entries = es; journal = map marks_in undo_records })
       (record { forced = forced; entries = es ++ e ∷ []; journal = map marks_in (undo_records ++ undo_record ∷ []) }) e
-  adds = record {
-    forced = refl;
-    entries = refl;
-    marks = undo_record.marks.items;
-    journal = map-append marks_in undo_records (undo_record ∷ []);
-    are = are_marks;
-  }
+  adds = search (rules, map-append, are_marks)
 
 module _ (forced : List (List ℕ)) (es : List Labelled) (undo_records : List UndoRecord) (m : Image) (t : Threads) (e : Labelled)
     (undo_record : UndoRecord) (s : IsSession forced (es ++ e ∷ []) (undo_records ++ undo_record ∷ []) m t) where
@@ -134,10 +123,7 @@ module _ (forced : List (List ℕ)) (es : List Labelled) (undo_records : List Un
   -- a withdrawal cuts the lists to the sizes before the last object, which its record has
   pub kept_sizes : (map sizes_in undo_records ≡ sizes_before forced (objects es))
       × (undo_record.sizes ≡ sizes_of (image forced (objects es)))
-  kept_sizes =
-      same_from_push (map sizes_in undo_records) (sizes_before forced (objects es)) undo_record.sizes (sizes_of (image forced (objects es)))
-      (sym (map-append sizes_in undo_records (undo_record ∷ [])) ∙ s.sizes
-      ∙ ap (λ (xs : List Contents). sizes_before forced xs) one_less ∙ sizes_push forced (objects es) e.object)
+  kept_sizes = search (rules, same_from_push, map-append, sizes_push)
 
   now : m ≡ image forced (objects es ++ e.object ∷ [])
   now = s.image ∙ ap (λ (xs : List Contents). image forced xs) one_less
@@ -268,8 +254,7 @@ forced_session forced few m t text datas bss names multiples text_links data_lin
 -- the name's index is its place among the externals
 pub externals-fields : (forced : List (List ℕ)) (es : List Labelled) (undo_records : List UndoRecord) (m : Image)
     (t : Threads) → IsSession forced es undo_records m t → keys_of m.externals ≡ externals forced (objects es)
-externals-fields forced es undo_records m t s =
-    ap (λ (n : Image). keys_of n.externals) s.image ∙ keys-named_states (mentions forced (objects es))
+externals-fields forced es undo_records m t s = cc (keys-named_states (mentions forced (objects es)))
 
 -- the marks of the last undo record
 pub newest_record : (undo_records : List UndoRecord) (undo_record : UndoRecord) → Some undo_record

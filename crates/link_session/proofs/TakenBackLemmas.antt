@@ -1,5 +1,5 @@
 -- The marks of an object's mentions and of the chains that it binds take it back.
-use Rattle.std.proofs.Common.{◌≡◌, List, [], ◌++◌, map, take, length, refl, sym, ap, ◌∙◌, subst, arith, append-nil}
+use Rattle.std.proofs.Common.{◌≡◌, List, ◌++◌, map, take, length, refl, sym, ap, ◌∙◌, subst, arith, append-nil, rules}
 use Rattle.std.proofs.{Math.Seq.take-length, lemmas.List.length-map, lemmas.List.take_at, lemmas.List.take_all}
 use Rattle.std.specs.List.{AllByRecursion}
 use Rattle.aout_core.specs.Contents.{Contents}
@@ -26,12 +26,7 @@ module _ (m : Image) (o : Contents) where
       (r : Restores m.text_cells m.data_cells heads texts datas new_heads ks) where
     -- cells, then states, in an image that is cut to the sizes of the old one
     cells_and_states : (n : Image) → n ≡ at texts datas (take (length m.externals) (next_named m o)) → put_all_back (states ++ ks) n ≡ m
-    cells_and_states n e =
-        put_all_back-append states ks n
-        ∙ ap (put_all_back states) (r.cells n (ap (λ (x : Image). x.text_cells) e) (ap (λ (x : Image). x.data_cells) e))
-        ∙ ap (λ (x : Image). put_all_back states (record x { text_cells = m.text_cells; data_cells = m.data_cells })) e
-        ∙ mentions_back (at m.text_cells m.data_cells []) (length m.externals) m.externals (next_mentions m o) (omega arith)
-        ∙ ap (λ (es : Named). at m.text_cells m.data_cells es) (take-length m.externals)
+    cells_and_states n e = search (rules, put_all_back-append, mentions_back, take-length)
 
     -- an object whose own cells are not yet put last is taken back
     pub bound_alone : length texts ≡ length m.text_cells → length datas ≡ length m.data_cells →

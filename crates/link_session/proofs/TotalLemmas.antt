@@ -1,7 +1,7 @@
 -- Sizes, limits and shifts read off an image.
-use Rattle.std.proofs.Common.{◌≡◌, ℕ, ◌+◌, ◌*◌, ◌≤◌, Bool, true, false, cond, List, [], ◌∷◌, ◌++◌, length, Option, Some, None, refl, sym}
-use Rattle.std.proofs.Common.{◌∙◌, ap, arith, length-append, nat_lt}
-use Rattle.std.proofs.{lemmas.Bool.ltb-false, lemmas.Bool.le-ltb, lemmas.List.length-map, lemmas.List.Sums.sum_by-append}
+use Rattle.std.proofs.Common.{◌≡◌, ℕ, ◌+◌, ◌*◌, ◌≤◌, Bool, cond, List, [], ◌∷◌, ◌++◌, length, Option, Some, None, refl, sym}
+use Rattle.std.proofs.Common.{◌∙◌, ap, arith, length-append, nat_lt, rules}
+use Rattle.std.proofs.{lemmas.Bool.le-ltb, lemmas.List.length-map, lemmas.List.Sums.sum_by-append}
 use Rattle.std.proofs.{lemmas.Slice.Zip.length-zip}
 use Rattle.std.specs.{List.flat_map, List.AllByRecursion, Map.keys_of}
 use Rattle.aout_core.specs.{declared.symbol.Symbol.Symbol, declared.symbol.Segment.Segment, declared.reloc.Reloc.Reloc, Contents.Contents}
@@ -49,15 +49,13 @@ pub blocks_counted : {A : Type 0} (segment : Segment) (f : List Contents × Cont
     ((o : Contents) → IsObject o → 2 * length (words_of segment o) ≡ size_of segment o) → (earlier os : List Contents) →
     AllByRecursion IsObject os → 2 * length (flat_map f (with_earlier earlier os)) ≡ total segment os
 blocks_counted segment f same counted earlier [] h = refl
-blocks_counted segment f same counted earlier (o ∷ os) h =
-    omega (
-      arith,
-      length-append (f (earlier, o)) (flat_map f (with_earlier (earlier ++ o ∷ []) os)),
-      same (earlier, o),
-      counted o h.0,
-      blocks_counted segment f same counted (earlier ++ o ∷ []) os h.1,
-      total-first segment o os,
-    )
+blocks_counted segment f same counted earlier (o ∷ os) h = search (
+  rules,
+  length-append,
+  total-first,
+  blocks_counted segment f same counted (earlier ++ o ∷
+      []) os h.1,
+)
 
 module _ (ms : List Mention) where
   cells_counted : (segment : Segment) (q : List Contents × Contents) → length (cells_in ms segment q.0 q.1) ≡ length (words_of segment q.1)
@@ -65,9 +63,7 @@ module _ (ms : List Mention) where
 
   -- two bytes for each cell
   pub text_total : (os : List Contents) → AllByRecursion IsObject os → 2 * length (cells ms segments.TextSeg os) ≡ total segments.TextSeg os
-  text_total os h =
-      blocks_counted segments.TextSeg (λ q. cells_in ms segments.TextSeg q.0 q.1)
-      (cells_counted segments.TextSeg) text_counted [] os h
+  text_total os h = search (rules, blocks_counted, cells_counted, text_counted)
 
   -- the same of data
   pub data_total : (os : List Contents) → AllByRecursion IsObject os → 2 * length (cells ms segments.DataSeg os) ≡ total segments.DataSeg os
@@ -122,31 +118,7 @@ pub record Within (t d b n : ℕ) : Type 0 where
 
 -- what an image within its limits gives for sums and casts
 pub within_limit : (t d b n : ℕ) → limit t d b n ≡ None → Within t d b n
-within_limit t d b n h = by_text (nat_lt 65534 t) refl h
-  where
-    by_names : Within t d b 0 → (u : Bool) → nat_lt 65535 n ≡ u → cond u (Some NamesFull) None ≡ None → Within t d b n
-    by_names w true e h = absurd (cc)
-    by_names w false e h = record { text = w.text; «data» = w.data; bss = w.bss; names = ltb-false 65535 n e }
-
-    by_bss : Within t d 0 0 → (u : Bool) → nat_lt 65534 b ≡ u →
-        cond u (Some BssFull) (cond (nat_lt 65535 n) (Some NamesFull) None) ≡ None → Within t d b n
-    by_bss w true e h = absurd (cc)
-    by_bss w false e h =
-        by_names (record { text = w.text; «data» = w.data; bss = ltb-false 65534 b e; names = omega arith }) (nat_lt 65535 n) refl h
-
-    by_data : Within t 0 0 0 → (u : Bool) → nat_lt 65534 d ≡ u → cond u (Some DataFull)
-        (cond (nat_lt 65534 b) (Some BssFull) (cond (nat_lt 65535 n) (Some NamesFull) None)) ≡ None → Within t d b n
-    by_data w true e h = absurd (cc)
-    by_data w false e h =
-        by_bss (record { text = w.text; «data» = ltb-false 65534 d e; bss = omega arith; names = omega arith })
-        (nat_lt 65534 b) refl h
-
-    by_text : (u : Bool) → nat_lt 65534 t ≡ u → cond u (Some TextFull) (cond (nat_lt 65534 d) (Some DataFull)
-        (cond (nat_lt 65534 b) (Some BssFull) (cond (nat_lt 65535 n) (Some NamesFull) None))) ≡ None → Within t d b n
-    by_text true e h = absurd (cc)
-    by_text false e h =
-        by_data (record { text = ltb-false 65534 t e; «data» = omega arith; bss = omega arith; names = omega arith })
-        (nat_lt 65534 d) refl h
+within_limit t d b n h = search rules
 
 -- and the other way
 pub limit_within : (t d b n : ℕ) → Within t d b n → limit t d b n ≡ None

@@ -1,15 +1,15 @@
 -- The states, the names and the multiples after one more mention.
-use Rattle.std.proofs.Common.{◌≡◌, ℕ, ◌+◌, max, Bool, true, false, cond, not, ◌||◌, List, [], ◌∷◌, ◌++◌, map, Option, Some, None, refl, sym}
-use Rattle.std.proofs.Common.{◌∙◌, ap, arith, add-one, eq-eqb}
-use Rattle.std.proofs.lemmas.Bool.{and_parts, or_left, or_right, or_parts, eqb-true}
+use Rattle.std.proofs.Common.{◌≡◌, ℕ, ◌+◌, Bool, true, false, cond, List, [], ◌∷◌, ◌++◌, map, Some, None, refl}
+use Rattle.std.proofs.Common.{◌∙◌, ap, arith, add-one, rules}
+use Rattle.std.proofs.lemmas.Bool.{or_left, or_right, or_parts}
 use Rattle.std.proofs.{lemmas.List.map-append, lemmas.List.Sums.sum_by-append, lemmas.Slice.Eq.bytes_eq-Decides}
 use Rattle.std.specs.Prelude.{bytes_eq, eqb}
-use Rattle.aout_core.specs.WellFormed.{segment_number, segment_numbered, first_of}
+use Rattle.aout_core.specs.WellFormed.{segment_number}
 use Rattle.aout_core.specs.{declared.symbol.Segment.Segment, Contents.Contents}
 use Rattle.link_session.specs.Mentions.{Mention, mentions_in, mentions, names_of, names_by_first_mention, place_of}
-use Rattle.link_session.specs.States.{Definition, definition_by, size_wanted_by, first_definition, wanted_size, state_by, state}
-use Rattle.link_session.specs.States.{is_definition, differs, multiple_names}
-use Rattle.link_session.specs.{declared.state.State.State, declared.state.State.TheVariants.Defined}
+use Rattle.link_session.specs.States.{definition_by, first_definition, wanted_size, state}
+use Rattle.link_session.specs.States.{is_definition, multiple_names}
+use Rattle.link_session.specs.{declared.state.State.State}
 use Rattle.link_session.specs.{declared.state.State.TheVariants.Wanted, Starts.size_of, Starts.total, Cells.cells_in, Image.named_states}
 use Rattle.link_session.specs.{Image.image_by, Image.image, Undo.with_state, internal.Updates.updated_state, internal.Updates.clashes}
 use Rattle.tool_options.specs.NameLists.{is_among, new_names}
@@ -22,52 +22,18 @@ use Rattle.aout_core.specs.declared.symbol.Segment.TheVariants as segments
 -- the state of a name after one more mention
 pub state_mention : (ms : List Mention) (m : Mention) (name : List ℕ) →
     state (ms ++ m ∷ []) name ≡ cond (bytes_eq name m.name) (updated_state (state ms name) m.says) (state ms name)
-state_mention ms m name =
-    rw (first_definition-append ms (m ∷ []) name, wanted_size-append ms (m ∷ []) name)
-    (by_test (bytes_eq name m.name) (first_definition ms name) (wanted_size ms name) m.says)
-  where
-    by_test : (t : Bool) (a : Option Definition) (w : ℕ) (s : State) →
-        state_by (first_of a (cond t (first_of (definition_by s) None) None)) (max w (cond t (max (size_wanted_by s) 0) 0))
-        ≡ cond t (updated_state (state_by a w) s) (state_by a w)
-    by_test true (Some d) w s = refl
-    by_test true None w (Defined segment offset) = refl
-    by_test true None w (Wanted n) = ap (λ (k : ℕ). Wanted k) (omega arith)
-    by_test false (Some d) w s = refl
-    by_test false None w s = ap (λ (k : ℕ). Wanted k) (omega arith)
+state_mention ms m name = search (rules, first_definition-append, wanted_size-append)
 
 -- the first definition of a name can be read off its state
 pub definition_of : (ms : List Mention) (name : List ℕ) → first_definition ms name ≡ definition_by (state ms name)
-definition_of ms name = by_definition (first_definition ms name)
-  where
-    by_definition : (d : Option Definition) → d ≡ definition_by (state_by d (wanted_size ms name))
-    by_definition None = refl
-    by_definition (Some d) = refl
+definition_of ms name = search rules
 
 -- a definition is the same as itself, by the test
 pub own_definition : (segment : Segment) (offset : ℕ) → is_definition segment offset (Some (segment, offset)) ≡ true
-own_definition segment offset =
-    let a = eq-eqb (segment_number segment) (segment_number segment) refl in let b = eq-eqb offset offset refl in
-    rw (a, b) refl
+own_definition segment offset = search rules
 
 same_segment : (a b : Segment) → eqb (segment_number a) (segment_number b) ≡ true → a ≡ b
-same_segment a b e = back a ∙ ap segment_numbered (eqb-true (segment_number a) (segment_number b) e) ∙ sym (back b)
-  where
-    back : (s : Segment) → s ≡ segment_numbered (segment_number s)
-    back segments.Undefined = refl
-    back segments.Absolute = refl
-    back segments.TextSeg = refl
-    back segments.DataSeg = refl
-    back segments.BssSeg = refl
-    back segments.Other = refl
-
--- the test of two definitions decides whether they are equal
-pub definition_same : (segment : Segment) (offset : ℕ) (d : Definition) → is_definition segment offset (Some d) ≡ true →
-    Some d ≡ Some (segment, offset)
-definition_same segment offset d h =
-    let parts = and_parts (eqb (segment_number segment) (segment_number d.0)) (eqb offset d.1) h in
-    let s : segment ≡ d.0 = same_segment segment d.0 parts.0 in
-    let o : offset ≡ d.1 = eqb-true offset d.1 parts.1 in
-    λ i. Some (sym s i, sym o i)
+same_segment a b e = search rules
 
 -- a name is the same as itself, by the test
 pub own_name : (name : List ℕ) → bytes_eq name name ≡ true
@@ -76,55 +42,23 @@ own_name name = (bytes_eq-Decides name name).1 refl
 -- the multiples after one more mention
 pub multiples_mention : (ms : List Mention) (m : Mention) →
     multiple_names (ms ++ m ∷ []) ≡ multiple_names ms ++ cond (clashes (state ms m.name) m.says) (m.name ∷ []) []
-multiples_mention ms m =
-    multiple_names-append ms (m ∷ [])
-    ∙ ap (λ (ns : List (List ℕ)). multiple_names ms ++ ns)
-    (by_test (differs (first_definition (ms ++ m ∷ []) m.name) m.says)
-    ∙ ap (λ (t : Bool). let r : List (List ℕ) = cond t (m.name ∷ []) [] in r) same)
-  where
-    by_test : (t : Bool) → map (λ (k : Mention). k.name) (cond t (m ∷ []) []) ≡ cond t (m.name ∷ []) []
-    by_test true = refl
-    by_test false = refl
-
-    by_states : (was says : State) → differs (definition_by (updated_state was says)) says ≡ clashes was says
-    by_states (Defined segment offset) (Defined again place) = refl
-    by_states (Defined segment offset) (Wanted size) = refl
-    by_states (Wanted size) (Defined segment offset) = ap not (own_definition segment offset)
-    by_states (Wanted size) (Wanted more) = refl
-
-    same : differs (first_definition (ms ++ m ∷ []) m.name) m.says ≡ clashes (state ms m.name) m.says
-    same =
-        ap (λ (d : Option Definition). differs d m.says)
-        (definition_of (ms ++ m ∷ []) m.name ∙ ap definition_by (state_mention ms m m.name
-        ∙ ap (λ (t : Bool). cond t (updated_state (state ms m.name) m.says) (state ms m.name)) (own_name m.name)))
-        ∙ by_states (state ms m.name) m.says
+multiples_mention ms m = search (rules, multiple_names-append, own_definition, definition_of, state_mention, own_name)
 
 -- the test of two names may be turned round
 pub bytes_eq_sym : (a b : List ℕ) → bytes_eq a b ≡ bytes_eq b a
-bytes_eq_sym a b = by_tests (bytes_eq a b) refl (bytes_eq b a) refl
-  where
-    by_tests : (t : Bool) → bytes_eq a b ≡ t → (u : Bool) → bytes_eq b a ≡ u → t ≡ u
-    by_tests true te true ue = refl
-    by_tests false te false ue = refl
-    by_tests true te false ue = let back = (bytes_eq-Decides b a).1 (sym ((bytes_eq-Decides a b).0 te)) in absurd (cc)
-    by_tests false te true ue = let back = (bytes_eq-Decides a b).1 (sym ((bytes_eq-Decides b a).0 ue)) in absurd (cc)
+bytes_eq_sym a b = search rules
 
 -- a name that is seen is not new
-never_new : (seen xs : List (List ℕ)) (k : List ℕ) → is_among seen k ≡ true → is_among (new_names seen xs) k ≡ false
+pub never_new : (seen xs : List (List ℕ)) (k : List ℕ) → is_among seen k ≡ true → is_among (new_names seen xs) k ≡ false
 never_new seen [] k h = refl
-never_new seen (x ∷ xs) k h =
-    by_test (is_among seen x) refl (never_new (seen ++ x ∷ []) xs k (is_among-append seen (x ∷ []) k ∙ or_left _ _ h))
-  where
-    by_name : (u : Bool) → bytes_eq k x ≡ u → is_among seen x ≡ false →
-        is_among (new_names (seen ++ x ∷ []) xs) k ≡ false → (u || is_among (new_names (seen ++ x ∷ []) xs) k) ≡ false
-    by_name true ue e rest =
-        let same : k ≡ x = (bytes_eq-Decides k x).0 ue in let known : is_among seen x ≡ true = rw (← same) h in absurd (cc)
-    by_name false ue e rest = rest
-
-    by_test : (t : Bool) → is_among seen x ≡ t → is_among (new_names (seen ++ x ∷ []) xs) k ≡ false →
-        is_among (cond t (new_names (seen ++ x ∷ []) xs) (x ∷ new_names (seen ++ x ∷ []) xs)) k ≡ false
-    by_test true e rest = rest
-    by_test false e rest = by_name (bytes_eq k x) refl e rest
+never_new seen (x ∷ xs) k h = search (
+  rules,
+  is_among-append,
+  or_left,
+  bytes_eq-Decides,
+  never_new (seen ++ x ∷ []) xs k (is_among-append seen (x
+      ∷ []) k ∙ or_left _ _ h),
+)
 
 -- one state among those of the names
 abbrev with_one : (List ℕ → State) → List ℕ → State → List ℕ → State
@@ -143,36 +77,18 @@ one_changed : (f : List ℕ → State) (k : List ℕ) (u : State) (seen xs : Lis
     map {B = List ℕ × State} (λ n. (n, with_one f k u n)) (new_names seen xs)
     ≡ with_state (map {B = List ℕ × State} (λ n. (n, f n)) (new_names seen xs)) (place_of k (new_names seen xs)) u
 one_changed f k u seen [] = refl
-one_changed f k u seen (x ∷ xs) = by_test (is_among seen x) (one_changed f k u (seen ++ x ∷ []) xs)
-  where
-    by_name : (t : Bool) → bytes_eq k x ≡ t →
-        map {B = List ℕ × State} (λ n. (n, with_one f k u n)) (new_names (seen ++ x ∷ []) xs)
-        ≡ with_state (map {B = List ℕ × State} (λ n. (n, f n)) (new_names (seen ++ x ∷ []) xs))
-        (place_of k (new_names (seen ++ x ∷ []) xs)) u →
-        (let first : List ℕ × State = (x, with_one f k u x) in
-        first ∷ map {B = List ℕ × State} (λ n. (n, with_one f k u n)) (new_names (seen ++ x ∷ []) xs))
-        ≡ with_state (let was : List ℕ × State = (x, f x) in was ∷ map {B = List ℕ × State}
-        (λ n. (n, f n)) (new_names (seen ++ x ∷ []) xs)) (cond t 0 (place_of k (new_names (seen ++ x ∷ []) xs) + 1)) u
-    by_name true te rest =
-        let here : bytes_eq x k ≡ true = bytes_eq_sym x k ∙ te in
-        let same : k ≡ x = (bytes_eq-Decides k x).0 te in
-        let gone : is_among (new_names (seen ++ x ∷ []) xs) k ≡ false =
-        never_new (seen ++ x ∷ []) xs k (is_among-append seen (x ∷ []) k ∙ or_right _ _ (or_left _ _ te)) in
-        let tail = none_changed f k u (new_names (seen ++ x ∷ []) xs) gone in
-        rw (here, tail) refl
-    by_name false te rest =
-        let here : bytes_eq x k ≡ false = bytes_eq_sym x k ∙ te in
-        rw (here, rest, add-one) refl
-
-    by_test : (t : Bool) →
-        map {B = List ℕ × State} (λ n. (n, with_one f k u n)) (new_names (seen ++ x ∷ []) xs)
-        ≡ with_state (map {B = List ℕ × State} (λ n. (n, f n)) (new_names (seen ++ x ∷ []) xs))
-        (place_of k (new_names (seen ++ x ∷ []) xs)) u →
-        map {B = List ℕ × State} (λ n. (n, with_one f k u n)) (cond t (new_names (seen ++ x ∷ []) xs) (x ∷ new_names (seen ++ x ∷ []) xs))
-        ≡ with_state (map {B = List ℕ × State} (λ n. (n, f n)) (cond t (new_names (seen ++ x ∷ []) xs) (x ∷ new_names (seen ++ x ∷ []) xs)))
-        (place_of k (cond t (new_names (seen ++ x ∷ []) xs) (x ∷ new_names (seen ++ x ∷ []) xs))) u
-    by_test true rest = rest
-    by_test false rest = by_name (bytes_eq k x) refl rest
+one_changed f k u seen (x ∷ xs) = search (
+  rules,
+  bytes_eq_sym,
+  bytes_eq-Decides,
+  never_new,
+  is_among-append,
+  or_right,
+  or_left,
+  none_changed,
+  add-one,
+  one_changed f k u (seen ++ x ∷ []) xs,
+)
 
 -- a name that nothing mentions is wanted at no size
 pub unmentioned : (ms : List Mention) (name : List ℕ) → is_among (names_of ms) name ≡ false → state ms name ≡ Wanted 0
@@ -189,8 +105,7 @@ unmentioned ms name h = rw (no_definition ms h, no_size ms h) refl
 
 -- a name that was not wanted takes what is said
 pub says_alone : (s : State) → updated_state (Wanted 0) s ≡ s
-says_alone (Defined segment offset) = refl
-says_alone (Wanted size) = ap (λ (n : ℕ). Wanted n) (omega arith)
+says_alone s = search rules
 
 -- the names and states after one more mention: the state of a known name is updated, a new name stands last
 pub externals_mention : (ms : List Mention) (m : Mention) →

@@ -1,6 +1,6 @@
 -- A chain that is bound and marked, place by place.
 use Rattle.std.proofs.Common.{◌≡◌, ◌<◌, ◌≤◌, ◌+◌, ◌||◌, ℕ, Bool, false, cond, List, [], ◌∷◌, ◌++◌, length, Some, None, slice_index_or, sym}
-use Rattle.std.proofs.Common.{ap, ◌∙◌, subst, arith, append_assoc, append-nil, length-append}
+use Rattle.std.proofs.Common.{ap, ◌∙◌, subst, arith, append_assoc, append-nil, length-append, rules}
 use Rattle.std.proofs.lemmas.List.{map-append}
 use Rattle.std.specs.List.{AllByRecursion}
 use Rattle.aout_core.specs.declared.symbol.Segment.{Segment}
@@ -70,17 +70,7 @@ module _ (ts ds : List Link) (head : Link) (segment : Segment) (offset : ℕ) (t
 
     text_next : (p : Place) → is_on w.done p ≡ false → text_bound_at p segment offset new_texts
         ≡ bound_where (λ j. is_on (w.done ++ p ∷ []) (InText j)) segment offset texts
-    text_next (InText i) off =
-        ap (bound_one segment offset i) w.text
-        ∙ bound_where-one segment offset (λ j. is_on w.done (InText j)) (λ j. is_on (w.done ++ InText i ∷ []) (InText j)) i off
-        (on_last w.done (InText i) (InText i) ∙ ap (λ (t : Bool). is_on w.done (InText i) || t) (own_number i)
-        ∙ or_true (is_on w.done (InText i)))
-        (λ j ne. sym (on_last w.done (InText j) (InText i) ∙ ap (λ (t : Bool). is_on w.done (InText j) || t)
-        (other_number j i (λ e. ne (sym e))) ∙ or_false (is_on w.done (InText j))))
-        texts
-    text_next (InData i) off =
-        w.text
-        ∙ (λ k. bound_where (λ j. sym (on_last w.done (InText j) (InData i) ∙ or_false (is_on w.done (InText j))) k) segment offset texts)
+    text_next p off = search (rules, bound_where-one, on_last, own_number, or_true, other_number, or_false)
 
     data_next : (p : Place) → is_on w.done p ≡ false → data_bound_at p segment offset new_datas
         ≡ bound_where (λ j. is_on (w.done ++ p ∷ []) (InData j)) segment offset datas
@@ -124,17 +114,8 @@ module _ (ts ds : List Link) (head : Link) (segment : Segment) (offset : ℕ) (t
     -- each step leaves a shorter chain: so the walk ends
     pub shorter : (p : Place) → next ≡ Some p → length (walk (length texts + length datas) ts ds (link_at ts ds p))
         < length (walk (length texts + length datas) ts ds next)
-    shorter p e =
-        let a = next_ahead ts ds next w.rest p w.ahead e in
-        let long = ap (λ (l : List Place). length l) a.is in
-        let few = few_ahead in
-        let now = ap (λ (l : List Place). length l) (walk-is (length texts + length datas) ts ds next w.rest w.ahead few) in
-        let later = ap (λ (l : List Place). length l)
-        (walk-is (length texts + length datas) ts ds (link_at ts ds p) a.tail a.goes_on (omega arith)) in
-        omega arith
+    shorter p e = search (rules, next_ahead, few_ahead, walk-is)
 
     -- the chain was walked to its end
     pub ended : next ≡ None → (ps : List Place) → IsChain ts ds head ps → w.done ≡ ps
-    ended e ps c =
-        sym (append-nil w.done) ∙ ap (λ (l : List Place). w.done ++ l) (sym (none_ahead ts ds next w.rest w.ahead e))
-        ∙ chain-unique ts ds head (w.done ++ w.rest) ps w.visits c
+    ended e ps c = search (rules, append-nil, none_ahead, chain-unique)

@@ -1,12 +1,12 @@
 -- In an object every word that refers to a name refers to one that the object mentions.
-use Rattle.std.proofs.Common.{◌≡◌, ℕ, zero, suc, ◌+◌, Bool, true, false, cond, not, ◌&&◌, eqb, List, [], ◌∷◌, ◌++◌, map, Option, Some, None}
-use Rattle.std.proofs.Common.{refl}
-use Rattle.std.proofs.{lemmas.Bool.or_left, lemmas.Bool.or_right, lemmas.Slice.Eq.bytes_eq-Decides}
+use Rattle.std.proofs.Common.{◌≡◌, ℕ, zero, suc, ◌+◌, true, eqb, List, [], ◌∷◌, ◌++◌, map, Option, None}
+use Rattle.std.proofs.Common.{rules}
+use Rattle.std.proofs.{lemmas.Bool.or_left, lemmas.Bool.or_right}
 use Rattle.std.specs.{Prelude.zip, Prelude.slice_get, Prelude.filter, List.flat_map, List.AllByRecursion}
-use Rattle.aout_core.specs.WellFormed.{is_external, masked_type, kind_of, symbol_number, is_wanted, kind_fault, word_fault, first_of}
+use Rattle.aout_core.specs.WellFormed.{is_external, kind_of, symbol_number, is_wanted, kind_fault, word_fault, first_of}
 use Rattle.aout_core.specs.WellFormed.{first_bad_word, IsWellFormed}
 use Rattle.aout_core.specs.{declared.symbol.Symbol.Symbol, declared.symbol.Segment.Segment, declared.reloc.Reloc.Reloc}
-use Rattle.aout_core.specs.{declared.reloc.Kind.Kind, declared.object.ObjectFault.ObjectFault, Contents.Contents}
+use Rattle.aout_core.specs.{declared.reloc.Kind.Kind, Contents.Contents}
 use Rattle.link_session.specs.Earlier.{with_earlier}
 use Rattle.link_session.specs.Mentions.{mention, mentions_in, mentions, names_of, forced_mention}
 use Rattle.link_session.specs.Cells.{Referent, to_segment, to_name, referent_by, referent, name_in, words_of}
@@ -15,45 +15,22 @@ use Rattle.tool_options.proofs.NameListLemmas.{is_among-append}
 use Rattle.link_session.proofs.CellLemmas.{RefersAmong, AllReferAmong}
 use Rattle.link_session.proofs.{MentionLemmas.names_of-append, ListLemmas.all_split, ListLemmas.all_map}
 use Rattle.aout_core.specs.declared.symbol.Segment.TheVariants as segments
-use Rattle.aout_core.specs.declared.reloc.Kind.TheVariants as kinds
 
 -- an external entry of the table is mentioned
 external_is_among : (earlier : List Contents) (o : Contents) (symbols : List Symbol) (i : ℕ) → is_wanted (slice_get symbols i) ≡ true →
     is_among (names_of (map (mention earlier o) (filter is_external symbols))) (name_in (slice_get symbols i)) ≡ true
 external_is_among earlier o [] i h = absurd (cc)
-external_is_among earlier o (s ∷ ss) zero h = by_test (is_external s) h
-  where
-    by_test : (t : Bool) → (t && eqb (masked_type s) 0) ≡ true →
-        is_among (names_of (map (mention earlier o) (cond t (s ∷ filter is_external ss) (filter is_external ss)))) s.name ≡ true
-    by_test false h = absurd (cc)
-    by_test true h = or_left _ _ ((bytes_eq-Decides s.name s.name).1 refl)
-external_is_among earlier o (s ∷ ss) (suc i) h = by_test (is_external s) (external_is_among earlier o ss i h)
-  where
-    by_test : (t : Bool) → is_among (names_of (map (mention earlier o) (filter is_external ss))) (name_in (slice_get ss i)) ≡ true →
-        is_among (names_of (map (mention earlier o) (cond t (s ∷ filter is_external ss) (filter is_external ss))))
-        (name_in (slice_get ss i)) ≡ true
-    by_test false h = h
-    by_test true h = or_right _ _ h
+external_is_among earlier o (s ∷ ss) zero h = search rules
+external_is_among earlier o (s ∷ ss) (suc i) h = search (rules, or_right, external_is_among earlier o ss i h)
 
 -- a word without a fault refers to its object or to a mentioned name
 word_refers : (earlier : List Contents) (o : Contents) (i number : ℕ) (kind : Option Kind) → kind_fault o.symbols i kind number ≡ None →
     RefersAmong (names_of (mentions_in earlier o)) (referent_by o number kind)
-word_refers earlier o i number None h = tt
-word_refers earlier o i number (Some kinds.Absolute) h = tt
-word_refers earlier o i number (Some kinds.TextSeg) h = tt
-word_refers earlier o i number (Some kinds.DataSeg) h = tt
-word_refers earlier o i number (Some kinds.BssSeg) h = tt
-word_refers earlier o i number (Some kinds.External) h =
-    external_is_among earlier o o.symbols number (by_test (is_wanted (slice_get o.symbols number)) h)
-  where
-    by_test : (t : Bool) → cond t None (Some (ObjectFault.BadSymbolNumber i)) ≡ None → t ≡ true
-    by_test true h = refl
-    by_test false h = absurd (cc)
+word_refers earlier o i number kind h = search (rules, external_is_among)
 
 -- without a first fault there is none in either half
 pub first_of_none : {A : Type 0} (a b : Option A) → first_of a b ≡ None → (a ≡ None) × (b ≡ None)
-first_of_none None b h = (refl, h)
-first_of_none (Some x) b h = absurd (cc)
+first_of_none a b h = search rules
 
 words_refer : (earlier : List Contents) (o : Contents) (i : ℕ) (rs : List Reloc) → first_bad_word o.symbols i rs ≡ None →
     AllByRecursion (λ r. RefersAmong (names_of (mentions_in earlier o)) (referent o r)) rs
@@ -71,14 +48,7 @@ all_zip P (x ∷ xs) (y ∷ ys) h = (h.0, all_zip P xs ys h.1)
 -- an object has its relocation words, and none of them is bad
 pub well_formed_parts : (o : Contents) → IsWellFormed o →
     (eqb o.header.flag 0 ≡ true) × (first_bad_word o.symbols 0 (o.text_reloc ++ o.data_reloc) ≡ None)
-well_formed_parts o h = by_tests (eqb o.header.magic 263) (eqb o.header.flag 0) h
-  where
-    by_tests : (a b : Bool) → cond (not a) (Some ObjectFault.NotAnObject)
-        (cond (not b) (Some ObjectFault.NoRelocation) (first_bad_word o.symbols 0 (o.text_reloc ++ o.data_reloc))) ≡ None →
-        (b ≡ true) × (first_bad_word o.symbols 0 (o.text_reloc ++ o.data_reloc) ≡ None)
-    by_tests false b h = absurd (cc)
-    by_tests true false h = absurd (cc)
-    by_tests true true h = (refl, h)
+well_formed_parts o h = search rules
 
 pub object_refers : (earlier : List Contents) (o : Contents) (segment : Segment) → IsWellFormed o →
     AllReferAmong (names_of (mentions_in earlier o)) o (words_of segment o)

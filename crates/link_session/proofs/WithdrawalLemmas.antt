@@ -1,13 +1,13 @@
 -- An addition that is taken back leaves the threads that there were.
-use Rattle.std.proofs.Common.{◌≡◌, ℕ, zero, suc, Bool, true, false, ◌&&◌, cond, List, [], ◌∷◌, ◌++◌, map, take, drop, length, refl, ap, ◌∙◌}
-use Rattle.std.proofs.Common.{arith, nat_lt}
+use Rattle.std.proofs.Common.{◌≡◌, ℕ, zero, suc, List, [], ◌∷◌, ◌++◌, map, take, drop, length, refl, ap, ◌∙◌}
+use Rattle.std.proofs.Common.{arith, rules}
 use Rattle.std.proofs.lemmas.List.{length-map, take_at, take_all}
 use Rattle.aout_core.specs.Contents.{Contents}
-use Rattle.link_session.specs.internal.Additions.{place_in, state_for, with_mention, changes, state_mark, state_marks, settled_cell}
+use Rattle.link_session.specs.internal.Additions.{with_mention, state_marks, settled_cell}
 use Rattle.link_session.specs.internal.Additions.{next_named, joined_image}
 use Rattle.link_session.specs.internal.Threads.{Threads, with_texts, next_texts, next_datas, bound_heads, next_heads, next_threads}
 use Rattle.link_session.specs.internal.Threads.{cut_threads, undo_threads, IsThreaded}
-use Rattle.link_session.specs.{declared.mark.Mark.Mark, declared.mark.Mark.TheVariants.StateWas, declared.mark.Place.TheVariants.InText}
+use Rattle.link_session.specs.{declared.mark.Mark.Mark, declared.mark.Place.TheVariants.InText}
 use Rattle.link_session.specs.{declared.mark.Place.TheVariants.InData, Mentions.Mention, Image.Image, Image.Named, internal.Chains.Link}
 use Rattle.link_session.specs.{internal.Chains.threaded, internal.Chains.unthreaded, internal.Chains.heads_back, internal.Settled.places_of}
 use Rattle.link_session.proofs.HeadLemmas.{length-cut_heads, cut_grown, length-heads_back}
@@ -28,20 +28,12 @@ drop_none (x ∷ xs) (suc n) e = drop_none xs n (omega arith)
 -- marks of states leave the heads as they are
 pub heads_back-states : (kept : ℕ) (es : Named) (ms : List Mention) (heads : List Link) → heads_back (state_marks kept es ms) heads ≡ heads
 heads_back-states kept es [] heads = refl
-heads_back-states kept es (m ∷ ms) heads =
-    heads_back-append (state_mark kept es m) (state_marks kept (with_mention es m) ms) heads
-    ∙ ap (heads_back (state_mark kept es m)) (heads_back-states kept (with_mention es m) ms heads)
-    ∙ by_tests (nat_lt (place_in es m.name) kept && changes (state_for es m.name) m.says)
-  where
-    by_tests : (t : Bool) → heads_back (cond t (StateWas (place_in es m.name) (state_for es m.name) ∷ []) []) heads ≡ heads
-    by_tests true = refl
-    by_tests false = refl
+heads_back-states kept es (m ∷ ms) heads = search (rules, heads_back-append, heads_back-states kept (with_mention es m) ms heads)
 
 -- marks of names put no cell back, so they change no head
 pub heads_back-after_states : (kept : ℕ) (es : Named) (ms : List Mention) (ks : List Mark) (heads : List Link) →
     heads_back (state_marks kept es ms ++ ks) heads ≡ heads_back ks heads
-heads_back-after_states kept es ms ks heads =
-    heads_back-append (state_marks kept es ms) ks heads ∙ heads_back-states kept es ms (heads_back ks heads)
+heads_back-after_states kept es ms ks heads = search (rules, heads_back-append, heads_back-states)
 
 module _ (m : Image) (o : Contents) (t : Threads) (h : IsThreaded m t) where
   abbrev es : Named
@@ -82,24 +74,10 @@ module _ (m : Image) (o : Contents) (t : Threads) (h : IsThreaded m t) where
   -- marks that bring the heads of the chains back, bring all threads back
   pub threads_back : (marks : List Mark) → heads_back marks (bound_heads m o t.heads) ≡ t.heads →
       undo_threads marks (joined_image m o) m (next_threads m o t) ≡ t
-  threads_back marks back = λ i. record {
-    text_links = take_at t.text_links text_links (length m.text_cells) h.chained.text i;
-    data_links = take_at t.data_links data_links (length m.data_cells) h.chained.data i;
-    heads = (ap (heads_back marks) heads_cut ∙ back) i;
-  }
+  threads_back marks back = search (rules, take_at, heads_cut)
 
   -- the same before the object's own cells are put last: in an image with as many cells as before
   pub heads_alone_back : (n : Image) (heads : List Link) (marks : List Mark) →
       length n.text_cells ≡ length m.text_cells → length n.data_cells ≡ length m.data_cells →
       heads_back marks heads ≡ t.heads → undo_threads marks n m (record t { heads = heads }) ≡ t
-  heads_alone_back n heads marks texts datas back = λ i. record {
-    text_links = (take_all (length m.text_cells) t.text_links (let e = h.chained.text in omega arith)) i;
-    data_links = (take_all (length m.data_cells) t.data_links (let e = h.chained.data in omega arith)) i;
-    heads = (
-        (λ j. heads_back marks (take (length m.externals)
-        (unthreaded (drop_none n.text_cells (length m.text_cells) texts j) (drop (length m.text_cells) t.text_links)
-        (unthreaded (drop_none n.data_cells (length m.data_cells) datas j) (drop (length m.data_cells) t.data_links) heads))))
-        ∙ ap (heads_back marks) (take_all (length m.externals) heads
-        (let e = h.heads in omega (arith, length-heads_back marks heads, ap (λ (hs : List Link). length hs) back)))
-        ∙ back) i;
-  }
+  heads_alone_back n heads marks texts datas back = search (rules, take_all, drop_none, length-heads_back)

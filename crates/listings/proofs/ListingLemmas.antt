@@ -1,9 +1,9 @@
 -- The listing of a file says that file.
 use Rattle.std.proofs.Common.{◌≡◌, ℕ, ◌+◌, ◌*◌, ◌%◌, ◌<◌, Bool, true, false, cond, eqb, eqb-true, List, [], ◌∷◌, ◌++◌, length, refl, sym}
-use Rattle.std.proofs.Common.{◌∙◌, ap, subst, arith}
-use Rattle.std.proofs.{lemmas.Bool.ne_eqb, lemmas.List.append-nil}
-use Rattle.std.specs.Prelude.{codes, map, ◌-◌, ◌&&◌, nat_eq, if◌then◌else◌, IsTrue, drop, slice_get, Option, Some, None, Result, Ok, Err}
-use Rattle.std.specs.{List.AllByRecursion, List.starts_with, Cmp.Lexicographic.pointwise}
+use Rattle.std.proofs.Common.{◌∙◌, ap, subst, arith, rules}
+use Rattle.std.proofs.{lemmas.List.append-nil}
+use Rattle.std.specs.Prelude.{codes, map, ◌-◌, if◌then◌else◌, IsTrue, drop, Option, Some, None, Result, Ok, Err}
+use Rattle.std.specs.{List.AllByRecursion}
 use Rattle.aout_core.specs.Contents.{Contents, is_magic, has_whole_sizes, IsWord, IsSound}
 use Rattle.aout_core.specs.{declared.reloc.Reloc.Reloc, declared.symbol.Symbol.Symbol, declared.header.Header.Header, Addresses.data_start}
 use Rattle.aout_core.specs.{declared.part.Part.Part}
@@ -39,14 +39,8 @@ short_column : (n : ℕ) → IsColumn (octal n)
 short_column n = number_column (octal n) (short_digits n)
 
 word_line_is : (said : List ℕ) (at w : ℕ) (r : Option Reloc) → IsLine said → IsLine (word_line said at w r)
-word_line_is said at w None is =
-    subst IsLine (sym (line_alone said at w)) (line_gap 1 (six_digits at) (six_digits w ++ remarked said)
-    (octal_column at) (line_last (six_digits w) said (octal_column w) is))
-word_line_is said at w (Some r) is =
-    let k = octal r.0 in
-    subst IsLine (sym (line_with said at w r))
-    (line_gap 1 (six_digits at) (gap (wide 4 k) (six_digits w) (k ++ remarked said)) (octal_column at)
-    (line_gap (wide 4 k) (six_digits w) (k ++ remarked said) (octal_column w) (line_last k said (short_column r.0) is)))
+word_line_is said at w None is = search (rules, line_alone, line_gap, octal_column, line_last)
+word_line_is said at w (Some r) is = search (rules, line_with, line_gap, octal_column, line_last, short_column)
 
 labels_are : (ls : List (List ℕ)) → AllByRecursion IsLabel ls → AreLines ls
 labels_are [] h = tt
@@ -54,10 +48,7 @@ labels_are (l ∷ ls) h = (h.0.0, labels_are ls h.1)
 
 word_lines_are : (x : Remarks) (p : Part) (i at : ℕ) (ws : List ℕ) (rs : List Reloc) → AreRemarks x → AreLines (word_lines x p i at ws rs)
 word_lines_are x p i at [] rs are = labels_are (x.labels p i) (are.labels p i)
-word_lines_are x p i at (w ∷ ws) rs are =
-    lines_append (x.labels p i) (word_line (x.word p i) (at % 65536) w (slice_get rs 0) ∷
-    word_lines x p (i + 1) (at + 2) ws (drop 1 rs)) (labels_are (x.labels p i) (are.labels p i))
-    (word_line_is (x.word p i) (at % 65536) w (slice_get rs 0) (are.word p i), word_lines_are x p (i + 1) (at + 2) ws (drop 1 rs) are)
+word_lines_are x p i at (w ∷ ws) rs are = search (rules, lines_append, labels_are, word_line_is, word_lines_are x p (i + 1) (at + 2) ws (drop 1 rs) are)
 
 symbol_lines_are : (x : Remarks) (n : ℕ) (ss : List Symbol) → AreRemarks x → AreLines (symbol_lines x n ss)
 symbol_lines_are x n [] are = tt
@@ -100,8 +91,7 @@ named_line_is : (w : List ℕ) (n : ℕ) → IsColumn w → IsLine (named_line w
 named_line_is w n h = line_gap 0 w (six_digits n) h (line_of_column (six_digits n) (ink (six_digits n) (octal_column n)))
 
 unusual_by : (usual n : ℕ) (w : List ℕ) (t : Bool) → eqb n usual ≡ t → IsColumn w → AreLines (unusual usual w n)
-unusual_by usual n w true e h = rw e tt
-unusual_by usual n w false e h = rw e (named_line_is w n h, tt)
+unusual_by usual n w t e h = search (rules, named_line_is)
 
 unusual_are : (usual n : ℕ) (w : List ℕ) → IsColumn w → AreLines (unusual usual w n)
 unusual_are usual n w h = unusual_by usual n w (eqb n usual) refl h
@@ -136,20 +126,10 @@ listing_lines_are x c are =
       symbol_lines_are x 0 c.symbols are,
     ) (notes_are x.findings are.findings))))))
 
--- a row with a number in its second column is no label
-not_label : (f g k m : List ℕ) → IsNumber g → is_label (record { first = f; second = g; third = k; fourth = m }) ≡ false
-not_label f [] k m h = absurd h
-not_label f (b ∷ bs) k m h =
-    let high = h.0.1 in
-    let other : nat_eq b 61 ≡ false = ne_eqb b 61 (λ (e : b ≡ 61). absurd (omega arith)) in
-    ap (λ (t : Bool). (t && pointwise nat_eq bs []) && starts_with eqb k (codes ".+")) other
-
 unlabelled : (d : Draft) (f g k m : List ℕ) → IsNumber g →
     let r : Row = record { first = f; second = g; third = k; fourth = m } in
     (if is_label r then Ok d else named d r) ≡ named d r
-unlabelled d f g k m h =
-    let r : Row = record { first = f; second = g; third = k; fourth = m } in
-    ap (λ (t : Bool). if t then Ok d else named d r) (not_label f g k m h)
+unlabelled d f g k m h = search rules
 
 -- a word of the header
 header_row : (d : Draft) (w : List ℕ) (n : ℕ) (put : ℕ → Draft) → IsColumn w → IsWord n →
@@ -177,15 +157,8 @@ short_row d w n put h small even found =
 abbrev with_magic : ℕ → Draft
 with_magic n = let d : Draft = empty_draft in record d { magic = n }
 
-whole_bss_by : (p q r s : Bool) → IsTrue (p && (q && (r && s))) → r ≡ true
-whole_bss_by p q true s h = refl
-whole_bss_by true true false s h = absurd (cc)
-whole_bss_by true false false s h = absurd (cc)
-whole_bss_by false q false s h = absurd (cc)
-
 whole_bss : (h : Header) → IsTrue (has_whole_sizes h) → eqb (h.bss_size % 2) 0 ≡ true
-whole_bss h whole =
-    whole_bss_by (eqb (h.text_size % 2) 0) (eqb (h.data_size % 2) 0) (eqb (h.bss_size % 2) 0) (eqb (h.symbol_size % 12) 0) whole
+whole_bss h whole = search rules
 
 -- the magic number, which has to be one that a file has
 magic_row : (n : ℕ) → IsWord n → IsTrue (is_magic n) → row_read empty_draft (row_of (named_line (codes "magic") n)) ≡ Ok (with_magic n)
@@ -321,28 +294,7 @@ body_reads x c are sound =
     (in_table c []) last (codes "symbols") (symbol_lines x 0 c.symbols) refl table) (notes_read last x.findings))))
 
 finished_is : (c : Contents) → IsSound c → finished (in_table c c.symbols) ≡ c
-finished_is c sound =
-    let fits = sound.fits in
-    let t = fits.text in
-    let d = fits.«data» in
-    let s = fits.table in
-    λ i. record {
-      header = record {
-        magic = c.header.magic;
-        text_size = t i;
-        data_size = d i;
-        bss_size = c.header.bss_size;
-        symbol_size = s i;
-        entry_point = c.header.entry_point;
-        unused = c.header.unused;
-        flag = c.header.flag;
-      };
-      text_words = c.text_words;
-      data_words = c.data_words;
-      text_reloc = c.text_reloc;
-      data_reloc = c.data_reloc;
-      symbols = c.symbols;
-    }
+finished_is c sound = search rules
 
 pub listing_read : (x : Remarks) (c : Contents) → AreRemarks x → IsSound c → read (listing x c) ≡ Ok c
 listing_read x c are sound =

@@ -1,24 +1,24 @@
 -- Steps of the loops of the reader.
-use Rattle.std.proofs.Common.{◌≡◌, ℕ, ◌+◌, ◌<◌, Bool, true, false, eqb, List, [], ◌∷◌, length, refl, sym, ◌∙◌, ap, subst, inl, inr, arith}
-use Rattle.std.specs.Prelude.{Result, Ok, Err, IsOkAnd}
+use Rattle.std.proofs.lemmas.Grind.{common_steps}
+use Rattle.std.proofs.Common.{◌≡◌, ℕ, ◌+◌, ◌<◌, Bool, eqb, List, [], ◌∷◌, length, refl, ap, arith}
+use Rattle.std.proofs.Common.{rules}
+use Rattle.std.specs.Prelude.{Result, Ok, Err}
 use Rattle.aout_core.specs.Contents.{Contents, IsSound}
-use Rattle.listings.specs.Reading.{Mistake, ◌>>=◌, row_read, in_line, lines_read, file_of, read}
+use Rattle.listings.specs.Reading.{Mistake, ◌>>=◌, row_read, in_line, lines_read, read}
 use Rattle.listings.specs.MemoryWanted.{IsEntry, MayRunOutInLines}
 use Rattle.listings.specs.Columns.{row_of, first_line, other_lines}
 use Rattle.listings.specs.{declared.fault.Fault.Fault, declared.fault.ListingFault.ListingFault}
-use Rattle.listings.specs.{declared.fault.ListingFault.TheVariants.Memory, declared.fault.ListingFault.TheVariants.Wrong, Drafts.Draft}
-use Rattle.listings.specs.{Drafts.finished, Listing.Remarks, Listing.listing, Laws.AreRemarks, Said.Says, Said.Gives, internal.Lines.Stops}
+use Rattle.listings.specs.{Drafts.Draft}
+use Rattle.listings.specs.{Listing.Remarks, Listing.listing, Laws.AreRemarks, Said.Says, Said.Gives, internal.Lines.Stops}
 use Rattle.listings.proofs.ListingLemmas.{listing_read}
 use Rattle.texts.specs.Lines.{lines_in}
 
 lines_by : (b : ℕ) (bs : List ℕ) (t : Bool) → eqb b 10 ≡ t → lines_in bs ≡ first_line bs ∷ lines_in (other_lines bs) →
     lines_in (b ∷ bs) ≡ first_line (b ∷ bs) ∷ lines_in (other_lines (b ∷ bs))
-lines_by b bs true e h = rw e refl
-lines_by b bs false e h = rw (e, h) refl
+lines_by b bs t e h = search rules
 
 last_by : (b : ℕ) (t : Bool) → eqb b 10 ≡ t → lines_in (b ∷ []) ≡ first_line (b ∷ []) ∷ lines_in (other_lines (b ∷ []))
-last_by b true e = rw e refl
-last_by b false e = rw e refl
+last_by b t e = search rules
 
 -- the first line of a text, and the others
 pub lines_cut : (b : ℕ) (bs : List ℕ) → lines_in (b ∷ bs) ≡ first_line (b ∷ bs) ∷ lines_in (other_lines (b ∷ bs))
@@ -34,33 +34,16 @@ lines_from n d (b ∷ bs) more = ap (lines_read n d) (lines_cut b bs)
 
 pub lines_on : (n : ℕ) (d next : Draft) (text line others : List ℕ) → 0 < length text → line ≡ first_line text → others ≡ other_lines text →
     in_line n line (row_read d (row_of line)) ≡ Ok next → lines_read (n + 1) next (lines_in others) ≡ lines_read n d (lines_in text)
-lines_on n d next text line others more is rest found =
-    ap (λ (x : List ℕ). lines_read (n + 1) next (lines_in x)) rest
-    ∙ ap (λ (x : Result Draft Fault). x >>= (λ e. lines_read (n + 1) e (lines_in (other_lines text))))
-    (sym found ∙ ap (λ (x : List ℕ). in_line n x (row_read d (row_of x))) is)
-    ∙ sym (lines_from n d text more)
+lines_on n d next text line others more is rest found = cc (lines_from n d text more)
 
 pub lines_stop : (n : ℕ) (d : Draft) (text line : List ℕ) (found : Result Draft Fault) (e : ListingFault) →
     0 < length text → line ≡ first_line text →
     Stops e (in_line n line (row_read d (row_of line))) → lines_read n d (lines_in text) ≡ found → Stops e found
-lines_stop n d text line found (Memory _) more is stops all = tt
-lines_stop n d text line found (Wrong fault) more is stops all =
-    sym all ∙ lines_from n d text more
-    ∙ ap (λ (x : Result Draft Fault). x >>= (λ e. lines_read (n + 1) e (lines_in (other_lines text))))
-    (ap (λ (x : List ℕ). in_line n x (row_read d (row_of x))) (sym is) ∙ stops)
+lines_stop n d text line found e more is stops all = search (rules, lines_from)
 
 -- a line that is read is a row that is read
 pub row_of_line : (n : ℕ) (line : List ℕ) (found : Result Draft Mistake) (e : Draft) → in_line n line found ≡ Ok e → found ≡ Ok e
-row_of_line n line (Ok d) e h = cc
-row_of_line n line (Err m) e h = absurd (cc)
-
--- all lines are read, or one is wrong
-pub says_file : (d : Draft) (found : Result Draft Fault) → found ≡ Ok d → file_of found ≡ Ok (finished d)
-says_file d found h = ap file_of h
-
-pub says_fault : (e : ListingFault) (found : Result Draft Fault) → Stops e found → Says (Err e) (file_of found)
-says_fault (Memory _) found h = tt
-says_fault (Wrong fault) found h = ap file_of h
+row_of_line n line found e h = search rules
 
 -- the listing of a file is read as that file
 same_file : (a b : Contents) (found : Result Contents Fault) → found ≡ Ok a → found ≡ Ok b → a ≡ b
@@ -71,25 +54,15 @@ never a f found ha hf = absurd (cc)
 
 pub says_gives : (result : Result Contents ListingFault) (text : List ℕ) (x : Remarks) (c : Contents) →
     Says result (read text) → AreRemarks x → IsSound c → text ≡ listing x c → Gives result c
-says_gives (Ok file) text x c said are sound is = same_file file c (read text) said (ap read is ∙ listing_read x c are sound)
-says_gives (Err (Memory _)) text x c said are sound is = refl
-says_gives (Err (Wrong fault)) text x c said are sound is =
-    absurd (never c fault (read text) (ap read is ∙ listing_read x c are sound) said)
+says_gives result text x c said are sound is = search (rules, same_file, listing_read, never)
 
 -- memory may run out for the first line of a text, or for the others
 pub runs_out_here : (d : Draft) (text line : List ℕ) → 0 < length text → line ≡ first_line text →
     IsEntry d (row_of line) → MayRunOutInLines d (lines_in text)
 runs_out_here d [] line more is entry = absurd (omega arith)
-runs_out_here d (b ∷ bs) line more is entry =
-    subst (λ (ls : List (List ℕ)). MayRunOutInLines d ls) (sym (lines_cut b bs))
-    (inl (subst (λ (l : List ℕ). IsEntry d (row_of l)) is entry))
+runs_out_here d (b ∷ bs) line more is entry = grind (arith, common_steps, lines_cut)
 
 pub runs_out_on : (d next : Draft) (text line others : List ℕ) → 0 < length text → line ≡ first_line text → others ≡ other_lines text →
     row_read d (row_of line) ≡ Ok next → MayRunOutInLines next (lines_in others) → MayRunOutInLines d (lines_in text)
 runs_out_on d next [] line others more is rest found later = absurd (omega arith)
-runs_out_on d next (b ∷ bs) line others more is rest found later =
-    let row : row_read d (row_of (first_line (b ∷ bs))) ≡ Ok next = subst (λ (l : List ℕ). row_read d (row_of l) ≡ Ok next) is found in
-    let after : MayRunOutInLines next (lines_in (other_lines (b ∷ bs))) =
-    subst (λ (o : List ℕ). MayRunOutInLines next (lines_in o)) rest later in
-    subst (λ (ls : List (List ℕ)). MayRunOutInLines d ls) (sym (lines_cut b bs))
-    (inr (subst (λ (r : Result Draft Mistake). IsOkAnd r (λ e. MayRunOutInLines e (lines_in (other_lines (b ∷ bs))))) (sym row) after))
+runs_out_on d next (b ∷ bs) line others more is rest found later = search (rules, lines_cut)

@@ -1,8 +1,8 @@
 -- Rows that were written say what was written.
 use Rattle.std.proofs.Common.{◌≡◌, ℕ, ◌+◌, ◌*◌, ◌%◌, ◌<◌, true, false, eqb, List, [], ◌∷◌, ◌++◌, length, refl, sym, ◌∙◌, ap, subst, arith}
-use Rattle.std.proofs.Common.{append_assoc, length-append, replicate}
-use Rattle.std.proofs.{lemmas.Bool.lt-ltb, lemmas.Bool.le-leb, lemmas.Bool.ne_eqb, lemmas.Bool.eq-eqb, lemmas.List.append-nil}
-use Rattle.std.specs.{Prelude.ltb, Prelude.leb, Prelude.◌-◌, Prelude.Some, Prelude.None, Prelude.Result, Prelude.Ok, List.AllByRecursion}
+use Rattle.std.proofs.Common.{append_assoc, length-append, replicate, rules}
+use Rattle.std.proofs.{lemmas.List.append-nil}
+use Rattle.std.specs.{Prelude.◌-◌, Prelude.Some, Prelude.None, Prelude.Result, Prelude.Ok, List.AllByRecursion}
 use Rattle.aout_core.specs.{declared.reloc.Reloc.Reloc, declared.symbol.Symbol.Symbol, Contents.IsWord, Contents.IsSymbol}
 use Rattle.aout_core.specs.{declared.part.Part.Part}
 use Rattle.listings.specs.Listing.{Remarks, gap, wide, remarked, word_line, word_lines, symbol_line, symbol_lines}
@@ -37,21 +37,12 @@ reads_more d e f l ls h b = reads_both d e f (l ∷ []) ls (reads_one d e l h) b
 pub entry_row : (d : Draft) (f g k m : List ℕ) → IsNumber f →
     row_read d (record { first = f; second = g; third = k; fourth = m })
     ≡ entry_in d.section d (record { first = f; second = g; third = k; fourth = m })
-entry_row d [] g k m h = absurd h
-entry_row d (b ∷ bs) g k m h =
-    let low : leb 48 b ≡ true = le-leb 48 b h.0.0 in
-    let high : ltb b 58 ≡ true = (let top = h.0.1 in lt-ltb b 58 (omega arith)) in
-    let range = h.0.0 in
-    let other : eqb b 47 ≡ false = ne_eqb b 47 (λ (e : b ≡ 47). absurd (omega arith)) in
-    rw (other, low, high) refl
+entry_row d f g k m h = search rules
 
 word_found : (start flag at w : ℕ) (s : Segment) (rs : List Reloc) (f g k m : List ℕ) →
     number f ≡ Ok at → number g ≡ Ok w → relocs_of flag k ≡ Ok rs → at ≡ (start + 2 * length s.words) % 65536 → length s.words < 32767 →
     word_entry start flag s (record { first = f; second = g; third = k; fourth = m }) ≡ Ok (with_word s w rs)
-word_found start flag at w s rs f g k m hf hg hk place room =
-    let there : eqb at ((start + 2 * length s.words) % 65536) ≡ true = eq-eqb at ((start + 2 * length s.words) % 65536) place in
-    let fits : ltb (length s.words) 32767 ≡ true = lt-ltb (length s.words) 32767 room in
-    rw (hf, hg, hk, there, fits) refl
+word_found start flag at w s rs f g k m hf hg hk place room = search rules
 
 relocs_there : (flag : ℕ) (r : Reloc) → eqb flag 0 ≡ true → IsWord r.0 → relocs_of flag (octal r.0) ≡ Ok (r ∷ [])
 relocs_there flag r on h = rw (on, short_again r.0 h) refl
@@ -83,10 +74,7 @@ gap_append n a b t = append_assoc a (32 ∷ (replicate n 32 ++ b)) t ∙ ap (λ 
 
 pub line_with : (said : List ℕ) (at w : ℕ) (r : Reloc) →
     word_line said at w (Some r) ≡ gap 1 (six_digits at) (gap (wide 4 (octal r.0)) (six_digits w) (octal r.0 ++ remarked said))
-line_with said at w r =
-    let k = octal r.0 in
-    gap_append 1 (six_digits at) (gap (wide 4 k) (six_digits w) k) (remarked said)
-    ∙ ap (λ (y : List ℕ). gap 1 (six_digits at) y) (gap_append (wide 4 k) (six_digits w) k (remarked said))
+line_with said at w r = search (rules, gap_append)
 
 pub line_alone : (said : List ℕ) (at w : ℕ) → word_line said at w None ≡ gap 1 (six_digits at) (six_digits w ++ remarked said)
 line_alone said at w = gap_append 1 (six_digits at) (six_digits w) (remarked said)
@@ -169,10 +157,7 @@ words_alone x p i put start flag at s (w ∷ ws) are enters off place words room
 symbol_found : (n : ℕ) (done : List Symbol) (s : Symbol) (f g k m : List ℕ) →
     number f ≡ Ok n → name_of g ≡ Ok s.name → number k ≡ Ok s.type_bits → number m ≡ Ok s.value → n ≡ length done → length done < 5461 →
     symbol_entry done (record { first = f; second = g; third = k; fourth = m }) ≡ Ok (done ++ s ∷ [])
-symbol_found n done s f g k m hf hg hk hm place room =
-    let there : eqb n (length done) ≡ true = eq-eqb n (length done) place in
-    let fits : ltb (length done) 5461 ≡ true = lt-ltb (length done) 5461 room in
-    rw (hf, hg, hk, hm, there, fits) refl
+symbol_found n done s f g k m hf hg hk hm place room = search rules
 
 pub symbols_read : (x : Remarks) (d : Draft) (n : ℕ) (done ss : List Symbol) → n ≡ length done →
     AllByRecursion IsSymbol ss → length done + length ss < 5462 →

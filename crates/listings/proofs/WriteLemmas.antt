@@ -1,4 +1,5 @@
 -- One more word of a segment is written.
+use Rattle.std.proofs.lemmas.Grind.{common_steps}
 use Rattle.std.proofs.Common.{◌≡◌, ℕ, zero, suc, ◌+◌, ◌*◌, ◌%◌, ◌<◌, List, [], ◌∷◌, ◌++◌, drop, length, get_or, refl, sym, ◌∙◌, ap, arith}
 use Rattle.std.proofs.Common.{append_assoc, drop-drop}
 use Rattle.std.proofs.{lemmas.List.drop_more, Math.Seq.drop-length}
@@ -45,23 +46,13 @@ put_step x p init items new at start i w r ws rs lt is reloc place grown before 
 pub put_end : (x : Remarks) (p : Part) (init items new : List ℕ) (start i : ℕ) (ws : List ℕ) (rs : List Reloc) →
     i ≡ length ws → new ≡ items ++ text_of (x.labels p (length ws)) →
     items ++ text_of (word_lines x p i (start + 2 * i) (drop i ws) (drop i rs)) ≡ init → new ≡ init
-put_end x p init items new start i ws rs end grown before =
-    grown
-    ∙ ap (λ (k : ℕ). items ++ text_of (x.labels p k)) (sym end)
-    ∙ ap (λ (y : List ℕ). items ++ text_of (word_lines x p i (start + 2 * i) y (drop i rs)))
-    (sym (ap (λ (k : ℕ). drop k ws) end ∙ drop-length ws))
-    ∙ before
+put_end x p init items new start i ws rs end grown before = cc (drop-length ws)
 
 grown : (from next : List ℕ) (xs ys : List (List ℕ)) → next ≡ from ++ text_of xs → next ++ text_of ys ≡ from ++ text_of (xs ++ ys)
-grown from next xs ys e =
-    ap (λ (t : List ℕ). t ++ text_of ys) e ∙ append_assoc from (text_of xs) (text_of ys)
-    ∙ ap (λ (t : List ℕ). from ++ t) (sym (two_texts xs ys))
+grown from next xs ys e = cc (append_assoc from (text_of xs) (text_of ys), two_texts xs ys)
 
 -- the parts of a listing, one after another
 pub whole : (t0 t1 t2 t3 t4 t5 t6 t7 : List ℕ) (n h x d b s f : List (List ℕ)) → t1 ≡ t0 ++ text_of n →
     t2 ≡ t1 ++ text_of h → t3 ≡ t2 ++ text_of x → t4 ≡ t3 ++ text_of d →
     t5 ≡ t4 ++ text_of b → t6 ≡ t5 ++ text_of s → t7 ≡ t6 ++ text_of f → t7 ≡ t0 ++ text_of (n ++ (h ++ (x ++ (d ++ (b ++ (s ++ f))))))
-whole t0 t1 t2 t3 t4 t5 t6 t7 n h x d b s f e1 e2 e3 e4 e5 e6 e7 =
-    e7 ∙ grown t5 t6 s f e6 ∙ grown t4 t5 b (s ++ f) e5 ∙ grown t3 t4 d (b ++ (s ++ f)) e4
-    ∙ grown t2 t3 x (d ++ (b ++ (s ++ f))) e3 ∙ grown t1 t2 h (x ++ (d ++ (b ++ (s ++ f)))) e2
-    ∙ grown t0 t1 n (h ++ (x ++ (d ++ (b ++ (s ++ f))))) e1
+whole t0 t1 t2 t3 t4 t5 t6 t7 n h x d b s f e1 e2 e3 e4 e5 e6 e7 = grind (arith, common_steps, grown)

@@ -1,7 +1,7 @@
 -- The places that lead to more, one after the other.
 use Rattle.std.proofs.Common.{◌≡◌, ℕ, zero, suc, ◌+◌, ◌-◌, ◌<◌, ◌≤◌, refl, sym, ap, ◌∙◌, arith, append_assoc}
 use Rattle.std.proofs.{lemmas.Bool.lt-ltb, lemmas.Bool.le-ltb, lemmas.List.drop_more}
-use Rattle.std.specs.Prelude.{Option, map, [], ◌∷◌, Bool, false, if◌then◌else◌, List, ◌++◌, length, drop, slice_index}
+use Rattle.std.specs.Prelude.{Option, map, [], ◌∷◌, Bool, if◌then◌else◌, List, ◌++◌, length, drop, slice_index}
 use Rattle.aout_core.specs.Contents.{Contents}
 use Rattle.findings.specs.Found.{Found}
 use Rattle.suspicions.specs.Reached.{leads_to, visited, visited_all, named, shown, shown_from, entry, distances, evident, spread}

@@ -20,10 +20,10 @@ use Rattle.findings.specs.Found.{Found}
 use Rattle.findings.specs.declared.finding.FindingKind.TheVariants.{RelocatedFirstWord, UnsuitablePcBit, BranchOutside}
 use Rattle.findings.specs.declared.finding.FindingKind.TheVariants.{NoInstruction}
 use Rattle.suspicions.specs.Trust.{has_word_at, enters, entered_by, entered, overlaps, is_sure, trust}
-use Rattle.suspicions.specs.Branches.{of_lines, word_place, suspicious_entry, suspicious_target, suspicious_branch}
+use Rattle.suspicions.specs.Branches.{of_lines, word_place, suspicious_entry, suspicious_branch}
 use Rattle.suspicions.specs.Suspicions.{reloc_place, may_begin, differ, is_immediate, is_foreign, suspicious_bit, suspicious_by}
-use Rattle.suspicions.specs.Suspicions.{suspicious_lack, suspicious_plain, suspicious_operand, suspicious_line, suspicious_at, suspicious_place}
-use Rattle.suspicions.specs.Suspicions.{suspicious_words, suspicions}
+use Rattle.suspicions.specs.Suspicions.{suspicious_lack, suspicious_operand, suspicious_line, suspicious_at, suspicious_place}
+use Rattle.suspicions.specs.{Addresses.suspicious_addresses, Referents.suspicious_references, Suspicions.suspicious_words, Suspicions.suspicions}
 use Rattle.suspicions.specs.SuspicionTexts.{relocated_first_text, no_instruction_text, pc_bit_in, outside_in}
 use Rattle.suspicions.specs.SureLaw.{NoneIsSure, targets, is_whole, IsInside, AreInside, SureLaw, SuitsMode, SuitsModes, SureWordsLaw}
 use Rattle.suspicions.specs.{declared.evidence.Evidence.Evidence, declared.evidence.Evidence.TheVariants.Names}
@@ -219,7 +219,7 @@ sure_below e c place s =
 -- what is known of a sure place
 record IsQuiet (e : Evidence) (c : Contents) (place : ℕ) : Type 0 where
   reached : (trust e c place).is_reached ≡ true
-  none : NoneIsSure (suspicious_at (of_lines e) c (trust e c place) place)
+  none : NoneIsSure (suspicious_line (of_lines e) c (trust e c place) place (unix_line_in Unix c place))
 
 quiet_at : (e : Evidence) (c : Contents) (place : ℕ) → NoneIsSure (suspicions e c) → is_sure e c place ≡ true → IsQuiet e c place
 quiet_at e c place none s =
@@ -227,8 +227,11 @@ quiet_at e c place none s =
     record {
       reached = reached;
       none =
-          looked_at (trust e c place).is_reached (is_start (starts Unix c) place) (suspicious_at (of_lines e) c (trust e c place) place)
-          reached (place_quiet e c c.text_words 0 place place (sure_below e c place s) (omega arith) none);
+          (quiet_parts (suspicious_line (of_lines e) c (trust e c place) place (unix_line_in Unix c place))
+          (suspicious_references (of_lines e) c (trust e c place) place (unix_line_in Unix c place))
+          (looked_at (trust e c place).is_reached (is_start (starts Unix c) place) (suspicious_at (of_lines e) c (trust e c place) place)
+          reached (place_quiet e c c.text_words 0 place place (sure_below e c place s) (omega arith)
+          (quiet_parts (suspicious_words e c 0 c.text_words) (suspicious_addresses e c) none).0))).0;
     }
 
 pub sure_places : SureLaw

@@ -1,6 +1,8 @@
+pub mod Addresses
 pub mod Branches
 pub mod Reached
 pub mod ReachedLaw
+pub mod Referents
 pub mod SureLaw
 pub mod Suspicions
 pub mod SuspicionTexts

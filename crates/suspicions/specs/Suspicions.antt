@@ -24,6 +24,7 @@ use Rattle.disassemblies.specs.{Lines.unix_line_in, Starts.starts, Starts.is_sta
 use Rattle.findings.specs.declared.finding.FindingKind.TheVariants.{RelocatedFirstWord, UnsuitablePcBit, CutInstruction, NoInstruction}
 use Rattle.findings.specs.{Found.Found, Found.found_as, Odd.odd}
 use Rattle.suspicions.specs.Branches.{of_lines, word_place, suspicious_branch}
+use Rattle.suspicions.specs.{Addresses.suspicious_addresses, Referents.suspicious_references}
 use Rattle.suspicions.specs.SuspicionTexts.{relocated_first_text, pc_bit_in, cut_text, no_instruction_text}
 use Rattle.suspicions.specs.{declared.evidence.Evidence.Evidence, declared.trust.Trust.Trust, Reached.branch_of, Trust.trust}
 
@@ -95,7 +96,8 @@ suspicious_line e c t place (Machine (Decoded i a b)) =
 suspicious_line e c t place (Call k) = []
 
 abbrev pub suspicious_at : Evidence → Contents → Trust → ℕ → List Found
-suspicious_at e c t place = suspicious_line e c t place (unix_line_in Unix c place)
+suspicious_at e c t place =
+    suspicious_line e c t place (unix_line_in Unix c place) ++ suspicious_references e c t place (unix_line_in Unix c place)
 
 -- what is suspicious at a place, if it is reached or begins a line
 abbrev pub suspicious_place : Evidence → Contents → ℕ → List Found
@@ -109,7 +111,7 @@ suspicious_words e c place (w ∷ ws) = suspicious_place e c place ++ suspicious
 
 -- all that is suspicious; the evidence says which places are sure
 abbrev pub suspicions : Evidence → Contents → List Found
-suspicions e c = suspicious_words e c 0 c.text_words
+suspicions e c = suspicious_words e c 0 c.text_words ++ suspicious_addresses e c
 
 -- with what else is odd in a file that these bytes begin with: the commons of odd sizes too, or not
 abbrev pub all_odd : Evidence → Bool → List ℕ → Contents → List Found

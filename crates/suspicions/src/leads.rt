@@ -21,6 +21,13 @@ pub(crate) fn address_of(file: &File, place: usize) -> u16
     (2 * place) as u16
 }
 
+/// The relocation word of a word of text, if the file has relocation.
+pub(crate) fn reloc_at(file: &File, place: usize) -> Option<Reloc>
+    ensures { result ≡ slice_get file.now.text_reloc place }
+{
+    file.text_reloc().get(place).copied()
+}
+
 /// Whether the pc itself is an operand.
 fn is_pc_itself(operand: Option<Operand>) -> bool
     ensures { result ≡ is_pc_itself operand }

@@ -5,11 +5,13 @@
 //! shows which mistakes of an assembler that finds.
 #![tactic(auto)]
 
+mod addresses;
 mod branches;
 mod evidence;
 pub mod laws;
 mod leads;
 mod reached;
+mod referent;
 mod suspect;
 mod suspicions;
 mod trust;

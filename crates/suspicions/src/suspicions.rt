@@ -15,10 +15,12 @@ ghost use Rattle.suspicions.specs.SuspicionTexts.{relocated_first_text, bit_text
 ghost use Rattle.suspicions.specs.Suspicions.{reloc_place, may_begin, suspicious_first, differ, is_immediate, suspicious_bit, suspicious_by, suspicious_operand};
 ghost use Rattle.suspicions.specs.Suspicions.{is_foreign, suspicious_lack, suspicious_plain, suspicious_line, suspicious_at, suspicious_place, suspicious_words, suspicions, all_odd};
 
+use crate::addresses::find_addresses;
 use crate::branches::{find_branch, word_place};
 use crate::evidence::Evidence;
-use crate::leads::branch_of;
+use crate::leads::{branch_of, reloc_at};
 use crate::reached::{is_marked, reached_places};
+use crate::referent::find_references;
 use crate::suspect::{Suspect, doubt_text};
 use crate::trust::{Reached, Trust, is_sure};
 use aout_core::{File, Reloc};
@@ -87,13 +89,6 @@ fn reloc_place(file: &File, place: usize) -> usize
     ensures { result ≡ reloc_place file.now place }
 {
     FilePlaces::of(file.header()).relocation + 2 * place
-}
-
-/// The relocation word of a word of text, if the file has relocation.
-fn reloc_at(file: &File, place: usize) -> Option<Reloc>
-    ensures { result ≡ slice_get file.now.text_reloc place }
-{
-    file.text_reloc().get(place).copied()
 }
 
 /// Whether the word at a place would begin an instruction, if it were not relocated, with a last word that is an operand word and not
@@ -283,7 +278,28 @@ fn find_branches(findings: &mut Findings, at: &Suspect<'_>, instruction: &Instru
 }
 
 /// Adds what is suspicious of a line.
-fn find_line(findings: &mut Findings, at: &Suspect<'_>)
+fn find_line(findings: &mut Findings, at: &Suspect<'_>, line: &UnixLine)
+    requires inside { at.now.start < length at.now.lines.sweep.now.text_words }
+    requires lines { (i : ℕ) → get_or at.now.lines.marks.now i false
+        ≡ is_reached at.now.lines.evidence at.now.lines.sweep.now i }
+    ensures { Finds findings.old findings.new
+        (suspicious_line at.now.lines.evidence at.now.lines.sweep.now at.now.trust at.now.start
+        line.now) }
+{
+    let is_inside = at.start < at.sweep().file().text_words().len();
+    prove!(is_inside);
+    match line {
+        UnixLine::Machine(Line::Plain(word)) => find_plain(findings, at, *word),
+        UnixLine::Machine(Line::Decoded(instruction, _, _)) => {
+            find_operands(findings, at, instruction);
+            find_branches(findings, at, instruction);
+        }
+        UnixLine::Call(_) => {}
+    }
+}
+
+/// Adds what is suspicious of the line at a place, and of what its operands refer to.
+fn find_at(findings: &mut Findings, at: &Suspect<'_>)
     requires inside { at.now.start < length at.now.lines.sweep.now.text_words }
     requires lines { (i : ℕ) → get_or at.now.lines.marks.now i false
         ≡ is_reached at.now.lines.evidence at.now.lines.sweep.now i }
@@ -293,14 +309,9 @@ fn find_line(findings: &mut Findings, at: &Suspect<'_>)
 {
     let is_inside = at.start < at.sweep().file().text_words().len();
     prove!(is_inside);
-    match at.sweep().line_at(at.start) {
-        UnixLine::Machine(Line::Plain(word)) => find_plain(findings, at, word),
-        UnixLine::Machine(Line::Decoded(instruction, _, _)) => {
-            find_operands(findings, at, &instruction);
-            find_branches(findings, at, &instruction);
-        }
-        UnixLine::Call(_) => {}
-    }
+    let line = at.sweep().line_at(at.start);
+    find_line(findings, at, &line);
+    find_references(findings, at, &line);
 }
 
 /// A file, and for each word of its text whether names show that it is reached, and whether an evidence of sure places does.
@@ -388,7 +399,7 @@ fn find_place(findings: &mut Findings, marked: &Marked<'_>, place: usize)
             start: place,
             trust,
         };
-        find_line(findings, &at);
+        find_at(findings, &at);
     }
 }
 
@@ -398,8 +409,8 @@ fn find_places(findings: &mut Findings, marked: &Marked<'_>)
         → get_or marked.now.names.now i false ≡ is_reached Names marked.now.sweep.now i }
     requires shown { (i : ℕ) → get_or marked.now.shown.now i false
         ≡ is_reached marked.now.evidence marked.now.sweep.now i }
-    ensures { Finds findings.old findings.new
-        (suspicions marked.now.evidence marked.now.sweep.now) }
+    ensures { Finds findings.old findings.new (suspicious_words marked.now.evidence
+        marked.now.sweep.now 0 marked.now.sweep.now.text_words) }
 {
     let words = marked.sweep.file().text_words();
     for (place, _) in words.iter().enumerate() {
@@ -427,6 +438,7 @@ pub fn suspicions_of(
         shown: &shown,
     };
     find_places(&mut findings, &marked);
+    find_addresses(&mut findings, &by_evidence(&marked));
     findings.finish()
 }
 

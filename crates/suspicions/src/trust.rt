@@ -1,5 +1,8 @@
 //! How far it is sure that a line is an instruction.
-ghost use Rattle.std.specs.Prelude.{◌≡◌, ◌≤◌, ◌<◌, length, ℕ, false, get_or, IfSome};
+ghost use Rattle.std.specs.Prelude.{◌≡◌, ◌≤◌, ◌<◌, ◌^◌, length, ℕ, false, get_or, IfSome};
+ghost use Rattle.instructions.specs.UnixLines.{unix_length};
+ghost use Rattle.instructions.specs.declared.unix.Decoder.TheVariants.{Unix};
+ghost use Rattle.disassemblies.specs.Lines.{unix_line_in};
 ghost use Rattle.suspicions.specs.Reached.{is_reached};
 ghost use Rattle.suspicions.specs.Trust as spec;
 
@@ -64,17 +67,16 @@ pub(crate) fn entered(reached: &Reached<'_>, place: usize) -> Option<usize>
     }
 }
 
-/// Whether a line that is reached begins so many words after the one at a place, with a word of it.
-fn is_entered(reached: &Reached<'_>, place: usize, ahead: usize) -> bool
-    requires inside { place < length reached.now.sweep.now.text_words }
+/// Whether a line that is reached begins so many words after the one of so many words at a place, with a word of it.
+fn is_entered(reached: &Reached<'_>, place: usize, count: usize, ahead: usize) -> bool
+    requires inside { place < 2 ^ 15 }
     requires short { ahead ≤ 4 }
+    requires counted { count ≡ unix_length (unix_line_in Unix reached.now.sweep.now place) }
     requires marks { (i : ℕ) → get_or reached.now.marks.now i false
         ≡ is_reached reached.now.evidence reached.now.sweep.now i }
     ensures { result ≡ spec.is_entered reached.now.evidence reached.now.sweep.now place ahead }
 {
-    let is_inside = place < reached.sweep.file().text_words().len();
-    prove!(is_inside);
-    ahead < reached.sweep.line_at(place).length() && is_marked(reached.marks, place + ahead)
+    ahead < count && is_marked(reached.marks, place + ahead)
 }
 
 /// Whether the line at a place overlaps another one that is reached.
@@ -84,11 +86,14 @@ fn overlaps(reached: &Reached<'_>, place: usize) -> bool
         ≡ is_reached reached.now.evidence reached.now.sweep.now i }
     ensures { result ≡ spec.overlaps reached.now.evidence reached.now.sweep.now place }
 {
+    let is_inside = place < reached.sweep.file().text_words().len();
+    prove!(is_inside);
+    let count = reached.sweep.line_at(place).length();
     entered(reached, place).is_some()
-        || is_entered(reached, place, 1)
-        || is_entered(reached, place, 2)
-        || is_entered(reached, place, 3)
-        || is_entered(reached, place, 4)
+        || is_entered(reached, place, count, 1)
+        || is_entered(reached, place, count, 2)
+        || is_entered(reached, place, count, 3)
+        || is_entered(reached, place, count, 4)
 }
 
 /// Whether it is sure that an instruction is at a place.

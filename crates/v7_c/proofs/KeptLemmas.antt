@@ -1,16 +1,16 @@
 -- What calls on a session that is kept leave, by what the library returned.
-use Rattle.std.proofs.Common.{◌≡◌, ◌≢◌, ℕ, Bool, true, false, if◌then◌else◌, List, Option, Some, None, Result, Ok, Err, refl, ap, ◌∙◌}
+use Rattle.std.proofs.Common.{◌≡◌, ◌≢◌, ℕ, Bool, true, false, if◌then◌else◌, List, Option, Some, None, Result, Ok, Err, ap, ◌∙◌}
 use Rattle.std.specs.Prelude.{IfOk, IfErr, IsOk, OnOk, OnErr, Vec}
 use Rattle.std.specs.declared.alloc.Global.{Global}
 use Rattle.aout_core.specs.Refusals.{refused}
 use Rattle.link_session.specs.Undo.{Kept}
 use Rattle.library_calls.specs.declared.cause.Cause.TheVariants.{Memory, NoOption}
 use Rattle.library_calls.specs.{declared.cause.Refusal.Refusal, declared.run_call.RunResult.RunResult}
-use Rattle.library_calls.specs.KeptAnswers.{MayRunOutToLink, kept_run, shown_in}
+use Rattle.library_calls.specs.KeptAnswers.{HasJournal, MayRunOutToLink, kept_run, shown_in}
 use Rattle.library_calls.specs.RunAnswers.{RunOutput, results_of}
 use Rattle.v7_c.specs.KeptLeft.{IsGiven, Keeps, LeavesChange, LeavesShown, LinkMayRunOut, is_link, kept_in, of_session}
 use Rattle.v7_c.specs.{Left.Left, Left.bytes_or, Left.done_by, Left.left_at, Left.of_none, Left.refusal_in}
-use Rattle.v7_c.specs.{RunLeft.results_or, declared.run.Request.Request}
+use Rattle.v7_c.specs.{RunLeft.results_or, RunLeft.wants_of, declared.run.Request.Request}
 
 pub change_left : {A B : Type 0} (asked : Result A Refusal) (MayRunOut : Type 0) (Changes : Option Kept → Option Kept → Type 0)
     (old new : Option Kept) (l : Left) (r : Result B Refusal) → l ≡ done_by (refusal_in r) → OnOk r (Changes old new) →
@@ -25,14 +25,14 @@ pub state_shown : (form : ℕ) (kept : Option Kept) (room : List ℕ) (l : Left)
     IfOk r (λ state. of_session (shown_in form) kept ≡ Ok state.items) →
     IfErr r (λ refusal. refusal.cause ≢ Memory refused → of_session (shown_in form) kept ≡ Err refusal) →
     IfErr r (λ refusal. refusal.cause ≡ Memory refused → (refusal.place ≡ 0) × Keeps (λ k. IsOk (shown_in form k)) kept) →
-    LeavesShown form kept room l
-state_shown form kept room l (Ok state) is ok err memory = record { answer = Ok state.items; given = ok; is = is }
-state_shown form kept room l (Err refusal) is ok err memory =
-    record { answer = Err refusal; given = record { same = err; memory = memory }; is = is }
+    IfOk r (λ state. Keeps HasJournal kept) → LeavesShown form kept room l
+state_shown form kept room l (Ok state) is ok err memory journal = record { answer = Ok state.items; given = ok; journal = journal; is = is }
+state_shown form kept room l (Err refusal) is ok err memory journal =
+    record { answer = Err refusal; given = record { same = err; memory = memory }; journal = tt; is = is }
 
 module _ (kept : Option Kept) (q : Request) (size : ℕ) where
   abbrev pub run : Result RunOutput Refusal
-  run = of_session (kept_run q.options q.entry.now) kept
+  run = of_session (kept_run (wants_of q.wants) q.options q.entry.now) kept
 
   by_request : (b : Bool) → is_link q size ≡ b → kept_in kept q size ≡ (if b then run else Err (of_none NoOption))
   by_request b known = ap (λ (x : Bool). if x then run else Err (of_none NoOption)) known

@@ -4,21 +4,21 @@ use Rattle.std.proofs.Common.{refl, sym, ap, subst, ◌∙◌, arith}
 use Rattle.std.specs.Prelude.{◌⊎◌, IsErr, IsErrAnd, IsOk, MatchResult, Vec}
 use Rattle.std.specs.declared.alloc.Global.{Global}
 use Rattle.aout_core.specs.declared.object.ObjectFault.{ObjectFault}
-use Rattle.library_calls.specs.declared.cause.Cause.TheVariants.{NoOption, Excluded, LongName, CutNames, ManyNames, TooLong, NoEdit}
+use Rattle.library_calls.specs.declared.cause.Cause.TheVariants.{NoOption, Excluded, LongName, CutNames, ManyNames, TooLong}
 use Rattle.library_calls.specs.declared.cause.Cause.TheVariants.{NoSession, NothingKept}
 use Rattle.library_calls.specs.declared.cause.Cause.TheVariants.{BadFile, BadObject, NotAdded, NotLinked, BadListing, NotConverted, Memory}
 use Rattle.library_calls.specs.Causes.{gnu_number, gnu_word, number_of, object_number, object_word, word_of}
 use Rattle.library_calls.specs.{declared.cause.Cause.Cause, declared.cause.Refusal.Refusal, declared.parts.FileLists.FileLists}
 use Rattle.library_calls.specs.{declared.parts.ObjectWord.ObjectWord, declared.parts.PartLists.PartLists}
 use Rattle.library_calls.specs.{declared.parts.SymbolRow.SymbolRow, declared.remarks_call.RemarkRecord.RemarkRecord}
-use Rattle.library_calls.specs.{declared.remarks_call.Remarks.Remarks, declared.state_call.Shown.Shown, ObjectParts.Pieces}
+use Rattle.library_calls.specs.{declared.remarks_call.Remarks.Remarks, ObjectParts.Pieces}
 use Rattle.library_calls.specs.{ObjectParts.file_for, ObjectParts.made_of, ObjectParts.pieces_in, RemarkAnswers.Output}
-use Rattle.library_calls.specs.{RemarkAnswers.remarks_in, StateAnswers.Asked, StateAnswers.IsShown, StateAnswers.states_of}
+use Rattle.library_calls.specs.{RemarkAnswers.remarks_in}
 use Rattle.library_calls.proofs.NumberLemmas.{IsNotMemory, CauseIsNotMemory, not_memory_made, not_memory_reason}
-use Rattle.v7_c.specs.Left.{BothLeft, FileLeft, LeavesState, Left, PartsLeft, apart_left, both_left, bytes_or, counted_by, counts_of}
+use Rattle.v7_c.specs.Left.{BothLeft, FileLeft, Left, PartsLeft, apart_left, both_left, bytes_or, counted_by, counts_of}
 use Rattle.v7_c.specs.Left.{file_left, given, items_of, left, left_at, left_by, no_bytes_at, no_counts, no_header, no_output, of_none}
-use Rattle.v7_c.specs.Left.{output_left, output_of_state, parts_left, pieces_or, put_in, read_left, refused, remarks_or, state_left}
-use Rattle.v7_c.specs.Left.{states_or, wholes_or}
+use Rattle.v7_c.specs.Left.{output_left, parts_left, pieces_or, put_in, read_left, refused, remarks_or}
+use Rattle.v7_c.specs.Left.{wholes_or}
 use Rattle.v7_c.specs.{declared.answer.Answer.Answer, declared.answer.Counts.Counts, declared.answer.FileHeader.FileHeader}
 use Rattle.aout_core.specs.Refusals as memory
 use Rattle.aout_core.specs.declared.object.ObjectFault.TheVariants as objects
@@ -57,7 +57,6 @@ no_word LongName h = refl
 no_word CutNames h = refl
 no_word ManyNames h = refl
 no_word (TooLong part) h = let e : 6 ≡ 50 = h in absurd (omega (arith, e))
-no_word NoEdit h = refl
 no_word NoSession h = refl
 no_word NothingKept h = refl
 no_word (BadFile fault) h = refl
@@ -79,30 +78,6 @@ no_memory r h = ap (λ (n : ℕ). answer_with n r.place (word_of r.cause)) h ∙
 not_memory : {A : Type 0} (b : Bool) (x y : BothLeft A) → x.answer.fault ≡ 60 → y.answer.fault ≡ 0 → (cond b x y).answer.fault ≡ 50 → ⊥
 not_memory true x y hx hy h = absurd (omega (arith, sym hx ∙ h))
 not_memory false x y hx hy h = absurd (omega (arith, sym hy ∙ h))
-
-module _ {A : Type 0} (status : ℕ) (answer : Answer) (old new : List ℕ) (report_old report_new : List A) where
-  pub output_memory : (r : Result (Output A) Refusal) → both_left status answer new report_new ≡ output_left r old report_old →
-      answer.fault ≡ 50 → both_left status answer new report_new ≡ no_output answer.place old report_old
-  output_memory (Ok x) is h =
-      absurd (not_memory (nat_lt (length old) (length x.bytes) || nat_lt (length report_old) (length x.records))
-      (both_left 2 (given 60 (length x.bytes) (length x.records)) old report_old)
-      (both_left x.status (given 0 (length x.bytes) (length x.records)) (put_in old x.bytes) (put_in report_old x.records))
-      refl refl (sym (ap (λ (l : BothLeft A). l.answer.fault) is) ∙ h))
-  output_memory (Err refusal) is h =
-      is
-      ∙ ap (λ (a : Answer). both_left 2 a old report_old) (no_memory refusal (sym (ap (λ (l : BothLeft A). l.answer.fault) is) ∙ h))
-      ∙ ap (λ place. no_output place old report_old) (sym (ap (λ (l : BothLeft A). l.answer.place) is))
-
-module _ (status : ℕ) (answer : Answer) (old new report_old report_new : List ℕ) where
-  -- what is left of a session that the library shows
-  pub leaves_state : (asked : Result Asked Refusal) (r : Result Shown Refusal) → IfOk r (λ shown. IsShown asked (Ok (states_of shown))) →
-      IfErr r (λ refusal. (refusal.cause ≡ Memory memory.refused → ⊥) → asked ≡ Err refusal) →
-      both_left status answer new report_new ≡ state_left (states_or r) old report_old → (answer.fault ≡ 50 → ⊥) →
-      LeavesState asked old report_old (both_left status answer new report_new)
-  leaves_state asked (Ok shown) ok err is other = record { output = Ok (states_of shown); shown = ok; is = is }
-  leaves_state asked (Err refusal) ok err is other =
-      let same = err (λ memory. other (ap (λ (l : BothLeft ℕ). l.answer.fault) is ∙ ap number_of memory)) in
-      record { output = Err refusal; shown = subst (λ (a : Result Asked Refusal). IsShown a (Err refusal)) (sym same) refl; is = is }
 
 no_parts_memory : (b : Bool) (x y : PartsLeft) → x.answer.fault ≡ 60 → y.answer.fault ≡ 0 → (cond b x y).answer.fault ≡ 50 → ⊥
 no_parts_memory true x y hx hy h = absurd (omega (arith, sym hx ∙ h))
@@ -150,7 +125,6 @@ is_memory_or LongName = inr (λ e. absurd (cc))
 is_memory_or CutNames = inr (λ e. absurd (cc))
 is_memory_or ManyNames = inr (λ e. absurd (cc))
 is_memory_or (TooLong part) = inr (λ e. absurd (cc))
-is_memory_or NoEdit = inr (λ e. absurd (cc))
 is_memory_or NoSession = inr (λ e. absurd (cc))
 is_memory_or NothingKept = inr (λ e. absurd (cc))
 is_memory_or (BadFile fault) = inr (λ e. absurd (cc))
@@ -237,19 +211,6 @@ module _ {A : Type 0} (status : ℕ) (answer : Answer) (old new : List ℕ) (rep
   output_fault view (Err refusal) given_ same is h =
       let whole = is ∙ ap (λ (g : Result (Output A) Refusal). output_left g old report_old) same in
       (sym (ap (λ (l : BothLeft A). l.answer.fault) whole) ∙ h, ap (λ (l : BothLeft A). l.answer.place) whole)
-
-module _ (status : ℕ) (answer : Answer) (old new report_old report_new : List ℕ) where
-  pub shown_fault : (r : Result Shown Refusal) →
-      both_left status answer new report_new ≡ state_left (states_or r) old report_old → answer.fault ≡ 50 →
-      IsErrAnd r (λ refusal. (number_of refusal.cause ≡ 50) × (answer.place ≡ refusal.place))
-  shown_fault (Ok x) is h =
-      output_fault status answer old new report_old report_new
-      (λ (s : Shown). record { status = s.status; bytes = s.state.items; records = s.replies.items }) (Ok x)
-      (output_of_state (Ok (states_of x))) refl is h
-  shown_fault (Err refusal) is h =
-      output_fault status answer old new report_old report_new
-      (λ (s : Shown). record { status = s.status; bytes = s.state.items; records = s.replies.items }) (Err refusal)
-      (Err refusal) refl is h
 
 module _ (status : ℕ) (answer : Answer) (old new : List ℕ) (records_old records_new : List RemarkRecord) where
   -- remarks are given, or memory ran out

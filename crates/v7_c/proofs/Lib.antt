@@ -1,5 +1,4 @@
 pub mod LeftLemmas
 pub mod RunLemmas
-pub mod StateLemmas
 pub mod KeptLemmas
 pub mod Values

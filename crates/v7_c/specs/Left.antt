@@ -3,15 +3,14 @@
 -- Bytes are given at the beginning of a buffer. If a buffer is too short nothing is written, and the answer has the number of bytes
 -- that are needed. A refusal is a number, with the place of what is refused.
 use Rattle.std.specs.declared.alloc.Global.{Global}
-use Rattle.std.specs.Prelude.{◌≡◌, ℕ, ◌||◌, nat_lt, if◌then◌else◌, List, [], ◌++◌, drop, length, Option, Some, None, Vec, Result, Ok, Err}
+use Rattle.std.specs.Prelude.{ℕ, ◌||◌, nat_lt, if◌then◌else◌, List, [], ◌++◌, drop, length, Option, Some, None, Vec, Result, Ok, Err}
 use Rattle.aout_core.specs.declared.header.Header.{Header}
 use Rattle.library_calls.specs.{declared.cause.Cause.Cause, declared.cause.Cause.TheVariants.Memory, declared.cause.Refusal.Refusal}
 use Rattle.library_calls.specs.{declared.parts.FileLists.FileLists, declared.parts.ObjectWord.ObjectWord}
 use Rattle.library_calls.specs.{declared.parts.PartLists.PartLists, declared.parts.SymbolRow.SymbolRow}
 use Rattle.library_calls.specs.{declared.remarks_call.RemarkRecord.RemarkRecord, declared.remarks_call.Remarks.Remarks}
-use Rattle.library_calls.specs.{declared.state_call.Shown.Shown, Causes.number_of, Causes.word_of, ObjectParts.Pieces, ObjectParts.Whole}
+use Rattle.library_calls.specs.{Causes.number_of, Causes.word_of, ObjectParts.Pieces, ObjectParts.Whole}
 use Rattle.library_calls.specs.{ObjectParts.pieces_in, ObjectParts.whole_of, RemarkAnswers.Output, RemarkAnswers.remarks_in}
-use Rattle.library_calls.specs.{StateAnswers.Asked, StateAnswers.IsShown, StateAnswers.StateOutput, StateAnswers.states_of}
 use Rattle.v7_c.specs.{declared.answer.Answer.Answer, declared.answer.Counts.Counts, declared.answer.FileHeader.FileHeader}
 use Rattle.aout_core.specs.Refusals as memory
 
@@ -92,23 +91,9 @@ output_left (Ok x) buffer records =
     then both_left 2 (given 60 (length x.bytes) (length x.records)) buffer records
     else both_left x.status (given 0 (length x.bytes) (length x.records)) (put_in buffer x.bytes) (put_in records x.records)
 
--- what it leaves if memory ran out, at the edit of this number
+-- what it leaves if memory ran out
 abbrev pub no_output : {A : Type 0} → ℕ → List ℕ → List A → BothLeft A
 no_output place buffer records = output_left (Err (record { cause = Memory memory.refused; place = place })) buffer records
-
--- what is left by a call that shows a session: the state and the replies, or neither
-abbrev pub output_of_state : Result StateOutput Refusal → Result (Output ℕ) Refusal
-output_of_state (Ok x) = Ok (record { status = x.status; bytes = x.state; records = x.replies })
-output_of_state (Err r) = Err r
-
-abbrev pub state_left : Result StateOutput Refusal → List ℕ → List ℕ → BothLeft ℕ
-state_left r buffer replies = output_left (output_of_state r) buffer replies
-
--- what is left is an output that the session which is asked for may show
-pub record LeavesState (asked : Result Asked Refusal) (buffer replies : List ℕ) (left : BothLeft ℕ) : Type 0 where
-  pub output : Result StateOutput Refusal
-  pub shown : IsShown asked output
-  pub is : left ≡ state_left output buffer replies
 
 -- what taking an object apart leaves: its words and symbols, and how many there are
 pub record PartsLeft : Type 0 where
@@ -177,10 +162,6 @@ bytes_or (Err r) = Err r
 abbrev pub remarks_or : Result Remarks Cause → Result (Output RemarkRecord) Refusal
 remarks_or (Ok x) = Ok (remarks_in x)
 remarks_or (Err cause) = Err (of_none cause)
-
-abbrev pub states_or : Result Shown Refusal → Result StateOutput Refusal
-states_or (Ok shown) = Ok (states_of shown)
-states_or (Err r) = Err r
 
 abbrev pub pieces_or : Result PartLists Cause → Result Pieces Cause
 pieces_or (Ok p) = Ok (pieces_in p)

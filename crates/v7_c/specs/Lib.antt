@@ -1,6 +1,5 @@
 pub mod Left
 pub mod RunLeft
 pub mod MapLeft
-pub mod StateLeft
 pub mod Slots
 pub mod KeptLeft

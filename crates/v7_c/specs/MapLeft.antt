@@ -11,9 +11,9 @@ use Rattle.library_calls.specs.{declared.cause.Refusal.Refusal, declared.map_cal
 use Rattle.library_calls.specs.{Causes.number_of, Causes.word_of, LinkAnswers.each_of}
 use Rattle.v7_c.specs.{Left.put_in, declared.map.MapAnswer.MapAnswer, declared.map.RecordCounts.RecordCounts, declared.run.Request.Request}
 
--- the sizes of both structs and the mode are known
+-- the sizes of both structs are known
 abbrev pub is_known : Request → ℕ → Bool
-is_known q size = nat_le 72 q.size && (nat_le 192 size && eqb q.mode 0)
+is_known q size = nat_le 64 q.size && nat_le 192 size
 
 -- memory may run out, at this place
 abbrev pub MapOfRequestMayRunOut : Request → ℕ → ℕ → Type 0

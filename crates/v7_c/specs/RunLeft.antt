@@ -1,49 +1,52 @@
 -- What v7_run is asked for, what it leaves in the result of its caller, and its status. (own choice)
 --
--- A request and a result begin with their sizes in bytes. A caller may have shorter ones, without the last fields: a link whose report
--- is wanted as lines alone does not need them. So it is with the objects of what is reported. Fields that a result lacks stay as they
--- are; one that lacks a field which every answer fills stays as it is.
-use Rattle.std.specs.Prelude.{◌≡◌, ◌≢◌, ◌⊎◌, ℕ, Bool, true, ◌||◌, ◌&&◌, not, eqb, nat_lt, nat_le, if◌then◌else◌, List, [], length, Result}
+-- A request and a result begin with their sizes in bytes. A caller may have a shorter result, without the last fields: a link whose
+-- report is wanted as lines alone does not need them. So it is with the objects of what is reported. Fields that a result lacks stay as
+-- they are; one that lacks a field which every answer fills stays as it is.
+use Rattle.std.specs.Prelude.{◌≡◌, ◌≢◌, ℕ, Bool, true, ◌||◌, ◌&&◌, not, nat_lt, nat_le, if◌then◌else◌, List, length, Result}
 use Rattle.std.specs.Prelude.{Ok, Err}
 use Rattle.aout_core.specs.Refusals.{refused}
-use Rattle.library_calls.specs.RunAnswers.{RunOutput, link_run, results_of, session_run}
+use Rattle.library_calls.specs.RunAnswers.{RunOutput, link_run, results_of}
 use Rattle.library_calls.specs.{declared.cause.Cause.TheVariants.Memory, declared.cause.Cause.TheVariants.NoOption}
+use Rattle.library_calls.specs.declared.run_call.Wants.{Wants}
 use Rattle.library_calls.specs.{declared.cause.Refusal.Refusal, declared.reported.ReportedName.ReportedName}
 use Rattle.library_calls.specs.{declared.run_call.RunResult.RunResult, Causes.number_of, Causes.word_of, FileAnswers.has_bit}
-use Rattle.library_calls.specs.{LinkAnswers.each_of, MemoryWanted.LinkMayRunOut, MemoryWanted.SessionMayRunOut}
+use Rattle.library_calls.specs.{LinkAnswers.each_of, MemoryWanted.LinkMayRunOut}
 use Rattle.finding_objects.specs.declared.places.FindingPlace.{FindingPlace}
-use Rattle.v7_c.specs.{Left.put_in, declared.run.Output.Output, declared.run.Request.Request, declared.run.RunAnswer.RunAnswer}
+use Rattle.v7_c.specs.{Left.put_in, declared.run.RunCounts.RunCounts, declared.run.Request.Request, declared.run.RunAnswer.RunAnswer}
 
 -- ---- what is asked for
 
--- fields are needed that a shorter struct lacks: the edits for mode 1, a session, or the list for bit 2 of what is wanted
-abbrev pub needs_more : Request → Bool
-needs_more q = eqb q.mode 1 || has_bit q.wants 2
+-- a result of this size has the fields of a list; and all fields
+abbrev pub has_list : ℕ → Bool
+has_list size = nat_le 96 size
 
--- request and result have the fields that are needed: all fields for bit 4 of what is wanted, the objects of what is reported
-abbrev pub is_enough : Request → ℕ → Bool
-is_enough q size =
-    (not (needs_more q) || (nat_le 88 q.size && nat_le 120 size)) && (not (has_bit q.wants 4) || nat_le 144 size)
+abbrev pub has_places : ℕ → Bool
+has_places size = nat_le 120 size
 
--- the sizes of request and result, the mode and what is wanted are known
+-- a result has the fields that these wants need: bit 2, the report as a list; bit 4, the objects of what is reported
+abbrev pub is_enough : ℕ → ℕ → Bool
+is_enough wants size =
+    nat_le 72 size && ((not (has_bit wants 2) || has_list size) && (not (has_bit wants 4) || has_places size))
+
+-- the sizes of request and result, and what is wanted, are known
 abbrev pub is_known : Request → ℕ → Bool
-is_known q size =
-    nat_le 72 q.size && (nat_le 72 size && (nat_le q.mode 1 && (nat_le q.wants 7 && is_enough q size)))
+is_known q size = nat_le 64 q.size && (nat_le q.wants 7 && is_enough q.wants size)
+
+-- what is wanted of the report: its lines by bit 1, a list by bit 2, and the objects of what that has by bit 4
+abbrev pub wants_of : ℕ → Wants
+wants_of wants = record { report = has_bit wants 1; findings = has_bit wants 2; places = has_bit wants 4 }
 
 -- what the library gives, to a caller with a result of this size
 abbrev pub run_in : Request → ℕ → Result RunOutput Refusal
 run_in q size =
-    if is_known q size
-    then (if eqb q.mode 0 then link_run (has_bit q.wants 4) q.options q.entry.now q.forced.now (each_of q.objects.now)
-    else session_run (has_bit q.wants 4) q.options q.entry.now q.forced.now q.edits.now (each_of q.objects.now))
+    if is_known q size then link_run (wants_of q.wants) q.options q.entry.now q.forced.now (each_of q.objects.now)
     else Err (record { cause = NoOption; place = 0 })
 
 -- memory may run out, at this place
 abbrev pub RunMayRunOut : Request → ℕ → ℕ → Type 0
 RunMayRunOut q size place =
-    (is_known q size ≡ true)
-    × (((q.mode ≡ 0) × LinkMayRunOut q.options q.entry.now q.forced.now (each_of q.objects.now) place)
-    ⊎ ((q.mode ≢ 0) × SessionMayRunOut q.options q.entry.now q.forced.now q.edits.now (each_of q.objects.now) place))
+    (is_known q size ≡ true) × LinkMayRunOut q.options q.entry.now q.forced.now (each_of q.objects.now) place
 
 -- an answer is what the library gives, or that memory ran out at a place at which it may
 abbrev pub IsAnswer : Request → ℕ → Result RunOutput Refusal → Type 0
@@ -53,17 +56,6 @@ IsAnswer q size (Err r) = (r.cause ≢ Memory refused → run_in q size ≡ Err 
 abbrev pub results_or : Result RunResult Refusal → Result RunOutput Refusal
 results_or (Ok given) = Ok (results_of given)
 results_or (Err r) = Err r
-
--- what is wanted of what there is: 1, the report as lines; 2, as a list. The objects are there only if they are wanted
-abbrev pub wanted : ℕ → RunOutput → RunOutput
-wanted wants x = record {
-  status = x.status;
-  replies = x.replies;
-  file = x.file;
-  report = if has_bit wants 1 then x.report else [];
-  findings = if has_bit wants 2 then x.findings else [];
-  places = x.places;
-}
 
 -- ---- what is left
 
@@ -79,9 +71,7 @@ pub record RunLeft : Type 0 where
   pub file : List ℕ
   pub report : List ℕ
   pub finding_count : ℕ
-  pub reply_count : ℕ
   pub findings : List ReportedName
-  pub replies : List ℕ
   pub place_count : ℕ
   pub places : List FindingPlace
 
@@ -97,47 +87,30 @@ left_in status x = record {
   file = x.file.now;
   report = x.report.now;
   finding_count = x.finding_count;
-  reply_count = x.reply_count;
   findings = x.findings.now;
-  replies = x.replies.now;
   place_count = x.place_count;
   places = x.places.now;
 }
 
-abbrev pub output_in : Output → RunOutput
-output_in o = record {
-  status = o.status;
-  replies = o.replies.now;
-  file = o.file.now;
-  report = o.report.now;
-  findings = o.findings.now;
-  places = o.places.now;
-}
-
--- a result of this size has the fields of a list and of a session; and all fields
-abbrev pub has_more : ℕ → Bool
-has_more size = nat_le 120 size
-
-abbrev pub has_places : ℕ → Bool
-has_places size = nat_le 144 size
+-- how much there is for each buffer
+abbrev pub counts_of : RunOutput → RunCounts
+counts_of x = record { file = length x.file; report = length x.report; findings = length x.findings; places = length x.places }
 
 -- a status and a fault, with the sizes of what there is
-abbrev pub answered : ℕ → ℕ → ℕ → ℕ → RunOutput → RunLeft → RunLeft
-answered status fault word place x l = record {
+abbrev pub answered : ℕ → ℕ → ℕ → ℕ → RunCounts → RunLeft → RunLeft
+answered status fault word place counts l = record {
   status = status;
   size = l.size;
   fault = fault;
   word = word;
   place = place;
-  file_size = length x.file;
-  report_size = length x.report;
+  file_size = counts.file;
+  report_size = counts.report;
   file = l.file;
   report = l.report;
-  finding_count = if has_more l.size then length x.findings else l.finding_count;
-  reply_count = if has_more l.size then length x.replies else l.reply_count;
+  finding_count = if has_list l.size then counts.findings else l.finding_count;
   findings = l.findings;
-  replies = l.replies;
-  place_count = if has_places l.size then length x.places else l.place_count;
+  place_count = if has_places l.size then counts.places else l.place_count;
   places = l.places;
 }
 
@@ -154,9 +127,7 @@ filled x l = record {
   file = put_in l.file x.file;
   report = put_in l.report x.report;
   finding_count = l.finding_count;
-  reply_count = l.reply_count;
-  findings = if has_more l.size then put_in l.findings x.findings else l.findings;
-  replies = if has_more l.size then put_in l.replies x.replies else l.replies;
+  findings = if has_list l.size then put_in l.findings x.findings else l.findings;
   place_count = l.place_count;
   places = if has_places l.size then put_in l.places x.places else l.places;
 }
@@ -165,20 +136,20 @@ filled x l = record {
 abbrev pub is_short : RunOutput → RunLeft → Bool
 is_short x l =
     nat_lt (length l.file) (length x.file) || (nat_lt (length l.report) (length x.report)
-    || ((has_more l.size && (nat_lt (length l.findings) (length x.findings) || nat_lt (length l.replies) (length x.replies)))
+    || ((has_list l.size && nat_lt (length l.findings) (length x.findings))
     || (has_places l.size && nat_lt (length l.places) (length x.places))))
 
 -- all of it, or nothing
 abbrev pub output_left : RunOutput → RunLeft → RunLeft
-output_left x l = if is_short x l then answered 2 60 0 0 x l else answered x.status 0 0 0 x (filled x l)
+output_left x l = if is_short x l then answered 2 60 0 0 (counts_of x) l else answered x.status 0 0 0 (counts_of x) (filled x l)
 
-abbrev pub nothing : RunOutput
-nothing = record { status = 2; replies = []; file = []; report = []; findings = []; places = [] }
+abbrev pub nothing : RunCounts
+nothing = record { file = 0; report = 0; findings = 0; places = 0 }
 
 -- what is left of an answer, in a result that was so
-abbrev pub answer_left : ℕ → Result RunOutput Refusal → RunLeft → RunLeft
-answer_left wants (Err r) l = answered 2 (number_of r.cause) (word_of r.cause) r.place nothing l
-answer_left wants (Ok x) l = output_left (wanted wants x) l
+abbrev pub answer_left : Result RunOutput Refusal → RunLeft → RunLeft
+answer_left (Err r) l = answered 2 (number_of r.cause) (word_of r.cause) r.place nothing l
+answer_left (Ok x) l = output_left x l
 
 -- a result of this size has what every answer fills: the fault, its word and its place, and the sizes of file and report
 abbrev pub is_answered : ℕ → Bool
@@ -188,4 +159,4 @@ is_answered size = nat_le 40 size
 pub record LeavesRun (q : Request) (old new : RunAnswer) (status : ℕ) : Type 0 where
   pub answer : Result RunOutput Refusal
   pub given : IsAnswer q old.size answer
-  pub is : left_in status new ≡ (if is_answered old.size then answer_left q.wants answer (left_in 0 old) else left_in 2 old)
+  pub is : left_in status new ≡ (if is_answered old.size then answer_left answer (left_in 0 old) else left_in 2 old)

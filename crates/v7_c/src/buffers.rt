@@ -2,12 +2,11 @@
 ghost use Rattle.std.specs.Prelude.{◌≡◌, ◌≤◌, [], length, Ok};
 ghost use Rattle.library_calls.specs.ObjectParts.{pieces_in};
 ghost use Rattle.library_calls.specs.RemarkAnswers.{remarks_in};
-ghost use Rattle.library_calls.specs.StateAnswers.{states_of};
-ghost use Rattle.v7_c.specs.Left.{done_by, refusal_in, apart_left, both_left, bytes_or, counted_by, counts_of, file_left, items_of, left, left_at, left_by, output_left, parts_left, pieces_or, put_in, read_left, remarks_or, state_left, states_or, wholes_or};
+ghost use Rattle.v7_c.specs.Left.{done_by, refusal_in, apart_left, both_left, bytes_or, counted_by, counts_of, file_left, items_of, left, left_at, left_by, output_left, parts_left, pieces_or, put_in, read_left, remarks_or, wholes_or};
 
 use crate::answer::{Answer, Counts, FileHeader};
 use library_calls::{
-    Cause, FileLists, ObjectWord, PartLists, Refusal, RemarkRecord, Remarks, Shown, SymbolRow,
+    Cause, FileLists, ObjectWord, PartLists, Refusal, RemarkRecord, Remarks, SymbolRow,
 };
 
 /// The fault if a buffer is too short.
@@ -100,37 +99,6 @@ pub(crate) fn leave_bytes_at(
     }
 }
 
-/// Bytes, records and a status.
-#[derive(Clone, Copy)]
-struct Both<'a, T> {
-    status: u8,
-    bytes: &'a [u8],
-    records: &'a [T],
-}
-
-/// Writes bytes and records into their buffers, if both fit.
-fn leave_both<T: Copy>(
-    both: &Both<'_, T>,
-    buffer: &mut [u8],
-    records: &mut [T],
-    answer: &mut Answer,
-) -> u32
-    ensures { both_left result answer.new buffer.new records.new ≡ output_left
-        (Ok (record { status = both.now.status; bytes = both.now.bytes.now; records = both.now.records.now }))
-        buffer.old records.old }
-{
-    let size = both.bytes.len();
-    let count = both.records.len();
-    if buffer.len() < size || records.len() < count {
-        *answer = Answer::given(NO_ROOM, size, count);
-        return 2;
-    }
-    put(both.bytes, buffer);
-    put(both.records, records);
-    *answer = Answer::given(0, size, count);
-    u32::from(both.status)
-}
-
 /// Writes remarks and their texts into the buffers, if both fit.
 fn leave_all_remarks(
     remarks: &Remarks,
@@ -141,12 +109,16 @@ fn leave_all_remarks(
     ensures { both_left result answer.new texts.new records.new
         ≡ output_left (Ok (remarks_in remarks.now)) texts.old records.old }
 {
-    let both = Both {
-        status: remarks.status,
-        bytes: &remarks.texts,
-        records: &remarks.records,
-    };
-    leave_both(&both, texts, records, answer)
+    let size = remarks.texts.len();
+    let count = remarks.records.len();
+    if texts.len() < size || records.len() < count {
+        *answer = Answer::given(NO_ROOM, size, count);
+        return 2;
+    }
+    put(&remarks.texts, texts);
+    put(&remarks.records, records);
+    *answer = Answer::given(0, size, count);
+    u32::from(remarks.status)
 }
 
 /// Writes remarks and their texts into the buffers, if there are some and both fit.
@@ -163,38 +135,6 @@ pub(crate) fn leave_remarks(
         Ok(remarks) => leave_all_remarks(&remarks, texts, records, answer),
         Err(cause) => {
             *answer = Answer::refused(Refusal::from(cause));
-            2
-        }
-    }
-}
-
-/// Writes the state of a session and the replies into the buffers, if both fit.
-fn leave_shown(shown: &Shown, buffer: &mut [u8], replies: &mut [u8], answer: &mut Answer) -> u32
-    ensures { both_left result answer.new buffer.new replies.new
-        ≡ state_left (Ok (states_of shown.now)) buffer.old replies.old }
-{
-    let both = Both {
-        status: shown.status,
-        bytes: &shown.state,
-        records: &shown.replies,
-    };
-    leave_both(&both, buffer, replies, answer)
-}
-
-/// Writes the state of a session and the replies into the buffers, if there is one.
-pub(crate) fn leave_state(
-    shown: Result<Shown, Refusal>,
-    buffer: &mut [u8],
-    replies: &mut [u8],
-    answer: &mut Answer,
-) -> u32
-    ensures { both_left result answer.new buffer.new replies.new
-        ≡ state_left (states_or shown) buffer.old replies.old }
-{
-    match shown {
-        Ok(shown) => leave_shown(&shown, buffer, replies, answer),
-        Err(refusal) => {
-            *answer = Answer::refused(refusal);
             2
         }
     }

@@ -1,14 +1,14 @@
 //! Calls on a session that a handle keeps.
 ghost use Rattle.std.specs.Prelude.{◌≡◌, ◌≢◌, None, Ok, Err, IsOk, IfOk, IfErr, OnOk, OnErr};
 ghost use Rattle.aout_core.specs.Refusals.{refused};
-ghost use Rattle.library_calls.specs.KeptAnswers.{AddsBytes, MayRunOutToAdd, MayRunOutToLink, TakesLast, kept_run, last_in, shown_in, taken_in};
+ghost use Rattle.library_calls.specs.KeptAnswers.{AddsBytes, HasJournal, MayRunOutToAdd, MayRunOutToLink, TakesLast, kept_run, last_in, shown_in, taken_in};
 ghost use Rattle.library_calls.specs.RunAnswers.{results_of};
 ghost use Rattle.library_calls.specs.declared.cause.Cause.TheVariants.{Memory};
 ghost use Rattle.v7_c.specs.KeptLeft.{Begins, Both, IsGiven, Keeps, LeavesLink, LinkMayRunOut, beginning, is_link, kept_in, of_session, kept_by};
-ghost use Rattle.v7_c.specs.RunLeft.{results_or};
+ghost use Rattle.v7_c.specs.RunLeft.{results_or, wants_of};
 
 use crate::handle::Handle;
-use crate::run::{ANSWERED, Request, RunAnswer, is_known, is_wanted, leave};
+use crate::run::{ANSWERED, Request, RunAnswer, is_known, is_wanted, leave, wants_of};
 use library_calls::{
     Cause, Refusal, RunResult, add_bytes, begin_session, link_session, state_of, withdraw_last,
 };
@@ -82,6 +82,7 @@ pub(crate) fn state(alloc: Global, handle: &mut Handle, form: u32) -> Result<Vec
         r.cause ≢ Memory refused → of_session (shown_in form) (kept_by handle.old) ≡ Err r) }
     ensures memory { IfErr result (λ r. r.cause ≡ Memory refused
         → (r.place ≡ 0) × Keeps (λ k. IsOk (shown_in form k)) (kept_by handle.old)) }
+    ensures journal { IfOk result (λ _. Keeps HasJournal (kept_by handle.old)) }
     ensures unchanged { kept_by handle.new ≡ kept_by handle.old }
 {
     match handle.take(alloc) {
@@ -97,10 +98,11 @@ pub(crate) fn state(alloc: Global, handle: &mut Handle, form: u32) -> Result<Vec
 /// The link of what the session keeps.
 fn run_kept(alloc: Global, handle: &mut Handle, request: &Request<'_>) -> Result<RunResult, Refusal>
     ensures ok { IfOk result (λ given.
-        of_session (kept_run request.now.options request.now.entry.now) (kept_by handle.old)
-        ≡ Ok (results_of given)) }
+        of_session (kept_run (wants_of request.now.wants) request.now.options request.now.entry.now)
+        (kept_by handle.old) ≡ Ok (results_of given)) }
     ensures err { IfErr result (λ r. r.cause ≢ Memory refused
-        → of_session (kept_run request.now.options request.now.entry.now) (kept_by handle.old) ≡ Err r) }
+        → of_session (kept_run (wants_of request.now.wants) request.now.options request.now.entry.now)
+        (kept_by handle.old) ≡ Err r) }
     ensures memory { IfErr result (λ r. r.cause ≡ Memory refused → (r.place ≡ 0)
         × Keeps (MayRunOutToLink request.now.options request.now.entry.now) (kept_by handle.old)) }
     ensures unchanged { kept_by handle.new ≡ kept_by handle.old }
@@ -108,7 +110,8 @@ fn run_kept(alloc: Global, handle: &mut Handle, request: &Request<'_>) -> Result
     match handle.take(alloc) {
         None => Err(Refusal::from(Cause::NoSession)),
         Some(session) => {
-            let given = link_session(alloc, &session, request.options, request.entry);
+            let wants = wants_of(request.wants);
+            let given = link_session(alloc, &session, wants, request.options, request.entry);
             handle.put(session);
             Ok(given?)
         }
@@ -119,7 +122,7 @@ fn run_kept(alloc: Global, handle: &mut Handle, request: &Request<'_>) -> Result
 fn is_link(request: &Request<'_>, size: usize) -> bool
     ensures { result ≡ is_link request.now size }
 {
-    is_known(request, size) && request.mode == 0 && !is_wanted(request.wants, 4)
+    is_known(request, size) && !is_wanted(request.wants, 4)
 }
 
 /// The link that is asked for, by a caller with a result of this size.
@@ -154,7 +157,7 @@ pub(crate) fn link(
         return 2;
     }
     let given = link_for(alloc, handle, request, answer.size);
-    leave(answer, request, given)
+    leave(answer, given)
 }
 
 /// Ends the session, if one is begun.

@@ -11,7 +11,6 @@ mod kept;
 mod map;
 mod run;
 mod slot;
-mod state;
 
 ghost use Rattle.std.specs.Prelude.{◌≡◌, ◌≢◌, ◌⊎◌, [], None, Ok, Err, IsOk};
 ghost use Rattle.aout_core.specs.Refusals.{refused};
@@ -26,18 +25,15 @@ ghost use Rattle.library_calls.specs.RemarkAnswers.{remarked_in};
 ghost use Rattle.v7_c.specs.KeptLeft.{LeavesAdded, LeavesBegun, LeavesLink, LeavesShown, LeavesWithdrawn, kept_by};
 ghost use Rattle.v7_c.specs.MapLeft.{LeavesMap};
 ghost use Rattle.v7_c.specs.RunLeft.{LeavesRun};
-ghost use Rattle.v7_c.specs.StateLeft.{StateOfRequestMayRunOut, asked_by};
-ghost use Rattle.v7_c.specs.Left.{LeavesState, apart_left, both_left, counted_by, file_left, left, left_at, left_by, no_bytes, no_bytes_at, no_output, output_left, parts_left, read_left};
+ghost use Rattle.v7_c.specs.Left.{apart_left, both_left, counted_by, file_left, left, left_at, left_by, no_bytes, no_bytes_at, no_output, output_left, parts_left, read_left};
 
 use crate::answer::{Answer, Counts, FileHeader};
 use crate::buffers::{
     leave_bytes, leave_bytes_at, leave_count, leave_done, leave_file, leave_parts, leave_remarks,
-    leave_state,
 };
 use crate::handle::Handle;
 use crate::map::MapAnswer;
 use crate::run::{Request, RunAnswer};
-use crate::state::state_for;
 use library_calls::{ObjectParts, ObjectWord, RemarkRecord, SymbolRow};
 use std::alloc::Global;
 
@@ -209,7 +205,7 @@ pub extern "C" fn v7_remarks(
     )
 }
 
-/// Links objects or runs a session, by one request with one result.
+/// Links objects, by one request with one result.
 #[unsafe(no_mangle)]
 pub extern "C" fn v7_run(alloc: Global, request: &Request<'_>, answer: &mut RunAnswer<'_>) -> u32
     ensures { LeavesRun request.now answer.old answer.new result }
@@ -302,27 +298,7 @@ pub extern "C" fn v7_read(
     status
 }
 
-/// Runs the edits of a session, and gives what it then shows.
-#[unsafe(no_mangle)]
-pub extern "C" fn v7_state(
-    alloc: Global,
-    form: u32,
-    request: &Request<'_>,
-    replies: &mut [u8],
-    room: &mut [u8],
-    answer: &mut Answer,
-) -> u32
-    ensures value { answer.new.fault ≢ 50 → LeavesState (asked_by form request.now) room.old
-        replies.old (both_left result answer.new room.new replies.new) }
-    ensures memory { answer.new.fault ≡ 50 → both_left result answer.new room.new replies.new
-        ≡ no_output answer.new.place room.old replies.old }
-    ensures ran_out { answer.new.fault ≡ 50
-        → StateOfRequestMayRunOut form request.now answer.new.place }
-{
-    leave_state(state_for(alloc, form, request), room, replies, answer)
-}
-
-/// Begins a session that is kept.
+/// Begins a session.
 #[tactic(auto, using(crate::proofs::KeptLemmas::change_left))]
 #[unsafe(no_mangle)]
 pub extern "C" fn v7_session_new(
@@ -336,7 +312,7 @@ pub extern "C" fn v7_session_new(
     leave_done(kept::begin(alloc, session, forced), answer)
 }
 
-/// Adds an object to a session that is kept.
+/// Adds an object to a session.
 #[tactic(auto, using(crate::proofs::KeptLemmas::change_left))]
 #[unsafe(no_mangle)]
 pub extern "C" fn v7_session_add(
@@ -350,7 +326,7 @@ pub extern "C" fn v7_session_add(
     leave_done(kept::add(alloc, session, bytes), answer)
 }
 
-/// Takes the object away that was added last to a session that is kept.
+/// Takes the object away that was added last to a session.
 #[tactic(auto, using(crate::proofs::KeptLemmas::change_left))]
 #[unsafe(no_mangle)]
 pub extern "C" fn v7_session_withdraw(
@@ -377,7 +353,7 @@ pub extern "C" fn v7_session_link(
     kept::link(alloc, session, request, answer)
 }
 
-/// Gives what a session that is kept shows.
+/// Gives what a session shows.
 #[tactic(auto, using(crate::proofs::KeptLemmas::state_shown))]
 #[unsafe(no_mangle)]
 pub extern "C" fn v7_session_state(
@@ -393,7 +369,7 @@ pub extern "C" fn v7_session_state(
     leave_bytes_at(kept::state(alloc, session, form), room, answer)
 }
 
-/// Ends a session that is kept.
+/// Ends a session.
 #[unsafe(no_mangle)]
 pub extern "C" fn v7_session_free(alloc: Global, session: &mut Handle) -> u32
     ensures status { result ≡ 0 }

@@ -3,7 +3,7 @@ ghost use Rattle.std.specs.Prelude.{◌≡◌, false, Ok, Err};
 ghost use Rattle.v7_c.specs.MapLeft.{IsMapGiven, LeavesMap, answered, counts_of, filled, is_known, is_short, left_in, map_left, map_status};
 
 use crate::buffers::{NO_ROOM, put};
-use crate::run::{LINK_REQUEST, Request, Said};
+use crate::run::{REQUEST, Request, Said};
 use library_calls::{
     Cause, LimitRecord, LinkRequest, MapHead, MapRecords, Mapped, NameRecord, ObjectRecord,
     Refusal, UseRecord, map_link,
@@ -39,11 +39,11 @@ pub struct MapAnswer<'a> {
     pub limits: &'a mut [LimitRecord],
 }
 
-/// Whether the sizes of both structs and the mode are known.
+/// Whether the sizes of both structs are known.
 fn is_known(request: &Request<'_>, size: usize) -> bool
     ensures { result ≡ is_known request.now size }
 {
-    LINK_REQUEST <= request.size && MAP <= size && request.mode == 0
+    REQUEST <= request.size && MAP <= size
 }
 
 /// The map that is asked for, by a caller with a struct of this size.

@@ -1,14 +1,30 @@
--- The names that a map is asked for, and what comes of the words after them.
-use Rattle.std.proofs.Common.{◌≡◌, ℕ, ◌-◌, ◌≤◌, Bool, true, false, List, [], ◌∷◌, ◌++◌, length, map, take, drop, get_or, Option, Some, None}
+-- A call as the code has it; and the names that a map is asked for.
+use Rattle.std.proofs.Common.{◌≡◌, ℕ, ◌-◌, ◌≤◌, Bool, true, List, [], ◌∷◌, ◌++◌, length, map, take, drop, get_or, Option, Some, None}
 use Rattle.std.proofs.Common.{refl, sym, ap, ◌∙◌, subst, inl, inr, arith}
 use Rattle.std.proofs.lemmas.List.{take_all}
-use Rattle.std.specs.Prelude.{Result, Err, String, bytes_eq, codes, string_bytes, if◌then◌else◌}
+use Rattle.std.specs.Prelude.{Err, Result, String, string_bytes, if◌then◌else◌}
 use Rattle.std.specs.declared.alloc.Global.{Global}
 use Rattle.aout_core.specs.{Names.before_nul, Refusals.refused}
-use Rattle.surroundings.specs.{Answer.Answer, Answers.AnswersOr, Answers.says_usage, Events.History, declared.answer.Fault.Fault}
-use Rattle.v7_explain.specs.Runs.{Call, IsCall, map_link, mapping_after}
-use Rattle.v7_explain.specs.{Joined.usage, Maps.IsMapCall, Walks.Folders, internal.Takes.asks_for_name}
+use Rattle.surroundings.proofs.ShownLemmas.{no_call, one_call}
+use Rattle.surroundings.specs.{declared.shown.Shown.Shown, Answer.Answer, Answers.IsShownOr, Events.History, Programs.Calls, declared.answer.Fault.Fault}
+use Rattle.v7_explain.specs.{Calls.Mapping, Calls.mapping, Calls.mapping_after, Files.program, Joined.usage, Maps.IsMapCall, Runs.IsCall, Runs.MapsAsked}
+use Rattle.v7_explain.specs.{Walks.Folders, declared.arguments.Call.Call as Code, internal.Asked.asks_for_name, internal.Asked.call_in}
 use Rattle.surroundings.specs.declared.answer.Fault.TheVariants as faults
+
+-- a call is done, as the code has it
+pub call_done : (folders : Option Folders) (call same : Code) (old new : History) (result : Result Answer Fault) → call ≡ same →
+    IsCall folders (call_in same) old new result → IsCall folders (call_in call) old new result
+call_done folders call same old new result is h = subst (λ (it : Code). IsCall folders (call_in it) old new result) (sym is) h
+
+-- memory runs out for what is to be shown
+pub shown_out : (asked : Option Shown) (shown : Shown) (h : History) (result : Result Answer Fault) (rest : Type 0) →
+    asked ≡ Some shown → result ≡ Err (faults.Memory refused) → IsShownOr program usage asked h h result rest
+shown_out asked shown h result rest is memory =
+    subst (λ (by : Option Shown). IsShownOr program usage by h h result rest) (sym is) (refl, inr memory)
+
+out_of : (asked : Option Mapping) (h : History) → Calls usage (λ m. IsMapCall m.names m.words) asked h h (Err (faults.Memory refused))
+out_of None h = (refl, inr refl)
+out_of (Some m) h = inl (refl, refl)
 
 -- one name more
 pub name_taken : (names words rest : List (List ℕ)) (word name : List ℕ) → words ≡ word ∷ name ∷ rest → asks_for_name words ≡ true →
@@ -16,7 +32,7 @@ pub name_taken : (names words rest : List (List ℕ)) (word name : List ℕ) →
 name_taken names words rest word name are asks =
     ap (mapping_after names) are
     ∙ ap (λ (b : Bool).
-    if b then mapping_after (names ++ take 8 (before_nul name) ∷ []) rest else Some (map_link names (word ∷ name ∷ rest)))
+    if b then mapping_after (names ++ take 8 (before_nul name) ∷ []) rest else Some (record { names = names; words = word ∷ name ∷ rest }))
     (sym (ap asks_for_name are) ∙ asks)
 
 -- as the code has it
@@ -33,31 +49,8 @@ name_taken_at names (w ∷ n ∷ rest) after name d two is left asks =
     ∙ ap (λ (l : List (String Global)). mapping_after (names ++ take 8 (before_nul (string_bytes name)) ∷ []) (map string_bytes l))
     (sym whole)
 
-module _ (folders : Option Folders) (old new : History) (result : Result Answer Fault) where
-  either_call : (b : Bool) (x y : Option Call) → IsCall folders x old new result → IsCall folders y old new result →
-      IsCall folders (if b then x else y) old new result
-  either_call true x y p q = p
-  either_call false x y p q = q
+-- memory runs out for the names
+pub names_out : (words : List (List ℕ)) (h : History) → MapsAsked words h h (Err (faults.Memory refused))
+names_out words h = out_of (mapping words) h
 
-  -- memory runs out for the names
-  pub names_out : (names words : List (List ℕ)) → new ≡ old → result ≡ Err (faults.Memory refused) →
-      IsCall folders (mapping_after names words) old new result
-  names_out names [] same memory = inl (same, memory)
-  names_out names (word ∷ []) same memory =
-      either_call (bytes_eq word (codes "-y")) None (Some (map_link names (word ∷ []))) (same, inr memory) (inl (same, memory))
-  names_out names (word ∷ name ∷ rest) same memory =
-      let longer : List (List ℕ) = names ++ take 8 (before_nul name) ∷ [] in
-      either_call (bytes_eq word (codes "-y")) (mapping_after longer rest) (Some (map_link names (word ∷ name ∷ rest)))
-      (names_out longer rest same memory) (inl (same, memory))
-
-  -- a name is missing
-  pub names_missing : (call : Option Call) → call ≡ None → new ≡ old → AnswersOr result (says_usage usage) →
-      IsCall folders call old new result
-  names_missing call none same answers = subst (λ c. IsCall folders c old new result) (sym none) (same, answers)
-
-  -- the words after the names are mapped
-  pub names_mapped : (call : Option Call) (names words : List (List ℕ)) → call ≡ Some (map_link names words) →
-      IsMapCall names words old new result → IsCall folders call old new result
-  names_mapped call names words is maps = subst (λ c. IsCall folders c old new result) (sym is) maps
-
-pub ruleset by_asked = (names_out, names_missing, names_mapped)
+pub ruleset by_asked = (names_out, no_call, one_call)

@@ -1,6 +1,7 @@
 pub mod Files
 pub mod Joined
 pub mod Maps
+pub mod Calls
 pub mod Runs
 pub mod Walks
 pub mod internal

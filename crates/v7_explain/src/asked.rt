@@ -1,7 +1,7 @@
 //! The names that a map is asked for.
 ghost use Rattle.std.specs.Prelude.{◌≡◌, map, option_map, IfOk, string_bytes};
-ghost use Rattle.v7_explain.specs.Runs.{mapping_after};
-ghost use Rattle.v7_explain.specs.internal.Takes.{asks_for_name, mapping_with};
+ghost use Rattle.v7_explain.specs.Calls.{mapping_after};
+ghost use Rattle.v7_explain.specs.internal.Asked.{asks_for_name, mapping_with};
 
 use aout_core::Name;
 use std::alloc::AllocError;

@@ -2,6 +2,7 @@
 //! folders, or the map of a link.
 #![tactic(auto)]
 
+mod arguments;
 mod asked;
 mod checking;
 mod disk_folders;

@@ -1,11 +1,10 @@
 //! The map of a link, made or refused.
-ghost use Rattle.std.specs.Prelude.{◌≡◌, ◌⊎◌, List, ℕ, Option, IfOk, Err, map, string_bytes};
+ghost use Rattle.std.specs.Prelude.{◌≡◌, ◌⊎◌, IfOk, Err, map, string_bytes};
 ghost use Rattle.aout_core.specs.Refusals.{refused};
 ghost use Rattle.map_texts.specs.MapTexts.{absent_names};
 ghost use Rattle.surroundings.specs.declared.answer.Fault.TheVariants.{Memory};
 ghost use Rattle.v7_explain.specs.Maps.{IsMapCall, IsMapping, MapsCall, link_words, status_with, text_asked};
-ghost use Rattle.v7_explain.specs.Runs.{IsCall, mapping};
-ghost use Rattle.v7_explain.specs.Walks.{Folder};
+ghost use Rattle.v7_explain.specs.Runs.{MapsAsked};
 ghost use Rattle.v7_explain.specs.internal.Takes.{IsMapAnswer, status_mapped};
 
 use crate::asked::take_names;
@@ -162,8 +161,7 @@ pub(crate) fn map_files<O: Office>(
     office: &mut O,
     words: &[String],
 ) -> Result<Answer, Fault>
-    ensures { (folders : Option (List ℕ → Option Folder))
-        → IsCall folders (mapping (map string_bytes words.now))
+    ensures { MapsAsked (map string_bytes words.now)
         (O.history office.old) (O.history office.new) result }
 {
     let mut names = Vec::new(alloc);

@@ -5,7 +5,7 @@ use crate::listing::list;
 use crate::program::NAME;
 use crate::source::Source;
 use std::alloc::Global;
-use surroundings::{Answer, Fault, Office, check_output, fault_at, read_whole, stored_text};
+use surroundings::{Answer, Fault, Office, answer_stored, check_output, read_whole};
 use suspicions::Evidence;
 
 /// Stores a listing, if nothing is wrong with the file; else the answer says what is wrong.
@@ -17,16 +17,16 @@ fn store<O: Office>(alloc: Global, office: &mut O, to: &str, said: Answer) -> Re
         errors,
         status,
     } = said;
-    if status == 0 {
-        if let Some(why) = stored_text(office.store_text(to, &output)) {
-            return Err(fault_at(alloc, NAME, to, why));
-        }
-    }
-    Ok(Answer {
+    let rest = Answer {
         output: Vec::new(alloc),
         errors,
         status,
-    })
+    };
+    if status != 0 {
+        return Ok(rest);
+    }
+    let stored = office.store_text(to, &output);
+    answer_stored(alloc, NAME, to, stored, rest)
 }
 
 /// Stores the listing of the file at a path, if nothing is wrong with the file.

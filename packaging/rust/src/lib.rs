@@ -42,14 +42,12 @@ impl Link {
         let objects: Vec<_> = objects.iter().map(|object| raw::Slice::of(object.as_ref())).collect();
         call(&raw::Request {
             size: size_of::<raw::Request>(),
-            mode: raw::V7_LINK,
             options: self.options,
             wants,
             entry: raw::Slice::of(&self.entry),
             forced: raw::Slice::of(&self.forced),
             objects: objects.as_ptr(),
             object_count: objects.len(),
-            edits: raw::Slice::of::<u8>(&[]),
         })
     }
 }
@@ -134,5 +132,5 @@ pub fn remarks(file: &[u8]) -> Result<Vec<Remark>, Fault> {
         unsafe { raw::v7_remarks(file.as_ptr(), file.len(), texts.as_mut_ptr(), texts.len(), rows.as_mut_ptr(), rows.len(), answer) }
     })?;
     let text = |row: &raw::Remark| String::from_utf8_lossy(&texts[row.text..row.text + row.text_size]).into_owned();
-    Ok(rows.iter().map(|row| Remark { kind: row.kind, byte: row.place, text: text(row) }).collect())
+    Ok(rows.iter().map(|row| Remark { kind: row.kind, byte: row.place, text: text(row), part: row.part, word: row.word }).collect())
 }

@@ -33,10 +33,12 @@ pub struct Map {
     pub limits: Vec<MapLimit>,
 }
 
-/// What is wrong or odd in a file, and at which byte.
+/// What is wrong or odd in a file, at which byte, and in which part and word of it, as in `raw::Remark`.
 #[derive(Clone, Debug, PartialEq, Eq)]
 pub struct Remark {
     pub kind: u32,
     pub byte: usize,
     pub text: String,
+    pub part: u32,
+    pub word: u32,
 }

@@ -9,7 +9,7 @@ enum { GUARD = 16, FILLER = 0xa5 };
 
 static const char *const names[CALLS] = {
     "v7_check", "v7_strip", "v7_nm", "v7_size", "v7_disassemble", "v7_list", "v7_read", "v7_take_apart", "v7_disassemble_words",
-    "v7_from_listing", "v7_from_gnu", "v7_remarks", "v7_make", "v7_run", "v7_run for findings", "v7_run for a session", "v7_state"};
+    "v7_from_listing", "v7_from_gnu", "v7_remarks", "v7_make", "v7_run", "v7_run for findings", "v7_session_link", "v7_session_state"};
 
 /* rooms, aligned for words, symbols, findings and remarks */
 static union {
@@ -105,7 +105,7 @@ static uint32_t call_with_bytes(const struct request *r)
     }
 }
 
-/* what v7_run or v7_state is asked for: the entry point but for v7_state, forced names, the edits of a session, and objects */
+/* what a link or a session is asked for: the entry point but for a state, forced names and objects */
 static struct v7_request asked(const struct request *r)
 {
     const struct span *in = r->in;
@@ -115,23 +115,29 @@ static struct v7_request asked(const struct request *r)
         asked.entry = (struct v7_slice){in->at, in->size};
         in++;
     }
-    asked.forced = (struct v7_slice){in->at, in->size};
-    in++;
-    if (r->call == SESSION || r->call == STATE) {
-        asked.mode = V7_SESSION;
-        asked.edits = (struct v7_slice){in->at, in->size};
-        in++;
-    }
-    asked.objects = in->at;
-    asked.object_count = in->size;
+    asked.forced = (struct v7_slice){in[0].at, in[0].size};
+    asked.objects = in[1].at;
+    asked.object_count = in[1].size;
     return asked;
 }
 
-/* v7_run, with its result as an answer */
-static uint32_t run(const struct request *r)
+/* Begins a session and adds the objects, up to a fault, and returns the status. */
+static uint32_t keep(struct v7_session *session, const struct v7_request *request)
 {
-    const struct v7_request request = asked(r);
-    const struct space *room = r->room + (r->call == SESSION);
+    uint32_t status = v7_session_new(session, request->forced.bytes, request->forced.size, &answer);
+    size_t i;
+
+    for (i = 0; i < request->object_count && status == 0; i++) {
+        status = v7_session_add(session, request->objects[i].bytes, request->objects[i].size, &answer);
+        answer.place += i;
+    }
+    return status;
+}
+
+/* the link of the objects, or of a session that keeps them, with its result as an answer */
+static uint32_t run(const struct request *r, const struct v7_request *request, struct v7_session *session)
+{
+    const struct space *room = r->room;
     struct v7_result result = {.size = sizeof result, .file = room[0].at, .file_room = room[0].size};
     uint32_t status;
 
@@ -142,14 +148,22 @@ static uint32_t run(const struct request *r)
         result.report = room[1].at;
         result.report_room = room[1].size;
     }
-    if (r->call == SESSION) {
-        result.replies = r->room[0].at;
-        result.reply_room = r->room[0].size;
-    }
-    status = v7_run(&request, &result);
+    status = session ? v7_session_link(session, request, &result) : v7_run(request, &result);
     answer = (struct v7_answer){result.fault, result.word, result.place, result.file_size, r->call == FINDINGS ? result.finding_count : result.report_size};
-    if (result.reply_count != (result.fault == 0 || result.fault == V7_NO_ROOM ? request.edits.size : 0))
-        answer.word = 0xffffffff;
+    return status;
+}
+
+/* a session of the objects: its link or its state */
+static uint32_t run_kept(const struct request *r, const struct v7_request *request)
+{
+    struct v7_session session = {0};
+    uint32_t status = keep(&session, request);
+
+    if (status == 0 && r->call == SESSION)
+        status = run(r, request, &session);
+    else if (status == 0)
+        status = v7_session_state(&session, r->option, r->room[0].at, r->room[0].size, &answer);
+    v7_session_free(&session);
     return status;
 }
 
@@ -157,7 +171,7 @@ static uint32_t call(const struct request *r)
 {
     const struct span *in = r->in;
     const struct space *room = r->room;
-    struct v7_request request;
+    const struct v7_request request = asked(r);
 
     switch (r->call) {
     case DISASSEMBLE_WORDS:
@@ -167,11 +181,10 @@ static uint32_t call(const struct request *r)
                        room[0].size, &answer);
     case LINK:
     case FINDINGS:
+        return run(r, &request, NULL);
     case SESSION:
-        return run(r);
     case STATE:
-        request = asked(r);
-        return v7_state(r->option, &request, room[0].at, room[0].size, room[1].at, room[1].size, &answer);
+        return run_kept(r, &request);
     default:
         return call_with_bytes(r);
     }
@@ -332,7 +345,7 @@ static const char listing[] = "text\n"
 const unsigned char gnu_object[58] = {W(0407), W(6), W(2), W(4), W(16), W(0), W(0), W(0), CONTENTS, W(0), W(011), W(0), W(0),
                                       W(0), W(7), W(040), W(0), W(0), W(4), W(2), W(0), W(0), W(10), 'L', '1', 0, '_', 'f', 0};
 static const char remark_text[] = "05 (5) bytes after the symbol table are not read";
-static const struct v7_remark remarks[] = {{56, 0, sizeof remark_text - 1, V7_REMARK_BYTES_AFTER_TABLE}};
+static const struct v7_remark remarks[] = {{56, 0, sizeof remark_text - 1, V7_REMARK_BYTES_AFTER_TABLE, 0, 0}};
 
 #define STRING(s) {s, sizeof s - 1}
 #define BYTES(a) {a, sizeof a}
@@ -340,7 +353,6 @@ static const struct v7_remark remarks[] = {{56, 0, sizeof remark_text - 1, V7_RE
 #define SPACE(i, n) {rooms[i].bytes, n}
 #define FORCED STRING("_x\0\0\0\0\0\0")
 #define REPORT STRING("Undefined:\n_x\n")
-#define REPLIES STRING("\43\0\0")
 
 const struct request good[CALLS] = {
     {CHECK, 0, {BYTES(more)}, {{0}}},
@@ -358,8 +370,8 @@ const struct request good[CALLS] = {
     {MAKE, 4, {LIST(text), LIST(data), LIST(symbols)}, {SPACE(0, 56)}},
     {LINK, V7_NOT_L, {STRING("_f"), FORCED, LIST(both)}, {SPACE(0, 52), SPACE(1, 14)}},
     {FINDINGS, V7_NOT_L, {STRING("_f"), FORCED, LIST(both)}, {SPACE(0, 52), SPACE(1, 1)}},
-    {SESSION, V7_NOT_L, {STRING("_f"), FORCED, STRING("waa"), LIST(both)}, {SPACE(0, 3), SPACE(1, 52), SPACE(2, 14)}},
-    {STATE, V7_LINES, {FORCED, STRING("waa"), LIST(both)}, {SPACE(0, 3), SPACE(1, sizeof state - 1)}},
+    {SESSION, V7_NOT_L, {STRING("_f"), FORCED, LIST(both)}, {SPACE(0, 52), SPACE(1, 14)}},
+    {STATE, V7_LINES, {FORCED, LIST(both)}, {SPACE(0, sizeof state - 1)}},
 };
 static const struct wanted given[CALLS] = {
     {0, {0, 0, 0, 56, 0}, {0}, {{0}}, {0}},
@@ -377,8 +389,8 @@ static const struct wanted given[CALLS] = {
     {0, {0, 0, 0, 56, 0}, {0}, {BYTES(object)}, {0}},
     {1, {0, 0, 0, 52, 14}, {0}, {BYTES(linked), REPORT}, {0}},
     {1, {0, 0, 0, 52, 1}, {0}, {BYTES(linked), BYTES(findings)}, {0}},
-    {1, {0, 0, 0, 52, 14}, {0}, {REPLIES, BYTES(linked), REPORT}, {0}},
-    {1, {0, 0, 0, sizeof state - 1, 3}, {0}, {REPLIES, STRING(state)}, {0}},
+    {1, {0, 0, 0, 52, 14}, {0}, {BYTES(linked), REPORT}, {0}},
+    {0, {0, 0, 0, sizeof state - 1, 0}, {0}, {STRING(state)}, {0}},
 };
 
 /* a room that is too small by one, and rooms of size 0 */
@@ -403,10 +415,10 @@ static void check_rooms(enum call kind)
 }
 
 /* Each request for memory refused, and all after it; and each alone, where the call may do with a smaller one. The place
- * is that of an object or an edit, or 0. */
+ * is that of an object, or 0. */
 static void check_memory(enum call kind)
 {
-    static const size_t last_place[CALLS] = {[LINK] = 1, [FINDINGS] = 1, [SESSION] = 2, [STATE] = 2};
+    static const size_t last_place[CALLS] = {[LINK] = 1, [FINDINGS] = 1, [SESSION] = 1, [STATE] = 1};
     const struct request *r = &good[kind];
     size_t all = (status_of(r), requests), n;
 
@@ -470,13 +482,11 @@ static void check_exchanged(void)
     exchange_spans(MAKE, 2);
     exchange_spans(LINK, 2);
     exchange_spans(FINDINGS, 2);
-    exchange_spans(SESSION, 3);
-    exchange_spans(STATE, 2);
+    exchange_spans(SESSION, 2);
     exchange_rooms(READ, 2);
     exchange_rooms(TAKE_APART, 2);
     exchange_rooms(LINK, 2);
-    exchange_rooms(SESSION, 3);
-    exchange_rooms(STATE, 2);
+    exchange_rooms(SESSION, 2);
 }
 
 /* an object read as a file, also if its first relocation word is wrong */

@@ -39,8 +39,9 @@ struct space {
 };
 
 /* A call: OPTIONS, FORM, BSS or ADDRESS, what it reads and its rooms, each in the order of the parameters. Sizes are those of the
- * call: of v7_make, v7_take_apart, v7_read and v7_disassemble_words numbers of words and symbols, of v7_run and v7_state numbers of
- * objects and findings. LINK, FINDINGS and SESSION are calls of v7_run: a link with its report as lines or as a list, and a session. */
+ * call: of v7_make, v7_take_apart, v7_read and v7_disassemble_words numbers of words and symbols, of v7_run numbers of objects and
+ * findings. LINK and FINDINGS are calls of v7_run: a link with its report as lines or as a list. SESSION and STATE keep a session of
+ * the objects, and link it or show its state; the place of an object that is refused is its number. */
 struct request {
     enum call call;
     uint32_t option;

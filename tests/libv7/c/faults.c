@@ -9,7 +9,7 @@
 enum { MOST_WORDS = 32767, MOST_BYTES = 65534, MOST_SYMBOLS = 5461 };
 
 static unsigned char objects[ROOM];
-static const struct span nothing = {"", 0}, letters = {"aaaaaaaaaaaaaa", 14};
+static const struct span nothing = {"", 0};
 
 /* ---- what is asked for: a row has what is wrong in it, and 0 for what is not */
 
@@ -19,32 +19,31 @@ static const struct asked {
     unsigned calls;
     uint32_t option;
     size_t entry_size, forced_size;
-    const char *edits;
     uint32_t fault;
     size_t place;
 } asked[] = {
-    {FOR_NM, 32, 0, 0, 0, V7_NO_OPTION, 0},
-    {FOR_NM, 0x80000000, 0, 0, 0, V7_NO_OPTION, 0},
-    {FOR_BOTH, 128, 0, 0, 0, V7_NO_OPTION, 0},
-    {FOR_BOTH, 0x80000000, 0, 0, 0, V7_NO_OPTION, 0},
-    {FOR_BOTH, 128 | V7_PURE | V7_SPLIT, 9, 7, "x", V7_NO_OPTION, 0},
-    {FOR_BOTH, V7_RELOCATABLE | V7_STRIP, 0, 0, 0, V7_EXCLUDED, 0},
-    {FOR_BOTH, V7_RELOCATABLE | V7_PURE, 0, 0, 0, V7_EXCLUDED, 0},
-    {FOR_BOTH, V7_RELOCATABLE | V7_SPLIT, 0, 0, 0, V7_EXCLUDED, 0},
-    {FOR_BOTH, V7_PURE | V7_SPLIT, 0, 0, 0, V7_EXCLUDED, 0},
-    {FOR_BOTH, V7_PURE | V7_SPLIT, 9, 7, "x", V7_EXCLUDED, 0},
-    {FOR_BOTH, V7_RELOCATABLE | V7_STRIP, 9, 7, "x", V7_EXCLUDED, 0},
-    {FOR_BOTH, 0, 9, 0, 0, V7_LONG_NAME, 0},
-    {FOR_BOTH, 0, 9, 7, "x", V7_LONG_NAME, 0},
-    {FOR_BOTH | FOR_STATE, 0, 0, 7, 0, V7_CUT_NAMES, 0},
-    {FOR_BOTH | FOR_STATE, 0, 0, 8 * 66 + 1, "x", V7_CUT_NAMES, 0},
-    {FOR_BOTH | FOR_STATE, 0, 0, 8 * 66, 0, V7_MANY_NAMES, 65},
-    {FOR_BOTH | FOR_STATE, 0, 0, 8 * 67, "x", V7_MANY_NAMES, 65},
-    {FOR_STATE, 2, 0, 0, 0, V7_NO_OPTION, 0},
-    {FOR_STATE, 0xffffffff, 0, 7, "x", V7_NO_OPTION, 0},
-    {FOR_SESSION | FOR_STATE, 0, 0, 0, "x", V7_NO_EDIT, 0},
-    {FOR_SESSION | FOR_STATE, 0, 0, 0, "waAa", V7_NO_EDIT, 2},
-    {FOR_SESSION | FOR_STATE, 0, 0, 0, "wawaa", V7_SHORT_HEADER, 4},
+    {FOR_NM, 32, 0, 0, V7_NO_OPTION, 0},
+    {FOR_NM, 0x80000000, 0, 0, V7_NO_OPTION, 0},
+    {FOR_BOTH, 128, 0, 0, V7_NO_OPTION, 0},
+    {FOR_BOTH, 0x80000000, 0, 0, V7_NO_OPTION, 0},
+    {FOR_BOTH, 128 | V7_PURE | V7_SPLIT, 9, 0, V7_NO_OPTION, 0},
+    {FOR_LINK, 128 | V7_PURE | V7_SPLIT, 9, 7, V7_NO_OPTION, 0},
+    {FOR_BOTH, V7_RELOCATABLE | V7_STRIP, 0, 0, V7_EXCLUDED, 0},
+    {FOR_BOTH, V7_RELOCATABLE | V7_PURE, 0, 0, V7_EXCLUDED, 0},
+    {FOR_BOTH, V7_RELOCATABLE | V7_SPLIT, 0, 0, V7_EXCLUDED, 0},
+    {FOR_BOTH, V7_PURE | V7_SPLIT, 0, 0, V7_EXCLUDED, 0},
+    {FOR_BOTH, V7_PURE | V7_SPLIT, 9, 0, V7_EXCLUDED, 0},
+    {FOR_LINK, V7_PURE | V7_SPLIT, 9, 7, V7_EXCLUDED, 0},
+    {FOR_LINK, V7_RELOCATABLE | V7_STRIP, 9, 7, V7_EXCLUDED, 0},
+    {FOR_BOTH, 0, 9, 0, V7_LONG_NAME, 0},
+    {FOR_LINK, 0, 9, 7, V7_LONG_NAME, 0},
+    {FOR_BOTH | FOR_STATE, 0, 0, 7, V7_CUT_NAMES, 0},
+    {FOR_BOTH | FOR_STATE, 0, 0, 8 * 66 + 1, V7_CUT_NAMES, 0},
+    {FOR_BOTH | FOR_STATE, 0, 0, 8 * 66, V7_MANY_NAMES, 65},
+    {FOR_BOTH | FOR_STATE, 0, 0, 8 * 67, V7_MANY_NAMES, 65},
+    {FOR_SESSION, 128, 0, 7, V7_CUT_NAMES, 0},
+    {FOR_STATE, 2, 0, 0, V7_NO_OPTION, 0},
+    {FOR_STATE, 0xffffffff, 0, 0, V7_NO_OPTION, 0},
 };
 
 /* 66 different names, the first of them twice: the name of number 65 is the first too many */
@@ -72,10 +71,9 @@ static void check_asked(const struct asked *row, unsigned bit, enum call kind)
         r.in[0] = (struct span){"_entry_pt", row->entry_size};
     if (row->forced_size)
         r.in[forced] = (struct span){many, row->forced_size};
-    if (row->edits && (kind == SESSION || kind == STATE))
-        r.in[forced + 1] = (struct span){row->edits, strlen(row->edits)};
     expect_fault("asked for", &r, row->fault, 0, row->place);
-    if (row->fault <= V7_MANY_NAMES)
+    /* a session is there before its options are looked at */
+    if (row->fault >= V7_CUT_NAMES || (kind != SESSION && kind != STATE))
         expect_fault_without_memory("asked for without memory", &r, row->fault, 0, row->place);
 }
 
@@ -146,36 +144,20 @@ static void check_file(const struct damage *d, enum call kind)
         expect_fault_without_memory("a file without memory", &r, d->fault, d->word, 0);
 }
 
-/* A damaged object that the first edit adds, without forced names; and one after an object that is taken, where the edits are w, a and
- * a. The objects are the last span. */
-static void check_edits(const struct damage *d, enum call kind, int last)
-{
-    const struct v7_slice list[] = {{object, sizeof object}, {objects, d->size}};
-    struct request r = good[kind];
-
-    r.in[last] = (struct span){list, 2};
-    expect_fault("an edit", &r, d->fault, d->word, 2);
-    r.in[last - 2] = nothing;
-    r.in[last - 1] = (struct span){letters.at, 1};
-    r.in[last] = (struct span){list + 1, 1};
-    expect_fault("the first edit", &r, d->fault, d->word, 0);
-    if (d->fault <= V7_TRUNCATED)
-        expect_fault_without_memory("the first edit without memory", &r, d->fault, d->word, 0);
-}
-
 /* A damaged object among others, each with its bytes apart: it is blamed itself, even where an object follows that would be taken for
- * its end. The first of a list is refused without memory too. */
+ * its end. The first of a list is refused without memory too, but in a session, which needs memory to begin. */
 static void check_slices(const struct damage *d, enum call kind)
 {
     const struct v7_slice middle[] = {{object, sizeof object}, {objects, d->size}, {object, sizeof object}};
     struct request r = good[kind];
+    struct span *last = &r.in[kind == STATE ? 1 : 2];
 
-    r.in[2] = (struct span){middle, 3};
+    *last = (struct span){middle, 3};
     expect_fault("a list of slices", &r, d->fault, d->word, 1);
-    r.in[1] = nothing;
-    r.in[2] = (struct span){middle + 1, 2};
+    last[-1] = nothing;
+    *last = (struct span){middle + 1, 2};
     expect_fault("the first slice", &r, d->fault, d->word, 0);
-    if (d->fault <= V7_TRUNCATED)
+    if (d->fault <= V7_TRUNCATED && kind != SESSION && kind != STATE)
         expect_fault_without_memory("the first slice without memory", &r, d->fault, d->word, 0);
 }
 
@@ -192,7 +174,8 @@ static void check_remarks(const struct damage *d)
     r.room[0].size = 4096;
     r.room[1].size = 64;
     if (status_of(&r) != status || answer.fault != 0 || (status == 1 && (answer.report_size == 0 || first->kind != kind)) ||
-        (d->fault >= V7_BAD_RELOCATION && first->place != 24 + 2 * d->word))
+        (d->fault >= V7_BAD_RELOCATION && (first->place != 24 + 2 * d->word || first->part != (d->word < 3 ? V7_TEXT_PART : V7_DATA_PART) ||
+                                           first->word != d->word)))
         expect_fault("the remarks on a damaged file", &r, V7_NO_FAULT, 0, 0);
 }
 
@@ -208,8 +191,8 @@ static void check_damages(void)
         check_remarks(d);
         check_slices(d, LINK);
         check_slices(d, FINDINGS);
-        check_edits(d, SESSION, 3);
-        check_edits(d, STATE, 2);
+        check_slices(d, SESSION);
+        check_slices(d, STATE);
     }
 }
 
@@ -300,53 +283,18 @@ static void put_slices(struct v7_slice *slices, size_t n, size_t size)
     }
 }
 
-/* The last of N objects is not added: its reply is the fault, and all else is as without it. R has all but the number of edits,
- * which is at EDITS, and the sizes of the first two rooms. */
-static void check_replies(struct request *r, int edits, size_t n, uint32_t fault)
-{
-    static unsigned char kept[ROOM];
-    unsigned char replies[16] = {0};
-    struct wanted w = {.status = 1, .out = {{replies, n}, {kept, 0}}};
-
-    r->in[edits].size = n - 1;
-    r->room[0].size = r->room[1].size = 0;
-    status_of(r);
-    w.answer.size = w.out[1].size = r->room[1].size = answer.size;
-    r->room[0].size = n;
-    status_of(r);
-    memcpy(kept, r->room[1].at, w.answer.size);
-    replies[n - 1] = (unsigned char)fault;
-    w.answer.report_size = r->call == STATE ? n : 0;
-    r->in[edits].size = n;
-    expect("the reply to an object that is not added", r, &w);
-}
-
 static void check_limit(const struct limit *l)
 {
-    size_t size, n = put_objects(l, &size);
+    static const enum call kinds[] = {LINK, FINDINGS, SESSION};
+    size_t size, n = put_objects(l, &size), place = l->fault >= V7_DOES_NOT_FIT ? 0 : n - 1, i;
     struct v7_slice slices[16];
-    struct request link = {LINK, l->option, {nothing, nothing, {slices, n}}, {good[LINK].room[0], good[LINK].room[1]}};
-    struct request session = good[SESSION], state = good[STATE];
-    const struct span in[4] = {nothing, nothing, {letters.at, n}, {slices, n}};
+    struct request r = {LINK, l->option, {nothing, nothing, {slices, n}}, {good[LINK].room[0], good[LINK].room[1]}};
 
-    memcpy(session.in, in, sizeof in);
-    memcpy(state.in, in + 1, 3 * sizeof *in);
-    session.option = l->option;
     put_slices(slices, n, size);
-    if (l->fault >= V7_DOES_NOT_FIT) {
-        expect_fault("a limit of links", &link, l->fault, 0, 0);
-        link.call = FINDINGS;
-        expect_fault("a limit of links", &link, l->fault, 0, 0);
-        expect_fault("a limit of links", &session, l->fault, 0, 0);
-        return;
+    for (i = 0; i < sizeof kinds / sizeof *kinds; i++) {
+        r.call = kinds[i];
+        expect_fault("a limit", &r, l->fault, 0, place);
     }
-    expect_fault("a limit of objects", &link, l->fault, 0, n - 1);
-    link.call = FINDINGS;
-    expect_fault("a limit of objects", &link, l->fault, 0, n - 1);
-    /* what is kept can be linked: without its names, and with its text in a space of its own */
-    session.option = V7_STRIP | V7_SPLIT;
-    check_replies(&session, 2, n, l->fault);
-    check_replies(&state, 1, n, l->fault);
 }
 
 /* ---- findings: one object defines _f, and another defines it again, and _end, and refers to _g; the entry point is nowhere */
@@ -566,16 +514,14 @@ static void check_most_parts(void)
     expect("the most parts", &r, &w);
 }
 
-/* A null pointer, where there are no bytes. The link of no objects has a header alone; a session has no reply. */
+/* A null pointer, where there are no bytes. The link of no objects has a header alone. */
 static void check_null(void)
 {
     static unsigned char bytes[16];
     const struct span empty = {bytes, sizeof bytes};
     const struct wanted header = {0, {0, 0, 0, 16, 0}, {0}, {empty}, {0}};
-    const struct wanted session_header = {0, {0, 0, 0, 16, 0}, {0}, {{NULL, 0}, empty}, {0}};
     const struct space room = {good[LINK].room[0].at, 16};
     struct request link = {LINK, 0, {{NULL, 0}, {NULL, 0}, {NULL, 0}}, {room, {NULL, 0}}};
-    const struct request session = {SESSION, 0, {{NULL, 0}, {NULL, 0}, {NULL, 0}, {NULL, 0}}, {{NULL, 0}, room, {NULL, 0}}};
     const struct request make = {MAKE, 0, {{NULL, 0}, {NULL, 0}, {NULL, 0}}, {room}};
     const struct v7_slice none[] = {{NULL, 0}};
     const struct request check = {CHECK, 0, {{NULL, 0}}, {{0}}};
@@ -592,7 +538,11 @@ static void check_null(void)
     expect_fault("a null slice", &link, V7_SHORT_HEADER, 0, 0);
     link.in[2] = (struct span){NULL, 0};
     expect("null pointers", &link, &header);
-    expect("null pointers", &session, &session_header);
+    link.call = SESSION;
+    expect("null pointers", &link, &header);
+    link.in[2] = (struct span){none, 1};
+    expect_fault("a null slice", &link, V7_SHORT_HEADER, 0, 0);
+    link.in[2] = (struct span){NULL, 0};
     expect_fault("null bytes", &check, V7_SHORT_HEADER, 0, 0);
     expect("null words", &no_words, &no_lines);
     link.room[0] = (struct space){NULL, 0};

@@ -156,8 +156,8 @@ static unsigned options;
 /* what the slices are asked for, in the pages of a request */
 static struct v7_request *asked(uint32_t wants, size_t size)
 {
-    struct v7_request request = {size, V7_LINK, options, wants, {inputs[PARTS].at, inputs[PARTS].size}, {inputs[PARTS + 1].at, inputs[PARTS + 1].size},
-                                 (const struct v7_slice *)inputs[PARTS + 2].at, count, {0, 0}};
+    struct v7_request request = {size, options, wants, {inputs[PARTS].at, inputs[PARTS].size}, {inputs[PARTS + 1].at, inputs[PARTS + 1].size},
+                                 (const struct v7_slice *)inputs[PARTS + 2].at, count};
 
     mprotect(inputs[PARTS + 3].pages, SPACE, PROT_READ | PROT_WRITE);
     place(&inputs[PARTS + 3], (size + 7) / 8 * 8, 1);
@@ -169,8 +169,8 @@ static struct v7_request *asked(uint32_t wants, size_t size)
 /* the link of the slices into the buffers, by a result of this size */
 static uint32_t link_slices(uint32_t wants, size_t size, struct v7_result *to)
 {
-    struct v7_result result = {size, 0, 0, 0, 0, 0, file.at, file.size, report.at, report.size, 0, 0, (struct v7_finding *)found.at,
-                               found.size / sizeof(struct v7_finding), NULL, 0, 0, NULL, 0};
+    struct v7_result result = {size, 0, 0, 0, 0, 0, file.at, file.size, report.at, report.size, 0, (struct v7_finding *)found.at,
+                               found.size / sizeof(struct v7_finding), 0, NULL, 0};
     uint32_t status;
 
     place(&answers, size, 1);
@@ -186,9 +186,9 @@ static uint32_t link_copies(unsigned char *room, unsigned char *lines, struct v7
 {
     static unsigned char copies[PARTS][SPACE], names[2][SPACE];
     struct v7_slice objects[PARTS];
-    struct v7_request request = {sizeof request, V7_LINK, options, V7_REPORT | V7_FINDINGS, {names[0], inputs[PARTS].size}, {names[1], inputs[PARTS + 1].size},
-                                 objects, count, {0, 0}};
-    struct v7_result given = {sizeof given, 0, 0, 0, 0, 0, room, SPACE, lines, SPACE, 0, 0, findings, SPACE, NULL, 0, 0, NULL, 0};
+    struct v7_request request = {sizeof request, options, V7_REPORT | V7_FINDINGS, {names[0], inputs[PARTS].size}, {names[1], inputs[PARTS + 1].size},
+                                 objects, count};
+    struct v7_result given = {sizeof given, 0, 0, 0, 0, 0, room, SPACE, lines, SPACE, 0, findings, SPACE, 0, NULL, 0};
     uint32_t status;
     size_t i;
 
@@ -300,7 +300,7 @@ static int is_refused(size_t all)
 enum {
     RESULT_ANSWERED = offsetof(struct v7_result, file),
     RESULT_LINKED = offsetof(struct v7_result, finding_count),
-    REQUEST_LINKED = offsetof(struct v7_request, edits),
+    REQUEST_LINKED = sizeof(struct v7_request),
     MAP_ANSWERED = offsetof(struct v7_map, objects)
 };
 
@@ -333,7 +333,7 @@ static int takes_short_results(struct v7_session *session, uint32_t status)
     size_t size;
 
     for (size = sizeof size; size <= sizeof *result; size++) {
-        struct v7_result all = {size, 0, 0, 0, 0, 0, file.at, file.size, report.at, report.size, 0, 0, NULL, 0, NULL, 0, 0, NULL, 0};
+        struct v7_result all = {size, 0, 0, 0, 0, 0, file.at, file.size, report.at, report.size, 0, NULL, 0, 0, NULL, 0};
         int is_answered = size >= RESULT_ANSWERED, is_linked = size >= RESULT_LINKED;
 
         result = put_struct(size);
@@ -355,21 +355,18 @@ static int takes_short_results(struct v7_session *session, uint32_t status)
 static int takes_short_requests(struct v7_session *session, uint32_t status)
 {
     struct v7_result result;
-    struct v7_answer answer;
     struct v7_map *map;
     size_t size;
 
     for (size = sizeof size; size <= sizeof(struct v7_request); size++) {
         int is_linked = size >= REQUEST_LINKED;
 
-        result = (struct v7_result){sizeof result, 0, 0, 0, 0, 0, file.at, file.size, report.at, report.size, 0, 0, NULL, 0, NULL, 0, 0, NULL, 0};
+        result = (struct v7_result){sizeof result, 0, 0, 0, 0, 0, file.at, file.size, report.at, report.size, 0, NULL, 0, 0, NULL, 0};
         if (link_by(session, V7_REPORT, size, &result) != (is_linked ? status : 2) || (!is_linked && result.fault != V7_NO_OPTION))
             return 0;
         map = put_struct(sizeof *map);
         memset(&map->fault, 0, sizeof *map - sizeof size);
         if (!is_linked && (v7_map(asked(0, size), map) != 2 || map->fault != V7_NO_OPTION))
-            return 0;
-        if (size < sizeof(struct v7_request) && (v7_state(V7_LINES, asked(0, size), NULL, 0, NULL, 0, &answer) != 2 || answer.fault != V7_NO_OPTION))
             return 0;
     }
     return 1;

@@ -1,8 +1,8 @@
 /* v7_run and v7_map beside each other: for random lists of objects, some of them cut or with bytes after them, v7_run must give the same
- * whatever is wanted of the report, and after random edits what it gives for a link of the objects that are left. So must v7_session_link
- * after each edit of a session that is kept, and v7_session_state the state of v7_state. The objects of findings are those that v7_map has for their names. A caller whose structs are shorter, with nothing readable after them, gets the same link
- * and the same list. Buffers for what is not wanted, and all buffers after a fault, stay as they were. A map has the fault of the link in
- * it, or as its own.
+ * whatever is wanted of the report. After each edit of a session v7_session_link must give what v7_run gives for the objects that are
+ * there, and v7_session_state the state of a session to which they are added anew. The objects of findings are those that v7_map has for
+ * their names. A caller whose result is shorter, with nothing readable after it, gets the same link and the same list. Buffers for what
+ * is not wanted, and all buffers after a fault, stay as they were. A map has the fault of the link in it, or as its own.
  *
  * usage: runs COUNT OBJECT...       the objects that the lists are made of */
 #define _DEFAULT_SOURCE
@@ -17,9 +17,8 @@
 
 enum { ROOM = 1 << 16, FEW = 64, OBJECTS = 6, EDITS = 9, FILL = 0xa5 };
 
-/* a request and a result for the report as lines, and a result for it as a list, as a caller has them that knows no more */
+/* a result for the report as lines, and one for it as a list, as a caller has them that knows no more */
 enum {
-    SHORT_REQUEST = offsetof(struct v7_request, edits),
     SHORT_RESULT = offsetof(struct v7_result, finding_count),
     LIST_RESULT = offsetof(struct v7_result, place_count)
 };
@@ -27,7 +26,7 @@ enum {
 struct given {
     uint32_t status;
     struct v7_result result;
-    unsigned char file[ROOM], report[ROOM], replies[FEW];
+    unsigned char file[ROOM], report[ROOM];
     struct v7_finding findings[FEW];
     struct v7_finding_place places[FEW];
 };
@@ -91,8 +90,6 @@ static void ask_of(struct v7_session *session, struct given *to, struct v7_reque
     to->result.report_room = ROOM;
     to->result.findings = to->findings;
     to->result.finding_room = FEW;
-    to->result.replies = to->replies;
-    to->result.reply_room = FEW;
     to->result.places = to->places;
     to->result.place_room = FEW;
     to->status = session ? v7_session_link(session, request, &to->result) : v7_run(request, &to->result);
@@ -109,7 +106,6 @@ static int is_clean(const struct given *g)
     size_t there = g->result.fault == 0;
 
     return is_filled(g->file, there * g->result.file_size, ROOM) && is_filled(g->report, there * g->result.report_size, ROOM) &&
-           is_filled(g->replies, there * g->result.reply_count, FEW) &&
            is_filled(g->findings, there * g->result.finding_count * sizeof *g->findings, sizeof g->findings) &&
            is_filled(g->places, there * g->result.place_count * sizeof *g->places, sizeof g->places);
 }
@@ -125,12 +121,12 @@ static void *at_the_end(const void *what, size_t size, size_t page)
     return pages + page - size;
 }
 
-/* the link by shorter structs */
+/* the link by a shorter result, and by a request that is too short */
 static void try_short(const struct v7_request *request, const struct given *wanted, unsigned number)
 {
     static struct given got;
     size_t page = (size_t)sysconf(_SC_PAGESIZE);
-    struct v7_request *asked = at_the_end(request, SHORT_REQUEST, page);
+    struct v7_request asked = *request;
     struct v7_result *result;
 
     memset(&got, FILL, sizeof got);
@@ -138,22 +134,17 @@ static void try_short(const struct v7_request *request, const struct given *want
     got.result.file = got.file;
     got.result.report = got.report;
     result = at_the_end(&got.result, SHORT_RESULT, page);
-    asked->size = SHORT_REQUEST;
-    asked->wants = V7_REPORT;
+    asked.wants = V7_REPORT;
     result->size = SHORT_RESULT;
-    got.status = v7_run(asked, result);
+    got.status = v7_run(&asked, result);
     check(got.status == wanted->status && memcmp(&result->fault, &wanted->result.fault, offsetof(struct v7_result, file) - offsetof(struct v7_result, fault)) == 0 &&
               memcmp(got.file, wanted->file, ROOM) == 0 && memcmp(got.report, wanted->report, ROOM) == 0,
-          "another link by shorter structs", number);
-    asked->wants = V7_FINDINGS;
-    check(v7_run(asked, result) == 2 && result->fault == V7_NO_OPTION && result->file_size == 0, "findings by shorter structs", number);
-    asked->wants = V7_REPORT;
-    asked->mode = V7_SESSION;
-    check(v7_run(asked, result) == 2 && result->fault == V7_NO_OPTION, "a session by shorter structs", number);
-    asked->mode = V7_LINK;
-    asked->size = SHORT_REQUEST - 1;
-    check(v7_run(asked, result) == 2 && result->fault == V7_NO_OPTION, "a request that is too short", number);
-    munmap((unsigned char *)asked - (page - SHORT_REQUEST), 2 * page);
+          "another link by a shorter result", number);
+    asked.wants = V7_FINDINGS;
+    check(v7_run(&asked, result) == 2 && result->fault == V7_NO_OPTION && result->file_size == 0, "findings by a shorter result", number);
+    asked.wants = V7_REPORT;
+    asked.size--;
+    check(v7_run(&asked, result) == 2 && result->fault == V7_NO_OPTION, "a request that is too short", number);
     munmap((unsigned char *)result - (page - SHORT_RESULT), 2 * page);
 }
 
@@ -170,7 +161,6 @@ static void try_list(const struct v7_request *request, const struct given *wante
     got.result.file = got.file;
     got.result.report = got.report;
     got.result.findings = got.findings;
-    got.result.replies = got.replies;
     result = at_the_end(&got.result, LIST_RESULT, page);
     asked.wants = V7_FINDINGS;
     result->size = LIST_RESULT;
@@ -229,7 +219,6 @@ static void try_map(struct v7_request *request, unsigned number)
     uint32_t status;
     int is_mapped;
 
-    request->mode = V7_LINK;
     request->wants = V7_FINDINGS | V7_PLACES;
     ask(&got, request, ROOM);
     is_mapped = got.result.fault == 0 || (got.result.fault >= V7_TEXT_FULL && got.result.fault <= V7_SYMBOL_NUMBER);
@@ -269,19 +258,15 @@ static void try_map(struct v7_request *request, unsigned number)
     }
     map.size--;
     check(v7_map(request, &map) == 2 && map.fault == V7_NO_OPTION, "a map that is too short", number);
-    map.size++;
-    request->mode = V7_SESSION;
-    check(v7_map(request, &map) == 2 && map.fault == V7_NO_OPTION, "a map of a session", number);
 }
 
 static void try_link(struct v7_request *request, unsigned number)
 {
     static struct given got, plain;
 
-    request->mode = V7_LINK;
     request->wants = V7_REPORT | V7_FINDINGS | V7_PLACES;
     ask(&got, request, ROOM);
-    check(is_clean(&got) && got.result.reply_count == 0, "more than a link", number);
+    check(is_clean(&got), "more than a link", number);
     request->wants = V7_FINDINGS;
     ask(&plain, request, ROOM);
     check(plain.result.place_count == 0 && is_filled(plain.places, 0, sizeof plain.places) && memcmp(plain.findings, got.findings, sizeof got.findings) == 0,
@@ -303,76 +288,27 @@ static void try_link(struct v7_request *request, unsigned number)
     check(plain.status == 2 && plain.result.fault == V7_NO_OPTION && plain.result.file_size == 0 && is_clean(&plain), "an unknown want", number);
 }
 
-static void try_session(const struct v7_request *request, unsigned number)
-{
-    static struct given got, left;
-    struct v7_slice kept[EDITS];
-    struct v7_request session = *request, link = *request;
-    unsigned char edits[EDITS], replies[EDITS];
-    size_t added = 0, count = below(EDITS + 1), i;
-    uint32_t fault = 0;
-    struct v7_answer answer;
-
-    session.mode = V7_SESSION;
-    session.wants = link.wants = V7_REPORT | V7_FINDINGS | V7_PLACES;
-    session.edits.bytes = edits;
-    session.edits.size = count;
-    link.mode = V7_LINK;
-    link.objects = kept;
-    link.object_count = 0;
-    for (i = 0; i < count; i++)
-        edits[i] = below(3) ? V7_ADD : V7_WITHDRAW;
-    for (i = 0; i < count && fault == 0; i++) {
-        replies[i] = edits[i] == V7_WITHDRAW && link.object_count == 0 ? V7_NOTHING : V7_DONE;
-        if (edits[i] == V7_WITHDRAW) {
-            link.object_count -= link.object_count > 0;
-        } else if (added == request->object_count) {
-            fault = V7_SHORT_HEADER;
-        } else {
-            kept[link.object_count++] = request->objects[added];
-            v7_check(request->objects[added].bytes, request->objects[added].size, &answer);
-            added++;
-            fault = answer.fault;
-        }
-    }
-    ask(&got, &session, ROOM);
-    check(is_clean(&got), "a buffer is written beyond its end", number);
-    if (fault) {
-        check(got.status == 2 && got.result.fault == fault && got.result.place == i - 1, "an object is not refused in a session", number);
-        return;
-    }
-    ask(&left, &link, ROOM);
-    for (i = 0; i < count && replies[i] == V7_DONE; i++)
-        ;
-    check(got.status == (i < count && left.status == 0 ? 1 : left.status) &&
-              memcmp(&got.result.fault, &left.result.fault, offsetof(struct v7_result, file) - offsetof(struct v7_result, fault)) == 0 &&
-              memcmp(got.file, left.file, ROOM) == 0 && memcmp(got.report, left.report, ROOM) == 0 &&
-              got.result.finding_count == left.result.finding_count && memcmp(got.findings, left.findings, sizeof got.findings) == 0 &&
-              got.result.place_count == left.result.place_count && memcmp(got.places, left.places, sizeof got.places) == 0 &&
-              (got.result.fault || (got.result.reply_count == count && memcmp(got.replies, replies, count) == 0)),
-          "another session than the link of what is left", number);
-}
-
-/* the state of what is kept is that of v7_state, which adds the objects anew */
+/* the state of what is kept is that of a session to which the same objects are added anew */
 static void compare_states(struct v7_session *session, const struct v7_request *link, unsigned number)
 {
-    static const unsigned char edits[] = "aaaaaaaaa";
-    static unsigned char rooms[2][ROOM], replies[EDITS];
-    struct v7_request request = *link;
+    static unsigned char rooms[2][ROOM];
+    struct v7_session other = {0, NULL};
     struct v7_answer answers[2];
     uint32_t form = (uint32_t)below(2);
+    size_t i;
 
     memset(rooms, FILL, sizeof rooms);
-    request.mode = V7_SESSION;
-    request.edits.bytes = edits;
-    request.edits.size = link->object_count;
+    v7_session_new(&other, link->forced.bytes, link->forced.size, &answers[1]);
+    for (i = 0; i < link->object_count; i++)
+        v7_session_add(&other, link->objects[i].bytes, link->objects[i].size, &answers[1]);
     v7_session_state(session, form, rooms[0], ROOM, &answers[0]);
-    v7_state(form, &request, replies, EDITS, rooms[1], ROOM, &answers[1]);
+    v7_session_state(&other, form, rooms[1], ROOM, &answers[1]);
+    v7_session_free(&other);
     check(answers[0].fault == answers[1].fault && answers[0].size == answers[1].size && memcmp(rooms[0], rooms[1], ROOM) == 0, "another state of what is kept",
           number);
 }
 
-/* a session that is kept: each edit has the fault that it has alone, or changes what is linked */
+/* a session: each edit has the fault that it has alone, or changes what is linked */
 static void try_kept(const struct v7_request *request, unsigned number)
 {
     static struct given got, left;
@@ -382,7 +318,6 @@ static void try_kept(const struct v7_request *request, unsigned number)
     struct v7_answer answer, alone;
     size_t count = below(EDITS + 1);
 
-    link.mode = V7_LINK;
     link.wants = V7_REPORT | V7_FINDINGS;
     link.objects = kept;
     link.object_count = 0;
@@ -415,12 +350,8 @@ static void try_kept(const struct v7_request *request, unsigned number)
     link.wants = V7_PLACES;
     ask_of(&session, &got, &link, ROOM);
     check(got.status == 2 && got.result.fault == V7_NO_OPTION && is_clean(&got), "places of what is kept", number);
-    link.mode = V7_SESSION;
     link.wants = 0;
-    ask_of(&session, &got, &link, ROOM);
-    check(got.status == 2 && got.result.fault == V7_NO_OPTION && is_clean(&got), "edits of what is kept", number);
     check(v7_session_free(&session) == 0 && session.is_open == 0 && session.state == NULL && v7_session_free(&session) == 0, "a session that stays", number);
-    link.mode = V7_LINK;
     ask_of(&session, &got, &link, ROOM);
     check(got.status == 2 && got.result.fault == V7_NO_SESSION && is_clean(&got), "a link without a session", number);
 }
@@ -439,7 +370,7 @@ int main(int argc, char **argv)
         }
     for (number = 0; number < runs; number++) {
         struct v7_slice objects[OBJECTS];
-        struct v7_request request = {0, 0, 0, 0, {0, 0}, {0, 0}, objects, 0, {0, 0}};
+        struct v7_request request = {0, 0, 0, {0, 0}, {0, 0}, objects, 0};
         size_t cut;
 
         request.options = options[below(sizeof options / sizeof *options)];
@@ -455,10 +386,8 @@ int main(int argc, char **argv)
             objects[cut].size -= 2 * (1 + below(3));
         try_link(&request, number);
         try_map(&request, number);
-        if (request.options < 128 && request.options != (V7_RELOCATABLE | V7_STRIP)) {
-            try_session(&request, number);
+        if (request.options < 128 && request.options != (V7_RELOCATABLE | V7_STRIP))
             try_kept(&request, number);
-        }
     }
     printf("%u runs, %u differ\n", number, failures);
     return failures != 0;

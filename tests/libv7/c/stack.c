@@ -14,7 +14,7 @@ static struct v7_symbol symbols[SYMBOLS];
 static struct v7_slice slices[COUNT];
 static struct v7_finding findings[SYMBOLS];
 static struct v7_finding_place places[SYMBOLS];
-static unsigned char *objects, *room, *more, *replies, edits[COUNT];
+static unsigned char *objects, *room, *more;
 static size_t objects_size, count;
 static unsigned calls, results;
 
@@ -26,17 +26,17 @@ static void called(uint32_t status, const struct v7_answer *answer)
         exit(3);
 }
 
-static struct v7_request asked(uint32_t mode, uint32_t options)
+static struct v7_request asked(uint32_t options)
 {
-    struct v7_request request = {sizeof request, mode, options, V7_REPORT | V7_FINDINGS | V7_PLACES, {0, 0}, {0, 0}, slices, count, {edits, count}};
+    struct v7_request request = {sizeof request, options, V7_REPORT | V7_FINDINGS | V7_PLACES, {0, 0}, {0, 0}, slices, count};
 
     return request;
 }
 
-static void run(uint32_t mode, uint32_t options)
+static void run(uint32_t options)
 {
-    struct v7_request request = asked(mode, options);
-    struct v7_result result = {sizeof result, 0, 0, 0, 0, 0, room, ROOM, more, ROOM, 0, 0, findings, SYMBOLS, replies, COUNT, 0, places, SYMBOLS};
+    struct v7_request request = asked(options);
+    struct v7_result result = {sizeof result, 0, 0, 0, 0, 0, room, ROOM, more, ROOM, 0, findings, SYMBOLS, 0, places, SYMBOLS};
     uint32_t status = v7_run(&request, &result);
     struct v7_answer answer = {result.fault, result.word, result.place, 0, 0};
 
@@ -46,7 +46,7 @@ static void run(uint32_t mode, uint32_t options)
 /* the map, by two calls: for how many records there are, and for them */
 static void show_map(uint32_t options)
 {
-    struct v7_request request = asked(V7_LINK, options);
+    struct v7_request request = asked(options);
     struct v7_map map;
     struct v7_answer answer = {0, 0, 0, 0, 0};
     uint32_t status;
@@ -67,12 +67,12 @@ static void show_map(uint32_t options)
     free(map.limits);
 }
 
-/* a session that is kept, of the same objects */
+/* a session of the same objects */
 static void keep(void)
 {
     struct v7_session session = {0, NULL};
-    struct v7_request request = asked(V7_LINK, 0);
-    struct v7_result result = {sizeof result, 0, 0, 0, 0, 0, room, ROOM, more, ROOM, 0, 0, findings, SYMBOLS, NULL, 0, 0, NULL, 0};
+    struct v7_request request = asked(0);
+    struct v7_result result = {sizeof result, 0, 0, 0, 0, 0, room, ROOM, more, ROOM, 0, findings, SYMBOLS, 0, NULL, 0};
     struct v7_answer answer;
     uint32_t status;
     size_t i;
@@ -85,6 +85,7 @@ static void keep(void)
     status = v7_session_link(&session, &request, &result);
     answer.fault = result.fault;
     called(status, &answer);
+    called(v7_session_state(&session, V7_LINES, room, ROOM, &answer), &answer);
     called(v7_session_state(&session, V7_JSON, room, ROOM, &answer), &answer);
     called(v7_session_withdraw(&session, &answer), &answer);
     answer.fault = V7_NO_FAULT;
@@ -96,7 +97,6 @@ static void *call_all(void *unused)
     struct v7_answer answer;
     struct v7_counts counts;
     struct v7_header header;
-    struct v7_request request = asked(V7_SESSION, 0);
     uint32_t option;
 
     called(v7_check(objects, objects_size, &answer), &answer);
@@ -114,12 +114,9 @@ static void *call_all(void *unused)
     results++;
     called(v7_disassemble_words(0, (const uint16_t *)objects, objects_size / 2, room, ROOM, &answer), &answer);
     for (option = 0; option < 128; option = 2 * option + (option == 0)) {
-        run(V7_LINK, option);
-        run(V7_SESSION, option);
+        run(option);
         show_map(option);
     }
-    called(v7_state(V7_LINES, &request, replies, COUNT, room, ROOM, &answer), &answer);
-    called(v7_state(V7_JSON, &request, replies, COUNT, room, ROOM, &answer), &answer);
     keep();
     called(v7_read(objects, objects_size, &header, text, WORDS, data, WORDS, symbols, SYMBOLS, &counts, &answer), &answer);
     called(v7_take_apart(objects, objects_size, text, WORDS, data, WORDS, symbols, SYMBOLS, &counts, &answer), &answer);
@@ -163,18 +160,15 @@ int main(void)
     objects = malloc(ROOM);
     room = malloc(ROOM);
     more = malloc(ROOM);
-    replies = malloc(COUNT);
-    if (!objects || !room || !more || !replies)
+    if (!objects || !room || !more)
         return 2;
-    memset(edits, V7_ADD, sizeof edits);
     count = 1;
     append(WORDS, SYMBOLS, 0);
     call_in_thread();
     objects_size = 0;
     for (count = 0; count < COUNT; count++)
         append(150, 25, (unsigned)count);
-    edits[COUNT - 1] = V7_WITHDRAW;
     call_in_thread();
     printf("%u calls, %u with a result\n", calls, results);
-    return calls != 88 || results < 82;
+    return calls != 70 || results < 66;
 }

@@ -1,5 +1,5 @@
 -- Objects that are taken one after another.
-use Rattle.std.specs.Prelude.{◌≡◌, ◌⊎◌, ℕ, Bool, false, bytes_eq, codes, List, [], ◌∷◌, ◌++◌, Option, Some, None, Result, Ok, Err, IfOk}
+use Rattle.std.specs.Prelude.{◌≡◌, ◌⊎◌, ℕ, List, [], ◌∷◌, ◌++◌, Option, Some, None, Result, Ok, Err, IfOk}
 use Rattle.aout_core.specs.{Contents.Contents, Refusals.refused}
 use Rattle.link_maps.specs.{Maps.IsMapOf, Members.all_of, Taking.split, Taking.split_of, declared.map.LinkMap.LinkMap}
 use Rattle.link_maps.specs.{declared.members.Objects.Objects, declared.outcome.Outcome.Outcome}
@@ -9,7 +9,7 @@ use Rattle.link_session.specs.Labelled.{Labelled}
 use Rattle.surroundings.specs.{Answer.Answer, Events.History, declared.answer.Fault.Fault, declared.answer.Fault.TheVariants.Answered}
 use Rattle.surroundings.specs.{declared.answer.Fault.TheVariants.Memory}
 use Rattle.tool_options.specs.Choices.{Choices}
-use Rattle.v7_explain.specs.{Maps.Taken, Maps.TakesAt, Maps.answer_of, Maps.with_found, Runs.Call, Runs.map_link}
+use Rattle.v7_explain.specs.{Maps.Taken, Maps.TakesAt, Maps.answer_of, Maps.with_found}
 
 abbrev pub taken_of : Objects → Answer → Taken
 taken_of objects said = record { objects = all_of objects; said = said }
@@ -50,13 +50,3 @@ status_mapped (Some o) = status_made o.linked
 abbrev pub IsMapAnswer : List (List ℕ) → Objects → List (List ℕ) → Choices → Answer → Type 0
 IsMapAnswer asked o forced choices a =
     (m : LinkMap) × IsMapOf o forced choices m × (a ≡ answer_of asked choices o m (status_mapped m.outcome))
-
--- the first word is the option that asks for a name
-abbrev pub asks_for_name : List (List ℕ) → Bool
-asks_for_name [] = false
-asks_for_name (word ∷ words) = bytes_eq word (codes "-y")
-
--- the names taken so far, and the words that are left; or a name is missing
-abbrev pub mapping_with : List (List ℕ) → Option (List (List ℕ)) → Option Call
-mapping_with names None = None
-mapping_with names (Some words) = Some (map_link names words)

@@ -8,7 +8,6 @@ pub const V7_LONG_NAME: u32 = 3;
 pub const V7_CUT_NAMES: u32 = 4;
 pub const V7_MANY_NAMES: u32 = 5;
 pub const V7_TOO_LONG: u32 = 6;
-pub const V7_NO_EDIT: u32 = 7;
 pub const V7_NO_SESSION: u32 = 8;
 pub const V7_SHORT_HEADER: u32 = 11;
 pub const V7_BAD_MAGIC: u32 = 12;
@@ -22,6 +21,7 @@ pub const V7_TEXT_FULL: u32 = 31;
 pub const V7_DATA_FULL: u32 = 32;
 pub const V7_BSS_FULL: u32 = 33;
 pub const V7_NAMES_FULL: u32 = 34;
+pub const V7_NOTHING: u32 = 35;
 pub const V7_DOES_NOT_FIT: u32 = 41;
 pub const V7_TOO_MANY_SYMBOLS: u32 = 42;
 pub const V7_SYMBOL_NUMBER: u32 = 43;
@@ -51,10 +51,6 @@ pub const V7_LINKED: u32 = 86;
 pub const V7_ALIKE_NAMES: u32 = 87;
 pub const V7_STAB_WORD: u32 = 88;
 pub const V7_LOCAL_WORD: u32 = 89;
-
-// enum v7_reply
-pub const V7_DONE: u32 = 0;
-pub const V7_NOTHING: u32 = 35;
 
 // enum v7_part
 pub const V7_TEXT_PART: u32 = 1;
@@ -101,6 +97,9 @@ pub const V7_REMARK_CUT_INSTRUCTION: u32 = 23;
 pub const V7_REMARK_NO_INSTRUCTION: u32 = 24;
 pub const V7_REMARK_BRANCH_OUTSIDE: u32 = 25;
 pub const V7_REMARK_BRANCH_WITHIN: u32 = 26;
+pub const V7_REMARK_UNSUITABLE_REFERENCE: u32 = 27;
+pub const V7_REMARK_UNSUITABLE_ADDRESS: u32 = 28;
+pub const V7_REMARK_ABSOLUTE_TEXT: u32 = 29;
 
 // enum v7_link_option
 pub const V7_RELOCATABLE: u32 = 1;
@@ -110,14 +109,6 @@ pub const V7_NOT_L: u32 = 8;
 pub const V7_PURE: u32 = 16;
 pub const V7_SPLIT: u32 = 32;
 pub const V7_FORCE_COMMONS: u32 = 64;
-
-// enum v7_edit
-pub const V7_ADD: u8 = b'a';
-pub const V7_WITHDRAW: u8 = b'w';
-
-// enum v7_mode
-pub const V7_LINK: u32 = 0;
-pub const V7_SESSION: u32 = 1;
 
 // enum v7_want
 pub const V7_REPORT: u32 = 1;

@@ -41,7 +41,6 @@ fn text(fault: u32) -> &'static str {
         4 => "the size of the forced names is not a multiple of 8",
         5 => "more than 64 names are forced",
         6 => "too many words, bytes of bss or symbols",
-        7 => "no such edit",
         8 => "no session, or one already",
         11 => "short header",
         12 => "bad magic number",

@@ -46,14 +46,12 @@ pub struct FindingPlace {
 #[derive(Clone, Copy, Debug)]
 pub struct Request {
     pub size: usize,
-    pub mode: u32,
     pub options: u32,
     pub wants: u32,
     pub entry: Slice,
     pub forced: Slice,
     pub objects: *const Slice,
     pub object_count: usize,
-    pub edits: Slice,
 }
 
 /// `struct v7_result`
@@ -71,11 +69,8 @@ pub struct Result {
     pub report: *mut u8,
     pub report_room: usize,
     pub finding_count: usize,
-    pub reply_count: usize,
     pub findings: *mut Finding,
     pub finding_room: usize,
-    pub replies: *mut u8,
-    pub reply_room: usize,
     pub place_count: usize,
     pub places: *mut FindingPlace,
     pub place_room: usize,
@@ -206,6 +201,8 @@ pub struct Remark {
     pub text: usize,
     pub text_size: usize,
     pub kind: u32,
+    pub part: u32,
+    pub word: u32,
 }
 
 /// `struct v7_session`. At first it is `Session::default()`; only the calls change it.
@@ -298,15 +295,6 @@ extern "C" {
     ) -> u32;
     pub fn v7_run(request: *const Request, result: *mut Result) -> u32;
     pub fn v7_map(request: *const Request, map: *mut Map) -> u32;
-    pub fn v7_state(
-        form: u32,
-        request: *const Request,
-        replies: *mut u8,
-        replies_size: usize,
-        room: *mut u8,
-        room_size: usize,
-        answer: *mut Answer,
-    ) -> u32;
     pub fn v7_session_new(session: *mut Session, forced: *const u8, forced_size: usize, answer: *mut Answer) -> u32;
     pub fn v7_session_add(session: *mut Session, bytes: *const u8, size: usize, answer: *mut Answer) -> u32;
     pub fn v7_session_withdraw(session: *mut Session, answer: *mut Answer) -> u32;

@@ -7,5 +7,5 @@ use Rattle.library_calls.proofs.remarks_call.put_records.Given as goal
 abbrev pub invariant-loop-finding : goal.invariant-loop-finding
 invariant-loop-finding l =
     (l.texts.items ++ texts_of (all_found (drop l.finding-index l.findings)) ≡ texts_of (all_found l.findings))
-    × (l.records.items ++ records_from (length l.texts.items) (all_found (drop l.finding-index l.findings))
-    ≡ records_from 0 (all_found l.findings))
+    × (l.records.items ++ records_from l.header (length l.texts.items) (all_found (drop l.finding-index l.findings))
+    ≡ records_from l.header 0 (all_found l.findings))

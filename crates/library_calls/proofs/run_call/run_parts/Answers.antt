@@ -8,13 +8,13 @@ returns-in-Err-clause-memory c = λ memory. inr (c.in-Err.ensures.memory memory)
 
 pub returns-in-Ok-run_kept-clause-ok : goal.returns-in-Ok-run_kept-clause-ok
 returns-in-Ok-run_kept-clause-ok c =
-    parts_given c.args.forced.now c.args.options.now (each_of c.args.parts.now) c.args.is_placed c.in-Ok.session c.new.result.items
-    (results_of c.in-Ok-run_kept.given) c.in-Ok.ensures.forced c.in-Ok.ensures.ok c.new.ensures.items c.in-Ok-run_kept.ensures.ok
+    parts_given c.args.forced.now c.args.options.now (each_of c.args.parts.now) c.args.wants c.in-Ok.session
+    (results_of c.in-Ok-run_kept.given) c.in-Ok.ensures.forced c.in-Ok.ensures.ok c.in-Ok-run_kept.ensures.ok
 
 pub returns-in-Err-run_kept-clause-err : goal.returns-in-Err-run_kept-clause-err
 returns-in-Err-run_kept-clause-err c = λ other.
-    parts_not_linked c.args.forced.now c.args.options.now (each_of c.args.parts.now) c.args.is_placed c.in-Ok.session c.new.result.items
-    c.in-Err-run_kept.cause c.in-Ok.ensures.forced c.in-Ok.ensures.ok c.new.ensures.items (c.in-Err-run_kept.ensures.err other)
+    parts_not_linked c.args.forced.now c.args.options.now (each_of c.args.parts.now) c.args.wants c.in-Ok.session
+    c.in-Err-run_kept.cause c.in-Ok.ensures.forced c.in-Ok.ensures.ok (c.in-Err-run_kept.ensures.err other)
 
 pub returns-in-Err-run_kept-clause-memory : goal.returns-in-Err-run_kept-clause-memory
 returns-in-Err-run_kept-clause-memory c = λ memory.

@@ -1,5 +1,5 @@
 use Rattle.std.proofs.Common.{◌++◌}
-use Rattle.suspicions.specs.Suspicions.{suspicions}
+use Rattle.suspicions.specs.Suspicions.{suspicious_words}
 use Rattle.suspicions.proofs.SpreadLemmas.{places_more}
 use Rattle.suspicions.proofs.suspicions.find_places.Goals as goal
 
@@ -12,5 +12,5 @@ loop-place-preserved c =
     let so_far = c.loop-place.invariant put.0 in (
       so_far.0,
       places_more evidence file c.text_words-words.result.now c.loop-place.place c.loop-place.findings.found
-          c.find_place.new.findings.found (c.args.findings.now.found ++ suspicions evidence file) c.loop-place-test.true put.1 so_far.1,
+          c.find_place.new.findings.found (c.args.findings.now.found ++ suspicious_words evidence file 0 file.text_words) c.loop-place-test.true put.1 so_far.1,
     )

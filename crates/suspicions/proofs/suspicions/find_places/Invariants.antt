@@ -1,5 +1,5 @@
 use Rattle.std.proofs.Common.{◌≡◌, ◌++◌, drop, false}
-use Rattle.suspicions.specs.Suspicions.{suspicious_words, suspicions}
+use Rattle.suspicions.specs.Suspicions.{suspicious_words}
 use Rattle.suspicions.proofs.suspicions.find_places.Given as goal
 
 -- the findings so far, and those of the places that are left
@@ -7,4 +7,4 @@ abbrev pub invariant-loop-place : goal.invariant-loop-place
 invariant-loop-place l =
     l.findings.is_cut ≡ false → (l.initial.findings.is_cut ≡ false)
     × (l.findings.found ++ suspicious_words l.marked.evidence l.marked.sweep.now l.place (drop l.place l.words)
-    ≡ l.initial.findings.found ++ suspicions l.marked.evidence l.marked.sweep.now)
+    ≡ l.initial.findings.found ++ suspicious_words l.marked.evidence l.marked.sweep.now 0 l.marked.sweep.now.text_words)

@@ -1,5 +1,5 @@
-use Rattle.std.proofs.Common.{◌≡◌, ◌<◌, true, false, eqb, nat_le, if◌then◌else◌, Bool, Result, Err, sym, ap, ◌∙◌, arith, le-leb}
-use Rattle.std.proofs.lemmas.Bool.{and_left, and_right, lt-leb}
+use Rattle.std.proofs.Common.{◌≡◌, ◌<◌, true, false, nat_le, if◌then◌else◌, Bool, Result, Err, sym, ap, ◌∙◌, arith, le-leb}
+use Rattle.std.proofs.lemmas.Bool.{and_right, lt-leb}
 use Rattle.library_calls.specs.{declared.cause.Cause.TheVariants.NoOption, declared.cause.Refusal.Refusal, LinkAnswers.each_of}
 use Rattle.library_calls.specs.{MapAnswers.MapOf, MapAnswers.map_asked}
 use Rattle.v7_c.specs.MapLeft.{MapLeft, is_answered, is_known, left_in, map_left}
@@ -11,7 +11,7 @@ returns-then-answer-lt-ANSWERED c =
     let old = c.args.answer.now in
     let short : old.size < 128 = omega (arith, c.if-answer-lt-ANSWERED.true) in
     let unknown : is_known q old.size ≡ false =
-    and_right (nat_le 72 q.size) _ (and_left (nat_le 192 old.size) (eqb q.mode 0) (lt-leb 192 old.size (omega (arith, short)))) in
+    and_right (nat_le 64 q.size) _ (lt-leb 192 old.size (omega (arith, short))) in
     let none : Refusal = record { cause = NoOption; place = 0 } in
     let asked : Bool → Result MapOf Refusal =
     λ b. if b then map_asked q.options q.entry.now q.forced.now (each_of q.objects.now) else Err none in

@@ -1,6 +1,6 @@
 use Rattle.std.proofs.Common.{rules, ◌≡◌, ◌-◌, ◌∙◌, ◌++◌, [], ◌∷◌, List, ℕ, ap, drop, length, map, refl, string_bytes, sym, take, true}
 use Rattle.aout_core.specs.Names.{before_nul}
-use Rattle.v7_explain.specs.{Runs.mapping_after, internal.Takes.asks_for_name}
+use Rattle.v7_explain.specs.{Calls.mapping_after, internal.Asked.asks_for_name}
 use Rattle.v7_explain.proofs.AskedLemmas.{name_taken_at}
 use Rattle.v7_explain.proofs.asked.take_names.Goals as goal
 

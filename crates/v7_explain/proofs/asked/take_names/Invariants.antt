@@ -1,5 +1,5 @@
 use Rattle.std.proofs.Common.{◌≡◌, length, map, string_bytes}
-use Rattle.v7_explain.specs.Runs.{mapping_after}
+use Rattle.v7_explain.specs.Calls.{mapping_after}
 use Rattle.v7_explain.proofs.asked.take_names.Given as goal
 
 -- the names so far, and the words that are left

@@ -1,33 +1,46 @@
-use Rattle.std.proofs.Common.{rules, ◌≡◌, refl, subst, inl, inr}
-use Rattle.std.specs.Prelude.{true}
+use Rattle.std.proofs.Common.{rules, ◌≡◌, refl, sym, ap, subst, inl, inr}
+use Rattle.std.specs.Prelude.{true, Ok, Result}
+use Rattle.aout_core.specs.Refusals.{refused}
+use Rattle.surroundings.specs.{Answer.Answer, declared.answer.Fault.TheVariants.Memory}
 use Rattle.suspicions.specs.declared.evidence.Evidence.TheVariants.{Flow}
-use Rattle.v7_explain.specs.{Files.listed, Runs.IsStoring}
+use Rattle.v7_explain.specs.Files.{listed}
 use Rattle.v7_explain.proofs.storing.store_listing.Goals as goal
 
 pub returns : goal.returns
 returns g c =
     let between = g.O.Office.history c.read_whole.new.office in
-    let new = g.O.Office.history c.store.new.office in
     let same : c.deref.result.now ≡ c.in_ok-bytes.bytes.items = search rules in
-    let said : c.in_ok-said.said ≡ listed Flow true c.args.path.now c.in_ok-bytes.bytes.items =
-    subst (λ bytes. c.in_ok-said.said ≡ listed Flow true c.args.path.now bytes) same c.in_ok-said.ensures in
+    let said : listed Flow true c.args.path.now c.in_ok-bytes.bytes.items ≡ c.in_ok-said.said =
+    subst (λ bytes. listed Flow true c.args.path.now bytes ≡ c.in_ok-said.said) same (sym c.in_ok-said.ensures) in
     inr (
+      tt,
       g.O.Office.history c.check_output.new.office,
       c.in_ok-check_output.ensures,
       inr (
         c.in_ok-bytes.bytes.items,
         between,
         c.in_ok-bytes.ensures.ok,
-        inr (subst (λ answer. IsStoring c.args.to.now answer between new c.store.result) said c.store.ensures),
+        inr (
+          c.in_ok-said.said,
+          between,
+          (refl, ap (λ (answer : Answer). let ok : Result Answer Answer = Ok answer in ok) said),
+          c.store.ensures,
+        ),
       ),
     )
 
 pub returns-in_err-said : goal.returns-in_err-said
 returns-in_err-said g c =
     inr (
+      tt,
       g.O.Office.history c.check_output.new.office,
       c.in_ok-check_output.ensures,
-      inr (c.in_ok-bytes.bytes.items, g.O.Office.history c.read_whole.new.office, c.in_ok-bytes.ensures.ok, inl (refl, search rules)),
+      inr (
+        c.in_ok-bytes.bytes.items,
+        g.O.Office.history c.read_whole.new.office,
+        c.in_ok-bytes.ensures.ok,
+        inl (Memory refused, (refl, refl), search rules),
+      ),
     )
 
 pub returns-in_err-check_output : goal.returns-in_err-check_output
