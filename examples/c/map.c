@@ -157,9 +157,11 @@ static void print_objects(void)
     }
 }
 
-/* The letter that nm has for the type and the value of an external symbol. */
+/* The letter that nm has for the type and the value of an external symbol; a link that is refused has no table with them. */
 static char letter(const struct v7_map_name *name)
 {
+    if (!(name->state & V7_NAME_IS_PLACED))
+        return ' ';
     switch (name->type & 037) {
     case 0:
         return name->value ? 'C' : 'U';

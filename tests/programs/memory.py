@@ -97,10 +97,11 @@ def calls():
     yield Call("v7-object", ["v7-object", "main.lst", "out"], examples("main.lst"))
     yield Call("v7-from-gnu", ["v7-from-gnu", "squares.gnu", "out"], GNU)
     yield Call("v7-from-gnu -o", ["v7-from-gnu", "-o", "made", *map(os.fsdecode, GNU)], {**GNU, b"made/old": b""})
-    lessons = {**examples("k.o", "l.o"), b"questions": b"lesson A\nadd k.o\nask changes Which word changes?\nadd l.o\n"}
+    questions = b"lesson A\nadd main.o\nask undefined Which name?\nname _twice\nask changes Which word changes?\nadd twice.o\n"
+    lessons = {**examples("k.o", "l.o", "main.o", "twice.o"), b"questions": questions}
     yield Call("v7-lesson", ["v7-lesson", "k.o", "l.o"], lessons, rb"(?m)^\w+ \S+\.o$")
     yield Call("v7-lesson -c", ["v7-lesson", "-c", "k.o", "l.o"], lessons, rb"(?m)^\w+ \S+\.o$")
-    yield Call("v7-lesson -p", ["v7-lesson", "-p", os.path.join(TOP, "page"), "-q", "questions", "k.o", "l.o"], lessons)
+    yield Call("v7-lesson -p", ["v7-lesson", "-p", os.path.join(TOP, "page"), "-q", "questions", "main.o", "twice.o"], lessons)
 
 
 # --- runs

@@ -17,7 +17,7 @@ KNOWN = [
     "crates/loose/src/lib.rt: unsafe { Box::from_raw(alloc, at) }",
 ]
 # tests make faults of each kind, and devices that fail in each way
-TESTS = ("crates/device_tests/", "crates/fixtures/")
+TESTS = ("crates/device_tests/",)
 # the name of a type: what a result, a conversion or an `Option` may hold, what a function takes or returns, whose function is called
 TYPE = re.compile(r"(, |From<|Option<)AllocError>|-> AllocError\b|for AllocError \{|\bfn .*\w: AllocError\b|AllocError::from\b")
 MADE = re.compile(r"\bAllocError\b|\bAllocFailed\s*\{|\b(from|new)\(.*\bOutOfMemory\b|\bunsafe\s*\{|\bunsafe (fn|impl)\b")

@@ -1,8 +1,8 @@
 //! When what a command prints goes out: how often it is flushed, that a session's answer is flushed before the next line is read,
 //! and that a flush that fails ends a command.
+use crate::fixtures::samples::{C_O, Failing, TestReader, TestWriter};
+use crate::fixtures::words;
 use aout_core::{File, Wire};
-use fixtures::samples::{C_O, Failing, TestReader, TestWriter};
-use fixtures::words;
 use std::alloc::{AllocError, Global};
 use std::cell::Cell;
 use std::io;

@@ -1,7 +1,7 @@
 //! How often a writer in blocks calls its device, and what a device that fails has taken.
 
+use crate::fixtures::samples::{Failing, TestWriter};
 use aout_core::{DeviceFault, Wire};
-use fixtures::samples::{Failing, TestWriter};
 use std::alloc::Global;
 use std::io::ErrorKind;
 use std::test::Fail;

@@ -1,6 +1,6 @@
 //! The texts of the faults of files, of lists and of links.
+use crate::fixtures::has_text;
 use aout_core::{ObjectFault, ReadFault, Refused, Wire};
-use fixtures::has_text;
 use link_out::{LinkFault, OptionFault};
 use link_session::AddFault;
 use std::alloc::AllocError;

@@ -1,8 +1,8 @@
 //! The faults: their lines and texts, and links and loads that meet them.
+use crate::fixtures::samples::{A_O, B_O, Failing, TestReader, TestWriter};
+use crate::fixtures::{TWO_OBJECTS, has_text};
 use crate::links::{in_memory, link};
 use aout_core::{File, ObjectFault, ReadFault, Refused, Wire};
-use fixtures::samples::{A_O, B_O, Failing, TestReader, TestWriter};
-use fixtures::{TWO_OBJECTS, has_text};
 use link_out::{Keep, LinkFault, Linked};
 use link_session::AddFault;
 use std::alloc::{AllocError, Global};

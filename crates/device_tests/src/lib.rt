@@ -1,4 +1,5 @@
-//! Tests of what no case can say: devices that fail and how often they are called, texts of faults, and the calls below the commands.
+//! Tests of what no case can say: devices that fail and how often they are called, texts of faults, and the calls below the commands; and
+//! what these share.
 #![tactic(auto)]
 
 #[cfg(test)]
@@ -9,6 +10,7 @@ mod block_writes;
 mod fault_texts;
 #[cfg(test)]
 mod faults;
+pub mod fixtures;
 #[cfg(test)]
 mod library;
 #[cfg(test)]

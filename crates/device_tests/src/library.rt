@@ -1,7 +1,7 @@
 //! The calls that take bytes and give bytes: what they give, and why they give nothing.
+use crate::fixtures::samples::{A_O, B_O, C_O, D_O, G_O};
+use crate::fixtures::{TWO_OBJECTS, UNDEFINED, sized};
 use aout_core::{ObjectFault, ReadFault};
-use fixtures::samples::{A_O, B_O, C_O, D_O, G_O};
-use fixtures::{TWO_OBJECTS, UNDEFINED, sized};
 use library_calls::{
     Cause, LinkRequest, LongPart, ObjectBytes, ObjectParts, ObjectWord, Refusal, ReportedName,
     Wants, add_bytes, begin_session, check, disassemble, disassemble_words, from_gnu, from_listing,

@@ -1,7 +1,7 @@
 //! Devices that fail at each place of a link's input, file and report.
+use crate::fixtures::samples::{A_O, B_O, C_O, Failing, G_O, TestReader, TestWriter};
+use crate::fixtures::{TWO_OBJECTS, plain, wires};
 use aout_core::{File, ReadFault, Wire, read_file};
-use fixtures::samples::{A_O, B_O, C_O, Failing, G_O, TestReader, TestWriter};
-use fixtures::{TWO_OBJECTS, plain, wires};
 use link_out::{Keep, Linked, Report};
 use link_session::Forced;
 use std::alloc::{AllocError, Global};

@@ -2,9 +2,9 @@
 //! system says of this one what was opened and stored. A session is run on it.
 ghost use Rattle.std.specs.Prelude.{◌≡◌, [], ◌∷◌, ◌++◌, string_bytes};
 
+use crate::fixtures::samples::{A_O, TestReader, TestWriter};
+use crate::fixtures::words;
 use aout_core::{File, Parts, Wire};
-use fixtures::samples::{A_O, TestReader, TestWriter};
-use fixtures::words;
 use std::alloc::Global;
 use std::process::Abort;
 use std::test::Fail;

@@ -1,10 +1,10 @@
 //! Devices that give and take the bytes of a file in pieces, and how often they are called.
 ghost use Rattle.std.specs.Prelude.{◌<◌};
 
+use crate::fixtures::samples::{A_O, Failing, TestReader, TestWriter};
+use crate::fixtures::{v_o, written};
 use crate::links::FAILURES;
 use aout_core::{File, ReadFault, Wire, read_file, write_file};
-use fixtures::samples::{A_O, Failing, TestReader, TestWriter};
-use fixtures::{v_o, written};
 use std::alloc::Global;
 use std::io::ErrorKind;
 use std::test::Fail;

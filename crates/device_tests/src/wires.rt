@@ -1,6 +1,6 @@
 //! Wires whose device fails once and is then left alone, and what they pass on with no failure.
+use crate::fixtures::samples::{Failing, TestReader, TestWriter};
 use aout_core::Wire;
-use fixtures::samples::{Failing, TestReader, TestWriter};
 use std::alloc::Global;
 use std::fmt::Display;
 use std::io;

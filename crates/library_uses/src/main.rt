@@ -202,10 +202,10 @@ fn use_all(rt: &HostRuntime) -> Result<()> {
 }
 
 /// The number of the reply to an edit: 0 if it was made.
-fn reply(made: core::result::Result<(), Cause>) -> u32 {
-    match made {
-        Ok(()) => 0,
-        Err(cause) => cause.number(),
+fn reply(fault: Option<Cause>) -> u32 {
+    match fault {
+        None => 0,
+        Some(cause) => cause.number(),
     }
 }
 
@@ -222,9 +222,9 @@ fn replies_to(
         if letter == b'a' {
             let path = rest.next().ok_or_else(|| anyhow!("no further object"))?;
             let bytes = bytes_at(rt, path)?;
-            replies.push(reply(add_bytes(rt.alloc(), session, &bytes)))?;
+            replies.push(reply(add_bytes(rt.alloc(), session, &bytes).err()))?;
         } else {
-            replies.push(reply(withdraw_last(session)))?;
+            replies.push(reply(withdraw_last(session).err()))?;
         }
     }
     Ok(replies)

@@ -1,22 +1,21 @@
 -- A link that no fault refuses.
-use Rattle.std.proofs.Common.{◌≡◌, ℕ, ◌+◌, ◌-◌, ◌≤◌, true, false, cond, List, [], map, length, ◌∙◌, ap, refl, sym, subst, arith}
+use Rattle.std.proofs.Common.{◌≡◌, ℕ, ◌-◌, ◌≤◌, true, false, cond, List, [], map, length, ◌∙◌, ap, sym, subst, arith, rules}
 use Rattle.std.proofs.lemmas.Bool.{or_parts}
-use Rattle.aout_core.specs.declared.symbol.Segment.TheVariants.{TextSeg, DataSeg, BssSeg}
+use Rattle.aout_core.specs.declared.symbol.Segment.TheVariants.{TextSeg, DataSeg}
 use Rattle.aout_core.specs.{Refusals.refused, Contents.Contents, WellFormed.IsWellFormed, declared.symbol.Segment.Segment}
-use Rattle.std.specs.{Prelude.Result, Prelude.Ok, Prelude.Err, Prelude.IsOk, List.AllByRecursion, List.list_any}
-use Rattle.link_session.specs.{declared.cell.Cell.Cell, Starts.total, Labelled.objects, Undo.Kept, Image.named_states, Cells.cells}
+use Rattle.std.specs.{Prelude.Result, Prelude.Ok, Prelude.Err, List.AllByRecursion, List.list_any}
+use Rattle.link_session.specs.{declared.cell.Cell.Cell, Labelled.objects, Undo.Kept, Image.named_states, Cells.cells}
 use Rattle.link_session.proofs.{AdditionLemmas.well_formed, WellFormedLemmas.objects_refer}
 use Rattle.tool_options.specs.Choices.{Choices}
 use Rattle.link_out.specs.internal.FromCells.{finals, word_of_cell, reloc_of_cell, target_too_large}
 use Rattle.link_out.specs.function.Link.{Outcome, linked_header, linked_file, link_by, link}
-use Rattle.link_out.specs.{Layouts.Bases, function.Plans.Plan, function.Plans.commons_laid, function.Words.final_words}
+use Rattle.link_out.specs.{Layouts.Bases, function.Plans.Plan, function.Words.final_words}
 use Rattle.link_out.specs.{function.Finals.Final, internal.Headers.header_of, internal.InOrder.finals_from, function.Tables.table}
 use Rattle.link_out.specs.{function.Tables.final_relocs, function.Tables.has_too_large_in, function.Reports.entry_word}
 use Rattle.link_out.specs.{function.Reports.report_of, internal.Passes.IsPassed, internal.Planned.plan_in, internal.Planned.objects_in}
 use Rattle.link_out.specs.{internal.Planned.AreShort, Outcomes.IsLinkOf, Outcomes.outcome_of, Outcomes.report_names}
 use Rattle.link_out.specs.{declared.linked.Linked.Linked, declared.linked.LinkFault.LinkFault, declared.linked.LinkFault.TheVariants.Memory}
 use Rattle.link_out.proofs.CellRelocLemmas.{final_relocs-cells, has_too_large_in-cells}
-use Rattle.link_out.proofs.OutcomeLemmas.{passed_link, refused_link}
 use Rattle.link_out.proofs.{InOrderLemmas.finals-in_order, CellWordLemmas.final_words-cells, ObjectLemmas.linked_object}
 use Rattle.link_out.specs.declared.plan.Plan as code
 
@@ -25,15 +24,7 @@ pub linked_parts : (p : Plan) (os : List Contents) (c : Contents) → c.header �
     c.text_words ≡ final_words p TextSeg os → c.data_words ≡ final_words p DataSeg os →
     c.text_reloc ≡ cond p.choices.relocatable (final_relocs p os TextSeg) [] → c.data_reloc ≡ cond p.choices.relocatable
     (final_relocs p os DataSeg) [] → c.symbols ≡ table p os → c ≡ linked_file p os
-linked_parts p os c header text datas text_reloc data_reloc symbols =
-    λ i. let d : Contents = record {
-      header = header i;
-      text_words = text i;
-      data_words = datas i;
-      text_reloc = text_reloc i;
-      data_reloc = data_reloc i;
-      symbols = symbols i;
-    } in d
+linked_parts p os c header text datas text_reloc data_reloc symbols = search rules
 
 -- what is computed from the cells and the names in order is what the link of a plan has
 module _ (p : code.Plan) where
@@ -56,15 +47,7 @@ module _ (p : code.Plan) where
   -- the header that `Plan::header` writes
   pub header_planned : (rows entry : ℕ) → rows ≡ length (table planned os) → entry ≡ entry_word planned o.entry →
       header_of o p.bases rows entry ≡ linked_header planned os
-  header_planned rows entry many address =
-      (λ i. header_of o (p.at i) (many i) (address i))
-      ∙ (λ i. record (linked_header planned os) { data_size = of_data i; bss_size = of_bss i })
-    where
-      of_data : planned.at.data_end - planned.at.data_start ≡ total DataSeg os
-      of_data = omega arith
-
-      of_bss : planned.at.bss_end - planned.at.data_end ≡ commons_laid o planned.mentions + total BssSeg os
-      of_bss = omega arith
+  header_planned rows entry many address = search rules
 
   -- what `words_of` computes cell by cell
   pub words_planned : (segment : Segment) (names : List Final) (cs : List Cell) → names ≡ finals planned →
@@ -92,17 +75,13 @@ module _ (p : code.Plan) where
   pub text_numbered : (names : List Final) (locals : ℕ) (cs : List Cell) → IsPassed planned os locals →
       names ≡ finals planned → cs ≡ cells planned.mentions TextSeg os → o.relocatable ≡ true →
       list_any (λ (c : Cell). target_too_large names locals c.target) cs ≡ false
-  text_numbered names locals cs passed named image kept =
-      large_planned TextSeg names locals cs passed named image
-      ∙ (or_parts (has_too_large_in planned os TextSeg) (has_too_large_in planned os DataSeg) (passed.numbered kept)).0
+  text_numbered names locals cs passed named image kept = search (rules, large_planned, or_parts)
 
   -- the same of data
   pub data_numbered : (names : List Final) (locals : ℕ) (cs : List Cell) → IsPassed planned os locals →
       names ≡ finals planned → cs ≡ cells planned.mentions DataSeg os → o.relocatable ≡ true →
       list_any (λ (c : Cell). target_too_large names locals c.target) cs ≡ false
-  data_numbered names locals cs passed named image kept =
-      large_planned DataSeg names locals cs passed named image
-      ∙ (or_parts (has_too_large_in planned os TextSeg) (has_too_large_in planned os DataSeg) (passed.numbered kept)).1
+  data_numbered names locals cs passed named image kept = search (rules, large_planned, or_parts)
 
 -- if the end of bss fits a word, the other ends do
 pub short_ends : (p : code.Plan) → p.bases.bss_end ≤ 65535 → AreShort p.bases
@@ -113,31 +92,21 @@ module _ (p : code.Plan) (s : Kept) (o : Choices) (session : p.session.now ≡ s
   abbrev result : Result Outcome LinkFault
   result = link s.forced (objects s.entries) o
 
-  by_plan : link_by (plan_in p) (objects_in p) ≡ result
-  by_plan = λ i. link (session i).forced (objects (session i).entries) (options i)
-
   -- `finish` returns the fault that refuses the link
   pub ends_refused : (r : Result Linked LinkFault) (fault : LinkFault) → r ≡ Err fault →
       link_by (plan_in p) (objects_in p) ≡ Err fault → IsLinkOf r result
-  ends_refused r fault is h =
-      subst (λ (x : Result Linked LinkFault). IsLinkOf x result) (sym is)
-      (subst (λ (x : Result Outcome LinkFault). IsLinkOf (Err fault) x) by_plan (refused_link (plan_in p) (objects_in p) fault h))
+  ends_refused r fault is h = search rules
 
   -- it returns `Memory` only for a link that there is
   pub ends_without_memory : (r : Result Linked LinkFault) (locals : ℕ) → r ≡ Err (Memory refused) →
       IsPassed (plan_in p) (objects_in p) locals → IsLinkOf r result
-  ends_without_memory r locals is h =
-      subst (λ (x : Result Linked LinkFault). IsLinkOf x result) (sym is)
-      (subst (λ (x : Result Outcome LinkFault). IsOk x) (sym (passed_link (plan_in p) (objects_in p) locals h) ∙ by_plan) refl)
+  ends_without_memory r locals is h = search rules
 
   -- the file and the report that it returns are those of the link
   pub ends_linked : (linked : Linked) (locals : ℕ) → IsPassed (plan_in p) (objects_in p) locals →
       linked.file ≡ linked_file (plan_in p) (objects_in p) →
       report_names linked.report ≡ report_of (plan_in p) → result ≡ Ok (outcome_of linked)
-  ends_linked linked locals h file report =
-      sym by_plan
-      ∙ passed_link (plan_in p) (objects_in p) locals h
-      ∙ (λ i. let x : Outcome = record { file = sym file i; report = sym report i } in Ok x)
+  ends_linked linked locals h file report = search rules
 
   -- with relocation the file is an object
   pub ends_object : (linked : Linked) → linked.file ≡ linked_file (plan_in p) (objects_in p) → o.relocatable ≡ true →

@@ -1,8 +1,8 @@
 -- Commons, final names and undefined names, name by name.
-use Rattle.std.proofs.Common.{◌≡◌, ℕ, ◌+◌, Bool, true, false, cond, ◌||◌, List, [], ◌∷◌, ◌++◌, map, take, length, refl, sym, ◌∙◌, ap, arith}
-use Rattle.std.proofs.Common.{append_assoc}
+use Rattle.std.proofs.lemmas.Grind.{common_steps}
+use Rattle.std.proofs.Common.{◌≡◌, ℕ, ◌+◌, Bool, true, false, cond, ◌||◌, List, [], ◌∷◌, ◌++◌, map, length, refl, sym, ◌∙◌, ap, arith}
+use Rattle.std.proofs.Common.{append_assoc, rules}
 use Rattle.std.proofs.{Math.Seq.take-append_seam, lemmas.List.Sums.sum_by-append}
-use Rattle.std.specs.Prelude.{bytes_eq}
 use Rattle.link_session.specs.Mentions.{Mention, names_of, names_by_first_mention, place_of}
 use Rattle.link_session.specs.{declared.state.State.State, Image.Named, Image.named_states, States.state}
 use Rattle.tool_options.specs.NameLists.{is_among, new_names}
@@ -19,9 +19,7 @@ named_by ms names = map {B = List ℕ × State} (λ n. (n, state ms n)) names
 -- the room of all names
 commons_size-named : (ms : List Mention) (names : List (List ℕ)) → commons_size_in (named_by ms names) ≡ commons_size ms names
 commons_size-named ms [] = refl
-commons_size-named ms (n ∷ ns) =
-    ap (λ (k : ℕ). common_size (state ms n) + k) (commons_size-named ms ns)
-    ∙ sym (sum_by-append (λ m. common_size (state ms m)) (n ∷ []) ns ∙ omega arith)
+commons_size-named ms (n ∷ ns) = grind (arith, common_steps, sum_by-append, commons_size-named ms ns)
 
 -- the space of all commons, name by name
 pub commons_size-all : (ms : List Mention) → commons_size_in (named_states ms) ≡ commons_total ms
@@ -31,20 +29,12 @@ commons_size-all ms = commons_size-named ms (names_by_first_mention ms)
 place_after : (before after : List (List ℕ)) (name : List ℕ) → is_among before name ≡ false →
     place_of name (before ++ name ∷ after) ≡ length before
 place_after [] after name h = ap (λ (t : Bool). cond t 0 (place_of name after + 1)) (own_name name)
-place_after (x ∷ xs) after name h = by_test (bytes_eq name x) h (place_after xs after name)
-  where
-    by_test : (t : Bool) → (t || is_among xs name) ≡ false → (is_among xs name ≡ false → place_of name (xs ++ name ∷ after) ≡ length xs) →
-        cond t 0 (place_of name (xs ++ name ∷ after) + 1) ≡ length (x ∷ xs)
-    by_test true h rest = absurd (cc)
-    by_test false h rest = let shorter = rest h in omega arith
+place_after (x ∷ xs) after name h = search (rules, place_after xs after name)
 
 -- the commons before a name are those of the names before it
 offset_after : (ms : List Mention) (before after : List (List ℕ)) (name : List ℕ) → is_among before name ≡ false →
     before ++ name ∷ after ≡ names_by_first_mention ms → common_offset ms name ≡ commons_size ms before
-offset_after ms before after name new all =
-    ap (λ (names : List (List ℕ)). commons_size ms (take (place_of name names) names)) (sym all)
-    ∙ ap (λ (k : ℕ). commons_size ms (take k (before ++ name ∷ after))) (place_after before after name new)
-    ∙ ap (λ (names : List (List ℕ)). commons_size ms names) (take-append_seam before (name ∷ after))
+offset_after ms before after name new all = cc (place_after before after name new, take-append_seam before (name ∷ after))
 
 commons_size_more : (ms : List Mention) (before : List (List ℕ)) (name : List ℕ) →
     commons_size ms (before ++ name ∷ []) ≡ commons_size ms before + common_size (state ms name)
@@ -53,16 +43,10 @@ commons_size_more ms before name = sum_by-append (λ n. common_size (state ms n)
 -- what is not seen is not before
 not_before : (seen before : List (List ℕ)) (name : List ℕ) → (is_among before name ≡ true → is_among seen name ≡ true) →
     is_among seen name ≡ false → is_among before name ≡ false
-not_before seen before name h e = by_test (is_among before name) h
-  where
-    by_test : (t : Bool) → (t ≡ true → is_among seen name ≡ true) → t ≡ false
-    by_test true h = absurd (let yes = h refl in cc)
-    by_test false h = refl
+not_before seen before name h e = search rules
 
 or_more : (a s x : Bool) → (a ≡ true → s ≡ true) → (a || x) ≡ true → (s || x) ≡ true
-or_more true s x h e = let yes = h refl in rw yes refl
-or_more false true x h e = refl
-or_more false false x h e = e
+or_more a s x h e = search rules
 
 or_still : (a s x : Bool) → (a ≡ true → s ≡ true) → a ≡ true → (s || x) ≡ true
 or_still a s x h e = let yes = h e in rw yes refl

@@ -1,9 +1,9 @@
 -- A report has a text exactly where it has something to tell.
-use Rattle.std.proofs.Common.{◌≡◌, ℕ, ◌<◌, Bool, true, false, cond, eqb, eqb-true, append-nil, List, [], ◌∷◌, ◌++◌, Option, Some, None}
-use Rattle.std.proofs.Common.{length, refl, sym, ◌∙◌, ap, append_assoc, arith, length-append}
+use Rattle.std.proofs.Common.{◌≡◌, ℕ, ◌<◌, Bool, false, cond, eqb, append-nil, List, [], ◌∷◌, ◌++◌, Option, Some, None}
+use Rattle.std.proofs.Common.{length, refl, sym, ◌∙◌, ap, append_assoc, arith, length-append, rules}
 use Rattle.std.proofs.lemmas.List.Concat.{flat_map-append}
 use Rattle.std.specs.{Prelude.codes, Prelude.◌==◌, Prelude.◌&&◌, Prelude.is_none, List.flat_map}
-use Rattle.link_out.specs.function.Reports.{ReportNames, line, entry_lines, undefined_lines, report_text, status_of}
+use Rattle.link_out.specs.function.Reports.{ReportNames, entry_lines, undefined_lines, report_text, status_of}
 use Rattle.link_out.specs.internal.ReportParts.{is_silent, multiple_lines}
 
 -- the status of a report, by whether it has no text
@@ -11,21 +11,11 @@ abbrev pub status : Bool → ℕ
 status b = cond b 0 1
 
 counted : (n : ℕ) → 0 < n → eqb n 0 ≡ false
-counted n h = by_test (eqb n 0) refl
-  where
-    by_test : (b : Bool) → eqb n 0 ≡ b → b ≡ false
-    by_test true e = absurd (let zero : n ≡ 0 = eqb-true n 0 e in omega arith)
-    by_test false e = refl
+counted n h = search rules
 
 -- a line, and what stands after it
 line_counts : (name text lines more : List ℕ) → 0 < length (name ++ text ++ 10 ∷ [] ++ lines ++ more)
-line_counts name text lines more =
-    omega (
-      arith,
-      length-append (name ++ text ++ 10 ∷ [] ++ lines) more,
-      length-append (name ++ text ++ 10 ∷ []) lines,
-      length-append (name ++ text) (10 ∷ []),
-    )
+line_counts name text lines more = search (rules, length-append)
 
 -- the status by the parts of the report
 pub status_by_silence : (f : ReportNames) → status_of f ≡ status (is_silent f)
@@ -62,14 +52,12 @@ status_by_silence f = by_parts f.multiples f.reserved f.entry_bad f.undefined
 -- a line is a name and the text after it
 multiple_line : (names : List (List ℕ)) → flat_map (λ n. n ++ codes ": Multiply defined\n") names ≡ multiple_lines names
 multiple_line [] = refl
-multiple_line (n ∷ ns) =
-    rw (multiple_line ns) (ap (λ l. l ++ multiple_lines ns) (sym (append_assoc n (codes ": Multiply defined") (10 ∷ []))))
+multiple_line (n ∷ ns) = cc (multiple_line ns, append_assoc n (codes ": Multiply defined") (10 ∷ []))
 
 -- the lines of the two lists of names, as they are written one after the other
 pub both_multiple : (m r : List (List ℕ)) →
     flat_map (λ n. n ++ codes ": Multiply defined\n") m ++ flat_map (λ n. n ++ codes ": Multiply defined\n") r ≡ multiple_lines (m ++ r)
-both_multiple m r =
-    rw (multiple_line m, multiple_line r) (sym (flat_map-append (λ n. line (n ++ codes ": Multiply defined")) m r))
+both_multiple m r = search (rules, multiple_line, flat_map-append)
 
 -- the line of an entry name
 pub entry_line : (name : List ℕ) → name ++ codes ": Entry point not in text\n" ≡ entry_lines (Some name)
@@ -78,5 +66,4 @@ entry_line name = sym (append_assoc name (codes ": Entry point not in text") (10
 -- the lines of undefined names, if there are any
 pub undefined_line : (names : List (List ℕ)) → (length names == 0) ≡ false →
     codes "Undefined:\n" ++ flat_map (λ n. n ++ codes "\n") names ≡ undefined_lines names
-undefined_line [] h = absurd (cc)
-undefined_line (n ∷ ns) h = refl
+undefined_line names h = search rules

@@ -1,40 +1,30 @@
 -- The rows of the table, object by object and name by name, are those of the whole list.
-use Rattle.std.proofs.Common.{◌≡◌, ℕ, ◌+◌, ◌%◌, ◌⊎◌, inl, inr, Bool, true, false, List, [], ◌∷◌, ◌++◌, map, length, drop, refl, sym, subst}
-use Rattle.std.proofs.Common.{◌∙◌, ap, arith, length-append, append-nil, drop_of_length-le, ◌≤◌}
+use Rattle.std.proofs.Common.{◌≡◌, ℕ, ◌+◌, ◌⊎◌, inl, inr, List, [], ◌∷◌, ◌++◌, map, length, drop, refl, sym}
+use Rattle.std.proofs.Common.{◌∙◌, ap, arith, length-append, append-nil, drop_of_length-le, ◌≤◌, rules}
 use Rattle.std.proofs.lemmas.List.{length-map}
-use Rattle.std.specs.Prelude.{filter, cond, nat_lt, Option, IsNone, IsTrue, IfSome, ◌↔◌}
+use Rattle.std.specs.Prelude.{filter, nat_lt, Option, IsNone, IsTrue, IfSome, ◌↔◌}
 use Rattle.std.specs.List.{flat_map}
-use Rattle.aout_core.specs.{declared.symbol.Symbol.Symbol, declared.symbol.Segment.Segment, Contents.Contents, Words.plus, Words.minus}
+use Rattle.aout_core.specs.{declared.symbol.Symbol.Symbol, declared.symbol.Segment.Segment, Contents.Contents}
 use Rattle.aout_core.specs.{WellFormed.segment_of}
-use Rattle.link_session.specs.Starts.{total, no_starts, starts_after, next_starts, shifts_at}
+use Rattle.link_session.specs.Starts.{no_starts, starts_after, next_starts, shifts_at}
 use Rattle.link_session.specs.{Earlier.with_earlier, Labelled.Labelled, Labelled.objects, declared.relocate.Starts.Starts}
 use Rattle.link_session.specs.{Mentions.names_by_first_mention, States.state, Image.Named, Image.named_states}
 use Rattle.tool_options.specs.declared.options.Keep.{Keep}
 use Rattle.link_out.specs.function.Tables.{is_kept_local, moved_value, moved_local, local_rows, external_row, external_rows, rows_kept}
 use Rattle.link_out.specs.function.Tables.{table}
-use Rattle.link_out.specs.internal.Rows.{moves_by, value_moved, symbol_moved, rows_in, rows_from, rows_with, kept_count}
+use Rattle.link_out.specs.internal.Rows.{moves_by, value_moved, symbol_moved, rows_from, rows_with, kept_count}
 use Rattle.link_out.specs.{declared.table.Moves.Moves, Layouts.Bases, function.Finals.Final, function.Finals.final}
 use Rattle.link_out.specs.{internal.FromCells.finals, function.Plans.Plan}
 use Rattle.link_session.proofs.StartLemmas.{next_starts-after}
 use Rattle.aout_core.specs.declared.symbol.Segment.TheVariants as segments
 use Rattle.tool_options.specs.declared.options.Keep.TheVariants as keeps
 
--- a start modulo 65,536 moves as the start does
-moved_from : (v b t own : ℕ) → plus v (plus b (minus (t % 65536) own)) ≡ plus v (plus b (minus t own))
-moved_from v b t own = omega arith
-
 module _ (b : Bases) (earlier : List Contents) (o : Contents) where
   abbrev moves : Moves
   moves = moves_by b (shifts_at (starts_after earlier) o.header)
 
   value_moved-local : (segment : Segment) (v : ℕ) → value_moved moves segment v ≡ moved_value b earlier o segment v
-  value_moved-local segments.TextSeg v = moved_from v 0 (total segments.TextSeg earlier) 0
-  value_moved-local segments.DataSeg v = moved_from v b.data_start (total segments.DataSeg earlier) o.header.text_size
-  value_moved-local segments.BssSeg v =
-      moved_from v b.bss_start (total segments.BssSeg earlier) (plus o.header.text_size o.header.data_size)
-  value_moved-local segments.Undefined v = refl
-  value_moved-local segments.Absolute v = refl
-  value_moved-local segments.Other v = refl
+  value_moved-local segment v = search rules
 
   symbols_moved : (symbols : List Symbol) → map (symbol_moved moves) symbols ≡ map (moved_local b earlier o) symbols
   symbols_moved [] = refl
@@ -55,31 +45,15 @@ rows_from-local_rows p os = from [] os
 
 length-rows_from : (b : Bases) (keep : Keep) (s : Starts) (os : List Contents) → length (rows_from b keep s os) ≡ kept_count keep os
 length-rows_from b keep s [] = refl
-length-rows_from b keep s (o ∷ os) =
-    let m = moves_by b (shifts_at s o.header) in
-    omega (
-      arith,
-      length-append (rows_in keep m o.symbols) (rows_from b keep (next_starts s o.header) os),
-      length-map (filter (is_kept_local keep) o.symbols) (symbol_moved m),
-      length-rows_from b keep (next_starts s o.header) os,
-    )
+length-rows_from b keep s (o ∷ os) = search (rules, length-append, length-map, length-rows_from b keep (next_starts s o.header) os)
 
 length-local_rows : (p : Plan) (os : List Contents) → length (local_rows p os) ≡ kept_count p.choices.keep os
-length-local_rows p os =
-    ap (λ (l : List Symbol). length l) (sym (rows_from-local_rows p os)) ∙ length-rows_from p.at p.choices.keep no_starts os
+length-local_rows p os = cc (rows_from-local_rows p os, length-rows_from p.at p.choices.keep no_starts os)
 
 -- nothing is kept
 nothing_kept : (symbols : List Symbol) → filter (is_kept_local keeps.Nothing) symbols ≡ []
 nothing_kept [] = refl
-nothing_kept (s ∷ ss) = by_test (is_kept_local keeps.Nothing s) (no_local s) (nothing_kept ss)
-  where
-    no_local : (s : Symbol) → is_kept_local keeps.Nothing s ≡ false
-    no_local s = grind arith
-
-    by_test : (t : Bool) → t ≡ false → filter (is_kept_local keeps.Nothing) ss ≡ [] →
-        cond t (s ∷ filter (is_kept_local keeps.Nothing) ss) (filter (is_kept_local keeps.Nothing) ss) ≡ []
-    by_test true e h = absurd (cc)
-    by_test false e h = h
+nothing_kept (s ∷ ss) = search (rules, nothing_kept ss)
 
 nothing_counted : (os : List Contents) → kept_count keeps.Nothing os ≡ 0
 nothing_counted [] = refl
@@ -87,19 +61,13 @@ nothing_counted (o ∷ os) = omega (arith, ap (λ (l : List Symbol). length l) (
 
 -- with any other choice the rows are all kept
 pub rows_kept-others : (keep : Keep) (rows : List Symbol) → (keep ≡ keeps.Nothing → ⊥) → rows_kept keep rows ≡ rows
-rows_kept-others keeps.All rows h = refl
-rows_kept-others keeps.NotL rows h = refl
-rows_kept-others keeps.Externals rows h = refl
-rows_kept-others keeps.Nothing rows h = absurd (h refl)
+rows_kept-others keep rows h = search rules
 
 -- the rows of all objects, with none left
 pub rows_all : (b : Bases) (keep : Keep) (s : Starts) (rows : List Symbol) (es : List Labelled) (i : ℕ) → length es ≤ i →
     rows_from b keep no_starts (objects es) ≡ rows ++ rows_from b keep s (objects (drop i es)) →
     rows ≡ rows_from b keep no_starts (objects es)
-rows_all b keep s rows es i «end» so_far =
-    sym (append-nil rows)
-    ∙ ap (λ (left : List Labelled). rows ++ rows_from b keep s (objects left)) (sym (drop_of_length-le es «end»))
-    ∙ sym so_far
+rows_all b keep s rows es i «end» so_far = cc (append-nil rows, drop_of_length-le es «end»)
 
 -- no row is left if no external is left, or nothing that becomes of one
 rows_none : (es : Named) (fs : List Final) → (es ≡ []) ⊎ (length fs ≡ 0) → rows_with es fs ≡ []
@@ -124,35 +92,25 @@ rows_planned p = from (names_by_first_mention p.mentions)
 -- the whole table, of the locals and the externals
 pub table_whole : (p : Plan) (os : List Contents) (keep : Keep) (locals rows : List Symbol) → p.choices.keep ≡ keep →
     (keep ≡ keeps.Nothing → ⊥) → locals ≡ local_rows p os → rows ≡ locals ++ external_rows p → rows ≡ table p os
-table_whole p os keep locals rows same others here put =
-    put
-    ∙ ap (λ (l : List Symbol). l ++ external_rows p) here
-    ∙ sym (rows_kept-others p.choices.keep (local_rows p os ++ external_rows p) (λ e. others (sym same ∙ e)))
+table_whole p os keep locals rows same others here put = search rules
 
 -- how long the table is
 table_length : (p : Plan) (os : List Contents) (keep : Keep) (count : ℕ) → p.choices.keep ≡ keep → (keep ≡ keeps.Nothing → ⊥) →
     count ≡ length (names_by_first_mention p.mentions) → length (table p os) ≡ kept_count keep os + count
-table_length p os keep count same others names =
-    ap (λ (l : List Symbol). length l) (rows_kept-others p.choices.keep (local_rows p os ++ external_rows p) (λ e. others (sym same ∙ e)))
-    ∙ length-append (local_rows p os) (external_rows p)
-    ∙ (λ i. length-local_rows p os i + length-map (names_by_first_mention p.mentions) (external_row p) i)
-    ∙ (λ i. kept_count (same i) os + sym names i)
+table_length p os keep count same others names = search (rules, rows_kept-others, length-append, length-local_rows, length-map)
 
 -- the table is too long if and only if the kept locals and the externals are too many
 pub many_rows : (p : Plan) (os : List Contents) (keep : Keep) (count : ℕ) (r : Option ℕ) → p.choices.keep ≡ keep →
     (keep ≡ keeps.Nothing → ⊥) → count ≡ length (names_by_first_mention p.mentions) →
     (IsNone r ↔ IsTrue (nat_lt 5461 (kept_count keep os + count))) → (IsNone r ↔ IsTrue (nat_lt 5461 (length (table p os))))
-many_rows p os keep count r same others names h =
-    subst (λ (n : ℕ). IsNone r ↔ IsTrue (nat_lt 5461 n)) (sym (table_length p os keep count same others names)) h
+many_rows p os keep count r same others names h = search (rules, table_length)
 
 -- how many locals are kept
 pub locals_counted : (p : Plan) (os : List Contents) (keep : Keep) (r : Option ℕ) → p.choices.keep ≡ keep →
     IfSome r (λ n. n ≡ kept_count keep os) → IfSome r (λ n. n ≡ length (local_rows p os))
-locals_counted p os keep r same h =
-    subst (λ (m : ℕ). IfSome r (λ n. n ≡ m)) (sym (length-local_rows p os ∙ ap (λ (k : Keep). kept_count k os) same)) h
+locals_counted p os keep r same h = search (rules, length-local_rows)
 
 -- a link that keeps no symbols has no locals
 pub none_counted : (p : Plan) (os : List Contents) (keep : Keep) → p.choices.keep ≡ keep → keep ≡ keeps.Nothing →
     0 ≡ length (local_rows p os)
-none_counted p os keep same nothing =
-    sym (length-local_rows p os ∙ ap (λ (k : Keep). kept_count k os) (same ∙ nothing) ∙ nothing_counted os)
+none_counted p os keep same nothing = cc (length-local_rows p os, nothing_counted os)

@@ -6,7 +6,7 @@ mod terminal;
 use std::io::IsTerminal;
 use std::process::ExitCode;
 use std::{env, io};
-use surroundings::hold_streams;
+use surroundings::{end, hold_streams};
 use terminal::command_at_terminal;
 use v7tools::{command, words};
 
@@ -20,21 +20,17 @@ fn run(rt: &HostRuntime) -> io::Result<u8> {
     Ok(command(rt, words))
 }
 
-/// Runs the command. Arguments that are not UTF-8 are refused with `usage`.
+/// What is said if an argument is not UTF-8.
+const USAGE: &str = "v7: usage\n";
+/// The same at a terminal.
+const USAGE_AT_TERMINAL: &str =
+    "v7: usage\nan argument is not UTF-8\nv7 --help lists the commands\n";
+
 fn main(rt: HostRuntime) -> ExitCode {
-    match run(&rt) {
-        Ok(status) => ExitCode::from(status),
-        Err(error) => {
-            let line = match error.kind() {
-                io::ErrorKind::OutOfMemory => "v7: no memory\n",
-                io::ErrorKind::InvalidData => "v7: usage\n",
-                _ => "v7: /: cannot open\n",
-            };
-            let _ = rt.eprint(line);
-            if error.kind() == io::ErrorKind::InvalidData && rt.stderr().is_terminal() {
-                let _ = rt.eprint("an argument is not UTF-8\nv7 --help lists the commands\n");
-            }
-            ExitCode::from(2)
-        }
-    }
+    let usage = if rt.stderr().is_terminal() {
+        USAGE_AT_TERMINAL
+    } else {
+        USAGE
+    };
+    ExitCode::from(end(&rt, "v7", usage, run(&rt)))
 }

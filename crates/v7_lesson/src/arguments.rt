@@ -3,7 +3,7 @@ use crate::steps;
 use anyhow::{Result, anyhow};
 use aout_core::Refused;
 use std::env;
-use surroundings::{Shown, letter_in, paths_in, shown_in, words};
+use surroundings::{Shown, after_letter, letter_in, paths_in, shown_in, words};
 
 const USAGE: &str =
     "usage: v7-lesson [-c] [-n STEP] FILE..., or v7-lesson -p FOLDER [-q QUESTIONS] FILE... >PAGE";
@@ -50,15 +50,15 @@ fn at_least_one(files: &[String]) -> Option<&[String]> {
 
 /// Arguments without the option of this letter, if they begin with it, and whether they do.
 fn without(letter: u8, arguments: &[String]) -> (bool, &[String]) {
-    match letter_in(arguments) {
-        Some((first, rest)) if first == letter => (true, rest),
-        _ => (false, arguments),
+    match after_letter(arguments, letter) {
+        Some(rest) => (true, rest),
+        None => (false, arguments),
     }
 }
 
 /// Arguments without `-n` and the number of a step, from 1, if they begin with these.
 fn without_step(arguments: &[String]) -> Option<(Option<usize>, &[String])> {
-    let (true, rest) = without(b'n', arguments) else {
+    let Some(rest) = after_letter(arguments, b'n') else {
         return Some((None, arguments));
     };
     let (step, files) = rest.split_first()?;
@@ -89,12 +89,12 @@ fn steps_call(arguments: &[String]) -> Option<Call<'_>> {
 /// The call with the arguments after `-p`: a folder, the file of the lessons if `-q` is before it, and files.
 fn page_call(arguments: &[String]) -> Option<Call<'_>> {
     let (folder, rest) = arguments.split_first()?;
-    let (questions, files) = match letter_in(rest) {
-        Some((b'q', rest)) => {
+    let (questions, files) = match after_letter(rest, b'q') {
+        Some(rest) => {
             let (questions, files) = rest.split_first()?;
             (Some(questions.as_str()), files)
         }
-        _ => (None, rest),
+        None => (None, rest),
     };
     Some(Call::Page {
         folder: folder.as_str(),

@@ -7,6 +7,8 @@ use link_out::{
 use link_session::Session;
 use session_states::JsonWriter;
 use std::alloc::{AllocError, Global};
+use std::io::{self, Write};
+use texts::Text;
 
 /// A link: where its segments are, and what it gives or why it is refused.
 #[derive(Drop)]
@@ -103,11 +105,42 @@ pub(crate) fn links_of(alloc: Global, session: &Session) -> Result<Vec<Link>, Al
     Ok(links)
 }
 
+/// A text as a device. It takes all bytes, and its text keeps that memory ran out for them.
+#[derive(Drop)]
+struct TextDevice {
+    text: Text,
+}
+
+impl Write for TextDevice {
+    fn write(&mut self, bytes: &[u8]) -> io::Result<usize> {
+        self.text.put_bytes(bytes);
+        Ok(bytes.len())
+    }
+
+    fn flush(&mut self) -> io::Result<()> {
+        Ok(())
+    }
+}
+
 /// The lines of a report.
-fn report_lines(alloc: Global, report: &Report) -> Vec<u8> {
-    let mut out = Wire::new(Vec::new(alloc));
+fn report_lines(alloc: Global, report: &Report) -> Result<Vec<u8>, AllocError> {
+    let mut out = Wire::new(TextDevice {
+        text: Text::new(alloc),
+    });
+    // the device takes all bytes
     let _ = report.write(&mut out);
-    out.into_inner()
+    out.into_inner().text.finish()
+}
+
+/// Adds the lines of a report.
+fn put_report(alloc: Global, out: &mut JsonWriter, report: &Report) {
+    match report_lines(alloc, report) {
+        Ok(lines) => {
+            out.put_key("report");
+            out.put_bytes(b"", &lines);
+        }
+        Err(refused) => out.cut(refused),
+    }
 }
 
 /// Adds a link, with the bounds of its segments, or why it is refused.
@@ -127,10 +160,7 @@ fn put_link(alloc: Global, out: &mut JsonWriter, link: &Link) {
     }
     out.end_list();
     match &link.outcome {
-        Ok(linked) => {
-            out.put_key("report");
-            out.put_bytes(b"", &report_lines(alloc, &linked.report));
-        }
+        Ok(linked) => put_report(alloc, out, &linked.report),
         Err(fault) => put_reason(alloc, out, fault),
     }
     out.end_object();

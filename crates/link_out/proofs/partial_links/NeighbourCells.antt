@@ -1,11 +1,12 @@
 -- The cells of a partial link among neighbours are those of its objects.
-use Rattle.std.proofs.Common.{◌≡◌, ℕ, ◌+◌, ◌*◌, ◌/◌, ◌%◌, Bool, true, false, cond, eqb, List, [], ◌∷◌, ◌++◌, map, Option, None, refl, sym}
-use Rattle.std.proofs.Common.{◌∙◌, ap, append_assoc, append-nil, arith, length}
+use Rattle.std.proofs.lemmas.Grind.{common_steps}
+use Rattle.std.proofs.Common.{◌≡◌, ℕ, ◌+◌, ◌*◌, ◌/◌, ◌%◌, Bool, true, cond, eqb, List, [], ◌∷◌, ◌++◌, map, Option, None, refl, sym}
+use Rattle.std.proofs.Common.{◌∙◌, ap, append_assoc, append-nil, arith, rules}
 use Rattle.std.proofs.lemmas.List.{map-append}
 use Rattle.std.specs.{Prelude.zip, Prelude.slice_get, List.flat_map, List.AllByRecursion}
 use Rattle.aout_core.specs.declared.symbol.Segment.TheVariants.{Undefined, Absolute, TextSeg, DataSeg, BssSeg, Other}
 use Rattle.aout_core.specs.WellFormed.{is_pc_relative, kind_numbered, IsWellFormed}
-use Rattle.aout_core.specs.{declared.symbol.Symbol.Symbol, declared.symbol.Segment.Segment, declared.reloc.Reloc.Reloc, Contents.Contents}
+use Rattle.aout_core.specs.{declared.symbol.Segment.Segment, declared.reloc.Reloc.Reloc, Contents.Contents}
 use Rattle.aout_core.specs.{Words.plus, Words.minus}
 use Rattle.aout_core.proofs.AlikeLemmas.{slice_get_after}
 use Rattle.link_session.specs.Mentions.{Mention, mentions, names_of, names_by_first_mention, place_of}
@@ -19,15 +20,11 @@ use Rattle.link_session.proofs.CellLemmas.{RefersAmong, AllReferAmong, words_mad
 use Rattle.link_session.proofs.NeighbourLemmas.{AreAsLong, shift_same, start, shift_raised, blocks, one_for_many}
 use Rattle.link_session.proofs.{MentionLemmas.is_among-externals, WellFormedLemmas.objects_refer}
 use Rattle.link_out.specs.function.Words.{move, referent_move, final_word}
-use Rattle.link_out.specs.function.Tables.{local_rows, external_row, external_rows, row_of, name_bits, referent_bits, final_reloc}
-use Rattle.link_out.specs.{Layouts.base, function.Finals.final_by, function.Finals.waiting}
-use Rattle.link_out.proofs.partial_links.PartialLemmas.{IsProper, state_is_proper, based, partial_plan, partial_file}
+use Rattle.link_out.specs.function.Tables.{row_of, name_bits, referent_bits, final_reloc}
+use Rattle.link_out.specs.{Layouts.base, function.Finals.final_by}
+use Rattle.link_out.proofs.partial_links.PartialLemmas.{IsProper, state_is_proper, partial_plan, partial_file}
 use Rattle.link_out.proofs.{CellWordLemmas.mapped_at_place, partial_links.PartialNames.HasTable}
 use Rattle.link_out.proofs.{partial_links.NeighbourMentions.partial_as_long}
-
--- a word that was moved by A and placed by P, moved further by X and placed by Q
-value_back : (w A S X P Q Y : ℕ) → plus A X ≡ plus S 0 → plus P Q ≡ plus Y 0 → minus (plus (minus (plus w A) P) X) Q ≡ minus (plus w S) Y
-value_back w A S X P Q Y e f = omega arith
 
 -- base and shift, and then the shift of the partial link
 sum_back : (B S X Y T : ℕ) → plus B X ≡ plus T 0 → plus 0 Y ≡ plus T (plus 0 S) → plus (plus B S) X ≡ plus Y 0
@@ -43,12 +40,7 @@ finish : (m : Contents) (bs : List Contents) (all : List Mention) (again : Reloc
       pc = is_pc_relative again;
     } in c)
     ≡ record { value = minus (plus w S) (cond pc Y 0); target = t; pc = pc }
-finish m bs all again q w A S X P Q Y pc t er es et ep e f =
-    rw (er, es, et, ep) (ap (λ (v : ℕ). let c : Cell = record { value = v; target = t; pc = pc } in c) (by_pc pc))
-  where
-    by_pc : (pc : Bool) → minus (plus (minus (plus w A) (cond pc P 0)) X) (cond pc Q 0) ≡ minus (plus w S) (cond pc Y 0)
-    by_pc true = value_back w A S X P Q Y e f
-    by_pc false = value_back w A S X 0 0 0 e refl
+finish m bs all again q w A S X P Q Y pc t er es et ep e f = search rules
 
 -- what a relocation word of these bits refers to
 referent_again : (m : Contents) (r bits k : ℕ) → (r % 2 + bits) / 2 % 8 ≡ k →
@@ -62,33 +54,20 @@ pc_again r bits e = ap (λ (n : ℕ). eqb n 1) e
 waits : (forced : List (List ℕ)) (os : List Contents) (keep : Keep) (entry : Option (List ℕ)) (name : List ℕ) (size : ℕ) →
     ((final_by (partial_plan forced os keep entry) name (Wanted size)).bound ≡ None)
     × ((final_by (partial_plan forced os keep entry) name (Wanted size)).address ≡ 0)
-waits forced os keep entry name size = by_test (eqb size 0)
-  where
-    by_test : (t : Bool) → ((cond t (waiting 0) (waiting size)).bound ≡ None) × ((cond t (waiting 0) (waiting size)).address ≡ 0)
-    by_test true = (refl, refl)
-    by_test false = (refl, refl)
+waits forced os keep entry name size = search rules
 
 -- the row of a name in the table
 row_found : (forced : List (List ℕ)) (os : List Contents) (keep : Keep) (entry : Option (List ℕ)) →
     HasTable forced os keep entry → (name : List ℕ) → is_among (names_by_first_mention (mentions forced os)) name ≡ true →
     name_in (slice_get (partial_file forced os keep entry).symbols (row_of (partial_plan forced os keep entry) os name)) ≡ name
-row_found forced os keep entry has name h =
-    ap (λ (ss : List Symbol). name_in (slice_get ss (row_of (partial_plan forced os keep entry) os name))) has
-    ∙ ap name_in
-    (slice_get_after (local_rows (partial_plan forced os keep entry) os) (external_rows (partial_plan forced os keep entry))
-    (length (local_rows (partial_plan forced os keep entry) os)) (place_of name (names_by_first_mention (mentions forced os))) refl
-    ∙ mapped_at_place (external_row (partial_plan forced os keep entry)) (names_by_first_mention (mentions forced os)) name h)
+row_found forced os keep entry has name h = search (rules, partial_plan, slice_get_after, mapped_at_place)
 
 -- in the partial link after others, base and own start leave the start after the others
 pub based_after : (forced : List (List ℕ)) (os : List Contents) (keep : Keep) (entry : Option (List ℕ))
     (bs : List Contents) (segment : Segment) →
     plus (base (partial_plan forced os keep entry).at segment) (shift bs (partial_file forced os keep entry) segment)
     ≡ plus (start bs segment) 0
-based_after forced os keep entry bs segment =
-    let b = base (partial_plan forced os keep entry).at segment in
-    let m = partial_file forced os keep entry in
-    ap (λ (es : List Contents). plus b (shift es m segment)) (sym (append-nil bs)) ∙ shift_raised bs [] m segment b
-    ∙ ap (λ (n : ℕ). plus (start bs segment) n) (based forced os keep entry segment)
+based_after forced os keep entry bs segment = search rules
 
 -- the definitions of the objects alone hold among all mentions
 abbrev pub HoldsAmong : List Mention → List Contents → List Mention → Type 0
@@ -116,58 +95,38 @@ module _ (forced : List (List ℕ)) (os : List Contents) (keep : Keep) (entry : 
   -- where the word stands
   placed : plus (move (partial_plan forced os keep entry).at earlier o segment)
       (shift bs (partial_file forced os keep entry) segment) ≡ plus (shift (bs ++ earlier) o segment) 0
-  placed =
-      sum_back (base (partial_plan forced os keep entry).at segment) (shift earlier o segment)
-      (shift bs (partial_file forced os keep entry) segment) (shift (bs ++ earlier) o segment) (start bs segment)
-      (based_after forced os keep entry bs segment) (shift_raised bs earlier o segment 0)
+  placed = search (rules, sum_back, partial_plan, partial_file, start, based_after, shift_raised)
 
   -- a word that refers to a segment of the file
   to_own : (q : Segment) (A S bits k : ℕ) → plus A (shift bs (partial_file forced os keep entry) q) ≡ plus S 0 →
       (r.0 % 2 + bits) / 2 % 8 ≡ k → (r.0 % 2 + bits) % 2 ≡ r.0 % 2 →
       ((number : ℕ) → referent_by (partial_file forced os keep entry) number (kind_numbered k) ≡ to_segment q) →
       after A bits ≡ before S (segment_target q)
-  to_own q A S bits k e ek ep er =
-      finish (partial_file forced os keep entry) bs all (record { 0 = r.0 % 2 + bits }) (to_segment q) w
-      A S (shift bs (partial_file forced os keep entry) q)
-      (move (partial_plan forced os keep entry).at earlier o segment) (shift bs (partial_file forced os keep entry) segment)
-      (shift (bs ++ earlier) o segment)
-      (is_pc_relative r) (segment_target q)
-      (referent_again (partial_file forced os keep entry) r.0 bits k ek ∙ er ((r.0 % 2 + bits) / 16)) refl refl (pc_again r.0 bits ep)
-      e placed
+  to_own q A S bits k e ek ep er = search (rules, finish, partial_file, partial_plan, referent_again, pc_again, placed)
 
   -- an offset in a segment of the objects alone, and after the others
   offset_after : (q : Segment) (S T : ℕ) → plus 0 T ≡ plus (start bs q) (plus 0 S) →
       plus (plus (base (partial_plan forced os keep entry).at q) S) (shift bs (partial_file forced os keep entry) q) ≡ plus T 0
-  offset_after q S T e =
-      sum_back (base (partial_plan forced os keep entry).at q) S (shift bs (partial_file forced os keep entry) q) T
-      (start bs q) (based_after forced os keep entry bs q) e
+  offset_after q S T e = search rules
 
   to_absolute : after 0 0 ≡ before 0 (segment_target Absolute)
   to_absolute = to_own Absolute 0 0 0 0 refl (omega arith) (omega arith) (λ n. refl)
 
   to_number : (S T : ℕ) → plus 0 T ≡ plus (start bs Absolute) (plus 0 S) →
       after (plus (base (partial_plan forced os keep entry).at Absolute) S) 0 ≡ before T (segment_target Absolute)
-  to_number S T e =
-      to_own Absolute (plus (base (partial_plan forced os keep entry).at Absolute) S) T 0 0
-      (offset_after Absolute S T e) (omega arith) (omega arith) (λ n. refl)
+  to_number S T e = grind (arith, common_steps, to_own, partial_plan, offset_after)
 
   to_text : (S T : ℕ) → plus 0 T ≡ plus (start bs TextSeg) (plus 0 S) →
       after (plus (base (partial_plan forced os keep entry).at TextSeg) S) 2 ≡ before T (segment_target TextSeg)
-  to_text S T e =
-      to_own TextSeg (plus (base (partial_plan forced os keep entry).at TextSeg) S) T 2 1 (offset_after TextSeg S T e)
-      (omega arith) (omega arith) (λ n. refl)
+  to_text S T e = grind (arith, common_steps, to_own, partial_plan, offset_after)
 
   to_data : (S T : ℕ) → plus 0 T ≡ plus (start bs DataSeg) (plus 0 S) →
       after (plus (base (partial_plan forced os keep entry).at DataSeg) S) 4 ≡ before T (segment_target DataSeg)
-  to_data S T e =
-      to_own DataSeg (plus (base (partial_plan forced os keep entry).at DataSeg) S) T 4 2 (offset_after DataSeg S T e)
-      (omega arith) (omega arith) (λ n. refl)
+  to_data S T e = grind (arith, common_steps, to_own, partial_plan, offset_after)
 
   to_bss : (S T : ℕ) → plus 0 T ≡ plus (start bs BssSeg) (plus 0 S) →
       after (plus (base (partial_plan forced os keep entry).at BssSeg) S) 6 ≡ before T (segment_target BssSeg)
-  to_bss S T e =
-      to_own BssSeg (plus (base (partial_plan forced os keep entry).at BssSeg) S) T 6 3 (offset_after BssSeg S T e)
-      (omega arith) (omega arith) (λ n. refl)
+  to_bss S T e = grind (arith, common_steps, to_own, partial_plan, offset_after)
 
   raised_offset : (T S : ℕ) → plus 0 (plus T S) ≡ plus T (plus 0 S)
   raised_offset T S = omega arith
@@ -270,29 +229,7 @@ cells_in_same all segment xs ys o h =
 pub cells_said : (ms ns : List Mention) → names_by_first_mention ms ≡ names_by_first_mention ns →
     ((n : List ℕ) → state ms n ≡ state ns n) → (segment : Segment) (os : List Contents) →
     cells ms segment os ≡ cells ns segment os
-cells_said ms ns names states segment os = λ i. flat_map (λ p. map (λ wr. one p.0 p.1 wr i) (words_of segment p.1)) (with_earlier [] os)
-  where
-    one : (earlier : List Contents) (o : Contents) (wr : ℕ × Reloc) →
-        cell ms earlier o segment wr.0 wr.1 ≡ cell ns earlier o segment wr.0 wr.1
-    one earlier o wr = by_referent (referent o wr.1)
-      where
-        by_referent : (q : Referent) →
-            (let c : Cell = record {
-              value = minus (plus wr.0 (target_shift ms earlier o q)) (if_pc wr.1 (shift earlier o segment));
-              target = target_of ms q;
-              pc = is_pc_relative wr.1;
-            } in c)
-            ≡ record {
-              value = minus (plus wr.0 (target_shift ns earlier o q)) (if_pc wr.1 (shift earlier o segment));
-              target = target_of ns q;
-              pc = is_pc_relative wr.1;
-            }
-        by_referent (to_segment s) = refl
-        by_referent (to_name name) = λ i. record {
-          value = minus (plus wr.0 (offset_in (states name i))) (if_pc wr.1 (shift earlier o segment));
-          target = name_target (states name i) (place_of name (names i));
-          pc = is_pc_relative wr.1;
-        }
+cells_said ms ns names states segment os = search rules
 
 module _ (forced : List (List ℕ)) (os : List Contents) (keep : Keep) (entry : Option (List ℕ)) (has : HasTable forced os keep entry)
     (bs : List Contents) (all : List Mention) (holds : HoldsAmong all bs (mentions forced os)) where

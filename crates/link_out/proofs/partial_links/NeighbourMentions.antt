@@ -1,13 +1,12 @@
 -- The mentions, names and states of a partial link among neighbours.
-use Rattle.std.proofs.Common.{◌≡◌, ℕ, Bool, true, false, List, [], ◌∷◌, ◌++◌, map, Option, refl, sym, ◌∙◌, ap, append-nil, arith}
+use Rattle.std.proofs.Common.{◌≡◌, ℕ, Bool, true, false, List, [], ◌∷◌, ◌++◌, map, Option, refl, sym, ◌∙◌, ap, append-nil, rules}
 use Rattle.std.proofs.lemmas.List.{map-id}
 use Rattle.std.specs.Prelude.{bytes_eq}
-use Rattle.aout_core.specs.declared.symbol.Segment.TheVariants.{Undefined, Absolute, TextSeg, DataSeg, BssSeg, Other}
 use Rattle.aout_core.specs.Contents.{Contents}
 use Rattle.link_session.specs.Mentions.{Mention, mentions_in, mentions, forced_mention, names_of, names_by_first_mention}
 use Rattle.link_session.specs.{declared.state.State.State, declared.state.State.TheVariants.Defined}
 use Rattle.link_session.specs.{declared.state.State.TheVariants.Wanted, States.state, internal.Updates.updated_state}
-use Rattle.tool_options.specs.{NameLists.new_names, declared.options.Keep.Keep}
+use Rattle.tool_options.specs.{declared.options.Keep.Keep}
 use Rattle.link_session.proofs.MentionLemmas.{mentions-append, names_of-append, names_of-map}
 use Rattle.link_session.proofs.StateLemmas.{state-append}
 use Rattle.link_session.proofs.NeighbourLemmas.{AreAsLong, as_long_append, as_long_self, blocks_same, blocks-append, mentions_in_same}
@@ -44,12 +43,7 @@ module _ (forced : List (List ℕ)) (bs os cs : List Contents) (keep : Keep) (en
 
   -- a partial link is as long as its objects
   pub partial_as_long : AreAsLong (m ∷ []) os
-  partial_as_long Undefined = refl
-  partial_as_long Absolute = refl
-  partial_as_long Other = refl
-  partial_as_long TextSeg = omega arith
-  partial_as_long DataSeg = omega arith
-  partial_as_long BssSeg = omega arith
+  partial_as_long h = search rules
 
   -- the mentions before, in and after the objects
   abbrev pub front_said : List Mention
@@ -68,8 +62,7 @@ module _ (forced : List (List ℕ)) (bs os cs : List Contents) (keep : Keep) (en
 
   -- the mentions of all objects, in three parts
   pub mentions_of_whole : mentions forced (bs ++ (os ++ cs)) ≡ front_said ++ (whole_said ++ back_said)
-  mentions_of_whole = mentions-append forced bs (os ++ cs)
-      ∙ ap (λ (ms : List Mention). front_said ++ ms) (blocks-append mentions_in bs os cs)
+  mentions_of_whole = cc (mentions-append forced bs (os ++ cs), blocks-append mentions_in bs os cs)
 
   pub mentions_of_part : mentions forced (bs ++ m ∷ cs) ≡ front_said ++ (partial_said ++ back_said)
   mentions_of_part = mentions-append forced bs (m ∷ cs)
@@ -88,50 +81,27 @@ module _ (forced : List (List ℕ)) (bs os cs : List Contents) (keep : Keep) (en
 
   -- the state of a name among the objects, after others
   pub state_after : (name : List ℕ) → state whole_said name ≡ raised bs (state (mentions forced os) name)
-  state_after name =
-      ap (λ (ms : List Mention). state ms name) (mentions_after-raised bs os)
-      ∙ state_raised bs (mentions_after [] os) name ∙ ap (λ (s : State). raised bs s) (sym (state_alone name))
+  state_after name = search (rules, mentions_after-raised, state_raised, mentions_after, raised, state_alone)
 
   pub state_partial : (name : List ℕ) → state partial_said name ≡ state whole_said name
-  state_partial name =
-      ap (λ (ms : List Mention). state ms name) final_after
-      ∙ state_raised bs (map (final_mention (mentions forced os)) (names_by_first_mention (mentions forced os))) name
-      ∙ ap (λ (s : State). raised bs s) (final_state (mentions forced os) name)
-      ∙ sym (state_after name)
+  state_partial name = search (rules, final_after, state_raised, final_mention, raised, final_state, state_after)
 
   -- every name has the same state
   pub states_same : (name : List ℕ) → state (mentions forced (bs ++ m ∷ cs)) name ≡ state (mentions forced (bs ++ (os ++ cs))) name
-  states_same name =
-      ap (λ (ms : List Mention). state ms name) mentions_of_part
-      ∙ state-append front_said (partial_said ++ back_said) name
-      ∙ ap (λ (s : State). updated_state (state front_said name) s) (state-append partial_said back_said name
-      ∙ ap (λ (s : State). updated_state s (state back_said name)) (state_partial name) ∙ sym (state-append whole_said back_said name))
-      ∙ sym (state-append front_said (whole_said ++ back_said) name)
-      ∙ ap (λ (ms : List Mention). state ms name) (sym mentions_of_whole)
+  states_same name = search (rules, mentions_of_part, state-append, state_partial, mentions_of_whole)
 
   -- the names are the same, in the same order
   pub names_same : names_by_first_mention (mentions forced (bs ++ m ∷ cs)) ≡ names_by_first_mention (mentions forced (bs ++ (os ++ cs)))
-  names_same =
-      let B = names_of (mentions_after [] bs) in
-      let O = names_of (mentions_after [] os) in
-      let C = names_of back_said in
-      let fore : names_of front_said ≡ forced ++ B = names_of-append (map forced_mention forced) (mentions_after [] bs)
-      ∙ ap (λ (ns : List (List ℕ)). ns ++ B) (names_of_forced forced) in
-      let own : names_by_first_mention (mentions forced os) ≡ new_names [] (forced ++ O) =
-      ap (λ (ns : List (List ℕ)). new_names [] ns) (names_of-append (map forced_mention forced) (mentions_after [] os)
-      ∙ ap (λ (ns : List (List ℕ)). ns ++ O) (names_of_forced forced)) in
-      let final_mention : names_of partial_said ≡ new_names [] (forced ++ O) =
-      ap names_of final_after ∙ names_of_raised bs (map (final_mention (mentions forced os)) (names_by_first_mention (mentions forced os)))
-      ∙ names_of_finals (mentions forced os) (names_by_first_mention (mentions forced os)) ∙ own in
-      let whole : names_of whole_said ≡ O = ap names_of (mentions_after-raised bs os) ∙ names_of_raised bs (mentions_after [] os) in
-      let part_names : names_of (front_said ++ (partial_said ++ back_said)) ≡ (forced ++ B) ++ (new_names [] (forced ++ O) ++ C) =
-      names_of-append front_said (partial_said ++ back_said) ∙ (λ i. fore i ++ names_of-append partial_said back_said i)
-      ∙ ap (λ (ns : List (List ℕ)). (forced ++ B) ++ (ns ++ C)) final_mention in
-      let whole_names : names_of (front_said ++ (whole_said ++ back_said)) ≡ (forced ++ B) ++ (O ++ C) =
-      names_of-append front_said (whole_said ++ back_said) ∙ (λ i. fore i ++ names_of-append whole_said back_said i)
-      ∙ ap (λ (ns : List (List ℕ)). (forced ++ B) ++ (ns ++ C)) whole in
-      ap names_by_first_mention mentions_of_part
-      ∙ ap (λ (ns : List (List ℕ)). new_names [] ns) part_names
-      ∙ names_mentioned_once forced B O C
-      ∙ ap (λ (ns : List (List ℕ)). new_names [] ns) (sym whole_names)
-      ∙ ap names_by_first_mention (sym mentions_of_whole)
+  names_same = search (
+    rules,
+    mentions_after,
+    names_of-append,
+    names_of_forced,
+    final_after,
+    names_of_raised,
+    names_of_finals,
+    mentions_after-raised,
+    mentions_of_part,
+    names_mentioned_once,
+    mentions_of_whole,
+  )

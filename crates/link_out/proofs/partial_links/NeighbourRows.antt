@@ -1,12 +1,13 @@
 -- The kept locals of a partial link among others are those of its objects.
-use Rattle.std.proofs.Common.{◌≡◌, ℕ, Bool, true, false, cond, not, ◌&&◌, List, [], ◌∷◌, ◌++◌, map, Option, refl, sym, ◌∙◌, ap}
+use Rattle.std.proofs.lemmas.Grind.{common_steps}
+use Rattle.std.proofs.Common.{◌≡◌, ℕ, Bool, true, false, cond, not, ◌&&◌, List, [], ◌∷◌, ◌++◌, map, Option, refl, sym, ◌∙◌, ap, rules}
 use Rattle.std.proofs.Common.{append_assoc, append-nil, arith}
 use Rattle.std.proofs.{lemmas.List.map-append, lemmas.List.Elements.filter-append}
 use Rattle.std.specs.Prelude.{filter}
 use Rattle.aout_core.specs.declared.symbol.Segment.TheVariants.{Undefined, Absolute, TextSeg, DataSeg, BssSeg, Other}
 use Rattle.aout_core.specs.WellFormed.{is_external, segment_of}
 use Rattle.aout_core.specs.{declared.symbol.Symbol.Symbol, declared.symbol.Segment.Segment, Contents.Contents, Words.plus}
-use Rattle.link_session.specs.{Starts.shift, Mentions.mentions, Mentions.names_by_first_mention}
+use Rattle.link_session.specs.{Mentions.mentions, Mentions.names_by_first_mention}
 use Rattle.tool_options.specs.declared.options.Keep.{Keep}
 use Rattle.link_out.specs.function.Tables.{keeps, is_kept_local, moved_value, moved_local, local_rows, external_row, external_rows}
 use Rattle.link_out.specs.{Layouts.Bases, Layouts.base, function.Plans.Plan, laws.PartialLinks.KeepsNoMore}
@@ -21,28 +22,15 @@ moved_once : (forced : List (List ℕ)) (os : List Contents) (keep : Keep) (entr
     moved_value at bs (partial_file forced os keep entry) segment
     (moved_value (partial_plan forced os keep entry).at earlier o segment value)
     ≡ moved_value at (bs ++ earlier) o segment value
-moved_once forced os keep entry at bs earlier o segment value = by_segment segment
-  where
-    sums : (v B S C X Y T : ℕ) → plus B X ≡ plus T 0 → plus 0 Y ≡ plus T (plus 0 S) →
-        plus (plus v (plus B S)) (plus C X) ≡ plus v (plus C Y)
-    sums v B S C X Y T e f = omega arith
-
-    moved : (q : Segment) → plus (plus value (plus (base (partial_plan forced os keep entry).at q) (shift earlier o q)))
-        (plus (base at q) (shift bs (partial_file forced os keep entry) q)) ≡ plus value
-        (plus (base at q) (shift (bs ++ earlier) o q))
-    moved q =
-        sums value (base (partial_plan forced os keep entry).at q) (shift earlier o q) (base at q)
-        (shift bs (partial_file forced os keep entry) q) (shift (bs ++ earlier) o q) (start bs q)
-        (based_after forced os keep entry bs q) (shift_raised bs earlier o q 0)
-
-    by_segment : (segment : Segment) → moved_value at bs (partial_file forced os keep entry) segment
-        (moved_value (partial_plan forced os keep entry).at earlier o segment value) ≡ moved_value at (bs ++ earlier) o segment value
-    by_segment Undefined = refl
-    by_segment Absolute = refl
-    by_segment Other = refl
-    by_segment TextSeg = moved TextSeg
-    by_segment DataSeg = moved DataSeg
-    by_segment BssSeg = moved BssSeg
+moved_once forced os keep entry at bs earlier o segment value = grind (
+  arith,
+  common_steps,
+  partial_plan,
+  partial_file,
+  start,
+  based_after,
+  shift_raised,
+)
 
 -- the kept locals of one object
 locals_once : (forced : List (List ℕ)) (os : List Contents) (keep : Keep) (entry : Option (List ℕ)) (at : Bases)
@@ -135,6 +123,4 @@ module _ (forced : List (List ℕ)) (bs os cs : List Contents) (keep : Keep) (en
   -- the kept locals are the same
   pub same_rows : (at : Bases) (less : Keep) → KeepsNoMore less keep →
       blocks (rows_in at less) [] (bs ++ m ∷ cs) ≡ blocks (rows_in at less) [] (bs ++ (os ++ cs))
-  same_rows at less k =
-      one_for_many (rows_in at less) (rows_in_same at less) bs os cs m (partial_as_long forced bs os cs keep entry has)
-      (middle_rows at less k)
+  same_rows at less k = search (rules, one_for_many, rows_in_same, partial_as_long, middle_rows)

@@ -1,10 +1,11 @@
 -- A partial link among others, with forced names of its own: it stands for its objects where their definitions stand.
-use Rattle.std.proofs.Common.{◌≡◌, ◌≢◌, ℕ, false, List, [], ◌∷◌, ◌++◌, map, Option, refl, sym, ◌∙◌, ap, subst, arith, append-nil, ◌%◌}
+use Rattle.std.proofs.Common.{◌≡◌, ◌≢◌, ℕ, false, List, [], ◌∷◌, ◌++◌, Option, sym, ◌∙◌, ap, subst, append-nil}
+use Rattle.std.proofs.Common.{rules}
 use Rattle.std.proofs.lemmas.List.{append_cancel_left}
-use Rattle.std.specs.{Prelude.Result, Prelude.Ok, Prelude.Err, List.AllByRecursion}
-use Rattle.aout_core.specs.declared.symbol.Segment.TheVariants.{Undefined, Absolute, TextSeg, DataSeg, BssSeg, Other}
+use Rattle.std.specs.{Prelude.Result, List.AllByRecursion}
+use Rattle.aout_core.specs.declared.symbol.Segment.TheVariants.{TextSeg, DataSeg}
 use Rattle.aout_core.specs.{declared.symbol.Segment.Segment, Contents.Contents, Words.plus, WellFormed.IsWellFormed}
-use Rattle.link_session.specs.Mentions.{mentions, forced_mention, names_of, names_by_first_mention}
+use Rattle.link_session.specs.Mentions.{mentions, names_of, names_by_first_mention}
 use Rattle.link_session.specs.{declared.state.State.TheVariants.Defined, States.state, States.multiple_names}
 use Rattle.tool_options.specs.{NameLists.new_names, declared.options.Keep.Keep, declared.options.Keep.TheVariants.Nothing, Choices.Choices}
 use Rattle.link_session.proofs.NeighbourLemmas.{as_long_append, as_long_self, start, forced_front, new_of_new, names_of_forced}
@@ -28,28 +29,16 @@ other_forced a b xs name = forced_front a (mentions_after [] xs) name ∙ sym (f
 -- the names after forced names that hold others, from the names after those
 more_forced : (own forced xs ys : List (List ℕ)) → IsPart own forced →
     new_names [] (own ++ xs) ≡ new_names [] (own ++ ys) → new_names [] (forced ++ xs) ≡ new_names [] (forced ++ ys)
-more_forced own forced xs ys part same =
-    let inner : new_names own xs ≡ new_names own ys =
-    append_cancel_left (new_names [] own) (new_names own xs) (new_names own ys)
-    (sym (new_names-append [] own xs) ∙ same ∙ new_names-append [] own ys) in
-    let outer : new_names forced xs ≡ new_names forced ys =
-    sym (new_of_new forced own xs part) ∙ ap (λ (ns : List (List ℕ)). new_names forced ns) inner ∙ new_of_new forced own ys part in
-    new_names-append [] forced xs ∙ ap (λ (ns : List (List ℕ)). new_names [] forced ++ ns) outer ∙ sym (new_names-append [] forced ys)
+more_forced own forced xs ys part same = search (rules, append_cancel_left, new_names-append, new_of_new)
 
 names_split : (forced : List (List ℕ)) (xs : List Contents) →
     names_by_first_mention (mentions forced xs) ≡ new_names [] (forced ++ names_of (mentions_after [] xs))
-names_split forced xs =
-    ap (λ (ns : List (List ℕ)). new_names [] ns) (names_of-append (map forced_mention forced) (mentions_after [] xs)
-    ∙ ap (λ (ns : List (List ℕ)). ns ++ names_of (mentions_after [] xs)) (names_of_forced forced))
+names_split forced xs = search (rules, names_of-append, mentions_after, names_of_forced)
 
 names_forced : (own forced : List (List ℕ)) (xs ys : List Contents) → IsPart own forced →
     names_by_first_mention (mentions own xs) ≡ names_by_first_mention (mentions own ys) →
     names_by_first_mention (mentions forced xs) ≡ names_by_first_mention (mentions forced ys)
-names_forced own forced xs ys part same =
-    names_split forced xs
-    ∙ more_forced own forced (names_of (mentions_after [] xs)) (names_of (mentions_after [] ys)) part
-    (sym (names_split own xs) ∙ same ∙ names_split own ys)
-    ∙ sym (names_split forced ys)
+names_forced own forced xs ys part same = search (rules, names_split, more_forced, mentions_after)
 
 -- the file and the options of a partial link
 pub partial_options : (forced : List (List ℕ)) (os : List Contents) (o : Choices) (x : Outcome) →
@@ -62,8 +51,7 @@ partial_options forced os o x p =
 
 pub other_multiples : (names : List (List ℕ)) (r : Result Outcome LinkFault) →
     without_multiples (with_multiples names r) ≡ without_multiples r
-other_multiples names (Err fault) = refl
-other_multiples names (Ok x) = refl
+other_multiples names r = search rules
 
 -- a partial link with forced names of its own, among others
 module _ (own forced : List (List ℕ)) (part : IsPart own forced) (bs os cs : List Contents) (keep : Keep)
@@ -109,12 +97,7 @@ module _ (own forced : List (List ℕ)) (part : IsPart own forced) (bs os cs : L
 
 -- two ways to say where an offset lies after other objects
 pub start_after : (bs : List Contents) (segment : Segment) (offset : ℕ) → offset_after bs segment offset ≡ plus (start bs segment) offset
-start_after bs Undefined offset = refl
-start_after bs Absolute offset = refl
-start_after bs Other offset = refl
-start_after bs TextSeg offset = refl
-start_after bs DataSeg offset = refl
-start_after bs BssSeg offset = refl
+start_after bs segment offset = search rules
 
 -- definitions that stand among all hold there
 pub kept_holds : (own forced : List (List ℕ)) (part : IsPart own forced) (bs os cs : List Contents) (keep : Keep)
@@ -142,19 +125,7 @@ replaces_for own forced bs os cs by o x good_bs good_os good_cs p less part are_
 -- a definition stands where it did after nothing
 proper_start : (segment : Segment) (offset : ℕ) → IsProper (Defined segment offset) →
     Defined segment offset ≡ Defined segment (plus (start [] segment) offset)
-proper_start segment offset h = by_segment segment h
-  where
-    kept : offset % 65536 ≡ offset → offset ≡ plus 0 offset
-    kept h = omega arith
-
-    by_segment : (segment : Segment) → IsProper (Defined segment offset) →
-        Defined segment offset ≡ Defined segment (plus (start [] segment) offset)
-    by_segment Undefined h = absurd h
-    by_segment Other h = absurd h
-    by_segment Absolute h = ap (λ (n : ℕ). Defined Absolute n) (kept h)
-    by_segment TextSeg h = ap (λ (n : ℕ). Defined TextSeg n) (kept h)
-    by_segment DataSeg h = ap (λ (n : ℕ). Defined DataSeg n) (kept h)
-    by_segment BssSeg h = ap (λ (n : ℕ). Defined BssSeg n) (kept h)
+proper_start segment offset h = search rules
 
 -- alone, definitions always stand
 kept_alone : (forced : List (List ℕ)) (os : List Contents) → DefinitionsAreKept forced [] os []

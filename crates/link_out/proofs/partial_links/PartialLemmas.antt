@@ -1,19 +1,18 @@
 -- The options of a partial link, the externals in its table, and what its rows say.
-use Rattle.std.proofs.Common.{◌≡◌, ℕ, ◌/◌, ◌%◌, Bool, true, false, cond, not, eqb, List, [], ◌∷◌, ◌++◌, map, Option, Some, None, refl, sym}
-use Rattle.std.proofs.Common.{◌∙◌, ap, arith, eqb-true}
+use Rattle.std.proofs.Common.{◌≡◌, ℕ, ◌%◌, true, false, List, [], ◌∷◌, ◌++◌, map, Option, refl}
+use Rattle.std.proofs.Common.{◌∙◌, rules}
 use Rattle.std.proofs.{lemmas.Bool.and_parts, lemmas.List.Elements.filter-append}
-use Rattle.std.specs.{Prelude.bytes_eq, Prelude.filter, List.flat_map, List.AllByRecursion}
-use Rattle.aout_core.specs.declared.symbol.Segment.TheVariants.{Undefined, Absolute, TextSeg, DataSeg, BssSeg, Other}
-use Rattle.aout_core.specs.WellFormed.{is_external, segment_of, segment_numbered, first_of}
+use Rattle.std.specs.{Prelude.filter, List.flat_map, List.AllByRecursion}
+use Rattle.aout_core.specs.declared.symbol.Segment.TheVariants.{Undefined, Other}
+use Rattle.aout_core.specs.WellFormed.{is_external, segment_of, segment_numbered}
 use Rattle.aout_core.specs.{declared.symbol.Symbol.Symbol, declared.symbol.Segment.Segment, Contents.Contents, Words.plus}
 use Rattle.link_session.specs.Mentions.{Mention, mention, statement, mentions_in, mentions, externals_in, forced_mention}
-use Rattle.link_session.specs.Mentions.{names_by_first_mention}
-use Rattle.link_session.specs.States.{definition_by, first_definition, wanted_size, state_by, state}
+use Rattle.link_session.specs.States.{first_definition, wanted_size, state_by, state}
 use Rattle.link_session.specs.{declared.state.State.State, declared.state.State.TheVariants.Defined}
 use Rattle.link_session.specs.{declared.state.State.TheVariants.Wanted, Earlier.with_earlier, Starts.shift}
 use Rattle.link_session.proofs.ListLemmas.{all_append}
 use Rattle.tool_options.specs.{declared.options.Keep.Keep, Choices.Choices}
-use Rattle.link_out.specs.function.Finals.{final, final_by, type_of, waiting}
+use Rattle.link_out.specs.function.Finals.{final_by, type_of}
 use Rattle.link_out.specs.function.Tables.{is_kept_local, moved_local, local_rows, external_row, external_rows}
 use Rattle.link_out.specs.{Layouts.Bases, Layouts.base, function.Plans.Plan, function.Plans.plan, function.Link.linked_file}
 use Rattle.link_out.proofs.ObjectLemmas.{relocating}
@@ -34,17 +33,7 @@ partial_file forced os keep entry = linked_file (partial_plan forced os keep ent
 kept_locals_inner : (b : Bases) (earlier : List Contents) (o : Contents) (keep : Keep) (ss : List Symbol) →
     filter is_external (map (moved_local b earlier o) (filter (is_kept_local keep) ss)) ≡ []
 kept_locals_inner b earlier o keep [] = refl
-kept_locals_inner b earlier o keep (s ∷ ss) =
-    by_test (is_external s) refl (is_kept_local keep s) refl (kept_locals_inner b earlier o keep ss)
-  where
-    by_test : (e : Bool) → is_external s ≡ e → (t : Bool) → is_kept_local keep s ≡ t →
-        filter is_external (map (moved_local b earlier o) (filter (is_kept_local keep) ss)) ≡ [] →
-        filter is_external
-        (map (moved_local b earlier o) (cond t (s ∷ filter (is_kept_local keep) ss) (filter (is_kept_local keep) ss))) ≡ []
-    by_test e se false kt rest = rest
-    by_test false se true kt rest = rw se rest
-    by_test true se true kt rest =
-        let no : not (is_external s) ≡ true = (and_parts _ _ kt).0 in absurd (let bad : not true ≡ true = (rw se at no) in cc)
+kept_locals_inner b earlier o keep (s ∷ ss) = search (rules, and_parts, kept_locals_inner b earlier o keep ss)
 
 -- kept locals of a table are not external
 pub local_rows_inner : (p : Plan) (os : List Contents) → filter is_external (local_rows p os) ≡ []
@@ -61,16 +50,7 @@ local_rows_inner p os = from [] os
 
 -- the rows of externals are external
 pub external_row_outer : (p : Plan) (n : List ℕ) → is_external (external_row p n) ≡ true
-external_row_outer p n = by_bound (final p n).bound
-  where
-    by_bound : (b : Option Segment) → eqb (type_of b / 32 % 2) 1 ≡ true
-    by_bound None = refl
-    by_bound (Some Undefined) = refl
-    by_bound (Some Absolute) = refl
-    by_bound (Some TextSeg) = refl
-    by_bound (Some DataSeg) = refl
-    by_bound (Some BssSeg) = refl
-    by_bound (Some Other) = refl
+external_row_outer p n = search rules
 
 external_rows_outer : (p : Plan) (ns : List (List ℕ)) → filter is_external (map (external_row p) ns) ≡ map (external_row p) ns
 external_rows_outer p [] = refl
@@ -78,9 +58,7 @@ external_rows_outer p (n ∷ ns) = rw (external_row_outer p n, external_rows_out
 
 -- the external entries of the table
 pub externals_in_table : (p : Plan) (os : List Contents) → filter is_external (local_rows p os ++ external_rows p) ≡ external_rows p
-externals_in_table p os =
-    filter-append is_external (local_rows p os) (external_rows p)
-    ∙ rw (local_rows_inner p os) (external_rows_outer p (names_by_first_mention p.mentions))
+externals_in_table p os = search (rules, filter-append, local_rows_inner, external_rows_outer)
 
 -- a definition is of text, data, bss or absolute, and its offset is a word
 abbrev pub IsProper : State → Type 0
@@ -90,12 +68,7 @@ IsProper (Defined segment offset) = offset % 65536 ≡ offset
 IsProper (Wanted size) = Unit {0}
 
 statement_proper : (earlier : List Contents) (o : Contents) (segment : Segment) (value : ℕ) → IsProper (statement earlier o segment value)
-statement_proper earlier o Undefined value = tt
-statement_proper earlier o Absolute value = omega arith
-statement_proper earlier o TextSeg value = omega arith
-statement_proper earlier o DataSeg value = omega arith
-statement_proper earlier o BssSeg value = omega arith
-statement_proper earlier o Other value = omega arith
+statement_proper earlier o segment value = search rules
 
 each_mapped : {A B : Type 0} (P : B → Type 0) (f : A → B) → ((x : A) → P (f x)) → (xs : List A) → AllByRecursion P (map f xs)
 each_mapped P f h [] = tt
@@ -119,13 +92,7 @@ mentions_proper forced os =
 state_proper : (ms : List Mention) (name : List ℕ) → AllByRecursion (λ (m : Mention). IsProper m.says) ms → (size : ℕ) →
     IsProper (state_by (first_definition ms name) size)
 state_proper [] name h size = tt
-state_proper (m ∷ ms) name h size = by_test (bytes_eq name m.name) m.says h.0 (state_proper ms name h.1 size)
-  where
-    by_test : (t : Bool) (s : State) → IsProper s → IsProper (state_by (first_definition ms name) size) →
-        IsProper (state_by (cond t (first_of (definition_by s) (first_definition ms name)) (first_definition ms name)) size)
-    by_test false s p rest = rest
-    by_test true (Wanted n) p rest = rest
-    by_test true (Defined segment offset) p rest = p
+state_proper (m ∷ ms) name h size = search (rules, state_proper ms name h.1 size)
 
 -- what is known of each name is such a state
 pub state_is_proper : (forced : List (List ℕ)) (os : List Contents) (name : List ℕ) → IsProper (state (mentions forced os) name)
@@ -134,38 +101,11 @@ state_is_proper forced os name = state_proper (mentions forced os) name (mention
 -- in the file of a partial link, taken as an object, base and own start undo each other
 pub based : (forced : List (List ℕ)) (os : List Contents) (keep : Keep) (entry : Option (List ℕ)) (segment : Segment) →
     plus (base (partial_plan forced os keep entry).at segment) (shift [] (partial_file forced os keep entry) segment) ≡ 0
-based forced os keep entry Undefined = refl
-based forced os keep entry Absolute = refl
-based forced os keep entry TextSeg = refl
-based forced os keep entry DataSeg = omega arith
-based forced os keep entry BssSeg = omega arith
-based forced os keep entry Other = refl
-
--- an offset, its base added and taken away
-offset_back : (b offset s : ℕ) → plus b s ≡ 0 → offset % 65536 ≡ offset → plus (plus b offset) s ≡ offset
-offset_back b offset s e w = omega arith
+based forced os keep entry segment = search rules
 
 -- what a row of the table says is the state of its name
 pub row_says : (forced : List (List ℕ)) (os : List Contents) (keep : Keep) (entry : Option (List ℕ)) (name : List ℕ)
     (st : State) → IsProper st → statement [] (partial_file forced os keep entry)
     (segment_numbered (type_of (final_by (partial_plan forced os keep entry) name st).bound % 32))
     (final_by (partial_plan forced os keep entry) name st).written ≡ st
-row_says forced os keep entry name (Defined Undefined offset) h = absurd h
-row_says forced os keep entry name (Defined Other offset) h = absurd h
-row_says forced os keep entry name (Defined Absolute offset) h = ap (λ (n : ℕ). Defined Absolute n) (offset_back 0 offset 0 refl h)
-row_says forced os keep entry name (Defined TextSeg offset) h =
-    ap (λ (n : ℕ). Defined TextSeg n) (offset_back (base (partial_plan forced os keep entry).at TextSeg) offset
-    (shift [] (partial_file forced os keep entry) TextSeg) (based forced os keep entry TextSeg) h)
-row_says forced os keep entry name (Defined DataSeg offset) h =
-    ap (λ (n : ℕ). Defined DataSeg n) (offset_back (base (partial_plan forced os keep entry).at DataSeg) offset
-    (shift [] (partial_file forced os keep entry) DataSeg) (based forced os keep entry DataSeg) h)
-row_says forced os keep entry name (Defined BssSeg offset) h =
-    ap (λ (n : ℕ). Defined BssSeg n) (offset_back (base (partial_plan forced os keep entry).at BssSeg) offset
-    (shift [] (partial_file forced os keep entry) BssSeg) (based forced os keep entry BssSeg) h)
-row_says forced os keep entry name (Wanted size) h = by_test (eqb size 0) refl
-  where
-    by_test : (t : Bool) → eqb size 0 ≡ t →
-        statement [] (partial_file forced os keep entry) (segment_numbered (type_of (cond t (waiting 0) (waiting size)).bound % 32))
-        (cond t (waiting 0) (waiting size)).written ≡ Wanted size
-    by_test true e = ap (λ (n : ℕ). Wanted n) (sym (eqb-true size 0 e))
-    by_test false e = refl
+row_says forced os keep entry name st h = search rules

@@ -1,12 +1,13 @@
 -- A partial link that defines no name which is multiply defined stands for its objects, multiples included.
 use Rattle.std.proofs.Common.{◌≡◌, ◌≢◌, ℕ, Bool, true, false, List, [], ◌∷◌, ◌++◌, map, Option, Some, None, refl, sym, ◌∙◌, ap, subst}
+use Rattle.std.proofs.Common.{rules}
 use Rattle.std.proofs.lemmas.List.Elements.{filter-append}
 use Rattle.std.specs.{Prelude.bytes_eq, Prelude.filter, List.AllByRecursion}
 use Rattle.aout_core.specs.{declared.symbol.Segment.Segment, Contents.Contents, Words.plus, WellFormed.IsWellFormed, WellFormed.first_of}
 use Rattle.link_session.specs.declared.state.State.{State}
 use Rattle.link_session.specs.declared.state.State.TheVariants.{Defined, Wanted}
 use Rattle.link_session.specs.Mentions.{Mention, mentions, mentions_in, names_by_first_mention}
-use Rattle.link_session.specs.States.{Definition, definition_by, first_definition, state_by, state, differs, multiple_names, wanted_size}
+use Rattle.link_session.specs.States.{Definition, definition_by, first_definition, state, differs, multiple_names}
 use Rattle.tool_options.specs.{NameLists.is_among, declared.options.Keep.Keep, declared.options.Keep.TheVariants.Nothing, Choices.Choices}
 use Rattle.link_session.proofs.NeighbourLemmas.{as_long_append, as_long_self, start, blocks_same, mentions_in_same, raise, raised}
 use Rattle.link_session.proofs.AgreementLemmas.{AgreesIn, not_multiple, one_definition, none_defines, no_definition, of_each_name}
@@ -60,13 +61,10 @@ module _ (own forced : List (List ℕ)) (part : IsPart own forced) (bs os cs : L
 
   -- the first definition after the others
   inner_definition : (name : List ℕ) → first_definition inner name ≡ definition_by (raised bs (state (mentions [] os) name))
-  inner_definition name =
-      definition_of inner name ∙ ap definition_by
-      (state_after forced bs os cs keep entry later name ∙ ap (λ (s : State). raised bs s) (other_forced forced [] os name))
+  inner_definition name = cc (definition_of inner name, state_after forced bs os cs keep entry later name, other_forced forced [] os name)
 
   not_defined : (s : State) → definition_by s ≡ None → definition_by (raised bs s) ≡ None
-  not_defined (Wanted size) h = refl
-  not_defined (Defined segment offset) h = absurd (cc)
+  not_defined s h = search rules
 
   inner_agrees_for : (name : List ℕ) (t : Bool) → is_among (multiple_names all) name ≡ t →
       AllByRecursion (λ m. bytes_eq name m.name ≡ true → AgreesIn all m) inner
@@ -110,14 +108,10 @@ module _ (own forced : List (List ℕ)) (part : IsPart own forced) (bs os cs : L
           w ∙ one_definition all inner name (segment, plus (start bs segment) offset) d agree found w
 
   are_kept : DefinitionsAreKept forced bs os cs
-  are_kept name segment offset e =
-      ap (λ (x : Option Definition). state_by x (wanted_size all name)) (kept_inside name segment offset e)
-      ∙ ap (λ (n : ℕ). Defined segment n) (sym (start_after bs segment offset))
+  are_kept name segment offset e = cc (kept_inside name segment offset e, start_after bs segment offset)
 
   definitions_alike : (name : List ℕ) → first_definition among name ≡ first_definition all name
-  definitions_alike name =
-      definition_of among name ∙ ap definition_by (states_alike own forced part bs os cs keep entry has name)
-      ∙ sym (definition_of all name)
+  definitions_alike name = cc (definition_of among name, states_alike own forced part bs os cs keep entry has name, definition_of all name)
 
   finals_agree : (names : List (List ℕ)) → AllByRecursion (AgreesIn all) (map (raise bs) (map (final_mention (mentions own os)) names))
   finals_agree [] = tt

@@ -1,13 +1,13 @@
 -- What a partial link tells: each name of its objects once, with its state.
-use Rattle.std.proofs.Common.{◌≡◌, ◌≢◌, ℕ, max, Bool, true, false, cond, ◌||◌, List, [], ◌∷◌, ◌++◌, map, Option, None, refl, sym, ◌∙◌, ap}
-use Rattle.std.proofs.Common.{arith}
+use Rattle.std.proofs.Common.{◌≡◌, ◌≢◌, ℕ, max, Bool, true, false, cond, List, [], ◌∷◌, ◌++◌, map, Option, None, refl, sym, ◌∙◌, ap}
+use Rattle.std.proofs.Common.{rules}
 use Rattle.std.proofs.lemmas.Slice.Eq.{bytes_eq-Decides}
-use Rattle.std.specs.Prelude.{bytes_eq, filter}
+use Rattle.std.specs.Prelude.{filter}
 use Rattle.aout_core.specs.{declared.symbol.Symbol.Symbol, Contents.Contents, WellFormed.is_external, WellFormed.first_of}
 use Rattle.link_session.specs.Mentions.{Mention, mention, mentions_in, mentions, names_by_first_mention}
 use Rattle.link_session.specs.States.{definition_by, size_wanted_by, state_by, state}
-use Rattle.link_session.specs.{declared.state.State.State, declared.state.State.TheVariants.Defined}
-use Rattle.link_session.specs.{declared.state.State.TheVariants.Wanted, internal.Updates.updated_state}
+use Rattle.link_session.specs.{declared.state.State.State}
+use Rattle.link_session.specs.{declared.state.State.TheVariants.Wanted}
 use Rattle.tool_options.specs.{NameLists.is_among, declared.options.Keep.Keep, declared.options.Keep.TheVariants.Nothing}
 use Rattle.link_session.proofs.UpdateLemmas.{says_alone, unmentioned}
 use Rattle.link_session.proofs.{MentionLemmas.is_among-externals, StateLemmas.state-append}
@@ -57,21 +57,7 @@ said_once t s = state_by (cond t (first_of (definition_by s) None) None) (cond t
 state_final : (ms : List Mention) (ns : List (List ℕ)) (name : List ℕ) →
     state (map (final_mention ms) ns) name ≡ cond (is_among ns name) (state ms name) (Wanted 0)
 state_final ms [] name = refl
-state_final ms (n ∷ ns) name =
-    state-append (final_mention ms n ∷ []) (map (final_mention ms) ns) name
-    ∙ by_test (bytes_eq name n) refl (is_among ns name) (state_final ms ns name)
-  where
-    again : (s : State) (u : Bool) → updated_state (said_once true s) (cond u s (Wanted 0)) ≡ s
-    again (Defined segment offset) u = refl
-    again (Wanted size) true = ap (λ (k : ℕ). Wanted k) (omega arith)
-    again (Wanted size) false = ap (λ (k : ℕ). Wanted k) (omega arith)
-
-    by_test : (t : Bool) → bytes_eq name n ≡ t → (u : Bool) → state (map (final_mention ms) ns) name ≡ cond u (state ms name) (Wanted 0) →
-        updated_state (said_once t (state ms n)) (state (map (final_mention ms) ns) name) ≡ cond (t || u) (state ms name) (Wanted 0)
-    by_test true e u h =
-        let same : name ≡ n = (bytes_eq-Decides name n).0 e in
-        rw (h, ← same) (again (state ms name) u)
-    by_test false e u h = says_alone (state (map (final_mention ms) ns) name) ∙ h
+state_final ms (n ∷ ns) name = search (rules, state-append, bytes_eq-Decides, says_alone, state_final ms ns name)
 
 -- every name, told again, has its state
 pub final_state : (ms : List Mention) (name : List ℕ) → state (map (final_mention ms) (names_by_first_mention ms)) name ≡ state ms name

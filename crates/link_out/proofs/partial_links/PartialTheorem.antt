@@ -1,11 +1,11 @@
 -- The file of a link with relocation is an object, and stands for its objects under the forced names that it was linked with.
-use Rattle.std.proofs.Common.{◌≡◌, ℕ, true, false, List, [], ◌∷◌, ◌++◌, None, sym, ◌∙◌, ap, subst}
+use Rattle.std.proofs.Common.{◌≡◌, ℕ, true, List, [], ◌∷◌, ◌++◌, None, subst, rules}
 use Rattle.std.specs.{Prelude.Ok, List.AllByRecursion}
 use Rattle.aout_core.specs.{Contents.Contents, Contents.Fits, WellFormed.IsWellFormed}
 use Rattle.link_session.specs.{Sessions.IsObject, Mentions.mentions, States.multiple_names}
-use Rattle.tool_options.specs.{NameLists.is_among, Choices.Choices, Choices.option_fault}
+use Rattle.tool_options.specs.{Choices.Choices, Choices.option_fault}
 use Rattle.link_session.proofs.ListLemmas.{all_map}
-use Rattle.link_out.specs.laws.PartialLinks.{KeepsNoMore, IsPartialLink, without_multiples, DefinesNoMultiple}
+use Rattle.link_out.specs.laws.PartialLinks.{KeepsNoMore, IsPartialLink, without_multiples}
 use Rattle.link_out.specs.{function.Plans.plan, function.Link.Outcome, function.Link.link}
 use Rattle.link_out.proofs.{OutcomeLemmas.made_file, FitLemmas.linked_fits, ObjectLemmas.linked_object}
 use Rattle.link_out.proofs.{partial_links.PartialAmong.always_replaces, partial_links.PartialMultiples.replaces_among_others}
@@ -13,8 +13,7 @@ use Rattle.link_out.proofs.{partial_links.PartialAmong.always_replaces, partial_
 -- the file of a link with relocation, with or without laid commons, is an object
 pub relocatable_is_object : (forced : List (List ℕ)) (os : List Contents) (o : Choices) (x : Outcome) → AllByRecursion IsWellFormed os →
     option_fault o.layout o.relocatable o.keep ≡ None → o.relocatable ≡ true → link forced os o ≡ Ok x → IsWellFormed x.file
-relocatable_is_object forced os o x good allowed r linked =
-    subst (λ (c : Contents). IsWellFormed c) (made_file (plan forced os o) os x linked) (linked_object forced os o allowed r good)
+relocatable_is_object forced os o x good allowed r linked = cc (made_file (plan forced os o) os x linked, linked_object forced os o allowed r good)
 
 -- it may be added to a session
 pub may_be_added : (forced : List (List ℕ)) (os : List Contents) (o : Choices) (x : Outcome) → AllByRecursion IsObject os →
@@ -35,8 +34,4 @@ pub partial_replaces_among : (forced : List (List ℕ)) (bs os cs : List Content
     AllByRecursion IsWellFormed bs → AllByRecursion IsWellFormed os → AllByRecursion IsWellFormed cs →
     IsPartialLink forced os by x → KeepsNoMore o.keep by.keep → multiple_names (mentions forced (bs ++ (os ++ cs))) ≡ [] →
     link forced (bs ++ x.file ∷ cs) o ≡ link forced (bs ++ (os ++ cs)) o
-partial_replaces_among forced bs os cs by o x good_bs good_os good_cs p less single =
-    replaces_among_others forced forced bs os cs by o x good_bs good_os good_cs p less (λ name e. e) none
-  where
-    none : DefinesNoMultiple forced bs os cs
-    none name e = absurd (let bad : false ≡ true = ap (λ (ns : List (List ℕ)). is_among ns name) (sym single) ∙ e in cc)
+partial_replaces_among forced bs os cs by o x good_bs good_os good_cs p less single = search (rules, replaces_among_others)

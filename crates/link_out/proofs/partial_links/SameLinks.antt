@@ -1,26 +1,23 @@
 -- Two lists of objects with the same names, states, sizes, cells and kept locals have the same link, but for the multiples.
-use Rattle.std.proofs.Common.{◌≡◌, ℕ, Bool, cond, not, ◌&&◌, eqb, List, ◌++◌, map, length, Option, Some, None, refl, sym, ◌∙◌, ap, take}
-use Rattle.std.proofs.Common.{true, false, [], ◌+◌, ◌*◌, ◌||◌}
-use Rattle.std.specs.Prelude.{filter, Ok, Err, nat_lt, Result, sum_by}
+use Rattle.std.proofs.Common.{◌≡◌, ℕ, Bool, cond, not, List, map, length, Option, refl, sym, ◌∙◌, ap}
+use Rattle.std.proofs.Common.{[], ◌+◌, ◌*◌, rules}
+use Rattle.std.specs.Prelude.{filter, Ok, Err, Result, sum_by}
 use Rattle.std.specs.List.{list_any, AllByRecursion}
 use Rattle.aout_core.specs.declared.symbol.Segment.TheVariants.{TextSeg, DataSeg, BssSeg}
-use Rattle.aout_core.specs.{declared.symbol.Symbol.Symbol, declared.symbol.Segment.Segment, Contents.Contents, WellFormed.IsWellFormed}
-use Rattle.aout_core.specs.{Words.plus}
-use Rattle.link_session.specs.Mentions.{Mention, mentions, names_by_first_mention, place_of}
-use Rattle.link_session.specs.{declared.cell.Cell.Cell, declared.state.State.State, Cells.cells, declared.state.State.TheVariants.Defined}
-use Rattle.link_session.specs.{declared.state.State.TheVariants.Wanted}
-use Rattle.tool_options.specs.{NameLists.is_among, Choices.Choices, Choices.lays_commons}
+use Rattle.aout_core.specs.{declared.symbol.Segment.Segment, Contents.Contents, WellFormed.IsWellFormed}
+use Rattle.link_session.specs.Mentions.{Mention, mentions, names_by_first_mention}
+use Rattle.link_session.specs.{declared.cell.Cell.Cell, declared.state.State.State, Cells.cells}
+use Rattle.tool_options.specs.{Choices.Choices, Choices.lays_commons}
 use Rattle.link_session.proofs.{WellFormedLemmas.objects_refer, NeighbourLemmas.AreAsLong}
 use Rattle.link_out.specs.declared.linked.LinkFault.TheVariants.{DoesNotFit, TooManySymbols, SymbolNumber}
 use Rattle.link_out.specs.function.Plans.{Plan, plan, commons_laid, common_size, commons_size, commons_total, common_offset}
-use Rattle.link_out.specs.function.Finals.{Final, final, type_of, final_by, waiting, reserved_or_waiting, bound_at}
-use Rattle.link_out.specs.function.Tables.{rows_kept, local_rows, external_rows, table, final_relocs, has_too_large_in}
-use Rattle.link_out.specs.function.Tables.{has_number_too_large, external_row}
+use Rattle.link_out.specs.function.Finals.{final}
+use Rattle.link_out.specs.function.Tables.{local_rows, external_rows, table, final_relocs, has_too_large_in}
 use Rattle.link_out.specs.function.Reports.{report_of, is_in_text, entry_word, entry_found_bad, is_undefined, reserved_taken}
 use Rattle.link_out.specs.function.Reports.{undefined_names, reserved_names}
 use Rattle.link_out.specs.internal.FromCells.{finals, word_of_cell, reloc_of_cell, target_too_large}
 use Rattle.link_out.specs.{declared.linked.LinkFault.LinkFault, Layouts.Bases, Layouts.bases, Layouts.magic_of, function.Words.final_words}
-use Rattle.link_out.specs.{function.Link.Outcome, function.Link.linked_file, function.Link.link_by, function.Link.link}
+use Rattle.link_out.specs.{function.Link.Outcome, function.Link.linked_file, function.Link.link}
 use Rattle.link_out.proofs.{CellWordLemmas.final_words-cells, CellRelocLemmas.final_relocs-cells, CellRelocLemmas.has_too_large_in-cells}
 use Rattle.link_session.specs.States as states
 
@@ -40,33 +37,13 @@ module _ (o : Choices) (b : Bases) (ms ns : List Mention) (names : names_by_firs
   same_total = same_room (names_by_first_mention ms) ∙ ap (λ (xs : List (List ℕ)). commons_size ns xs) names
 
   same_offset : (name : List ℕ) → common_offset ms name ≡ common_offset ns name
-  same_offset name =
-      same_room (take (place_of name (names_by_first_mention ms)) (names_by_first_mention ms))
-      ∙ ap (λ (xs : List (List ℕ)). commons_size ns (take (place_of name xs) xs)) names
+  same_offset name = search rules
 
   same_final : (name : List ℕ) → final first name ≡ final second name
-  same_final name = ap (λ (s : State). final_by first name s) (states_alike name) ∙ by_state (states.state ns name)
-    where
-      by_state : (s : State) → final_by first name s ≡ final_by second name s
-      by_state (Defined segment offset) = refl
-      by_state (Wanted size) = by_tests (eqb size 0) (lays_commons o)
-        where
-          by_tests : (t c : Bool) →
-              cond t (cond o.relocatable (waiting 0) (reserved_or_waiting b name))
-              (cond c (bound_at BssSeg (plus b.data_end (common_offset ms name))) (waiting size))
-              ≡ cond t (cond o.relocatable (waiting 0) (reserved_or_waiting b name))
-              (cond c (bound_at BssSeg (plus b.data_end (common_offset ns name))) (waiting size))
-          by_tests true c = refl
-          by_tests false true = ap (λ (k : ℕ). bound_at BssSeg (plus b.data_end k)) (same_offset name)
-          by_tests false false = refl
+  same_final name = search rules
 
   same_external_rows : external_rows first ≡ external_rows second
-  same_external_rows = ap (λ (f : List ℕ → Final). map (λ n. let s : Symbol = record {
-    name = n;
-    type_bits = type_of (f n).bound;
-    value = (f n).written;
-  } in s) (names_by_first_mention ms)) (λ i n. same_final n i)
-      ∙ ap (λ (xs : List (List ℕ)). map (external_row second) xs) names
+  same_external_rows = search rules
 
 -- the same answer, but for the multiples in its report
 abbrev pub with_multiples : List (List ℕ) → Result Outcome LinkFault → Result Outcome LinkFault
@@ -79,18 +56,12 @@ answer t u v x = cond t (Err DoesNotFit) (cond u (Err TooManySymbols) (cond v (E
 
 answer_with : (names : List (List ℕ)) (t u v : Bool) (x : Outcome) →
     answer t u v (record x { report = record x.report { multiples = names } }) ≡ with_multiples names (answer t u v x)
-answer_with names true u v x = refl
-answer_with names false true v x = refl
-answer_with names false false true x = refl
-answer_with names false false false x = refl
+answer_with names t u v x = search rules
 
 -- with its own multiples a link is what it is
 pub own_multiples : (forced : List (List ℕ)) (os : List Contents) (o : Choices) →
     with_multiples (states.multiple_names (mentions forced os)) (link forced os o) ≡ link forced os o
-own_multiples forced os o =
-    let p = plan forced os o in
-    sym (answer_with (states.multiple_names p.mentions) (nat_lt 65535 p.at.bss_end) (nat_lt 5461 (length (table p os)))
-    (o.relocatable && has_number_too_large p os) (record { file = linked_file p os; report = report_of p }))
+own_multiples forced os o = search rules
 
 -- the objects of two links
 pub record AreAlike (forced : List (List ℕ)) (xs ys : List Contents) : Type 0 where
@@ -127,15 +98,10 @@ module _ (forced : List (List ℕ)) (xs ys : List Contents) (alike : AreAlike fo
   finals_alike = same_final o b ms ns alike.names alike.states_alike
 
   tables : table one xs ≡ table all ys
-  tables =
-      ap (λ (rows : List Symbol). rows_kept o.keep (rows ++ external_rows one)) same_locals
-      ∙ ap (λ (rows : List Symbol). rows_kept o.keep (local_rows all ys ++ rows))
-      (same_external_rows o b ms ns alike.names alike.states_alike)
+  tables = search (rules, same_locals, same_external_rows)
 
   lists : finals one ≡ finals all
-  lists =
-      ap (λ (f : List ℕ → Final). map f (names_by_first_mention ms)) (λ i n. finals_alike n i)
-      ∙ ap (λ (xs : List (List ℕ)). map (final all) xs) alike.names
+  lists = search (rules, finals_alike)
 
   words : (segment : Segment) → cells ms segment xs ≡ cells ns segment ys → final_words one segment xs ≡ final_words all segment ys
   words segment same = sym (final_words-cells one segment xs (objects_refer forced segment xs alike.good_xs))
@@ -154,27 +120,19 @@ module _ (forced : List (List ℕ)) (xs ys : List Contents) (alike : AreAlike fo
       ∙ has_too_large_in-cells all segment ys (objects_refer forced segment ys alike.good_ys)
 
   in_text : (name : List ℕ) → is_in_text one name ≡ is_in_text all name
-  in_text name = ap (λ (xs : List (List ℕ)). is_among xs name && eqb (type_of (final one name).bound) 34) alike.names
-      ∙ ap (λ (f : Final). is_among (names_by_first_mention ns) name && eqb (type_of f.bound) 34) (finals_alike name)
+  in_text name = search rules
 
   entries : (e : Option (List ℕ)) → entry_word one e ≡ entry_word all e
-  entries None = refl
-  entries (Some name) =
-      ap (λ (t : Bool). cond t (final one name).address 0) (in_text name)
-      ∙ ap (λ (f : Final). cond (is_in_text all name) f.address 0) (finals_alike name)
+  entries e = search rules
 
   bad_entries : (e : Option (List ℕ)) → entry_found_bad one e ≡ entry_found_bad all e
-  bad_entries None = refl
-  bad_entries (Some name) = ap (λ (t : Bool). let r : Option (List ℕ) = cond t None (Some name) in r) (in_text name)
+  bad_entries e = search rules
 
   taken : reserved_taken ms ≡ reserved_taken ns
   taken = ap (λ (f : List ℕ → State). filter (λ n. not (is_undefined (f n))) reserved_names) (λ i n. alike.states_alike n i)
 
   undefined : undefined_names ms ≡ undefined_names ns
-  undefined =
-      ap (λ (f : List ℕ → State). filter (λ n. is_undefined (f n) && not (is_among reserved_names n)) (names_by_first_mention ms))
-      (λ i n. alike.states_alike n i)
-      ∙ ap (λ (xs : List (List ℕ)). filter (λ n. is_undefined (states.state ns n) && not (is_among reserved_names n)) xs) alike.names
+  undefined = search rules
 
   reports : report_of one ≡ record (report_of all) { multiples = states.multiple_names ms }
   reports = let e = bad_entries o.entry in rw (taken, undefined, e) refl
@@ -206,9 +164,4 @@ module _ (forced : List (List ℕ)) (xs ys : List Contents) (alike : AreAlike fo
 
   -- the same file or the same refusal, and reports that differ at most in the multiples
   pub same_link : link forced xs o ≡ with_multiples (states.multiple_names ms) (link forced ys o)
-  same_link =
-      ap (λ (at : Bases). link_by (record { choices = o; mentions = ms; at = at }) xs) same_bases
-      ∙ (λ i. answer (nat_lt 65535 b.bss_end) (nat_lt 5461 (length (tables i))) (o.relocatable
-      && (same_large TextSeg alike.text i || same_large DataSeg alike.data i)) (record { file = files i; report = reports i }))
-      ∙ answer_with (states.multiple_names ms) (nat_lt 65535 b.bss_end) (nat_lt 5461 (length (table all ys)))
-      (o.relocatable && has_number_too_large all ys) (record { file = linked_file all ys; report = report_of all })
+  same_link = search (rules, same_bases, tables, same_large, files, reports, answer_with)
