@@ -39,7 +39,7 @@ PACKAGES = {
     "cc": "gcc", "c++": "g++", "pkg-config": "pkg-config", "valgrind": "valgrind", "mypy": "mypy", "venv": "python3-venv", "rustc": "rustc",
     "cargo": "cargo", "groff": "groff", "man": "man-db", "mandoc": "mandoc", "zsh": "zsh", "chromium": "chromium",
     "chromedriver": "chromium-driver", "selenium": "python3-selenium", "firefox-esr": "firefox-esr", "debootstrap": "debootstrap",
-    "lintian": "lintian", "faketime": "faketime", "pdp11": "simh",
+    "lintian": "lintian", "faketime": "faketime", "cmark-gfm": "cmark-gfm", "pdp11": "simh",
 }
 # for a whole run of one crate, on a machine with other work too
 SECONDS = "1800"
@@ -146,6 +146,10 @@ def shares():
     return [sorted(group) for group in groups if group]
 
 
+def group_name(files):
+    return f"cases of {os.path.basename(files[0])}" + (f" and {len(files) - 1} files more" if files[1:] else "")
+
+
 def once_compiled(programs, folder, *words):
     """Runs a command with the compiled programs, once these are there."""
     wait(programs)
@@ -162,13 +166,13 @@ def run_unproved(tests):
     print("All of this is compiled without proof, so it proves nothing: make gate proves it.", flush=True)
     play = [sys.executable, "-m", "tests.cases.cases"]
     with tempfile.TemporaryDirectory() as folder, ThreadPoolExecutor(min(SIDE_BY_SIDE, len(os.sched_getaffinity(0)))) as pool:
-        # nothing that waits comes before what it waits for
+        # what is cheap comes first, and nothing that waits before what it waits for
+        first = {pool.submit(passes, *it.command()): it.title() for it in tests if not it.words("programs")}
         programs = {pool.submit(compile_program, TOP, name, folder): f"the program {name}" for name in CRATES}
-        work = [(it.title(), passes, *it.command()) for it in tests if not it.words("programs")]
-        work += [(f"cases of {' '.join(files)}", once_compiled, [*programs], folder, *play, *files) for files in shares()]
+        work = [(f"tests of {name}", run_tests, name, count) for name, count in crates_with_tests().most_common()]
+        work += [(group_name(files), once_compiled, [*programs], folder, *play, *files) for files in shares()]
         work += [(it.title(), once_compiled, [*programs], folder, *it.command()) for it in tests if it.words("programs")]
-        work += [(f"tests of {name}", run_tests, name, count) for name, count in crates_with_tests().most_common()]
-        tally = Tally({**programs, **{pool.submit(*rest): name for name, *rest in work}})
+        tally = Tally({**first, **programs, **{pool.submit(*rest): name for name, *rest in work}})
         tally.take_all()
     print(f"{tally.count('([0-9]+) cases played')} cases and {tally.count('([0-9]+) tests of ')} tests passed: nothing was proved")
     return tally.end()

@@ -18,7 +18,7 @@
 # alone. What drives the cases, tests/cases/cases.py, runs outside. It skips those that watch a program, since the programs of a package are
 # linked statically. The module of python3-v7 and the wheel run outside too. Wanted: root, Debian's debootstrap and lintian.
 #
-# tier: all, 7000 seconds; words: all; for: packaging tools/dist.sh; needs: debootstrap lintian faketime
+# tier: all, 7000 seconds; words: all; for: packaging tools/dist.sh; needs: debootstrap lintian faketime cmark-gfm mandoc
 set -u
 cd "$(dirname "$0")/.."
 top=$PWD
@@ -175,17 +175,18 @@ first_link() {
     echo "README.md of the release: $(wc -l <"$debian/tmp/first.sh") lines were run"
 }
 
-# the examples of the manual pages that are installed, and the tutorial
+# the examples of the manual pages that are installed, and of some pages; and once its source is assembled, the tutorial
 manual() {
     rm -rf "$debian/tmp/manual"
-    mkdir -p "$debian/tmp/manual/tests/programs" "$debian/tmp/manual/build"
+    mkdir -p "$debian/tmp/manual/tests/programs" "$debian/tmp/manual/build" "$debian/tmp/manual/man"
     cp tests/programs/manual.sh "$debian/tmp/manual/tests/programs"
     cp -r "$debian$share/doc/v7/examples" "$debian/tmp/manual"
-    # the tutorial assembles this file, and the folder has no Python
-    python3 "$debian/tmp/manual/examples/asm.py" "$debian/tmp/manual/examples/squares.s" || fail "asm.py does not do"
-    inside sh -euc 'cd /tmp/manual && mkdir man && cp "$1"/man/man[15]/v7* man && { gunzip -q man/*.gz 2>/dev/null || :; }
+    inside sh -euc 'cd /tmp/manual && cp "$1"/man/man[15]/v7* man && { gunzip -q man/*.gz 2>/dev/null || :; }
         for program in v7 v7-from-gnu v7-object v7-explain v7-lesson; do ln -s "$(command -v $program)" build; done
-        sh tests/programs/manual.sh man/* "$1/doc/v7/README.md" "$1/doc/v7/docs/TUTORIAL.md" "$1/doc/v7/docs/RESTORING.md"' sh "$share" || fail "an example of the manual or the tutorial differs"
+        sh tests/programs/manual.sh man/* "$1/doc/v7/README.md" "$1/doc/v7/docs/RESTORING.md"' sh "$share" || fail "an example of the manual differs"
+    # the folder has no Python
+    python3 "$debian/tmp/manual/examples/asm.py" "$debian/tmp/manual/examples/squares.s" || fail "asm.py does not do"
+    inside sh -euc 'cd /tmp/manual && sh tests/programs/manual.sh "$1/doc/v7/docs/TUTORIAL.md"' sh "$share" || fail "an example of the tutorial differs"
 }
 
 # a page of a teacher's own: three sources, which the assembler of the release takes outside, since Python is not there, and questions; a
@@ -193,8 +194,8 @@ manual() {
 lessons() {
     rm -rf "$debian/tmp/own"
     mkdir "$debian/tmp/own"
-    for name in menu stop room; do
-        cp "$debian$share/doc/v7/examples/menu/$name.s" "$debian/tmp/own"
+    for source in menu stop room; do
+        cp "$debian$share/doc/v7/examples/menu/$source.s" "$debian/tmp/own"
     done
     python3 "$debian$share/doc/v7/examples/asm.py" "$debian"/tmp/own/*.s || fail "asm.py does not do"
     printf 'lesson Mine\nadd menu.o\nask changes Which word changes?\nadd stop.o\nsay It is {data 2 = 14} now.\n' >"$debian/tmp/own/mine.txt"

@@ -124,6 +124,8 @@ class Progress:
     def __init__(self, counts):
         self.counts, self.total = counts, sum(counts.values())
         self.done = self.kept = 0
+        # whether this run has a rate of its own
+        self.is_known = False
         self.busy = set()
         self.begun = self.printed = time.monotonic()
         self.expected = self.total * SECONDS_EACH / min(os.cpu_count(), MOST_JOBS)
@@ -132,7 +134,9 @@ class Progress:
 
     def text(self):
         seconds = time.monotonic() - self.begun
-        left = f", about {int(max(0, self.expected - seconds)) // 60 + 1} more" if self.done < self.total and not self.over.is_set() else ""
+        left = ""
+        if self.done < self.total and not self.over.is_set():
+            left = f", about {int(max(0, self.expected - seconds)) // 60 + 1} more" if self.is_known else f" of about {int(self.expected) // 60 + 1} on an idle machine"
         return f"{self.done} of {self.total} functions proved, {int(seconds) // 60} minutes{left}"
 
     def say(self, line):
@@ -151,7 +155,8 @@ class Progress:
             self.done += self.counts[name] if is_proved else 0
             self.kept += self.counts[name] if is_kept else 0
             each = SECONDS_EACH / min(os.cpu_count(), MOST_JOBS)
-            if self.done - self.kept > self.total // 10:
+            self.is_known = self.done - self.kept > self.total // 10
+            if self.is_known:
                 each = (time.monotonic() - self.begun) / (self.done - self.kept)
             self.expected = each * (self.total - self.kept)
             if not is_proved or not (self.at_terminal or is_kept):

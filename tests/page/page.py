@@ -17,6 +17,7 @@ import tempfile
 import time
 import traceback
 from concurrent.futures import ThreadPoolExecutor, as_completed
+from functools import cached_property
 from itertools import permutations
 
 from tests.lib.compare import notices
@@ -257,7 +258,7 @@ CLICKS = {"an object": ("objects=1,2,3,4", "#add5"), "Withdraw": ("objects=1,2,3
           "a word": ("objects=1,2,3,4,5", ".word.bound"), "a name": ("objects=1,2,3,4,5", ".name"), "a fold": ("objects=1,2,3,4,5", ".fold")}
 
 
-def five_of_500(tools, path, given):
+def five_of_500(tools, given, path):
     """Each word of five objects of 500 words can be reached, in the image and in each link; what changed is never folded."""
     same("bytes of five objects of 500 words", os.path.getsize(path) <= 5_000_000, True)
     page = Page(path)
@@ -290,20 +291,38 @@ def full(tools, files):
 
 
 class Given:
-    """The objects whose pages are looked at, and these pages."""
+    """The objects whose pages are looked at, and these pages. One of large objects takes minutes, so each is made when it is wanted."""
 
     def __init__(self, tools, seed):
+        self.tools, self.seed = tools, seed
         self.questions, *self.files = page_data.GIVEN
         self.default = tools.page_of(self.files, "default.html", self.questions)
         self.program, self.tables, self.compiled = program_in_c(self.files), tables_and_bss(self.files), sixteen_objects()
-        self.course, self.tables_page = (tools.page_of(one, name, f"{os.path.dirname(one[0])}/lessons.txt") for one, name in ((self.program, "course.html"), (self.tables, "tables.html")))
         self.compiled_page = tools.page_of(self.compiled, "sixteen.html")
-        made = made_objects(tools, 8, 60, seed)
-        self.staged = ((self.default, self.files, "the default page"), (tools.page_of(self.program, "program.html"), self.program, "a program in C"),
-                       (self.compiled_page, self.compiled, "sixteen objects"), (tools.page_of(made, "made.html"), made, f"eight objects of seed {seed}"))
-        self.five = made_objects(tools, 5, 500)
-        self.looked_at = {"the default page": self.default, "five objects": tools.page_of(program_files(self.files), "five-objects.html"),
-                          "five of 500 words": tools.page_of(self.five, "five.html"), "sixteen objects": self.compiled_page}
+        print(f"bytes of sixteen objects: {os.path.getsize(self.compiled_page)}", flush=True)
+
+    def with_lessons(self, objects, name):
+        """The page of objects, with the lessons beside them."""
+        return self.tools.page_of(objects, name, os.path.join(os.path.dirname(objects[0]), "lessons.txt"))
+
+    @cached_property
+    def staged(self):
+        """The pages whose stage is measured, with their objects, and what each is."""
+        made = made_objects(self.tools, 8, 60, self.seed)
+        return ((self.default, self.files, "the default page"), (self.tools.page_of(self.program, "program.html"), self.program, "a program in C"),
+                (self.compiled_page, self.compiled, "sixteen objects"), (self.tools.page_of(made, "made.html"), made, f"eight objects of seed {self.seed}"))
+
+    @cached_property
+    def large(self):
+        """Five objects of 500 words, and their page."""
+        made = made_objects(self.tools, 5, 500)
+        return made, self.tools.page_of(made, "five.html")
+
+    @cached_property
+    def looked_at(self):
+        """The pages whose layout is looked at."""
+        return {"the default page": self.default, "five objects": self.tools.page_of(program_files(self.files), "five-objects.html"),
+                "five of 500 words": self.large[1], "sixteen objects": self.compiled_page}
 
 
 def planted(tools, given):
@@ -356,8 +375,9 @@ def layouts(_, given):
 def uses(tools, given):
     """The page is used as a student does."""
     page = Page(given.default)
-    pages = [(given.default, given.files), (given.course, given.program), (given.tables_page, given.tables), (given.compiled_page, given.compiled)]
-    use_all(tools, page, given.default, given.course, given.compiled_page, pages, LAYOUTS, same)
+    course, tables = given.with_lessons(given.program, "course.html"), given.with_lessons(given.tables, "tables.html")
+    pages = [(given.default, given.files), (course, given.program), (tables, given.tables), (given.compiled_page, given.compiled)]
+    use_all(tools, page, given.default, course, given.compiled_page, pages, LAYOUTS, same)
     page.quit()
 
 
@@ -377,7 +397,7 @@ def states(tools, given):
     program(tools, program_files(files))
     large(tools, files)
     full(tools, files)
-    five_of_500(tools, given.looked_at["five of 500 words"], given.five)
+    five_of_500(tools, *given.large)
 
 
 # the parts, the longest first

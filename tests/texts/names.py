@@ -15,7 +15,7 @@ from tests.lib.rattle import definitions
 NOTED = """
 row_of 7 place_text 6 program 5 number_text 4 name_of 4 name_in 4 size_text 4 unless 4 shown 4 header_of 3 with_names 3
 Answer 3 symbol_at 3 word_text 3 range_text 3 is_shown 3 place_of 3 instruction_text 3 object_of 3 line_of 3 words_of 3 listed 3
-bytes_of 3 object_in 3 entry_of 3 IsStoring 3 is_text 3 Says 3
+bytes_of 3 entry_of 3 IsStoring 3 is_text 3 Says 3
 """
 
 

@@ -1,5 +1,5 @@
 -- Each place of a program of clean objects that control reaches is a reached place of one of them.
-use Rattle.std.proofs.Common.{◌≡◌, ◌≢◌, ℕ, zero, suc, ◌+◌, ◌*◌, ◌/◌, ◌%◌, ◌<◌, ◌≤◌, ◌⊎◌, inl, inr, Bool, true, false, ◌||◌, ◌&&◌, not, eqb}
+use Rattle.std.proofs.Common.{◌≡◌, ◌≢◌, ℕ, zero, suc, ◌+◌, ◌*◌, ◌/◌, ◌%◌, ◌<◌, ◌≤◌, inl, inr, Bool, true, false, ◌||◌, ◌&&◌, not, eqb}
 use Rattle.std.proofs.Common.{if◌then◌else◌, List, [], ◌∷◌, ◌++◌, length, map, drop, Option, Some, None, refl, sym, ◌∙◌, ap, subst, arith}
 use Rattle.std.proofs.{lemmas.Bool.and_from, lemmas.Bool.eqb-true, lemmas.Bool.eq-eqb, lemmas.List.length-drop, lemmas.Option.same_Some}
 use Rattle.std.proofs.lemmas.Option.{slice_get_within}
@@ -7,7 +7,7 @@ use Rattle.std.specs.{Prelude.slice_get, Prelude.slice_index, Prelude.IfSome, Pr
 use Rattle.aout_core.specs.WellFormed.{kind_numbered, kind_of, is_pc_relative, masked_type, segment_numbered, is_external}
 use Rattle.aout_core.specs.{declared.symbol.Symbol.Symbol, declared.symbol.Segment.TheVariants.TextSeg, declared.reloc.Reloc.Reloc}
 use Rattle.aout_core.specs.declared.reloc.Kind.{Kind}
-use Rattle.aout_core.specs.{Contents.Contents, Contents.IsWord, Strip.stripped, Words.plus}
+use Rattle.aout_core.specs.{Contents.Contents, Strip.stripped, Words.plus}
 use Rattle.link_session.specs.{Starts.total, Sessions.IsObject}
 use Rattle.link_session.proofs.ListLemmas.{all_split}
 use Rattle.tool_options.specs.{declared.options.Keep.TheVariants.Nothing, Choices.Choices}
@@ -17,22 +17,22 @@ use Rattle.link_laws.proofs.LinkedTheorem.{linked_exactly}
 use Rattle.instructions.specs.{Instructions.instruction_of, Instructions.jumps, Instructions.word_count_of, Lines.word_for}
 use Rattle.instructions.specs.declared.mode.Addressing.TheVariants.{Immediate, Absolute, Relative, RelativeDeferred, Indexed}
 use Rattle.instructions.specs.{Modes.addressing, Modes.counts_from_pc, declared.mode.Addressing.Addressing, Texts.number}
-use Rattle.instructions.specs.{declared.operation.Operation.Operation, declared.operand.Operand.Operand}
-use Rattle.instructions.specs.{declared.instruction.Instruction.Instruction, declared.line.Line.TheVariants.Plain}
-use Rattle.instructions.specs.{declared.call_table.CallRow.CallRow, declared.unix.Decoder.TheVariants.Unix}
+use Rattle.instructions.specs.{declared.operand.Operand.Operand}
+use Rattle.instructions.specs.{declared.instruction.Instruction.Instruction}
+use Rattle.instructions.specs.{declared.unix.Decoder.TheVariants.Unix}
 use Rattle.instructions.specs.{declared.unix.UnixLine.UnixLine, declared.unix.UnixLine.TheVariants.Machine}
 use Rattle.instructions.specs.{declared.unix.UnixLine.TheVariants.Call, Relocated.is_relocated, Alike.is_cut}
 use Rattle.instructions.proofs.AlikeLemmas.{get_inside}
 use Rattle.disassemblies.specs.Lines.{unix_line_in}
 use Rattle.suspicions.specs.declared.evidence.Evidence.TheVariants.{Flow, Promise}
 use Rattle.suspicions.specs.{ReachedLaw.is_place, ReachedLaw.IsReached, ReachedLaw.Evident, ReachedLaw.Led, Trust.is_sure, Reached.is_reached}
-use Rattle.suspicions.specs.Reached.{is_text, named, evident, leads_by, leads_to, jump, jump_of, jump_by, is_own_distance, is_own_address}
+use Rattle.suspicions.specs.Reached.{is_text, named, leads_by, leads_to, jump, jump_of, jump_by, is_own_distance, is_own_address}
 use Rattle.suspicions.specs.Suspicions.{is_foreign, is_immediate}
 use Rattle.suspicions.proofs.{ReachLemmas.reached_places, SureLemmas.sure_below, SureLemmas.sure_places, SureLemmas.sure_words}
 use Rattle.laws.specs.{Core.of_instructions, Core.IsWordAt, Operands.Defines, OperandWords.machine_value}
-use Rattle.laws.specs.OperandPlaces.{addressing_of, IsDirect, kind_meant, IsOwnByte, IsNamedByte, IsAddress, HasOperand}
-use Rattle.laws.specs.ReachedInstructions.{kind_said, HasOperandSaid, KeepsInstruction, IsNoDistance}
-use Rattle.laws.specs.CleanPrograms.{TextSymbol, RefersToText, StaysInside, IsClean, BeginsAtSymbol, IsKept, IsOfObject}
+use Rattle.laws.specs.OperandPlaces.{addressing_of, IsDirect, kind_meant, IsOwnByte, IsNamedByte}
+use Rattle.laws.specs.ReachedInstructions.{kind_said, HasOperandSaid}
+use Rattle.laws.specs.CleanPrograms.{TextSymbol, RefersToText, IsClean, BeginsAtSymbol, IsKept, IsOfObject}
 use Rattle.laws.specs.CleanPrograms.{CleanObjectsMakeCleanPrograms}
 use Rattle.laws.proofs.{InstructionLemmas.text_within, InstructionLemmas.word_small, InstructionPlaceLemmas.instructions_there, LoadedLemmas.whole_words}
 use Rattle.laws.proofs.{LoadedLemmas.word_there, LoadedLemmas.found_in, OperandPlaceLemmas.one_word}

@@ -1,34 +1,20 @@
 -- Where a line of a program leads, beside that of an object with the same first word.
-use Rattle.std.proofs.Common.{◌≡◌, ℕ, zero, suc, ◌+◌, ◌*◌, ◌/◌, ◌%◌, ◌<◌, ◌≤◌, ◌⊎◌, inl, inr, Bool, true, false, ◌||◌, ◌&&◌, eqb, nat_lt}
+use Rattle.std.proofs.Common.{◌≡◌, ℕ, zero, suc, ◌+◌, ◌/◌, ◌%◌, ◌<◌, ◌≤◌, inl, inr, Bool, true, false, ◌||◌, ◌&&◌, eqb, nat_lt}
 use Rattle.std.proofs.Common.{if◌then◌else◌, List, [], ◌∷◌, length, drop, Option, Some, None, refl, sym, ◌∙◌, ap, subst, arith}
 use Rattle.std.proofs.lemmas.Bool.{and_parts, or_cases, eqb-true, le-ltb, ltb-false, cases_lt}
-use Rattle.std.specs.Prelude.{slice_get, slice_index, IfSome, not}
-use Rattle.std.specs.List.{list_any, AllByRecursion}
-use Rattle.aout_core.specs.{Contents.Contents, Strip.stripped, Words.plus}
-use Rattle.instructions.specs.Instructions.{instruction_of, instruction_in, instruction, field_operand, word_count_of, following_words}
-use Rattle.instructions.specs.Instructions.{jumps}
-use Rattle.instructions.specs.{Alike.is_cut, Lines.line_of, Lines.line_at, Operands.is_missing, Operands.operand_of, Operands.takes_word}
-use Rattle.instructions.specs.{Rows.begins as in_row, Rows.row_of, Texts.number, UnixLines.call_by, UnixLines.unix_line, UnixLines.unix_line_at}
-use Rattle.instructions.specs.declared.mode.Addressing.TheVariants.{Immediate, Absolute, Relative, RelativeDeferred, Indexed}
-use Rattle.instructions.specs.{declared.mode.Addressing.Addressing, declared.mode.Mode.Mode, declared.mode.Register.Register, Modes.addressing}
-use Rattle.instructions.specs.{declared.operation.Operation.Operation, declared.operand.Operand.Operand, declared.field.Field.Field}
-use Rattle.instructions.specs.{declared.instruction.Instruction.Instruction, declared.table.Row.Row, declared.call.SystemCall.SystemCall}
+use Rattle.std.specs.Prelude.{slice_get, slice_index}
+use Rattle.aout_core.specs.{Contents.Contents, Strip.stripped}
+use Rattle.instructions.specs.Instructions.{instruction_of, instruction, following_words}
+use Rattle.instructions.specs.{Alike.is_cut, Lines.line_of, Lines.line_at}
+use Rattle.instructions.specs.{Rows.begins as in_row, Rows.row_of, Texts.number, UnixLines.call_by, UnixLines.unix_line}
+use Rattle.instructions.specs.{declared.instruction.Instruction.Instruction}
 use Rattle.instructions.specs.{declared.call_table.CallRow.CallRow, declared.line.Line.Line, declared.line.Line.TheVariants.Plain}
-use Rattle.instructions.specs.{declared.line.Line.TheVariants.Decoded, declared.unix.Decoder.TheVariants.Unix}
-use Rattle.instructions.specs.{declared.unix.UnixLine.UnixLine, declared.unix.UnixLine.TheVariants.Machine}
+use Rattle.instructions.specs.{declared.unix.Decoder.TheVariants.Unix}
+use Rattle.instructions.specs.{declared.unix.UnixLine.TheVariants.Machine}
 use Rattle.instructions.specs.{declared.unix.UnixLine.TheVariants.Call, Relocated.is_relocated, UnixLaws.sys}
 use Rattle.disassemblies.specs.Lines.{unix_line_in}
-use Rattle.suspicions.specs.{Suspicions.is_foreign, SureLaw.is_whole, ReachedLaw.is_place, Reached.passes, Reached.flows, Reached.calls_csv}
-use Rattle.suspicions.specs.Reached.{calls_by_r5, is_pc_itself, may_write_pc, next_of, goes_on, is_followed, parent_of, branch_of, jump, jump_of, jump_by}
-use Rattle.suspicions.specs.{Reached.leads_by, Reached.leads_to, Reached.returns, declared.evidence.Evidence.TheVariants.Flow}
-use Rattle.suspicions.specs.declared.evidence.Evidence.TheVariants.{Promise}
-use Rattle.laws.specs.{OperandPlaces.addressing_of, OperandPlaces.IsDirect, OperandPlaces.IsOperand, OperandWords.machine_value}
-use Rattle.laws.specs.CleanPrograms.{StaysInside}
+use Rattle.suspicions.specs.{Suspicions.is_foreign, SureLaw.is_whole}
 use Rattle.laws.proofs.ReachedInstructionLemmas.{at_head, call_made, word_at, line_there, decoded, decoded_by}
-use Rattle.instructions.specs.declared.operand.Operand.TheVariants as operands
-use Rattle.instructions.specs.declared.operation.Operation.TheVariants as operations
-use Rattle.instructions.specs.declared.field.Field.TheVariants as fields
-use Rattle.instructions.specs.declared.call.SystemCall.TheVariants as calls
 
 -- words of other PDP-11s are not in the table
 

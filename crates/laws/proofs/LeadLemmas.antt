@@ -1,6 +1,6 @@
 -- Where a line of a program leads: within the text of its object, or by a jump or a call.
-use Rattle.std.proofs.Common.{◌≡◌, ℕ, zero, suc, ◌+◌, ◌-◌, ◌*◌, ◌/◌, ◌%◌, ◌<◌, ◌≤◌, ◌⊎◌, inl, inr, Bool, true, false, ◌||◌, ◌&&◌, eqb, nat_lt}
-use Rattle.std.proofs.Common.{if◌then◌else◌, List, [], ◌∷◌, length, drop, Option, Some, None, refl, sym, ◌∙◌, ap, subst, arith}
+use Rattle.std.proofs.Common.{◌≡◌, ℕ, suc, ◌+◌, ◌-◌, ◌*◌, ◌/◌, ◌%◌, ◌<◌, ◌⊎◌, inl, inr, Bool, true, false, ◌||◌, ◌&&◌, eqb, nat_lt}
+use Rattle.std.proofs.Common.{if◌then◌else◌, List, ◌∷◌, length, drop, Option, Some, None, refl, sym, ◌∙◌, ap, subst, arith}
 use Rattle.std.proofs.{lemmas.Option.same_Some, lemmas.Bool.and_parts, lemmas.Bool.and_from, lemmas.Bool.or_cases, lemmas.Bool.eqb-true}
 use Rattle.std.proofs.lemmas.Bool.{eq-eqb, lt-ltb}
 use Rattle.std.specs.Prelude.{slice_get, IfSome, not}
@@ -14,7 +14,6 @@ use Rattle.instructions.specs.declared.mode.Addressing.TheVariants.{Immediate, A
 use Rattle.instructions.specs.{declared.mode.Addressing.Addressing, declared.operation.Operation.Operation}
 use Rattle.instructions.specs.{declared.operand.Operand.Operand, declared.instruction.Instruction.Instruction}
 use Rattle.instructions.specs.{declared.call.SystemCall.SystemCall, declared.call_table.CallRow.CallRow}
-use Rattle.instructions.specs.{declared.line.Line.TheVariants.Decoded, declared.unix.UnixLine.UnixLine}
 use Rattle.instructions.specs.{declared.unix.UnixLine.TheVariants.Machine, declared.unix.UnixLine.TheVariants.Call}
 use Rattle.suspicions.specs.{ReachedLaw.is_place, Reached.passes, Reached.flows, Reached.calls_csv, Reached.calls_by_r5, Reached.is_pc_itself}
 use Rattle.suspicions.specs.Reached.{may_write_pc, is_followed, returns, next_of, parent_of, branch_of, jump, jump_of, jump_by, leads_by}

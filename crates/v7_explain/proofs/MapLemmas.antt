@@ -1,27 +1,27 @@
 -- The objects of a map as a session takes them, and the map of these.
-use Rattle.std.proofs.Common.{◌≡◌, ◌≢◌, ℕ, Bool, true, false, eqb, List, Option, Some, None, map, refl, sym, ap, ◌∙◌, ◌⊎◌, subst, inl, inr}
-use Rattle.std.proofs.Common.{arith}
+use Rattle.std.proofs.Common.{◌≡◌, ◌≢◌, ℕ, Bool, false, eqb, List, [], ◌∷◌, length, Option, Some, None, map, refl, sym, ap, ◌∙◌}
+use Rattle.std.proofs.Common.{◌⊎◌, subst, inl, inr, arith}
 use Rattle.std.proofs.lemmas.Bool.Decides.{nat_tests}
 use Rattle.std.specs.Prelude.{Result, Ok, Err, IfSome, String, Vec, is_some, not}
 use Rattle.std.specs.declared.alloc.Global.{Global}
-use Rattle.aout_core.specs.Refusals.{refused}
+use Rattle.aout_core.specs.{Contents.Contents, Refusals.refused}
 use Rattle.command_words.specs.Calls.{AsksForNone, IsAsked, IsWhole, dashes_in, files_of}
 use Rattle.command_words.specs.declared.words.Call.TheVariants.{Ld, Nm, Session, Size, Strip}
 use Rattle.command_words.specs.{declared.fault.WordsFault.TheVariants.Usage, declared.words.Call.Call}
-use Rattle.link_maps.specs.Taking.{Split, split, split_of, with_object}
-use Rattle.link_maps.specs.{Members.all_of, Members.cause_of, Rows.IsOutcome, declared.map.LinkMap.LinkMap}
-use Rattle.link_maps.specs.{declared.members.Objects.Objects, declared.members.Refused.Refused, declared.outcome.Outcome.Outcome as Made}
-use Rattle.link_maps.proofs.TakingLemmas.{none_split, none_yet, split_more}
-use Rattle.link_out.specs.declared.linked.LinkFault.TheVariants.{DoesNotFit, Memory, SymbolNumber, TooManySymbols}
-use Rattle.link_out.specs.{Outcomes.IsLinkOf, declared.linked.LinkFault.LinkFault, declared.linked.Linked.Linked, function.Link.Outcome}
-use Rattle.link_out.specs.{function.Link.link}
+use Rattle.link_maps.specs.Links.{ShowsLink, link_shown, path_at, read_inputs}
+use Rattle.link_maps.specs.Taking.{split, split_of, with_object}
+use Rattle.link_maps.specs.{Members.all_of, declared.map.LinkMap.LinkMap, declared.members.Objects.Objects}
+use Rattle.link_maps.specs.{declared.members.Refused.Refused, declared.outcome.Outcome.Outcome as Made}
+use Rattle.link_maps.proofs.{LinkLemmas.shows_link, TakingLemmas.none_split, TakingLemmas.split_more}
+use Rattle.link_out.specs.Inputs.{Cause, Refusal, at_path, linked, not_added, of_input}
+use Rattle.link_out.specs.{Steps.and_then, declared.linked.LinkFault.LinkFault, declared.linked.Linked.Linked, function.Link.Outcome}
 use Rattle.link_session.specs.{Labelled.Labelled, Labelled.objects, Sessions.nothing_kept, Undo.Kept}
 use Rattle.surroundings.specs.{Answer.Answer, Answers.AnswersOr, Answers.says_usage, Events.History, declared.answer.Fault.Fault}
 use Rattle.tool_options.specs.Choices.{Choices}
-use Rattle.v7_explain.specs.Joined.{either, nothing_said, usage}
-use Rattle.v7_explain.specs.Maps.{AreTaken, IsMap, IsMapCall, IsMapping, IsTaking, MapsCall, Taken, link_words, map_status, answer_of}
-use Rattle.v7_explain.specs.Maps.{nothing_taken, status_by, status_linked}
-use Rattle.v7_explain.specs.internal.Takes.{IsMapAnswer, KeepsSplit, status_made, status_mapped, taken_by, taken_of}
+use Rattle.v7_explain.specs.Joined.{either, usage}
+use Rattle.v7_explain.specs.Maps.{AreTaken, HaveObjects, IsMap, IsMapCall, IsMapping, IsTaking, MapsCall, answer_of, link_words, nothing_taken}
+use Rattle.v7_explain.specs.Maps.{status_linked}
+use Rattle.v7_explain.specs.internal.Takes.{IsMapAnswer, KeepsSplit, TakesAll, status_made, status_mapped}
 use Rattle.v7_explain.proofs.TakingLemmas.{taking_memory}
 use Rattle.surroundings.specs.declared.answer.Fault.TheVariants as faults
 
@@ -34,46 +34,38 @@ keeps_split old new x taken forced h =
     split_more old.session.forced old new x refl taken h
     ∙ ap (λ (names : List (List ℕ)). split names (all_of new)) (sym forced)
 
--- ---- the status
+-- ---- the link that is shown
 
-status_of_link : (made : Result Linked LinkFault) (x : Result Outcome LinkFault) → IsLinkOf made x → made ≢ Err (Memory refused) →
-    status_made made ≡ status_linked x
-status_of_link (Ok linked) x h whole = ap status_linked (sym h)
-status_of_link (Err (Memory _)) x h whole = absurd (whole refl)
-status_of_link (Err DoesNotFit) x h whole = ap status_linked (sym h)
-status_of_link (Err TooManySymbols) x h whole = ap status_linked (sym h)
-status_of_link (Err SymbolNumber) x h whole = ap status_linked (sym h)
+read_of : (is : List (List ℕ × List ℕ)) (xs : List Labelled) → HaveObjects is xs → read_inputs is ≡ Ok (objects xs)
+read_of [] [] have = refl
+read_of [] (x ∷ xs) have = absurd have
+read_of (i ∷ is) [] have = absurd have
+read_of (i ∷ is) (x ∷ xs) (label, read, rest) =
+    ap (λ (r : Result Contents Cause). and_then (at_path i.0 r) (λ o. and_then (read_inputs is) (λ os. Ok (o ∷ os)))) read
+    ∙ ap (λ (r : Result (List Contents) Refusal). and_then r (λ os. Ok (x.object ∷ os))) (read_of is xs rest)
+
+status_shown : (made : Result Linked LinkFault) → status_made made ≡ status_linked (link_shown made)
+status_shown (Ok l) = refl
+status_shown (Err fault) = refl
 
 -- as the code has it
-pub mapped_status : (made : Option Made) (refused : Option Refused) (kept : Kept) (choices : Choices) →
-    is_some made ≡ not (is_some refused) → IfSome made (λ o. IsOutcome o kept choices) →
-    status_mapped made ≡ status_by (cause_of refused) (link kept.forced (objects kept.entries) choices)
-mapped_status None None kept choices h is = absurd (cc)
-mapped_status None (Some r) kept choices h is = refl
-mapped_status (Some o) None kept choices h is =
-    status_of_link o.linked (link kept.forced (objects kept.entries) choices) is.made is.no_memory
-mapped_status (Some o) (Some r) kept choices h is = absurd (cc)
+mapped_status : (link : Result Outcome Refusal) (refused : Option Refused) (made : Option Made) (path : List ℕ) →
+    is_some made ≡ not (is_some refused) → IfSome refused (λ r. link ≡ Err (of_input path (not_added r.cause))) →
+    IfSome made (λ o. link ≡ link_shown o.linked) → status_mapped made ≡ status_linked link
+mapped_status link None None path h is shown = absurd (cc)
+mapped_status link (Some r) None path h is shown = ap status_linked (sym is)
+mapped_status link left (Some o) path h is shown = status_shown o.linked ∙ ap status_linked (sym shown)
 
 -- ---- a map, after the files were taken
 
-begins : (forced : List (List ℕ)) (o : Objects) → o.session ≡ nothing_kept forced → o.refused ≡ None →
-    taken_of o nothing_said ≡ nothing_taken
-begins forced o session refused =
-    ap (λ (os : List Labelled). let taken : Taken = record { objects = os; said = nothing_said } in taken)
-    (none_yet forced o session refused)
-
 -- memory ran out
-pub map_ends : (asked forced : List (List ℕ)) (choices : Choices) (paths : List (List ℕ)) (old new : History) (o n : Objects)
-    (fault : Fault)
-    (result : Result Answer Fault) → o.session ≡ nothing_kept forced → o.refused ≡ None →
-    IsTaking old new (taken_of o nothing_said) paths (taken_by n (Err fault)) → result ≡ Err fault →
+pub map_ends : (asked forced : List (List ℕ)) (choices : Choices) (paths : List (List ℕ)) (old new : History) (xs : List Labelled)
+    (fault : Fault) (result : Result Answer Fault) → TakesAll old new paths xs (Err fault) → result ≡ Err fault →
     IsMapping asked forced choices paths old new result
-map_ends asked forced choices paths old new o n fault result session none takes is =
-    let taking : IsTaking old new nothing_taken paths (Err fault) =
-    subst (λ t. IsTaking old new t paths (Err fault)) (begins forced o session none) takes in
-    let memory : fault ≡ faults.Memory refused = taking_memory old new nothing_taken paths fault taking in
+map_ends asked forced choices paths old new xs fault result takes is =
+    let memory : fault ≡ faults.Memory refused = taking_memory old new nothing_taken paths fault takes in
     inl (
-      subst (λ f. IsTaking old new nothing_taken paths (Err f)) memory taking,
+      subst (λ f. IsTaking old new nothing_taken paths (Err f)) memory takes,
       is ∙ ap (λ (f : Fault). let ended : Result Answer Fault = Err f in ended) memory,
     )
 
@@ -81,78 +73,62 @@ abbrev pub answered : Answer → Result Answer Fault
 answered said = Ok said
 
 -- some files are not objects
-pub map_refused : (asked forced : List (List ℕ)) (choices : Choices) (paths : List (List ℕ)) (old new : History) (o n : Objects)
-    (said : Answer) →
-    o.session ≡ nothing_kept forced → o.refused ≡ None → IsTaking old new (taken_of o nothing_said) paths (taken_by n (Ok said)) →
-    said.status ≢ 0 → IsMapping asked forced choices paths old new (Ok said)
-map_refused asked forced choices paths old new o n said session refused takes status =
+pub map_refused : (asked forced : List (List ℕ)) (choices : Choices) (paths : List (List ℕ)) (old new : History) (xs : List Labelled)
+    (said : Answer) → TakesAll old new paths xs (Ok said) → said.status ≢ 0 → IsMapping asked forced choices paths old new (Ok said)
+map_refused asked forced choices paths old new xs said (taken, takes, holds) status =
     let test : eqb said.status 0 ≡ false = grind (arith, nat_tests) in
     inr (
-      taken_of n said,
-      subst (λ t. IsTaking old new t paths (Ok (taken_of n said))) (begins forced o session refused) takes,
-      subst (λ (t : Bool). either t (IsMap asked forced choices (all_of n) (Ok said)) (answered said ≡ answered said)) (sym test) refl,
+      taken,
+      takes,
+      subst (λ (t : Bool). either t (IsMap asked forced choices taken.inputs (Ok said)) (answered said ≡ answered taken.said))
+          (sym (ap (λ (a : Answer). eqb a.status 0) holds.said ∙ test)) (ap answered (sym holds.said)),
     )
 
-maps_by : (asked forced : List (List ℕ)) (choices : Choices) (paths : List (List ℕ)) (old new : History) (o n : Objects) (said : Answer)
-    (result : Result Answer Fault) → o.session ≡ nothing_kept forced → o.refused ≡ None →
-    IsTaking old new (taken_of o nothing_said) paths (taken_by n (Ok said)) →
-    said.status ≡ 0 → IsMap asked forced choices (all_of n) result → IsMapping asked forced choices paths old new result
-maps_by asked forced choices paths old new o n said result session refused takes status is =
-    let test : eqb said.status 0 ≡ true = ap (λ (k : ℕ). eqb k 0) status in
+-- all are
+maps_by : (asked forced : List (List ℕ)) (choices : Choices) (paths : List (List ℕ)) (old new : History) (xs : List Labelled) (said : Answer)
+    (result : Result Answer Fault) → TakesAll old new paths xs (Ok said) → said.status ≡ 0 →
+    ((inputs : List (List ℕ × List ℕ)) → HaveObjects inputs xs → IsMap asked forced choices inputs result) →
+    IsMapping asked forced choices paths old new result
+maps_by asked forced choices paths old new xs said result (taken, takes, holds) status maps =
     inr (
-      taken_of n said,
-      subst (λ t. IsTaking old new t paths (Ok (taken_of n said))) (begins forced o session refused) takes,
-      subst (λ (t : Bool). either t (IsMap asked forced choices (all_of n) result) (result ≡ Ok said)) (sym test) is,
+      taken,
+      takes,
+      subst (λ (t : Bool). either t (IsMap asked forced choices taken.inputs result) (result ≡ Ok taken.said))
+          (sym (ap (λ (a : Answer). eqb a.status 0) holds.said ∙ ap (λ (k : ℕ). eqb k 0) status)) (maps taken.inputs holds.objects),
     )
 
--- all are, and there is no memory for the map
-pub map_out : (asked forced : List (List ℕ)) (choices : Choices) (paths : List (List ℕ)) (old new : History) (o n : Objects) (said : Answer)
-    (result : Result Answer Fault) → o.session ≡ nothing_kept forced → o.refused ≡ None →
-    IsTaking old new (taken_of o nothing_said) paths (taken_by n (Ok said)) →
-    said.status ≡ 0 → result ≡ Err (faults.Memory refused) → IsMapping asked forced choices paths old new result
-map_out asked forced choices paths old new o n said result session refused takes status memory =
-    maps_by asked forced choices paths old new o n said result session refused takes status (inl memory)
-
--- the objects as a session takes them
-are_taken : (forced : List (List ℕ)) (n : Objects) → n.session.forced ≡ forced → KeepsSplit n → AreTaken forced (all_of n) n
-are_taken forced n names keeps = record {
-  forced_names = names;
-  taken = keeps ∙ ap (λ (f : List (List ℕ)). split f (all_of n)) names;
-}
+-- and there is no memory for the map
+pub map_out : (asked forced : List (List ℕ)) (choices : Choices) (paths : List (List ℕ)) (old new : History) (xs : List Labelled)
+    (said : Answer) (result : Result Answer Fault) → TakesAll old new paths xs (Ok said) → said.status ≡ 0 →
+    result ≡ Err (faults.Memory refused) → IsMapping asked forced choices paths old new result
+map_out asked forced choices paths old new xs said result takes status memory =
+    maps_by asked forced choices paths old new xs said result takes status (λ inputs have. inl memory)
 
 abbrev answer_with : List (List ℕ) → Choices → Objects → LinkMap → ℕ → Result Answer Fault
 answer_with asked choices o m status = Ok (answer_of asked choices o m status)
 
-maps_all : (asked forced : List (List ℕ)) (choices : Choices) (n : Objects) (a : Answer) → AreTaken forced (all_of n) n →
-    IsMapAnswer asked n forced choices a →
-    IsMap asked forced choices (all_of n) (Ok a)
-maps_all asked forced choices n a taken (m, map, same) =
-    let s : Split = split forced (all_of n) in
-    let coded : status_mapped m.outcome ≡ status_by (cause_of n.refused) (link n.session.forced (objects n.session.entries) choices) =
-    mapped_status m.outcome n.refused n.session choices map.made map.outcome in
-    let defined : status_mapped m.outcome ≡ map_status forced choices s =
-    coded
-    ∙ ap (λ (f : List (List ℕ)). status_by (cause_of n.refused) (link f (objects n.session.entries) choices)) taken.forced_names
-    ∙ ap (map_status forced choices) taken.taken in
-    inr (
-      n,
-      m,
-      taken,
-      map,
-      ap (λ (one : Answer). let ok : Result Answer Fault = Ok one in ok) same
-          ∙ ap (answer_with asked choices n m) defined,
-    )
+maps_all : (asked forced : List (List ℕ)) (choices : Choices) (inputs : List (List ℕ × List ℕ)) (n : Objects) (a : Answer) →
+    AreTaken forced inputs n → IsMapAnswer asked n forced choices a → IsMap asked forced choices inputs (Ok a)
+maps_all asked forced choices inputs n a taken (m, map, same) =
+    let read : read_inputs inputs ≡ Ok (objects (all_of n)) = read_of inputs (all_of n) taken.objects in
+    let shows : ShowsLink forced choices inputs n m.outcome =
+    shows_link forced choices inputs n m.outcome read taken.forced_names taken.taken map.made map.outcome in
+    let status : status_mapped m.outcome ≡ status_linked (linked forced inputs choices) =
+    mapped_status (linked forced inputs choices) n.refused m.outcome (path_at inputs (length n.session.entries)) map.made shows.refused
+    shows.made in
+    inr (n, m, taken, map, shows, ap answered same ∙ ap (answer_with asked choices n m) status)
 
--- all are, and there is a map
+-- and there is a map
 pub map_made : (asked forced : List (List ℕ)) (choices : Choices) (paths : List (List ℕ)) (old new : History) (o n : Objects)
-    (said a : Answer) →
-    o.session ≡ nothing_kept forced → o.refused ≡ None → IsTaking old new (taken_of o nothing_said) paths (taken_by n (Ok said)) →
+    (said a : Answer) → o.session ≡ nothing_kept forced → o.refused ≡ None → TakesAll old new paths (all_of n) (Ok said) →
     said.status ≡ 0 → (KeepsSplit o → KeepsSplit n) → n.session.forced ≡ o.session.forced → IsMapAnswer asked n forced choices a →
     IsMapping asked forced choices paths old new (Ok a)
 map_made asked forced choices paths old new o n said a session refused takes status keeps same map =
     let names : n.session.forced ≡ forced = same ∙ ap (λ (k : Kept). k.forced) session in
-    maps_by asked forced choices paths old new o n said (Ok a) session refused takes status
-    (maps_all asked forced choices n a (are_taken forced n names (keeps (none_split forced o.session.forced o session refused))) map)
+    let taken : split_of n ≡ split forced (all_of n) =
+    keeps (none_split forced o.session.forced o session refused) ∙ ap (λ (f : List (List ℕ)). split f (all_of n)) names in
+    maps_by asked forced choices paths old new (all_of n) said (Ok a) takes status
+    (λ inputs have. maps_all asked forced choices inputs n a (record { forced_names = names; objects = have; taken = taken }) map)
 
 -- ---- what the arguments ask for
 

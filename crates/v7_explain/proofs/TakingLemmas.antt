@@ -1,36 +1,46 @@
 -- Objects that are taken one after another: which there are then, and what comes of the files that are left.
 use Rattle.std.proofs.Common.{◌≡◌, ℕ, List, [], ◌∷◌, ◌++◌, refl, sym, ap, ◌∙◌, subst, inl, inr}
 use Rattle.std.specs.Prelude.{IsOk, Result, Ok, Err, OnOk}
-use Rattle.aout_core.specs.{Contents.Contents, Refusals.refused}
+use Rattle.aout_core.specs.{Contents.Contents, Decoding.decode, Refusals.refused}
+use Rattle.link_out.specs.Inputs.{object_in}
 use Rattle.link_session.specs.Labelled.{Labelled}
 use Rattle.surroundings.specs.Sources.{EndsReading, ReadsAt, unread_text}
 use Rattle.surroundings.specs.{Answer.Answer, Answers.Faults, Answers.failed_at, Events.History, declared.answer.Fault.Fault}
-use Rattle.v7_explain.specs.Maps.{IsTaking, Taken, TakesAt, object_in, with_found}
-use Rattle.v7_explain.specs.{Files.program, Joined.joined, internal.Takes.TakesNext, internal.Takes.TakesOne}
+use Rattle.v7_explain.specs.Maps.{HaveObjects, IsTaking, Taken, TakesAt, if_object, input_in, nothing_taken, with_found}
+use Rattle.v7_explain.specs.internal.Takes.{AddsOrSays, Holds, TakesAll, TakesNext, TakesOne}
+use Rattle.v7_explain.specs.{Files.program, Joined.joined, Joined.nothing_said}
 use Rattle.surroundings.specs.declared.answer.Fault.TheVariants as faults
 
 -- ---- one after another
 
 -- what comes of the files that are left comes of all
-abbrev pub GoesOn : History → History → Taken → Taken → List (List ℕ) → List (List ℕ) → Type 0
-GoesOn old mid start taken left all = (new : History) → (result : Result Taken Fault) → IsTaking mid new taken left result →
-    IsTaking old new start all result
+abbrev pub GoesOn : History → History → Taken → List (List ℕ) → List (List ℕ) → Type 0
+GoesOn old mid taken left all = (new : History) → (result : Result Taken Fault) → IsTaking mid new taken left result →
+    IsTaking old new nothing_taken all result
 
--- what comes of one, and then of those after it
-pub taking_more : (old mid next : History) (start taken : Taken) (left later all : List (List ℕ)) (path : List ℕ)
-    (found : Result Contents Answer) →
-    GoesOn old mid start taken left all → left ≡ path ∷ later → TakesAt mid next path found →
-    GoesOn old next start (with_found taken path found) later all
-taking_more old mid next start taken left later all path found inv e takes new result h =
-    inv new result (subst (λ paths. IsTaking mid new taken paths result) (sym e) (found, next, takes, inr h))
+-- what comes of the files up to those that are left
+pub record TakenSoFar (old mid : History) (left all : List (List ℕ)) (xs : List Labelled) (said : Answer) : Type 0 where
+  pub taken : Taken
+  pub holds : Holds xs said taken
+  pub goes_on : GoesOn old mid taken left all
 
--- memory runs out after one
-pub taking_ends : (old mid new : History) (start taken : Taken) (left later all : List (List ℕ)) (path : List ℕ)
-    (found : Result Contents Answer) →
-    GoesOn old mid start taken left all → left ≡ path ∷ later → TakesAt mid new path found → IsTaking old new start all (Err (faults.Memory refused))
-taking_ends old mid new start taken left later all path found inv e takes =
-    inv new (Err (faults.Memory refused)) (subst (λ paths. IsTaking mid new taken paths (Err (faults.Memory refused))) (sym e)
-    (found, new, takes, inl (refl, refl)))
+-- of none
+pub none_taken : (h : History) (all : List (List ℕ)) (xs : List Labelled) → xs ≡ [] → TakenSoFar h h all all xs nothing_said
+none_taken h all xs none = record {
+  taken = nothing_taken;
+  holds = record { objects = subst (HaveObjects []) (sym none) tt; said = refl };
+  goes_on = λ new result is. is;
+}
+
+-- of all
+pub all_taken : (old new : History) (left all : List (List ℕ)) (xs : List Labelled) (said : Answer) → left ≡ [] →
+    TakenSoFar old new left all xs said → TakesAll old new all xs (Ok said)
+all_taken old new left all xs said none so_far =
+    let result : Result Taken Fault = Ok so_far.taken in (
+      so_far.taken,
+      so_far.goes_on new result (subst (λ paths. IsTaking new new so_far.taken paths result) (sym none) (refl, refl)),
+      so_far.holds,
+    )
 
 -- memory ran out, if taking ended
 pub taking_memory : (old new : History) (taken : Taken) (paths : List (List ℕ)) (fault : Fault) →
@@ -54,9 +64,9 @@ takes_unread old new path objects fault result (why, grows, inr memory) is =
     (Err (failed_at program path (unread_text why)), inr (why, grows, refl), inr (is ∙ ap ended memory))
 
 takes_none_by : (old new : History) (path : List ℕ) (objects : List Labelled) (fault : Fault) (result : Result (Unit {0}) Fault)
-    (found : Result Contents Answer) → TakesAt old new path found → Faults found fault → result ≡ Err fault →
+    (found : Result (List ℕ) Answer) → TakesAt old new path found → Faults found fault → result ≡ Err fault →
     TakesOne old new path objects objects result
-takes_none_by old new path objects fault result (Ok object) takes memory is = (Ok object, takes, inr (is ∙ ap ended memory))
+takes_none_by old new path objects fault result (Ok bytes) takes memory is = (Ok bytes, takes, inr (is ∙ ap ended memory))
 takes_none_by old new path objects fault result (Err answer) takes (inl answered) is =
     (Err answer, takes, inl (is ∙ ap ended answered, refl))
 takes_none_by old new path objects fault result (Err answer) takes (inr memory) is = (Err answer, takes, inr (is ∙ ap ended memory))
@@ -64,66 +74,93 @@ takes_none_by old new path objects fault result (Err answer) takes (inr memory) 
 -- it is not an object
 pub takes_none : (old new : History) (path bytes seen : List ℕ) (objects : List Labelled) (fault : Fault)
     (result : Result (Unit {0}) Fault) →
-    seen ≡ bytes → ReadsAt old new path bytes → Faults (object_in path seen) fault → result ≡ Err fault →
+    seen ≡ bytes → ReadsAt old new path bytes → Faults (input_in path seen) fault → result ≡ Err fault →
     TakesOne old new path objects objects result
 takes_none old new path bytes seen objects fault result same reads faulty is =
-    takes_none_by old new path objects fault result (object_in path bytes) (inl (bytes, reads, refl))
-    (subst (λ (b : List ℕ). Faults (object_in path b) fault) same faulty) is
+    takes_none_by old new path objects fault result (input_in path bytes) (inl (bytes, reads, refl))
+    (subst (λ (b : List ℕ). Faults (input_in path b) fault) same faulty) is
 
 -- there is no memory for its object
 pub takes_out : (old new : History) (path bytes : List ℕ) (before after : List Labelled) (result : Result (Unit {0}) Fault) →
     ReadsAt old new path bytes → result ≡ Err (faults.Memory refused) → TakesOne old new path before after result
-takes_out old new path bytes before after result reads memory = (object_in path bytes, inl (bytes, reads, refl), inr memory)
+takes_out old new path bytes before after result reads memory = (input_in path bytes, inl (bytes, reads, refl), inr memory)
 
 -- its object is taken
 pub takes_object : (old new : History) (path bytes : List ℕ) (object : Contents) (before after : List Labelled) →
-    ReadsAt old new path bytes → object_in path bytes ≡ Ok object → after ≡ before ++ record { label = path; object = object } ∷ [] →
+    ReadsAt old new path bytes → object_in (decode bytes) ≡ Ok object → after ≡ before ++ record { label = path; object = object } ∷ [] →
     TakesOne old new path before after (Ok tt)
-takes_object old new path bytes object before after reads is grows = (Ok object, inl (bytes, reads, sym is), inl (refl, grows))
+takes_object old new path bytes object before after reads is grows =
+    (Ok bytes, inl (bytes, reads, ap (if_object path bytes) (sym is)), inl (refl, (object, is, grows)))
 
 -- ---- and what is said of it
 
+-- nothing, if it is
+pub next_taken : (E : Type 0) → (old new : History) (path : List ℕ) (before after : List Labelled) (said : Answer) →
+    TakesOne old new path before after (Ok tt) → TakesNext {E = E} old new path before after said said (Ok tt)
+next_taken E old new path before after said (Ok bytes, takes, inl (same, grows)) = (Ok bytes, takes, (grows, refl))
+next_taken E old new path before after said (Err answer, takes, inl (never, same)) = absurd (cc)
+next_taken E old new path before after said (found, takes, inr never) = absurd (cc)
+
 -- it is not, and what is said of it is added
-pub next_said : (E : Type 0) → (old new : History) (path : List ℕ) (before after : List Labelled) (said more longer : Answer) →
+next_said : (E : Type 0) → (old new : History) (path : List ℕ) (before after : List Labelled) (said more longer : Answer) →
     TakesOne old new path before after (Err (faults.Answered more)) → longer ≡ joined said more →
-    TakesNext {E = E} old new (record { objects = before; said = said }) path (record { objects = after; said = longer }) (Ok tt)
-next_said E old new path before after said more longer (Ok object, takes, inl (never, grows)) is = absurd (cc)
+    TakesNext {E = E} old new path before after said longer (Ok tt)
+next_said E old new path before after said more longer (Ok bytes, takes, inl (never, grows)) is = absurd (cc)
 next_said E old new path before after said more longer (Err answer, takes, inl (ends, same)) is =
-    let one : more ≡ answer = cc in (
-      Err answer,
-      takes,
-      ap (λ (os : List Labelled). let taken : Taken = record { objects = os; said = longer } in taken) same
-          ∙ ap (λ (a : Answer). let taken : Taken = record { objects = before; said = a } in taken) (is ∙ ap (joined said) one),
-    )
+    let one : more ≡ answer = cc in (Err answer, takes, (same, is ∙ ap (joined said) one))
 next_said E old new path before after said more longer (found, takes, inr never) is = absurd (cc)
 
 -- there is no memory for that
-pub next_out : {E : Type 0} → (old new : History) (path : List ℕ) (before after : List Labelled) (result : Result (Unit {0}) Fault)
-    (taken longer : Taken) (error : E) →
-    TakesOne old new path before after result → TakesNext old new taken path longer (Err error)
-next_out old new path before after result taken longer error (found, takes, ends) = (found, takes, tt)
+pub next_out : {E : Type 0} → (old new : History) (path : List ℕ) (before after : List Labelled) (said longer : Answer)
+    (result : Result (Unit {0}) Fault) (error : E) →
+    TakesOne old new path before after result → TakesNext old new path before after said longer (Err error)
+next_out old new path before after said longer result error (found, takes, ends) = (found, takes, tt)
 
 -- it is not, and there may be no memory for what is said of it
 pub next_joined : (E : Type 0) → (old new : History) (path : List ℕ) (before after : List Labelled) (said more longer : Answer)
     (result : Result (Unit {0}) E) → TakesOne old new path before after (Err (faults.Answered more)) →
-    OnOk result (longer ≡ joined said more) →
-    TakesNext {E = E} old new (record { objects = before; said = said }) path (record { objects = after; said = longer }) result
+    OnOk result (longer ≡ joined said more) → TakesNext {E = E} old new path before after said longer result
 next_joined E old new path before after said more longer (Ok tt) takes is = next_said E old new path before after said more longer takes is
 next_joined E old new path before after said more longer (Err error) takes is =
-    next_out old new path before after (Err (faults.Answered more)) (record { objects = before; said = said })
-    (record { objects = after; said = longer }) error takes
+    next_out old new path before after said longer (Err (faults.Answered more)) error takes
 
--- one after another
-pub taking_next : (E : Type 0) → (old mid next : History) (start taken after : Taken) (left later all : List (List ℕ)) (path : List ℕ)
-    (result : Result (Unit {0}) E) → GoesOn old mid start taken left all → left ≡ path ∷ later →
-    TakesNext {E = E} mid next taken path after result → IsOk result → GoesOn old next start after later all
-taking_next E old mid next start taken after left later all path (Ok tt) inv e (found, takes, same) ok new result h =
-    taking_more old mid next start taken left later all path found inv e takes new result
-    (subst (λ t. IsTaking next new t later result) same h)
-taking_next E old mid next start taken after left later all path (Err error) inv e (found, takes, same) ok new result h = absurd (cc)
+-- ---- one more file
 
-pub taking_out : (E : Type 0) → (old mid new : History) (start taken after : Taken) (left later all : List (List ℕ)) (path : List ℕ)
-    (result : Result (Unit {0}) E) → GoesOn old mid start taken left all → left ≡ path ∷ later →
-    TakesNext {E = E} mid new taken path after result → IsTaking old new start all (Err (faults.Memory refused))
-taking_out E old mid new start taken after left later all path result inv e (found, takes, same) =
-    taking_ends old mid new start taken left later all path found inv e takes
+have_more : (is : List (List ℕ × List ℕ)) (xs : List Labelled) (path bytes : List ℕ) (object : Contents) →
+    object_in (decode bytes) ≡ Ok object → HaveObjects is xs →
+    HaveObjects (is ++ (path, bytes) ∷ []) (xs ++ record { label = path; object = object } ∷ [])
+have_more [] [] path bytes object e have = (refl, e, tt)
+have_more [] (x ∷ xs) path bytes object e have = absurd have
+have_more (i ∷ is) [] path bytes object e have = absurd have
+have_more (i ∷ is) (x ∷ xs) path bytes object e (label, read, rest) = (label, read, have_more is xs path bytes object e rest)
+
+holds_next : (path : List ℕ) (before after : List Labelled) (said longer : Answer) (taken : Taken) (found : Result (List ℕ) Answer) →
+    AddsOrSays path before after said longer found → Holds before said taken → Holds after longer (with_found taken path found)
+holds_next path before after said longer taken (Ok bytes) ((object, is, grows), same) holds = record {
+  objects = subst (HaveObjects (taken.inputs ++ (path, bytes) ∷ [])) (sym grows)
+      (have_more taken.inputs before path bytes object is holds.objects);
+  said = holds.said ∙ sym same;
+}
+holds_next path before after said longer taken (Err answer) (same, says) holds = record {
+  objects = subst (HaveObjects taken.inputs) (sym same) holds.objects;
+  said = ap (λ (a : Answer). joined a answer) holds.said ∙ sym says;
+}
+
+pub taking_next : (E : Type 0) → (old mid next : History) (left later all : List (List ℕ)) (path : List ℕ) (before after : List Labelled)
+    (said longer : Answer) (result : Result (Unit {0}) E) → TakenSoFar old mid left all before said → left ≡ path ∷ later →
+    TakesNext {E = E} mid next path before after said longer result → IsOk result → TakenSoFar old next later all after longer
+taking_next E old mid next left later all path before after said longer (Ok tt) so_far e (found, takes, adds) ok = record {
+  taken = with_found so_far.taken path found;
+  holds = holds_next path before after said longer so_far.taken found adds so_far.holds;
+  goes_on = λ new result is.
+      so_far.goes_on new result (subst (λ paths. IsTaking mid new so_far.taken paths result) (sym e) (found, next, takes, inr is));
+}
+taking_next E old mid next left later all path before after said longer (Err error) so_far e takes ok = absurd (cc)
+
+-- memory runs out after it
+pub taking_out : (E : Type 0) → (old mid new : History) (left later all : List (List ℕ)) (path : List ℕ) (before after : List Labelled)
+    (said longer : Answer) (result : Result (Unit {0}) E) → TakenSoFar old mid left all before said → left ≡ path ∷ later →
+    TakesNext {E = E} mid new path before after said longer result → IsTaking old new nothing_taken all (Err (faults.Memory refused))
+taking_out E old mid new left later all path before after said longer result so_far e (found, takes, adds) =
+    let out : Result Taken Fault = Err (faults.Memory refused) in
+    so_far.goes_on new out (subst (λ paths. IsTaking mid new so_far.taken paths out) (sym e) (found, new, takes, inl (refl, refl)))

@@ -2,15 +2,15 @@
 --
 -- The files are those that `ld` takes with the same arguments. Each is read whole before the next one is opened. There is a map if all are
 -- objects; else the answer has a line for each that is not. If names are asked for, the map has only these.
-use Rattle.std.specs.Prelude.{◌≡◌, ◌⊎◌, ℕ, List, [], ◌∷◌, ◌++◌, eqb, map, max, Option, Some, None, Result, Ok, Err, codes, string_bytes}
-use Rattle.aout_core.specs.{Contents.Contents, Decoding.decode, WellFormed.first_object_fault, declared.file.ReadFault.ReadFault}
-use Rattle.aout_core.specs.{declared.object.ObjectFault.ObjectFault, FaultTexts.object_text, FaultTexts.read_text, Refusals.refused}
+use Rattle.std.specs.Prelude.{◌≡◌, ◌⊎◌, ℕ, List, [], ◌∷◌, ◌++◌, eqb, map, max, Option, Result, Ok, Err, codes, string_bytes}
+use Rattle.aout_core.specs.{Contents.Contents, Decoding.decode, FaultTexts.object_text, FaultTexts.read_text, Refusals.refused}
 use Rattle.command_words.specs.Calls.{AsksForNone, IsAsked, IsWhole, dashes_in, files_of}
 use Rattle.command_words.specs.{declared.fault.WordsFault.TheVariants.Usage, declared.words.Call.Call, declared.words.Call.TheVariants.Ld}
-use Rattle.link_maps.specs.Taking.{Split, split, split_of}
-use Rattle.link_maps.specs.{Maps.IsMapOf, declared.map.LinkMap.LinkMap, declared.members.Objects.Objects}
-use Rattle.link_out.specs.{declared.linked.LinkFault.LinkFault, function.Link.Outcome, function.Link.link, function.Reports.status_of}
-use Rattle.link_session.specs.{declared.entry.AddFault.AddFault, Labelled.Labelled, Labelled.objects}
+use Rattle.link_maps.specs.{Links.ShowsLink, Maps.IsMapOf, Members.all_of, Taking.split, Taking.split_of}
+use Rattle.link_maps.specs.{declared.map.LinkMap.LinkMap, declared.members.Objects.Objects}
+use Rattle.link_out.specs.Inputs.{Cause, Refusal, bad_file, bad_object, linked, object_in}
+use Rattle.link_out.specs.{function.Link.Outcome, function.Reports.status_of}
+use Rattle.link_session.specs.Labelled.{Labelled}
 use Rattle.map_texts.specs.MapTexts.{absent_names, map_text, names_map}
 use Rattle.surroundings.specs.{Answer.Answer, Answers.AnswersOr, Answers.failed_at, Answers.only_errors, Answers.says_usage, Events.History}
 use Rattle.surroundings.specs.{Events.Extends, Events.opened, Sources.ReadsAt, Sources.unread_text, declared.answer.Fault.Fault}
@@ -24,58 +24,60 @@ use Rattle.surroundings.specs.declared.answer.Fault.TheVariants as faults
 abbrev pub refused_for : List ℕ → List ℕ → Answer
 refused_for path text = only_errors (line_of path text) 1
 
-abbrev pub if_object : List ℕ → Contents → Option ObjectFault → Result Contents Answer
-if_object path c None = Ok c
-if_object path c (Some fault) = Err (refused_for path (object_text fault))
+-- what is said of bytes that are not an object; the other causes do not follow from bytes
+abbrev pub cause_text : Cause → List ℕ
+cause_text (bad_file fault) = read_text fault
+cause_text (bad_object fault) = object_text fault
+cause_text _ = []
 
-abbrev pub if_file : List ℕ → Result Contents ReadFault → Result Contents Answer
-if_file path (Ok c) = if_object path c (first_object_fault c)
-if_file path (Err fault) = Err (refused_for path (read_text fault))
+-- the bytes of a file, if they have an object; or why they do not
+abbrev pub if_object : List ℕ → List ℕ → Result Contents Cause → Result (List ℕ) Answer
+if_object path bytes (Ok o) = Ok bytes
+if_object path bytes (Err cause) = Err (refused_for path (cause_text cause))
 
--- the object in the bytes of a file, or why there is none
-abbrev pub object_in : List ℕ → List ℕ → Result Contents Answer
-object_in path bytes = if_file path (decode bytes)
+abbrev pub input_in : List ℕ → List ℕ → Result (List ℕ) Answer
+input_in path bytes = if_object path bytes (object_in (decode bytes))
 
 -- the file at a path is read, or it is not opened or not read
-abbrev pub TakesAt : History → History → List ℕ → Result Contents Answer → Type 0
+abbrev pub TakesAt : History → History → List ℕ → Result (List ℕ) Answer → Type 0
 TakesAt old new path found =
-    ((bytes : List ℕ) × ReadsAt old new path bytes × (found ≡ object_in path bytes))
+    ((bytes : List ℕ) × ReadsAt old new path bytes × (found ≡ input_in path bytes))
     ⊎ ((why : Option (Option (List ℕ))) × Extends old new (opened path why ∷ []) × (found ≡ Err (failed_at program path (unread_text why))))
 
--- the objects so far, and what was said of files that are not objects
+-- the inputs so far, and what was said of files that are not objects
 pub record Taken : Type 0 where
-  pub objects : List Labelled
+  pub inputs : List (List ℕ × List ℕ)
   pub said : Answer
 
-abbrev pub with_found : Taken → List ℕ → Result Contents Answer → Taken
-with_found taken path (Ok o) = record taken { objects = taken.objects ++ record { label = path; object = o } ∷ [] }
+abbrev pub with_found : Taken → List ℕ → Result (List ℕ) Answer → Taken
+with_found taken path (Ok bytes) = record taken { inputs = taken.inputs ++ (path, bytes) ∷ [] }
 with_found taken path (Err answer) = record taken { said = joined taken.said answer }
 
 -- these files are taken after others: what there is then, or memory runs out
 abbrev pub IsTaking : History → History → Taken → List (List ℕ) → Result Taken Fault → Type 0
 IsTaking old new taken [] result = (new ≡ old) × (result ≡ Ok taken)
 IsTaking old new taken (path ∷ paths) result =
-    (found : Result Contents Answer) × (between : History) × TakesAt old between path found
+    (found : Result (List ℕ) Answer) × (between : History) × TakesAt old between path found
     × (((new ≡ between) × (result ≡ Err (faults.Memory refused))) ⊎ IsTaking between new (with_found taken path found) paths result)
 
 -- ---- the map
 
-abbrev pub status_linked : Result Outcome LinkFault → ℕ
-status_linked (Ok made) = status_of made.report
-status_linked (Err fault) = 1
-
-abbrev pub status_by : Option AddFault → Result Outcome LinkFault → ℕ
-status_by None made = status_linked made
-status_by (Some limit) made = 1
-
 -- 0 for a link with nothing to report, and 1 for one that is refused too
-abbrev pub map_status : List (List ℕ) → Choices → Split → ℕ
-map_status forced choices s = status_by s.cause (link forced (objects s.kept) choices)
+abbrev pub status_linked : Result Outcome Refusal → ℕ
+status_linked (Ok made) = status_of made.report
+status_linked (Err refusal) = 1
 
--- these objects, as a session with these forced names takes them
-pub record AreTaken (forced : List (List ℕ)) (xs : List Labelled) (o : Objects) : Type 0 where
+-- these inputs have these objects, each with its path
+abbrev pub HaveObjects : List (List ℕ × List ℕ) → List Labelled → Type 0
+HaveObjects [] [] = Unit {0}
+HaveObjects (i ∷ is) (x ∷ xs) = (x.label ≡ i.0) × (object_in (decode i.1) ≡ Ok x.object) × HaveObjects is xs
+HaveObjects _ _ = ⊥
+
+-- the objects of these inputs, as a session with these forced names takes them
+pub record AreTaken (forced : List (List ℕ)) (inputs : List (List ℕ × List ℕ)) (o : Objects) : Type 0 where
   pub forced_names : o.session.forced ≡ forced
-  pub taken : split_of o ≡ split forced xs
+  pub objects : HaveObjects inputs (all_of o)
+  pub taken : split_of o ≡ split forced (all_of o)
 
 -- the text of a map: the whole one, or only the names that are asked for
 abbrev pub text_asked : List (List ℕ) → Choices → Objects → LinkMap → List ℕ
@@ -95,20 +97,20 @@ abbrev pub answer_of : List (List ℕ) → Choices → Objects → LinkMap → �
 answer_of asked choices o m status =
     record { output = text_asked asked choices o m; errors = []; status = status_asked asked m status }
 
--- that is the answer; or memory ran out for it
-abbrev pub IsMap : List (List ℕ) → List (List ℕ) → Choices → List Labelled → Result Answer Fault → Type 0
-IsMap asked forced choices xs result =
+-- the map shows the link that `ld` makes of these inputs, and has its status; or memory ran out for it
+abbrev pub IsMap : List (List ℕ) → List (List ℕ) → Choices → List (List ℕ × List ℕ) → Result Answer Fault → Type 0
+IsMap asked forced choices inputs result =
     (result ≡ Err (faults.Memory refused))
-    ⊎ ((o : Objects) × (m : LinkMap) × AreTaken forced xs o × IsMapOf o forced choices m
-    × (result ≡ Ok (answer_of asked choices o m (map_status forced choices (split forced xs)))))
+    ⊎ ((o : Objects) × (m : LinkMap) × AreTaken forced inputs o × IsMapOf o forced choices m × ShowsLink forced choices inputs o m.outcome
+    × (result ≡ Ok (answer_of asked choices o m (status_linked (linked forced inputs choices)))))
 
 -- there is a map if each file is an object
 abbrev pub MapsTaken : List (List ℕ) → List (List ℕ) → Choices → Result Answer Fault → Taken → Type 0
 MapsTaken asked forced choices result taken =
-    either (eqb taken.said.status 0) (IsMap asked forced choices taken.objects result) (result ≡ Ok taken.said)
+    either (eqb taken.said.status 0) (IsMap asked forced choices taken.inputs result) (result ≡ Ok taken.said)
 
 abbrev pub nothing_taken : Taken
-nothing_taken = record { objects = []; said = nothing_said }
+nothing_taken = record { inputs = []; said = nothing_said }
 
 abbrev pub IsMapping : List (List ℕ) → List (List ℕ) → Choices → List (List ℕ) → History → History → Result Answer Fault → Type 0
 IsMapping asked forced choices paths old new result =

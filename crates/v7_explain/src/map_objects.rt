@@ -1,15 +1,16 @@
 //! The objects of a link, from their files.
-ghost use Rattle.std.specs.Prelude.{◌≡◌, ◌≢◌, IfErr, IfOk, Err, Ok, map, string_bytes};
+ghost use Rattle.std.specs.Prelude.{◌≡◌, ◌≢◌, [], IfErr, IfOk, Err, Ok, map, string_bytes};
+ghost use Rattle.aout_core.specs.Decoding.{decode};
 ghost use Rattle.aout_core.specs.FaultTexts.{object_text, read_text};
 ghost use Rattle.aout_core.specs.Refusals.{refused};
 ghost use Rattle.link_maps.specs.Members.{all_of};
+ghost use Rattle.link_out.specs.Inputs.{object_in};
 ghost use Rattle.surroundings.specs.Answers.{Faults};
 ghost use Rattle.surroundings.specs.declared.answer.Fault.TheVariants.{Memory};
 ghost use Rattle.texts.specs.Texts.{Puts};
 ghost use Rattle.v7_explain.specs.Files.{line_of};
-ghost use Rattle.v7_explain.specs.Joined.{nothing_said};
-ghost use Rattle.v7_explain.specs.Maps.{IsTaking, object_in, refused_for};
-ghost use Rattle.v7_explain.specs.internal.Takes.{KeepsSplit, TakesNext, TakesOne, taken_by, taken_of};
+ghost use Rattle.v7_explain.specs.Maps.{input_in, refused_for};
+ghost use Rattle.v7_explain.specs.internal.Takes.{KeepsSplit, TakesAll, TakesNext, TakesOne};
 
 use crate::explaining::{join, nothing_said};
 use crate::program::NAME;
@@ -50,8 +51,8 @@ fn not_fit(alloc: Global, path: &str, fault: ObjectFault) -> Result<Answer, Allo
 
 /// The object in the bytes of a file, or why there is none.
 fn object_in(alloc: Global, path: &str, bytes: &[u8]) -> Result<Object, Fault>
-    ensures ok { IfOk result (λ object. object_in path.now bytes.now ≡ Ok object) }
-    ensures err { IfErr result (λ fault. Faults (object_in path.now bytes.now) fault) }
+    ensures ok { IfOk result (λ object. object_in (decode bytes.now) ≡ Ok object) }
+    ensures err { IfErr result (λ fault. Faults (input_in path.now bytes.now) fault) }
 {
     let file = match decode_file(alloc, bytes)? {
         Ok(file) => file,
@@ -90,8 +91,8 @@ fn take_next<O: Office>(
     said: &mut Answer,
     path: &str,
 ) -> Result<(), AllocError>
-    ensures taken { TakesNext (O.history office.old) (O.history office.new)
-        (taken_of objects.old said.old) path.now (taken_of objects.new said.new) result }
+    ensures taken { TakesNext (O.history office.old) (O.history office.new) path.now
+        (all_of objects.old) (all_of objects.new) said.old said.new result }
     ensures forced { objects.new.session.forced ≡ objects.old.session.forced }
     ensures split { IfOk result (λ _. KeepsSplit objects.old → KeepsSplit objects.new) }
 {
@@ -109,9 +110,8 @@ pub(crate) fn take_objects<O: Office>(
     objects: &mut Objects,
     paths: &[String],
 ) -> Result<Answer, Fault>
-    ensures taken { IsTaking (O.history office.old) (O.history office.new)
-        (taken_of objects.old nothing_said)
-        (map string_bytes paths.now) (taken_by objects.new result) }
+    ensures taken { all_of objects.old ≡ [] → TakesAll (O.history office.old) (O.history office.new)
+        (map string_bytes paths.now) (all_of objects.new) result }
     ensures forced { objects.new.session.forced ≡ objects.old.session.forced }
     ensures split { IfOk result (λ _. KeepsSplit objects.old → KeepsSplit objects.new) }
 {

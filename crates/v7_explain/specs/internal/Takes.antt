@@ -1,37 +1,49 @@
 -- Objects that are taken one after another.
 use Rattle.std.specs.Prelude.{◌≡◌, ◌⊎◌, ℕ, List, [], ◌∷◌, ◌++◌, Option, Some, None, Result, Ok, Err, IfOk}
-use Rattle.aout_core.specs.{Contents.Contents, Refusals.refused}
+use Rattle.aout_core.specs.{Contents.Contents, Decoding.decode, Refusals.refused}
 use Rattle.link_maps.specs.{Maps.IsMapOf, Members.all_of, Taking.split, Taking.split_of, declared.map.LinkMap.LinkMap}
 use Rattle.link_maps.specs.{declared.members.Objects.Objects, declared.outcome.Outcome.Outcome}
-use Rattle.link_out.specs.{Outcomes.report_names, declared.linked.LinkFault.LinkFault, declared.linked.Linked.Linked}
+use Rattle.link_out.specs.{Inputs.object_in, Outcomes.report_names, declared.linked.LinkFault.LinkFault, declared.linked.Linked.Linked}
 use Rattle.link_out.specs.{function.Reports.status_of}
 use Rattle.link_session.specs.Labelled.{Labelled}
 use Rattle.surroundings.specs.{Answer.Answer, Events.History, declared.answer.Fault.Fault, declared.answer.Fault.TheVariants.Answered}
 use Rattle.surroundings.specs.{declared.answer.Fault.TheVariants.Memory}
 use Rattle.tool_options.specs.Choices.{Choices}
-use Rattle.v7_explain.specs.{Maps.Taken, Maps.TakesAt, Maps.answer_of, Maps.with_found}
+use Rattle.v7_explain.specs.{Joined.joined, Maps.HaveObjects, Maps.IsTaking, Maps.Taken, Maps.TakesAt, Maps.answer_of, Maps.nothing_taken}
 
-abbrev pub taken_of : Objects → Answer → Taken
-taken_of objects said = record { objects = all_of objects; said = said }
-
--- what there is after all were taken
-abbrev pub taken_by : Objects → Result Answer Fault → Result Taken Fault
-taken_by objects (Ok said) = Ok (taken_of objects said)
-taken_by objects (Err fault) = Err fault
+-- the object in the bytes at a path is added
+abbrev pub Grows : List ℕ → List ℕ → List Labelled → List Labelled → Type 0
+Grows path bytes before after =
+    (object : Contents) × (object_in (decode bytes) ≡ Ok object) × (after ≡ before ++ record { label = path; object = object } ∷ [])
 
 -- an object is added, or the fault says why there is none
-abbrev pub Adds : List ℕ → List Labelled → List Labelled → Result Contents Answer → Result (Unit {0}) Fault → Type 0
-Adds path before after (Ok object) result = (result ≡ Ok tt) × (after ≡ before ++ record { label = path; object = object } ∷ [])
+abbrev pub Adds : List ℕ → List Labelled → List Labelled → Result (List ℕ) Answer → Result (Unit {0}) Fault → Type 0
+Adds path before after (Ok bytes) result = (result ≡ Ok tt) × Grows path bytes before after
 Adds path before after (Err answer) result = (result ≡ Err (Answered answer)) × (after ≡ before)
 
 abbrev pub TakesOne : History → History → List ℕ → List Labelled → List Labelled → Result (Unit {0}) Fault → Type 0
 TakesOne old new path before after result =
-    (found : Result Contents Answer) × TakesAt old new path found × (Adds path before after found result ⊎ (result ≡ Err (Memory refused)))
+    (found : Result (List ℕ) Answer) × TakesAt old new path found × (Adds path before after found result ⊎ (result ≡ Err (Memory refused)))
 
--- a file is taken, or what is said of it is added to what was said
-abbrev pub TakesNext : {E : Type 0} → History → History → Taken → List ℕ → Taken → Result (Unit {0}) E → Type 0
-TakesNext old new before path after result =
-    (found : Result Contents Answer) × TakesAt old new path found × IfOk result (λ _. after ≡ with_found before path found)
+-- an object is added, or what is said of its file is added to what was said
+abbrev pub AddsOrSays : List ℕ → List Labelled → List Labelled → Answer → Answer → Result (List ℕ) Answer → Type 0
+AddsOrSays path before after said longer (Ok bytes) = Grows path bytes before after × (longer ≡ said)
+AddsOrSays path before after said longer (Err answer) = (after ≡ before) × (longer ≡ joined said answer)
+
+abbrev pub TakesNext : {E : Type 0} → History → History → List ℕ → List Labelled → List Labelled → Answer → Answer →
+    Result (Unit {0}) E → Type 0
+TakesNext old new path before after said longer result =
+    (found : Result (List ℕ) Answer) × TakesAt old new path found × IfOk result (λ _. AddsOrSays path before after said longer found)
+
+-- these objects, and what was said, are those of what was taken
+pub record Holds (xs : List Labelled) (answer : Answer) (taken : Taken) : Type 0 where
+  pub objects : HaveObjects taken.inputs xs
+  pub said : taken.said ≡ answer
+
+-- all files are taken, or memory runs out
+abbrev pub TakesAll : History → History → List (List ℕ) → List Labelled → Result Answer Fault → Type 0
+TakesAll old new paths xs (Ok said) = (taken : Taken) × IsTaking old new nothing_taken paths (Ok taken) × Holds xs said taken
+TakesAll old new paths xs (Err fault) = IsTaking old new nothing_taken paths (Err fault)
 
 -- the objects were split as they are by their definition
 abbrev pub KeepsSplit : Objects → Type 0

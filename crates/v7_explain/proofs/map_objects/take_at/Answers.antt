@@ -1,9 +1,10 @@
 use Rattle.std.proofs.Common.{rules, ◌≡◌, [], ◌∷◌, ◌++◌, ap, ◌∙◌, string_bytes, subst}
 use Rattle.std.specs.Prelude.{Ok}
+use Rattle.aout_core.specs.Decoding.{decode}
 use Rattle.link_maps.specs.Members.{all_of}
+use Rattle.link_out.specs.Inputs.{object_in}
 use Rattle.link_session.specs.{Labelled.Labelled, Sessions.labelled}
 use Rattle.link_maps.proofs.TakingLemmas.{all_more}
-use Rattle.v7_explain.specs.Maps.{object_in}
 use Rattle.v7_explain.proofs.MapLemmas.{keeps_split}
 use Rattle.v7_explain.proofs.TakingLemmas.{takes_none, takes_object, takes_out, takes_unread}
 use Rattle.v7_explain.proofs.map_objects.take_at.Goals as goal
@@ -20,7 +21,7 @@ returns-clause-taken g c =
     let grown : all_of after ≡ all_of before ++ x ∷ [] = all_more before after x c.in_ok-take.ensures.taken in
     takes_object (g.O.Office.history c.args.office.now)
     (g.O.Office.history c.read_whole.new.office) c.args.path.now bytes object (all_of before) (all_of after)
-    c.in_ok-bytes.ensures.ok (subst (λ b. object_in c.args.path.now b ≡ Ok object) same c.in_ok-object.ensures.ok)
+    c.in_ok-bytes.ensures.ok (subst (λ b. object_in (decode b) ≡ Ok object) same c.in_ok-object.ensures.ok)
     (grown ∙ ap (λ path. all_of before ++ record { label = path; object = object } ∷ []) named)
 
 pub returns-clause-split : goal.returns-clause-split
