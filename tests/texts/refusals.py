@@ -14,7 +14,7 @@ KNOWN = [
     "crates/aout_core/src/refused.rt: error: AllocError,",
     "crates/aout_core/src/refused.rt: io::ErrorKind::OutOfMemory => Some(Refused { error: AllocError }),",
     "crates/command_words/src/fault.rt: ErrorKind::OutOfMemory => WordsFault::Memory(Refused::from(AllocError)),",
-    "crates/loose/src/lib.rt: unsafe { Box::from_raw(alloc, at) }",
+    "crates/v7_c/src/loose.rt: unsafe { Box::from_raw(alloc, at) }",
 ]
 # tests make faults of each kind, and devices that fail in each way
 TESTS = ("crates/device_tests/",)

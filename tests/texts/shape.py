@@ -25,10 +25,10 @@ crates/instructions/proofs/TableLemmas.antt 1
 crates/link_laws/specs/relation/LinkedFrom.antt 1
 crates/listings/specs/Columns.antt 1
 crates/listings/specs/Drafts.antt 1
-crates/loose/proofs/Loose/into_box/Proof.antt 12
-crates/loose/proofs/Loose/of/Proof.antt 13
-crates/loose/proofs/Values.antt 12
+crates/v7_c/proofs/LooseValues.antt 6
 crates/v7_c/proofs/Values.antt 7
+crates/v7_c/proofs/loose/Loose/into_box/Proof.antt 12
+crates/v7_c/proofs/loose/Loose/of/Proof.antt 13
 crates/v7_c/proofs/slot/Slot/empty/Proof.antt 1
 crates/v7_c/proofs/slot/Slot/into_loose/Proof.antt 4
 crates/v7_c/proofs/slot/Slot/of/Proof.antt 3

@@ -39,7 +39,7 @@ INTERNAL = ["internal"]
 # `instructions`, in the laws that compare them with the definitions' tables
 IDS = [("command_words", "words"), ("command_words", "link_words"), ("instructions", "table"), ("instructions", "call_table")]
 # crates whose definitions nobody has to trust: examples, tests and the lesson
-OTHERS = ["v7", "conformance", "loose", "v7_lesson", "library_uses", "device_tests"]
+OTHERS = ["v7", "conformance", "v7_lesson", "library_uses", "device_tests"]
 LIBRARIES = [crate for crates in sections().values() for crate in crates if crate not in OTHERS]
 IMPORT = re.compile(r"^ *(?:pub )?(?:ghost )?use Rattle\.(\w+)\.(specs|proofs)(?:\.([\w.]+?))?(?:\.\{([^}]*)\}|(?: as (\w+))?);?$")
 # in a cell of PROOFS a name: a function or a type, after the module or the type that it is of

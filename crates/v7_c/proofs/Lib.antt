@@ -1,4 +1,5 @@
 pub mod LeftLemmas
 pub mod RunLemmas
 pub mod KeptLemmas
+pub mod LooseValues
 pub mod Values

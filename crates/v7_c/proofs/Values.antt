@@ -26,7 +26,7 @@ use Rattle.std.specs.declared.alloc.Global.{Global}
 use Rattle.std.specs.contracts.alloc.Global as heap
 use Rattle.std.proofs.alloc.Global.TheLaws as heap_laws
 use Rattle.std.specs.contracts.impls.GlobalAllocator.TheImpl.{ghosts}
-use Rattle.loose.proofs.Values.{both}
+use Rattle.v7_c.proofs.LooseValues.{both}
 use Rattle.link_session.specs.Undo.{Kept}
 use Rattle.link_session.specs.contracts.session.Session as session
 use Rattle.v7_c.specs.Slots.{slot_owns}

@@ -3,9 +3,9 @@ ghost use Rattle.std.specs.Prelude.{◌≡◌, None, Some, IsNone, IfSome};
 ghost use Rattle.v7_c.specs.KeptLeft.{kept_by};
 
 use crate::handle::Handle;
+use crate::loose::Loose;
 use crate::slot::Slot;
 use link_session::Session;
-use loose::Loose;
 use std::alloc::Global;
 use std::mem;
 

@@ -8,6 +8,7 @@ mod buffers;
 mod handle;
 mod keep;
 mod kept;
+mod loose;
 mod map;
 mod run;
 mod slot;

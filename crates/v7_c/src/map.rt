@@ -1,9 +1,10 @@
 //! The map of a link, for the request of `v7_run`.
-ghost use Rattle.std.specs.Prelude.{◌≡◌, false, Ok, Err};
+ghost use Rattle.std.specs.Prelude.{◌≡◌, false, Ok};
 ghost use Rattle.v7_c.specs.MapLeft.{IsMapGiven, LeavesMap, answered, counts_of, filled, is_known, is_short, left_in, map_left, map_status};
 
+use crate::answer::Answer;
 use crate::buffers::{NO_ROOM, put};
-use crate::run::{REQUEST, Request, Said};
+use crate::run::{REQUEST, Request};
 use library_calls::{
     Cause, LimitRecord, LinkRequest, MapHead, MapRecords, Mapped, NameRecord, ObjectRecord,
     Refusal, UseRecord, map_link,
@@ -73,6 +74,14 @@ struct RecordCounts {
     limits: usize,
 }
 
+/// None of any kind.
+const NO_RECORDS: RecordCounts = RecordCounts {
+    objects: 0,
+    names: 0,
+    uses: 0,
+    limits: 0,
+};
+
 fn counts_of(records: &MapRecords) -> RecordCounts
     ensures { result ≡ counts_of records.now }
 {
@@ -84,10 +93,10 @@ fn counts_of(records: &MapRecords) -> RecordCounts
     }
 }
 
-/// Answers by a status and a fault, and by how many records there are.
-fn answer_by(answer: &mut MapAnswer<'_>, said: &Said, counts: &RecordCounts) -> u32
-    ensures { left_in result answer.new ≡ answered said.now.status said.now.fault said.now.word
-        said.now.place counts.now (left_in 0 answer.old) }
+/// Answers by a status, by a fault with its word and its place, and by how many records there are.
+fn answer_by(answer: &mut MapAnswer<'_>, status: u32, said: &Answer, counts: &RecordCounts) -> u32
+    ensures { left_in result answer.new ≡ answered status said.now.fault said.now.word said.now.place
+        counts.now (left_in 0 answer.old) }
 {
     answer.fault = said.fault;
     answer.word = said.word;
@@ -96,7 +105,7 @@ fn answer_by(answer: &mut MapAnswer<'_>, said: &Said, counts: &RecordCounts) -> 
     answer.name_count = counts.names;
     answer.use_count = counts.uses;
     answer.limit_count = counts.limits;
-    said.status
+    status
 }
 
 /// Whether a buffer is too short.
@@ -135,41 +144,11 @@ fn leave_map(answer: &mut MapAnswer<'_>, mapped: &Mapped) -> u32
 {
     let counts = counts_of(&mapped.records);
     if is_short(&mapped.records, answer) {
-        let said = Said {
-            status: 2,
-            fault: NO_ROOM,
-            word: 0,
-            place: 0,
-        };
-        return answer_by(answer, &said, &counts);
+        return answer_by(answer, 2, &Answer::given(NO_ROOM, 0, 0), &counts);
     }
     fill(answer, mapped);
-    let said = Said {
-        status: map_status(&mapped.head),
-        fault: 0,
-        word: 0,
-        place: 0,
-    };
-    answer_by(answer, &said, &counts)
-}
-
-/// Answers by a refusal: there are no records.
-fn leave_refusal(answer: &mut MapAnswer<'_>, refusal: Refusal) -> u32
-    ensures { left_in result answer.new ≡ map_left (Err refusal) (left_in 0 answer.old) }
-{
-    let said = Said {
-        status: 2,
-        fault: refusal.cause.number(),
-        word: refusal.cause.word(),
-        place: refusal.place,
-    };
-    let none = RecordCounts {
-        objects: 0,
-        names: 0,
-        uses: 0,
-        limits: 0,
-    };
-    answer_by(answer, &said, &none)
+    let status = map_status(&mapped.head);
+    answer_by(answer, status, &Answer::given(0, 0, 0), &counts)
 }
 
 /// Writes a map, or why there is none.
@@ -178,7 +157,7 @@ fn leave(answer: &mut MapAnswer<'_>, mapped: Result<Mapped, Refusal>) -> u32
 {
     match mapped {
         Ok(mapped) => leave_map(answer, &mapped),
-        Err(refusal) => leave_refusal(answer, refusal),
+        Err(refusal) => answer_by(answer, 2, &Answer::refused(refusal), &NO_RECORDS),
     }
 }
 

@@ -1,10 +1,10 @@
 //! A link: what is asked for, and what it gives, each a struct that begins with its size.
 ghost use Rattle.std.specs.Prelude.{◌≡◌, ◌<◌, false};
-ghost use Rattle.library_calls.specs.Causes.{number_of, word_of};
 ghost use Rattle.library_calls.specs.FileAnswers.{has_bit};
 ghost use Rattle.library_calls.specs.RunAnswers.{results_of};
-ghost use Rattle.v7_c.specs.RunLeft.{IsAnswer, LeavesRun, answer_left, answered, counts_of, filled, has_list, has_places, is_enough, is_known, is_short, left_in, nothing, output_left, results_or, wants_of};
+ghost use Rattle.v7_c.specs.RunLeft.{IsAnswer, LeavesRun, answer_left, answered, counts_of, filled, has_list, has_places, is_enough, is_known, is_short, left_in, output_left, results_or, wants_of};
 
+use crate::answer::Answer;
 use crate::buffers::{NO_ROOM, put};
 use library_calls::{
     Cause, FindingPlace, LinkRequest, ObjectBytes, Refusal, ReportedName, RunResult, Wants,
@@ -130,6 +130,14 @@ struct RunCounts {
     places: usize,
 }
 
+/// None for each buffer.
+const NOTHING: RunCounts = RunCounts {
+    file: 0,
+    report: 0,
+    findings: 0,
+    places: 0,
+};
+
 fn counts_of(given: &RunResult) -> RunCounts
     ensures { result ≡ counts_of (results_of given.now) }
 {
@@ -139,15 +147,6 @@ fn counts_of(given: &RunResult) -> RunCounts
         findings: given.findings.len(),
         places: given.places.len(),
     }
-}
-
-/// A status and a fault, with its word and its place.
-#[derive(Clone, Copy)]
-pub(crate) struct Said {
-    pub(crate) status: u32,
-    pub(crate) fault: u32,
-    pub(crate) word: u32,
-    pub(crate) place: usize,
 }
 
 /// Whether a result of this size has the fields of a list.
@@ -164,10 +163,10 @@ fn has_places(size: usize) -> bool
     PLACES_RESULT <= size
 }
 
-/// Answers by a status and a fault, and by sizes.
-fn answer_by(answer: &mut RunAnswer<'_>, said: &Said, counts: &RunCounts) -> u32
-    ensures { left_in result answer.new ≡ answered said.now.status said.now.fault said.now.word
-        said.now.place counts.now (left_in 0 answer.old) }
+/// Answers by a status, by a fault with its word and its place, and by sizes.
+fn answer_by(answer: &mut RunAnswer<'_>, status: u32, said: &Answer, counts: &RunCounts) -> u32
+    ensures { left_in result answer.new ≡ answered status said.now.fault said.now.word said.now.place
+        counts.now (left_in 0 answer.old) }
 {
     answer.fault = said.fault;
     answer.word = said.word;
@@ -180,7 +179,7 @@ fn answer_by(answer: &mut RunAnswer<'_>, said: &Said, counts: &RunCounts) -> u32
     if has_places(answer.size) {
         answer.place_count = counts.places;
     }
-    said.status
+    status
 }
 
 /// Whether a buffer is too short.
@@ -215,42 +214,11 @@ fn leave_output(answer: &mut RunAnswer<'_>, given: &RunResult) -> u32
 {
     let counts = counts_of(given);
     if is_short(given, answer) {
-        let said = Said {
-            status: 2,
-            fault: NO_ROOM,
-            word: 0,
-            place: 0,
-        };
-        return answer_by(answer, &said, &counts);
+        return answer_by(answer, 2, &Answer::given(NO_ROOM, 0, 0), &counts);
     }
     fill(answer, given);
-    let said = Said {
-        status: u32::from(given.status),
-        fault: 0,
-        word: 0,
-        place: 0,
-    };
-    answer_by(answer, &said, &counts)
-}
-
-/// Answers by a refusal: there is nothing to write.
-fn leave_refusal(answer: &mut RunAnswer<'_>, refusal: Refusal) -> u32
-    ensures { left_in result answer.new ≡ answered 2 (number_of refusal.cause)
-        (word_of refusal.cause) refusal.place nothing (left_in 0 answer.old) }
-{
-    let said = Said {
-        status: 2,
-        fault: refusal.cause.number(),
-        word: refusal.cause.word(),
-        place: refusal.place,
-    };
-    let none = RunCounts {
-        file: 0,
-        report: 0,
-        findings: 0,
-        places: 0,
-    };
-    answer_by(answer, &said, &none)
+    let status = u32::from(given.status);
+    answer_by(answer, status, &Answer::given(0, 0, 0), &counts)
 }
 
 /// Writes what there is, or why there is nothing.
@@ -260,7 +228,7 @@ pub(crate) fn leave(answer: &mut RunAnswer<'_>, given: Result<RunResult, Refusal
 {
     match given {
         Ok(given) => leave_output(answer, &given),
-        Err(refusal) => leave_refusal(answer, refusal),
+        Err(refusal) => answer_by(answer, 2, &Answer::refused(refusal), &NOTHING),
     }
 }
 

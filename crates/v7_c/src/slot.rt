@@ -5,8 +5,8 @@ ghost use Rattle.link_session.specs.Undo.{Kept};
 ghost use Rattle.link_session.specs.contracts.session.Session.{the_row as R};
 ghost use Rattle.v7_c.specs.Slots.{slot_owns};
 
+use crate::loose::Loose;
 use link_session::Session;
-use loose::Loose;
 use std::alloc::Global;
 use std::marker::Model;
 use std::ptr::null_mut;

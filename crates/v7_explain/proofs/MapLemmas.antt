@@ -1,5 +1,5 @@
 -- The objects of a map as a session takes them, and the map of these.
-use Rattle.std.proofs.Common.{◌≡◌, ◌≢◌, ℕ, Bool, true, false, eqb, List, [], ◌∷◌, length, Option, Some, None, map, refl, sym, ap, ◌∙◌}
+use Rattle.std.proofs.Common.{◌≡◌, ◌≢◌, ℕ, Bool, false, eqb, List, [], ◌∷◌, length, Option, Some, None, map, refl, sym, ap, ◌∙◌}
 use Rattle.std.proofs.Common.{◌⊎◌, subst, inl, inr, arith}
 use Rattle.std.proofs.lemmas.Bool.Decides.{nat_tests}
 use Rattle.std.specs.Prelude.{Result, Ok, Err, IfSome, String, Vec, is_some, not}

@@ -2,7 +2,7 @@
 --
 -- The files are those that `ld` takes with the same arguments. Each is read whole before the next one is opened. There is a map if all are
 -- objects; else the answer has a line for each that is not. If names are asked for, the map has only these.
-use Rattle.std.specs.Prelude.{◌≡◌, ◌⊎◌, ℕ, List, [], ◌∷◌, ◌++◌, eqb, map, max, Option, Some, None, Result, Ok, Err, codes, string_bytes}
+use Rattle.std.specs.Prelude.{◌≡◌, ◌⊎◌, ℕ, List, [], ◌∷◌, ◌++◌, eqb, map, max, Option, Result, Ok, Err, codes, string_bytes}
 use Rattle.aout_core.specs.{Contents.Contents, Decoding.decode, FaultTexts.object_text, FaultTexts.read_text, Refusals.refused}
 use Rattle.command_words.specs.Calls.{AsksForNone, IsAsked, IsWhole, dashes_in, files_of}
 use Rattle.command_words.specs.{declared.fault.WordsFault.TheVariants.Usage, declared.words.Call.Call, declared.words.Call.TheVariants.Ld}

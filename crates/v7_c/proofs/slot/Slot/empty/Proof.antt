@@ -22,7 +22,7 @@ use Rattle.core.proofs.cell.Inside.{one}
 use Rattle.std.proofs.raw_atomic.Walks.{proved_at, leaves}
 use Rattle.std.specs.Prelude.{None}
 use Rattle.std.proofs.alloc.Global.TheLaws as heap_laws
-use Rattle.loose.proofs.Values.{both}
+use Rattle.v7_c.proofs.LooseValues.{both}
 use Rattle.v7_c.proofs.Values.{Z, slot_in, null_good}
 use Rattle.v7_c.specs.contracts.slot.Slot.empty.{ended, clauses}
 use Rattle.v7_c.specs.contracts.slot.Slot.empty.Key.{name as #self}

@@ -21,7 +21,7 @@ use Rattle.std.proofs.raw_atomic.Walks.{proved_at, leaves}
 use Rattle.std.specs.Prelude.{Some, IsSome}
 use Rattle.std.proofs.alloc.Global.TheLaws as heap_laws
 use Rattle.std.specs.contracts.impls.GlobalAllocator.TheImpl.{ghosts}
-use Rattle.loose.proofs.Values.{both, loose_good, loose_in}
+use Rattle.v7_c.proofs.LooseValues.{both, loose_good, loose_in}
 use Rattle.v7_c.proofs.Values.{R, Z, slot_out, some_of}
 use Rattle.v7_c.specs.contracts.slot.Slot as slot
 use Rattle.v7_c.specs.contracts.slot.Slot.into_loose.{ended, clauses}

@@ -21,8 +21,8 @@ use Rattle.std.proofs.raw_atomic.Walks.{proved_at, leaves}
 use Rattle.std.specs.Prelude.{Some}
 use Rattle.std.proofs.alloc.Global.TheLaws as heap_laws
 use Rattle.std.specs.contracts.impls.GlobalAllocator.TheImpl.{ghosts}
-use Rattle.loose.specs.contracts.Loose as loose
-use Rattle.loose.proofs.Values.{both, loose_good, loose_out}
+use Rattle.v7_c.specs.contracts.loose.Loose as loose
+use Rattle.v7_c.proofs.LooseValues.{both, loose_good, loose_out}
 use Rattle.v7_c.proofs.Values.{R, Z, slot_in}
 use Rattle.v7_c.specs.contracts.slot.Slot.of.{ended, clauses}
 use Rattle.v7_c.specs.contracts.slot.Slot.of.Key.{name as #self}

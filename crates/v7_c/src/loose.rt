@@ -1,6 +1,4 @@
 //! A box as its pointer.
-#![tactic(auto)]
-
 ghost use Rattle.std.specs.Prelude.{◌≡◌};
 ghost use Rattle.std.specs.Box.Ownership.{box_owns};
 
@@ -8,10 +6,10 @@ use std::alloc::Allocator;
 use std::marker::Model;
 
 /// A box as its pointer, with its fields in sight.
-pub struct Loose<T, A: Allocator> {
-    pub at: *mut T,
-    pub alloc: A,
-    pub ghost value: { T },
+pub(crate) struct Loose<T, A: Allocator> {
+    pub(crate) at: *mut T,
+    pub(crate) alloc: A,
+    pub(crate) ghost value: { T },
 }
 
 impl<T, A: Allocator> Model for Loose<T, A> {
@@ -20,7 +18,7 @@ impl<T, A: Allocator> Model for Loose<T, A> {
 
 impl<T: Drop, A: Allocator> Loose<T, A> {
     /// What a box owns.
-    pub fn of(value: Box<T, A>) -> Loose<T, A>
+    pub(crate) fn of(value: Box<T, A>) -> Loose<T, A>
         ensures { result.value ≡ value.value }
     {
         let (at, alloc) = Box::into_raw_with_allocator(value);
@@ -28,7 +26,7 @@ impl<T: Drop, A: Allocator> Loose<T, A> {
     }
 
     /// The box again.
-    pub fn into_box(self) -> Box<T, A>
+    pub(crate) fn into_box(self) -> Box<T, A>
         ensures { result.value ≡ self.value }
     {
         let Loose { at, alloc } = self;
