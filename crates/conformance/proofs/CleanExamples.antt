@@ -1,6 +1,6 @@
--- The law of clean programs at three objects, and the law without one of its premises, which does not hold: that nothing is suspicious for
--- sure, that control stays within each text, after `sys fork` too, that jumps and calls refer to text, that the entry point is a symbol of
--- text, and that no name is multiply defined. Whether the others are needed is not shown: kept symbols, words of 16 bits, a text that fits.
+-- The law of clean programs at three objects. Without one of these premises it does not hold: nothing is suspicious for sure, control stays
+-- within each text, after `sys fork` too, jumps and calls refer to text, the entry point is a symbol of text, no name is multiply defined.
+-- Whether the others are needed is not shown: kept symbols, words of 16 bits, a text of at most 65,535 bytes.
 use Rattle.std.proofs.Common.{◌≡◌, ◌≢◌, ℕ, ◌+◌, ◌*◌, ◌/◌, ◌<◌, ◌≤◌, ◌⊎◌, inl, inr, Bool, true, false, eqb, nat_lt, List, [], ◌∷◌, ◌++◌, length}
 use Rattle.std.proofs.Common.{map, Option, Some, None, refl, sym, ap, ◌∙◌, subst, arith}
 use Rattle.std.proofs.{lemmas.Bool.or_cases, lemmas.Bool.eqb-true, lemmas.Bool.ltb-true, lemmas.Bool.ltb-false, lemmas.Option.same_Some}
