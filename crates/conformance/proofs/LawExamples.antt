@@ -1,5 +1,5 @@
 -- The laws at samples: their premises can be met.
-use Rattle.std.specs.Prelude.{◌≡◌, ℕ, ◌<◌, true, false, List, [], ◌∷◌, ◌++◌, take, drop, Ok, Err, refl, nat_lt, Result}
+use Rattle.std.specs.Prelude.{◌≡◌, ℕ, ◌<◌, Bool, true, false, List, [], ◌∷◌, ◌++◌, take, drop, Ok, Err, refl, nat_lt, Result}
 use Rattle.std.specs.List.{AllByRecursion, list_all}
 use Rattle.std.proofs.lemmas.Bool.{and_parts, ltb-true}
 use Rattle.aout_core.specs.{Contents.Contents, Encoding.encoding, Encodes.Encodes, Decoding.decode}
@@ -63,11 +63,14 @@ odd_bytes = take 18 (encoding one_name) ++ (0 ∷ 7 ∷ 1 ∷ 0 ∷ 0 ∷ 9 ∷ 
 odd_bytes_read : decode odd_bytes ≡ Ok one_name
 odd_bytes_read = refl
 
+-- what a test shows of each of a list
+pub all_so : {A : Type 0} (test : A → Bool) (Q : A → Type 0) → ((x : A) → test x ≡ true → Q x) →
+    (xs : List A) → list_all test xs ≡ true → AllByRecursion Q xs
+all_so test Q so [] h = tt
+all_so test Q so (x ∷ xs) h = let parts = and_parts (test x) (list_all test xs) h in (so x parts.0, all_so test Q so xs parts.1)
+
 pub below : (bytes : List ℕ) → list_all (λ (b : ℕ). nat_lt b 256) bytes ≡ true → AllByRecursion (λ (b : ℕ). b < 256) bytes
-below [] h = tt
-below (b ∷ bs) h =
-    let parts = and_parts (nat_lt b 256) (list_all (λ (x : ℕ). nat_lt x 256) bs) h in
-    (ltb-true b 256 parts.0, below bs parts.1)
+below bytes h = all_so (λ (b : ℕ). nat_lt b 256) (λ (b : ℕ). b < 256) (λ b e. ltb-true b 256 e) bytes h
 
 odd_bytes_encode : Encodes odd_bytes one_name
 odd_bytes_encode = decoded_is_encoded odd_bytes one_name (below odd_bytes refl) refl

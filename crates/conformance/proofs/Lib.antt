@@ -23,4 +23,5 @@ mod TextExamples
 mod InstructionExamples
 mod TableExamples
 mod ReachedExamples
+mod CleanExamples
 mod SessionLawExamples

@@ -12,7 +12,7 @@ use Rattle.link_session.specs.{declared.cell.Cell.Cell, Labelled.Labelled, Marks
 use Rattle.link_session.specs.{Undo.AreMarksOf, declared.mark.Mark.Mark}
 use Rattle.tool_options.specs.Choices.{Choices}
 use Rattle.link_out.specs.{declared.linked.Linked.Linked, declared.linked.LinkFault.TheVariants.DoesNotFit}
-use Rattle.link_out.specs.{Outcomes.outcome_of as result_of, function.Link.link, function.Reports.line, Inputs.linked, Inputs.with_input}
+use Rattle.link_out.specs.{Outcomes.outcome_of as result_of, function.Link.link, function.Reports.line, Inputs.with_input}
 use Rattle.surroundings.specs.Events.{Event, Opened, opened, opens, stored}
 use Rattle.surroundings.specs.declared.office.Stored.TheVariants.{Kept}
 use Rattle.v7tools.specs.Answers.{Stepped, Verdict, add_step, done, link_step}

@@ -1,0 +1,457 @@
+-- The law of clean programs at three objects. Without one of these premises it does not hold: nothing is suspicious for sure, control stays
+-- within each text, after `sys fork` too, jumps and calls refer to text, the entry point is a symbol of text, no name is multiply defined.
+-- Whether the others are needed is not shown: kept symbols, words of 16 bits, a text of at most 65,535 bytes.
+use Rattle.std.proofs.Common.{◌≡◌, ◌≢◌, ℕ, ◌+◌, ◌*◌, ◌/◌, ◌<◌, ◌≤◌, ◌⊎◌, inl, inr, Bool, true, false, eqb, nat_lt, List, [], ◌∷◌, ◌++◌, length}
+use Rattle.std.proofs.Common.{map, Option, Some, None, refl, sym, ap, ◌∙◌, subst, arith}
+use Rattle.std.proofs.{lemmas.Bool.or_cases, lemmas.Bool.eqb-true, lemmas.Bool.ltb-true, lemmas.Bool.ltb-false, lemmas.Option.same_Some}
+use Rattle.std.specs.{Prelude.slice_get, Prelude.slice_index, Prelude.IfSome, Prelude.Ok, List.AllByRecursion, List.list_all, List.list_any}
+use Rattle.aout_core.specs.{declared.symbol.Symbol.Symbol, declared.symbol.Segment.TheVariants.TextSeg, declared.reloc.Reloc.Reloc}
+use Rattle.aout_core.specs.{Contents.Contents, Contents.IsWord, WellFormed.is_external}
+use Rattle.link_session.specs.{Starts.total, Sessions.IsObject}
+use Rattle.tool_options.specs.{declared.options.Keep.TheVariants.Nothing, Choices.Choices}
+use Rattle.link_out.specs.{Results.Outcome, function.Link.link}
+use Rattle.link_laws.specs.relation.LinkedFrom.{IsLinkedFrom}
+use Rattle.link_laws.proofs.LinkedTheorem.{linked_exactly}
+use Rattle.instructions.specs.{declared.mode.Addressing.Addressing, declared.operand.Operand.Operand, declared.line.Line.TheVariants.Decoded}
+use Rattle.instructions.specs.declared.mode.Addressing.TheVariants.{Absolute, Relative}
+use Rattle.instructions.specs.{declared.unix.Decoder.TheVariants.Unix, declared.unix.UnixLine.UnixLine}
+use Rattle.instructions.specs.declared.unix.UnixLine.TheVariants.{Machine, Call}
+use Rattle.instructions.specs.{declared.call.SystemCall.SystemCall, declared.call.SystemCall.TheVariants.Fork}
+use Rattle.instructions.specs.{declared.call_table.CallRow.CallRow, Rows.begins as in_row, Rows.row_of, UnixLines.call_of}
+use Rattle.instructions.specs.Instructions.{jumps, word_count_of, instruction_of}
+use Rattle.disassemblies.specs.Lines.{unix_line_in}
+use Rattle.suspicions.specs.declared.evidence.Evidence.TheVariants.{Flow, Promise}
+use Rattle.suspicions.specs.Reached.{leads_to, reached, is_reached, is_text}
+use Rattle.suspicions.specs.{ReachedLaw.IsReached, ReachedLaw.Evident, ReachedLaw.Led, SureLaw.NoneIsSure}
+use Rattle.suspicions.specs.Suspicions.{suspicions, is_foreign}
+use Rattle.suspicions.proofs.ReachLemmas.{reached_places}
+use Rattle.laws.specs.{OperandPlaces.addressing_of, ReachedInstructions.BeginsInstruction}
+use Rattle.laws.specs.CleanPrograms.{IsRun, TextSymbol, RefersToText, JumpsToText, StaysInside, IsClean, BeginsAtSymbol, IsOfObject}
+use Rattle.laws.specs.CleanPrograms.{CleanObjectsMakeCleanPrograms}
+use Rattle.laws.proofs.CleanProgramLemmas.{clean_objects}
+use Rattle.conformance.specs.Samples.{sym as entry, object, _f, _g, _main, plain}
+use Rattle.conformance.proofs.{LawExamples.all_so, LawExamples.outcome_of, ClauseLemmas.as_object, ClauseLemmas.less_so}
+use Rattle.conformance.proofs.{ClauseLemmas.at_most_so, NeededPremises.all_kept}
+
+-- what holds of each reached place of an object, by the list of them
+
+each_of : (Q : ℕ → Type 0) (xs : List ℕ) (place : ℕ) → list_any (eqb place) xs ≡ true → AllByRecursion Q xs → Q place
+each_of Q [] place e all = absurd cc
+each_of Q (x ∷ xs) place e all =
+    elim (or_cases (eqb place x) (list_any (eqb place) xs) e) [
+      | inl same ↦ subst Q (sym (eqb-true place x same)) all.0
+      | inr rest ↦ each_of Q xs place rest all.1
+    ]
+
+abbrev Each : Contents → (ℕ → Type 0) → Type 0
+Each k Q = (place : ℕ) → IsReached Promise k place → Q place
+
+each : (k : Contents) (Q : ℕ → Type 0) → AllByRecursion Q (reached Promise k) → Each k Q
+each k Q all place r = each_of Q (reached Promise k) place ((reached_places Promise k place).1 r) all
+
+unreached : (k : Contents) (place : ℕ) → is_reached Promise k place ≡ false → IsReached Promise k place → ⊥
+unreached k place none r = let bad : true ≡ false = sym ((reached_places Promise k place).1 r) ∙ none in absurd cc
+
+words_so : (k : Contents) → list_all (λ (w : ℕ). nat_lt w 65536) k.text_words ≡ true → AllByRecursion IsWord k.text_words
+words_so k h = all_so (λ (w : ℕ). nat_lt w 65536) IsWord (λ w e. ltb-true w 65536 e) k.text_words h
+
+-- the parts of `StaysInside`, and that there is no jump, by tests of a line
+
+abbrev EndsInside : Contents → ℕ → Type 0
+EndsInside k place = AllByRecursion (λ o. IfSome o (λ address. address < 2 * length k.text_words)) (leads_to Flow k place)
+
+abbrev ParentInside : Contents → ℕ → Type 0
+ParentInside k place = (c : CallRow) → unix_line_in Unix k place ≡ Call c → c.call ≡ Fork → place + 2 < length k.text_words
+
+abbrev is_before : ℕ → Option ℕ → Bool
+is_before n None = true
+is_before n (Some a) = nat_lt a n
+
+ends_so : (k : Contents) (place : ℕ) → list_all (is_before (2 * length k.text_words)) (leads_to Flow k place) ≡ true → EndsInside k place
+ends_so k place h =
+    all_so (is_before (2 * length k.text_words)) (λ o. IfSome o (λ address. address < 2 * length k.text_words)) one (leads_to Flow k place) h
+  where
+    one : (o : Option ℕ) → is_before (2 * length k.text_words) o ≡ true → IfSome o (λ address. address < 2 * length k.text_words)
+    one None e = tt
+    one (Some a) e = ltb-true a (2 * length k.text_words) e
+
+abbrev forks : SystemCall → Bool
+forks Fork = true
+forks _ = false
+
+abbrev is_fork : UnixLine → Bool
+is_fork (Call c) = forks c.call
+is_fork _ = false
+
+abbrev is_jump : UnixLine → Bool
+is_jump (Machine (Decoded i a b)) = jumps i.row.operation
+is_jump _ = false
+
+no_parent : (k : Contents) (place : ℕ) → is_fork (unix_line_in Unix k place) ≡ false → ParentInside k place
+no_parent k place h c line e =
+    let bad : true ≡ false = sym (ap is_fork line ∙ ap forks e) ∙ h in absurd cc
+
+stays_so : {k : Contents} (place : ℕ) → list_all (is_before (2 * length k.text_words)) (leads_to Flow k place) ≡ true →
+    is_fork (unix_line_in Unix k place) ≡ false → StaysInside k place
+stays_so {k} place h e = record { ends = ends_so k place h; parent = no_parent k place e }
+
+no_jump : {os : List Contents} {k : Contents} (place : ℕ) → is_jump (unix_line_in Unix k place) ≡ false → JumpsToText os k place
+no_jump {os} {k} place h instruction a b line j operand p is way mode direct r found =
+    let bad : true ≡ false = sym (ap is_jump line ∙ j) ∙ h in absurd cc
+
+-- a jump at the beginning whose operand, of this mode, has word 1, and refers to text
+
+abbrev HasWordOne : Addressing → Option Operand → ℕ → Type 0
+HasWordOne a operand p = (addressing_of operand ≡ None) ⊎ ((addressing_of operand ≡ Some a) × (p ≡ 1))
+
+abbrev UsesWordOne : Addressing → UnixLine → Type 0
+UsesWordOne a (Machine (Decoded i x y)) = HasWordOne a i.first 1 × HasWordOne a i.second (1 + word_count_of i.first)
+UsesWordOne a _ = Unit {0}
+
+module _ (os : List Contents) (k : Contents) (a : Addressing) (n : ℕ) where
+  word_one : RefersToText os k a 1 (record { 0 = n }) → slice_get k.text_reloc 1 ≡ Some (record { 0 = n }) →
+      (operand o : Option Operand) (p q : ℕ) → operand ≡ o → p ≡ q → HasWordOne a o q →
+      (way : Addressing) → addressing_of operand ≡ Some way → (r : Reloc) → slice_get k.text_reloc p ≡ Some r → RefersToText os k way p r
+  word_one known there operand o p q e at (inl none) way mode r found =
+      let bad : None ≡ Some way = sym none ∙ ap addressing_of (sym e) ∙ mode in absurd cc
+  word_one known there operand o p q e at (inr (is, one)) way mode r found =
+      let same : a ≡ way = same_Some a way (sym is ∙ ap addressing_of (sym e) ∙ mode) in
+      let here : p ≡ 1 = at ∙ one in
+      let reloc : record { 0 = n } ≡ r =
+      same_Some (record { 0 = n }) r (sym there ∙ ap (λ (m : ℕ). slice_get k.text_reloc m) (sym here) ∙ found) in
+      subst (λ (b : Addressing). RefersToText os k b p r) same
+      (subst (λ (m : ℕ). RefersToText os k a m r) (sym here) (subst (λ (s : Reloc). RefersToText os k a 1 s) reloc known))
+
+  jumps_by : RefersToText os k a 1 (record { 0 = n }) → slice_get k.text_reloc 1 ≡ Some (record { 0 = n }) →
+      UsesWordOne a (unix_line_in Unix k 0) → JumpsToText os k 0
+  jumps_by known there uses instruction x y line j operand p is way mode direct r found =
+      let both : UsesWordOne a (Machine (Decoded instruction x y)) = subst (UsesWordOne a) line uses in
+      inr (elim is [
+        | inl (e, at) ↦ word_one known there operand instruction.first p 1 e at both.0 way mode r found
+        | inr (e, at) ↦
+            word_one known there operand instruction.second p (1 + word_count_of instruction.first) e at both.1 way mode r found
+      ])
+
+-- three objects: one calls `_f` and returns, `_f` jumps to `_g` by mode 37, and `_g` returns
+
+abbrev calls_o : Contents
+calls_o = object (0o4767 ∷ 0o177774 ∷ 0o207 ∷ []) (0 ∷ 0o31 ∷ 0 ∷ []) [] [] 0 (entry _main 0o42 0 ∷ entry _f 0o40 0 ∷ [])
+
+abbrev jumps_o : Contents
+jumps_o = object (0o137 ∷ 0 ∷ []) (0 ∷ 0o30 ∷ []) [] [] 0 (entry _f 0o42 0 ∷ entry _g 0o40 0 ∷ [])
+
+abbrev returns_o : Contents
+returns_o = object (0o240 ∷ 0o207 ∷ []) (0 ∷ 0 ∷ []) [] [] 0 (entry _g 0o42 2 ∷ [])
+
+abbrev three : List Contents
+three = calls_o ∷ jumps_o ∷ returns_o ∷ []
+
+-- a symbol of text
+abbrev symbol_of : (before : List Contents) (k : Contents) (after : List Contents) (number : ℕ) (s : Symbol) →
+    slice_get k.symbols number ≡ Some s → is_text s ≡ true → nat_lt s.value (2 * length k.text_words) ≡ true →
+    TextSymbol (before ++ k ∷ after)
+symbol_of before k after number s there text inside = record {
+  before = before;
+  k = k;
+  after = after;
+  all = refl;
+  number = number;
+  symbol = s;
+  is_there = there;
+  is_in_text = text;
+  inside = less_so s.value (2 * length k.text_words) inside;
+}
+
+calls_clean : IsClean three calls_o
+unfolding row_of in_row call_of
+calls_clean = record {
+  words = words_so calls_o refl;
+  quiet = tt;
+  stays = each calls_o _ (stays_so 0 refl refl, (stays_so 2 refl refl, tt));
+  jumps = each calls_o _ (jumps_by three calls_o Relative 0o31 refers refl (inl refl, inr (refl, refl)), (no_jump 2 refl, tt));
+}
+  where
+    refers : RefersToText three calls_o Relative 1 (record { 0 = 0o31 })
+    refers = record {
+      kind = refl;
+      word = 0o177774;
+      is_there = refl;
+      just = refl;
+      mention = entry _f 0o40 0;
+      named = refl;
+      target = symbol_of (calls_o ∷ []) jumps_o (returns_o ∷ []) 0 (entry _f 0o42 0) refl refl refl;
+      outer = refl;
+      names = refl;
+    }
+
+-- the jump refers to any external symbol of text with that name
+jumps_clean : (os : List Contents) (g : TextSymbol os) → is_external g.symbol ≡ true → g.symbol.name ≡ _g → IsClean os jumps_o
+unfolding row_of in_row call_of
+jumps_clean os g outer named = record {
+  words = words_so jumps_o refl;
+  quiet = tt;
+  stays = each jumps_o _ (stays_so 0 refl refl, tt);
+  jumps = each jumps_o _ (jumps_by os jumps_o Absolute 0o30 refers refl (inr (refl, refl), inl refl), tt);
+}
+  where
+    refers : RefersToText os jumps_o Absolute 1 (record { 0 = 0o30 })
+    refers = record {
+      kind = refl;
+      word = 0;
+      is_there = refl;
+      just = refl;
+      mention = entry _g 0o40 0;
+      named = refl;
+      target = g;
+      outer = outer;
+      names = named;
+    }
+
+returns_clean : (os : List Contents) → IsClean os returns_o
+unfolding row_of in_row call_of
+returns_clean os = record {
+  words = words_so returns_o refl;
+  quiet = tt;
+  stays = each returns_o _ (stays_so 1 refl refl, tt);
+  jumps = each returns_o _ (no_jump 1 refl, tt);
+}
+
+abbrev program : List Contents → Outcome
+program os = outcome_of (link [] os plain)
+
+three_good : AllByRecursion IsObject three
+three_good = (
+  as_object calls_o refl refl refl refl refl refl refl refl,
+  (as_object jumps_o refl refl refl refl refl refl refl refl, (as_object returns_o refl refl refl refl refl refl refl refl, tt)),
+)
+
+three_linked : IsLinkedFrom [] three plain (program three)
+three_linked = (linked_exactly [] three plain (program three) three_good).0 refl
+
+-- control comes to `_g`, at word 6 of the program, through the call and the jump
+g_runs : IsRun (program three).file 6
+unfolding row_of in_row call_of
+g_runs = Led 3 6 (Led 0 3 (Evident 0 (less_so 0 7 refl) refl) (less_so 3 7 refl) refl) (less_so 6 7 refl) refl
+
+-- so it is a reached place of one of the objects
+g_of_object : IsOfObject plain (program three) three_linked.rows three 6
+g_of_object =
+    clean_objects [] three plain (program three) three_good (
+      calls_clean,
+      (
+        jumps_clean three (symbol_of (calls_o ∷ jumps_o ∷ []) returns_o [] 0 (entry _g 0o42 2) refl refl refl) refl refl,
+        (returns_clean three, tt),
+      ),
+    ) all_kept three_linked refl (at_most_so 14 65535 refl)
+    (record { first = symbol_of [] calls_o (jumps_o ∷ returns_o ∷ []) 0 (entry _main 0o42 0) refl refl refl; is = refl }) 6 g_runs
+
+-- the law, with other premises on the objects, on the entry point and on the report
+
+abbrev CleanBy : (List Contents → Contents → Type 0) → (List Contents → Outcome → Type 0) → (Outcome → Type 0) → Type 0
+CleanBy IsSuch Begins Reports =
+    (forced : List (List ℕ)) (os : List Contents) (o : Choices) (x : Outcome) → AllByRecursion IsObject os →
+    AllByRecursion (IsSuch os) os → o.keep ≢ Nothing → (l : IsLinkedFrom forced os o x) → Reports x →
+    x.file.header.text_size ≤ 65535 → Begins os x → (place : ℕ) → IsRun x.file place → IsOfObject o x l.rows os place
+
+abbrev Once : Outcome → Type 0
+Once y = y.report.multiples ≡ []
+
+the_law : CleanObjectsMakeCleanPrograms → CleanBy IsClean BeginsAtSymbol Once
+the_law law = law
+
+-- a place of a program of two objects is one of theirs
+
+no_more : (xs : List Contents) (k : Contents) (ys : List Contents) → [] ≡ xs ++ k ∷ ys → ⊥
+no_more [] k ys e = absurd cc
+no_more (x ∷ xs) k ys e = absurd cc
+
+record IsIn (k : Contents) (i : ℕ) : Type 0 where
+  reached : IsReached Promise k i
+  begins : is_foreign (slice_index k.text_words i) ≡ false → BeginsInstruction k i
+
+in_two : (o : Choices) (x : Outcome) (rows : List Symbol) (place : ℕ) (k d : Contents) → IsOfObject o x rows (k ∷ d ∷ []) place →
+    IsIn k place ⊎ ((i : ℕ) × (place ≡ total TextSeg (k ∷ []) / 2 + i) × IsIn d i)
+in_two o x rows place k d r =
+    by r.before r.k r.i r.all r.at (record { reached = r.reached; begins = λ own. (r.instruction own).begins })
+  where
+    by : (before : List Contents) (c : Contents) (i : ℕ) → k ∷ d ∷ [] ≡ before ++ c ∷ r.after →
+        place ≡ total TextSeg before / 2 + i → IsIn c i → IsIn k place ⊎ ((i : ℕ) × (place ≡ total TextSeg (k ∷ []) / 2 + i) × IsIn d i)
+    by [] c i all at is =
+        let same : k ≡ c = cc in
+        let here : i ≡ place = omega arith in
+        inl (subst (λ (e : Contents). IsIn e place) (sym same) (subst (λ (n : ℕ). IsIn c n) here is))
+    by (b ∷ []) c i all at is =
+        let first : k ≡ b = cc in
+        let second : d ≡ c = cc in
+        inr (i, at ∙ ap (λ (f : Contents). total TextSeg (f ∷ []) / 2 + i) (sym first), subst (λ (e : Contents). IsIn e i) (sym second) is)
+    by (b ∷ (e ∷ bs)) c i all at is = let none : [] ≡ bs ++ c ∷ r.after = cc in absurd (no_more bs c r.after none)
+
+-- an object whose text no evidence reaches, the second one of the programs below
+
+abbrev data_o : Contents
+data_o = object (7 ∷ []) (0 ∷ []) [] [] 0 []
+
+abbrev with_data : Contents → List Contents
+with_data k = k ∷ data_o ∷ []
+
+abbrev linked_with_data : Contents → Outcome
+linked_with_data k = program (with_data k)
+
+data_good : IsObject data_o
+data_good = as_object data_o refl refl refl refl refl refl refl refl
+
+data_unreached : (place : ℕ) → IsReached Promise data_o place → ⊥
+unfolding row_of in_row call_of
+data_unreached place r = unreached data_o place refl r
+
+data_clean : (os : List Contents) → IsClean os data_o
+unfolding row_of in_row call_of
+data_clean os = record {
+  words = words_so data_o refl;
+  quiet = tt;
+  stays = λ place r. absurd (data_unreached place r);
+  jumps = λ place r. absurd (data_unreached place r);
+}
+
+-- with premises that clean objects meet, a place of such a program is one of its first object
+in_first : {IsSuch : List Contents → Contents → Type 0} {Begins : List Contents → Outcome → Type 0} → CleanBy IsSuch Begins Once →
+    ((os : List Contents) (k : Contents) → IsClean os k → IsSuch os k) → (k : Contents) (good : IsObject k) →
+    link [] (with_data k) plain ≡ Ok (linked_with_data k) → IsSuch (with_data k) k → Once (linked_with_data k) →
+    nat_lt 65535 (linked_with_data k).file.header.text_size ≡ false → Begins (with_data k) (linked_with_data k) → (place : ℕ) →
+    IsRun (linked_with_data k).file place → IsIn k place
+in_first {IsSuch} {Begins} law weaker k good linked such once small begins place run =
+    let goods : AllByRecursion IsObject (with_data k) = (good, (data_good, tt)) in
+    let l : IsLinkedFrom [] (with_data k) plain (linked_with_data k) =
+    (linked_exactly [] (with_data k) plain (linked_with_data k) goods).0 linked in
+    let r = law [] (with_data k) plain (linked_with_data k) goods (such, (weaker (with_data k) data_o (data_clean (with_data k)), tt))
+    all_kept l once (ltb-false 65535 (linked_with_data k).file.header.text_size small) begins place run in
+    elim (in_two plain (linked_with_data k) l.rows place k data_o r) [
+      | inl e ↦ e
+      | inr (i, at, e) ↦ absurd (data_unreached i e.reached)
+    ]
+
+-- control that begins where no symbol is
+without_symbol : CleanBy IsClean (λ os y. Unit {0}) Once → ⊥
+without_symbol law =
+    data_unreached 0 (in_first law (λ os k c. c) data_o data_good refl (data_clean (with_data data_o)) refl refl tt 0
+    (Evident 0 (less_so 0 2 refl) refl)).reached
+
+-- an object with symbol `_main` at its beginning
+abbrev main_of : List ℕ → Contents
+main_of words = object words (map (λ w. 0) words) [] [] 0 (entry _main 0o42 0 ∷ [])
+
+-- a word that begins no instruction
+abbrev seven_o : Contents
+seven_o = main_of (7 ∷ [])
+
+abbrev LacksQuiet : List Contents → Contents → Type 0
+LacksQuiet os k = AllByRecursion IsWord k.text_words × Each k (StaysInside k) × Each k (JumpsToText os k)
+
+without_quiet : CleanBy LacksQuiet BeginsAtSymbol Once → ⊥
+unfolding row_of in_row call_of
+without_quiet law =
+    let is = in_first law (λ os k c. (c.words, c.stays, c.jumps)) seven_o
+    (as_object seven_o refl refl refl refl refl refl refl refl) refl (
+      words_so seven_o refl,
+      each seven_o _ (stays_so 0 refl refl, tt),
+      each seven_o _ (no_jump 0 refl, tt),
+    ) refl refl (record { first = symbol_of [] seven_o (data_o ∷ []) 0 (entry _main 0o42 0) refl refl refl; is = refl }) 0
+    (Evident 0 (less_so 0 2 refl) refl) in
+    let b = is.begins refl in
+    let here : 7 ∷ [] ≡ b.w ∷ b.following = b.here in
+    let word : 7 ≡ b.w = cc in
+    let none : None ≡ Some b.instruction = ap instruction_of word ∙ b.is in
+    absurd cc
+
+-- control that runs past the end of a text, and comes to a word that no evidence reaches
+abbrev falls_o : Contents
+falls_o = main_of (0o240 ∷ [])
+
+abbrev LacksEnds : List Contents → Contents → Type 0
+LacksEnds os k =
+    AllByRecursion IsWord k.text_words × NoneIsSure (suspicions Promise k) × Each k (ParentInside k) × Each k (JumpsToText os k)
+
+without_ends : CleanBy LacksEnds BeginsAtSymbol Once → ⊥
+unfolding row_of in_row call_of
+without_ends law =
+    let is = in_first law (λ os k c. (c.words, c.quiet, λ place r. (c.stays place r).parent, c.jumps)) falls_o
+    (as_object falls_o refl refl refl refl refl refl refl refl) refl (
+      words_so falls_o refl,
+      tt,
+      each falls_o _ (no_parent falls_o 0 refl, tt),
+      each falls_o _ (no_jump 0 refl, tt),
+    ) refl refl (record { first = symbol_of [] falls_o (data_o ∷ []) 0 (entry _main 0o42 0) refl refl refl; is = refl }) 1
+    (Led 0 1 (Evident 0 (less_so 0 2 refl) refl) (less_so 1 2 refl) refl) in
+    unreached falls_o 1 refl is.reached
+
+-- the parent's way after `sys fork`, past the end
+abbrev forks_o : Contents
+forks_o = main_of (0o104402 ∷ 0o207 ∷ [])
+
+abbrev LacksParent : List Contents → Contents → Type 0
+LacksParent os k =
+    AllByRecursion IsWord k.text_words × NoneIsSure (suspicions Promise k) × Each k (EndsInside k) × Each k (JumpsToText os k)
+
+without_parent : CleanBy LacksParent BeginsAtSymbol Once → ⊥
+unfolding row_of in_row call_of
+without_parent law =
+    let is = in_first law (λ os k c. (c.words, c.quiet, λ place r. (c.stays place r).ends, c.jumps)) forks_o
+    (as_object forks_o refl refl refl refl refl refl refl refl) refl (
+      words_so forks_o refl,
+      tt,
+      each forks_o _ (ends_so forks_o 0 refl, (ends_so forks_o 1 refl, tt)),
+      each forks_o _ (no_jump 0 refl, (no_jump 1 refl, tt)),
+    ) refl refl (record { first = symbol_of [] forks_o (data_o ∷ []) 0 (entry _main 0o42 0) refl refl refl; is = refl }) 2
+    (Led 0 2 (Evident 0 (less_so 0 3 refl) refl) (less_so 2 3 refl) refl) in
+    unreached forks_o 2 refl is.reached
+
+-- a jump to a number, which is the place of an operand word
+abbrev numbers_o : Contents
+numbers_o = main_of (0o137 ∷ 2 ∷ [])
+
+abbrev LacksJumps : List Contents → Contents → Type 0
+LacksJumps os k = AllByRecursion IsWord k.text_words × NoneIsSure (suspicions Promise k) × Each k (StaysInside k)
+
+without_jumps : CleanBy LacksJumps BeginsAtSymbol Once → ⊥
+unfolding row_of in_row call_of
+without_jumps law =
+    let is = in_first law (λ os k c. (c.words, c.quiet, c.stays)) numbers_o
+    (as_object numbers_o refl refl refl refl refl refl refl refl) refl
+    (words_so numbers_o refl, tt, each numbers_o _ (stays_so 0 refl refl, tt))
+    refl refl (record { first = symbol_of [] numbers_o (data_o ∷ []) 0 (entry _main 0o42 0) refl refl refl; is = refl }) 1
+    (Led 0 1 (Evident 0 (less_so 0 3 refl) refl) (less_so 1 3 refl) refl) in
+    unreached numbers_o 1 refl is.reached
+
+-- a name that is defined twice, first as the number of an operand word
+abbrev twice_named_o : Contents
+twice_named_o = object (0o207 ∷ []) (0 ∷ []) [] [] 0 (entry _g 0o41 2 ∷ entry _g 0o42 0 ∷ [])
+
+abbrev twice : List Contents
+twice = jumps_o ∷ twice_named_o ∷ []
+
+without_once : CleanBy IsClean BeginsAtSymbol (λ y. Unit {0}) → ⊥
+unfolding row_of in_row call_of
+without_once law =
+    let good : AllByRecursion IsObject twice = (
+      three_good.1.0,
+      (as_object twice_named_o refl refl refl refl refl refl refl refl, tt),
+    ) in
+    let linked : IsLinkedFrom [] twice plain (program twice) = (linked_exactly [] twice plain (program twice) good).0 refl in
+    let r = law [] twice plain (program twice) good (
+      jumps_clean twice (symbol_of (jumps_o ∷ []) twice_named_o [] 1 (entry _g 0o42 0) refl refl refl) refl refl,
+      (
+        record {
+          words = words_so twice_named_o refl;
+          quiet = tt;
+          stays = each twice_named_o _ (stays_so 0 refl refl, tt);
+          jumps = each twice_named_o _ (no_jump 0 refl, tt);
+        },
+        tt,
+      ),
+    ) all_kept linked tt (at_most_so 6 65535 refl)
+    (record { first = symbol_of [] jumps_o (twice_named_o ∷ []) 0 (entry _f 0o42 0) refl refl refl; is = refl }) 1
+    (Led 0 1 (Evident 0 (less_so 0 3 refl) refl) (less_so 1 3 refl) refl) in
+    elim (in_two plain (program twice) linked.rows 1 jumps_o twice_named_o r) [
+      | inl e ↦ unreached jumps_o 1 refl e.reached
+      | inr (i, at, e) ↦ (let far : 1 ≡ 2 + i = at in omega arith)
+    ]
