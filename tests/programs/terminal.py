@@ -121,7 +121,7 @@ DONE = "each was done, and no link had anything to report"
 PLANTED = [
     ("v7/src/main.rt", "rt.stdin().is_terminal(), words", "true, words"),
     ("v7/src/main.rt", "    if rt.stderr().is_terminal() {", "    if rt.stdout().is_terminal() {"),
-    ("v7/src/main.rt", "InvalidData && rt.stderr().is_terminal()", "InvalidData"),
+    ("v7/src/main.rt", "usage = if rt.stderr().is_terminal()", "usage = if true"),
     ("v7/src/terminal.rt", "            prompts.end(status);\n", ""),
     ("v7/src/terminal.rt", "    put_hint(rt, fault);\n", ""),
     ("v7/src/terminal/lines.rt", "        CliFault::BadFile(_, ReadFault::Device) => return,\n", ""),
