@@ -19,7 +19,6 @@ import os
 import re
 import shutil
 import sys
-import tempfile
 from collections import Counter
 from concurrent.futures import ThreadPoolExecutor, wait
 from typing import NamedTuple
@@ -165,7 +164,9 @@ def run_unproved(tests):
     print("Programs are compiled, cases played, texts compared, and the tests of crates run: about 5 minutes on four idle processors.")
     print("All of this is compiled without proof, so it proves nothing: make gate proves it.", flush=True)
     play = [sys.executable, "-m", "tests.cases.cases"]
-    with tempfile.TemporaryDirectory() as folder, ThreadPoolExecutor(min(SIDE_BY_SIDE, len(os.sched_getaffinity(0)))) as pool:
+    folder = os.path.join(TOP, "build", "quick")
+    os.makedirs(folder, exist_ok=True)
+    with ThreadPoolExecutor(min(SIDE_BY_SIDE, len(os.sched_getaffinity(0)))) as pool:
         # what is cheap comes first, and nothing that waits before what it waits for
         first = {pool.submit(passes, *it.command()): it.title() for it in tests if not it.words("programs")}
         programs = {pool.submit(compile_program, TOP, name, folder): f"the program {name}" for name in CRATES}

@@ -6,11 +6,10 @@ usage: python3 -m tests.cases.planted [BUG ..]    tries the bugs of all rows, or
        python3 -m tests.cases.planted -c          looks only whether each edit fits the code, and the table the edits and the cases
 
 A bug CRATE/NAME is an edit of the crate that the prover refuses, as tests/wrong_bodies/edits.py finds it. Any other is an edit of
-tests/cases/planted/, with
-the path from the top. The rows of tests/programs/largest.py and tests/libv7/largest_library.py count as cases, and so does
-tests/page/page_data.py. The bug is made in a copy of the sources, and programs are compiled there with no proof: those that use its
-crate, one after another, as long as a case that the row names does not fail. The other programs are those without a bug. libv7 counts
-as a program.
+tests/cases/planted/, with the path from the top. The rows of tests/programs/largest.py and tests/libv7/largest_library.py count as
+cases, and so do tests/page/page_data.py and tests/programs/terminal.py. The bug is made in a copy of the sources, and programs are compiled there with no proof: those that use its
+crate, one after another, as long as a case that the row names does not fail. The other programs are those without a bug, in
+build/quick. libv7 counts as a program.
 
 tier: text, 1 seconds; words: -c; for: docs/internals/PLANTED.md tests/cases/planted
 """
@@ -22,13 +21,12 @@ import sys
 import tempfile
 from concurrent.futures import ThreadPoolExecutor
 
-from tests import TOP
 from tests.lib.files import TOP, read, write
 from tests.wrong_bodies import edits
 from tests.programs import largest
 from tests.lib.programs import ran
 from tests.lib.tally import Failed
-from tools.compiling import CRATES, compile_program, uses_of
+from tools.compiling import CRATES, below, compile_program, uses_of
 from tools.sketch import compile_library
 
 CASES = os.path.join(TOP, "tests", "cases", "data")
@@ -40,12 +38,17 @@ LARGEST = {f"largest.py: {name}, {kind}": f"$ {name}\n{READS_BACK.get(name, '')}
 # the rows of tests/libv7/largest_library.py. Importing it would load the library
 CALLS = re.findall(r'^    \("(v7_[^"]+)", ', read(f"{TOP}/tests/libv7/largest_library.py"), re.M)
 LARGEST.update({f"largest_library.py: {calls}, {kind}": "$ libv7\n" for calls in CALLS for kind in largest.KINDS})
-# what the data of the pages are compared with
-PAGES = "page_data.py: pages"
-LARGEST[PAGES] = "$ v7-lesson\n$ v7\n$ v7-explain\n"
-MODULES = {"largest.py": "tests.programs.largest", "largest_library.py": "tests.libv7.largest_library", "page_data.py": "tests.page.page_data"}
+# scripts that are played whole
+WHOLE = {"page_data.py: pages": "$ v7-lesson\n$ v7\n$ v7-explain\n", "terminal.py: all": "$ v7\n"}
+LARGEST.update(WHOLE)
+MODULES = {"largest.py": "tests.programs.largest", "largest_library.py": "tests.libv7.largest_library", "page_data.py": "tests.page.page_data",
+           "terminal.py": "tests.programs.terminal"}
+# what these print, whether they find something or not
+PRINTED = re.compile(r"^(?:programs|libv7): [01] of 1 answers .*\n\Z|^\d+ things of pages were compared|(?:CalledProcess|JSONDecode)Error|^at a terminal: |^  came ", re.M)
 # what is compiled, and the crate of each
 COMPILED = {**CRATES, "libv7": "v7_c"}
+# the programs without a bug
+GOOD = os.path.join(TOP, "build", "quick")
 # for a command of a case, on a machine with other work too
 SECONDS = "300"
 # a compilation takes a processor and a gigabyte
@@ -85,11 +88,6 @@ def changed(bug):
     return {os.path.normpath(f"{start}/{path}"): text for path, text in files.items()}
 
 
-def below(crate, uses):
-    """A crate, and those of the repository that it uses."""
-    return {crate}.union(*(below(other, uses) for other in uses[crate] if other in uses))
-
-
 def cases_of(paths):
     """The text of each case in these files."""
     texts = {}
@@ -117,11 +115,11 @@ def failed(folder, texts):
 
 
 def row_fails(folder, name):
-    """Whether a row of largest.py fails, or the comparison of the pages."""
+    """Whether a row of largest.py fails, or a script that is played whole."""
     script, row = name.split(": ")
-    words = [MODULES[script], *([] if name == PAGES else [row])]
+    words = [MODULES[script], *([] if name in WHOLE else [row])]
     done = ran(sys.executable, "-m", *words, cwd=TOP, env={**os.environ, "LIBV7": os.path.join(folder, "libv7.so"), "V7_BUILD": folder})
-    if not re.search(r"^(?:programs|libv7): [01] of 1 answers .*\n\Z|^\d+ things of pages were compared|(?:CalledProcess|JSONDecode)Error", done.said(), re.M):
+    if not PRINTED.search(done.said()):
         raise Fault(done.said())
     return done.status != 0
 
@@ -149,9 +147,9 @@ def sources(top, files):
         write(os.path.join(top, path), code)
 
 
-def failing(bug, texts, good, is_whole=False):
-    """Those of these cases that fail with a bug, where `good` is the folder of the programs without one. With `is_whole` all
-    programs that the bug reaches are compiled before the cases are played."""
+def failing(bug, texts, is_whole=False):
+    """Those of these cases that fail with a bug. With `is_whole` all programs that the bug reaches are compiled before the cases are
+    played."""
     files, uses = changed(bug), uses_of(TOP)
     crate = next(iter(files)).split(os.sep)[1]
     using = [name for name in COMPILED if crate in below(COMPILED[name], uses)]
@@ -160,7 +158,7 @@ def failing(bug, texts, good, is_whole=False):
     with tempfile.TemporaryDirectory() as top:
         sources(top, files)
         folder = os.path.join(top, "build")
-        shutil.copytree(good, folder, ignore=shutil.ignore_patterns("*.compiled"))
+        shutil.copytree(GOOD, folder, ignore=shutil.ignore_patterns("*.compiled"))
         found = []
         for place, program in enumerate(reached, 1):
             compile_one(top, program, folder)
@@ -179,11 +177,11 @@ def compile_one(top, name, folder):
         compile_program(top, name, folder)
 
 
-def programs(folder, names):
+def programs(names):
     """Compiles programs without a bug."""
-    os.mkdir(folder)
+    os.makedirs(GOOD, exist_ok=True)
     with ThreadPoolExecutor(SIDE_BY_SIDE) as pool:
-        list(pool.map(lambda name: compile_one(TOP, name, folder), names))
+        list(pool.map(lambda name: compile_one(TOP, name, GOOD), names))
 
 
 def check_table():
@@ -205,20 +203,18 @@ def check_table():
 def list_failing(bugs):
     """Prints all cases that fail with each bug."""
     there = cases_of(glob.glob(os.path.join(CASES, "*.case")))
-    with tempfile.TemporaryDirectory() as top:
-        good = os.path.join(top, "good")
-        programs(good, CRATES)
-        for bug in bugs:
-            try:
-                print(f"{bug}: {' '.join(failing(bug, there, good, True))}", flush=True)
-            except (Fault, Failed) as fault:
-                print(f"{bug}: {fault}", flush=True)
+    programs(CRATES)
+    for bug in bugs:
+        try:
+            print(f"{bug}: {' '.join(failing(bug, there, True))}", flush=True)
+        except (Fault, Failed) as fault:
+            print(f"{bug}: {fault}", flush=True)
 
 
-def try_row(bug, names, there, good):
+def try_row(bug, names, there):
     """Plants a bug: what is wrong, if not all cases fail that its row names."""
     try:
-        found = failing(bug, {name: there[name] for name in names}, good)
+        found = failing(bug, {name: there[name] for name in names})
     except (Fault, Failed) as fault:
         return str(fault)
     passed = [name for name in names if name not in found] if names else ["no case is named"]
@@ -230,13 +226,12 @@ def try_rows(table):
     there = there_are()
     wanted = {name: there[name] for _, names in table for name in names}
     faults = 0
-    with tempfile.TemporaryDirectory() as top, ThreadPoolExecutor(SIDE_BY_SIDE) as pool:
-        good = os.path.join(top, "good")
-        programs(good, set().union(*map(programs_of, wanted.values())))
-        passed = failed(good, wanted)
+    programs(set().union(*map(programs_of, wanted.values())))
+    with ThreadPoolExecutor(SIDE_BY_SIDE) as pool:
+        passed = failed(GOOD, wanted)
         print(f"{len(wanted)} cases without a bug: {'failed: ' + ', '.join(passed) if passed else 'as expected'}", flush=True)
         faults += bool(passed)
-        for (bug, _), fault in zip(table, pool.map(lambda row: try_row(*row, there, good), table)):
+        for (bug, _), fault in zip(table, pool.map(lambda row: try_row(*row, there), table)):
             print(f"{bug}: {fault or 'found'}", flush=True)
             faults += bool(fault)
     print(f"{len(table)} bugs planted, {faults} faults")

@@ -2,9 +2,9 @@
 # libv7 as a caller has it: installed into a folder, and found by pkg-config. Its two libraries must show the calls of v7.h and
 # nothing else, and the header must compile as C99, C++98 and C++17. tests/libv7/c/faults.c calls the library with an input for each fault of
 # each call. The examples in C, C++, Python and Rust are compiled, link objects of examples/ as the program does, with the same
-# file, report and status, and run sessions, which compare by themselves. The library and the program link the objects of the large
-# benchmark. What is in C runs under AddressSanitizer and valgrind too. The commands of docs/LIBRARY.md are run. The wheel of Python
-# is installed into a fresh environment.
+# file, report and status, and run sessions, which compare by themselves. What is in C runs
+# under AddressSanitizer and valgrind too. The commands of docs/LIBRARY.md are run. The wheel of Python is installed into a fresh
+# environment.
 # What is missing of the compilers, Python and these two is skipped, and named.
 #
 # usage: CC=cc CXX=c++ CALLS=20000 CASES='500 1000 500' tests/libv7/library.sh        with so many random calls, and links, sessions and maps for
@@ -299,7 +299,6 @@ if has mypy; then
         test "$(grep -c ': error: .* has incompatible type' wrong.txt)" -eq "$(grep -c '^v7' "$top/tests/libv7/wrong_types.py")" ||
         { cat wrong.txt; fail "Python: mypy takes a wrong type"; }
 fi
-python3 -m tests.costs.heavy_library || fail "the large benchmark"
 unset LIBV7
 # the wheel, in an environment that has nothing else
 if python3 -m venv fresh 2>/dev/null; then

@@ -1,19 +1,25 @@
 """Compares the notes of v7-explain, with all their numbers, and its inventory with those computed here by docs/FORMAT.md and
-v7-explain(1). What is odd of instructions is left to mistakes.py.
+v7-explain(1). What is odd of instructions is left to mistakes.py; here `-c` has to say of it what the listing says. A session of v7
+has to add what is called an object, and to answer what is noted of another file.
 
-tier: check, 40 seconds; programs: v7-explain; for: crates/findings crates/suspicions crates/explanations docs/FORMAT.md man/v7-explain.1
+tier: check, 60 seconds; programs: v7-explain v7; for: crates/findings crates/suspicions crates/explanations crates/v7_explain docs/FORMAT.md man/v7-explain.1
 
 The files are made, the same in each run: objects whose numbers are at the edges of their ranges and beside them, and one file cut
-at each byte. There are objects with 15 to 18 bad relocation words, files with other magic numbers, flags and sizes, files of other forms, and
-objects of instructions.
+at each byte. There are objects with 15 to 18 bad relocation words, files with other magic numbers, flags and sizes, files of other forms,
+objects of instructions, those of examples/ and of agree.py, and these with bytes changed, cut or put in. The program has little memory
+and time for each.
 """
+import glob
 import random
 import re
+import resource
 import struct
 
+from tests.cases.cases import is_script
 from tests.lib.compare import notices, same
-from tests.lib.files import room, write
+from tests.lib.files import TOP, read_bytes, room, write
 from tests.lib.programs import program, ran
+from tests.oracles import agree
 from tests.oracles.disassembly import File as Text
 
 PROGRAMS = {0o405: "an overlay", 0o407: "a program", 0o410: "a program, pure text", 0o411: "a program, separate text and data"}
@@ -34,6 +40,10 @@ MOST = 16
 # what is odd of instructions; and what is said if more is odd than is shown
 SUSPICIOUS = re.compile(r"the first word of the|the pc bit of|an instruction leads to|is cut by the end of|the branch at|the word at \d+ (?:counts|is of a call|adds)")
 DOUBT = ", if this is an instruction"
+COMMON = "rounded up to even"
+# what a session answers to a whole file that is not an object
+PROGRAMS_SAID = ("not an object", "no relocation")
+SECONDS, BYTES = 60, 1 << 28
 MORE = re.compile(r"and (\d+) more that are odd$")
 dice = random.Random(42)
 
@@ -253,7 +263,7 @@ def notes_of(data):
         said = [text for text in (form(data)[0],) if text and has_no_magic(data)]
         return [f"wrong: {note}" for note in at_byte(found)] + said, at_byte(found) + said
     what, odd = kind(file, found), at_byte(odd_of(file))
-    refused = at_byte(found) or ([what] if what != "an object" else [note for note in odd if not note.endswith("rounded up to even")][:MOST])
+    refused = at_byte(found) or ([what] if what != "an object" else [note for note in odd if not note.endswith(COMMON)][:MOST])
     notes = [what] if what else []
     return notes + [f"wrong: {note}" for note in at_byte(found)] + [f"odd: {note}" for note in odd[:MOST]], refused
 
@@ -369,6 +379,26 @@ def files():
     yield struct.pack("<8H", 0o407, 40000, 40000, 0, 0, 0, 0, 0) + bytes(159996) + b"\x22\0\x05\0"
     yield from (random_file(dice.randrange(9), dice.randrange(5)) for _ in range(1000))
     yield from (random_code() for _ in range(1000))
+    whole = [read_bytes(path) for path in sorted(glob.glob(f"{TOP}/examples/*.o"))] + [of_any_names() for _ in range(500)]
+    yield from whole
+    yield from (damaged(dice.choice(whole)) for _ in range(500))
+
+
+def of_any_names():
+    """An object, mostly one that v7 takes, with names of any bytes."""
+    names = [*dice.sample(agree.NAMES, 4), *(bytes(dice.randrange(256) for _ in range(8)) for _ in range(4))]
+    return dice.choice([agree.object_of] * 4 + [agree.bad_object_of])(dice, names)
+
+
+def damaged(data):
+    """A file, cut, with bytes changed, or with sizes changed, some of them several times."""
+    for _ in range(dice.randrange(1, 4)):
+        data = agree.damage(dice, data)
+    return data
+
+
+def limits():
+    resource.setrlimit(resource.RLIMIT_AS, (BYTES, BYTES))
 
 
 def answered(status, *words):
@@ -402,8 +432,22 @@ def inventoried(paths):
     return answered(0, "-l", *paths)[0].splitlines()
 
 
+def sessions(paths):
+    """What a session answers to each file: nothing if it is added."""
+    script = "".join(f"add {path}\nwithdraw\n" for path in paths)
+    lines = ran(V7, "session", given=script.encode()).out.decode().splitlines()[::2]
+    return {path: "" if line == f"added {path}" else line.removeprefix(f"{path}: ") for path, line in zip(paths, lines)}
+
+
 def compare(path, data, found, expected):
     same(f"{path}, {data.hex()}", found, expected)
+
+
+def compare_session(path, data, notes, answer):
+    """A file is called an object if a session adds it; another one has the answer in its notes, or is called a program."""
+    compare(f"{path} called an object", data, "an object" in notes, not answer)
+    said = "so ld cannot link it" if answer in PROGRAMS_SAID else answer
+    compare(f"{path}, {answer} in its notes", data, any(said in note for note in notes), True)
 
 
 def main():
@@ -414,14 +458,21 @@ def main():
     found, refused, inventory = explained(paths), checked(paths), inventoried(paths)
     assert len(found) == len(inventory) == len(datas), (len(found), len(inventory), len(datas))
     notices(compare, paths[0], datas[0], found[0], [*found[0], ""])
+    added = sessions(paths)
+    notices(compare_session, paths[0], datas[0], found[0], added[paths[0]] + " planted")
     count = 0
     for path, data, notes, line in zip(paths, datas, found, inventory):
         expected, why = lines_of(path, data), notes_of(data)[1]
         count += len(expected)
         compare(path, data, without_suspicious(notes), expected)
         compare(f"-c {path}", data, without_suspicious(refused[path]), why)
+        compare_session(path, data, notes, added[path])
+        odd = [note.removeprefix("odd: ") for note in notes if note.startswith("odd: ") and not note.endswith(COMMON)]
+        if not added[path] and odd_count(notes) <= MOST:
+            compare(f"-c {path} and its listing", data, refused[path], odd)
         sure = [note for note in refused[path] if DOUBT not in note and not MORE.match(note)]
-        alone = ran(EXPLAIN, "-c", path).status
+        # what make quick compiles needs more memory for its own checks
+        alone = ran(EXPLAIN, "-c", path, seconds=SECONDS, preexec_fn=None if is_script("v7-explain") else limits).status
         # one that is sure may not be shown
         if sure or len(refused[path]) <= MOST:
             compare(f"-c {path}", data, [alone], [1 if sure else 0])
@@ -430,6 +481,6 @@ def main():
 
 
 if __name__ == "__main__":
-    EXPLAIN = program("v7-explain")
+    EXPLAIN, V7 = program("v7-explain"), program("v7")
     with room():
         main()

@@ -1,16 +1,11 @@
 """Plays v7 at a terminal: help, the version, why arguments are refused, and a session with prompt, help, list, hints and quit. Then it runs the
 same commands through pipes, where each byte and status has to be that of the specification.
 
-usage: python3 -m tests.programs.terminal
-       python3 -m tests.programs.terminal -p [FILE]  plants one fault after another in a copy of the code, or those in files of this name, compiles v7
-                                    without proof, and sees that this script finds each: two minutes for a fault
-
 The terminal is a pseudo-terminal, by the module `pty`. What is expected here is written by hand: the lines of v7(1) and of
 v7-session(1). Options are those of the manual pages. Random command lines, always the same, show that a reason is given for those
 that v7 refuses, and for no others.
 
 tier: check, 25 seconds; programs: v7; for: crates/v7 crates/command_words man/v7.1 man/v7-session.1
-tier: all, 4000 seconds; words: -p; for: crates/v7
 """
 import os
 import pty
@@ -18,8 +13,6 @@ import random
 import re
 import select
 import subprocess
-import sys
-import tempfile
 
 from tests.lib.compare import notices, same
 from tests.lib.files import TOP, read, room, write
@@ -116,31 +109,6 @@ ENDINGS = ["quit", "exit", " quit ", None]
 ONE = "end of the session: 1 command, status 0: each was done, and no link had anything to report\n"
 REFUSED = "a line was refused, or a link had something to report"
 DONE = "each was done, and no link had anything to report"
-
-# faults to plant: a file, a text that is there once, and what takes its place
-PLANTED = [
-    ("v7/src/main.rt", "rt.stdin().is_terminal(), words", "true, words"),
-    ("v7/src/main.rt", "    if rt.stderr().is_terminal() {", "    if rt.stdout().is_terminal() {"),
-    ("v7/src/main.rt", "usage = if rt.stderr().is_terminal()", "usage = if true"),
-    ("v7/src/terminal.rt", "            prompts.end(status);\n", ""),
-    ("v7/src/terminal.rt", "    put_hint(rt, fault);\n", ""),
-    ("v7/src/terminal/lines.rt", "        CliFault::BadFile(_, ReadFault::Device) => return,\n", ""),
-    ("v7/src/terminal/pages.rt", "  -d         with -r, lays out commons too\n", ""),
-    ("v7/src/terminal/pages.rt", "(Cause::NoTool, \"help\" | \"--help\")", "(Cause::NoTool, \"--help\")"),
-    ("v7/src/terminal/lines.rt", "letter == b'o'", "letter != b'o'"),
-    ("v7/src/terminal/lines.rt", "Cause::Excluded(one, other) => {", "Cause::Excluded(other, one) => {"),
-    ("v7/src/terminal/lines.rt", "place.saturating_add(1)", "place"),
-    ("v7/src/terminal/prompts.rt", "b\"\" => Typed::Nothing,", "b\"\" => Typed::Line,"),
-    ("v7/src/terminal/prompts.rt", "b\"quit\" | b\"exit\"", "b\"exit\""),
-    ("v7/src/terminal/prompts.rt", "line.trim_ascii()", "line.trim_ascii_end()"),
-    ("v7/src/terminal/prompts.rt", "self.given = self.given.saturating_add(n);", "self.given = self.line.len();"),
-    ("v7/src/terminal/prompts.rt", "self.lines.saturating_add(1)", "self.lines"),
-    ("v7/src/terminal/prompts.rt", "answer.is_addition && ", ""),
-    ("v7/src/terminal/prompts.rt", "        self.settle()?;\n", ""),
-    ("v7/src/terminal/near.rt", "rest.len() > 1 && ", ""),
-    ("v7/src/terminal/pages.rt", "Tool::named(named.as_str())", "Tool::named(help.as_str())"),
-]
-
 
 def holds(what, is_true):
     same(what, bool(is_true), True)
@@ -375,44 +343,10 @@ def run_all():
         return check_help(), check_reasons(), check_random(), check_hints(), check_session()
 
 
-def check_planted():
-    """Each fault fits the code: its text is there once."""
-    for file, old, _ in PLANTED:
-        same(f"a fault to plant in {file}: {old.strip()}", read(f"{TOP}/crates/{file}").count(old), 1)
-
-
-def found_in(file, old, new):
-    """The end of what this script says of a program with a fault; None if it finds nothing."""
-    from tests.cases.planted import sources
-    from tools.compiling import compile_program
-    with tempfile.TemporaryDirectory() as top:
-        sources(top, {f"crates/{file}": read(f"{TOP}/crates/{file}").replace(old, new)})
-        compile_program(top, "v7", top)
-        done = ran(sys.executable, "-m", "tests.programs.terminal", env={**os.environ, "V7_BUILD": top}, cwd=TOP)
-    return done.said().rstrip().split("\n")[-3:][0] if done.status else None
-
-
-def plant(name):
-    """Plants the faults in files whose names end so; the status is 1 if one is not found."""
-    check_planted()
-    missed, planted = 0, [fault for fault in PLANTED if fault[0].endswith(name)]
-    for file, old, new in planted:
-        said = found_in(file, old, new)
-        print(f"{'found' if said else 'NOT FOUND'}: {file}: {old.strip()} -> {new.strip()}: {said}", flush=True)
-        missed += not said
-    print(f"{len(planted) - missed} of {len(planted)} planted faults are found")
-    return 1 if missed or not planted else 0
-
-
 def main():
-    check_planted()
     counts = run_all()
     print("at a terminal: {} pages, {} reasons, {} refused of {} random lines, {} hints, {} sessions".format(*counts[:3], RANDOM_LINES, *counts[3:]))
 
 
 if __name__ == "__main__":
-    if sys.argv[1:2] == ["-p"] and len(sys.argv) <= 3:
-        sys.exit(plant("".join(sys.argv[2:])))
-    if sys.argv[1:]:
-        sys.exit(__doc__)
     main()
