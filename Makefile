@@ -12,7 +12,7 @@
 #: make test                  cases and tests with programs that are not proved                            kit          5 minutes
 #: make gate                  proves everything, and tries the wrong bodies of must-fail/                  kit          60 minutes
 #: make check                 all that CI runs: the gate, and tests of the proved programs                 tools/needs  90 minutes
-#: make check-all             this, all wrong bodies, planted bugs, the page and the release               tools/needs  6 hours
+#: make check-all             this, all wrong bodies, planted bugs, the page and the release               tools/needs  5 hours
 #: make check-wrong-bodies    has the prover refuse those of changed crates, or of NAMES=CRATE              kit          to 2 hours
 #: make planted               plants BUGS=NAME, or all, and sees that tests find them                      kit          1 minute each
 #: make demo                  proves v7, and shows a session and a link with it                            kit          10 minutes
@@ -149,26 +149,24 @@ test:
 	@python3 -m tests test
 
 # every proof from nothing, the wrong bodies of must-fail/, the tests, the programs' stored runs
-gate: check-text
+gate:
 	python3 -m tests.costs.gate_times rt ci
 
 # the cheapest first, so that a fault shows early. The gate leaves the programs that the tests of `check` run. A wrong body that is not
-# refused is printed, and ends nothing: in the form that they have now, those of some crates have not been tried yet
-check: quick test gate
-	$(MAKE) check-wrong-bodies || echo 'a wrong body is not refused, or could not be tried'
-	$(MAKE) all lib build/library_uses
-	python3 -m tests check
+# refused is printed, and ends nothing but check-all: in the form that they have now, those of some crates have not been tried yet
+check:
+	@python3 -m tests parts 'make quick' 'make test' 'make gate' '$(if $(MORE),,-)make check-wrong-bodies' \
+		'make all lib build/library_uses' 'python3 -m tests check' $(MORE)
 
-check-all: check
-	python3 -m tests all
-	$(MAKE) check-wrong-bodies NAMES=all
-	$(MAKE) planted
+# all wrong bodies, in place of those of crates that have changed
+check-all:
+	@$(MAKE) check NAMES=all MORE="'python3 -m tests all' 'make planted'"
 
-# those of the crates that have changed since theirs were refused, as tests/wrong_bodies/wrong-bodies.seen tells, and the script itself,
-# with harmless edits planted among wrong ones; or those of the crates NAMES
+# those of the crates that have changed since theirs were refused, as tests/wrong_bodies/wrong-bodies.seen tells, or all, and the script
+# itself, with harmless edits planted among wrong ones; or those of the crates NAMES
 check-wrong-bodies:
 	python3 -m tests.wrong_bodies.wrong_bodies $(or $(filter-out all,$(NAMES)),$(if $(NAMES),,-c))
-	$(if $(NAMES),,python3 -m tests.wrong_bodies.wrong_bodies --try)
+	$(if $(filter-out all,$(NAMES)),,python3 -m tests.wrong_bodies.wrong_bodies --try)
 
 # the bugs of docs/internals/PLANTED.md, one after another
 planted:

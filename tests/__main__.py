@@ -4,6 +4,8 @@ usage: python3 -m tests NAME ..          tests, all of a folder (`oracles`), or 
        python3 -m tests list             all tests by tier, with their seconds, and the programs that they run
        python3 -m tests which PATH ..    the tests and the crates that a change of these files concerns
        python3 -m tests needs TIER       Debian's packages that the tests of this tier and of those before need, and that are missing
+       python3 -m tests parts COMMAND ..     runs commands up to one that fails, and prints the minutes of each. One that has passed with
+                                         this commit is not run again. A failure of one that begins with - is printed, and ends nothing
 
 Each tier has what those before do not have. The tests of `test` run side by side with programs that are compiled here without any proof,
 and with the tests that are code, of each crate that has a function with `#[test]`. Those of `check` and `all` run with the programs of
@@ -18,7 +20,9 @@ import importlib.util
 import os
 import re
 import shutil
+import subprocess
 import sys
+import time
 from collections import Counter
 from concurrent.futures import ThreadPoolExecutor, wait
 from typing import NamedTuple
@@ -45,6 +49,8 @@ SECONDS = "1800"
 SIDE_BY_SIDE = 4
 # the cases are played in so many groups
 GROUPS = 4
+# what has passed, of `make check` and `make check-all`, and with which commit
+PARTS = "build/parts"
 
 
 class Test(NamedTuple):
@@ -110,6 +116,33 @@ def run_listed(tests):
         tally = Tally({pool.submit(passes, *it.command()): it.title() for it in tests})
         tally.take_all()
     return tally.end()
+
+
+def commit():
+    """The commit of which all files are; nothing if one has changed, but for the digests that a test of wrong bodies writes."""
+    changed = ran("git", "status", "--porcelain", "--", ".", ":!tests/wrong_bodies/wrong-bodies.seen")
+    return "" if changed.status or changed.out else ran("git", "rev-parse", "HEAD").out.decode().strip()
+
+
+def run_parts(*commands):
+    """Runs commands, and notes in build/parts those that have passed."""
+    passed, rows, status = {*read(PARTS).split("\n")} if os.path.exists(PARTS) else set(), [], 0
+    for command in commands:
+        state, begun = commit(), time.monotonic()
+        if state and f"{state} {command}" in passed:
+            rows.append(f"passed before      {command}")
+            continue
+        failed = subprocess.run(command.removeprefix("-"), shell=True, check=False).returncode
+        rows.append(f"{(time.monotonic() - begun) / 60:6.1f} minutes{' FAILED' * bool(failed):7} {command}")
+        if failed and not command.startswith("-"):
+            status = 1
+            break
+        if state and not failed:
+            os.makedirs("build", exist_ok=True)
+            with open(PARTS, "a", encoding="utf-8") as file:
+                file.write(f"{state} {command}\n")
+    print("\n".join(rows), flush=True)
+    return status
 
 
 # --- the tests of code
@@ -238,6 +271,8 @@ def main(words):
         before = TIERS[: TIERS.index(words[1]) + 1]
         print(*sorted({PACKAGES[it] for it in missing([test for test in tests if test.tier in before])}), sep="\n")
         return 0
+    if words[:1] == ["parts"] and words[1:]:
+        return run_parts(*words[1:])
     if words == ["list"]:
         for it in tests:
             print(f"{it.tier:5} {it.title():24} {it.seconds:5} seconds  {it.path}  {' '.join(it.words('programs'))}".rstrip())

@@ -330,12 +330,12 @@ def make_targets():
     """The targets of the Makefile, and those of them that .ci/run makes, with what these need and make."""
     rules = dict(re.findall(r"^([\w-]+):(?!=)(.*(?:\n\t.*)*)", read("Makefile"), re.M))
     run = re.findall(r"\bmake ([\w -]+)$", read(".ci/run"), re.M)
-    run = " ".join(run).split()
     for name in run:
-        needs, *commands = rules.get(name, "").split("\n")
-        made = [*needs.split(), *(it for line in commands if "$(MAKE)" in line for it in line.split()[1:])]
-        run += [it for it in made if it in rules and it not in run]
-    return {*rules}, {*run, "demo", "recheck"} if "python3 -m tests check" in rules["check"] else {*run}
+        needs = rules.get(name, "")
+        run += [it for it in needs.split("\n")[0].split() + " ".join(re.findall(r"\bmake ([\w /-]+)'", needs)).split() if it in rules and it not in run]
+    # the tests of these tiers have those of check-text, and what demo and recheck run
+    run += ["check-text"] * ("test" in run) + ["demo", "recheck"] * ("python3 -m tests check" in rules["check"])
+    return {*rules}, {*run}
 
 
 def checked_documents():
@@ -352,7 +352,7 @@ def no_tests(command):
             yield module
     named = re.match(r"(?:\$ )?python3 -m tests ([a-z0-9_ ]+)", command)
     for name in named[1].split() if named else []:
-        if name not in ("which", "list", "needs", "text", "test", "check", "all") and not glob.glob(f"tests/{name}") + glob.glob(f"tests/*/{name}.*"):
+        if name not in ("which", "list", "needs", "parts", "text", "test", "check", "all") and not glob.glob(f"tests/{name}") + glob.glob(f"tests/*/{name}.*"):
             yield name
 
 
