@@ -9,8 +9,7 @@ the gate refuses folders with sources that no crate lists. A library is proved a
 it, have changed. Beside them NAME.verdict has the line by which the prover ends, and NAME.o what a program is linked from: a release
 is made of these.
 
-While it works it prints how many functions are proved of all, and an estimate of the time that is left: at a terminal on one line, and
-elsewhere a line for each crate, and at least one every ten seconds.
+While it works it prints a line for each crate, and at least one every ten seconds.
 """
 import hashlib
 import os
@@ -19,18 +18,17 @@ import subprocess
 import sys
 import tarfile
 import tempfile
-import threading
-import time
-from concurrent.futures import ThreadPoolExecutor
+from concurrent.futures import ThreadPoolExecutor, wait
 
 from tests.lib.files import TOP, read, write
 from tests.lib.rattle import FUNCTION, crates_in
+from tests.lib.tally import Failed, Tally
 
 KEPT = "build/proved"
 # more jobs of one check seldom help
 MOST_JOBS = 8
-# of a processor for a function, until this run has a rate of its own; and between two lines where no terminal is
-SECONDS_EACH, SECONDS_SILENT = 3, 10
+# of a processor for a function
+SECONDS_EACH = 3
 
 
 def asked(*words):
@@ -118,69 +116,13 @@ class Kit:
         ]
 
 
-class Progress:
-    """How far a run is, printed while it works."""
-
-    def __init__(self, counts):
-        self.counts, self.total = counts, sum(counts.values())
-        self.done = self.kept = 0
-        # whether this run has a rate of its own
-        self.is_known = False
-        self.busy = set()
-        self.begun = self.printed = time.monotonic()
-        self.expected = self.total * SECONDS_EACH / min(os.cpu_count(), MOST_JOBS)
-        self.at_terminal = sys.stdout.isatty()
-        self.lock, self.over = threading.Lock(), threading.Event()
-
-    def text(self):
-        seconds = time.monotonic() - self.begun
-        left = ""
-        if self.done < self.total and not self.over.is_set():
-            left = f", about {int(max(0, self.expected - seconds)) // 60 + 1} more" if self.is_known else f" of about {int(self.expected) // 60 + 1} on an idle machine"
-        return f"{self.done} of {self.total} functions proved, {int(seconds) // 60} minutes{left}"
-
-    def say(self, line):
-        """Prints a line, at a terminal in place of the one that is overwritten."""
-        print(f"\r{line}\x1b[K" if self.at_terminal else line, flush=True)
-        self.printed = time.monotonic()
-
-    def begin(self, name):
-        with self.lock:
-            self.busy.add(name)
-
-    def end(self, name, is_proved, is_kept=False):
-        """Notes that a crate is proved, or was before this run, or is not; and how long all may take, by what this run has proved."""
-        with self.lock:
-            self.busy.discard(name)
-            self.done += self.counts[name] if is_proved else 0
-            self.kept += self.counts[name] if is_kept else 0
-            each = SECONDS_EACH / min(os.cpu_count(), MOST_JOBS)
-            self.is_known = self.done - self.kept > self.total // 10
-            if self.is_known:
-                each = (time.monotonic() - self.begun) / (self.done - self.kept)
-            self.expected = each * (self.total - self.kept)
-            if not is_proved or not (self.at_terminal or is_kept):
-                self.say(f"{name}: {'proved' if is_proved else 'not proved'}; {self.text()}")
-
-    def watch(self):
-        """Prints how far the run is until it is over."""
-        while not self.over.wait(1):
-            with self.lock:
-                if self.at_terminal:
-                    print(f"\r{self.text()}: {' '.join(sorted(self.busy))}"[:79], end="\x1b[K", flush=True)
-                elif time.monotonic() - self.printed >= SECONDS_SILENT:
-                    self.say(f"{self.text()}; proving {' '.join(sorted(self.busy))}")
-        self.say(self.text())
-
-
 class Proving:
     """What is proved of crates, lowest first. The last one is built into a file, if a file is given."""
 
     def __init__(self, crates, kit, file=None):
         self.crates, self.kit, self.file = crates, kit, file
         self.top = crates[-1] if file else None
-        self.lanes = {}
-        self.progress = Progress({crate.name: crate.functions() for crate in crates})
+        self.lanes, self.busy = {}, []
 
     def stamp(self, crate):
         """What a proof rests on: the kit, the sources of the crate and those of the crates below it."""
@@ -206,16 +148,18 @@ class Proving:
         return [[*nice, *words] for words in self.kit.library(crate, max(1, jobs // 2) if spare else jobs)]
 
     def run(self, crate):
-        """Runs the commands of a crate in its folder, and returns the line of its verdict. Prints what the first that fails says."""
+        """Runs the commands of a crate in its folder, and returns the line of its verdict."""
         how = {"cwd": f"crates/{crate.name}", "stdin": subprocess.DEVNULL, "stdout": subprocess.PIPE, "stderr": subprocess.STDOUT}
         said = []
         for words in self.commands(crate):
             ran = subprocess.run(words, **how)
-            if ran.returncode:
-                self.progress.say(ran.stdout.decode(errors="replace"))
-                return None
             said += ran.stdout.decode(errors="replace").split("\n")
-        return next((line for line in said if line.startswith("logic=proved ")), None)
+            if ran.returncode:
+                break
+        verdicts = [line for line in said if line.startswith("logic=proved ")]
+        if ran.returncode or not verdicts:
+            raise Failed("\n".join(said))
+        return verdicts[0]
 
     def is_kept(self, crate, stamp):
         """Whether the crate is proved already. What it left is unpacked."""
@@ -244,33 +188,31 @@ class Proving:
             write(f"{kept}.{kind}", text)
 
     def prove(self, crate):
-        """Proves a crate once those that it waits for are proved, unless it is proved already. Whether it is."""
-        if not all([self.lanes[other].result() for other in crate.waits]):
-            return False
+        """Proves a crate once those that it waits for are proved, unless it is proved already."""
+        wait(self.lanes[other] for other in crate.waits)
+        if any(self.lanes[other].exception() for other in crate.waits):
+            raise Failed("what it uses is not proved")
         stamp = self.stamp(crate)
         if self.is_kept(crate, stamp):
-            self.progress.end(crate.name, True, True)
-            return True
-        self.progress.begin(crate.name)
-        verdict = self.run(crate)
-        self.progress.end(crate.name, verdict is not None)
-        if verdict:
-            self.keep(crate, stamp, verdict)
-        return verdict is not None
+            return "proved before"
+        self.busy.append(crate.name)
+        try:
+            self.keep(crate, stamp, self.run(crate))
+        finally:
+            self.busy.remove(crate.name)
+        return f"{crate.functions()} functions are proved"
 
     def whole(self):
-        """Proves all, lowest first. Whether all is proved."""
-        print(f"{len(self.crates)} crates: {self.progress.text()}", flush=True)
-        watching = threading.Thread(target=self.progress.watch)
-        watching.start()
-        try:
-            with ThreadPoolExecutor(len(self.crates)) as pool:
-                for crate in self.crates:
-                    self.lanes[crate] = pool.submit(self.prove, crate)
-            return all(lane.result() for lane in self.lanes.values())
-        finally:
-            self.progress.over.set()
-            watching.join()
+        """Proves all, lowest first. The status to end with."""
+        count = sum(crate.functions() for crate in self.crates)
+        minutes = count * SECONDS_EACH / min(os.cpu_count(), MOST_JOBS) / 60
+        print(f"{len(self.crates)} crates with {count} functions: at most about {minutes:.0f} minutes on an idle machine", flush=True)
+        with ThreadPoolExecutor(len(self.crates)) as pool:
+            for crate in self.crates:
+                self.lanes[crate] = pool.submit(self.prove, crate)
+            tally = Tally({lane: crate.name for crate, lane in self.lanes.items()}, lambda: self.busy)
+            tally.take_all()
+        return tally.end()
 
 
 def main(name, file):
@@ -285,7 +227,7 @@ def main(name, file):
     for folder in (KEPT, os.path.dirname(file)):
         os.makedirs(folder, exist_ok=True)
     with tempfile.TemporaryDirectory() as place:
-        return 0 if Proving(crates_under(name), Kit(place), file).whole() else 1
+        return Proving(crates_under(name), Kit(place), file).whole()
 
 
 if __name__ == "__main__":

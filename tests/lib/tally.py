@@ -15,8 +15,10 @@ class Failed(Differs):
 class Tally:
     """What has been run, and whether anything failed."""
 
-    def __init__(self, jobs):
+    def __init__(self, jobs, busy=None):
+        """Jobs with their names. `busy` gives the names of those that are at work, if others wait for these."""
         self.jobs, self.begun = jobs, time.monotonic()
+        self.busy = busy or (lambda: [name for job, name in jobs.items() if job.running()])
         self.lines = []
         self.failed = []
 
@@ -40,7 +42,7 @@ class Tally:
             for job in done:
                 self.take(self.jobs[job], job.result)
             if not done:
-                print(f"{self.far()}; now {', '.join(name for job, name in self.jobs.items() if job.running())}", flush=True)
+                print(f"{self.far()}; now {', '.join(self.busy())}", flush=True)
 
     def count(self, pattern):
         found = (re.match(pattern, line) for line in self.lines)
