@@ -1,8 +1,7 @@
 #!/bin/sh
 # Runs the program with standard streams closed, and compares its files, faults and statuses: what goes to a closed stream
-# is a write error, what is read from one is a read error, and no file that a command opens takes the place of one. Then its
-# words: one that is not UTF-8 is refused, empty ones and blanks are words as others, and there may be many. Then as many
-# files as may be open, and more. Last, the same of the programs beside v7.
+# is a write error, what is read from one is a read error, and no file that a command opens takes the place of one. Then more
+# files than may be open. Last, the same of the programs beside v7.
 #
 # usage: tests/programs/streams.sh       the programs are in build/, or in the folder V7_BUILD
 #
@@ -66,52 +65,9 @@ tried 'ld without one' 0 '' "$v7" ld -o whole main.o twice.o count.o >report
 cp whole stripped
 tried 'strip' 0 '' "$v7" strip stripped
 
-# a word that is not UTF-8
-tried 'a word that is not UTF-8' 2 'v7: usage' "$v7" nm "$(printf '\377')" >answers
-same answers /dev/null
-
-# empty words, and words of blanks
-cp main.o kept
-tried 'an empty output' 2 'v7: : cannot create' "$v7" ld -o "" main.o twice.o count.o >answers
-same main.o kept
-tried 'an empty input' 2 'v7: : cannot open' "$v7" ld -o out main.o "" twice.o >answers
-tried 'an empty file of nm' 2 'v7: : cannot open' "$v7" nm "" main.o >answers
-tried 'an empty tool' 2 'v7: usage' "$v7" "" nm main.o >answers
-tried 'a file of blanks' 2 'v7:   : cannot open' "$v7" nm '  ' >answers
-tried 'a tool after a blank' 2 'v7: usage' "$v7" ' nm' main.o >answers
-same answers /dev/null
-tried 'an output of a blank' 0 '' "$v7" ld -o ' ' main.o twice.o count.o >answers
-same ' ' whole
-[ ! -e out ] || fail 'a link that was refused has stored a file'
-
-# a line, so many times
-repeated() {
-    yes "$2" | head -n "$1"
-}
-
-# 1,000 words
-tried '1,000 words' 0 '' "$v7" size $(repeated 999 main.o) >answers
-repeated 999 'main.o: 10+0+0 = 10b = 012b' | same - answers
-
-# an input of nothing, so many times beside three others; the limit of open files is the first word, as far as it can be had
-printf '\007\001\000\000\000\000\000\000\000\000\000\000\000\000\000\000' >empty.o
-link_many() {
-    (ulimit -n "$1" 2>limits && exec "$v7" ld -o out main.o twice.o count.o $(repeated "$2" empty.o)) >answers 2>fault
-}
-
-# one link of 1,000 files, where so many may be open
-if (ulimit -n 2048) 2>limits; then
-    link_many 2048 997; status=$?
-    expect 'a link of 1,000 files' 0 ''
-    same out whole
-    rm out
-else
-    echo "a link of 1,000 files was not tried: no more than $(ulimit -n) may be open"
-fi
-
 # more files than may be open: no output is made
-link_many 64 97; status=$?
-expect 'too many files' 2 'v7: empty.o: cannot open'
+(ulimit -n 64 && exec "$v7" ld -o out main.o $(yes twice.o | head -n 99)) >answers 2>fault; status=$?
+expect 'too many files' 2 'v7: twice.o: cannot open'
 [ ! -e out ] || fail 'too many files: an output is there'
 
 # the folder that is to hold standard input can't be opened: two streams are open, and no more may be
@@ -219,15 +175,6 @@ v7-explain -c reported >answers 2>&-; ended 'v7-explain -c, error closed' 1
 v7-object main.o out >answers 2>&-; ended 'v7-object, error closed' 1
 v7-from-gnu main.o out >answers 2>&-; ended 'v7-from-gnu, error closed' 1
 [ ! -e out ] || fail 'a file that was refused is stored'
-
-# words that are not UTF-8, and 1,000 of them
-for program in v7-explain v7-object v7-from-gnu v7-lesson; do
-    "$program" "$(printf '\377')" x >answers 2>errors; ended "$program, a word that is not UTF-8" 2
-    grep -q "usage: $program" errors || fail "$program, a word that is not UTF-8: $(cat errors)"
-    same answers /dev/null
-done
-tried 'v7-explain, 1,000 words' 0 '' v7-explain -l $(repeated 999 main.o) >answers
-repeated 999 "$(v7-explain -l main.o)" | same - answers
 
 # a file that is larger than the memory that there is can be read, but there is no memory for it
 dd if=/dev/null of=large bs=1 seek=300000000 2>answers
