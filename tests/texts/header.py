@@ -6,6 +6,7 @@ it is found.
 tier: text, 2 seconds; for: include/v7.h packaging/python packaging/rust crates/v7_c; needs: cc
 """
 import ctypes
+import functools
 import glob
 import importlib.util
 import os
@@ -128,8 +129,10 @@ def calls_of(header):
             for name, words in found}
 
 
-def places_in_c(header, structs):
+@functools.cache
+def places_in_c(header):
     """Each field's place and size, by the compiler."""
+    structs = structs_of(header)
     rows = [(struct, field) for struct, fields in structs.items() for field in fields]
     lines = [f'    printf("%zu %zu %zu\\n", offsetof(struct {s}, {f}), sizeof(((struct {s} *)0)->{f}), sizeof(struct {s}));' for s, f in rows]
     with tempfile.TemporaryDirectory() as room:
@@ -163,34 +166,40 @@ def fields_in_code(texts, name):
     return re.findall(r"^    (?:pub(?:\(crate\))? )?(\w+): (?!Global,)([^\n]+),", body[1] if body else "", re.M)
 
 
-def layout_of(texts, kind):
+def layout_of(kind, fields_of):
     """The size of a type and its alignment. A slice is a pointer and a number of items."""
     if kind in SIZES:
         return SIZES[kind], SIZES[kind]
     array = re.fullmatch(r"\[(\w+); (\d+)\]", kind)
     if array:
-        size, align = layout_of(texts, array[1])
+        size, align = layout_of(array[1], fields_of)
         return size * int(array[2]), align
     if kind.startswith(("&", "*")):
         return (16 if "[" in kind else 8), 8
-    layouts = [layout_of(texts, field) for _, field in fields_in_code(texts, re.match(r"\w+", kind)[0])]
-    at = 0
-    for size, align in layouts:
-        at = -(-at // align) * align + size
-    widest = max((align for _, align in layouts), default=1)
-    return -(-at // widest) * widest, widest
+    return laid(fields_of(re.match(r"\w+", kind)[0]), fields_of)[1]
+
+
+def laid(fields, fields_of):
+    """Each field's place and size, at the next multiple of its alignment; and the size and the alignment of all."""
+    at, rows, widest = 0, [], 1
+    for field, kind in fields:
+        size, align = layout_of(kind, fields_of)
+        at, widest = -(-at // align) * align, max(widest, align)
+        rows.append((field, at, size))
+        at += size
+    return rows, (-(-at // widest) * widest, widest)
 
 
 def places_in_code(texts, name, in_c):
-    """Each field's place and size, at the next multiple of its alignment. A slice is two fields, if it is in C."""
-    fields, at, names = [], 0, [field for field, *_ in in_c]
-    for field, kind in fields_in_code(texts, name):
-        field, (size, align) = RENAMED.get(field, field), layout_of(texts, kind)
-        at = -(-at // align) * align
+    """Each field's place and size. A slice is two fields, if it is in C."""
+    found, names = fields_in_code(texts, name), [field for field, *_ in in_c]
+    (rows, (whole, _)), fields = laid(found, lambda inner: fields_in_code(texts, inner)), []
+    for (field, at, size), (_, kind) in zip(rows, found):
+        field = RENAMED.get(field, field)
         is_two = kind.startswith("&") and size == 16 and (field, at, 8) in [row[:3] for row in in_c]
-        fields += [(field, at, 8), (names[names.index(field) + 1:][:1], at + 8, 8)] if is_two else [(field, at, size)]
-        at += size
-    return [(field[0] if isinstance(field, list) and field else field, *rest, layout_of(texts, name)[0]) for field, *rest in fields]
+        more = [(*names[names.index(field) + 1:][:1], at + 8, 8, whole)] if is_two else []
+        fields += [(field, at, 8 if is_two else size, whole), *more]
+    return fields
 
 
 def c_type(kind):
@@ -315,32 +324,10 @@ def rust_structs(rust):
 
 
 def places_in_rust(structs, name):
-    """Each field's place and size, at the next multiple of its alignment."""
-    by_rust = {of_rust: fields for of_rust, fields in structs.values()}
-
-    def layout(kind):
-        kind = SAME.get(kind, kind)
-        if kind.startswith("*"):
-            return 8, 8
-        if kind in SIZES:
-            return SIZES[kind], SIZES[kind]
-        array = re.fullmatch(r"\[(\w+); (\d+)\]", kind)
-        if array:
-            size, align = layout(array[1])
-            return size * int(array[2]), align
-        rows, align = laid(by_rust[kind])
-        return rows[-1][3], align
-
-    def laid(fields):
-        at, rows, widest = 0, [], 1
-        for field, kind in fields:
-            size, align = layout(kind)
-            at, widest = -(-at // align) * align, max(widest, align)
-            rows.append((field, at, size))
-            at += size
-        return [(*row, -(-at // widest) * widest) for row in rows], widest
-
-    return laid(structs[name][1])[0]
+    """Each field's place and size."""
+    fields = {of_rust: [(field, SAME.get(kind, kind)) for field, kind in known] for of_rust, known in structs.values()}
+    rows, (whole, _) = laid(fields[structs[name][0]], fields.get)
+    return [(*row, whole) for row in rows]
 
 
 def rust_calls(rust, structs):
@@ -397,7 +384,7 @@ def compare(header, texts, python, rust):
     """All that differs."""
     structs, enums = structs_of(header), enums_of(header)
     faults, names = compare_calls(header, texts)
-    in_c = places_in_c(header, structs)
+    in_c = places_in_c(header)
     for struct in structs:
         of_code, of_python = places_in_code(texts, names.get(struct, struct), in_c[struct]), places_in_python(python, struct)
         faults += [f"struct {struct}: {in_c[struct]} in C, and {of} in {where}" for where, of in (("the code", of_code), ("Python", of_python))
