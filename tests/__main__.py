@@ -220,36 +220,56 @@ def programs_with(crate):
 
 
 def concern(path, test):
-    """Why a change of a file concerns a test, or nothing."""
-    crate = path.split("/")[1] if path.startswith("crates/") else ""
-    imports = " ".join(re.findall(r"^(?:from|import) .*", read(test.path), re.M)) if path.startswith("tests/") else ""
-    module = os.path.basename(path).partition(".")[0]
-    if any(path.startswith(it) for it in [test.path, *test.words("for")]) or re.search(rf"\b{module}\b", imports):
+    """Why a change of a file concerns a test, or nothing: it was made for it, uses the script, or runs a program that has the crate."""
+    if any(f"{path}/".startswith(f"{it.rstrip('/')}/") for it in [test.path, *test.words("for")]):
         return "made for it"
-    own = programs_with(crate) & {*test.words("programs")} if crate else set()
+    if path.startswith("tests/") and path.endswith(".py"):
+        imports = " ".join(re.findall(r"^ *(?:from|import) .*", read(test.path), re.M))
+        return "uses it" if re.search(rf"\b{os.path.basename(path)[:-3]}\b", imports) else ""
+    own = programs_with(path.split("/")[1]) & {*test.words("programs")} if path.startswith("crates/") else set()
     return f"runs {' '.join(sorted(own))}" if own else ""
 
 
 def tell_crate(name):
     """What to do in a crate, and the crates that are proved again after it."""
     crates = {it.name: it for it in crates_under(*crates_in(TOP))}
-    above = [it.name for it in crates.values() if crates[name] in it.below]
-    count = sum(crates[it].functions() for it in [name, *above])
-    print(f"in crates/{name}: rt try --test, and then rt check: {crates[name].functions()} functions")
-    print(f"crates above it: {' '.join(above) or 'none'}")
-    print(f"all of them are proved in about {count * SECONDS_EACH / 60:.0f} minutes of a processor, by make gate")
-    print(f"its wrong bodies: make check-wrong-bodies NAMES={name}")
+    above = [it for it in crates.values() if crates[name] in it.below]
+    tops = [it.name for it in above if not any(it in other.below for other in above)] or [name]
+    count = sum(it.functions() for it in [crates[name], *above])
+    print(f"in crates/{name}, which has {crates[name].functions()} functions: rt try --test, rt check --only MODULE::NAME, and rt check")
+    print(f"crates above it: {' '.join(it.name for it in above) or 'none'}; with it they have {count} functions, and are proved in about "
+          f"{count * SECONDS_EACH / 60:.0f} minutes of a processor:\n  rt ci {' '.join(tops)}")
+    print(f"its wrong bodies:\n  make check-wrong-bodies NAMES={name}")
+
+
+def tell(what, tests, before=""):
+    """A command that runs tests, and its minutes."""
+    if tests:
+        names = " ".join(dict.fromkeys(it.name for it in tests))
+        print(f"{what}, {sum(it.seconds for it in tests) / 60:.1f} minutes:\n  {before}python3 -m tests {names}")
 
 
 def which(*paths):
     """Prints the tests and the crates that a change of these files concerns."""
-    names = {path.split("/")[1] for path in paths if path.startswith("crates/")} & crates_in(TOP).keys()
-    for name in sorted(names):
+    for name in sorted({path.split("/")[1] for path in paths if path.startswith("crates/")} & crates_in(TOP).keys()):
         tell_crate(name)
-    print("in each case: make check-text, 1 minute; make test, 5 minutes, which proves nothing; before it is merged: make check")
-    reasons = [(test, {concern(path, test) for path in paths} - {""}) for test in listed() if test.tier in ("check", "all")]
-    for test, why in sorted(((test, why) for test, why in reasons if why), key=lambda it: "made for it" not in it[1]):
-        print(f"  python3 -m tests {test.title():20} {test.seconds / 60:5.1f} minutes  {', '.join(sorted(why))}")
+    reasons = [(test, {concern(path, test) for path in paths} - {""}) for test in listed()]
+    made = [test for test, why in reasons if why & {"made for it", "uses it"} and test.tier != "all"]
+    tell("tests of texts that were made for it, or use it", [it for it in made if it.tier == "text"])
+    others = [it for it in made if it.tier != "text"]
+    tell("other tests that were made for it, or use it, once make quick has compiled the programs in 2 minutes",
+         [it for it in others if "libv7.so" not in it.words("programs")], "V7_BUILD=build/quick ")
+    tell("and of libv7, once make all lib has proved it", [it for it in others if "libv7.so" in it.words("programs")])
+    cases = [path for path in paths if path.endswith(".case")]
+    if cases:
+        print(f"these cases alone:\n  V7_BUILD=build/quick python3 -m tests.cases.cases {' '.join(cases)}")
+    print("all texts, all cases and tests of code, unproved, 5 minutes:\n  make test\nbefore it is merged, 90 minutes:\n  make check")
+    tell("of that, what runs a program with it", [test for test, why in reasons if why and test not in made and test.tier == "check"])
+    for test in [test for test, why in reasons if why and test.tier == "all"]:
+        print(f"only make check-all runs this, {test.seconds / 60:.0f} minutes:\n  {' '.join([os.path.basename(test.command()[0]), *test.command()[1:]])}")
+    for path in paths:
+        if not os.path.exists(path):
+            print(f"{path} is not there")
     return 0
 
 

@@ -30,10 +30,9 @@ from tests.lib.files import TOP, read, read_bytes, write
 from tests.cases import bad_words
 from tests.cases.case_files import SAMPLES, contents, make, sample, sample_path
 from tests.cases.case_format import Mistake, cases_in, encoded, read_case
+from tests.lib.programs import BUILD
 from tests.lib.watching import NotWatched, Watch, is_memory
 
-# the folder of the programs
-BUILD = os.environ.get("V7_BUILD") or os.path.join(TOP, "build")
 # how long a command may take
 SECONDS = int(os.environ.get("V7_SECONDS") or 60)
 

@@ -6,7 +6,7 @@ from typing import NamedTuple
 
 from tests import TOP
 
-BUILD = os.path.abspath(os.environ.get("V7_BUILD") or os.path.join(TOP, "build"))
+BUILD = os.environ.get("V7_BUILD") or os.path.join(TOP, "build")
 
 
 class Ran(NamedTuple):
@@ -27,7 +27,7 @@ def program(name):
     """The path of a program, which has to be there."""
     path = os.path.join(BUILD, name)
     if not os.access(path, os.X_OK):
-        sys.exit(f"{path} is missing: make build/{name} makes it with proof, make quick without")
+        sys.exit(f"{path} is missing: make build/{name} proves it; or, after make quick: V7_BUILD=build/quick")
     return path
 
 

@@ -5,19 +5,20 @@
 # others are what is shown, standard error too. Each file has a new copy of the folder examples, and its commands run in one
 # shell, so that each sees what those before it left. Commands that need a program which is not installed are counted.
 #
-# usage: tests/programs/manual.sh [FILE...]       the programs have to be in build
+# usage: tests/programs/manual.sh [FILE...]       the programs are in build/, or in the folder V7_BUILD
 #
 # tier: check, 30 seconds; programs: v7 v7-explain v7-object v7-from-gnu v7-lesson; for: man docs examples README.md; needs: groff man mandoc pdp11
 set -u
 cd "$(dirname "$0")/../.."
 top=$PWD
+build=$(realpath "${V7_BUILD:-build}")
 for program in v7 v7-from-gnu v7-object v7-explain v7-lesson; do
-    [ -x build/$program ] || { echo "build/$program is missing: make build/$program makes it"; exit 2; }
+    [ -x "$build/$program" ] || { echo "$build/$program is missing: make build/$program makes it"; exit 2; }
 done
 [ $# -gt 0 ] || set -- man/*.1 man/*.5 README.md CONTRIBUTING.md examples/*.md docs/*.md docs/*/*.md
 room=$(mktemp -d)
 trap 'rm -rf "$room"' EXIT
-PATH=$top/build:$PATH
+PATH=$build:$PATH
 export PATH
 LC_ALL=C
 export LC_ALL

@@ -8,7 +8,7 @@
 # tier: check, 10 seconds; programs: v7 v7-explain v7-object v7-from-gnu v7-lesson; for: crates/surroundings
 set -u
 cd "$(dirname "$0")/../.."
-build=${V7_BUILD:-$PWD/build}
+build=$(realpath "${V7_BUILD:-build}")
 v7=$build/v7
 for program in v7 v7-explain v7-object v7-from-gnu v7-lesson; do
     [ -x "$build/$program" ] || { echo "$build/$program is missing: make builds it"; exit 2; }
@@ -71,9 +71,13 @@ expect 'too many files' 2 'v7: twice.o: cannot open'
 [ ! -e out ] || fail 'too many files: an output is there'
 
 # the folder that is to hold standard input can't be opened: two streams are open, and no more may be
-(ulimit -n 1 && exec "$v7" nm main.o) <&- >answers 2>fault; status=$?
-expect 'no folder to hold a stream' 2 'v7: /: cannot open'
-same answers /dev/null
+if [ "$(head -c 2 "$v7")" = '#!' ]; then
+    echo 'skipped: no folder to hold a stream, as a script starts the programs of make quick'
+else
+    (ulimit -n 1 && exec "$v7" nm main.o) <&- >answers 2>fault; status=$?
+    expect 'no folder to hold a stream' 2 'v7: /: cannot open'
+    same answers /dev/null
+fi
 
 # a device that is full
 if [ -c /dev/full ]; then
