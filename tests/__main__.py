@@ -27,7 +27,7 @@ from collections import Counter
 from concurrent.futures import ThreadPoolExecutor, wait
 from typing import NamedTuple
 
-from tests.lib.compare import notices
+from tests.lib.compare import notices, same
 from tests.lib.files import TOP, read
 from tests.lib.programs import Ran, ran
 from tests.lib.rattle import crates_in
@@ -112,10 +112,20 @@ def run_listed(tests):
     """Runs tests with the programs that are there, one after another."""
     tools_there(tests)
     print(f"{len(tests)} tests, about {sum(it.seconds for it in tests) / 60:.1f} minutes on an idle machine", flush=True)
+    check_itself()
+    return run_jobs({it.title(): it.command() for it in tests})
+
+
+def run_jobs(commands):
     with ThreadPoolExecutor(1) as pool:
-        tally = Tally({pool.submit(passes, *it.command()): it.title() for it in tests})
-        tally.take_all()
-    return tally.end()
+        return Tally({pool.submit(passes, *words): name for name, words in commands.items()}).take_all()
+
+
+def check_itself():
+    """A command that fails is noticed alone, among others, and as a part."""
+    notices(passes, "false")
+    notices(lambda: same("planted", run_jobs({"planted": ["false"]}), 0))
+    notices(lambda: same("planted", run_parts("false"), 0))
 
 
 def commit():
@@ -193,6 +203,7 @@ def once_compiled(programs, folder, *words):
 def run_unproved(tests):
     """Runs tests side by side, with programs that are compiled without proof, the cases, and the tests of crates."""
     tools_there(tests)
+    check_itself()
     notices(run_tests, "planted", 3, lambda *words, **how: Ran(0, b"test result: ok. 2 passed; 0 failed", b""))
     print("Programs are compiled, cases played, texts compared, and the tests of crates run: about 5 minutes on four idle processors.")
     print("All of this is compiled without proof, so it proves nothing: make gate proves it.", flush=True)
@@ -207,9 +218,9 @@ def run_unproved(tests):
         work += [(group_name(files), once_compiled, [*programs], folder, *play, *files) for files in shares()]
         work += [(it.title(), once_compiled, [*programs], folder, *it.command()) for it in tests if it.words("programs")]
         tally = Tally({**first, **programs, **{pool.submit(*rest): name for name, *rest in work}})
-        tally.take_all()
+        status = tally.take_all()
     print(f"{tally.count('([0-9]+) cases played')} cases and {tally.count('([0-9]+) tests of ')} tests passed: nothing was proved")
-    return tally.end()
+    return status
 
 
 # --- which tests and crates a change concerns

@@ -210,9 +210,7 @@ class Proving:
         with ThreadPoolExecutor(len(self.crates)) as pool:
             for crate in self.crates:
                 self.lanes[crate] = pool.submit(self.prove, crate)
-            tally = Tally({lane: crate.name for crate, lane in self.lanes.items()}, lambda: self.busy)
-            tally.take_all()
-        return tally.end()
+            return Tally({lane: crate.name for crate, lane in self.lanes.items()}, lambda: self.busy).take_all()
 
 
 def main(name, file):

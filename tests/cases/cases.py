@@ -30,6 +30,7 @@ from tests.lib.files import TOP, read, read_bytes, write
 from tests.cases import bad_words
 from tests.cases.case_files import SAMPLES, contents, make, sample, sample_path
 from tests.cases.case_format import Mistake, cases_in, encoded, read_case
+from tests.lib.compare import notices, same
 from tests.lib.programs import BUILD
 from tests.lib.watching import NotWatched, Watch, is_memory
 
@@ -355,34 +356,27 @@ class Run:
 
 
 def check_samples():
-    """Compares the samples that are in examples too: whether they are equal."""
+    """The samples, and the data of stored runs, are those of examples, if these have such a file. Each case has a name of its own, and
+    is where it is played."""
     names = {os.path.basename(path).replace(".lst", ".o") for path in glob.glob(os.path.join(SAMPLES, "*"))}
-    compared = differing = 0
-    for name in sorted(names):
-        example = os.path.join(TOP, "examples", name)
-        if os.path.exists(example) and sample_path(name):
-            compared += 1
-            if read_bytes(example) != sample(0, name):
-                differing += 1
-                print(f"the sample {name} is not examples/{name}")
-    for path in glob.glob(f"{TOP}/crates/*/data/*.[ogl]*"):
-        example = os.path.join(TOP, "examples", os.path.basename(path))
-        if os.path.exists(example):
-            compared += 1
-            if read_bytes(example) != read_bytes(path):
-                differing += 1
-                print(f"{path} is not {example}")
-    print(f"{compared} samples compared with examples/")
-    return differing == 0 and compared > 0
-
-
-def check_names():
-    """Whether each case has a name of its own, and stands where it is played."""
+    found = {name: sample(0, name) for name in names if sample_path(name)}
+    found.update((path, read_bytes(path)) for path in glob.glob(f"{TOP}/crates/*/data/*.[ogl]*"))
+    pairs = [(name, data, f"{TOP}/examples/{os.path.basename(name)}") for name, data in found.items()]
+    pairs = [(name, data, read_bytes(example)) for name, data, example in pairs if os.path.exists(example)]
     stray = glob.glob(f"{TOP}/tests/*.case") + glob.glob(f"{TOP}/tests/cases/*.*st") + glob.glob(f"{TOP}/tests/cases/*.case")
     names = [name for path in glob.glob(os.path.join(SAMPLES, "*.case")) for name in re.findall(r"^case (\S+)", read(path), re.M)]
-    twice = sorted({name for name in names if names.count(name) > 1})
-    print(*(f"there twice: {name}" for name in twice), *(f"not in tests/cases/data: {path}" for path in stray), f"{len(names)} names of cases", sep="\n")
-    return not stray and not twice
+    notices(compare_samples, [(*pairs[0][:2], b"planted")], names, stray)
+    notices(compare_samples, pairs, [*names, names[0]], stray)
+    notices(compare_samples, pairs, names, ["planted"])
+    compare_samples(pairs, names, stray)
+    print(f"{len(pairs)} samples compared with examples/, and {len(names)} names of cases")
+
+
+def compare_samples(pairs, names, stray):
+    for row in pairs:
+        same(*row)
+    same("names of cases that are there twice", [name for name, count in collections.Counter(names).items() if count > 1], [])
+    same("cases that are not in tests/cases/data", stray, [])
 
 
 def played(words):
@@ -411,8 +405,10 @@ def check_bad():
 
 
 def main(words):
-    if words in (["-s"], ["-b"]):
-        return 0 if {"-s": lambda: check_samples() and check_names(), "-b": check_bad}[words[0]]() else 1
+    if words == ["-s"]:
+        return check_samples()
+    if words == ["-b"]:
+        return 0 if check_bad() else 1
     option = words[0] if words[:1] in (["-e"], ["-p"]) else ""
     files = words[bool(option):] or sorted(glob.glob(os.path.relpath(os.path.join(SAMPLES, "*.case"))))
     all_cases = Run(option == "-e", option == "-p")

@@ -21,6 +21,7 @@ import sys
 import tempfile
 from concurrent.futures import ThreadPoolExecutor
 
+from tests.lib.compare import same
 from tests.lib.files import TOP, read, write
 from tests.wrong_bodies import edits
 from tests.programs import largest
@@ -186,18 +187,25 @@ def programs(names):
 
 def check_table():
     """Whether each edit fits the code, each edit of tests/cases/planted has a row, and each case of a row is there."""
-    table, faults = rows(), []
-    there = there_are()
+    table, there = rows(), there_are()
     edits = {os.path.basename(path)[:-5] for path in glob.glob(os.path.join(TOP, "tests", "cases", "planted", "*.edit"))}
-    faults += [f"{bug}: no row" for bug in sorted(edits - {bug for bug, _ in table})]
-    for bug, expected in table:
-        faults += [f"{bug}: no case {name}" for name in expected if name not in there] + ([] if expected else [f"{bug}: no case"])
-        try:
-            changed(bug)
-        except (Fault, OSError) as fault:
-            faults.append(f"{bug}: {fault}")
+    planted = ["planted: no case planted", "planted: [Errno 2] No such file or directory: 'tests/cases/planted/planted.edit'"]
+    same("faults of a row that is planted", [*faults_of("planted", ["planted"], there)], planted)
+    faults = [f"{bug}: no row" for bug in sorted(edits - {bug for bug, _ in table})]
+    faults += [fault for row in table for fault in faults_of(*row, there)]
     print(f"{PAGE} has {len(table)} bugs", *faults, sep="\n")
     return bool(faults) or not table
+
+
+def faults_of(bug, expected, there):
+    """What is wrong with a row of the table: cases that are not there, and an edit that does not fit."""
+    yield from (f"{bug}: no case {name}" for name in expected if name not in there)
+    if not expected:
+        yield f"{bug}: no case"
+    try:
+        changed(bug)
+    except (Fault, OSError) as fault:
+        yield f"{bug}: {fault}"
 
 
 def list_failing(bugs):

@@ -35,7 +35,7 @@ class Tally:
             print(f"{self.far()}: FAILED: {name}\n{str(failed).rstrip()}", flush=True)
 
     def take_all(self):
-        """Takes each result as it comes. What runs is printed if nothing comes for a while."""
+        """Takes each result as it comes, and returns the status to end with. What runs is printed if nothing comes for a while."""
         left = {*self.jobs}
         while left:
             done, left = wait(left, SECONDS_SILENT, FIRST_COMPLETED)
@@ -43,12 +43,10 @@ class Tally:
                 self.take(self.jobs[job], job.result)
             if not done:
                 print(f"{self.far()}; now {', '.join(self.busy())}", flush=True)
+        if self.failed:
+            print(f"{len(self.failed)} failed: {', '.join(self.failed)}")
+        return 1 if self.failed else 0
 
     def count(self, pattern):
         found = (re.match(pattern, line) for line in self.lines)
         return sum(int(it[1]) for it in found if it)
-
-    def end(self):
-        if self.failed:
-            print(f"{len(self.failed)} failed: {', '.join(self.failed)}")
-        return 1 if self.failed else 0

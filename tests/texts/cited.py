@@ -116,7 +116,10 @@ class Cited(unittest.TestCase):
     def test_remarks(self):
         manual = read("man/v7-explain.1")
         written = read("tests/oracles/notes.py") + read("tests/oracles/suspicions.py")
-        self.compare(lambda text: remark_faults(text, manual, written), read("include/v7.h"), "V7_REMARK_BRANCH_WITHIN", "V7_REMARK_NEW = 27, V7_REMARK_BRANCH_WITHIN")
+        header = read("include/v7.h")
+        self.compare(lambda text: remark_faults(text, manual, written), header, "V7_REMARK_BRANCH_WITHIN", "V7_REMARK_NEW = 27, V7_REMARK_BRANCH_WITHIN")
+        self.compare(lambda text: remark_faults(header, text, written), manual, "bytes that do not print", "bytes")
+        self.compare(lambda text: remark_faults(header, manual, text), written, "rounded up to even", "rounded up")
 
 
 if __name__ == "__main__":
