@@ -1,4 +1,4 @@
-"""A bad case for each word and mark of the form of cases, and for each place: tests/cases/data/bad.words has them. What may come at a place
+"""Bad cases for each word and mark of the form of cases, and for each place: tests/cases/data/bad.words has them. What may come at a place
 has a case with a wrong form there, unless it has no form that can be wrong, and one whose statement is false."""
 import os
 import re
@@ -64,17 +64,16 @@ def missing(table):
 
 
 def check(play):
-    """Plays each row: how many there are, and what is wrong. `play` gives the status of a run of these arguments, and what it prints."""
+    """Plays each row: how many there are, and what is wrong. `play` gives the status of a run of a file, and what it prints."""
     table = rows()
     faults = [*missing(table)]
     for row in table:
         with tempfile.NamedTemporaryFile("w", suffix=".cases", encoding="ascii") as file:
             file.write("\n".join(row.lines) + "\n")
             file.flush()
-            status, came = play([file.name])
-            name = os.path.relpath(file.name) if came.startswith(os.path.relpath(file.name)) else file.name
-        said = re.sub(r"\n  +(?=wanted: |came: )", "; ", came.rstrip("\n"))
-        found = re.fullmatch(re.escape(name) + r":(\d+): [\w -]+: (.*)", said)
+            status, came = play(file.name)
+        said = re.sub(r"\n  +(?=wanted: |came: )", "; ", came.rstrip("\n").replace(file.name, "FILE"))
+        found = re.fullmatch(r"FILE:(\d+): [\w -]+: (.*)", said)
         if not found or (status, int(found[1]), found[2]) != (1, row.line, row.error):
             faults.append(f"{row.head}\n  line {row.line}; status {status}, {said}")
     return len(table), faults

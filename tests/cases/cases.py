@@ -1,9 +1,8 @@
 """Plays cases, docs/CASES.md, with the built programs, in real folders and through real pipes.
 
 usage: python3 -m tests.cases.cases [FILE ..]      plays these files, or all of tests/cases
-       python3 -m tests.cases.cases -e FILE ..     prints only the first error of each bad case
        python3 -m tests.cases.cases -s             compares the samples, and the data of stored runs, with examples/, and the names of cases
-       python3 -m tests.cases.cases -b             plays bad.cases and bad.words: each error must be the one that bad.errors, or the table, has
+       python3 -m tests.cases.cases -b             plays the bad cases of bad.words: each error must be the one that the table has
        python3 -m tests.cases.cases -p             plays all with the programs of a package: skips parts that watch a program, and states
 
 Parts with `refuse memory` are skipped too for a program that tools/compiling.py has made: a script starts it, and it has its own malloc.
@@ -16,7 +15,6 @@ tier: check, 20 seconds; programs: v7 v7-explain v7-object v7-from-gnu v7-lesson
 """
 import collections
 import contextlib
-import difflib
 import glob
 import io
 import os
@@ -297,16 +295,11 @@ def reason(part, is_packaged):
 class Run:
     """All cases of a run, and what came of them."""
 
-    def __init__(self, is_listing_errors=False, is_packaged=False):
-        self.is_listing_errors = is_listing_errors
+    def __init__(self, is_packaged):
         self.is_packaged = is_packaged
         self.names = {}
         self.played = self.in_part = self.bad = 0
         self.skipped = collections.Counter()
-
-    def say(self, text):
-        if not self.is_listing_errors:
-            print(text)
 
     def play(self, case):
         reasons = []
@@ -318,11 +311,11 @@ class Run:
                 play_part(part, folder)
         if len(reasons) == len(case.parts):
             self.skipped[reasons[0]] += 1
-            self.say(f"skipped {case.name}: {reasons[0]}")
+            print(f"skipped {case.name}: {reasons[0]}")
         else:
             self.played += 1
             self.in_part += bool(reasons)
-            self.say(f"ok {case.name}" + (f", but not all: {reasons[0]}" if reasons else ""))
+            print(f"ok {case.name}" + (f", but not all: {reasons[0]}" if reasons else ""))
 
     def take(self, name, lines):
         """Reads a case and plays it."""
@@ -379,29 +372,18 @@ def compare_samples(pairs, names, stray):
     same("cases that are not in tests/cases/data", stray, [])
 
 
-def played(words):
-    """The status of a run of these words, and the errors that it prints."""
+def played(file):
+    """The status of a run of a file, and the errors that it prints."""
     with contextlib.redirect_stdout(io.StringIO()) as printed:
-        status = main(words)
+        status = main([file])
     return status, re.sub(r"^(ok|skipped|[0-9]+ cases) .*\n", "", printed.getvalue(), flags=re.M)
 
 
 def check_bad():
-    """Plays the bad cases: whether they fail a run, each with the error that bad.errors has."""
-    name = os.path.relpath(os.path.join(SAMPLES, "bad.cases"))
-    expected = read(os.path.join(SAMPLES, "bad.errors")).replace("bad.cases:", f"{name}:")
-    is_good = len(expected) > 0
-    for words, status in ([name], 1), (["-e", name], 0):
-        ended, came = played(words)
-        for line in difflib.unified_diff(expected.split("\n"), came.split("\n"), "wanted", "came", lineterm="", n=0):
-            print(line)
-        if ended != status:
-            print(f"{' '.join(words)}: status {ended} in place of {status}")
-        is_good = is_good and ended == status and came == expected
-    print(f"{len(re.findall('^[^ ]', expected, re.M))} errors of bad cases compared")
+    """Plays the bad cases: whether they fail a run, each with its own error."""
     count, faults = bad_words.check(played)
-    print("".join(f"{fault}\n" for fault in faults) + f"{count} bad cases of words compared")
-    return is_good and not faults
+    print("".join(f"{fault}\n" for fault in faults) + f"{count} bad cases compared")
+    return not faults
 
 
 def main(words):
@@ -409,13 +391,10 @@ def main(words):
         return check_samples()
     if words == ["-b"]:
         return 0 if check_bad() else 1
-    option = words[0] if words[:1] in (["-e"], ["-p"]) else ""
-    files = words[bool(option):] or sorted(glob.glob(os.path.relpath(os.path.join(SAMPLES, "*.case"))))
-    all_cases = Run(option == "-e", option == "-p")
-    for name in files:
+    is_packaged = words[:1] == ["-p"]
+    all_cases = Run(is_packaged)
+    for name in words[is_packaged:] or sorted(glob.glob(os.path.relpath(os.path.join(SAMPLES, "*.case")))):
         all_cases.file(name)
-    if option == "-e":
-        return 0
     all_cases.summary()
     return 1 if all_cases.bad or not all_cases.played else 0
 
