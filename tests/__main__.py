@@ -29,7 +29,7 @@ from typing import NamedTuple
 
 from tests.lib.compare import notices, same
 from tests.lib.files import TOP, read
-from tests.lib.programs import Ran, ran
+from tests.lib.programs import Ran, program, ran
 from tests.lib.rattle import crates_in
 from tests.lib.tally import Failed, Tally
 from tools.compiling import CRATES, compile_program
@@ -112,6 +112,8 @@ def run_listed(tests):
     """Runs tests with the programs that are there, one after another."""
     tools_there(tests)
     print(f"{len(tests)} tests, about {sum(it.seconds for it in tests) / 60:.1f} minutes on an idle machine", flush=True)
+    for name in sorted({it for test in tests for it in test.words("programs") if not it.endswith(".so")}):
+        program(name)
     check_itself()
     return run_jobs({it.title(): it.command() for it in tests})
 
