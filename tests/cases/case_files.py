@@ -4,6 +4,7 @@ import re
 
 from tests.cases.case_format import Mistake, encoded, numbered
 from tests.lib.files import read_bytes
+from tests.lib.objects import pack
 
 SAMPLES = os.path.join(os.path.dirname(__file__), "data")
 
@@ -19,10 +20,6 @@ def octal(line, column):
 
 
 ORDER = [None, "text", "data", "symbols"]
-
-
-def word(number):
-    return number.to_bytes(2, "little")
 
 
 class Listing:
@@ -64,16 +61,12 @@ class Listing:
     def take_symbol(self, line, columns):
         if octal(line, columns[0]) != len(self.symbols):
             raise Mistake(line, f"the number does not follow: {columns[0]}")
-        name = encoded(line, columns[1]).split(b"\0")[0][:8].ljust(8, b"\0")
-        self.symbols.append(name + word(octal(line, columns[2])) + word(octal(line, columns[3])))
+        name = encoded(line, columns[1]).split(b"\0")[0][:8]
+        self.symbols.append((name, octal(line, columns[2]), octal(line, columns[3])))
 
     def bytes(self):
-        head, words, relocs = self.head, self.words, self.relocs
-        sizes = [2 * len(words["text"]), 2 * len(words["data"]), head["bss"], 12 * len(self.symbols)]
-        numbers = [head["magic"], *sizes, head["entry"], head["unused"], head["flag"]]
-        for part in (words, relocs):
-            numbers += part["text"] + part["data"]
-        return b"".join(map(word, numbers)) + b"".join(self.symbols)
+        parts = {part: zip(words, self.relocs[part] or words) for part, words in self.words.items()}
+        return pack(**parts, symbols=self.symbols, **self.head)
 
 
 def listed(block):
@@ -113,10 +106,8 @@ def sample(line, name):
 # --- files that a line describes
 
 def sized(sizes, names):
-    numbers = [0o407, sizes[b"text"], sizes[b"data"], sizes[b"bss"], 12 * len(names), 0, 0, 0]
-    words = bytes(2 * (sizes[b"text"] + sizes[b"data"]))
-    symbols = (name[:8].ljust(8, b"\0") + word(0o40) + word(0) for name in names)
-    return b"".join(map(word, numbers)) + words + b"".join(symbols)
+    text, data = ([(0, 0)] * (sizes[part] // 2) for part in (b"text", b"data"))
+    return pack(text, data, sizes[b"bss"], [(name[:8], 0o40, 0) for name in names])
 
 
 def with_names(count, prefix):

@@ -182,7 +182,8 @@ def read_sized(words):
     while words and words[0] in sizes:
         sizes[words[0]] = number(words[1])
         words = words[2:]
-    if words and (words[0] != b"undefined" or len(words) == 1):
+    # text and data are whole words
+    if words and (words[0] != b"undefined" or len(words) == 1) or (sizes[b"text"] | sizes[b"data"]) % 2:
         raise ValueError
     return name, sizes, words[1:]
 
