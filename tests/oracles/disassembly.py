@@ -19,6 +19,7 @@ import tempfile
 
 from tests.lib.compare import notices, same
 from tests.lib.files import read_bytes, write
+from tests.lib.objects import pack
 from tests.lib.programs import program, ran
 
 FOUR_PAIRS = [(0o000005, 0o177774), (0o177777, 0o000000), (0o100000, 0o077776), (0o012345, 0o165432)]
@@ -131,12 +132,8 @@ class File:
         self.data, self.data_relocation, self.bss = data, data_relocation, bss
 
     def encoded(self):
-        flag = 0 if self.relocation is not None else 1
-        header = [self.magic, 2 * len(self.words), 2 * len(self.data), self.bss, 12 * len(self.symbols), 0, 0, flag]
-        body = [*header, *self.words, *self.data]
-        if flag == 0:
-            body += [*self.relocation, *self.data_relocation]
-        return struct.pack("<%dH" % len(body), *body) + b"".join(struct.pack("<8sHH", *symbol) for symbol in self.symbols)
+        text, data = zip(self.words, self.relocation or self.words), zip(self.data, self.data_relocation or self.data)
+        return pack(text, data, self.bss, self.symbols, self.magic, int(self.relocation is None))
 
     # names
 
