@@ -226,11 +226,8 @@ module _ (forced : List (List ℕ)) (os : List Contents) (o : Choices) where
       by_kind : (kind : Option Kind) → kind_of r ≡ kind → kind_fault k.symbols n kind (symbol_number r) ≡ None →
           needs_too_large p os (referent_by k (symbol_number r) kind) ≡ true → IsFar k r
       by_kind None ke h f = absurd (fault_none _ h)
-      by_kind (Some kinds.Absolute) ke h f = absurd (false_true f)
-      by_kind (Some kinds.TextSeg) ke h f = absurd (false_true f)
-      by_kind (Some kinds.DataSeg) ke h f = absurd (false_true f)
-      by_kind (Some kinds.BssSeg) ke h f = absurd (false_true f)
       by_kind (Some kinds.External) ke h f = by_slot ke (slice_get k.symbols (symbol_number r)) refl h f
+      by_kind (Some kind) ke h f = absurd (false_true f)
 
   large_by : (name : List ℕ) → 4095 < row_of p os name → 4095 < length (kept_locals o os) + place_of name (externals forced os)
   large_by name large = subst (λ (n : ℕ). 4095 < n) (number_same name) large
@@ -314,16 +311,13 @@ module _ (forced : List (List ℕ)) (os : List Contents) (o : Choices) where
 
       by_segment : (segment : Segment) → slice_get (segment_words segment f.k) f.i ≡ Some f.w →
           has_too_large_in p os segment ≡ true → has_number_too_large p os ≡ true
-      by_segment Undefined w h = absurd (none_word f.w w)
-      by_segment Absolute w h = absurd (none_word f.w w)
-      by_segment BssSeg w h = absurd (none_word f.w w)
-      by_segment Other w h = absurd (none_word f.w w)
       by_segment TextSeg w h = ap (λ (t : Bool). t || has_too_large_in p os DataSeg) h
       by_segment DataSeg w h = or_right (has_too_large_in p os TextSeg) (has_too_large_in p os DataSeg) h
         where
           or_right : (u v : Bool) → v ≡ true → (u || v) ≡ true
           or_right true v h = refl
           or_right false v h = h
+      by_segment segment w h = absurd (none_word f.w w)
 
   -- refusals
 
