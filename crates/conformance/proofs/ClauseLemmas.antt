@@ -8,7 +8,7 @@ use Rattle.aout_core.specs.Contents.{Contents, is_magic, has_whole_sizes, with_r
 use Rattle.aout_core.specs.{declared.symbol.Symbol.Symbol, declared.symbol.Segment.Segment, declared.reloc.Reloc.Reloc}
 use Rattle.aout_core.specs.{WellFormed.IsWellFormed, Addresses.data_start_in}
 use Rattle.link_session.specs.{declared.state.State.TheVariants.Defined, declared.state.State.TheVariants.Wanted, Sessions.IsObject}
-use Rattle.link_session.specs.{Starts.total, Mentions.Mention}
+use Rattle.link_session.specs.{Cells.segment_words, Cells.segment_relocs, Starts.total, Mentions.Mention}
 use Rattle.tool_options.specs.Choices.{Choices}
 use Rattle.link_out.specs.ReservedNames.{etext, edata, end_name, reserved_names}
 use Rattle.link_out.specs.{Layouts.magic_of, Results.Outcome, function.Link.link}
@@ -142,31 +142,19 @@ as_object c a b d e f g h well = record {
 pub no_word : {A : Type 0} (xs : List A) → xs ≡ [] → (i : ℕ) (x : A) → slice_get xs i ≡ Some x → ⊥
 no_word xs n i x e = let bad : slice_get [] i ≡ Some x = ap (λ ys. slice_get ys i) (sym n) ∙ e in cc
 
-pub wordless_text : (file : Contents) (rows : List Symbol) (j : Contents) → j.text_words ≡ [] → AreRelocated file rows (j ∷ []) TextSeg
-wordless_text file rows j n =
-    only_object (λ before k. (i w : ℕ) (r : Reloc) → slice_get k.text_words i ≡ Some w →
-    slice_get k.text_reloc i ≡ Some r → IsRelocated file rows (j ∷ []) before k TextSeg i w r) j
-    (λ i w r ew er. absurd (no_word j.text_words n i w ew))
+pub wordless : (file : Contents) (rows : List Symbol) (j : Contents) (segment : Segment) → segment_words segment j ≡ [] →
+    AreRelocated file rows (j ∷ []) segment
+wordless file rows j segment n =
+    only_object (λ before k. (i w : ℕ) (r : Reloc) → slice_get (segment_words segment k) i ≡ Some w →
+    slice_get (segment_relocs segment k) i ≡ Some r → IsRelocated file rows (j ∷ []) before k segment i w r) j
+    (λ i w r ew er. absurd (no_word (segment_words segment j) n i w ew))
 
-pub wordless_data : (file : Contents) (rows : List Symbol) (j : Contents) → j.data_words ≡ [] → AreRelocated file rows (j ∷ []) DataSeg
-wordless_data file rows j n =
-    only_object (λ before k. (i w : ℕ) (r : Reloc) → slice_get k.data_words i ≡ Some w →
-    slice_get k.data_reloc i ≡ Some r → IsRelocated file rows (j ∷ []) before k DataSeg i w r) j
-    (λ i w r ew er. absurd (no_word j.data_words n i w ew))
-
-pub unkept_text : (file : Contents) (rows : List Symbol) (locals : ℕ) (j : Contents) → j.text_words ≡ [] →
-    AreKept file rows locals (j ∷ []) TextSeg
-unkept_text file rows locals j n =
-    only_object (λ before k. (i w : ℕ) (r : Reloc) → slice_get k.text_words i ≡ Some w →
-    slice_get k.text_reloc i ≡ Some r → IsKept file rows locals before k TextSeg i r) j
-    (λ i w r ew er. absurd (no_word j.text_words n i w ew))
-
-pub unkept_data : (file : Contents) (rows : List Symbol) (locals : ℕ) (j : Contents) → j.data_words ≡ [] →
-    AreKept file rows locals (j ∷ []) DataSeg
-unkept_data file rows locals j n =
-    only_object (λ before k. (i w : ℕ) (r : Reloc) → slice_get k.data_words i ≡ Some w →
-    slice_get k.data_reloc i ≡ Some r → IsKept file rows locals before k DataSeg i r) j
-    (λ i w r ew er. absurd (no_word j.data_words n i w ew))
+pub unkept : (file : Contents) (rows : List Symbol) (locals : ℕ) (j : Contents) (segment : Segment) → segment_words segment j ≡ [] →
+    AreKept file rows locals (j ∷ []) segment
+unkept file rows locals j segment n =
+    only_object (λ before k. (i w : ℕ) (r : Reloc) → slice_get (segment_words segment k) i ≡ Some w →
+    slice_get (segment_relocs segment k) i ≡ Some r → IsKept file rows locals before k segment i r) j
+    (λ i w r ew er. absurd (no_word (segment_words segment j) n i w ew))
 
 pub only_word : (P : ℕ → ℕ → Reloc → Type 0) (w : ℕ) (r : Reloc) → P 0 w r → (i v : ℕ) (s : Reloc) →
     slice_get (w ∷ []) i ≡ Some v → slice_get (r ∷ []) i ≡ Some s → P i v s

@@ -1,5 +1,5 @@
 -- Rows that follow from the laws of linking alone: no link is computed here.
-use Rattle.std.proofs.Common.{◌≡◌, ℕ, zero, suc, true, false, List, [], ◌∷◌, ◌++◌, Some, None, refl, sym, ◌∙◌, ap, subst, arith, inl, inr}
+use Rattle.std.proofs.Common.{◌≡◌, ℕ, zero, suc, true, false, List, [], ◌∷◌, Some, None, refl, sym, ◌∙◌, ap, subst, arith, inl, inr}
 use Rattle.std.proofs.lemmas.Slice.Eq.{bytes_eq-Decides}
 use Rattle.std.specs.Prelude.{Ok, Err, codes, slice_get, bytes_eq}
 use Rattle.aout_core.specs.{declared.symbol.Symbol.Symbol, declared.symbol.Segment.Segment, declared.symbol.Segment.TheVariants.TextSeg}
@@ -13,15 +13,7 @@ use Rattle.link_laws.specs.{relation.NameStates.IsFirst, relation.NameStates.IsW
 use Rattle.link_laws.specs.{relation.LinkedWords.AreRelocated, relation.Reported.IsReported, relation.LinkedFrom.IsLinkedFrom}
 use Rattle.link_laws.specs.{relation.LinkedFrom.LinkedExactly, WordsAndNames.MultiplesDiffer, relation.Refusals.RefusedExactly}
 use Rattle.conformance.specs.Samples.{sym as entry_of, header, sized, _f, L1, c_o, d_o, d2_o, plain}
-use Rattle.conformance.proofs.ClauseLemmas.{only_object, only_word, no_word, as_object, at_most_so, less_so, only_wanted}
-
-two_objects : (P : List Contents → Contents → Type 0) (a b : Contents) → P [] a → P (a ∷ []) b →
-    (before : List Contents) (k : Contents) (after : List Contents) → a ∷ b ∷ [] ≡ before ++ k ∷ after → P before k
-two_objects P a b first second [] k after e = let same : a ≡ k = cc in subst (λ (c : Contents). P [] c) same first
-two_objects P a b first second (c ∷ before) k after e =
-    let same : a ≡ c = cc in
-    let rest : b ∷ [] ≡ before ++ k ∷ after = cc in
-    subst (λ (d : Contents). P (d ∷ before) k) same (only_object (λ bs j. P (a ∷ bs) j) b second before k after rest)
+use Rattle.conformance.proofs.ClauseLemmas.{one_of_two, only_word, no_word, as_object, at_most_so, less_so, only_wanted}
 
 two_words : (P : ℕ → ℕ → Reloc → Type 0) (v w : ℕ) (q r : Reloc) → P 0 v q → P 1 w r → (i u : ℕ) (s : Reloc) →
     slice_get (v ∷ w ∷ []) i ≡ Some u → slice_get (q ∷ r ∷ []) i ≡ Some s → P i u s
@@ -58,7 +50,7 @@ said = record { name = _f; says = Wanted 0 } ∷ (record { name = _f; says = Def
 
 text_relocated : AreRelocated forward.file rows os TextSeg
 text_relocated =
-    two_objects (λ before k. (i w : ℕ) (r : Reloc) → slice_get k.text_words i ≡ Some w →
+    one_of_two (λ before k. (i w : ℕ) (r : Reloc) → slice_get k.text_words i ≡ Some w →
     slice_get k.text_reloc i ≡ Some r → IsRelocated forward.file rows os before k TextSeg i w r) c_o d_o
     (two_words (λ i w r. IsRelocated forward.file rows os [] c_o TextSeg i w r) 0o4767 0o177774 (record { 0 = 0 }) (record { 0 = 0o11 })
     (record { added = 0; is = refl; word = refl })
@@ -73,7 +65,7 @@ text_relocated =
 
 data_relocated : AreRelocated forward.file rows os DataSeg
 data_relocated =
-    two_objects (λ before k. (i w : ℕ) (r : Reloc) → slice_get k.data_words i ≡ Some w →
+    one_of_two (λ before k. (i w : ℕ) (r : Reloc) → slice_get k.data_words i ≡ Some w →
     slice_get k.data_reloc i ≡ Some r → IsRelocated forward.file rows os before k DataSeg i w r) c_o d_o
     (λ i w r ew er. absurd (no_word [] refl i w ew))
     (λ i w r ew er. absurd (no_word [] refl i w ew))

@@ -16,9 +16,9 @@ use Rattle.link_laws.proofs.HasStateLemmas.{has_state}
 use Rattle.instructions.specs.Relocated.{is_relocated}
 use Rattle.laws.specs.Core.{Space, of_instructions, of_data, core, IsWordAt}
 use Rattle.laws.specs.Isomorphism.{Place, of_object, of_common, segment_at, value_in, address_at, IsLoadedAt, AreRenumbered, moved, Target}
-use Rattle.laws.specs.Isomorphism.{to_place, to_end, to_nothing, address_to, moved_target, IsDefinedAt, RefersTo, AreLinks, IsUnrelocated}
+use Rattle.laws.specs.Isomorphism.{to_place, to_end, to_nothing, address_to, moved_target, IsDefinedAt, RefersTo, IsUnrelocated}
 use Rattle.laws.specs.Isomorphism.{MovesAsTarget, AreIsomorphic, LinksAreIsomorphic}
-use Rattle.laws.specs.{CoreLaws.space_of, Operands.operand, Orders.missing, Orders.Means}
+use Rattle.laws.specs.{CoreLaws.space_of, Operands.operand, Orders.AreLinks, Orders.missing, Orders.Means}
 use Rattle.conformance.specs.Samples.{sym as entry, object, _f, _x, _twice, main_o, twice_o, count_o, c_o, x4_o, plain, plain_s}
 use Rattle.conformance.specs.Samples.{with_layout}
 use Rattle.conformance.proofs.NeededPremises.{counts, all_kept, link_of, c_good}

@@ -3,7 +3,6 @@ mod LawExamples
 mod ClauseLemmas
 mod NeededClauses
 mod DerivedLinks
-mod DerivedOrders
 mod NearLaws
 mod NeededPremises
 mod ListingExamples
@@ -13,9 +12,7 @@ mod OrderExamples
 mod MapExamples
 mod IsomorphismExamples
 mod FrameExamples
-mod StepRuns
-mod StepExamples
-mod StripExamples
+mod LdRuns
 mod MemoryExamples
 mod MemoryOfCalls
 mod ConversionExamples

@@ -1,20 +1,23 @@
 -- No clause of the relation of linking can be left out: for each, a wrong file or report that all the others let through.
-use Rattle.std.proofs.Common.{◌≡◌, ◌≢◌, ℕ, ◌+◌, ◌≤◌, Bool, true, false, List, [], ◌∷◌, length, Some, None, refl, sym, subst, arith, inl}
-use Rattle.std.proofs.Common.{inr, eqb-true}
-use Rattle.std.specs.Prelude.{eqb, Ok, Err, slice_get, replicate, sum_by}
+use Rattle.std.proofs.Common.{◌≡◌, ◌≢◌, ℕ, zero, suc, ◌+◌, ◌≤◌, Bool, true, false, cond, ◌||◌, List, [], ◌∷◌, length, Some, None, refl, sym}
+use Rattle.std.proofs.Common.{◌∙◌, ap, subst, arith, inl, inr, eqb-true}
+use Rattle.std.proofs.lemmas.Bool.{and_parts}
+use Rattle.std.specs.{List.AllByRecursion, List.list_all, Prelude.eqb, Prelude.Ok, Prelude.Err, Prelude.slice_get, Prelude.replicate, Prelude.sum_by}
 use Rattle.aout_core.specs.declared.symbol.Segment.TheVariants.{TextSeg, DataSeg, BssSeg}
 use Rattle.aout_core.specs.{declared.header.Header.Header, declared.symbol.Symbol.Symbol, declared.reloc.Reloc.Reloc, Contents.Contents}
 use Rattle.aout_core.specs.{Addresses.data_start_in}
 use Rattle.link_session.specs.declared.state.State.TheVariants.{Wanted}
 use Rattle.link_out.specs.declared.linked.LinkFault.TheVariants.{DoesNotFit, TooManySymbols}
-use Rattle.link_out.specs.Results.{ReportNames, Outcome}
+use Rattle.link_out.specs.{Results.ReportNames, Results.Outcome, function.Link.link}
+use Rattle.link_session.specs.Sessions.{IsObject}
+use Rattle.tool_options.specs.Choices.{Choices}
 use Rattle.link_laws.specs.relation.Relocated.{base_in, IsRelocated}
 use Rattle.conformance.specs.Samples.{sym as entry_of, header, object, relocs, _f, _x, _z, L1, plain, relocatable}
 use Rattle.conformance.specs.Clauses.{Clause, text_size, data_size, bss, text_words, data_words, magic, symbol_size, unused, flag, short}
 use Rattle.conformance.specs.Clauses.{few, names, are_rows, table, text, «data», text_relocs, data_relocs, text_kept, data_kept, entry}
 use Rattle.conformance.specs.Clauses.{multiples, reserved, undefined, none, Says, IsNeeded}
-use Rattle.conformance.proofs.ClauseLemmas.{is_empty, empty_so, passes, passed, no_words, none_kept, only_object, as_object, wordless_text}
-use Rattle.conformance.proofs.ClauseLemmas.{wordless_data, unkept_text, unkept_data, only_word, nothing_reserved, wants_alone, only_wanted}
+use Rattle.conformance.proofs.ClauseLemmas.{is_empty, empty_so, passes, passed, no_words, none_kept, only_object, as_object, wordless}
+use Rattle.conformance.proofs.ClauseLemmas.{unkept, only_word, nothing_reserved, wants_alone, only_wanted}
 use Rattle.conformance.proofs.ClauseLemmas.{none_reserved, other_outcome}
 
 abbrev silent : ReportNames
@@ -64,169 +67,74 @@ passed_empty x undefined h = λ r. empty_so x.report.undefined h
 passed_empty x none h = λ r. absurd (cc)
 passed_empty x c h = passed [] [] plain x [] c h
 
--- a clause is needed where all others pass, and a number tells the outcome from the link of no objects
-needed_empty : (c : Clause) (x : Outcome) → ((d : Clause) → d ≢ c → passes_empty x d ≡ true) → (f : Outcome → ℕ) →
-    eqb (f (with_file empty)) (f x) ≡ false → IsNeeded c
-needed_empty c x pass f apart = record {
-  forced = [];
-  os = [];
-  o = plain;
-  x = x;
-  rows = [];
-  good = tt;
-  others = λ d ne. passed_empty x d (pass d ne);
-  wrong = other_outcome [] [] plain (with_file empty) x refl f apart;
-}
+-- the clauses, and the place of each among them
 
-abbrev text_size_wrong : Outcome
-text_size_wrong = with_header (header 263 2 0 0 0 0 1)
+abbrev clauses : List Clause
+clauses =
+    text_size ∷ data_size ∷ bss ∷ text_words ∷ data_words ∷ magic ∷ symbol_size ∷ unused ∷ flag ∷ short ∷ few ∷ names ∷ are_rows ∷
+    table ∷ text ∷ «data» ∷ text_relocs ∷ data_relocs ∷ text_kept ∷ data_kept ∷ entry ∷ multiples ∷ reserved ∷ undefined ∷ none ∷ []
 
-text_size_let_through : (d : Clause) → d ≢ text_size → passes_empty text_size_wrong d ≡ true
-text_size_let_through text_size ne = absurd (ne refl)
-text_size_let_through d ne = refl
+abbrev place : Clause → ℕ
+place text_size = 0
+place data_size = 1
+place bss = 2
+place text_words = 3
+place data_words = 4
+place magic = 5
+place symbol_size = 6
+place unused = 7
+place flag = 8
+place short = 9
+place few = 10
+place names = 11
+place are_rows = 12
+place table = 13
+place text = 14
+place «data» = 15
+place text_relocs = 16
+place data_relocs = 17
+place text_kept = 18
+place data_kept = 19
+place entry = 20
+place multiples = 21
+place reserved = 22
+place undefined = 23
+place none = 24
 
-text_size_needed : IsNeeded text_size
-text_size_needed = needed_empty text_size text_size_wrong text_size_let_through (λ x. x.file.header.text_size) refl
+is_at_place : (c : Clause) → slice_get clauses (place c) ≡ Some c
+is_at_place text_size = refl
+is_at_place c = refl
 
-abbrev data_size_wrong : Outcome
-data_size_wrong = with_header (header 263 0 2 0 0 0 1)
+same_place : (c d : Clause) → place c ≡ place d → c ≡ d
+same_place c d e = let both : Some c ≡ Some d = sym (is_at_place c) ∙ ap (slice_get clauses) e ∙ is_at_place d in cc
 
-data_size_let_through : (d : Clause) → d ≢ data_size → passes_empty data_size_wrong d ≡ true
-data_size_let_through data_size ne = absurd (ne refl)
-data_size_let_through d ne = refl
+all_at : {A : Type 0} (test : A → Bool) (xs : List A) (i : ℕ) (x : A) → list_all test xs ≡ true → slice_get xs i ≡ Some x → test x ≡ true
+all_at test [] i x h e = absurd (cc)
+all_at test (y ∷ ys) zero x h e = let same : y ≡ x = cc in ap test (sym same) ∙ (and_parts (test y) (list_all test ys) h).0
+all_at test (y ∷ ys) (suc i) x h e = all_at test ys i x (and_parts (test y) (list_all test ys) h).1 e
 
-data_size_needed : IsNeeded data_size
-data_size_needed = needed_empty data_size data_size_wrong data_size_let_through (λ x. x.file.header.data_size) refl
+-- a test that all clauses but one pass
+all_but : (c : Clause) (test : Clause → Bool) → list_all (λ d. eqb (place d) (place c) || test d) clauses ≡ true →
+    (d : Clause) → d ≢ c → test d ≡ true
+all_but c test h d ne =
+    by_place (eqb (place d) (place c)) refl (all_at (λ d. eqb (place d) (place c) || test d) clauses (place d) d h (is_at_place d))
+  where
+    by_place : (t : Bool) → eqb (place d) (place c) ≡ t → (t || test d) ≡ true → test d ≡ true
+    by_place true e g = absurd (ne (same_place d c (eqb-true (place d) (place c) e)))
+    by_place false e g = g
 
-abbrev text_words_wrong : Outcome
-text_words_wrong = with_file (record empty { text_words = 0 ∷ [] })
+-- a clause is needed if all others let this outcome through, and the link does not give it
+needed : (c : Clause) (forced : List (List ℕ)) (os : List Contents) (o : Choices) (x : Outcome) (rows : List Symbol) →
+    AllByRecursion IsObject os → ((d : Clause) → d ≢ c → Says d forced os o x rows) → link forced os o ≢ Ok x → IsNeeded c
+needed c forced os o x rows good others wrong =
+    record { forced = forced; os = os; o = o; x = x; rows = rows; good = good; others = others; wrong = wrong }
 
-text_words_let_through : (d : Clause) → d ≢ text_words → passes_empty text_words_wrong d ≡ true
-text_words_let_through text_words ne = absurd (ne refl)
-text_words_let_through d ne = refl
-
-text_words_needed : IsNeeded text_words
-text_words_needed = needed_empty text_words text_words_wrong text_words_let_through (λ x. length x.file.text_words) refl
-
-abbrev data_words_wrong : Outcome
-data_words_wrong = with_file (record empty { data_words = 0 ∷ [] })
-
-data_words_let_through : (d : Clause) → d ≢ data_words → passes_empty data_words_wrong d ≡ true
-data_words_let_through data_words ne = absurd (ne refl)
-data_words_let_through d ne = refl
-
-data_words_needed : IsNeeded data_words
-data_words_needed = needed_empty data_words data_words_wrong data_words_let_through (λ x. length x.file.data_words) refl
-
-abbrev magic_wrong : Outcome
-magic_wrong = with_header (header 264 0 0 0 0 0 1)
-
-magic_let_through : (d : Clause) → d ≢ magic → passes_empty magic_wrong d ≡ true
-magic_let_through magic ne = absurd (ne refl)
-magic_let_through d ne = refl
-
-magic_needed : IsNeeded magic
-magic_needed = needed_empty magic magic_wrong magic_let_through (λ x. x.file.header.magic) refl
-
-abbrev symbol_size_wrong : Outcome
-symbol_size_wrong = with_header (header 263 0 0 0 12 0 1)
-
-symbol_size_let_through : (d : Clause) → d ≢ symbol_size → passes_empty symbol_size_wrong d ≡ true
-symbol_size_let_through symbol_size ne = absurd (ne refl)
-symbol_size_let_through d ne = refl
-
-symbol_size_needed : IsNeeded symbol_size
-symbol_size_needed = needed_empty symbol_size symbol_size_wrong symbol_size_let_through (λ x. x.file.header.symbol_size) refl
-
-abbrev unused_wrong : Outcome
-unused_wrong = with_header (record (header 263 0 0 0 0 0 1) { unused = 1 })
-
-unused_let_through : (d : Clause) → d ≢ unused → passes_empty unused_wrong d ≡ true
-unused_let_through unused ne = absurd (ne refl)
-unused_let_through d ne = refl
-
-unused_needed : IsNeeded unused
-unused_needed = needed_empty unused unused_wrong unused_let_through (λ x. x.file.header.unused) refl
-
-abbrev flag_wrong : Outcome
-flag_wrong = with_header (header 263 0 0 0 0 0 0)
-
-flag_let_through : (d : Clause) → d ≢ flag → passes_empty flag_wrong d ≡ true
-flag_let_through flag ne = absurd (ne refl)
-flag_let_through d ne = refl
-
-flag_needed : IsNeeded flag
-flag_needed = needed_empty flag flag_wrong flag_let_through (λ x. x.file.header.flag) refl
-
-abbrev table_wrong : Outcome
-table_wrong = with_file (file_of (header 263 0 0 0 12 0 1) [] [] (entry_of _f 33 0 ∷ []))
-
-table_let_through : (d : Clause) → d ≢ table → passes_empty table_wrong d ≡ true
-table_let_through table ne = absurd (ne refl)
-table_let_through d ne = refl
-
-table_needed : IsNeeded table
-table_needed = needed_empty table table_wrong table_let_through (λ x. length x.file.symbols) refl
-
-abbrev text_relocs_wrong : Outcome
-text_relocs_wrong = with_file (record empty { text_reloc = relocs (0 ∷ []) })
-
-text_relocs_let_through : (d : Clause) → d ≢ text_relocs → passes_empty text_relocs_wrong d ≡ true
-text_relocs_let_through text_relocs ne = absurd (ne refl)
-text_relocs_let_through d ne = refl
-
-text_relocs_needed : IsNeeded text_relocs
-text_relocs_needed = needed_empty text_relocs text_relocs_wrong text_relocs_let_through (λ x. length x.file.text_reloc) refl
-
-abbrev data_relocs_wrong : Outcome
-data_relocs_wrong = with_file (record empty { data_reloc = relocs (0 ∷ []) })
-
-data_relocs_let_through : (d : Clause) → d ≢ data_relocs → passes_empty data_relocs_wrong d ≡ true
-data_relocs_let_through data_relocs ne = absurd (ne refl)
-data_relocs_let_through d ne = refl
-
-data_relocs_needed : IsNeeded data_relocs
-data_relocs_needed = needed_empty data_relocs data_relocs_wrong data_relocs_let_through (λ x. length x.file.data_reloc) refl
-
-abbrev entry_wrong : Outcome
-entry_wrong = with_header (header 263 0 0 0 0 2 1)
-
-entry_let_through : (d : Clause) → d ≢ entry → passes_empty entry_wrong d ≡ true
-entry_let_through entry ne = absurd (ne refl)
-entry_let_through d ne = refl
-
-entry_needed : IsNeeded entry
-entry_needed = needed_empty entry entry_wrong entry_let_through (λ x. x.file.header.entry_point) refl
-
-abbrev multiples_wrong : Outcome
-multiples_wrong = with_report (record silent { multiples = _f ∷ [] })
-
-multiples_let_through : (d : Clause) → d ≢ multiples → passes_empty multiples_wrong d ≡ true
-multiples_let_through multiples ne = absurd (ne refl)
-multiples_let_through d ne = refl
-
-multiples_needed : IsNeeded multiples
-multiples_needed = needed_empty multiples multiples_wrong multiples_let_through (λ x. length x.report.multiples) refl
-
-abbrev reserved_wrong : Outcome
-reserved_wrong = with_report (record silent { reserved = _f ∷ [] })
-
-reserved_let_through : (d : Clause) → d ≢ reserved → passes_empty reserved_wrong d ≡ true
-reserved_let_through reserved ne = absurd (ne refl)
-reserved_let_through d ne = refl
-
-reserved_needed : IsNeeded reserved
-reserved_needed = needed_empty reserved reserved_wrong reserved_let_through (λ x. length x.report.reserved) refl
-
-abbrev undefined_wrong : Outcome
-undefined_wrong = with_report (record silent { undefined = _f ∷ [] })
-
-undefined_let_through : (d : Clause) → d ≢ undefined → passes_empty undefined_wrong d ≡ true
-undefined_let_through undefined ne = absurd (ne refl)
-undefined_let_through d ne = refl
-
-undefined_needed : IsNeeded undefined
-undefined_needed = needed_empty undefined undefined_wrong undefined_let_through (λ x. length x.report.undefined) refl
+-- a clause is needed if all others let an outcome through that it tells from the link of no objects
+needed_empty : (c : Clause) (x : Outcome) → list_all (λ d. eqb (place d) (place c) || passes_empty x d) clauses ≡ true →
+    (let test : Outcome → ℕ = λ y. cond (passes_empty y c) 1 0 in eqb (test (with_file empty)) (test x)) ≡ false → IsNeeded c
+needed_empty c x all apart =
+    needed c [] [] plain x [] tt (λ d ne. passed_empty x d (all_but c (passes_empty x) all d ne))
+    (other_outcome [] [] plain (with_file empty) x refl (λ y. cond (passes_empty y c) 1 0) apart)
 
 -- a common of 65,535 bytes: the program would end at 65,536
 
@@ -241,24 +149,17 @@ short_others short ne = absurd (ne refl)
 short_others names ne = refl
 short_others are_rows ne = (Wanted 65535, only_wanted _x 65535, refl, refl)
 short_others table ne = refl
-short_others text ne = wordless_text short_wrong.file (entry_of _x 36 0 ∷ []) wide_o refl
-short_others «data» ne = wordless_data short_wrong.file (entry_of _x 36 0 ∷ []) wide_o refl
+short_others text ne = wordless short_wrong.file (entry_of _x 36 0 ∷ []) wide_o TextSeg refl
+short_others «data» ne = wordless short_wrong.file (entry_of _x 36 0 ∷ []) wide_o DataSeg refl
 short_others multiples ne = ([], inr ((λ h. wants_alone _x 65535 h), refl), refl)
 short_others reserved ne = none_reserved _x 65535 refl refl refl
 short_others undefined ne = λ r. inr ((λ h. let bad : 65535 ≤ 0 = h.0.most.0 refl 65535 refl in absurd (omega arith)), refl)
 short_others d ne = passed [] (wide_o ∷ []) plain short_wrong (entry_of _x 36 0 ∷ []) d refl
 
 short_needed : IsNeeded short
-short_needed = record {
-  forced = [];
-  os = wide_o ∷ [];
-  o = plain;
-  x = short_wrong;
-  rows = entry_of _x 36 0 ∷ [];
-  good = (as_object wide_o refl refl refl refl refl refl refl refl, tt);
-  others = short_others;
-  wrong = λ e. let bad : Err DoesNotFit ≡ Ok short_wrong = e in absurd (cc);
-}
+short_needed =
+    needed short [] (wide_o ∷ []) plain short_wrong (entry_of _x 36 0 ∷ []) (as_object wide_o refl refl refl refl refl refl refl refl, tt)
+    short_others (λ e. let bad : Err DoesNotFit ≡ Ok short_wrong = e in absurd (cc))
 
 -- 5,462 locals
 
@@ -273,24 +174,17 @@ few_others few ne = absurd (ne refl)
 few_others names ne = refl
 few_others are_rows ne = refl
 few_others table ne = refl
-few_others text ne = wordless_text few_wrong.file [] many_o refl
-few_others «data» ne = wordless_data few_wrong.file [] many_o refl
+few_others text ne = wordless few_wrong.file [] many_o TextSeg refl
+few_others «data» ne = wordless few_wrong.file [] many_o DataSeg refl
 few_others multiples ne = ([], refl, refl)
 few_others reserved ne = nothing_reserved
 few_others undefined ne = λ r. refl
 few_others d ne = passed [] (many_o ∷ []) plain few_wrong [] d refl
 
 few_needed : IsNeeded few
-few_needed = record {
-  forced = [];
-  os = many_o ∷ [];
-  o = plain;
-  x = few_wrong;
-  rows = [];
-  good = (as_object many_o refl refl refl refl refl refl refl refl, tt);
-  others = few_others;
-  wrong = λ e. let bad : Err TooManySymbols ≡ Ok few_wrong = e in absurd (cc);
-}
+few_needed =
+    needed few [] (many_o ∷ []) plain few_wrong [] (as_object many_o refl refl refl refl refl refl refl refl, tt)
+    few_others (λ e. let bad : Err TooManySymbols ≡ Ok few_wrong = e in absurd (cc))
 
 -- a forced name, and no row or a wrong one
 
@@ -310,18 +204,11 @@ names_others none ne = λ r. absurd (cc)
 names_others d ne = passed (_z ∷ []) [] plain names_wrong [] d refl
 
 names_needed : IsNeeded names
-names_needed = record {
-  forced = _z ∷ [];
-  os = [];
-  o = plain;
-  x = names_wrong;
-  rows = [];
-  good = tt;
-  others = names_others;
-  wrong = other_outcome (_z ∷ []) [] plain (record names_wrong {
-    file = file_of (header 263 0 0 0 12 0 1) [] [] (entry_of _z 32 0 ∷ []);
-  }) names_wrong refl (λ x. length x.file.symbols) refl;
-}
+names_needed =
+    needed names (_z ∷ []) [] plain names_wrong [] tt
+    names_others (other_outcome (_z ∷ []) [] plain (record names_wrong {
+      file = file_of (header 263 0 0 0 12 0 1) [] [] (entry_of _z 32 0 ∷ []);
+    }) names_wrong refl (λ x. length x.file.symbols) refl)
 
 abbrev are_rows_wrong : Outcome
 are_rows_wrong = record names_wrong { file = file_of (header 263 0 0 0 12 0 1) [] [] (entry_of _z 33 5 ∷ []) }
@@ -339,18 +226,11 @@ are_rows_others none ne = λ r. absurd (cc)
 are_rows_others d ne = passed (_z ∷ []) [] plain are_rows_wrong (entry_of _z 33 5 ∷ []) d refl
 
 are_rows_needed : IsNeeded are_rows
-are_rows_needed = record {
-  forced = _z ∷ [];
-  os = [];
-  o = plain;
-  x = are_rows_wrong;
-  rows = entry_of _z 33 5 ∷ [];
-  good = tt;
-  others = are_rows_others;
-  wrong = other_outcome (_z ∷ []) [] plain (record names_wrong {
-    file = file_of (header 263 0 0 0 12 0 1) [] [] (entry_of _z 32 0 ∷ []);
-  }) are_rows_wrong refl (λ x. sum_by (λ (s : Symbol). s.type_bits) x.file.symbols) refl;
-}
+are_rows_needed =
+    needed are_rows (_z ∷ []) [] plain are_rows_wrong (entry_of _z 33 5 ∷ []) tt
+    are_rows_others (other_outcome (_z ∷ []) [] plain (record names_wrong {
+      file = file_of (header 263 0 0 0 12 0 1) [] [] (entry_of _z 32 0 ∷ []);
+    }) are_rows_wrong refl (λ x. sum_by (λ (s : Symbol). s.type_bits) x.file.symbols) refl)
 
 -- bss of 2 bytes
 
@@ -365,24 +245,17 @@ bss_others bss ne = absurd (ne refl)
 bss_others names ne = refl
 bss_others are_rows ne = refl
 bss_others table ne = refl
-bss_others text ne = wordless_text bss_wrong.file [] bss_o refl
-bss_others «data» ne = wordless_data bss_wrong.file [] bss_o refl
+bss_others text ne = wordless bss_wrong.file [] bss_o TextSeg refl
+bss_others «data» ne = wordless bss_wrong.file [] bss_o DataSeg refl
 bss_others multiples ne = ([], refl, refl)
 bss_others reserved ne = nothing_reserved
 bss_others undefined ne = λ r. refl
 bss_others d ne = passed [] (bss_o ∷ []) plain bss_wrong [] d refl
 
 bss_needed : IsNeeded bss
-bss_needed = record {
-  forced = [];
-  os = bss_o ∷ [];
-  o = plain;
-  x = bss_wrong;
-  rows = [];
-  good = (as_object bss_o refl refl refl refl refl refl refl refl, tt);
-  others = bss_others;
-  wrong = other_outcome [] (bss_o ∷ []) plain (with_header (header 263 0 0 2 0 0 1)) bss_wrong refl (λ x. x.file.header.bss_size) refl;
-}
+bss_needed =
+    needed bss [] (bss_o ∷ []) plain bss_wrong [] (as_object bss_o refl refl refl refl refl refl refl refl, tt)
+    bss_others (other_outcome [] (bss_o ∷ []) plain (with_header (header 263 0 0 2 0 0 1)) bss_wrong refl (λ x. x.file.header.bss_size) refl)
 
 -- one word of text, and one of data
 
@@ -397,25 +270,17 @@ text_others text ne = absurd (ne refl)
 text_others names ne = refl
 text_others are_rows ne = refl
 text_others table ne = refl
-text_others «data» ne = wordless_data text_wrong.file [] text_o refl
+text_others «data» ne = wordless text_wrong.file [] text_o DataSeg refl
 text_others multiples ne = ([], refl, refl)
 text_others reserved ne = nothing_reserved
 text_others undefined ne = λ r. refl
 text_others d ne = passed [] (text_o ∷ []) plain text_wrong [] d refl
 
 text_needed : IsNeeded text
-text_needed = record {
-  forced = [];
-  os = text_o ∷ [];
-  o = plain;
-  x = text_wrong;
-  rows = [];
-  good = (as_object text_o refl refl refl refl refl refl refl refl, tt);
-  others = text_others;
-  wrong =
-      other_outcome [] (text_o ∷ []) plain (with_file (file_of (header 263 2 0 0 0 0 1) (1 ∷ []) [] [])) text_wrong refl
-      (λ x. sum_by (λ (w : ℕ). w) x.file.text_words) refl;
-}
+text_needed =
+    needed text [] (text_o ∷ []) plain text_wrong [] (as_object text_o refl refl refl refl refl refl refl refl, tt)
+    text_others (other_outcome [] (text_o ∷ []) plain (with_file (file_of (header 263 2 0 0 0 0 1) (1 ∷ []) [] [])) text_wrong refl
+    (λ x. sum_by (λ (w : ℕ). w) x.file.text_words) refl)
 
 abbrev data_o : Contents
 data_o = object [] [] (1 ∷ []) (0 ∷ []) 0 []
@@ -428,25 +293,17 @@ data_others «data» ne = absurd (ne refl)
 data_others names ne = refl
 data_others are_rows ne = refl
 data_others table ne = refl
-data_others text ne = wordless_text data_wrong.file [] data_o refl
+data_others text ne = wordless data_wrong.file [] data_o TextSeg refl
 data_others multiples ne = ([], refl, refl)
 data_others reserved ne = nothing_reserved
 data_others undefined ne = λ r. refl
 data_others d ne = passed [] (data_o ∷ []) plain data_wrong [] d refl
 
 data_needed : IsNeeded «data»
-data_needed = record {
-  forced = [];
-  os = data_o ∷ [];
-  o = plain;
-  x = data_wrong;
-  rows = [];
-  good = (as_object data_o refl refl refl refl refl refl refl refl, tt);
-  others = data_others;
-  wrong =
-      other_outcome [] (data_o ∷ []) plain (with_file (file_of (header 263 0 2 0 0 0 1) [] (1 ∷ []) [])) data_wrong refl
-      (λ x. sum_by (λ (w : ℕ). w) x.file.data_words) refl;
-}
+data_needed =
+    needed «data» [] (data_o ∷ []) plain data_wrong [] (as_object data_o refl refl refl refl refl refl refl refl, tt)
+    data_others (other_outcome [] (data_o ∷ []) plain (with_file (file_of (header 263 0 2 0 0 0 1) [] (1 ∷ []) [])) data_wrong refl
+    (λ x. sum_by (λ (w : ℕ). w) x.file.data_words) refl)
 
 -- the same with relocation: the relocation word of an absolute word says text
 
@@ -463,26 +320,19 @@ text_kept_others text ne =
     slice_get k.text_reloc i ≡ Some r → IsRelocated text_kept_wrong.file [] (text_o ∷ []) before k TextSeg i w r) text_o
     (only_word (λ i w r. IsRelocated text_kept_wrong.file [] (text_o ∷ []) [] text_o TextSeg i w r) 1 (record { 0 = 0 })
     (record { added = 0; is = refl; word = refl }))
-text_kept_others «data» ne = wordless_data text_kept_wrong.file [] text_o refl
-text_kept_others data_kept ne = λ r. unkept_data text_kept_wrong.file [] 0 text_o refl
+text_kept_others «data» ne = wordless text_kept_wrong.file [] text_o DataSeg refl
+text_kept_others data_kept ne = λ r. unkept text_kept_wrong.file [] 0 text_o DataSeg refl
 text_kept_others multiples ne = ([], refl, refl)
 text_kept_others reserved ne = nothing_reserved
 text_kept_others undefined ne = λ r. absurd (cc)
 text_kept_others d ne = passed [] (text_o ∷ []) relocatable text_kept_wrong [] d refl
 
 text_kept_needed : IsNeeded text_kept
-text_kept_needed = record {
-  forced = [];
-  os = text_o ∷ [];
-  o = relocatable;
-  x = text_kept_wrong;
-  rows = [];
-  good = (as_object text_o refl refl refl refl refl refl refl refl, tt);
-  others = text_kept_others;
-  wrong = other_outcome [] (text_o ∷ []) relocatable (record text_kept_wrong {
-    file = record text_kept_wrong.file { text_reloc = relocs (0 ∷ []) };
-  }) text_kept_wrong refl (λ x. sum_by (λ (r : Reloc). r.0) x.file.text_reloc) refl;
-}
+text_kept_needed =
+    needed text_kept [] (text_o ∷ []) relocatable text_kept_wrong [] (as_object text_o refl refl refl refl refl refl refl refl, tt)
+    text_kept_others (other_outcome [] (text_o ∷ []) relocatable (record text_kept_wrong {
+      file = record text_kept_wrong.file { text_reloc = relocs (0 ∷ []) };
+    }) text_kept_wrong refl (λ x. sum_by (λ (r : Reloc). r.0) x.file.text_reloc) refl)
 
 abbrev data_kept_wrong : Outcome
 data_kept_wrong = with_file (record (file_of (header 263 0 2 0 0 0 0) [] (1 ∷ []) []) { data_reloc = relocs (2 ∷ []) })
@@ -492,31 +342,24 @@ data_kept_others data_kept ne = absurd (ne refl)
 data_kept_others names ne = refl
 data_kept_others are_rows ne = refl
 data_kept_others table ne = refl
-data_kept_others text ne = wordless_text data_kept_wrong.file [] data_o refl
+data_kept_others text ne = wordless data_kept_wrong.file [] data_o TextSeg refl
 data_kept_others «data» ne =
     only_object (λ before k. (i w : ℕ) (r : Reloc) → slice_get k.data_words i ≡ Some w →
     slice_get k.data_reloc i ≡ Some r → IsRelocated data_kept_wrong.file [] (data_o ∷ []) before k DataSeg i w r) data_o
     (only_word (λ i w r. IsRelocated data_kept_wrong.file [] (data_o ∷ []) [] data_o DataSeg i w r) 1 (record { 0 = 0 })
     (record { added = 0; is = refl; word = refl }))
-data_kept_others text_kept ne = λ r. unkept_text data_kept_wrong.file [] 0 data_o refl
+data_kept_others text_kept ne = λ r. unkept data_kept_wrong.file [] 0 data_o TextSeg refl
 data_kept_others multiples ne = ([], refl, refl)
 data_kept_others reserved ne = nothing_reserved
 data_kept_others undefined ne = λ r. absurd (cc)
 data_kept_others d ne = passed [] (data_o ∷ []) relocatable data_kept_wrong [] d refl
 
 data_kept_needed : IsNeeded data_kept
-data_kept_needed = record {
-  forced = [];
-  os = data_o ∷ [];
-  o = relocatable;
-  x = data_kept_wrong;
-  rows = [];
-  good = (as_object data_o refl refl refl refl refl refl refl refl, tt);
-  others = data_kept_others;
-  wrong = other_outcome [] (data_o ∷ []) relocatable (record data_kept_wrong {
-    file = record data_kept_wrong.file { data_reloc = relocs (0 ∷ []) };
-  }) data_kept_wrong refl (λ x. sum_by (λ (r : Reloc). r.0) x.file.data_reloc) refl;
-}
+data_kept_needed =
+    needed data_kept [] (data_o ∷ []) relocatable data_kept_wrong [] (as_object data_o refl refl refl refl refl refl refl refl, tt)
+    data_kept_others (other_outcome [] (data_o ∷ []) relocatable (record data_kept_wrong {
+      file = record data_kept_wrong.file { data_reloc = relocs (0 ∷ []) };
+    }) data_kept_wrong refl (λ x. sum_by (λ (r : Reloc). r.0) x.file.data_reloc) refl)
 
 -- with relocation nothing is reported undefined
 
@@ -538,42 +381,35 @@ none_others undefined ne = λ r. absurd (cc)
 none_others d ne = passed [] [] relocatable none_wrong [] d refl
 
 none_needed : IsNeeded none
-none_needed = record {
-  forced = [];
-  os = [];
-  o = relocatable;
-  x = none_wrong;
-  rows = [];
-  good = tt;
-  others = none_others;
-  wrong = other_outcome [] [] relocatable (record none_wrong { report = silent }) none_wrong refl (λ x. length x.report.undefined) refl;
-}
+none_needed =
+    needed none [] [] relocatable none_wrong [] tt
+    none_others (other_outcome [] [] relocatable (record none_wrong { report = silent }) none_wrong refl (λ x. length x.report.undefined) refl)
 
 -- each clause is needed
 
 pub each_is_needed : (c : Clause) → IsNeeded c
-each_is_needed text_size = text_size_needed
-each_is_needed data_size = data_size_needed
+each_is_needed text_size = needed_empty text_size (with_header (header 263 2 0 0 0 0 1)) refl refl
+each_is_needed data_size = needed_empty data_size (with_header (header 263 0 2 0 0 0 1)) refl refl
 each_is_needed bss = bss_needed
-each_is_needed text_words = text_words_needed
-each_is_needed data_words = data_words_needed
-each_is_needed magic = magic_needed
-each_is_needed symbol_size = symbol_size_needed
-each_is_needed unused = unused_needed
-each_is_needed flag = flag_needed
+each_is_needed text_words = needed_empty text_words (with_file (record empty { text_words = 0 ∷ [] })) refl refl
+each_is_needed data_words = needed_empty data_words (with_file (record empty { data_words = 0 ∷ [] })) refl refl
+each_is_needed magic = needed_empty magic (with_header (header 264 0 0 0 0 0 1)) refl refl
+each_is_needed symbol_size = needed_empty symbol_size (with_header (header 263 0 0 0 12 0 1)) refl refl
+each_is_needed unused = needed_empty unused (with_header (record (header 263 0 0 0 0 0 1) { unused = 1 })) refl refl
+each_is_needed flag = needed_empty flag (with_header (header 263 0 0 0 0 0 0)) refl refl
 each_is_needed short = short_needed
 each_is_needed few = few_needed
 each_is_needed names = names_needed
 each_is_needed are_rows = are_rows_needed
-each_is_needed table = table_needed
+each_is_needed table = needed_empty table (with_file (file_of (header 263 0 0 0 12 0 1) [] [] (entry_of _f 33 0 ∷ []))) refl refl
 each_is_needed text = text_needed
 each_is_needed «data» = data_needed
-each_is_needed text_relocs = text_relocs_needed
-each_is_needed data_relocs = data_relocs_needed
+each_is_needed text_relocs = needed_empty text_relocs (with_file (record empty { text_reloc = relocs (0 ∷ []) })) refl refl
+each_is_needed data_relocs = needed_empty data_relocs (with_file (record empty { data_reloc = relocs (0 ∷ []) })) refl refl
 each_is_needed text_kept = text_kept_needed
 each_is_needed data_kept = data_kept_needed
-each_is_needed entry = entry_needed
-each_is_needed multiples = multiples_needed
-each_is_needed reserved = reserved_needed
-each_is_needed undefined = undefined_needed
+each_is_needed entry = needed_empty entry (with_header (header 263 0 0 0 0 2 1)) refl refl
+each_is_needed multiples = needed_empty multiples (with_report (record silent { multiples = _f ∷ [] })) refl refl
+each_is_needed reserved = needed_empty reserved (with_report (record silent { reserved = _f ∷ [] })) refl refl
+each_is_needed undefined = needed_empty undefined (with_report (record silent { undefined = _f ∷ [] })) refl refl
 each_is_needed none = none_needed

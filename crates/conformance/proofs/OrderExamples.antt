@@ -1,11 +1,11 @@
 -- The law of order at the objects of docs/teaching/BLACKBOARD.md, and statements near it that do not hold.
-use Rattle.std.proofs.Common.{◌≡◌, ◌≢◌, ◌↔◌, ℕ, ◌≤◌, true, false, List, [], ◌∷◌, ◌++◌, length, Option, Some, None, refl, sym, ◌∙◌, ap}
+use Rattle.std.proofs.Common.{◌≡◌, ◌≢◌, ◌↔◌, ℕ, ◌≤◌, true, false, List, [], ◌∷◌, ◌++◌, Option, Some, None, refl, sym, ◌∙◌, ap}
 use Rattle.std.proofs.Common.{arith}
 use Rattle.std.proofs.lemmas.List.Sorted.{IsPermutation-refl, sum_by-IsPermutation}
-use Rattle.std.specs.Prelude.{Bool, not, ◌&&◌, eqb, replicate, filter, sum_by, slice_get, bytes_eq, codes, Ok, Err}
+use Rattle.std.specs.Prelude.{replicate, sum_by, slice_get, codes, Ok, Err}
 use Rattle.std.specs.List.Sorted.{IsPermutation}
 use Rattle.aout_core.specs.declared.symbol.Segment.TheVariants.{Undefined, Absolute, TextSeg, DataSeg, BssSeg, Other}
-use Rattle.aout_core.specs.WellFormed.{is_external, masked_type, segment_of}
+use Rattle.aout_core.specs.WellFormed.{segment_of}
 use Rattle.aout_core.specs.{declared.symbol.Symbol.Symbol, declared.symbol.Segment.Segment, declared.reloc.Reloc.Reloc, Contents.Contents}
 use Rattle.link_session.specs.{declared.entry.AddFault.AddFault, declared.entry.AddFault.TheVariants.TextFull}
 use Rattle.link_session.specs.{declared.entry.AddFault.TheVariants.DataFull, Labelled.Labelled, Edits.Answer, Edits.added, Edits.refused}
@@ -15,11 +15,10 @@ use Rattle.link_out.specs.{declared.linked.LinkFault.LinkFault, declared.linked.
 use Rattle.link_out.specs.{function.Link.link, Runs.link_after}
 use Rattle.link_laws.specs.relation.Relocated.{entry_of as row_of, external_type}
 use Rattle.laws.specs.Orders.{additions, AreAdded, OrderAddsAlike, AreAlike, OrderLinksAlike, AreOrders, Meaning, definition, common}
-use Rattle.laws.specs.Orders.{missing, Means, MeansTheSame, RefersAlike, OrderKeepsSizes, OrderReportsAlike, OrderFindsEntry}
-use Rattle.laws.specs.Orders.{OrderKeepsMeanings, defines, OnceInAnyOrder}
+use Rattle.laws.specs.Orders.{missing, Means, MeansTheSame, RefersAlike, OrderKeepsSizes, OrderReportsAlike}
+use Rattle.laws.specs.Orders.{OrderKeepsMeanings}
 use Rattle.conformance.specs.Samples.{sym as entry, object, sized, d_o, _f, _g, _x, L1, _main, _twice, main_o, twice_o, count_o, g_o, x4_o}
 use Rattle.conformance.specs.Samples.{plain, plain_s, relocatable, with_entry}
-use Rattle.conformance.proofs.ClauseLemmas.{at_most_so}
 use Rattle.conformance.proofs.NeededPremises.{counts, all_kept, link_of, no_object}
 
 -- the first two of a list exchanged
@@ -88,10 +87,6 @@ law_of_reports : OrderReportsAlike →
     OrdersGive (λ x y. (x.report.reserved ≡ y.report.reserved) × IsPermutation x.report.undefined y.report.undefined)
 law_of_reports law = law
 
-law_of_entries : OrderFindsEntry → (forced : List (List ℕ)) (os ps : List Contents) (o : Choices) (x y : Outcome) →
-    AreOrders forced os ps o x y → x.report.multiples ≡ [] → x.report.entry_bad ≡ y.report.entry_bad
-law_of_entries law = law
-
 -- text differs, and so do the table, and the entry point
 same_words : OrdersGive (λ x y. x.file.text_words ≡ y.file.text_words) → ⊥
 same_words law =
@@ -142,21 +137,12 @@ same_multiples law =
     (record { same = first_two empty_x word_x []; one = refl; other = refl }) in
     absurd (cc)
 
--- the entry point, where its name is multiply defined, in text and in data
+-- a name that is multiply defined, in text and in data
 abbrev pub text_f : Contents
 text_f = object (0o207 ∷ []) (0 ∷ []) [] [] 0 (entry _f 0o42 0 ∷ [])
 
 abbrev pub data_f : Contents
 data_f = object [] [] (1 ∷ []) (0 ∷ []) 0 (entry _f 0o43 0 ∷ [])
-
-entry_of_multiples : OrdersGive (λ x y. x.report.entry_bad ≡ y.report.entry_bad) → ⊥
-entry_of_multiples law =
-    let o = with_entry _f plain in
-    let x = link_of (text_f ∷ data_f ∷ []) o in
-    let y = link_of (data_f ∷ text_f ∷ []) o in
-    let e : None ≡ Some _f = law [] (text_f ∷ data_f ∷ []) (data_f ∷ text_f ∷ []) o x y
-    (record { same = first_two text_f data_f []; one = refl; other = refl }) in
-    absurd (cc)
 
 -- with relocation a name may have a number in one order that a relocation word can hold, and not in the other
 abbrev pub many_locals : Contents
@@ -181,7 +167,8 @@ Premises o x forced os name =
     (o.keep ≢ Nothing) × (o.relocatable ≡ false) × (x.report.multiples ≡ []) × (is_among (externals forced os) name ≡ true)
 
 law_of_meanings : OrderKeepsMeanings → MeaningsKept Premises
-law_of_meanings law forced os ps o x y h name p = law forced os ps o x y h p.0 p.1 p.2 name p.3
+law_of_meanings law forced os ps o x y h name p =
+    law forced os ps o o.layout x y (record { same = h.same; one = h.one; other = h.other }) p.0 p.1 p.2 name p.3
 
 -- no table is written
 without_table : MeaningsKept (λ o x forced os name. (o.relocatable ≡ false) × (x.report.multiples ≡ [])
@@ -292,33 +279,6 @@ same_commons law =
     let e : Some (entry _x 0o44 0) ≡ Some (entry _x 0o44 2) =
     law [] (x4_o ∷ f2_o ∷ []) (f2_o ∷ x4_o ∷ []) plain x y (record { same = first_two x4_o f2_o []; one = refl; other = refl }) in
     counts (λ (r : Symbol). r.value) (entry _x 0o44 0) (entry _x 0o44 2) refl (row_known (entry _x 0o44 0) (entry _x 0o44 2) e)
-
--- a name that two symbols define
-abbrev DefineAtMost : ℕ → List Contents → Type 0
-DefineAtMost most os = (name : List ℕ) → sum_by (λ (k : Contents). length (filter (defines name) k.symbols)) os ≤ most
-
-abbrev SingleUpTo : ℕ → Type 0
-SingleUpTo most =
-    (forced : List (List ℕ)) (os ps : List Contents) (o : Choices) (y : Outcome) → IsPermutation os ps →
-    DefineAtMost most os → link forced ps o ≡ Ok y → y.report.multiples ≡ []
-
-law_of_single_names : OnceInAnyOrder → SingleUpTo 1
-law_of_single_names law = law
-
-single_where_two_define : SingleUpTo 2 → ⊥
-single_where_two_define law =
-    let os = text_f ∷ data_f ∷ [] in
-    let e : _f ∷ [] ≡ [] = law [] os os plain (link_of os plain) (IsPermutation-refl os) twice refl in
-    absurd (cc)
-  where
-    twice : DefineAtMost 2 (text_f ∷ data_f ∷ [])
-    twice name = by_test (bytes_eq name _f)
-      where
-        by_test : (t : Bool) →
-            sum_by (λ (k : Contents). length (filter (λ s. is_external s && (not (eqb (masked_type s) 0) && t)) k.symbols))
-            (text_f ∷ data_f ∷ []) ≤ 2
-        by_test true = at_most_so 2 2 refl
-        by_test false = at_most_so 0 2 refl
 
 -- words of a list with a file that is no object
 nothing_there : {v : ℕ} → (let none : Option ℕ = None in none) ≡ Some v → ⊥

@@ -1,13 +1,14 @@
 -- The laws of sessions at a sample, and laws near them that do not hold.
 use Rattle.std.specs.Prelude.{String, Vec, bytes_eq, codes, cond, decimal}
 use Rattle.std.specs.{declared.alloc.Global.Global, List.AllByRecursion, List.flat_map}
-use Rattle.std.proofs.Common.{◌≡◌, ◌≢◌, ℕ, true, false, List, [], ◌∷◌, ◌++◌, Some, None, Ok, Err, refl, sym, ◌∙◌, ap, arith, inl, inr}
+use Rattle.std.proofs.Common.{◌≡◌, ◌≢◌, ℕ, true, false, List, [], ◌∷◌, ◌++◌, Option, Some, None, Ok, Err, refl, sym, ◌∙◌, ap, arith, inl, inr}
 use Rattle.std.proofs.Common.{subst, ◌⊎◌}
 use Rattle.std.proofs.{lemmas.List.append-nil, lemmas.Slice.Eq.bytes_eq-Decides}
 use Rattle.clap.proofs.OnLiterals.{clap_on_literals}
+use Rattle.clap.specs.{Simple.subcommand_of, Walk.Row}
 use Rattle.aout_core.specs.{Contents.Contents, Encoding.encoding}
 use Rattle.command_words.specs.declared.words.Call.TheVariants.{Ld, Session}
-use Rattle.command_words.specs.Scripts.{to_add, to_withdraw, to_link}
+use Rattle.command_words.specs.{Scripts.to_add, Scripts.to_withdraw, Scripts.to_link, Tools.v7_app}
 use Rattle.link_session.specs.{declared.cell.Cell.Cell, Labelled.Labelled, Marks.HoldCell, Sessions.Adds, Sessions.nothing_kept}
 use Rattle.link_session.specs.{Undo.AreMarksOf, declared.mark.Mark.Mark}
 use Rattle.tool_options.specs.Choices.{Choices}
@@ -22,10 +23,9 @@ use Rattle.v7tools.specs.{CommandRuns.AsksFor, declared.fault.CliFault.TheVarian
 use Rattle.laws.specs.SessionsByCommands.{AnsweredLines, AnswersLaw, AreGivenTheSame, AreThere, CannotRead, CannotWrite, DoesAsLd, FailsBy}
 use Rattle.laws.specs.SessionsByCommands.{IsGivenTheSame, IsKnown, IsRefusedAsLd, IsSameOn, IsThere, IsUndisturbed, LeavesNoTrace, LinesLaw}
 use Rattle.laws.specs.SessionsByCommands.{LinkLineLaw, LinksLeft, RanLines, RefusedLineLaw, SameDiskLaw, UndoLaw, files_left, opened_by}
-use Rattle.laws.specs.{Disks.Disk, Disks.EndsWell, Disks.Run, StepsByCommands.Links}
+use Rattle.laws.specs.Disks.{Disk, EndsWell, Run}
 use Rattle.conformance.specs.Samples.{_x, b_o, e_o, object, plain, sym as sym_of}
-use Rattle.conformance.proofs.StepExamples.{a_path, q_path, rows_read, run_links, run_on, whole_asks, whole_words}
-use Rattle.conformance.proofs.StepRuns.{as_written, contents, holding, links, run_of, vector}
+use Rattle.conformance.proofs.LdRuns.{Links, as_written, contents, holding, links, run_of, vector}
 use Rattle.conformance.proofs.{LawExamples.outcome_of, NeededPremises.counts}
 use Rattle.link_session.specs.Undo as undo
 
@@ -333,6 +333,13 @@ answered_of runs h = record {
   answers = sym (append-nil (answers_of runs));
 }
 
+abbrev rows_read : List (List ℕ) → List Row
+rows_read words = by_found (subcommand_of v7_app words)
+  where
+    by_found : Option (List ℕ × List Row) → List Row
+    by_found None = []
+    by_found (Some it) = it.1
+
 -- `perform` may run it so
 session_asks : AsksFor session_words (Session plain [])
 unfolding clap_on_literals
@@ -371,6 +378,12 @@ long_session = record {
 
 -- ---- ld of what is left
 
+abbrev a_path : String Global
+a_path = record { bytes = vector a (omega arith); ok = ∣ (a, (refl, as_written 97 (omega arith))) ∣₁ }
+
+abbrev q_path : String Global
+q_path = record { bytes = vector q (omega arith); ok = ∣ (q, (refl, as_written 113 (omega arith))) ∣₁ }
+
 abbrev b_path : String Global
 b_path = record { bytes = vector b (omega arith); ok = ∣ (b, (refl, as_written 98 (omega arith))) ∣₁ }
 
@@ -398,7 +411,7 @@ left_is = refl
 abbrev ld_run : Run (List ℕ) (List ℕ)
 ld_run = run_of both_words files left q_path made
 
-ld_links : Links contents contents [] plain q (a ∷ b ∷ []) ld_run
+ld_links : Links [] plain q (a ∷ b ∷ []) ld_run
 ld_links =
     links both_words files left q_path made [] plain both_paths both_asks (first ∷ again ∷ []) refl (
       first ∷ [],
@@ -641,18 +654,42 @@ back_ran = record {
   status = refl;
 }
 
+-- ld of the file that was withdrawn
+
+abbrev alone_path : Vec (String Global) Global
+alone_path = vector (a_path ∷ []) (omega arith)
+
+abbrev alone_words : List (List ℕ)
+alone_words = codes "ld" ∷ codes "-o" ∷ q ∷ a ∷ []
+
+alone_asks : AsksFor alone_words (Ld plain [] q_path alone_path)
+unfolding clap_on_literals
+alone_asks = record {
+  whole = (omega arith, refl, (omega arith, refl));
+  asked = (refl, rows_read alone_words, refl, (refl, refl, refl, refl));
+  dashes = refl;
+}
+
+abbrev alone_found : List Opened
+alone_found = (a, Some (encoding b_o)) ∷ []
+
+abbrev alone_made : Linked
+alone_made = record made { file = (outcome_of (link [] (b_o ∷ []) plain)).file }
+
 abbrev alone_run : Run (List ℕ) (List ℕ)
-alone_run = run_on whole_words a b_o q_path plain
+alone_run = run_of alone_words files alone_found q_path alone_made
 
-alone_links : Links contents contents [] plain q (a ∷ []) alone_run
-alone_links = run_links a_path b_o q_path plain whole_words whole_asks refl refl refl refl
+alone_links : Links [] plain q (a ∷ []) alone_run
+alone_links =
+    links alone_words files alone_found q_path alone_made [] plain alone_path alone_asks (first ∷ []) refl
+    (first ∷ [], record { works = refl; object = b_o; is_found = refl; accepts = refl }, refl) refl refl (refl, tt)
 
-alone_left : LinksLeft contents contents [] plain q ((a, Some (encoding b_o)) ∷ []) alone_run
+alone_left : LinksLeft contents contents [] plain q alone_found alone_run
 alone_left = record {
   asks = alone_links.asks;
   performs = alone_links.ends.performs;
   on_disk = alone_links.ends.on_disk;
-  there = (record { bytes = encoding b_o; read = refl; there = refl }, tt);
+  there = (is_there a b_o refl, tt);
 }
 
 -- how much text is stored
@@ -670,7 +707,7 @@ ld_of_all_added law =
     by_end (law [] plain (session_of back_lines) alone_run (add_line a b_o one ∷ back_line ∷ []) [] empty_line p q empty_made
     (answered_of back_lines back_ran) refl refl alone_left)
   where
-    by_end : DoesAsLd contents contents p q empty_made ((a, Some (encoding b_o)) ∷ []) empty_line alone_run
+    by_end : DoesAsLd contents contents p q empty_made alone_found empty_line alone_run
         ⊎ (FailsBy contents contents CannotRead alone_run ⊎ FailsBy contents contents CannotWrite alone_run) → ⊥
     by_end (inl h) =
         counts text_in alone_run.events (opened a (Some (Some (encoding b_o))) ∷ (stored q empty_made Kept ∷ [])) refl h.asked

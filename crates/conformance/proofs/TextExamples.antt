@@ -7,7 +7,7 @@ use Rattle.listings.specs.Listing.{gap, no_remarks, listing}
 use Rattle.listings.specs.{declared.fault.Fault.Fault, declared.fault.Reason.Reason, Laws.ListingLaw, Reading.read}
 use Rattle.texts.specs.{Numbers.six_digits, Numbers.octal, Names.printable_name, Lines.text_of}
 use Rattle.conformance.specs.Samples.{sym as entry_of, object, header, _f}
-use Rattle.conformance.proofs.StepRuns.{sound_file}
+use Rattle.conformance.proofs.LdRuns.{sound_file}
 
 -- a word with all its bits, a name with a blank, and another symbol
 abbrev spaced : Contents

@@ -22,11 +22,6 @@ IsLink forced o out paths (Ld options names output files) =
     (options ≡ o) × (names ≡ forced) × (string_bytes output ≡ out) × (map string_bytes files.items ≡ paths)
 IsLink forced o out paths _ = ⊥
 
--- a call strips these files
-abbrev pub IsStrip : List (List ℕ) → Call → Type 0
-IsStrip paths (Strip files) = map string_bytes files.items ≡ paths
-IsStrip paths _ = ⊥
-
 -- a call is a session
 abbrev pub IsSession : List (List ℕ) → Choices → Call → Type 0
 IsSession forced o (Session options names) = (options ≡ o) × (names ≡ forced)
@@ -73,20 +68,6 @@ module _ (words forced : List (List ℕ)) (o : Choices) (output : String Global)
       absurd (let bad : true ≡ false = same_name words (Ld o forced output files) (Strip paths) a b (codes "ld") in cc)
   same_link (Session options names) b =
       absurd (let bad : true ≡ false = same_name words (Ld o forced output files) (Session options names) a b (codes "ld") in cc)
-
-module _ (words : List (List ℕ)) (files : Vec (String Global) Global) (a : AsksFor words (Strip files)) where
-  -- or for this strip
-  pub same_strip : (call : Call) → AsksFor words call → IsStrip (map string_bytes files.items) call
-  same_strip (Ld options names out paths) b =
-      absurd (let bad : true ≡ false = same_name words (Strip files) (Ld options names out paths) a b (codes "strip") in cc)
-  same_strip (Nm options paths) b =
-      absurd (let bad : true ≡ false = same_name words (Strip files) (Nm options paths) a b (codes "strip") in cc)
-  same_strip (Size paths) b = absurd (let bad : true ≡ false = same_name words (Strip files) (Size paths) a b (codes "strip") in cc)
-  same_strip (Strip paths) b =
-      b.asked.3 ∙ ap (λ (r : List Row). values_of r file_id) (sym (same_rows words (Strip files) (Strip paths) a b))
-      ∙ sym a.asked.3
-  same_strip (Session options names) b =
-      absurd (let bad : true ≡ false = same_name words (Strip files) (Session options names) a b (codes "strip") in cc)
 
 module _ (words forced : List (List ℕ)) (o : Choices) (a : AsksFor words (Session o forced)) where
   -- or for this session

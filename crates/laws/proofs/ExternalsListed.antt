@@ -9,9 +9,8 @@ use Rattle.aout_core.specs.{Addresses.data_start_in}
 use Rattle.link_session.specs.Mentions.{Mention, mentions, externals, names_of}
 use Rattle.link_session.specs.{declared.state.State.State, declared.state.State.TheVariants.Defined}
 use Rattle.link_session.specs.{declared.state.State.TheVariants.Wanted, Earlier.with_earlier, Starts.total}
-use Rattle.tool_options.specs.NameLists.{is_among, new_names}
+use Rattle.tool_options.specs.NameLists.{is_among}
 use Rattle.tool_options.specs.{declared.options.Keep.TheVariants.Nothing, Choices.Choices, declared.nm_options.NmOptions.NmOptions}
-use Rattle.tool_options.proofs.NameListLemmas.{is_among-append}
 use Rattle.link_out.specs.{KeptSymbols.is_kept_local, ReservedNames.etext, ReservedNames.edata, ReservedNames.end_name, Results.Outcome}
 use Rattle.link_laws.specs.relation.LinkedTable.{shown as row_of_name, row_for, space_for, AreRows, moved_local_in, moved_locals_in}
 use Rattle.link_laws.specs.{relation.NameStates.HasState, relation.Relocated.base_in, relation.Relocated.entry_of}
@@ -19,6 +18,7 @@ use Rattle.link_laws.specs.{relation.Refusals.CommonsTake, relation.LinkedFrom.I
 use Rattle.link_out.proofs.RowLemmas.{rows_kept-others}
 use Rattle.symtools.specs.{SymbolLines.letter, NmLists.is_shown, NmLists.arranged, NmLists.shown, NmLists.nm_text}
 use Rattle.laws.specs.Listings.{listed_locals, lines, state_letter, IsListedOnce}
+use Rattle.laws.proofs.NameListLemmas.{AreOnce, new_once}
 use Rattle.laws.proofs.{ArrangedLemmas.arranged_one, ShownLemmas.no_local, ShownLemmas.all_apart, ShownLemmas.one_file}
 
 -- kept locals are no externals
@@ -98,45 +98,6 @@ module _ (h : Header) (bss : ℕ) (o : Choices) (at : ℕ) (name : List ℕ) whe
       by_tests true false plain c false false false = refl
       by_tests false false plain c t d e = refl
 
--- names that are each new
-
-abbrev AreApart : List (List ℕ) → Type 0
-AreApart [] = Unit {0}
-AreApart (n ∷ ns) = (is_among ns n ≡ false) × AreApart ns
-
--- what is seen is not new again
-not_again : (seen names : List (List ℕ)) (name : List ℕ) → is_among seen name ≡ true → is_among (new_names seen names) name ≡ false
-not_again seen [] name known = refl
-not_again seen (n ∷ ns) name known =
-    by_tests (is_among seen n) refl (bytes_eq name n) refl (not_again (seen ++ n ∷ []) ns name
-    (is_among-append seen (n ∷ []) name ∙ ap (λ (t : Bool). t || is_among (n ∷ []) name) known))
-  where
-    by_tests : (t : Bool) → is_among seen n ≡ t → (e : Bool) → bytes_eq name n ≡ e → is_among (new_names (seen ++ n ∷ []) ns) name ≡ false →
-        is_among (cond t (new_names (seen ++ n ∷ []) ns) (n ∷ new_names (seen ++ n ∷ []) ns)) name ≡ false
-    by_tests true te e ee rest = rest
-    by_tests false te true ee rest =
-        absurd (let same : is_among seen name ≡ is_among seen n = ap (is_among seen) ((bytes_eq-Decides name n).0 ee) in
-        let bad : true ≡ false = sym known ∙ same ∙ te in cc)
-    by_tests false te false ee rest = ap (λ (e : Bool). e || is_among (new_names (seen ++ n ∷ []) ns) name) ee ∙ rest
-
-or_last : (t : Bool) → (t || (true || false)) ≡ true
-or_last true = refl
-or_last false = refl
-
-new_apart : (seen names : List (List ℕ)) → AreApart (new_names seen names)
-new_apart seen [] = tt
-new_apart seen (n ∷ ns) = by_test (is_among seen n) (new_apart (seen ++ n ∷ []) ns)
-  where
-    last : is_among (seen ++ n ∷ []) n ≡ true
-    last =
-        is_among-append seen (n ∷ []) n
-        ∙ ap (λ (e : Bool). is_among seen n || (e || false)) ((bytes_eq-Decides n n).1 refl) ∙ or_last (is_among seen n)
-
-    by_test : (t : Bool) → AreApart (new_names (seen ++ n ∷ []) ns) →
-        AreApart (cond t (new_names (seen ++ n ∷ []) ns) (n ∷ new_names (seen ++ n ∷ []) ns))
-    by_test true rest = rest
-    by_test false rest = (not_again (seen ++ n ∷ []) ns n last, rest)
-
 -- the row of a name
 
 abbrev is_named : List ℕ → Symbol → Bool
@@ -187,7 +148,7 @@ module _ (h : Header) (bss : ℕ) (o : Choices) (ms : List Mention) where
   further : (start room taken : ℕ) → start + room + taken ≡ start + (room + taken)
   further start room taken = omega arith
 
-  one_row : (rows : List Symbol) (at end : ℕ) → AreRows h bss o ms at rows end → AreApart (map (λ s. s.name) rows) →
+  one_row : (rows : List Symbol) (at end : ℕ) → AreRows h bss o ms at rows end → AreOnce (map (λ s. s.name) rows) →
       (name : List ℕ) → is_among (map (λ s. s.name) rows) name ≡ true → IsRowOf rows at name
   one_row [] at end are lie name known = absurd (cc)
   one_row (r ∷ rs) at end are lie name known =
@@ -271,7 +232,7 @@ module _ (forced : List (List ℕ)) (os : List Contents) (o : Choices) (x : Outc
       IsListedOnce forced os o x.file (shown n x.file) name
   listed_once n u name known =
       let r = one_row x.file.header bss o (mentions forced os) l.rows at end l.are_rows
-      (subst AreApart (sym l.names) (new_apart [] (names_of (mentions forced os)))) name
+      (subst AreOnce (sym l.names) (new_once [] (names_of (mentions forced os)))) name
       (ap (λ (ns : List (List ℕ)). is_among ns name) l.names ∙ known) in
       record {
         row = r.row;

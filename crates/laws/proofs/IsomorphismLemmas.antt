@@ -18,18 +18,16 @@ use Rattle.link_laws.specs.{WordsAndNames.IsDefined, CommonsAndLayouts.HasSpace}
 use Rattle.link_laws.proofs.{SegmentLemmas.HasWords, DefinedLemmas.definitions_hold}
 use Rattle.instructions.proofs.AlikeLemmas.{get_inside}
 use Rattle.laws.specs.Core.{Space, of_instructions, of_data, has_segment, is_in, core, IsWordAt}
-use Rattle.laws.specs.Orders.{Meaning, definition, common, missing, IsDefinedBy, Means, MeansTheSame, AreOrders, OrderKeepsReferents}
-use Rattle.laws.specs.Orders.{OrderKeepsMeanings}
+use Rattle.laws.specs.Orders.{AreLinks, Meaning, definition, common, missing, IsDefinedBy, Means, MeansTheSame}
 use Rattle.laws.specs.Isomorphism.{Place, of_object, of_common, IsPlaceOf, segment_at, value_in, address_at, IsLoadedAt, PlacesAreLoaded}
 use Rattle.laws.specs.Isomorphism.{AreRenumbered, moved, Target, to_place, to_end, to_nothing, address_to, moved_target, missing_target}
-use Rattle.laws.specs.Isomorphism.{IsDefinedAt, IsTargetOf, RefersTo, AreLinks, IsUnrelocated, MovesAsTarget, LinksAreIsomorphic}
-use Rattle.laws.specs.Isomorphism.{LinksKeepReferents}
+use Rattle.laws.specs.Isomorphism.{IsDefinedAt, IsTargetOf, RefersTo, IsUnrelocated, MovesAsTarget, LinksAreIsomorphic}
 use Rattle.laws.specs.{CoreLaws.space_of, CoreLaws.IsPlace, CoreLaws.IsLoaded, Operands.operand, Operands.FindsMore}
 use Rattle.laws.proofs.InstructionLemmas.{relocs_by, relocs_long, reloc_inside, moves_low}
 use Rattle.laws.proofs.IsomorphismLists.{cut, take_before, get_between}
 use Rattle.laws.proofs.LoadedLemmas.{address_of, words_there, words_loaded}
 use Rattle.laws.proofs.OperandLemmas.{loaded_finds, any_place, defined_address}
-use Rattle.laws.proofs.ReorderedMeanings.{laid, meanings_kept, objects_too, referents_kept}
+use Rattle.laws.proofs.ReorderedMeanings.{laid, objects_too, referents_kept}
 use Rattle.laws.proofs.{CoreLemmas.core_at, CoreLemmas.one_space, IsomorphismPlaces.place_in, ReorderedMentions.wanted_too}
 use Rattle.aout_core.specs.declared.reloc.Kind.TheVariants as kinds
 
@@ -532,17 +530,3 @@ links_isomorphic forced os ps o layout x y h good kept nr single to from renumbe
   bytes = same_byte forced os ps o layout x y h good kept nr single to from renumbered;
   words = words_move forced os ps o layout x y h good kept nr single to from renumbered;
 }
-
--- two orders in one layout
-
-as_links : (forced : List (List ℕ)) (os ps : List Contents) (o : Choices) (x y : Outcome) →
-    AreOrders forced os ps o x y → AreLinks forced os ps o o.layout x y
-as_links forced os ps o x y h = record { same = h.same; one = h.one; other = h.other }
-
--- for `order_law`: words refer to the same in another order of the objects
-pub orders_keep_referents : LinksKeepReferents → OrderKeepsReferents
-orders_keep_referents law forced os ps o x y h = law forced os ps o o.layout x y (as_links forced os ps o x y h)
-
--- and names mean the same
-pub orders_keep_meanings : OrderKeepsMeanings
-orders_keep_meanings forced os ps o x y h = meanings_kept forced os ps o o.layout x y (as_links forced os ps o x y h)

@@ -14,7 +14,6 @@ pub mod ReorderedDefinitions
 pub mod ReorderedLinks
 pub mod ReorderedAdditions
 pub mod ReorderedMeanings
-pub mod SingleDefinitions
 mod FrameBlocks
 mod FrameParts
 mod FrameStates
@@ -34,10 +33,6 @@ pub mod FlowLemmas
 pub mod LeadLemmas
 pub mod CleanProgramLemmas
 pub mod CallLemmas
-pub mod RunLemmas
-pub mod DiskLemmas
-pub mod SoundLemmas
-pub mod StepLemmas
 pub mod LeftLemmas
 pub mod LineLawLemmas
 pub mod LinkLineLemmas

@@ -21,11 +21,11 @@ use Rattle.v7tools.specs.{Answers.Stepped, Answers.link_answer_text, Answers.lin
 use Rattle.v7tools.specs.{CommandRuns.Ends, CommandRuns.IsCallRun, CommandRuns.RunsWords, FaultTexts.cli_text, FaultTexts.no_memory}
 use Rattle.v7tools.specs.{LineRuns.IsLineOf, LineRuns.LineRun, LinkAnswers.IsLinkOfBytes, LinkAnswers.IsTrueOf, LinkAnswers.known_inputs}
 use Rattle.v7tools.specs.{LinkAnswers.said_by, SessionSteps.IsLinkBy, declared.fault.CliFault.CliFault}
-use Rattle.laws.specs.SessionsByCommands.{AreThere, CannotRead, CannotWrite, DoesAsLd, FailsBy, IsOpening, IsRefusedAsLd, LinkLineLaw}
+use Rattle.laws.specs.SessionsByCommands.{AreThere, AsksToLink, CannotRead, CannotWrite, DoesAsLd, FailsBy, IsOpening, IsRefusedAsLd, LinkLineLaw}
 use Rattle.laws.specs.SessionsByCommands.{RefusedLineLaw, Says, files_left}
-use Rattle.laws.specs.{Disks.Disk, Disks.IsOn, Disks.Run, Disks.Writes, StepsByCommands.AsksToLink}
+use Rattle.laws.specs.{Disks.Disk, Disks.IsOn, Disks.Run, Disks.Writes}
 use Rattle.laws.proofs.LeftLemmas.{IsAt, IsLeft, all_known, at_line, bytes_of, left_lines, taken_bytes}
-use Rattle.laws.proofs.{CallLemmas.IsLink, CallLemmas.same_link, DiskLemmas.AreGiven, DiskLemmas.given}
+use Rattle.laws.proofs.{CallLemmas.IsLink, CallLemmas.same_link}
 use Rattle.aout_core.specs.declared.file.ReadFault.TheVariants as reads
 use Rattle.link_session.specs.declared.entry.AddFault.TheVariants as adds
 use Rattle.link_session.specs.Undo as undo
@@ -33,6 +33,15 @@ use Rattle.link_out.specs.declared.linked.LinkFault.TheVariants as links
 use Rattle.v7tools.specs.declared.fault.CliFault.TheVariants as faults
 
 -- ---- the files that ld opened are those that are left
+
+-- the files gave what is at their paths
+abbrev AreGiven : Disk → List Opened → Type 0
+AreGiven disk found = AllByRecursion (λ (f : Opened). IfSome (disk f.0) (λ bytes. f.1 ≡ Some bytes)) found
+
+-- files that a run opened are those on the disk
+given : (disk : Disk) (found : List Opened) (events : List Event) → IsOn disk (opens found ++ events) → AreGiven disk found
+given disk [] events h = tt
+given disk (f ∷ fs) events h = (h.0, given disk fs events h.1)
 
 found_bytes : (disk : Disk) (f g : Opened) (bytes : List ℕ) → f.0 ≡ g.0 → g.1 ≡ Some bytes → disk g.0 ≡ Some bytes →
     IfSome (disk f.0) (λ bytes. f.1 ≡ Some bytes) → f ≡ g

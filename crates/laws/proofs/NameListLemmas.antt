@@ -6,7 +6,7 @@ use Rattle.std.proofs.{lemmas.Bool.or_left, lemmas.Bool.or_right, lemmas.Bool.or
 use Rattle.std.specs.{Prelude.bytes_eq, Prelude.filter, List.Sorted.IsPermutation}
 use Rattle.tool_options.specs.NameLists.{is_among, new_names}
 use Rattle.tool_options.proofs.NameListLemmas.{is_among-append}
-use Rattle.link_session.proofs.UpdateLemmas.{bytes_eq_sym, own_name}
+use Rattle.link_session.proofs.UpdateLemmas.{bytes_eq_sym, never_new, own_name}
 
 -- no name stands twice
 abbrev pub AreOnce : List (List ℕ) → Type 0
@@ -115,22 +115,6 @@ kept_reordered t xs ys ex ey same =
     reordered (filter t xs) (filter t ys) (kept_once t xs ex) (kept_once t ys ey)
     (λ n. kept_among t xs n ∙ ap (λ (b : Bool). t n && b) (same n) ∙ sym (kept_among t ys n))
 
--- new names are not among those seen, and stand once
-not_new : (seen xs : List (List ℕ)) (n : List ℕ) → is_among seen n ≡ true → is_among (new_names seen xs) n ≡ false
-not_new seen [] n h = refl
-not_new seen (x ∷ xs) n h =
-    by_test (is_among seen x) refl
-    (not_new (seen ++ x ∷ []) xs n (is_among-append seen (x ∷ []) n ∙ or_left (is_among seen n) (is_among (x ∷ []) n) h))
-  where
-    other : (t : Bool) → bytes_eq n x ≡ t → is_among seen x ≡ false → t ≡ false
-    other true e f = absurd (let bad : true ≡ false = sym h ∙ ap (λ (m : List ℕ). is_among seen m) ((bytes_eq-Decides n x).0 e) ∙ f in cc)
-    other false e f = refl
-
-    by_test : (t : Bool) → is_among seen x ≡ t → is_among (new_names (seen ++ x ∷ []) xs) n ≡ false →
-        is_among (cond t (new_names (seen ++ x ∷ []) xs) (x ∷ new_names (seen ++ x ∷ []) xs)) n ≡ false
-    by_test true e rest = rest
-    by_test false e rest = λ i. other (bytes_eq n x) refl e i || rest i
-
 -- a list of new names has each of them once
 pub new_once : (seen xs : List (List ℕ)) → AreOnce (new_names seen xs)
 new_once seen [] = tt
@@ -140,7 +124,7 @@ new_once seen (x ∷ xs) = by_test (is_among seen x) (new_once (seen ++ x ∷ []
         AreOnce (cond t (new_names (seen ++ x ∷ []) xs) (x ∷ new_names (seen ++ x ∷ []) xs))
     by_test true rest = rest
     by_test false rest = (
-      not_new (seen ++ x ∷ []) xs x (is_among-append seen (x ∷ []) x
+      never_new (seen ++ x ∷ []) xs x (is_among-append seen (x ∷ []) x
           ∙ or_right (is_among seen x) (is_among (x ∷ []) x) (or_left (bytes_eq x x) false (own_name x))),
       rest,
     )

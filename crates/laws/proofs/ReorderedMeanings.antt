@@ -12,7 +12,7 @@ use Rattle.link_session.specs.{declared.state.State.State, declared.state.State.
 use Rattle.link_session.specs.{declared.state.State.TheVariants.Wanted, Starts.total, Starts.shift, Sessions.IsObject, States.state}
 use Rattle.link_session.specs.{States.multiple_names, Cells.referent_by, Cells.name_in}
 use Rattle.tool_options.specs.Choices.{Choices, lays_commons}
-use Rattle.tool_options.specs.{NameLists.is_among, declared.options.Keep.TheVariants.Nothing, declared.options.Layout.Layout}
+use Rattle.tool_options.specs.{NameLists.is_among, declared.options.Keep.TheVariants.Nothing}
 use Rattle.link_session.proofs.{ListLemmas.all_split, MentionLemmas.is_among-externals, CellLemmas.RefersAmong, UpdateLemmas.unmentioned}
 use Rattle.link_out.specs.function.Plans.{Plan, plan, commons_laid}
 use Rattle.link_out.specs.function.Finals.{Final, final, final_by, type_of, bound_at, waiting, reserved_or_waiting, etext, edata, end_name}
@@ -25,8 +25,8 @@ use Rattle.link_laws.proofs.{HasStateLemmas.has_state, HasStateLemmas.state_is, 
 use Rattle.link_laws.proofs.{ExternalLemmas.row_at, ExternalLemmas.entry_there, CommonLemmas.commons_have_space, SegmentLemmas.word_at}
 use Rattle.link_laws.proofs.{RelocatedLemmas.words_relocated}
 use Rattle.link_out.proofs.OutcomeLemmas.{made_file, made_report}
-use Rattle.laws.specs.Orders.{definition, common, missing, IsDefinedBy, Means, MeansTheSame}
-use Rattle.laws.specs.Isomorphism.{AreLinks, LinksKeepReferents}
+use Rattle.laws.specs.Orders.{definition, common, missing, IsDefinedBy, Means, MeansTheSame, OrderKeepsMeanings}
+use Rattle.laws.specs.Orders.{OrderKeepsReferents}
 use Rattle.laws.proofs.ReorderedMentions.{size_if_wanted, wanted_too, same_names, same_wants, placed_again}
 use Rattle.laws.proofs.ReorderedDefinitions.{definition_found, said_again, defines, first_is_said}
 
@@ -173,10 +173,8 @@ laid o r = by_test o.relocatable r
     by_test false e = refl
     by_test true e = absurd (let bad : true ≡ false = e in cc)
 
--- a name that is defined once is of the same symbol or common in both links
-pub meanings_kept : (forced : List (List ℕ)) (os ps : List Contents) (o : Choices) (layout : Layout) (x y : Outcome) →
-    AreLinks forced os ps o layout x y → o.keep ≢ Nothing → o.relocatable ≡ false →
-    x.report.multiples ≡ [] → (name : List ℕ) → is_among (externals forced os) name ≡ true → MeansTheSame forced os ps o x y name
+-- for `order_law`: a name that is defined once is of the same symbol or common in both links
+pub meanings_kept : OrderKeepsMeanings
 meanings_kept forced os ps o layout x y h others r none name known =
     by_state (state (mentions forced os) name) refl (state (mentions forced ps) name) refl (has_state (mentions forced os) name)
   where
@@ -240,7 +238,7 @@ objects_too os ps same good = from [] ps refl
         ((all_split IsObject there.before (k ∷ there.after) all).1.0, from (done ++ k ∷ []) ks (e ∙ sym (append_assoc done (k ∷ []) ks)))
 
 -- and a word refers to the same
-pub referents_kept : LinksKeepReferents
+pub referents_kept : OrderKeepsReferents
 referents_kept forced os ps o layout x y h others nr none good before k after all front back all_too segment i w r ew er = record {
   one = subst (λ (ks : List Contents). IsRelocated x.file x.file.symbols ks before k segment i w r) (sym all)
       (words_relocated forced before k after o x (subst (λ (ks : List Contents). AllByRecursion IsObject ks) all good)

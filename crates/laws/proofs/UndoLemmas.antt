@@ -99,6 +99,7 @@ withdrew o old between e r adds h = record {
 
 -- ---- two lines that ask for the same
 
+-- two states that give the same answers: no answer depends on the journal
 record Alike (k m : Kept) : Type 0 where
   names : k.forced ≡ m.forced
   all : k.entries ≡ m.entries
@@ -226,7 +227,7 @@ module _ (o : Choices) (old twin : Kept) (same : Alike twin old) (r t : LineRun)
       by_step (step old.forced o old.entries anything_else) (step twin.forced o twin.entries anything_else)
       (λ i. step (same.names i) o (same.all i) anything_else) h.does k.does (k.events ∙ sym h.events) (names_stay h.same k.same)
 
--- ---- two runs of the same lines
+-- ---- two runs of the same lines, by induction over them
 
 record RunTheSame (rs ts : List LineRun) : Type 0 where
   answers : answers_of ts ≡ answers_of rs
@@ -251,7 +252,7 @@ run_the_same o old twin new other (r ∷ rs) (t ∷ ts) same h k lines gives =
       status = λ i. max (one.status i) (rest.status i);
     }
 
--- ---- all of it
+-- ---- the law: the lines before the two, the two, which give the state back, and the lines after them
 
 chains_append : (o : Choices) (old mid new : Kept) (rs ts : List LineRun) → Chains o old rs mid → Chains o mid ts new →
     Chains o old (rs ++ ts) new

@@ -5,7 +5,7 @@
 -- same places at other addresses, and at each of them the same byte. A relocated word is the exception: it counts from a place, and
 -- is more by as much as that place has moved. No loaded byte is without a place: the byte that rounds up a common of odd size is the
 -- common's, and what is between pure text and data is not loaded.
-use Rattle.std.specs.Prelude.{◌≡◌, ◌≢◌, ℕ, ◌+◌, ◌*◌, ◌/◌, ◌%◌, ◌<◌, true, false, if◌then◌else◌, List, [], ◌∷◌, ◌++◌, length, take, Option}
+use Rattle.std.specs.Prelude.{◌≡◌, ◌≢◌, ℕ, ◌+◌, ◌*◌, ◌/◌, ◌%◌, ◌<◌, true, false, if◌then◌else◌, List, [], length, take, Option}
 use Rattle.std.specs.Prelude.{Some, None, Ok, slice_get, bytes_eq}
 use Rattle.std.specs.{List.AllByRecursion, List.Sorted.IsPermutation}
 use Rattle.aout_core.specs.declared.symbol.Segment.TheVariants.{TextSeg, DataSeg, BssSeg}
@@ -18,7 +18,7 @@ use Rattle.tool_options.specs.{declared.options.Keep.TheVariants.Nothing, declar
 use Rattle.link_out.specs.{ReservedNames.etext, ReservedNames.edata, ReservedNames.end_name, Results.Outcome, function.Link.link}
 use Rattle.link_laws.specs.{relation.Relocated.base_in, relation.Relocated.entry_of, CommonsAndLayouts.IsCommon}
 use Rattle.instructions.specs.Relocated.{is_relocated}
-use Rattle.laws.specs.Orders.{common, missing, IsDefinedBy, Means, RefersAlike}
+use Rattle.laws.specs.Orders.{AreLinks, common, missing, IsDefinedBy, Means}
 use Rattle.laws.specs.{Core.Space, Core.has_segment, Core.core, Core.IsWordAt, CoreLaws.space_of, Operands.operand}
 use Rattle.aout_core.specs.declared.reloc.Kind.TheVariants as kinds
 
@@ -170,12 +170,6 @@ RefersTo forced os o file number k (Some kinds.External) entry target =
 
 -- two links of the same objects
 
--- in two orders and two layouts, by options that are else the same
-pub record AreLinks (forced : List (List ℕ)) (os ps : List Contents) (o : Choices) (layout : Layout) (x y : Outcome) : Type 0 where
-  pub same : IsPermutation os ps
-  pub one : link forced os o ≡ Ok x
-  pub other : link forced ps (record o { layout = layout }) ≡ Ok y
-
 -- the word that has this place is not relocated
 abbrev pub IsUnrelocated : List Contents → Place → Type 0
 IsUnrelocated os (of_object number segment n) =
@@ -216,14 +210,3 @@ LinksAreIsomorphic =
     AreLinks forced os ps o layout x y →
     AllByRecursion IsObject os → o.keep ≢ Nothing → o.relocatable ≡ false → x.report.multiples ≡ [] →
     (to from : ℕ → ℕ) → AreRenumbered os ps to from → AreIsomorphic forced os ps o x y to from
-
--- so in another order, and in another layout, each word of each object refers to the same
-abbrev pub LinksKeepReferents : Type 0
-LinksKeepReferents =
-    (forced : List (List ℕ)) (os ps : List Contents) (o : Choices) (layout : Layout) (x y : Outcome) →
-    AreLinks forced os ps o layout x y →
-    o.keep ≢ Nothing → o.relocatable ≡ false → x.report.multiples ≡ [] → AllByRecursion IsObject os →
-    (before : List Contents) (k : Contents) (after : List Contents) → os ≡ before ++ k ∷ after →
-    (front back : List Contents) → ps ≡ front ++ k ∷ back →
-    (segment : Segment) (i w : ℕ) (r : Reloc) → slice_get (segment_words segment k) i ≡ Some w →
-    slice_get (segment_relocs segment k) i ≡ Some r → RefersAlike forced os ps o x y before front k segment i w r

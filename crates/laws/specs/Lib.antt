@@ -12,6 +12,5 @@ pub mod OperandPlaces
 pub mod ReachedInstructions
 pub mod CleanPrograms
 pub mod Disks
-pub mod StepsByCommands
 pub mod SessionsByCommands
 pub mod Maps

@@ -4,15 +4,16 @@
 -- reported, do not depend on the order of the objects; the places of objects and commons do. If no name is multiply defined, each
 -- name means the same in any order, so each word refers to the same thing. Two orders differ by exchanges, such as of two
 -- neighbours.
-use Rattle.std.specs.Prelude.{◌≡◌, ◌≢◌, ◌↔◌, ℕ, ◌≤◌, Bool, true, false, not, ◌&&◌, eqb, List, [], ◌∷◌, ◌++◌, map, filter, length, sum_by}
-use Rattle.std.specs.Prelude.{Some, Result, Ok, Err, slice_get, bytes_eq}
+use Rattle.std.specs.Prelude.{◌≡◌, ◌≢◌, ◌↔◌, ℕ, true, false, eqb, List, [], ◌∷◌, ◌++◌, map}
+use Rattle.std.specs.Prelude.{Some, Result, Ok, Err, slice_get}
 use Rattle.std.specs.{List.AllByRecursion, List.Sorted.IsPermutation}
 use Rattle.aout_core.specs.WellFormed.{is_external, masked_type, kind_of, symbol_number}
 use Rattle.aout_core.specs.{declared.symbol.Symbol.Symbol, declared.symbol.Segment.Segment, declared.reloc.Reloc.Reloc}
 use Rattle.aout_core.specs.{declared.reloc.Kind.TheVariants.External, Contents.Contents}
 use Rattle.link_session.specs.{Labelled.Labelled, Edits.Change, Edits.addition, Edits.added, Edits.answers, Sessions.IsObject}
 use Rattle.link_session.specs.{Mentions.mentions, Mentions.externals, Cells.segment_words, Cells.segment_relocs}
-use Rattle.tool_options.specs.{NameLists.is_among, declared.options.Keep.TheVariants.Nothing, Choices.Choices}
+use Rattle.tool_options.specs.{NameLists.is_among, declared.options.Keep.TheVariants.Nothing, declared.options.Layout.Layout}
+use Rattle.tool_options.specs.Choices.{Choices}
 use Rattle.link_out.specs.{declared.linked.LinkFault.LinkFault, function.Link.Outcome, function.Link.link, Runs.link_after}
 use Rattle.link_laws.specs.relation.Relocated.{entry_of, IsRelocated}
 use Rattle.link_laws.specs.{relation.NameStates.IsWanted, relation.LinkedTable.undefined_row, WordsAndNames.IsDefined}
@@ -24,18 +25,11 @@ pub record AreOrders (forced : List (List ℕ)) (os ps : List Contents) (o : Cho
   pub one : link forced os o ≡ Ok x
   pub other : link forced ps o ≡ Ok y
 
--- the symbol defines this name
-abbrev pub defines : List ℕ → Symbol → Bool
-defines name s = is_external s && (not (eqb (masked_type s) 0) && bytes_eq name s.name)
-
--- no two symbols of the objects define one name
-abbrev pub DefineOnce : List Contents → Type 0
-DefineOnce os = (name : List ℕ) → sum_by (λ (k : Contents). length (filter (defines name) k.symbols)) os ≤ 1
-
--- then no name is multiply defined, in any order
-abbrev pub OnceInAnyOrder : Type 0
-OnceInAnyOrder = (forced : List (List ℕ)) (os ps : List Contents) (o : Choices) (y : Outcome) → IsPermutation os ps →
-    DefineOnce os → link forced ps o ≡ Ok y → y.report.multiples ≡ []
+-- the links of the same objects in two orders and two layouts, by options that are else the same
+pub record AreLinks (forced : List (List ℕ)) (os ps : List Contents) (o : Choices) (layout : Layout) (x y : Outcome) : Type 0 where
+  pub same : IsPermutation os ps
+  pub one : link forced os o ≡ Ok x
+  pub other : link forced ps (record o { layout = layout }) ≡ Ok y
 
 -- these objects are added in order
 abbrev pub additions : List Labelled → List Change
@@ -77,11 +71,6 @@ abbrev pub OrderReportsAlike : Type 0
 OrderReportsAlike = (forced : List (List ℕ)) (os ps : List Contents) (o : Choices) (x y : Outcome) → AreOrders forced os ps o x y →
     (x.report.reserved ≡ y.report.reserved) × IsPermutation x.report.undefined y.report.undefined
 
--- the entry point is found in both or in neither, if no name is multiply defined in one of the orders
-abbrev pub OrderFindsEntry : Type 0
-OrderFindsEntry = (forced : List (List ℕ)) (os ps : List Contents) (o : Choices) (x y : Outcome) → AreOrders forced os ps o x y →
-    x.report.multiples ≡ [] → x.report.entry_bad ≡ y.report.entry_bad
-
 -- what a name means: the definition that a symbol of an object makes, a common of so many bytes, or nothing in the objects
 pub data Meaning : Type 0 where
   definition : Contents → Symbol → Meaning
@@ -117,8 +106,8 @@ pub record MeansTheSame (forced : List (List ℕ)) (os ps : List Contents) (o : 
 -- if no name is multiply defined in one of the orders, each name means the same
 abbrev pub OrderKeepsMeanings : Type 0
 OrderKeepsMeanings =
-    (forced : List (List ℕ)) (os ps : List Contents) (o : Choices) (x y : Outcome) → AreOrders forced os ps o x y →
-    o.keep ≢ Nothing → o.relocatable ≡ false →
+    (forced : List (List ℕ)) (os ps : List Contents) (o : Choices) (layout : Layout) (x y : Outcome) →
+    AreLinks forced os ps o layout x y → o.keep ≢ Nothing → o.relocatable ≡ false →
     x.report.multiples ≡ [] → (name : List ℕ) → is_among (externals forced os) name ≡ true → MeansTheSame forced os ps o x y name
 
 -- a word of k, after these objects in the one order and those in the other, is relocated in both files, and the name that it
@@ -130,10 +119,11 @@ pub record RefersAlike (forced : List (List ℕ)) (os ps : List Contents) (o : C
   pub name : kind_of r ≡ Some External → (s : Symbol) → slice_get k.symbols (symbol_number r) ≡ Some s →
       MeansTheSame forced os ps o x y s.name
 
--- so each word of each object refers to the same
+-- so in another order, and in another layout, each word of each object refers to the same
 abbrev pub OrderKeepsReferents : Type 0
 OrderKeepsReferents =
-    (forced : List (List ℕ)) (os ps : List Contents) (o : Choices) (x y : Outcome) → AreOrders forced os ps o x y →
+    (forced : List (List ℕ)) (os ps : List Contents) (o : Choices) (layout : Layout) (x y : Outcome) →
+    AreLinks forced os ps o layout x y →
     o.keep ≢ Nothing → o.relocatable ≡ false → x.report.multiples ≡ [] → AllByRecursion IsObject os →
     (before : List Contents) (k : Contents) (after : List Contents) → os ≡ before ++ k ∷ after →
     (front back : List Contents) → ps ≡ front ++ k ∷ back →

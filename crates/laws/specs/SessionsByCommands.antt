@@ -4,20 +4,21 @@
 -- A session's run is taken line by line: what each line asked of the system, what it answered, and its status. The files that are
 -- left after some lines are those that were added and not withdrawn, with the bytes that were read there. Nothing is assumed of the
 -- disk during the session, and files may change between the session and `ld`, but for those that are left.
-use Rattle.std.specs.Prelude.{◌≡◌, ◌≢◌, ◌⊎◌, ℕ, Bool, true, eqb, List, [], ◌∷◌, ◌++◌, map, Option, Some, None, codes, decimal}
-use Rattle.std.specs.List.{AllByRecursion}
+use Rattle.std.specs.Prelude.{◌≡◌, ◌≢◌, ◌⊎◌, ℕ, Bool, true, eqb, List, [], ◌∷◌, ◌++◌, map, Option, Some, None, String, Vec, codes, decimal}
+use Rattle.std.specs.Prelude.{string_bytes}
+use Rattle.std.specs.{declared.alloc.Global.Global, List.AllByRecursion}
 use Rattle.aout_core.specs.{declared.file.ReadFault.TheVariants.Device, Contents.Contents}
 use Rattle.link_session.specs.{Edits.without_last, Sessions.nothing_kept}
 use Rattle.link_out.specs.{function.Reports.line, Inputs.bad_file}
 use Rattle.tool_options.specs.Choices.{Choices}
 use Rattle.surroundings.specs.Events.{Event, looked, opened, stored, written, Opened, opens, paths_of}
 use Rattle.surroundings.specs.{Emits.PutsUnless, declared.nodes.Node.Node, declared.office.Stored.Stored, declared.office.Stored.TheVariants.Kept}
-use Rattle.command_words.specs.declared.words.Call.TheVariants.{Session}
+use Rattle.command_words.specs.declared.words.Call.TheVariants.{Ld, Session}
 use Rattle.command_words.specs.Scripts.{Asked, to_add, to_withdraw, to_link}
 use Rattle.v7tools.specs.FaultTexts.{cause_text, fault_line, no_memory}
 use Rattle.v7tools.specs.SessionRuns.{AreFirst, AreLines, Chains, answers_of, events_of, lines_asked, worst}
 use Rattle.v7tools.specs.{CommandRuns.AsksFor, CommandRuns.Performs, LineRuns.LineRun, declared.fault.CliFault.CliFault}
-use Rattle.laws.specs.{Disks.Disk, Disks.IsOn, Disks.Run, Disks.EndsWell, Disks.Writes, StepsByCommands.AsksToLink}
+use Rattle.laws.specs.{Disks.Disk, Disks.IsOn, Disks.Run, Disks.EndsWell, Disks.Writes}
 use Rattle.link_session.specs.Undo as undo
 use Rattle.v7tools.specs.declared.fault.CliFault.TheVariants as faults
 
@@ -123,6 +124,14 @@ abbrev pub CannotWrite : CliFault → Type 0
 CannotWrite (faults.CannotCreate path) = Unit {0}
 CannotWrite faults.WriteFailed = Unit {0}
 CannotWrite _ = ⊥
+
+-- the arguments ask ld for a link of the files at these paths into the file at `out`
+pub record AsksToLink (words forced : List (List ℕ)) (o : Choices) (out : List ℕ) (paths : List (List ℕ)) : Type 0 where
+  pub output : String Global
+  pub files : Vec (String Global) Global
+  pub asks : AsksFor words (Ld o forced output files)
+  pub out_path : string_bytes output ≡ out
+  pub file_paths : map string_bytes files.items ≡ paths
 
 module _ {W E : Type 0} (out_contents : W → Option (List ℕ)) (error_contents : E → Option (List ℕ)) where
   -- it did what the contract of `perform` specifies

@@ -3,7 +3,7 @@
 //! - `links`: which byte is at which address of a loaded program, what its instructions find there, what nm and size show of it,
 //!   and what the order of the objects changes
 //! - `frames`: what a link keeps if one object is replaced by another
-//! - `commands`: `ld -r` and then `ld`, or `ld` and then `strip`, give what one `ld` gives
+//! - `commands`: what a session answers and stores, line by line, and that adding and withdrawing leave no trace
 #![tactic(auto)]
 
 pub mod commands;

@@ -2,14 +2,13 @@
 ghost use Rattle.laws.specs.CoreLaws.{SegmentsAreApart, SpacesAreOne, AddressesFit, WordsAreLoaded, WordsOfRowsAreLoaded, KeepChangesNothing, StrippedIsLoaded, BssIsZero, CommonsAreZero, NothingElse};
 ghost use Rattle.laws.specs.Operands.{NamesAreFound, SegmentsAreFound, CallsArrive};
 ghost use Rattle.laws.specs.Instructions.{InstructionsAreKept, TextsAreKept, InstructionsAreThere};
-ghost use Rattle.laws.specs.OperandWords.{OperandsGiveNames, OperandsGiveSegments};
 ghost use Rattle.laws.specs.OperandPlaces.{OperandsAreThere, JumpsArrive, PointersToSegments, PointersToNames};
 ghost use Rattle.laws.specs.ReachedInstructions.{ReachedInstructionsAreKept, SurePlacesBegin};
 ghost use Rattle.laws.specs.CleanPrograms.{CleanObjectsMakeCleanPrograms};
 ghost use Rattle.laws.specs.Listings.{UndefinedAreListed, UndefinedLines, RowLines, ExternalsAreListed, SizesAreSums};
-ghost use Rattle.laws.specs.Isomorphism.{PlacesAreApart, PlacesAreLoaded, BytesHavePlaces, OrdersAreRenumbered, LinksAreIsomorphic, LinksKeepReferents};
+ghost use Rattle.laws.specs.Isomorphism.{PlacesAreApart, PlacesAreLoaded, BytesHavePlaces, OrdersAreRenumbered, LinksAreIsomorphic};
 ghost use Rattle.laws.specs.Maps.{AddressesAreOfTheFile, NoWordIsMissing, WordsReferToTheirName};
-ghost use Rattle.laws.specs.Orders.{OrderAddsAlike, OrderLinksAlike, OrderRefusesAlike, OrderKeepsSizes, OrderReportsAlike, OrderFindsEntry, OrderKeepsMeanings, OrderKeepsReferents, OnceInAnyOrder};
+ghost use Rattle.laws.specs.Orders.{OrderAddsAlike, OrderLinksAlike, OrderRefusesAlike, OrderKeepsSizes, OrderReportsAlike, OrderKeepsMeanings, OrderKeepsReferents};
 
 /// Which byte is at which address when a linked file is loaded: `core` of specs/Core, for the space of instructions and that of
 /// data, which are one unless spaces are split. (exec(2), a.out(5))
@@ -39,7 +38,7 @@ pub fn core_law()
 {}
 
 /// What a word of a linked program finds: the word, or, if the pc bit of its relocation word is set, the address after the word plus the
-/// word. Both are modulo 65,536. An instruction finds the same if the pc bit suits its mode: `operand_word_law` goes by the mode. (ld(1))
+/// word. Both are modulo 65,536. An instruction finds the same if the pc bit suits its mode. (ld(1))
 ///
 /// - `names`: in a link without `-r` that keeps symbols, a word that refers to a name finds what it finds in its object, plus the
 ///   name's value.
@@ -107,19 +106,6 @@ pub fn clean_law()
     ensures { CleanObjectsMakeCleanPrograms }
 {}
 
-/// What the machine makes of an operand word of a linked program: in modes 67 and 77 the sum of the word and the address after it, and
-/// in modes 27, 37 and as an index the word itself, modulo 65,536. The pc bit of the word's relocation word has to suit the mode: it is
-/// set in modes 67 and 77 alone. (ld(1), the handbook of the PDP-11/70)
-///
-/// - `names`: in a link without `-r` that keeps symbols, a word that refers to a name gives the machine what it gives in the object,
-///   plus the value of the name's external symbol.
-/// - `segments`: a word that refers to a segment of its object gives what it gives in the object, plus how far that segment moved. An
-///   absolute word gives the same as there.
-pub fn operand_word_law()
-    ensures names { OperandsGiveNames }
-    ensures segments { OperandsGiveSegments }
-{}
-
 /// A word of text or data that is not relative to the pc is a pointer: in the program it has the address of the byte to which it refers
 /// in its object. (ld(1))
 ///
@@ -152,30 +138,26 @@ pub fn listing_law()
     ensures sizes { SizesAreSums }
 {}
 
-/// The order of the objects changes the addresses in a program, and not what it means. The law compares the same objects in any two
-/// orders. (ld(1))
+/// The order of the objects changes the addresses in a program, and not what it means. The law compares links of the same objects in any
+/// two orders, and `isomorphism_law` the bytes that they load. (ld(1))
 ///
 /// - `adds`: a session accepts all objects in both orders, or in neither. The first object that it refuses, and the limit that this
 ///   object would exceed, may differ.
 /// - `links`: if it accepts all, there is a link without `-r` in both orders, or the same fault.
 /// - `refuses`: without `-r`, the link of all of them is refused in both orders with the same fault, or in neither.
 /// - `sizes`: two links have the same sizes of text, data, bss and table, so their headers differ at most in the entry point.
-/// - `session_states`: two links report the same reserved names, and the same undefined names in some order.
-/// - `entry`: if no name is multiply defined, the entry point is found in both orders or in neither.
-/// - `meanings`: if no name is multiply defined, each name means the same in links without `-r` that keep symbols: the same symbol
-///   of the same object, a common of the same size, or nothing in the objects.
+/// - `reports`: two links report the same reserved names, and the same undefined names in some order.
+/// - `meanings`: if no name is multiply defined, each name means the same in links without `-r` that keep symbols, in two layouts too:
+///   the same symbol of the same object, a common of the same size, or nothing in the objects.
 /// - `referents`: so each word refers to the same: to a segment of its own object, or to what its name means.
-/// - `single`: if no two symbols of the objects define one name, no name is multiply defined in any order.
 pub fn order_law()
     ensures adds { OrderAddsAlike }
     ensures links { OrderLinksAlike }
     ensures refuses { OrderRefusesAlike }
     ensures sizes { OrderKeepsSizes }
     ensures reports { OrderReportsAlike }
-    ensures entry { OrderFindsEntry }
     ensures meanings { OrderKeepsMeanings }
     ensures referents { OrderKeepsReferents }
-    ensures single { OnceInAnyOrder }
 {}
 
 /// Links of the same objects load the same program at other addresses. A place is a byte of an object's text, data or bss, or of a
@@ -190,14 +172,12 @@ pub fn order_law()
 ///   one of them no name is multiply defined. By any such pairs they have the same places. A place has the same byte in both, unless
 ///   its word is relocated. What a relocated word finds by its pc bit differs as the addresses of what the word refers to: a segment
 ///   of its object, the definition of a name, a common, the end of a segment if the linker defines the name so, or nothing.
-/// - `referents`: so each word of each object refers to the same. With one layout this is `referents` of `order_law`.
 pub fn isomorphism_law()
     ensures apart { PlacesAreApart }
     ensures loaded { PlacesAreLoaded }
     ensures placed { BytesHavePlaces }
     ensures numbers { OrdersAreRenumbered }
     ensures same { LinksAreIsomorphic }
-    ensures referents { LinksKeepReferents }
 {}
 
 /// The map of a link is a map of the linked file. The objects are such as a session accepts. (ld(1); maps: own choice)

@@ -92,15 +92,9 @@ module _ (forced : List (List ℕ)) (os : List Contents) (o : Choices) (others :
       defined_at Absolute (plus s.value (shift before k Absolute))
       (ap external_type same) (move_at Other same (sum_placed s.value 0 0 0 refl))
       (agrees_with (first_definition (mentions forced os) s.name) Absolute (plus s.value (shift before k Absolute)) h)
-  defined_by TextSeg inner same h =
-      defined_at TextSeg (plus s.value (shift before k TextSeg)) (ap external_type same) (move_at TextSeg same (placed TextSeg))
-      (agrees_with (first_definition (mentions forced os) s.name) TextSeg (plus s.value (shift before k TextSeg)) h)
-  defined_by DataSeg inner same h =
-      defined_at DataSeg (plus s.value (shift before k DataSeg)) (ap external_type same) (move_at DataSeg same (placed DataSeg))
-      (agrees_with (first_definition (mentions forced os) s.name) DataSeg (plus s.value (shift before k DataSeg)) h)
-  defined_by BssSeg inner same h =
-      defined_at BssSeg (plus s.value (shift before k BssSeg)) (ap external_type same) (move_at BssSeg same (placed BssSeg))
-      (agrees_with (first_definition (mentions forced os) s.name) BssSeg (plus s.value (shift before k BssSeg)) h)
+  defined_by segment inner same h =
+      defined_at segment (plus s.value (shift before k segment)) (ap external_type same) (move_at segment same (placed segment))
+      (agrees_with (first_definition (mentions forced os) s.name) segment (plus s.value (shift before k segment)) h)
 
 -- where no name is multiply defined, each definition holds
 pub definitions_hold : (forced : List (List ℕ)) (before : List Contents) (k : Contents) (after : List Contents)

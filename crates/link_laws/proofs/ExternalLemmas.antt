@@ -79,10 +79,6 @@ row_address_by : (p : Plan) (name : List ℕ) (st : State) → IsProper st →
     address_in (row_at name (final_by p name st)) ≡ (final_by p name st).address
 row_address_by p name (Defined Undefined offset) h = absurd h
 row_address_by p name (Defined Other offset) h = absurd h
-row_address_by p name (Defined Absolute offset) h = refl
-row_address_by p name (Defined TextSeg offset) h = refl
-row_address_by p name (Defined DataSeg offset) h = refl
-row_address_by p name (Defined BssSeg offset) h = refl
 row_address_by p name (Wanted size) h =
     by_tests (plus p.at.data_end (common_offset p.mentions name)) (eqb size 0) p.choices.relocatable (lays_commons p.choices)
   where
@@ -93,6 +89,7 @@ row_address_by p name (Wanted size) h =
     by_tests a true false c = row_undefined p.at name
     by_tests a false r true = refl
     by_tests a false r false = refl
+row_address_by p name (Defined segment offset) h = refl
 
 -- the address of a name is what its row gives
 pub row_address : (forced : List (List ℕ)) (os : List Contents) (o : Choices) (name : List ℕ) →

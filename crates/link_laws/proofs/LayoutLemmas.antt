@@ -56,9 +56,7 @@ shifted_map g h bss f e each (x ∷ xs) = (each x, shifted_map g h bss f e each 
 shifted_kept : (g h : Header) (bss : ℕ) (keep : Keep) (ss ts : List Symbol) → AreShifted g h bss ss ts →
     AreShifted g h bss (rows_kept keep ss) (rows_kept keep ts)
 shifted_kept g h bss Nothing ss ts a = tt
-shifted_kept g h bss All ss ts a = a
-shifted_kept g h bss NotL ss ts a = a
-shifted_kept g h bss Externals ss ts a = a
+shifted_kept g h bss keep ss ts a = a
 
 module _ (forced : List (List ℕ)) (os : List Contents) (o : Choices) (layout : Layout) where
   abbrev p : Plan
@@ -123,8 +121,6 @@ module _ (forced : List (List ℕ)) (os : List Contents) (o : Choices) (layout :
   row_by r name st = record { name = name; type_bits = type_of (final_by r name st).bound; value = (final_by r name st).written }
 
   shown : (name : List ℕ) (st : State) → IsProper st → IsShifted g h bss (row_by p name st) (row_by q name st)
-  shown name (Defined Undefined n) proper = absurd proper
-  shown name (Defined Other n) proper = absurd proper
   shown name (Defined Absolute n) proper = record { name = refl; type_bits = refl; value = refl }
   shown name (Defined TextSeg n) proper = record { name = refl; type_bits = refl; value = refl }
   shown name (Defined DataSeg n) proper = record { name = refl; type_bits = refl; value = at_data n }
@@ -148,6 +144,7 @@ module _ (forced : List (List ℕ)) (os : List Contents) (o : Choices) (layout :
       by_tests true false c false false false = record { name = refl; type_bits = refl; value = refl }
       by_tests false r true t d e = record { name = refl; type_bits = refl; value = at_common (common_offset ms name) }
       by_tests false r false t d e = record { name = refl; type_bits = refl; value = refl }
+  shown name (Defined segment n) proper = absurd proper
 
   -- locals
 
@@ -157,10 +154,6 @@ module _ (forced : List (List ℕ)) (os : List Contents) (o : Choices) (layout :
     where
       by_segment : (segment : Segment) → minus (moved_value p.at earlier k segment s.value) (base_in g bss segment)
           ≡ minus (moved_value q.at earlier k segment s.value) (base_in h bss segment)
-      by_segment Undefined = refl
-      by_segment Absolute = refl
-      by_segment Other = refl
-      by_segment TextSeg = refl
       by_segment DataSeg =
           ap (λ (b : ℕ). minus (moved_value p.at earlier k DataSeg s.value) b) data_p
           ∙ less_moved s.value p.at.data_start (shift earlier k DataSeg)
@@ -171,6 +164,7 @@ module _ (forced : List (List ℕ)) (os : List Contents) (o : Choices) (layout :
           ∙ less_moved s.value p.at.bss_start (shift earlier k BssSeg)
           ∙ sym (ap (λ (b : ℕ). minus (moved_value q.at earlier k BssSeg s.value) b) bss_q
           ∙ less_moved s.value q.at.bss_start (shift earlier k BssSeg))
+      by_segment segment = refl
 
   locals_shifted : (earlier rest : List Contents) → AreShifted g h bss
       (flat_map (λ c. map (moved_local p.at c.0 c.1) (filter (is_kept_local o.keep) c.1.symbols)) (with_earlier earlier rest))

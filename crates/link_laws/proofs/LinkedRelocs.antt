@@ -33,12 +33,10 @@ module _ (forced : List (List ℕ)) (os : List Contents) (o : Choices) where
   value_same : (earlier : List Contents) (k : Contents) (segment : Segment) (value : ℕ) →
       moved_value_in (linked_header (plan forced os o) os) os earlier k segment value
       ≡ moved_value (plan forced os o).at earlier k segment value
-  value_same earlier k Undefined value = refl
-  value_same earlier k Absolute value = refl
-  value_same earlier k Other value = refl
   value_same earlier k TextSeg value = ap (λ (n : ℕ). plus value n) (sym (move_by_header forced os o earlier k TextSeg))
   value_same earlier k DataSeg value = ap (λ (n : ℕ). plus value n) (sym (move_by_header forced os o earlier k DataSeg))
   value_same earlier k BssSeg value = ap (λ (n : ℕ). plus value n) (sym (move_by_header forced os o earlier k BssSeg))
+  value_same earlier k segment value = refl
 
   local_same : (earlier : List Contents) (k : Contents) (s : Symbol) →
       moved_local_in (linked_header (plan forced os o) os) os earlier k s ≡ moved_local (plan forced os o).at earlier k s
@@ -58,10 +56,6 @@ IsPlace _ = Unit {0}
 final_place : (p : Plan) (name : List ℕ) (st : State) → IsProper st → IsPlace (final_by p name st).bound
 final_place p name (Defined Undefined n) h = absurd h
 final_place p name (Defined Other n) h = absurd h
-final_place p name (Defined Absolute n) h = tt
-final_place p name (Defined TextSeg n) h = tt
-final_place p name (Defined DataSeg n) h = tt
-final_place p name (Defined BssSeg n) h = tt
 final_place p name (Wanted size) h =
     by_tests (plus p.at.data_end (common_offset p.mentions name)) (eqb size 0) p.choices.relocatable
     (lays_commons p.choices) (bytes_eq name etext) (bytes_eq name edata) (bytes_eq name end_name)
@@ -76,25 +70,20 @@ final_place p name (Wanted size) h =
     by_tests a true false c false false false = tt
     by_tests a false r true t d e = tt
     by_tests a false r false t d e = tt
+final_place p name (Defined segment n) h = tt
 
 bits_same : (name : List ℕ) (value : ℕ) (b : Option Segment) → IsPlace b → (n : ℕ) →
     row_bits (record { name = name; type_bits = type_of b; value = value }) n ≡ name_bits b n
 bits_same name value None h n = refl
 bits_same name value (Some Undefined) h n = absurd h
 bits_same name value (Some Other) h n = absurd h
-bits_same name value (Some Absolute) h n = refl
-bits_same name value (Some TextSeg) h n = refl
-bits_same name value (Some DataSeg) h n = refl
-bits_same name value (Some BssSeg) h n = refl
+bits_same name value (Some segment) h n = refl
 
 large_same : (b : Option Segment) → IsPlace b → (n : ℕ) → number_too_large b n ≡ (eqb (type_of b % 32) 0 && nat_lt 4095 n)
 large_same None h n = refl
 large_same (Some Undefined) h n = absurd h
 large_same (Some Other) h n = absurd h
-large_same (Some Absolute) h n = refl
-large_same (Some TextSeg) h n = refl
-large_same (Some DataSeg) h n = refl
-large_same (Some BssSeg) h n = refl
+large_same (Some segment) h n = refl
 
 -- a number that is not too large fits
 numbered_of : (z : Bool) (n : ℕ) → (z && nat_lt 4095 n) ≡ false → z ≡ true → n ≤ 4095
@@ -139,10 +128,6 @@ module _ (forced : List (List ℕ)) (os : List Contents) (o : Choices) where
       needs_too_large p os (referent_by k number kind) ≡ false →
       AreBits rows locals k kind number (referent_bits p os (referent_by k number kind))
   bits_by k None number n h known numbered = absurd (cc)
-  bits_by k (Some kinds.Absolute) number n h known numbered = refl
-  bits_by k (Some kinds.TextSeg) number n h known numbered = refl
-  bits_by k (Some kinds.DataSeg) number n h known numbered = refl
-  bits_by k (Some kinds.BssSeg) number n h known numbered = refl
   bits_by k (Some kinds.External) number n h known numbered = by_slot (slice_get k.symbols number) refl h known numbered
     where
       by_slot : (slot : Option Symbol) → slice_get k.symbols number ≡ slot → cond (is_wanted slot) None
@@ -162,16 +147,13 @@ module _ (forced : List (List ℕ)) (os : List Contents) (o : Choices) where
             (numbered_of (eqb (type_of (final p s.name).bound % 32) 0) (row_of p os s.name)
             (sym (large_same (final p s.name).bound (placed s.name) (row_of p os s.name)) ∙ numbered) z);
       }
+  bits_by k (Some kind) number n h known numbered = refl
 
   -- no other bits, and none that are too large
   bits_are : (k : Contents) (kind : Option Kind) (number bits : ℕ) →
       RefersAmong (names_of (mentions forced os)) (referent_by k number kind) → AreBits rows locals k kind number bits →
       (bits ≡ referent_bits p os (referent_by k number kind)) × (needs_too_large p os (referent_by k number kind) ≡ false)
   bits_are k None number bits known is = absurd is
-  bits_are k (Some kinds.Absolute) number bits known is = (is, refl)
-  bits_are k (Some kinds.TextSeg) number bits known is = (is, refl)
-  bits_are k (Some kinds.DataSeg) number bits known is = (is, refl)
-  bits_are k (Some kinds.BssSeg) number bits known is = (is, refl)
   bits_are k (Some kinds.External) number bits known is =
       let name = is.symbol.name in
       let mentioned : is_among (names_of (mentions forced os)) name ≡ true =
@@ -191,6 +173,7 @@ module _ (forced : List (List ℕ)) (os : List Contents) (o : Choices) where
     where
       inside : (a b : Symbol) → Some a ≡ Some b → a ≡ b
       inside a b e = cc
+  bits_are k (Some kind) number bits known is = (is, refl)
 
   -- relocation words
 

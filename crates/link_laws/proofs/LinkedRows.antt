@@ -52,8 +52,6 @@ module _ (h : Header) (bss : ℕ) (o : Choices) (b : Bases) (gives_bases : Gives
   -- the row of a name in a state is that of its final name
   row_same : (at offset : ℕ) → (lays_commons o ≡ true → at ≡ plus b.data_end offset) → (name : List ℕ) (st : State) →
       IsProper st → row_for h bss o at name st ≡ row_at name (final_at o b offset name st)
-  row_same at offset lies name (Defined Undefined n) p = absurd p
-  row_same at offset lies name (Defined Other n) p = absurd p
   row_same at offset lies name (Defined Absolute n) p = refl
   row_same at offset lies name (Defined TextSeg n) p = refl
   row_same at offset lies name (Defined DataSeg n) p =
@@ -70,6 +68,7 @@ module _ (h : Header) (bss : ℕ) (o : Choices) (b : Bases) (gives_bases : Gives
       by_tests true c lies = undefined_same name
       by_tests false true lies = ap (λ (n : ℕ). let s : Symbol = record { name = name; type_bits = 36; value = n } in s) (lies refl)
       by_tests false false lies = refl
+  row_same at offset lies name (Defined segment n) p = absurd p
 
 -- the room that commons take
 pub space_laid : (o : Choices) (st : State) → space_for o st ≡ cond (lays_commons o) (common_size st) 0

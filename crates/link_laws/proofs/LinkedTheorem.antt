@@ -78,7 +78,7 @@ module _ (forced : List (List ℕ)) (os : List Contents) (o : Choices) where
   either true b h = absurd (cc)
   either false b h = (refl, h)
 
-  -- what a link answers
+  -- one direction: what the function `link` gives has each part of the relation
 
   module _ (good : AllByRecursion IsObject os) (x : Outcome) (m : IsMade p os x) where
     abbrev h : Header
@@ -174,7 +174,8 @@ module _ (forced : List (List ℕ)) (os : List Contents) (o : Choices) where
       report = reported;
     }
 
-  -- and nothing else
+  -- the other: a file and a report that have each part are those that `link` gives. First the header is known but for two words, by it
+  -- the rows, by these the table and the entry point, and by all of them the words
 
   module _ (good : AllByRecursion IsObject os) (x : Outcome) (l : IsLinkedFrom forced os o x) where
     abbrev g : Header

@@ -27,9 +27,6 @@ data_begun Split t = refl
 pub move_by_header : (forced : List (List ℕ)) (os : List Contents) (o : Choices) (before : List Contents) (k : Contents)
     (segment : Segment) →
     move (plan forced os o).at before k segment ≡ move_in (linked_file (plan forced os o) os).header os before k segment
-move_by_header forced os o before k Undefined = refl
-move_by_header forced os o before k Absolute = refl
-move_by_header forced os o before k Other = refl
 move_by_header forced os o before k TextSeg = sum_moved 0 (total TextSeg before) 0
 move_by_header forced os o before k DataSeg =
     ap (λ (b : ℕ). plus b (minus (total DataSeg before) (own k DataSeg))) (data_begun o.layout (total TextSeg os))
@@ -39,3 +36,4 @@ move_by_header forced os o before k BssSeg =
     (λ i. plus (data_begun o.layout (total TextSeg os) i + total DataSeg os + sym (rest_back c (total BssSeg os)) i)
     (minus (total BssSeg before) (own k BssSeg)))
     ∙ sum_moved (base_in (linked_file (plan forced os o) os).header (total BssSeg os) BssSeg) (total BssSeg before) (own k BssSeg)
+move_by_header forced os o before k segment = refl

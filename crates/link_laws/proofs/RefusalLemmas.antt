@@ -1,7 +1,8 @@
 -- A link is refused exactly where an end, a count or a number is too large.
 use Rattle.std.proofs.Common.{◌≡◌, ◌↔◌, ℕ, zero, suc, ◌+◌, ◌<◌, ◌≤◌, Bool, true, false, cond, ◌&&◌, ◌||◌, eqb, eqb-true, List, [], ◌∷◌}
 use Rattle.std.proofs.Common.{◌++◌, map, length, Option, Some, None, refl, sym, ◌∙◌, ap, subst, arith, inl, inr, ◌⊎◌, length-append}
-use Rattle.std.proofs.{lemmas.Bool.ltb-false, lemmas.Bool.ltb-true, lemmas.List.length-map, lemmas.List.Folds.list_any-append}
+use Rattle.std.proofs.{lemmas.Bool.ltb-false, lemmas.Bool.ltb-true, lemmas.Bool.lt-ltb, lemmas.List.length-map, lemmas.List.Folds.list_any-append}
+use Rattle.std.proofs.lemmas.Map.Keys.{any_passes_from_place}
 use Rattle.std.specs.Prelude.{filter, slice_get, nat_lt, Result, Ok, Err}
 use Rattle.std.specs.List.{flat_map, list_any, AllByRecursion}
 use Rattle.aout_core.specs.declared.symbol.Segment.TheVariants.{Undefined, Absolute, TextSeg, DataSeg, BssSeg, Other}
@@ -45,15 +46,6 @@ made_refused x fault e = cc
 
 same_fault : (one other : LinkFault) → (let refused : Result Outcome LinkFault = Err one in refused) ≡ Err other → one ≡ other
 same_fault one other e = cc
-
--- numbers
-
-is_over : (m n : ℕ) → m < n → nat_lt m n ≡ true
-is_over m n h = by_test (nat_lt m n) refl
-  where
-    by_test : (t : Bool) → nat_lt m n ≡ t → t ≡ true
-    by_test true e = refl
-    by_test false e = absurd (let under = ltb-false m n e in omega arith)
 
 -- commons
 
@@ -108,15 +100,6 @@ any_index {A = A} t (x ∷ xs) h = by_test (t x) refl h (any_index t xs)
         (i : ℕ) × ((y : A) × (slice_get (x ∷ xs) i ≡ Some y) × (t y ≡ true))
     by_test true e h rest = (zero, (x, refl, e))
     by_test false e h rest = let r = rest h in (suc r.0, (r.1.0, r.1.1, r.1.2))
-
-any_here : {A : Type 0} (t : A → Bool) (xs : List A) (i : ℕ) (x : A) → slice_get xs i ≡ Some x → t x ≡ true → list_any t xs ≡ true
-any_here t [] i x e h = absurd (cc)
-any_here t (a ∷ xs) zero x e h = let same : a ≡ x = cc in ap (λ (u : Bool). u || list_any t xs) (ap t same ∙ h)
-any_here t (a ∷ xs) (suc i) x e h = or_true (t a) (list_any t xs) (any_here t xs i x e h)
-  where
-    or_true : (u v : Bool) → v ≡ true → (u || v) ≡ true
-    or_true true v h = refl
-    or_true false v h = h
 
 any_split : (t : Contents → Bool) (xs : List Contents) → list_any t xs ≡ true →
     (before : List Contents) × ((k : Contents) × ((after : List Contents) × (xs ≡ before ++ k ∷ after) × (t k ≡ true)))
@@ -215,9 +198,9 @@ module _ (forced : List (List ℕ)) (os : List Contents) (o : Choices) where
           (size ≡ 0) ⊎ (lays_commons o ≡ false) →
           number_too_large (cond z (cond r (waiting 0) (reserved_or_waiting p.at name))
           (cond c (bound_at BssSeg (plus p.at.data_end (common_offset ms name))) (waiting size))).bound n ≡ true
-      by_tests true ze true re c ce w = is_over 4095 n large
+      by_tests true ze true re c ce w = lt-ltb 4095 n large
       by_tests true ze false re c ce w = absurd (false_true re)
-      by_tests false ze r re false ce w = is_over 4095 n large
+      by_tests false ze r re false ce w = lt-ltb 4095 n large
       by_tests false ze r re true ce (inl w) = absurd (false_true (sym ze ∙ ap (λ (m : ℕ). eqb m 0) w))
       by_tests false ze r re true ce (inr w) = absurd (false_true (sym w ∙ ce))
 
@@ -243,11 +226,8 @@ module _ (forced : List (List ℕ)) (os : List Contents) (o : Choices) where
       by_kind : (kind : Option Kind) → kind_of r ≡ kind → kind_fault k.symbols n kind (symbol_number r) ≡ None →
           needs_too_large p os (referent_by k (symbol_number r) kind) ≡ true → IsFar k r
       by_kind None ke h f = absurd (fault_none _ h)
-      by_kind (Some kinds.Absolute) ke h f = absurd (false_true f)
-      by_kind (Some kinds.TextSeg) ke h f = absurd (false_true f)
-      by_kind (Some kinds.DataSeg) ke h f = absurd (false_true f)
-      by_kind (Some kinds.BssSeg) ke h f = absurd (false_true f)
       by_kind (Some kinds.External) ke h f = by_slot ke (slice_get k.symbols (symbol_number r)) refl h f
+      by_kind (Some kind) ke h f = absurd (false_true f)
 
   large_by : (name : List ℕ) → 4095 < row_of p os name → 4095 < length (kept_locals o os) + place_of name (externals forced os)
   large_by name large = subst (λ (n : ℕ). 4095 < n) (number_same name) large
@@ -326,21 +306,18 @@ module _ (forced : List (List ℕ)) (os : List Contents) (o : Choices) where
           ap (λ (xs : List Contents). list_any (IsTooLargeIn f.segment) xs) f.all
           ∙ list_any-append (IsTooLargeIn f.segment) f.before (f.k ∷ f.after)
           ∙ or_middle (list_any (IsTooLargeIn f.segment) f.before) (IsTooLargeIn f.segment f.k) (list_any (IsTooLargeIn f.segment) f.after)
-          (any_here (λ wr. needs_too_large p os (referent f.k wr.1)) (words_of f.segment f.k) f.i (f.w, f.r)
+          (any_passes_from_place (λ wr. needs_too_large p os (referent f.k wr.1)) (words_of f.segment f.k) f.i (f.w, f.r)
           (word_at forced os f.before f.k f.after f.all good f.segment f.i f.w f.r f.word f.reloc).is_there large)
 
       by_segment : (segment : Segment) → slice_get (segment_words segment f.k) f.i ≡ Some f.w →
           has_too_large_in p os segment ≡ true → has_number_too_large p os ≡ true
-      by_segment Undefined w h = absurd (none_word f.w w)
-      by_segment Absolute w h = absurd (none_word f.w w)
-      by_segment BssSeg w h = absurd (none_word f.w w)
-      by_segment Other w h = absurd (none_word f.w w)
       by_segment TextSeg w h = ap (λ (t : Bool). t || has_too_large_in p os DataSeg) h
       by_segment DataSeg w h = or_right (has_too_large_in p os TextSeg) (has_too_large_in p os DataSeg) h
         where
           or_right : (u v : Bool) → v ≡ true → (u || v) ≡ true
           or_right true v h = refl
           or_right false v h = h
+      by_segment segment w h = absurd (none_word f.w w)
 
   -- refusals
 
@@ -386,10 +363,10 @@ module _ (forced : List (List ℕ)) (os : List Contents) (o : Choices) where
 
   refused_is : AllByRecursion IsObject os → (fault : LinkFault) → IsRefused forced os o fault → link forced os o ≡ Err fault
   refused_is good DoesNotFit h =
-      λ i. made_by (is_over 65535 p.at.bss_end (subst (λ (n : ℕ). 65535 < n) (ends_is h.0 h.1) h.2) i)
+      λ i. made_by (lt-ltb 65535 p.at.bss_end (subst (λ (n : ℕ). 65535 < n) (ends_is h.0 h.1) h.2) i)
       (nat_lt 5461 (length (table p os))) (o.relocatable && has_number_too_large p os)
   refused_is good TooManySymbols h =
-      λ i. made_by (short_by h.0 h.1 h.2 i) (is_over 5461 (length (table p os))
+      λ i. made_by (short_by h.0 h.1 h.2 i) (lt-ltb 5461 (length (table p os))
       (subst (λ (n : ℕ). 5461 < n) (sym table_long) h.3) i) (o.relocatable && has_number_too_large p os)
   refused_is good SymbolNumber h =
       λ i. made_by (short_by h.0 h.1 h.2 i) (not_over 5461 (length (table p os))

@@ -122,16 +122,13 @@ module _ (forced : List (List ℕ)) (os : List Contents) (o : Choices) where
       (segment : Segment) (i w : ℕ) (r : Reloc) →
       slice_get (segment_words segment k) i ≡ Some w → slice_get (segment_relocs segment k) i ≡ Some r →
       IsRelocated (linked_file p os) rows os before k segment i w r
-  relocated_at rows there good before k after all Undefined i w r ew er = absurd (cc)
-  relocated_at rows there good before k after all Absolute i w r ew er = absurd (cc)
-  relocated_at rows there good before k after all BssSeg i w r ew er = absurd (cc)
-  relocated_at rows there good before k after all Other i w r ew er = absurd (cc)
   relocated_at rows there good before k after all TextSeg i w r ew er =
       relocated rows there before k (linked_file p os) refl after all good TextSeg tt refl i w r
       (word_at forced os before k after all good TextSeg i w r ew er)
   relocated_at rows there good before k after all DataSeg i w r ew er =
       relocated rows there before k (linked_file p os) refl after all good DataSeg tt refl i w r
       (word_at forced os before k after all good DataSeg i w r ew er)
+  relocated_at rows there good before k after all segment i w r ew er = absurd (cc)
 
   -- and where each does, the words are those of the link
   pub relocated_whole : (rows : List Symbol) → AreThere rows → AllByRecursion IsObject os → (file : Contents) →

@@ -33,10 +33,7 @@ object_words DataSeg has o h =
     let relocs : 2 * length o.data_reloc ≡ o.header.data_size = h.fits.data_relocation ∙ with_all o h.well o.header.data_size in
     ap (λ (n : ℕ). 2 * n) (zip_length o.data_words o.data_reloc
     (both_as_long (length o.data_words) (length o.data_reloc) o.header.data_size h.fits.data relocs)) ∙ h.fits.data
-object_words Undefined has o h = absurd has
-object_words Absolute has o h = absurd has
-object_words BssSeg has o h = absurd has
-object_words Other has o h = absurd has
+object_words segment has o h = absurd has
 
 half : (n t : ℕ) → 2 * n ≡ t → n ≡ t / 2
 half n t e = omega arith
@@ -170,12 +167,9 @@ pub record IsWord (forced : List (List ℕ)) (os : List Contents) (k : Contents)
 -- a word and its relocation word, by their place
 pub words_back : (segment : Segment) (k : Contents) (i : ℕ) (z : ℕ × Reloc) → slice_get (words_of segment k) i ≡ Some z →
     (slice_get (segment_words segment k) i ≡ Some z.0) × (slice_get (segment_relocs segment k) i ≡ Some z.1)
-words_back Undefined k i z e = absurd (cc)
-words_back Absolute k i z e = absurd (cc)
-words_back BssSeg k i z e = absurd (cc)
-words_back Other k i z e = absurd (cc)
 words_back TextSeg k i z e = zip_back k.text_words k.text_reloc i z e
 words_back DataSeg k i z e = zip_back k.data_words k.data_reloc i z e
+words_back segment k i z e = absurd (cc)
 
 module _ (forced : List (List ℕ)) (os before : List Contents) (k : Contents) (after : List Contents)
     (all : os ≡ before ++ k ∷ after) (good : AllByRecursion IsObject os) where
@@ -198,10 +192,6 @@ module _ (forced : List (List ℕ)) (os before : List Contents) (k : Contents) (
   -- the word of an object at a place, and what its relocation word refers to
   pub word_at : (segment : Segment) (i w : ℕ) (r : Reloc) → slice_get (segment_words segment k) i ≡ Some w →
       slice_get (segment_relocs segment k) i ≡ Some r → IsWord forced os k segment i w r
-  word_at Undefined i w r ew er = absurd (cc)
-  word_at Absolute i w r ew er = absurd (cc)
-  word_at BssSeg i w r ew er = absurd (cc)
-  word_at Other i w r ew er = absurd (cc)
   word_at TextSeg i w r ew er =
       let is_there = zip_get k.text_words k.text_reloc i w r ew er in
       let fault = no_fault k.symbols 0 (k.text_reloc ++ k.data_reloc) i r (well_formed_parts k object.well).1
@@ -212,3 +202,4 @@ module _ (forced : List (List ℕ)) (os before : List Contents) (k : Contents) (
       let fault = no_fault k.symbols 0 (k.text_reloc ++ k.data_reloc) (length k.text_reloc + i) r
       (well_formed_parts k object.well).1 (slice_get_after k.text_reloc k.data_reloc (length k.text_reloc) i refl ∙ er) in
       record { is_there = is_there; number = fault.0; fine = fault.1; known = refers DataSeg i w r is_there }
+  word_at segment i w r ew er = absurd (cc)

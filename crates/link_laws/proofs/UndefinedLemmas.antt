@@ -44,10 +44,6 @@ bound_by : (p : Plan) (name : List ℕ) (st : State) → IsProper st → p.choic
     (is_undefined st && not (is_among reserved_names name)) ≡ false → eqb (type_of (final_by p name st).bound % 32) 0 ≡ false
 bound_by p name (Defined Undefined offset) h r u = absurd h
 bound_by p name (Defined Other offset) h r u = absurd h
-bound_by p name (Defined Absolute offset) h r u = refl
-bound_by p name (Defined TextSeg offset) h r u = refl
-bound_by p name (Defined DataSeg offset) h r u = refl
-bound_by p name (Defined BssSeg offset) h r u = refl
 bound_by p name (Wanted size) h r u =
     by_tests (plus p.at.data_end (common_offset p.mentions name)) (eqb size 0) p.choices.relocatable r p.choices.force_commons u
   where
@@ -57,6 +53,7 @@ bound_by p name (Wanted size) h r u =
     by_tests a z true e d u = absurd (cc)
     by_tests a true false e d u = reserved_bound p.at name u
     by_tests a false false e d u = refl
+bound_by p name (Defined segment offset) h r u = refl
 
 no_row : (row : Symbol) → None ≡ Some row → ⊥
 no_row row e = cc

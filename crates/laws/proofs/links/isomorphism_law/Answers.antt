@@ -1,5 +1,5 @@
 use Rattle.laws.proofs.{IsomorphismLists.orders_renumbered, IsomorphismPlaces.places_apart, IsomorphismPlaces.bytes_placed}
-use Rattle.laws.proofs.{IsomorphismLemmas.places_loaded, IsomorphismLemmas.links_isomorphic, ReorderedMeanings.referents_kept}
+use Rattle.laws.proofs.{IsomorphismLemmas.places_loaded, IsomorphismLemmas.links_isomorphic}
 use Rattle.laws.proofs.links.isomorphism_law.Goals as goal
 
 pub returns-clause-apart : goal.returns-clause-apart
@@ -16,6 +16,3 @@ returns-clause-numbers c = orders_renumbered
 
 pub returns-clause-same : goal.returns-clause-same
 returns-clause-same c = links_isomorphic
-
-pub returns-clause-referents : goal.returns-clause-referents
-returns-clause-referents c = referents_kept

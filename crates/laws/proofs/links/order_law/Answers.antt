@@ -1,7 +1,6 @@
-use Rattle.laws.proofs.ReorderedLinks.{refused_in_order, sizes_kept, reported_alike, entry_found}
-use Rattle.laws.proofs.ReorderedAdditions.{added_in_order, linked_alike}
-use Rattle.laws.proofs.IsomorphismLemmas.{orders_keep_meanings, orders_keep_referents}
-use Rattle.laws.proofs.{ReorderedMeanings.referents_kept, SingleDefinitions.once_in_any_order}
+use Rattle.laws.proofs.{ReorderedAdditions.added_in_order, ReorderedAdditions.linked_alike, ReorderedLinks.refused_in_order}
+use Rattle.laws.proofs.{ReorderedLinks.sizes_kept, ReorderedLinks.reported_alike, ReorderedMeanings.meanings_kept}
+use Rattle.laws.proofs.ReorderedMeanings.{referents_kept}
 use Rattle.laws.proofs.links.order_law.Goals as goal
 
 pub returns-clause-adds : goal.returns-clause-adds
@@ -19,14 +18,8 @@ returns-clause-sizes c = sizes_kept
 pub returns-clause-reports : goal.returns-clause-reports
 returns-clause-reports c = reported_alike
 
-pub returns-clause-entry : goal.returns-clause-entry
-returns-clause-entry c = entry_found
-
 pub returns-clause-meanings : goal.returns-clause-meanings
-returns-clause-meanings c = orders_keep_meanings
+returns-clause-meanings c = meanings_kept
 
 pub returns-clause-referents : goal.returns-clause-referents
-returns-clause-referents c = orders_keep_referents referents_kept
-
-pub returns-clause-single : goal.returns-clause-single
-returns-clause-single c = once_in_any_order
+returns-clause-referents c = referents_kept

@@ -1,4 +1,4 @@
--- Runs of ld, made of the files that it opens and the link that it makes, for examples of commands in steps.
+-- Runs of ld, made of the files that it opens and the link that it makes, for examples of sessions.
 use Rattle.std.specs.Prelude.{IfSome, String, Vec, encode_utf8_all, eqb, nat_lt, if◌then◌else◌, string_bytes}
 use Rattle.std.specs.{declared.alloc.Global.Global, List.list_all}
 use Rattle.std.proofs.Common.{◌≡◌, ℕ, ◌<◌, ◌≤◌, ◌^◌, Bool, true, false, List, [], ◌∷◌, ◌++◌, map, length, Option, Some, None, Ok, refl, ap}
@@ -15,7 +15,7 @@ use Rattle.command_words.specs.declared.words.Call.TheVariants.{Ld}
 use Rattle.v7tools.specs.{CommandRuns.AsksFor, LinkAnswers.TakesAll, LinkAnswers.known_inputs, LinkRuns.inputs_opened}
 use Rattle.surroundings.specs.Events.{Event, Opened, opens, paths_of, stored}
 use Rattle.surroundings.specs.declared.office.Stored.TheVariants.{Kept}
-use Rattle.laws.specs.{Disks.Disk, Disks.IsOn, Disks.Run, StepsByCommands.Links}
+use Rattle.laws.specs.{Disks.Disk, Disks.EndsWell, Disks.IsOn, Disks.Run, SessionsByCommands.AsksToLink}
 use Rattle.conformance.proofs.LawExamples.{below}
 
 abbrev pub heap : Global
@@ -36,6 +36,12 @@ holding bytes = record { device = bytes; has_failed = false }
 
 abbrev pub contents : List ℕ → Option (List ℕ)
 contents bytes = Some bytes
+
+-- ld was run with these arguments, and ended well
+pub record Links (forced : List (List ℕ)) (o : Choices) (out : List ℕ) (paths : List (List ℕ))
+    (r : Run (List ℕ) (List ℕ)) : Type 0 where
+  pub asks : AsksToLink r.words forced o out paths
+  pub ends : EndsWell contents contents r
 
 module _ (words : List (List ℕ)) (disk : Disk) (found : List Opened) (out : String Global) (made : Linked) where
   -- what was asked of the office
@@ -71,7 +77,7 @@ module _ (words : List (List ℕ)) (disk : Disk) (found : List Opened) (out : St
     pub links : (kept : List Labelled) → paths_of found ≡ map string_bytes files.items →
         TakesAll forced [] (inputs_opened found) kept → link forced (objects kept) o ≡ Ok (outcome_of made) →
         IfSome (known_inputs (inputs_opened found)) (λ bytes. linked forced bytes o ≡ Ok (outcome_of made)) → IsOn disk asked →
-        Links contents contents forced o (string_bytes out) (map string_bytes files.items) run_of
+        Links forced o (string_bytes out) (map string_bytes files.items) run_of
     links kept all taken is bytes on_disk = record {
       asks = record { output = out; files = files; asks = asks; out_path = refl; file_paths = refl };
       ends = record {
