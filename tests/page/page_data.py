@@ -372,16 +372,6 @@ def compare_objects(tools, files, data):
         same(f"{path}: source", one.get("source"), wanted if os.path.exists(listing) else None)
 
 
-def odd_places(tools):
-    """A word that refers to data where there is none means no end of data in a link. One that means a place after text means no data with
-    -i, although data have this address there. One that means the end of a segment means no name that a link has at this address."""
-    ends = object_of([(8, 0o2), (10, 0o4), (0, 0o10), (0, 0o30)], [("_edata", 0o40, 0), ("_end", 0o40, 0), ("_common", 0o40, 4)], [1])
-    for what, content in (("without data", object_of([(2, 0o4)], [])), ("with a place after text", object_of([(6, 0o2), (0, 0)], [], [1, 2, 3, 4])), ("with ends", ends)):
-        given = [written(os.path.join(tools.room, "odd.o"), content)]
-        data, _ = states_in(tools.page_of(given, "odd.html"))
-        compare_states(tools, given, data, f"an object {what}")
-
-
 def listing_of_another(tools, files):
     """A listing that has another word than its object has no source beside that word."""
     for ending, old, new in (("o", b"", b""), ("lst", b"016700", b"016701")):
@@ -527,7 +517,6 @@ def check_data(tools, questions, files):
     name_of_nine_letters(tools)
     counts(tools, files)
     listing_of_another(tools, files)
-    odd_places(tools)
     given, many = program_in_c(files), sixteen_objects()
     for one in (given, tables_and_bss(files)):
         same_objects(os.path.dirname(one[0]))
