@@ -34,15 +34,22 @@ function rowOfPlace(state, id) {
     return word ? rowAt(word.place, word.part, id) : byId(id);
 }
 
+// the id of the place of a name; "" if it has none
+function placeOfName(state, { i, kind, number }) {
+    const symbol = isLinked(state) ? symbolOf(state, i, view.layout) : { letter: "" };
+    if (kind === "common") return "UC".includes(symbol.letter) ? "" : `common-${symbol.value}`;
+    if (kind === "undefined") return { T: "text-end", D: "data-end", B: "bss-end" }[symbol.letter] ?? "";
+    if (!SEGMENTS.includes(kind)) return "";
+    const size = sizeOf(state, kind);
+    if (number >= size) return number === size ? `${kind}-end` : `${kind}-beyond-${number}`;
+    return kind === "bss" ? `bss-${number}` : wordKey(kind, number - (number % 2));
+}
+
 // the id of the place that is chosen: that of the word, or of the definition of the name
 function chosenPlace(state) {
     if (!chosen.startsWith("name ")) return chosen;
     const found = namesOf(state).find(({ name }) => chosen === `name ${name}`);
-    if (!found) return "";
-    if (PARTS.includes(found.kind)) return wordKey(found.kind, found.number - (found.number % 2));
-    if (found.kind === "bss") return `bss-${found.number}`;
-    const isThere = found.kind === "common" && isLinked(state) && symbolOf(state, found.i, view.layout).letter !== "C";
-    return isThere ? `common-${symbolOf(state, found.i, view.layout).value}` : "";
+    return found ? placeOfName(state, found) : "";
 }
 
 // the name that the choice is about: itself, or that for which the chosen word waits

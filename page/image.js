@@ -88,41 +88,47 @@ function objectRows(context, place, part) {
 }
 
 // ---- places that are no words
-// the places that words refer to, by their ids, which are no words
-const spotsOf = (state) => new Map(allReferences(state).filter(({ to }) => to && !isWordKey(to)).map(({ to, number }) => [to, number]));
-
-// the names in bss, or in the commons of a link, by the ids of their places
-function namesIn(state, kind, bases) {
-    const labels = new Map();
-    for (const { name, i, kind: known, number } of namesOf(state)) {
-        if (known !== kind || (kind === "common" && symbolOf(state, i, view.layout).letter === "C")) continue;
-        const id = `${kind}-${bases && kind === "common" ? symbolOf(state, i, view.layout).value : number}`;
-        labels.set(id, [...(labels.get(id) ?? []), ["span", "label", `${name}:`]]);
+// the names at places that are no words, by the ids of these: each with where it is, and its labels
+function namedSpots(state) {
+    const named = new Map();
+    for (const one of namesOf(state)) {
+        const id = placeOfName(state, one);
+        const number = isLinked(state) ? symbolOf(state, one.i, view.layout).value : one.number;
+        if (id && !isWordKey(id)) named.set(id, { number, labels: [...(named.get(id)?.labels ?? []), ["span", "label", `${one.name}:`]] });
     }
-    return labels;
+    return named;
+}
+
+// the places that are no words, by their ids: those that words refer to, and the ends of segments that have names
+function spotsOf(state, named) {
+    const ends = [...named].filter(([id]) => id.endsWith("-end")).map(([id, { number }]) => [id, number]);
+    return new Map([...ends, ...allReferences(state).filter(({ to }) => to && !isWordKey(to)).map(({ to, number }) => [to, number])]);
+}
+
+// whether a place is before its segment
+const isBefore = (id, number) => id.includes("-beyond-") && number >= WORD / 2;
+
+// the row of a place that is no word: in bss or in commons, the end of a segment, or a place before it, after it or outside of all
+function spotRow(context, id, className = "word spot") {
+    const [kind, what, beyond] = id.split("-");
+    const number = context.spots.get(id) ?? Number(beyond ?? what);
+    const base = context.bases && /^bss-\d/.test(id) ? context.bases[3] : 0;
+    const before = isBefore(id, number) ? small(WORD - number) : "";
+    const labels = (context.named.get(id)?.labels ?? []).flatMap((label) => [label, " "]);
+    const said = before ? `${before} bytes before ${kind}` : { end: `the end of ${kind}`, beyond: `after ${kind}` }[what] ?? (kind === "outside" ? "outside the program" : `in ${kind === "common" ? "commons" : kind}`);
+    const row = rowOf(id, className, id, [["span", "offset", before ? `\u2212${before}`.padStart(6, "\u2007") : column(base + number)], ["span", "meaning", ...labels, said]]);
+    return withAttributes(row, { "aria-label": row.textContent.replace(/\s+/g, " ").trim() });
 }
 
 // the rows of bss or of commons: their names, and what is referred to
-function roomRows(context, kind, base) {
-    const labels = namesIn(context.state, kind, context.bases);
-    const used = [...context.spots.keys()].filter((id) => id.startsWith(`${kind}-`) && /^\w+-\d+$/.test(id));
-    const ids = new Set([...labels.keys(), ...used]);
-    const inOrder = [...ids].sort((a, b) => a.split("-")[1] - b.split("-")[1]);
-    return inOrder.map((id) => spotRow(id, column(base + Number(id.split("-")[1])), labels.get(id) ?? [], "empty", ""));
+function roomRows(context, kind) {
+    const ids = [...new Set([...context.named.keys(), ...context.spots.keys()])].filter((id) => id.startsWith(`${kind}-`) && /^\w+-\d+$/.test(id));
+    return ids.sort((a, b) => a.split("-")[1] - b.split("-")[1]).map((id) => spotRow(context, id));
 }
 
-// the rows of the end of a segment, and of places before and after it
-function edgeRows(context, segment, isBefore) {
-    const rows = [];
-    for (const [id, number] of context.spots) {
-        const [name, what] = id.split("-");
-        if (name !== segment || !["end", "beyond"].includes(what)) continue;
-        const before = what === "beyond" && number >= WORD / 2;
-        if (before !== isBefore) continue;
-        const text = before ? `${small(WORD - number)} bytes before ${segment}` : what === "end" ? `the end of ${segment}` : `after ${segment}`;
-        rows.push(spotRow(id, before ? `\u2212${small(WORD - number)}`.padStart(6, "\u2007") : column(number), [], text));
-    }
-    return rows;
+// the rows before a segment, or those of its end and after it
+function edgeRows(context, segment, areBefore) {
+    return [...context.spots].filter(([id, number]) => /-(end|beyond)/.test(id) && id.startsWith(segment) && isBefore(id, number) === areBefore).map(([id]) => spotRow(context, id));
 }
 
 // the rows of a segment with words
@@ -131,16 +137,16 @@ function partRows(context, part) {
     return [...edgeRows(context, part, true), ...rows, ...edgeRows(context, part, false)];
 }
 
-function roomGroup(context, name, kind, bounds, isLink) {
-    const rows = [...edgeRows(context, name, true), ...roomRows(context, kind, isLink && kind === "bss" ? bounds[0] : 0), ...edgeRows(context, name, false)];
-    const bytes = name === "bss" ? context.full.sizes[2] : bounds[1] - bounds[0];
-    return groupElement(name, bytes, isLink ? bounds : null, rows);
+function roomGroup(context, name, kind, bounds) {
+    const rows = [...edgeRows(context, kind, true), ...roomRows(context, kind), ...edgeRows(context, kind, false)];
+    return groupElement(name, name === "bss" ? context.full.sizes[2] : bounds[1] - bounds[0], context.bases ? bounds : null, rows);
 }
 
 function imageContext(state, changed) {
     const full = isLinked(state) ? state : stateShown();
+    const named = namedSpots(state);
     return {
-        state, full, changed, labels: labelsOf(full), spots: spotsOf(full),
+        state, full, changed, labels: labelsOf(full), named, spots: spotsOf(full, named),
         bases: isLinked(state) ? state.links[view.layout].bases : null, isNew: (place) => view.gone < 0 && place === state.list.length - 1,
     };
 }
@@ -163,10 +169,10 @@ function wholeGroups(context) {
     for (const part of PARTS.filter((part) => sizeOf(full, part) > 0)) {
         groups.push(groupElement(part, sizeOf(state, part), bases && (part === "text" ? [0, bases[0]] : bases.slice(1, 3)), partRows(context, part)));
     }
-    if (bases && bases[2] < bases[3]) groups.push(roomGroup(context, "commons", "common", bases.slice(2, 4), true));
-    if (full.sizes[2] > 0) groups.push(roomGroup(context, "bss", "bss", bases ? bases.slice(3, 5) : [0, full.sizes[2]], bases !== null));
+    if (bases && bases[2] < bases[3]) groups.push(roomGroup(context, "commons", "common", bases.slice(2, 4)));
+    if (full.sizes[2] > 0) groups.push(roomGroup(context, "bss", "bss", bases?.slice(3, 5)));
     const outside = [...context.spots].filter(([id]) => id.startsWith("outside-"));
-    if (outside.length > 0) groups.push(groupElement("outside", null, null, outside.map(([id, number]) => spotRow(id, column(number), [], "outside the program"))));
+    if (outside.length > 0) groups.push(groupElement("outside", null, null, outside.map(([id]) => spotRow(context, id))));
     return groups;
 }
 

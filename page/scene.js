@@ -205,17 +205,7 @@ function nearRow(context, key, className = "near") {
 }
 
 // the line of the place that the words above it mean
-function placeRow(context, id) {
-    if (isWordKey(id)) return nearRow(context, id, "place-line");
-    const [kind, what] = id.split("-");
-    const labels = ["bss", "common"].includes(kind) ? namesIn(context.state, kind, context.bases).get(id) ?? [] : [];
-    const number = context.spots.get(id) ?? Number(what);
-    const base = context.bases && kind === "bss" ? context.bases[3] : 0;
-    const said = what === "end" ? `the end of ${kind}` : what === "beyond" ? `outside of ${kind}` : kind === "outside" ? "outside the program" : `in ${kind === "common" ? "commons" : kind}`;
-    const row = spotRow(id, column(base + number), labels, said);
-    row.classList.add("place-line");
-    return row;
-}
+const placeRow = (context, id) => (isWordKey(id) ? nearRow(context, id, "place-line") : spotRow(context, id, "word spot place-line"));
 
 // a line for what is not shown
 function moreRow(id, text) {

@@ -56,7 +56,6 @@ QUESTIONS = [
     (ONE + "ask changes Which?\nword text 6\nword text 4\nadd twice.o", 6, "the word at 4 does not change"),
     (TWO + "ask changes Which?\nword text 2\nwithdraw", 6, "the word at 2 does not change"),
     (ONE + "ask value text 6 What?\nnumber 4\nadd twice.o", 5, "the number is 2"),
-    (ONE + "ask value text 6 What?\nnumber 402\nadd twice.o", 5, "the number is 2"),
     (ONE + "ask value text 12 What?\nimage", 4, "after the step there is no such word"),
     (ONE + "ask value bss 0 What?\nimage", 3, "value is followed by text or data, an offset and a text"),
     (ONE + "ask where _count Where?\nnumber 12\nlink -r", 5, "the name is nowhere"),

@@ -4,6 +4,7 @@ import re
 import struct
 
 from tests.page.page_browser import Keys
+from tests.page.page_data import object_of
 
 FIRST = """
 const text = (selector) => {
@@ -654,6 +655,24 @@ def beside(page, path, files, same):
     print(f"{len(keys)} words have their lines in the cards of {len(files)} objects", flush=True)
 
 
+# the line of a place, once a name is chosen
+END = "choose(`name ${arguments[0]}`, true); const row = byId(arguments[1]); return row && row.textContent.replace(/\\s+/g, ' ').trim();"
+
+
+def ends(tools, page, same):
+    """A name at the end of a segment leads to the end, in the image and in a link, and so does a word that means the end: not to what follows."""
+    given = os.path.join(tools.room, "ends.o")
+    with open(given, "wb") as out:
+        out.write(object_of([(4, 0o2), (6, 0o4)], [("_after", 0o42, 4), ("_past", 0o43, 6), ("_room", 0o40, 2)], [1]))
+    page.load(tools.page_of([given], "ends.html"))
+    page.open("#objects=1")
+    for key, (text, data) in (("", ("000004", "000002")), ("p", ("000004", "000006")), ("n", ("000004", "020002"))):
+        page.type(*key)
+        for name, row, said in (("_after", "text-end", f"{text} _after: the end of text"), ("_past", "data-end", f"{data} _past: the end of data")):
+            same(f"the end {name}, {key or 'the image'}", page.run(END, name, row), said)
+        same(f"what words mean, {key or 'the image'}", page.run("return allReferences(stateNow()).map((one) => one.to)"), ["text-end", "data-end"])
+
+
 def use_all(tools, page, default, program, compiled, pages, layouts, same):
     first_view(page, same)
     roles(page, same)
@@ -676,4 +695,5 @@ def use_all(tools, page, default, program, compiled, pages, layouts, same):
         beside(page, path, files, same)
     old_browser(page, default, same)
     distances(page, program, same)
+    ends(tools, page, same)
     reasons(tools, page, pages, same)

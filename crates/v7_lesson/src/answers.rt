@@ -1,4 +1,9 @@
 //! The answers to questions about what a session knows now: names, words that refer to a place, and the object that defines a name.
+ghost use Rattle.std.specs.Prelude.{◌≡◌, ◌≤◌, ◌*◌, ◌++◌, length, IfOk, OnOk};
+ghost use Rattle.link_session.specs.Undo.{image_of};
+ghost use Rattle.session_states.specs.Items.{each};
+ghost use Rattle.v7_lesson.specs.Answers.{is_wanted, refers_to, wanted_names, word_to, words_to};
+
 use crate::keys::WordPlace;
 use crate::links::links_of;
 use crate::parts::place_meant;
@@ -51,17 +56,25 @@ pub(crate) enum Answers {
     Object(usize),
 }
 
+/// Whether a name of which this is known is a common, or undefined.
+fn is_wanted(state: State, as_common: bool) -> bool
+    ensures { result ≡ is_wanted state as_common }
+{
+    match state {
+        State::Wanted(0) => !as_common,
+        State::Wanted(_) => as_common,
+        State::Defined(_, _) => false,
+    }
+}
+
 /// The names of commons, or those that are undefined.
-fn wanted_names(
-    alloc: Global,
-    session: &Session,
-    are_commons: bool,
-) -> Result<Vec<Name>, AllocError> {
+fn wanted_names(alloc: Global, session: &Session, as_common: bool) -> Result<Vec<Name>, AllocError>
+    ensures { IfOk result (λ names.
+        names.items ≡ wanted_names as_common (image_of session.now).externals) }
+{
     let mut names = Vec::new(alloc);
     for (name, state) in session.externals() {
-        if let State::Wanted(size) = state
-            && (size > 0) == are_commons
-        {
+        if is_wanted(state, as_common) {
             names.push(name)?;
         }
     }
@@ -82,8 +95,10 @@ fn reported_names(alloc: Global, session: &Session) -> Result<Vec<Name>, AllocEr
     Ok(names)
 }
 
-/// Whether a word at an offset refers to the place so many bytes after the name of this number, of which this is known.
-fn refers_to(cell: Cell, offset: u16, index: u16, state: State, more: u16) -> bool {
+/// Whether a word at an offset refers to the place so many bytes after the name of this index, of which this is known.
+fn refers_to(cell: Cell, offset: u16, index: u16, state: State, more: u16) -> bool
+    ensures { result ≡ refers_to index state more offset cell }
+{
     let meant = place_meant(cell.value, cell.pc, offset);
     match (cell.target, state) {
         (Target::External(other), State::Wanted(_)) => other == index && meant == more,
@@ -94,34 +109,73 @@ fn refers_to(cell: Cell, offset: u16, index: u16, state: State, more: u16) -> bo
     }
 }
 
-/// The words that refer to the place so many bytes after a name.
+/// Appends the words of a segment that refer to the place.
+fn push_words(
+    words: &mut Vec<WordPlace>,
+    segment: Segment,
+    cells: &[Cell],
+    index: u16,
+    state: State,
+    more: u16,
+) -> Result<(), AllocError>
+    requires { 2 * length cells.now ≤ 65534 }
+    ensures { OnOk result (words.new.items
+        ≡ words.old.items ++ each (word_to segment index state more) cells.now) }
+{
+    for (place, cell) in cells.iter().enumerate() {
+        let offset = (2 * place) as u16;
+        if refers_to(*cell, offset, index, state, more) {
+            words.push(WordPlace { segment, offset })?;
+        }
+    }
+    Ok(())
+}
+
+/// The words that refer to the place so many bytes after the name of this index, of which this is known.
 fn words_to(
+    alloc: Global,
+    session: &Session,
+    index: u16,
+    state: State,
+    more: u16,
+) -> Result<Vec<WordPlace>, AllocError>
+    ensures { IfOk result (λ words.
+        words.items ≡ words_to (image_of session.now) index state more) }
+{
+    let mut words = Vec::new(alloc);
+    push_words(
+        &mut words,
+        Segment::TextSeg,
+        session.text_cells(),
+        index,
+        state,
+        more,
+    )?;
+    push_words(
+        &mut words,
+        Segment::DataSeg,
+        session.data_cells(),
+        index,
+        state,
+        more,
+    )?;
+    Ok(words)
+}
+
+/// The words that refer to the place so many bytes after a name.
+fn words_to_name(
     alloc: Global,
     session: &Session,
     name: &Name,
     more: u16,
 ) -> Result<Vec<WordPlace>, AllocError> {
-    let mut words = Vec::new(alloc);
     let Some(index) = session.find(name) else {
-        return Ok(words);
+        return Ok(Vec::new(alloc));
     };
-    let Some((_, state)) = session.external(index) else {
-        return Ok(words);
-    };
-    for segment in [Segment::TextSeg, Segment::DataSeg] {
-        let mut offset = 0u16;
-        let cells = match segment {
-            Segment::DataSeg => session.data_cells(),
-            _ => session.text_cells(),
-        };
-        for cell in cells {
-            if refers_to(*cell, offset, index, state, more) {
-                words.push(WordPlace { segment, offset })?;
-            }
-            offset = offset.wrapping_add(2);
-        }
+    match session.external(index) {
+        Some((_, state)) => words_to(alloc, session, index, state, more),
+        None => Ok(Vec::new(alloc)),
     }
-    Ok(words)
 }
 
 /// The place of the first object that defines a name.
@@ -150,7 +204,7 @@ pub(crate) fn answers_of(
         Known::Undefined => Answers::Names(wanted_names(alloc, session, false)?),
         Known::Commons => Answers::Names(wanted_names(alloc, session, true)?),
         Known::Reported => Answers::Names(reported_names(alloc, session)?),
-        Known::Refers(more) => Answers::Words(words_to(alloc, session, name, more)?),
+        Known::Refers(more) => Answers::Words(words_to_name(alloc, session, name, more)?),
         Known::Defines => match object_with(session, name) {
             Some(place) => Answers::Object(place),
             None => return Err(anyhow!("no object defines the name")),

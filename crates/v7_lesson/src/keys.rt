@@ -1,4 +1,8 @@
 //! The answers to questions: what a session knows after a step.
+ghost use Rattle.std.specs.Prelude.{◌≡◌, true, false, IfOk, OnOk, OnErr};
+ghost use Rattle.link_session.specs.Sessions.{newest};
+ghost use Rattle.v7_lesson.specs.Answers.{changed_words, is_key, word_of};
+
 use crate::links::links_of;
 use crate::numbers::{cell_at, linked_word};
 use anyhow::{Result, anyhow};
@@ -55,7 +59,9 @@ impl WordPlace {
     }
 
     /// The word that a mark is about.
-    fn of(place: Place) -> WordPlace {
+    fn of(place: Place) -> WordPlace
+        ensures { result ≡ word_of place }
+    {
         let (segment, index) = match place {
             Place::InText(index) => (Segment::TextSeg, index),
             Place::InData(index) => (Segment::DataSeg, index),
@@ -80,10 +86,9 @@ impl WordPlace {
 }
 
 /// The words that the last addition overwrote, in the order of its marks.
-pub(crate) fn changed_words(
-    alloc: Global,
-    session: &Session,
-) -> Result<Vec<WordPlace>, AllocError> {
+pub(crate) fn changed_words(alloc: Global, session: &Session) -> Result<Vec<WordPlace>, AllocError>
+    ensures { IfOk result (λ words. words.items ≡ changed_words (newest session.now.journal)) }
+{
     let mut words = Vec::new(alloc);
     for mark in session.last_marks() {
         if let Mark::CellWas(place, _) = *mark {
@@ -185,7 +190,10 @@ fn put_changes(out: &mut JsonWriter, changed: &[WordPlace]) {
 }
 
 /// The key that a file gives has to be the answer.
-fn compare_key(key: Option<u16>, answer: Option<u16>) -> Result<()> {
+fn compare_key(key: Option<u16>, answer: Option<u16>) -> Result<()>
+    ensures right { OnOk result (is_key key answer ≡ true) }
+    ensures wrong { OnErr result (is_key key answer ≡ false) }
+{
     match (key, answer) {
         (Some(key), Some(answer)) if key == answer => Ok(()),
         (Some(_), Some(answer)) => Err(anyhow!("the number is {answer:o}")),

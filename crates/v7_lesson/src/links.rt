@@ -13,7 +13,8 @@ use texts::Text;
 /// A link: where its segments are, and what it gives or why it is refused.
 #[derive(Drop)]
 pub(crate) struct Link {
-    bases: Bases,
+    /// Where the segments begin and end.
+    pub(crate) bases: Bases,
     pub(crate) outcome: Result<Linked, LinkFault>,
     /// Whether text and data each have their own addresses, from 0 on.
     pub(crate) is_split: bool,
@@ -22,29 +23,11 @@ pub(crate) struct Link {
 }
 
 impl Link {
-    /// Where the segments begin and end.
-    pub(crate) fn bases(&self) -> &Bases {
-        &self.bases
-    }
-
     /// The address of a name, if it has one.
     pub(crate) fn address(&self, index: u16) -> Option<u16> {
         match self.externals.get(usize::from(index)) {
             Some(symbol) if symbol.segment() != Segment::Undefined => Some(symbol.value),
             _ => None,
-        }
-    }
-
-    /// The segment in which a name has its address, if it has one in a segment.
-    pub(crate) fn segment(&self, index: u16) -> Option<Segment> {
-        match self.externals.get(usize::from(index)) {
-            Some(symbol) => match symbol.segment() {
-                Segment::TextSeg => Some(Segment::TextSeg),
-                Segment::DataSeg => Some(Segment::DataSeg),
-                Segment::BssSeg => Some(Segment::BssSeg),
-                _ => None,
-            },
-            None => None,
         }
     }
 

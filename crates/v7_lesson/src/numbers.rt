@@ -1,4 +1,8 @@
 //! The numbers of a state. The page has, for each state, only those that differ from the state before it.
+ghost use Rattle.std.specs.Prelude.{◌≡◌};
+ghost use Rattle.link_session.specs.Undo.{image_of};
+ghost use Rattle.v7_lesson.specs.Answers.{cell_at};
+
 use crate::fronts::Fronts;
 use crate::given::{Given, RelocatedWord, words_of};
 use crate::links::Link;
@@ -152,7 +156,9 @@ fn push_local(out: &mut NumberList, links: &[Link], symbol: &Symbol, place: usiz
 }
 
 /// The cell at an offset of a merged segment.
-pub(crate) fn cell_at(session: &Session, segment: Segment, offset: u16) -> Option<Cell> {
+pub(crate) fn cell_at(session: &Session, segment: Segment, offset: u16) -> Option<Cell>
+    ensures { result ≡ cell_at (image_of session.now) segment offset }
+{
     let cells = match segment {
         Segment::DataSeg => session.data_cells(),
         _ => session.text_cells(),

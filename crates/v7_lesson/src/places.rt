@@ -1,7 +1,9 @@
 //! The places that words refer to: where an arrow of the page ends.
 ghost use Rattle.std.specs.Prelude.{◌≡◌};
 ghost use Rattle.link_session.specs.Undo.{image_of};
-ghost use Rattle.v7_lesson.specs.Meant.{size_of};
+ghost use Rattle.v7_lesson.specs.Meant.{place_meant, size_of};
+ghost use Rattle.v7_lesson.specs.declared.places.ArrowEnd.TheVariants.{AsInImage};
+ghost use Rattle.v7_lesson.specs.Places.{end_of, found_at, image_place, is_end, merged_segment, named_segment, place_in_link, place_in_segment, row_with, target_segment, start_of};
 
 use crate::links::Link;
 use crate::parts::place_meant;
@@ -38,13 +40,13 @@ pub(crate) enum ArrowEnd {
 
 impl ArrowEnd {
     /// The row that has this byte of a segment.
-    fn row(segment: Merged, offset: u16) -> ArrowEnd {
-        let row = if segment == Merged::Bss {
-            offset
-        } else {
-            offset & !1
-        };
-        ArrowEnd::Row(segment, row)
+    fn row(segment: Merged, offset: u16) -> ArrowEnd
+        ensures { result ≡ row_with segment offset }
+    {
+        match segment {
+            Merged::Bss => ArrowEnd::Row(segment, offset),
+            Merged::Text | Merged::Data => ArrowEnd::Row(segment, offset - offset % 2),
+        }
     }
 
     /// What the page has for the kind of the place, and its offset or address.
@@ -73,16 +75,6 @@ impl ArrowEnd {
     }
 }
 
-/// The segment that a target is in.
-fn segment_of(target: Target) -> Option<Merged> {
-    match target {
-        Target::TextSeg => Some(Merged::Text),
-        Target::DataSeg => Some(Merged::Data),
-        Target::BssSeg => Some(Merged::Bss),
-        _ => None,
-    }
-}
-
 /// The size of a merged segment, in bytes.
 pub(crate) fn size_of(session: &Session, segment: Merged) -> usize
     ensures { result ≡ size_of (image_of session.now) segment }
@@ -94,70 +86,132 @@ pub(crate) fn size_of(session: &Session, segment: Merged) -> usize
     }
 }
 
-/// The place in the merged image that the cell at an offset refers to.
-pub(crate) fn image_place(session: &Session, cell: Cell, offset: u16) -> ArrowEnd {
-    let meant = place_meant(cell.value, cell.pc, offset);
-    let Some(segment) = segment_of(cell.target) else {
-        let is_address = cell.pc && matches!(cell.target, Target::Absolute);
-        return if is_address {
-            ArrowEnd::Outside(meant)
-        } else {
-            ArrowEnd::Nowhere
-        };
-    };
-    let size = size_of(session, segment);
-    if usize::from(meant) < size {
-        ArrowEnd::row(segment, meant)
-    } else if usize::from(meant) == size {
-        ArrowEnd::End(segment, meant)
+/// The place of this number of a segment of so many bytes.
+fn place_in_segment(segment: Merged, size: usize, number: u16) -> ArrowEnd
+    ensures { result ≡ place_in_segment segment size number }
+{
+    if usize::from(number) < size {
+        ArrowEnd::row(segment, number)
+    } else if usize::from(number) == size {
+        ArrowEnd::End(segment, number)
     } else {
-        ArrowEnd::Beyond(segment, meant)
+        ArrowEnd::Beyond(segment, number)
     }
 }
 
-/// The row at an address. A link with `-i` has two address spaces: `in_text` says whether that of text is meant.
-fn row_at(bases: &Bases, is_split: bool, in_text: bool, address: u16) -> Option<ArrowEnd> {
+/// The place in the merged image that the cell at an offset refers to.
+pub(crate) fn image_place(session: &Session, cell: Cell, offset: u16) -> ArrowEnd
+    ensures { result ≡ image_place (image_of session.now) cell offset }
+{
+    let number = place_meant(cell.value, cell.pc, offset);
+    match cell.target {
+        Target::TextSeg => {
+            place_in_segment(Merged::Text, size_of(session, Merged::Text), number)
+        }
+        Target::DataSeg => {
+            place_in_segment(Merged::Data, size_of(session, Merged::Data), number)
+        }
+        Target::BssSeg => place_in_segment(Merged::Bss, size_of(session, Merged::Bss), number),
+        Target::Absolute if cell.pc => ArrowEnd::Outside(number),
+        Target::Absolute | Target::External(_) => ArrowEnd::Nowhere,
+    }
+}
+
+/// The address at which a segment of a link begins; the commons are the first bytes of its bss.
+fn start_of(bases: &Bases, segment: Merged) -> u64
+    ensures { result ≡ start_of bases.now segment }
+{
+    match segment {
+        Merged::Text => 0,
+        Merged::Data => bases.data_start,
+        Merged::Bss => bases.data_end,
+    }
+}
+
+/// The address after a segment of a link.
+fn end_of(bases: &Bases, segment: Merged) -> u64
+    ensures { result ≡ end_of bases.now segment }
+{
+    match segment {
+        Merged::Text => bases.text_end,
+        Merged::Data => bases.data_end,
+        Merged::Bss => bases.bss_end,
+    }
+}
+
+/// Whether an address is the end of a segment that has bytes.
+fn is_end(bases: &Bases, segment: Merged, address: u16) -> bool
+    ensures { result ≡ is_end bases.now segment address }
+{
+    let at = u64::from(address);
+    start_of(bases, segment) < at && at == end_of(bases, segment)
+}
+
+/// What a link has at an address. With `-i` there are two spaces of addresses: `in_text` says whether that of text is meant.
+fn found_at(bases: &Bases, is_split: bool, in_text: bool, address: u16) -> ArrowEnd
+    ensures { result ≡ found_at bases.now is_split in_text address }
+{
     let at = u64::from(address);
     if (in_text || !is_split) && at < bases.text_end {
-        return Some(ArrowEnd::row(Merged::Text, address));
-    }
-    if is_split && in_text || at < bases.data_start || bases.bss_end <= at {
-        return None;
-    }
-    if at < bases.data_end {
-        let offset = u16::try_from(at.saturating_sub(bases.data_start)).unwrap_or(0);
-        Some(ArrowEnd::row(Merged::Data, offset))
-    } else if at < bases.bss_start {
-        Some(ArrowEnd::Common(address))
-    } else {
-        let offset = u16::try_from(at.saturating_sub(bases.bss_start)).unwrap_or(0);
-        Some(ArrowEnd::row(Merged::Bss, offset))
-    }
-}
-
-/// The end of a segment at an address where no row is, or the address alone.
-fn end_at(bases: &Bases, in_text: bool, address: u16) -> ArrowEnd {
-    let at = u64::from(address);
-    if in_text && at == bases.text_end {
-        ArrowEnd::End(Merged::Text, address)
-    } else if at == bases.data_end && bases.data_start < bases.data_end {
-        ArrowEnd::End(Merged::Data, address)
-    } else if at == bases.bss_end && bases.data_end < bases.bss_end {
-        ArrowEnd::End(Merged::Bss, address)
-    } else {
+        ArrowEnd::row(Merged::Text, address)
+    } else if in_text && is_split || at < bases.data_start || bases.bss_end <= at {
         ArrowEnd::Outside(address)
+    } else if at < bases.data_end {
+        ArrowEnd::row(Merged::Data, (at - bases.data_start) as u16)
+    } else if at < bases.bss_start {
+        ArrowEnd::Common(address)
+    } else {
+        ArrowEnd::row(Merged::Bss, (at - bases.bss_start) as u16)
     }
 }
 
-/// Whether the segment of text is meant by a target of a link; `None` if the target has no address.
-fn is_in_text(link: &Link, cell: Cell) -> Option<bool> {
-    match cell.target {
-        Target::TextSeg => Some(true),
-        Target::DataSeg | Target::BssSeg => Some(false),
-        Target::Absolute => cell.pc.then_some(true),
-        Target::External(index) => link
-            .segment(index)
-            .map(|segment| segment == Segment::TextSeg),
+/// The merged segment of a symbol's segment, if it is one.
+fn merged_segment(segment: Segment) -> Option<Merged>
+    ensures { result ≡ merged_segment segment }
+{
+    match segment {
+        Segment::TextSeg => Some(Merged::Text),
+        Segment::DataSeg => Some(Merged::Data),
+        Segment::BssSeg => Some(Merged::Bss),
+        Segment::Undefined | Segment::Absolute | Segment::Other => None,
+    }
+}
+
+/// The segment in which a link has a name, if it has it in one.
+fn named_segment(link: &Link, index: u16) -> Option<Merged>
+    ensures { result ≡ named_segment link.now.externals.items index }
+{
+    match link.externals.get(usize::from(index)) {
+        Some(symbol) => merged_segment(symbol.segment()),
+        None => None,
+    }
+}
+
+/// The segment of a link that a target is in.
+fn target_segment(link: &Link, target: Target) -> Option<Merged>
+    ensures { result ≡ target_segment link.now.externals.items target }
+{
+    match target {
+        Target::TextSeg => Some(Merged::Text),
+        Target::DataSeg => Some(Merged::Data),
+        Target::BssSeg => Some(Merged::Bss),
+        Target::External(index) => named_segment(link, index),
+        Target::Absolute => None,
+    }
+}
+
+/// The place at an address of a link that a cell refers to: the end of the segment that it names goes before what follows it.
+fn place_in_link(link: &Link, cell: Cell, address: u16) -> ArrowEnd
+    ensures { result ≡ place_in_link link.now.bases link.now.is_split link.now.externals.items cell address }
+{
+    let bases = &link.bases;
+    match target_segment(link, cell.target) {
+        Some(segment) if is_end(bases, segment, address) => ArrowEnd::End(segment, address),
+        Some(segment) => found_at(bases, link.is_split, segment == Merged::Text, address),
+        None if cell.pc && matches!(cell.target, Target::Absolute) => {
+            found_at(bases, link.is_split, true, address)
+        }
+        None => ArrowEnd::Nowhere,
     }
 }
 
@@ -168,16 +222,13 @@ pub(crate) fn link_place(
     word: u16,
     address: u16,
     in_image: ArrowEnd,
-) -> ArrowEnd {
-    let Some(in_text) = is_in_text(link, cell) else {
-        return ArrowEnd::Nowhere;
-    };
-    let meant = place_meant(word, cell.pc, address);
-    let bases = link.bases();
-    let place = match row_at(bases, link.is_split, in_text, meant) {
-        Some(row) => row,
-        None => end_at(bases, in_text, meant),
-    };
+) -> ArrowEnd
+    ensures same { let place = place_in_link link.now.bases link.now.is_split link.now.externals.items cell (place_meant word cell.pc address) in
+        place ≡ in_image → result ≡ AsInImage }
+    ensures other { let place = place_in_link link.now.bases link.now.is_split link.now.externals.items cell (place_meant word cell.pc address) in
+        (place ≡ in_image → ⊥) → result ≡ place }
+{
+    let place = place_in_link(link, cell, place_meant(word, cell.pc, address));
     if place == in_image {
         ArrowEnd::AsInImage
     } else {
