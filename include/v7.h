@@ -410,6 +410,11 @@ struct v7_result {
  * that ends before `file` stays as it was, and the status is 2. */
 uint32_t v7_run(const struct v7_request *request, struct v7_result *result);
 
+/* A size that no file of a link exceeds, by v7_run or by v7_session_link, if the objects have BYTES bytes in all, and the forced names
+ * FORCED_SIZE: 16 and BYTES, and 12 for each of these names; SIZE_MAX if this sum is over it. So a caller that has a buffer of this size
+ * for the file, and enough room for the report, makes a link by one call. */
+size_t v7_most(size_t bytes, size_t forced_size);
+
 /* The map of a link, as `v7-explain -m` shows it; v7-explain(1) describes it. Objects, names and uses are numbered from 0. */
 struct v7_map_head {
     uint64_t text_end; /* where the segments are; commons are before bss. All are 0 if an object is refused */
@@ -524,8 +529,10 @@ uint32_t v7_session_add(struct v7_session *session, const unsigned char *bytes, 
 /* Withdraws the object that was added last. It needs no memory. Faults: V7_NO_SESSION, V7_NOTHING if there is none. */
 uint32_t v7_session_withdraw(struct v7_session *session, struct v7_answer *answer);
 
-/* Links what is there, and gives it as v7_run does. Of REQUEST V7_PLACES is not wanted, and forced names and objects are not looked at.
- * Faults, the first that applies: V7_NO_OPTION as there, V7_NO_SESSION, 1 to 3, 41 to 43, V7_NO_MEMORY, and V7_NO_ROOM last. */
+/* Links what is there, and gives it as v7_run does, with the options and the entry point of REQUEST. Its forced names and objects are not
+ * looked at. An object has no label, and is known by how many were added before it. A session has neither the objects of findings nor a
+ * map: for these call v7_run with V7_PLACES, or v7_map, with the bytes of the objects that are there, which the caller keeps.
+ * Faults, the first that applies: V7_NO_OPTION as there, and for V7_PLACES; V7_NO_SESSION, 1 to 3, 41 to 43, V7_NO_MEMORY, V7_NO_ROOM. */
 uint32_t v7_session_link(struct v7_session *session, const struct v7_request *request, struct v7_result *result);
 
 /* Writes what the session shows, as lines, each with its newline, or as one JSON object. It has the words of the merged text and data,

@@ -15,46 +15,38 @@ namespace v7 {
 typedef std::vector<unsigned char> Bytes;
 
 // Why a call gives nothing. `place` and `word` are as in struct v7_answer.
-class Fault : public std::runtime_error {
-public:
+struct Fault : std::runtime_error {
     template <class Answer> explicit Fault(const Answer &answer) : std::runtime_error(v7_strerror(answer.fault)), fault(answer.fault), word(answer.word), place(answer.place) {}
-
     std::uint32_t fault, word;
     std::size_t place;
 };
 
 namespace detail {
 
-// makes a call until its buffers have the sizes that it answered
-template <class Answer, class Call> std::uint32_t made(Answer &answer, Call call)
+// makes a call until its buffers, which LEND makes, have the sizes that it answered, and cuts them to these
+template <class Answer, class Lend, class Call> std::uint32_t made(Answer &answer, Lend lend, Call call)
 {
     for (;;) {
-        std::uint32_t status = call();
+        lend();
+        std::uint32_t status = call(&answer);
         if (answer.fault == V7_NO_FAULT)
-            return status;
+            return lend(), status;
         if (answer.fault != V7_NO_ROOM)
             throw Fault(answer);
     }
 }
 
-template <class Call> void done(Call call)
-{
-    v7_answer answer = v7_answer();
-    made(answer, [&] { return call(&answer); });
-}
+template <class Call> void done(Call call) { v7_answer answer = v7_answer(); made(answer, [] {}, call); }
 
 template <class Call> Bytes filled(Call call)
 {
+    v7_answer answer = v7_answer();
     Bytes bytes;
-    done([&](v7_answer *answer) { return bytes.resize(answer->size), call(bytes.data(), bytes.size(), answer); });
+    made(answer, [&] { bytes.resize(answer.size); }, [&](v7_answer *to) { return call(bytes.data(), bytes.size(), to); });
     return bytes;
 }
 
-template <class Record> void lend(std::vector<Record> &buffer, std::size_t count, Record *&records, std::size_t &room)
-{
-    buffer.resize(room = count);
-    records = buffer.data();
-}
+template <class T> void lend(std::vector<T> &buffer, std::size_t count, T *&records, std::size_t &room) { buffer.resize(room = count); records = buffer.data(); }
 
 template <class Items> v7_slice slice(const Items &items) { return {reinterpret_cast<const unsigned char *>(items.data()), items.size()}; }
 
@@ -87,15 +79,11 @@ inline Bytes make(const Parts &p)
 inline Parts take_apart(const Bytes &object)
 {
     Parts p;
-    v7_counts counts = v7_counts();
-    detail::done([&](v7_answer *answer) {
-        p.text.resize(counts.text);
-        p.data.resize(counts.data);
-        p.symbols.resize(counts.symbols);
-        return v7_take_apart(object.data(), object.size(), p.text.data(), counts.text, p.data.data(), counts.data, p.symbols.data(),
-                             counts.symbols, &counts, answer);
+    v7_counts n = v7_counts();
+    v7_answer answer = v7_answer();
+    detail::made(answer, [&] { p.text.resize(n.text); p.data.resize(n.data); p.symbols.resize(n.symbols); p.bss = n.bss; }, [&](v7_answer *to) {
+        return v7_take_apart(object.data(), object.size(), p.text.data(), n.text, p.data.data(), n.data, p.symbols.data(), n.symbols, &n, to);
     });
-    p.bss = counts.bss;
     return p;
 }
 
@@ -128,88 +116,82 @@ struct Link {
 
     Program of(const std::vector<Bytes> &objects) const
     {
-        std::vector<v7_slice> slices(slices_of(objects));
-        v7_request asked = request(slices, V7_REPORT | V7_FINDINGS | V7_PLACES);
-        return run([&](v7_result *result) { return v7_run(&asked, result); });
+        return ask(V7_REPORT | V7_FINDINGS | V7_PLACES, objects, [](const v7_request *asked, std::size_t most) {
+            return run(most, [&](v7_result *result) { return v7_run(asked, result); });
+        });
     }
 
     Map map(const std::vector<Bytes> &objects) const
     {
-        std::vector<v7_slice> slices = slices_of(objects);
-        v7_request asked = request(slices, 0);
-        Map given;
-        struct v7_map m = {};
-        m.size = sizeof m;
-        given.status = detail::made(m, [&] {
-            detail::lend(given.objects, m.object_count, m.objects, m.object_room);
-            detail::lend(given.names, m.name_count, m.names, m.name_room);
-            detail::lend(given.uses, m.use_count, m.uses, m.use_room);
-            detail::lend(given.limits, m.limit_count, m.limits, m.limit_room);
-            return ::v7_map(&asked, &m);
+        return ask(0, objects, [](const v7_request *asked, std::size_t) {
+            Map given;
+            struct v7_map m = {};
+            m.size = sizeof m;
+            given.status = detail::made(m, [&] {
+                detail::lend(given.objects, m.object_count, m.objects, m.object_room);
+                detail::lend(given.names, m.name_count, m.names, m.name_room);
+                detail::lend(given.uses, m.use_count, m.uses, m.use_room);
+                detail::lend(given.limits, m.limit_count, m.limits, m.limit_room);
+                given.head = m.head;
+            }, [&](struct v7_map *to) { return ::v7_map(asked, to); });
+            return given;
         });
-        given.head = m.head;
-        return given;
     }
 
 private:
     friend class Session;
 
-    static std::vector<v7_slice> slices_of(const std::vector<Bytes> &objects)
+    // makes a call of a request, and of the most bytes that the file of a link can have
+    template <class Call> auto ask(std::uint32_t wants, const std::vector<Bytes> &objects, Call call) const -> decltype(call(nullptr, 0))
     {
+        std::size_t bytes = 0;
         std::vector<v7_slice> slices;
         for (const Bytes &object : objects)
-            slices.push_back(detail::slice(object));
-        return slices;
+            slices.push_back(detail::slice(object)), bytes += object.size();
+        v7_request asked = {sizeof asked, options, wants, detail::slice(entry), detail::slice(forced), slices.data(), slices.size()};
+        return call(&asked, v7_most(bytes, forced.size()));
     }
 
-    v7_request request(const std::vector<v7_slice> &slices, std::uint32_t wants) const
-    {
-        return {sizeof(v7_request), options, wants, detail::slice(entry), detail::slice(forced), slices.data(), slices.size()};
-    }
-
-    template <class Call> static Program run(Call call)
+    // makes a call once, if a link has no more to report than symbols
+    template <class Call> static Program run(std::size_t most, Call call)
     {
         Program given;
-        v7_result r = v7_result();
-        r.size = sizeof r;
+        v7_result r = {sizeof r, 0, 0, 0, most, 27 * (most / 12) + 11, nullptr, 0, nullptr, 0, most / 12, nullptr, 0, most / 12, nullptr, 0};
         given.status = detail::made(r, [&] {
             detail::lend(given.file, r.file_size, r.file, r.file_room);
             detail::lend(given.report, r.report_size, r.report, r.report_room);
             detail::lend(given.findings, r.finding_count, r.findings, r.finding_room);
             detail::lend(given.places, r.place_count, r.places, r.place_room);
-            return call(&r);
-        });
+        }, call);
         return given;
     }
 };
 
-// A session that the library keeps. It can be moved, and not copied.
+// A session that the library keeps. It can be moved, and not copied; one that was moved is not used again.
 class Session {
 public:
-    explicit Session(const std::string &forced = std::string()) : kept()
+    explicit Session(const std::string &forced = std::string()) : kept(), most(1, v7_most(0, forced.size()))
     {
-        v7_slice names = detail::slice(forced);
-        detail::done([&](v7_answer *answer) { return v7_session_new(&kept, names.bytes, names.size, answer); });
+        detail::done([&](v7_answer *to) { return v7_session_new(&kept, detail::slice(forced).bytes, forced.size(), to); });
     }
-    Session(Session &&other) noexcept : kept(other.kept) { other.kept = v7_session(); }
-    Session &operator=(Session &&other) noexcept { return std::swap(kept, other.kept), *this; }
+    Session(Session &&other) noexcept : kept(other.kept), most(std::move(other.most)) { other.kept = v7_session(); }
+    Session &operator=(Session &&other) noexcept { return std::swap(kept, other.kept), most.swap(other.most), *this; }
     ~Session() { v7_session_free(&kept); }
 
-    void add(const Bytes &object) { detail::done([&](v7_answer *to) { return v7_session_add(&kept, object.data(), object.size(), to); }); }
-    void withdraw() { detail::done([&](v7_answer *to) { return v7_session_withdraw(&kept, to); }); }
+    void add(const Bytes &object) { detail::done([&](v7_answer *to) { return v7_session_add(&kept, object.data(), object.size(), to); }); most.push_back(most.back() + object.size()); }
+    void withdraw() { detail::done([&](v7_answer *to) { return v7_session_withdraw(&kept, to); }); most.pop_back(); }
     Program link(const Link &link = Link())
     {
-        v7_request asked = link.request({}, V7_REPORT | V7_FINDINGS);
-        return Link::run([&](v7_result *result) { return v7_session_link(&kept, &asked, result); });
+        return link.ask(V7_REPORT | V7_FINDINGS, {}, [&](const v7_request *asked, std::size_t) {
+            return Link::run(most.empty() ? 0 : most.back(), [&](v7_result *result) { return v7_session_link(&kept, asked, result); });
+        });
     }
     // What the session shows, as V7_LINES or as V7_JSON.
-    Bytes state(std::uint32_t form)
-    {
-        return detail::filled([&](unsigned char *to, std::size_t size, v7_answer *answer) { return v7_session_state(&kept, form, to, size, answer); });
-    }
+    Bytes state(std::uint32_t form) { return detail::filled([&](unsigned char *room, std::size_t size, v7_answer *to) { return v7_session_state(&kept, form, room, size, to); }); }
 
 private:
     v7_session kept;
+    std::vector<std::size_t> most; // by v7_most, for the first objects, from none to all
 };
 
 } // namespace v7

@@ -28,9 +28,10 @@ finds.
 from __future__ import annotations
 
 import ctypes
+import functools
 import json
 import os
-from typing import Any, Dict, Iterable, List, NamedTuple, NoReturn, Optional, Sequence, Tuple, Union
+from typing import Any, Dict, Iterable, List, NamedTuple, NoReturn, Optional, Sequence, Tuple
 
 _BESIDE = os.path.join(os.path.dirname(os.path.abspath(__file__)), "libv7.so.0")
 __version__ = "0.4.0"
@@ -40,66 +41,29 @@ _LIBRARY = ctypes.CDLL(_PATH)
 # calls on a session that is kept: no other thread of Python runs during one
 _KEEPING = ctypes.PyDLL(_PATH)
 _NO_ROOM = 60
-# the largest file of a link: a header, words and relocation words of full segments, and a full table
-_MOST = 16 + 4 * 65534 + 12 * 5461
 _REPORT, _FINDINGS, _PLACES = 1, 2, 4
 
 # options of a link
 RELOCATABLE, STRIP, EXTERNALS, NOT_L, PURE, SPLIT, FORCE_COMMONS = (1 << bit for bit in range(7))
-
 # options of nm
 NM_EXTERNAL, NM_BY_VALUE, NM_TABLE_ORDER, NM_REVERSE, NM_UNDEFINED = (1 << bit for bit in range(5))
-
 # type words: one of these, and EXTERNAL if other objects see the name
-UNDEFINED, ABSOLUTE, TEXT, DATA, BSS = range(5)
-EXTERNAL = 0o40
-
+UNDEFINED, ABSOLUTE, TEXT, DATA, BSS, EXTERNAL = 0, 1, 2, 3, 4, 0o40
 # relocation words: one of these or of `refers_to`, and FROM_PC added if the word is relative to the pc
-NUMBER, IN_TEXT, IN_DATA, IN_BSS = 0, 2, 4, 6
-FROM_PC = 1
-
+NUMBER, FROM_PC, IN_TEXT, IN_DATA, IN_BSS = 0, 1, 2, 4, 6
 # the parts of an object: the word of a fault if one is too long
 TEXT_PART, DATA_PART, BSS_PART, SYMBOLS_PART = 1, 2, 3, 4
-
 # options of a conversion from GNU's form
 DROP_DEBUGGER, DROP_UNUSED, DROP_LOCALS = 1, 2, 4
-
 # kinds of remarks: the first seven are wrong, and the last six suspicious
-(
-    REMARK_SHORT_HEADER,
-    REMARK_BAD_MAGIC,
-    REMARK_ODD_SIZE,
-    REMARK_TRUNCATED,
-    REMARK_BAD_RELOCATION,
-    REMARK_BAD_SYMBOL_NUMBER,
-    REMARK_MORE_BAD_WORDS,
-    REMARK_IGNORED_ENTRY,
-    REMARK_IGNORED_WORD,
-    REMARK_BYTES_AFTER_TABLE,
-    REMARK_IGNORED_RELOCATION_BITS,
-    REMARK_OUTSIDE_REFERENCE,
-    REMARK_EMPTY_NAME,
-    REMARK_UNPRINTABLE_NAME,
-    REMARK_BYTES_AFTER_NAME,
-    REMARK_REPEATED_NAME,
-    REMARK_IGNORED_TYPE_BITS,
-    REMARK_UNKNOWN_TYPE,
-    REMARK_ODD_COMMON,
-    REMARK_OUTSIDE_VALUE,
-    REMARK_RELOCATED_FIRST_WORD,
-    REMARK_UNSUITABLE_PC_BIT,
-    REMARK_CUT_INSTRUCTION,
-    REMARK_NO_INSTRUCTION,
-    REMARK_BRANCH_OUTSIDE,
-    REMARK_BRANCH_WITHIN,
-    REMARK_UNSUITABLE_REFERENCE,
-    REMARK_UNSUITABLE_ADDRESS,
-    REMARK_ABSOLUTE_TEXT,
-) = range(1, 30)
-
+REMARK_SHORT_HEADER, REMARK_BAD_MAGIC, REMARK_ODD_SIZE, REMARK_TRUNCATED, REMARK_BAD_RELOCATION, REMARK_BAD_SYMBOL_NUMBER = range(1, 7)
+REMARK_MORE_BAD_WORDS, REMARK_IGNORED_ENTRY, REMARK_IGNORED_WORD, REMARK_BYTES_AFTER_TABLE, REMARK_IGNORED_RELOCATION_BITS = range(7, 12)
+REMARK_OUTSIDE_REFERENCE, REMARK_EMPTY_NAME, REMARK_UNPRINTABLE_NAME, REMARK_BYTES_AFTER_NAME, REMARK_REPEATED_NAME = range(12, 17)
+REMARK_IGNORED_TYPE_BITS, REMARK_UNKNOWN_TYPE, REMARK_ODD_COMMON, REMARK_OUTSIDE_VALUE, REMARK_RELOCATED_FIRST_WORD = range(17, 22)
+REMARK_UNSUITABLE_PC_BIT, REMARK_CUT_INSTRUCTION, REMARK_NO_INSTRUCTION, REMARK_BRANCH_OUTSIDE, REMARK_BRANCH_WITHIN = range(22, 27)
+REMARK_UNSUITABLE_REFERENCE, REMARK_UNSUITABLE_ADDRESS, REMARK_ABSOLUTE_TEXT = range(27, 30)
 # why a name is reported
 MULTIPLY_DEFINED, RESERVED_NAME, ENTRY_NOT_IN_TEXT, UNDEFINED_NAME = 1, 2, 3, 4
-
 # of a name in a map, and of its uses
 NAME_IS_PLACED, NAME_IS_UNDEFINED, NAME_IS_MULTIPLE = 1, 2, 4
 DEFINES, MAKES_COMMON, WANTS, FORCES, TEXT_WORD, DATA_WORD = range(1, 7)
@@ -247,201 +211,57 @@ class Header(NamedTuple):
     flag: int
 
 
-# what the faults of v7.h mean, by their numbers
-FAULTS: Dict[int, str] = {
-    1: "no such option or form",
-    2: "options exclude each other",
-    3: "the name of the entry point has more than 8 bytes",
-    4: "the size of the forced names is not a multiple of 8",
-    5: "more than 64 names are forced",
-    6: "too many words, bytes of bss or symbols",
+# what the faults of v7.h mean: from a number on, one text after another
+_TEXTS = {
+    1: "no such option or form; options exclude each other; the name of the entry point has more than 8 bytes; the size of the forced "
+    "names is not a multiple of 8; more than 64 names are forced; too many words, bytes of bss or symbols",
     8: "no session, or one already",
-    11: "short header",
-    12: "bad magic number",
-    13: "odd size",
-    14: "truncated",
-    21: "not an object",
-    22: "no relocation",
-    23: "bad relocation",
-    24: "bad symbol number",
-    31: "text full",
-    32: "data full",
-    33: "bss full",
-    34: "names full",
-    35: "nothing to withdraw",
-    41: "does not fit",
-    42: "too many symbols",
-    43: "symbol number too large",
+    11: "short header; bad magic number; odd size; truncated",
+    21: "not an object; no relocation; bad relocation; bad symbol number",
+    31: "text full; data full; bss full; names full; nothing to withdraw",
+    41: "does not fit; too many symbols; symbol number too large",
     50: "no memory",
-    60: "no room",
-    61: "a column is missing",
-    62: "not an octal number",
-    63: "over 177777",
-    64: "bad byte in a name",
-    65: "the address does not follow",
-    66: "the number does not follow",
-    67: "more than 32767 words",
-    68: "more than 5461 symbols",
-    69: "text, data or symbols is missing",
-    70: "unknown word",
-    71: "text, data and symbols are not in this order",
-    72: "magic and flag come before text, data and symbols",
-    73: "only symbols can follow symbols",
-    74: "no such magic number",
-    75: "odd size of bss",
-    81: "the strings have a length under 4",
-    82: "a symbol belongs to an overlay",
-    83: "a symbol has its name at no place of the strings",
-    84: "a symbol is for a debugger",
-    85: "a symbol has a description, and is not for a debugger",
-    86: "a linked program",
-    87: "two names are equal in eight bytes",
-    88: "a word refers to a symbol for a debugger",
-    89: "a word refers to a local that is dropped",
+    60: "no room; a column is missing; not an octal number; over 177777; bad byte in a name; the address does not follow; the number does "
+    "not follow; more than 32767 words; more than 5461 symbols; text, data or symbols is missing; unknown word; text, data and symbols "
+    "are not in this order; magic and flag come before text, data and symbols; only symbols can follow symbols; no such magic number; "
+    "odd size of bss",
+    81: "the strings have a length under 4; a symbol belongs to an overlay; a symbol has its name at no place of the strings; a symbol is "
+    "for a debugger; a symbol has a description, and is not for a debugger; a linked program; two names are equal in eight bytes; a "
+    "word refers to a symbol for a debugger; a word refers to a local that is dropped",
 }
+FAULTS: Dict[int, str] = {first + place: text for first, texts in _TEXTS.items() for place, text in enumerate(texts.split("; "))}
 
 
-class _Word(ctypes.Structure):
-    _fields_ = [("value", ctypes.c_uint16), ("reloc", ctypes.c_uint16)]
+def _struct(*fields: Tuple[Any, str]) -> Any:
+    """A struct of C: types, each with the names of its fields."""
+    return type("Struct", (ctypes.Structure,), {"_fields_": [(name, kind) for kind, names in fields for name in names.split()]})
 
 
-class _Symbol(ctypes.Structure):
-    _fields_ = [("name", ctypes.c_ubyte * 8), ("type", ctypes.c_uint16), ("value", ctypes.c_uint16)]
-
-
-class _Slice(ctypes.Structure):
-    _fields_ = [("bytes", ctypes.c_char_p), ("size", ctypes.c_size_t)]
-
-
-class _Finding(ctypes.Structure):
-    _fields_ = [("name", ctypes.c_ubyte * 8), ("kind", ctypes.c_uint32)]
-
-
-class _FindingPlace(ctypes.Structure):
-    _fields_ = [("first", ctypes.c_size_t), ("further", ctypes.c_size_t)]
-
-
-class _Remark(ctypes.Structure):
-    _fields_ = [*((name, ctypes.c_size_t) for name in ("place", "text", "text_size")), *((name, ctypes.c_uint32) for name in ("kind", "part", "word"))]
-
-
-class _Header(ctypes.Structure):
-    _fields_ = [(name, ctypes.c_uint16) for name in Header._fields]
-
-
-class _Counts(ctypes.Structure):
-    _fields_ = [("text", ctypes.c_size_t), ("data", ctypes.c_size_t), ("symbols", ctypes.c_size_t), ("bss", ctypes.c_uint32)]
-
-
-class _Answer(ctypes.Structure):
-    _fields_ = [
-        ("fault", ctypes.c_uint32),
-        ("word", ctypes.c_uint32),
-        ("place", ctypes.c_size_t),
-        ("size", ctypes.c_size_t),
-        ("report_size", ctypes.c_size_t),
-    ]
-
-
-class _Session(ctypes.Structure):
-    _fields_ = [("is_open", ctypes.c_uint32), ("state", ctypes.c_void_p)]
-
-
-class _Request(ctypes.Structure):
-    _fields_ = [
-        ("size", ctypes.c_size_t),
-        ("options", ctypes.c_uint32),
-        ("wants", ctypes.c_uint32),
-        ("entry", _Slice),
-        ("forced", _Slice),
-        ("objects", ctypes.POINTER(_Slice)),
-        ("object_count", ctypes.c_size_t),
-    ]
-
-
-class _Result(ctypes.Structure):
-    _fields_ = [
-        ("size", ctypes.c_size_t),
-        ("fault", ctypes.c_uint32),
-        ("word", ctypes.c_uint32),
-        ("place", ctypes.c_size_t),
-        ("file_size", ctypes.c_size_t),
-        ("report_size", ctypes.c_size_t),
-        ("file", ctypes.c_void_p),
-        ("file_room", ctypes.c_size_t),
-        ("report", ctypes.c_void_p),
-        ("report_room", ctypes.c_size_t),
-        ("finding_count", ctypes.c_size_t),
-        ("findings", ctypes.POINTER(_Finding)),
-        ("finding_room", ctypes.c_size_t),
-        ("place_count", ctypes.c_size_t),
-        ("places", ctypes.POINTER(_FindingPlace)),
-        ("place_room", ctypes.c_size_t),
-    ]
-
-
-class _MapHead(ctypes.Structure):
-    _fields_ = [
-        *((name, ctypes.c_uint64) for name in ("text_end", "data_start", "data_end", "bss_start", "bss_end")),
-        ("place", ctypes.c_size_t),
-        ("fault", ctypes.c_uint32),
-        ("state", ctypes.c_uint32),
-        ("magic", ctypes.c_uint16),
-        ("entry_point", ctypes.c_uint16),
-        ("entry_name", ctypes.c_ubyte * 8),
-    ]
-
-
-class _MapObject(ctypes.Structure):
-    _fields_ = [
-        *((name, ctypes.c_uint64) for name in ("text", "data", "bss")),
-        ("symbols", ctypes.c_size_t),
-        *((name, ctypes.c_uint16) for name in ("text_size", "data_size", "bss_size")),
-    ]
-
-
-class _MapName(ctypes.Structure):
-    _fields_ = [
-        ("name", ctypes.c_ubyte * 8),
-        *((name, ctypes.c_size_t) for name in ("definer", "next_definer", "user")),
-        ("state", ctypes.c_uint32),
-        ("type", ctypes.c_uint16),
-        ("value", ctypes.c_uint16),
-    ]
-
-
-class _MapUse(ctypes.Structure):
-    _fields_ = [
-        ("address", ctypes.c_uint64),
-        ("object", ctypes.c_size_t),
-        ("name", ctypes.c_size_t),
-        ("label", ctypes.c_ubyte * 8),
-        ("kind", ctypes.c_uint32),
-        *((name, ctypes.c_uint16) for name in ("offset", "line", "beyond", "is_labelled")),
-    ]
-
-
-class _MapLimit(ctypes.Structure):
-    _fields_ = [("used", ctypes.c_uint64), ("most", ctypes.c_uint64), ("kind", ctypes.c_uint32)]
-
-
-class _Map(ctypes.Structure):
-    _fields_ = [
-        ("size", ctypes.c_size_t),
-        ("fault", ctypes.c_uint32),
-        ("word", ctypes.c_uint32),
-        ("place", ctypes.c_size_t),
-        ("head", _MapHead),
-        *((f"{name}_count", ctypes.c_size_t) for name in ("object", "name", "use", "limit")),
-        ("objects", ctypes.POINTER(_MapObject)),
-        ("object_room", ctypes.c_size_t),
-        ("names", ctypes.POINTER(_MapName)),
-        ("name_room", ctypes.c_size_t),
-        ("uses", ctypes.POINTER(_MapUse)),
-        ("use_room", ctypes.c_size_t),
-        ("limits", ctypes.POINTER(_MapLimit)),
-        ("limit_room", ctypes.c_size_t),
-    ]
+_U16, _U32, _U64, _SIZE, _ROOM, _NAME = ctypes.c_uint16, ctypes.c_uint32, ctypes.c_uint64, ctypes.c_size_t, ctypes.c_void_p, ctypes.c_ubyte * 8
+_Word = _struct((_U16, "value reloc"))
+_Symbol = _struct((_NAME, "name"), (_U16, "type value"))
+_Slice = _struct((ctypes.c_char_p, "bytes"), (_SIZE, "size"))
+_Finding = _struct((_NAME, "name"), (_U32, "kind"))
+_FindingPlace = _struct((_SIZE, "first further"))
+_Remark = _struct((_SIZE, "place text text_size"), (_U32, "kind part word"))
+_Header = _struct((_U16, " ".join(Header._fields)))
+_Counts = _struct((_SIZE, "text data symbols"), (_U32, "bss"))
+_Answer = _struct((_U32, "fault word"), (_SIZE, "place size report_size"))
+_Session = _struct((_U32, "is_open"), (ctypes.c_void_p, "state"))
+_Request = _struct((_SIZE, "size"), (_U32, "options wants"), (_Slice, "entry forced"), (ctypes.POINTER(_Slice), "objects"), (_SIZE, "object_count"))
+_GIVEN = ((_SIZE, "size"), (_U32, "fault word"), (_SIZE, "place"))
+_FILES = ((_SIZE, "file_size report_size"), (_ROOM, "file"), (_SIZE, "file_room"), (_ROOM, "report"), (_SIZE, "report_room"))
+_LISTS = ((_SIZE, "finding_count"), (_ROOM, "findings"), (_SIZE, "finding_room place_count"), (_ROOM, "places"), (_SIZE, "place_room"))
+_Result = _struct(*_GIVEN, *_FILES, *_LISTS)
+_SEGMENTS = "text_end data_start data_end bss_start bss_end"
+_MapHead = _struct((_U64, _SEGMENTS), (_SIZE, "place"), (_U32, "fault state"), (_U16, "magic entry_point"), (_NAME, "entry_name"))
+_MapObject = _struct((_U64, "text data bss"), (_SIZE, "symbols"), (_U16, "text_size data_size bss_size"))
+_MapName = _struct((_NAME, "name"), (_SIZE, "definer next_definer user"), (_U32, "state"), (_U16, "type value"))
+_MapUse = _struct((_U64, "address"), (_SIZE, "object name"), (_NAME, "label"), (_U32, "kind"), (_U16, "offset line beyond is_labelled"))
+_MapLimit = _struct((_U64, "used most"), (_U32, "kind"))
+_RECORDS = {"objects": _MapObject, "names": _MapName, "uses": _MapUse, "limits": _MapLimit}
+_ROOMS = (field for name in _RECORDS for field in ((_ROOM, name), (_SIZE, f"{name[:-1]}_room")))
+_Map = _struct(*_GIVEN, (_MapHead, "head"), (_SIZE, "object_count name_count use_count limit_count"), *_ROOMS)
 
 
 class Fault(Exception):
@@ -455,7 +275,7 @@ class Fault(Exception):
     11 short header, object 0
     """
 
-    def __init__(self, answer: Union[_Answer, _Result, _Map], is_byte: bool = False) -> None:
+    def __init__(self, answer: Any, is_byte: bool = False) -> None:
         text = FAULTS.get(answer.fault, f"fault {answer.fault}")
         where = f" at word {answer.word}" if answer.fault in (23, 24) else f" in part {answer.word}" if answer.fault == 6 else ""
         if is_byte:
@@ -517,13 +337,6 @@ def _items(what: str, items: Iterable[Any]) -> List[Any]:
         raise _wrong(what, "a list", items) from None
 
 
-def _row(what: str, row: Any, size: int) -> Tuple[Any, ...]:
-    """A pair or a triple."""
-    if not isinstance(row, (tuple, list)) or len(row) != size:
-        raise _wrong(what, f"a tuple of {size}", row)
-    return tuple(row)
-
-
 def _list(objects: Iterable[bytes]) -> List[bytes]:
     return [_bytes(f"objects[{number}]", data) for number, data in enumerate(_items("objects", objects))]
 
@@ -539,22 +352,25 @@ def _slice(data: bytes) -> List[Any]:
     return [ctypes.c_char_p(data), ctypes.c_size_t(len(data))]
 
 
-def _room(size: int) -> Any:
-    return ctypes.create_string_buffer(max(size, 1))
+def _made(call: Any, answer: Any, rooms: Sequence[Tuple[str, Any]], sized: Any = None, is_byte: bool = False) -> Tuple[int, List[Any]]:
+    """Makes a call with a room and its size for each pair of a field, which has the size, and a type; again, if the sizes that it answered
+    are larger. Returns the status and what is in the rooms. The place of a fault may be a byte."""
+    sized = answer if sized is None else sized
+    for _ in range(2):
+        sizes = [getattr(sized, field) for field, _ in rooms]
+        buffers = [(kind * max(size, 1))() for (_, kind), size in zip(rooms, sizes)]
+        status = call(*(part for pair in zip(buffers, map(ctypes.c_size_t, sizes)) for part in pair))
+        if answer.fault != _NO_ROOM:
+            break
+    if answer.fault:
+        raise Fault(answer, is_byte)
+    return status, [buffer[: getattr(sized, field)] for buffer, (field, _) in zip(buffers, rooms)]
 
 
 def _given(name: str, *words: Any, guess: int = 0, is_byte: bool = False, library: Any = _LIBRARY) -> bytes:
-    """Calls with a room of the guessed size, and again if the result is larger. The place of a fault may be a byte."""
-    call, answer = getattr(library, name), _Answer()
-    for _ in range(2):
-        room = _room(guess)
-        call(*words, room, ctypes.c_size_t(guess), ctypes.byref(answer))
-        if answer.fault != _NO_ROOM:
-            break
-        guess = answer.size
-    if answer.fault:
-        raise Fault(answer, is_byte)
-    return bytes(room.raw[: answer.size])
+    """What a call writes, first with a room of the guessed size."""
+    call, answer = getattr(library, name), _Answer(size=guess)
+    return bytes(_made(lambda *room: call(*words, *room, ctypes.byref(answer)), answer, [("size", ctypes.c_char)], is_byte=is_byte)[1][0])
 
 
 def version() -> str:
@@ -680,19 +496,10 @@ def remarks(data: bytes) -> List[Remark]:
     >>> remark.kind == REMARK_EMPTY_NAME, remark.part == SYMBOLS_PART, remark.word
     (True, True, 0)
     """
-    sizes, answer = (0, 0), _Answer()
-    for _ in range(2):
-        texts, found = _room(sizes[0]), (_Remark * max(sizes[1], 1))()
-        _LIBRARY.v7_remarks(*_slice(data), texts, ctypes.c_size_t(sizes[0]), found, ctypes.c_size_t(sizes[1]), ctypes.byref(answer))
-        if answer.fault != _NO_ROOM:
-            break
-        sizes = answer.size, answer.report_size
-    if answer.fault:
-        raise Fault(answer)
-    return [
-        Remark(each.kind, each.place, texts.raw[each.text : each.text + each.text_size].decode("latin-1"), each.part, each.word)
-        for each in found[: answer.report_size]
-    ]
+    answer, words = _Answer(), _slice(data)
+    rooms = [("size", ctypes.c_char), ("report_size", _Remark)]
+    texts, found = _made(lambda *room: _LIBRARY.v7_remarks(*words, *room, ctypes.byref(answer)), answer, rooms)[1]
+    return [Remark(row.kind, row.place, texts[row.text : row.text + row.text_size].decode("latin-1"), row.part, row.word) for row in found]
 
 
 def _padded(what: str, name: str) -> bytes:
@@ -710,110 +517,63 @@ def _forced(names: Iterable[str]) -> bytes:
     return b"".join(_padded(f"forced[{number}]", name) for number, name in enumerate(_items("forced", names)))
 
 
+def _asked(objects: Iterable[bytes], options: int, entry: str, forced: Iterable[str], wants: int) -> Any:
+    """What a link is asked for. It keeps what it points to."""
+    parts, named, names = _list(objects), _latin("entry", entry), _forced(forced)
+    slices = (_Slice * max(len(parts), 1))(*(_Slice(data, len(data)) for data in parts))
+    number = _fitting("options", options, 32)
+    return _Request(ctypes.sizeof(_Request), number, wants, _Slice(named, len(named)), _Slice(names, len(names)), slices, len(parts))
+
+
+def _lent(call: Any, answer: Any, rooms: Dict[str, Any]) -> Tuple[int, List[Any]]:
+    """Makes a call whose answer has these rooms, of bytes or of records."""
+    stems = [name.rstrip("s") for name in rooms]
+
+    def lend(*words: Any) -> int:
+        for name, stem, room, size in zip(rooms, stems, words[::2], words[1::2]):
+            setattr(answer, name, ctypes.addressof(room))
+            setattr(answer, f"{stem}_room", size)
+        return int(call(ctypes.byref(answer)))
+
+    return _made(lend, answer, [(f"{stem}_{'size' if kind is ctypes.c_char else 'count'}", kind) for stem, kind in zip(stems, rooms.values())])
+
+
+def _value(value: Any) -> Any:
+    """A name as a str, no object as None, and another value as it is."""
+    if isinstance(value, _NAME):
+        return bytes(value).rstrip(b"\0").decode("latin-1")
+    return None if value == ctypes.c_size_t(-1).value else value
+
+
+def _record(kind: Any, *rows: Any) -> Any:
+    """The tuple of these fields of records."""
+    return kind(*(_value(getattr(row, name)) for name in kind._fields for row in rows if hasattr(row, name)))
+
+
 class _Run:
-    """What a link is asked for, of objects or of what a session keeps, and what it gives."""
+    """A link: what it gives."""
 
-    def __init__(
-        self, objects: Iterable[bytes], options: int, entry: str, forced: Iterable[str], wants: int, session: Optional[_Session] = None, size: int = 0
-    ) -> None:
-        # what the request points to lives as long as this
-        self._parts, self._session = _list(objects), session
-        # how many bytes the objects have
-        self._size = size + sum(map(len, self._parts))
-        self._slices = (_Slice * max(len(self._parts), 1))(*(_Slice(data, len(data)) for data in self._parts))
-        self._names = [_latin("entry", entry), _forced(forced)]
-        named, names = (_Slice(data, len(data)) for data in self._names)
-        self._request = _Request(ctypes.sizeof(_Request), _fitting("options", options, 32), wants, named, names, self._slices, len(self._parts))
-        self._result = _Result(size=ctypes.sizeof(_Result))
-        self.status, self.file, self.report = 2, b"", ""
-        self.findings: List[Any] = []
-        self.places: List[Any] = []
-
-    def call(self) -> int:
-        """Calls with the rooms that there are, and returns the number of the fault."""
-        asked = [ctypes.byref(self._request), ctypes.byref(self._result)]
-        self.status = _LIBRARY.v7_run(*asked) if self._session is None else _KEEPING.v7_session_link(ctypes.byref(self._session), *asked)
-        return int(self._result.fault)
-
-    def finish(self) -> _Run:
-        """Calls once, as a link has no more bytes than its objects, and no more to report than symbols; or twice, if rooms were too
-        small. Raises a fault."""
-        result, forced = self._result, len(self._names[1]) // 8
-        count = min(self._size // 12 + forced + 1, 1 << 16)
-        kinds = [_REPORT, _FINDINGS, _PLACES]
-        counts = [count * (self._request.wants // kind % 2) for kind in kinds]
-        sizes = [min(self._size + 12 * forced + 16, _MOST), 27 * counts[0] + 11, counts[1], counts[2]]
-        for _ in range(2):
-            file, report = ctypes.create_string_buffer(max(sizes[0], 1)), ctypes.create_string_buffer(max(sizes[1], 1))
-            findings, places = (_Finding * max(sizes[2], 1))(), (_FindingPlace * max(sizes[3], 1))()
-            result.file, result.file_room = ctypes.addressof(file), sizes[0]
-            result.report, result.report_room = ctypes.addressof(report), sizes[1]
-            result.findings, result.finding_room = findings, sizes[2]
-            result.places, result.place_room = places, sizes[3]
-            if self.call() != _NO_ROOM:
-                break
-            sizes = [result.file_size, result.report_size, result.finding_count, result.place_count]
-        if not result.fault:
-            self.file, self.report = ctypes.string_at(file, result.file_size), ctypes.string_at(report, result.report_size).decode("latin-1")
-            self.findings, self.places = findings[: result.finding_count], places[: result.place_count]
-        if result.fault:
-            raise Fault(result)
-        return self
-
-    def map(self) -> Map:
-        """The map of the link, by two calls. Raises a fault."""
-        given = _Map(size=ctypes.sizeof(_Map))
-        status = _LIBRARY.v7_map(ctypes.byref(self._request), ctypes.byref(given))
-        if given.fault == _NO_ROOM:
-            given.objects, given.object_room = (_MapObject * max(given.object_count, 1))(), given.object_count
-            given.names, given.name_room = (_MapName * max(given.name_count, 1))(), given.name_count
-            given.uses, given.use_room = (_MapUse * max(given.use_count, 1))(), given.use_count
-            given.limits, given.limit_room = (_MapLimit * max(given.limit_count, 1))(), given.limit_count
-            status = _LIBRARY.v7_map(ctypes.byref(self._request), ctypes.byref(given))
-        if given.fault:
-            raise Fault(given)
-        return _map(status, given)
+    def __init__(self, objects: Iterable[bytes], options: int, entry: str, forced: Iterable[str], wants: int, call: Any = None, size: int = 0) -> None:
+        """Links objects, or by another call what has so many bytes: by one call, if there is not more to report than symbols."""
+        request, call, most = _asked(objects, options, entry, forced, wants), call or _LIBRARY.v7_run, _LIBRARY.v7_most
+        most.restype = ctypes.c_size_t
+        size += sum(request.objects[number].size for number in range(request.object_count))
+        size = most(ctypes.c_size_t(size), ctypes.c_size_t(request.forced.size))
+        counts = [size // 12 * (wants // kind % 2) for kind in (_REPORT, _FINDINGS, _PLACES)]
+        result = _Result(ctypes.sizeof(_Result), file_size=size, report_size=27 * counts[0] + 11, finding_count=counts[1], place_count=counts[2])
+        rooms = {"file": ctypes.c_char, "report": ctypes.c_char, "findings": _Finding, "places": _FindingPlace}
+        self.status, (self.file, report, self.findings, self.places) = _lent(lambda to: call(ctypes.byref(request), to), result, rooms)
+        self.report: str = report.decode("latin-1")
 
     def program(self) -> Program:
         return Program(self.status, self.file, self.report)
 
     def found(self) -> Found:
-        kinds = [[_name(row.name) for row in self.findings if row.kind == kind] for kind in range(1, 5)]
-        multiples, reserved, entries, undefined = kinds
+        multiples, reserved, entries, undefined = ([_value(row.name) for row in self.findings if row.kind == kind] for kind in range(1, 5))
         return Found(self.status, self.file, Findings(multiples, reserved, entries[0] if entries else None, undefined))
 
     def placed(self) -> List[Finding]:
-        return [
-            Finding(_name(row.name), row.kind, _number_or_none(place.first), _number_or_none(place.further))
-            for row, place in zip(self.findings, self.places)
-        ]
-
-
-def _name(padded: Any) -> str:
-    return bytes(padded).rstrip(b"\0").decode("latin-1")
-
-
-def _number_or_none(number: int) -> Optional[int]:
-    return None if number == ctypes.c_size_t(-1).value else number
-
-
-def _map(status: int, given: _Map) -> Map:
-    head = given.head
-    segments = (head.text_end, head.data_start, head.data_end, head.bss_start, head.bss_end)
-    objects = [MapObject(*(getattr(row, name) for name in MapObject._fields)) for row in given.objects[: given.object_count]]
-    names = [
-        MapName(
-            _name(row.name), _number_or_none(row.definer), _number_or_none(row.next_definer), _number_or_none(row.user), row.state, row.type, row.value
-        )
-        for row in given.names[: given.name_count]
-    ]
-    uses = [
-        MapUse(_number_or_none(row.object), row.name, row.kind, row.address, row.offset, row.line, _name(row.label) if row.is_labelled else None, row.beyond)
-        for row in given.uses[: given.use_count]
-    ]
-    limits = [MapLimit(row.kind, row.used, row.most) for row in given.limits[: given.limit_count]]
-    entry = _name(head.entry_name) if head.state & 2 else None
-    return Map(status, head.fault, head.place, segments, head.magic, head.entry_point, entry, objects, names, uses, limits)
+        return [_record(Finding, *rows) for rows in zip(self.findings, self.places)]
 
 
 def link(objects: Iterable[bytes], options: int = 0, entry: str = "", forced: Iterable[str] = ()) -> Program:
@@ -826,7 +586,7 @@ def link(objects: Iterable[bytes], options: int = 0, entry: str = "", forced: It
     ...     print(fault)
     truncated, object 1
     """
-    return _Run(objects, options, entry, forced, _REPORT).finish().program()
+    return _Run(objects, options, entry, forced, _REPORT).program()
 
 
 def link_findings(objects: Iterable[bytes], options: int = 0, entry: str = "", forced: Iterable[str] = ()) -> Found:
@@ -836,7 +596,7 @@ def link_findings(objects: Iterable[bytes], options: int = 0, entry: str = "", f
     >>> link_findings([refers], entry="_go").findings
     Findings(multiples=[], reserved=['_end'], entry='_go', undefined=['_f'])
     """
-    return _Run(objects, options, entry, forced, _FINDINGS).finish().found()
+    return _Run(objects, options, entry, forced, _FINDINGS).found()
 
 
 def link_places(objects: Iterable[bytes], options: int = 0, entry: str = "", forced: Iterable[str] = ()) -> List[Finding]:
@@ -850,7 +610,7 @@ def link_places(objects: Iterable[bytes], options: int = 0, entry: str = "", for
     _f True 0 4
     _g False 1 None
     """
-    return _Run(objects, options, entry, forced, _FINDINGS | _PLACES).finish().placed()
+    return _Run(objects, options, entry, forced, _FINDINGS | _PLACES).placed()
 
 
 def link_map(objects: Iterable[bytes], options: int = 0, entry: str = "", forced: Iterable[str] = ()) -> Map:
@@ -863,21 +623,28 @@ def link_map(objects: Iterable[bytes], options: int = 0, entry: str = "", forced
     >>> [(use.object, use.kind, use.address) for use in found.uses]
     [(1, 3, 0), (1, 5, 0)]
     """
-    return _Run(objects, options, entry, forced, 0).map()
+    request, given = _asked(objects, options, entry, forced, 0), _Map(ctypes.sizeof(_Map))
+    status, found = _lent(lambda to: _LIBRARY.v7_map(ctypes.byref(request), to), given, _RECORDS)
+    objects_at, names, uses, limits = ([_record(kind, row) for row in rows] for kind, rows in zip((MapObject, MapName, MapUse, MapLimit), found))
+    uses = [use if row.is_labelled else use._replace(label=None) for use, row in zip(uses, found[2])]
+    head = given.head
+    segments: Any = tuple(getattr(head, name) for name in _SEGMENTS.split())
+    named = _value(head.entry_name) if head.state & 2 else None
+    return Map(status, head.fault, head.place, segments, head.magic, head.entry_point, named, objects_at, names, uses, limits)
 
 
-def _word(what: str, pair: Word) -> _Word:
-    value, reloc = _row(what, pair, 2)
-    return _Word(_fitting(f"{what}: a word", value, 16), _fitting(f"{what}: a relocation word", reloc, 16))
+def _rows(what: str, rows: Iterable[Any], size: int) -> List[Any]:
+    """The pairs or triples of a list, each with where it is."""
+    found = [(f"{what}[{number}]", row) for number, row in enumerate(_items(what, rows))]
+    for at, row in found:
+        if not isinstance(row, (tuple, list)) or len(row) != size:
+            raise _wrong(at, f"a tuple of {size}", row)
+    return [(at, *row) for at, row in found]
 
 
 def _words(what: str, pairs: Iterable[Word]) -> List[Any]:
-    return _array(_Word, [_word(f"{what}[{number}]", pair) for number, pair in enumerate(_items(what, pairs))])
-
-
-def _symbol(what: str, row: Symbol) -> _Symbol:
-    name, kind, value = _row(what, row, 3)
-    return _Symbol((ctypes.c_ubyte * 8)(*_padded(what, name)), _fitting(f"{what}: a type word", kind, 16), _fitting(f"{what}: a value", value, 16))
+    rows = _rows(what, pairs, 2)
+    return _array(_Word, [_Word(_fitting(f"{at}: a word", value, 16), _fitting(f"{at}: a relocation word", reloc, 16)) for at, value, reloc in rows])
 
 
 def make(text: Iterable[Word] = (), data: Iterable[Word] = (), bss: int = 0, symbols: Iterable[Symbol] = ()) -> bytes:
@@ -890,24 +657,20 @@ def make(text: Iterable[Word] = (), data: Iterable[Word] = (), bss: int = 0, sym
     ValueError: text[0]: a word is 0 to 65535, and not 65536
     """
     words = [*_words("text", text), *_words("data", data)]
-    rows = [_symbol(f"symbols[{number}]", row) for number, row in enumerate(_items("symbols", symbols))]
+    rows = [
+        _Symbol(_NAME(*_padded(at, name)), _fitting(f"{at}: a type word", kind, 16), _fitting(f"{at}: a value", value, 16))
+        for at, name, kind, value in _rows("symbols", symbols, 3)
+    ]
     return _given("v7_make", *words, _number("bss", bss), *_array(_Symbol, rows))
 
 
 def _parts(call: Any, *words: Any) -> Parts:
     """Calls twice: for the numbers of words and symbols, and for these."""
     counts, answer = _Counts(), _Answer()
-    for _ in range(2):
-        rooms = [_array(kind, [kind()] * n) for kind, n in ((_Word, counts.text), (_Word, counts.data), (_Symbol, counts.symbols))]
-        call(*words, *(part for room in rooms for part in room), ctypes.byref(counts), ctypes.byref(answer))
-        if answer.fault != _NO_ROOM:
-            break
-    if answer.fault:
-        raise Fault(answer)
-    text, data, rows = (list(room[0])[: room[1].value] for room in rooms)
+    rooms = [("text", _Word), ("data", _Word), ("symbols", _Symbol)]
+    text, data, rows = _made(lambda *room: call(*words, *room, ctypes.byref(counts), ctypes.byref(answer)), answer, rooms, counts)[1]
     pairs = [[(word.value, word.reloc) for word in segment] for segment in (text, data)]
-    names = [(_name(row.name), row.type, row.value) for row in rows]
-    return Parts(pairs[0], pairs[1], counts.bss, names)
+    return Parts(pairs[0], pairs[1], counts.bss, [(_value(row.name), row.type, row.value) for row in rows])
 
 
 def take_apart(data: bytes) -> Parts:
@@ -929,7 +692,7 @@ def read(data: bytes) -> Tuple[Header, Parts]:
     """
     header = _Header()
     parts = _parts(_LIBRARY.v7_read, *_slice(data), ctypes.byref(header))
-    return Header(*(getattr(header, name) for name in Header._fields)), parts
+    return _record(Header, header), parts
 
 
 class Session:
@@ -964,8 +727,7 @@ class Session:
         self._kept: List[bytes] = []
         # the size of the last state that was shown, and how many bytes are kept
         self._size = self._bytes = 0
-        names = _forced(self.forced)
-        self._call("v7_session_new", ctypes.c_char_p(names), ctypes.c_size_t(len(names)))
+        self._call("v7_session_new", *_slice(_forced(self.forced)))
         for data in _list(objects):
             self.add(data)
 
@@ -975,9 +737,6 @@ class Session:
     def __exit__(self, *_: object) -> None:
         self.close()
 
-    def __del__(self) -> None:
-        self.close()
-
     def __reduce__(self) -> NoReturn:
         raise TypeError("a session cannot be copied")
 
@@ -985,10 +744,12 @@ class Session:
         """Gives the memory back. Only this may be called again."""
         _KEEPING.v7_session_free(ctypes.byref(self._handle))
 
+    __del__ = close
+
     def add(self, data: bytes) -> None:
         """Adds an object after those that are there."""
         whole = _bytes("data", data)
-        self._call("v7_session_add", ctypes.c_char_p(whole), ctypes.c_size_t(len(whole)))
+        self._call("v7_session_add", ctypes.c_char_p(whole), _SIZE(len(whole)))
         self._kept.append(whole)
         self._bytes += len(whole)
 
@@ -1019,8 +780,7 @@ class Session:
 
     def state(self) -> Dict[str, Any]:
         """The same as a dict: of `objects`, `text`, `data`, `bss`, `externals`, `multiples` and `marks`, as v7(3) has them."""
-        found: Dict[str, Any] = json.loads(self._shown(self._JSON))
-        return found
+        return dict(json.loads(self._shown(self._JSON)))
 
     def _call(self, name: str, *words: Any) -> None:
         answer = _Answer()
@@ -1030,7 +790,8 @@ class Session:
             raise Fault(answer)
 
     def _run(self, options: int, wants: int) -> _Run:
-        return _Run((), options, self.entry, self.forced, wants, self._handle, self._bytes).finish()
+        call = functools.partial(_KEEPING.v7_session_link, ctypes.byref(self._handle))
+        return _Run((), options, self.entry, self.forced, wants, call, self._bytes)
 
     def _shown(self, form: int) -> str:
         state = _given("v7_session_state", ctypes.byref(self._handle), ctypes.c_uint32(form), guess=self._size, library=_KEEPING)

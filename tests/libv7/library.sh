@@ -48,7 +48,7 @@ archive=$room/installed/lib/libv7.a
 library=$room/installed/lib/libv7.so.0
 
 # the names that a library shows, and those that the header declares
-sed -n 's/^uint32_t \(v7_[a-z_]*\)(.*/\1/p' installed/include/v7.h | sort >declared
+sed -n 's/^[a-z0-9]*_t \(v7_[a-z_]*\)(.*/\1/p' installed/include/v7.h | sort >declared
 [ -s declared ] || fail "v7.h declares no call"
 nm -D --defined-only "$library" | awk '{ print $NF }' | sort | diff declared - || fail "libv7.so.0 shows something else than v7.h declares"
 nm -g --defined-only "$archive" | awk 'NF == 3 { print $3 }' | sort | diff declared - || fail "libv7.a shows something else than v7.h declares"

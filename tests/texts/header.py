@@ -92,7 +92,7 @@ SIZES = {"u8": 1, "u16": 2, "u32": 4, "u64": 8, "usize": 8}
 SAME = {"Name": "[u8; 8]", "Number": "usize"}
 # its structs that C has not
 OWN = [*SAME, "Fault"]
-IN_C = {"u8": "unsigned char", "u16": "uint16_t", "u32": "uint32_t"}
+IN_C = {"u8": "unsigned char", "u16": "uint16_t", "u32": "uint32_t", "usize": "size_t"}
 
 
 def plain(text):
@@ -123,10 +123,10 @@ def structs_of(header):
 
 
 def calls_of(header):
-    """Each call, with its parameters: pairs of a type and a name."""
-    found = re.findall(r"^uint32_t (v7_\w+)\((.*?)\);", plain(header), re.S | re.M)
-    return {name: [re.fullmatch(r"(.*?[ *])(\w+)", " ".join(one.split())).groups() for one in words.split(",")] if words != "void" else []
-            for name, words in found}
+    """Each call, with its parameters, and what it returns as the last one: pairs of a type and a name."""
+    found = re.findall(r"^(uint32_t |size_t )(v7_\w+)\((.*?)\);", plain(header), re.S | re.M)
+    return {name: [*(re.fullmatch(r"(.*?[ *])(\w+)", " ".join(one.split())).groups() for one in words.split(",") if one != "void"), (kind, "")]
+            for kind, name, words in found}
 
 
 @functools.cache
@@ -154,10 +154,11 @@ def sources():
 
 
 def declared_calls(texts):
-    """Each call of the code, with its parameters: pairs of a name and a type."""
+    """Each call of the code, with its parameters, and what it returns as the last one: pairs of a name and a type."""
     found = [it for text in texts.values() for item in items(text) for it in functions(item) if 'extern "C"' in it.signature[0]]
-    return {it.name: [(RENAMED.get(word, word), kind.strip()) for word, kind in PARAMETER.findall(" ".join(it.signature)) if kind != "Global"]
-            for it in found}
+    signatures = {it.name: " ".join(it.signature) for it in found}
+    return {name: [*((RENAMED.get(word, word), kind.strip()) for word, kind in PARAMETER.findall(text) if kind != "Global"), ("", text.split("-> ")[1].split()[0])]
+            for name, text in signatures.items()}
 
 
 def fields_in_code(texts, name):
@@ -217,7 +218,7 @@ def compare_calls(header, texts):
     calls = calls_of(header)
     faults += [f"{name}: in the header or in the code alone" for name in sorted(calls.keys() ^ declared.keys())]
     for name in sorted(calls.keys() & declared.keys()):
-        wanted = [(kind, word if not place else None) for word, type_ in declared[name] for place, kind in enumerate(c_type(type_))]
+        wanted = [(kind, word or None if not place else None) for word, type_ in declared[name] for place, kind in enumerate(c_type(type_))]
         if len(wanted) != len(calls[name]):
             faults.append(f"{name}: {len(calls[name])} parameters in C, and {len(wanted)} in the code")
             continue
@@ -331,12 +332,13 @@ def places_in_rust(structs, name):
 
 
 def rust_calls(rust, structs):
-    """Each call of the crate, with its parameters as in C: pairs of a type and a name."""
+    """Each call of the crate as in C."""
     names = {of_rust: f"struct {name}" for name, (of_rust, _) in structs.items()}
-    kinds = {"u8": "unsigned char", "usize": "size_t", "u16": "uint16_t", "u32": "uint32_t", **names}
+    kinds = {**IN_C, **names}
     found = {}
-    for call, words in re.findall(r"pub fn (v7_\w+)\((.*?)\) -> u32;", rust, re.S):
+    for call, words, result in re.findall(r"pub fn (v7_\w+)\((.*?)\) -> (\w+);", rust, re.S):
         parameters = re.findall(r"(\w+): ((?:\*(?:const|mut) )?)(\w+)", words)
+        parameters.append(("", "", result))
         found[call] = [("const " * pointer.startswith("*const") + kinds.get(kind, kind) + (" *" if pointer else " "), word) for word, pointer, kind in parameters]
     return found
 
@@ -421,6 +423,8 @@ PLANTED = [
     ("v7_c/src/handle.rt", "    pub(crate) is_open: u32,", "    pub(crate) is_open: u64,"),
     ("v7-sys", "v7_map(request: *const Request", "v7_map(request: *mut Request"),
     ("v7-sys", "remark_room: usize,", "remark_room: u32,"),
+    ("v7-sys", "forced_size: usize) -> usize;", "forced_size: usize) -> u32;"),
+    ("v7_c/src/lib.rt", "forced_size: usize) -> usize", "forced_size: usize) -> u32"),
     ("v7-sys", "V7_PLACES: u32 = 4", "V7_PLACES: u32 = 8"),
     ("v7-sys", '13 => "odd size"', '13 => "odd"'),
 ]

@@ -9,3 +9,4 @@ pub mod ListingLemmas
 pub mod GnuLemmas
 pub mod RemarkLemmas
 pub mod KeptLemmas
+pub mod SizeLemmas

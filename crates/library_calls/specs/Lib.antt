@@ -6,6 +6,7 @@ pub mod ObjectParts
 pub mod MemoryWanted
 pub mod RunAnswers
 pub mod KeptAnswers
+pub mod Sizes
 pub mod MapAnswers
 pub mod ListingAnswers
 pub mod GnuAnswers

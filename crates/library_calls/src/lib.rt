@@ -30,6 +30,7 @@
 //! - `map_link`: gives the map of a link
 //! - `begin_session`, `add_bytes`, `withdraw_last`: a session that is kept, and edits of it
 //! - `link_session`, `state_of`: its link, and its state
+//! - `most`: how large the file of a link can be
 //! - `make`, `take_apart`: an object of its parts, and the parts of an object
 //! - `read_apart`: the parts of any file
 //! - `check`: how many bytes an object has
@@ -58,6 +59,7 @@ mod remarks_call;
 mod reported;
 mod requests;
 mod run_call;
+mod sizes;
 mod taking;
 mod written;
 
@@ -77,3 +79,4 @@ pub use remarks_call::{RemarkRecord, Remarks, remarks_of};
 pub use reported::ReportedName;
 pub use requests::LinkRequest;
 pub use run_call::{RunResult, Wants, run_link};
+pub use sizes::most;

@@ -13,7 +13,7 @@ mod map;
 mod run;
 mod slot;
 
-ghost use Rattle.std.specs.Prelude.{◌≡◌, ◌≢◌, ◌⊎◌, [], None, Ok, Err, IsOk};
+ghost use Rattle.std.specs.Prelude.{◌≡◌, ◌≢◌, ◌⊎◌, ◌+◌, ◌-◌, ◌^◌, ◌<◌, min, [], None, Ok, Err, IsOk};
 ghost use Rattle.aout_core.specs.Refusals.{refused};
 ghost use Rattle.disassemblies.specs.Columns.{plain_disassembly};
 ghost use Rattle.library_calls.specs.declared.cause.Cause.TheVariants.{Memory};
@@ -23,6 +23,7 @@ ghost use Rattle.library_calls.specs.ListingAnswers.{DescribedMayRunOut, describ
 ghost use Rattle.library_calls.specs.MemoryWanted.{HasBody};
 ghost use Rattle.library_calls.specs.ObjectParts.{file_for, made_of, parts_in, pieces, whole_in};
 ghost use Rattle.library_calls.specs.RemarkAnswers.{remarked_in};
+ghost use Rattle.library_calls.specs.Sizes.{IsMostOfRuns, IsMostOfSessions, most_of};
 ghost use Rattle.v7_c.specs.KeptLeft.{LeavesAdded, LeavesBegun, LeavesLink, LeavesShown, LeavesWithdrawn, kept_by};
 ghost use Rattle.v7_c.specs.MapLeft.{LeavesMap};
 ghost use Rattle.v7_c.specs.RunLeft.{LeavesRun};
@@ -204,6 +205,16 @@ pub extern "C" fn v7_remarks(
         remarks,
         answer,
     )
+}
+
+/// A size that the file of no link of these objects exceeds.
+#[unsafe(no_mangle)]
+pub extern "C" fn v7_most(bytes: usize, forced_size: usize) -> usize
+    ensures value { result ≡ min (most_of bytes forced_size) (2 ^ 64 - 1) }
+    ensures runs { bytes + forced_size < 2 ^ 63 → IsMostOfRuns bytes forced_size result }
+    ensures sessions { bytes + forced_size < 2 ^ 63 → IsMostOfSessions bytes forced_size result }
+{
+    library_calls::most(bytes, forced_size)
 }
 
 /// Links objects, by one request with one result.

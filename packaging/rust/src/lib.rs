@@ -20,9 +20,6 @@ pub use v7_sys::{Fault, Finding, FindingPlace, Header, MapHead, MapLimit, MapNam
 
 use std::mem::size_of;
 
-/// The largest file of a link: a header, words and relocation words of full segments, and a full table.
-const MOST: usize = 16 + 4 * 65534 + 12 * 5461;
-
 impl Link {
     /// Links these objects in their order.
     pub fn of<B: AsRef<[u8]>>(&self, objects: &[B]) -> Result<Program, Fault> {
@@ -82,11 +79,11 @@ fn lend<T: Clone + Default>(buffer: &mut Vec<T>, count: usize, records: &mut *mu
     (*records, *room) = (buffer.as_mut_ptr(), count);
 }
 
-/// Makes a call whose result has buffers of the sizes that they say, which outlive it: once, as a link has no more bytes than its objects,
-/// and no more to report than symbols.
+/// Makes a call whose result has buffers of the sizes that they say, which outlive it: once, if a link has no more to report than symbols.
 fn run(size: usize, forced: usize, mut call: impl FnMut(&mut raw::Result) -> u32) -> Result<Program, Fault> {
-    let count = (size / 12 + forced + 1).min(1 << 16);
-    let file_size = (size + 12 * forced + 16).min(MOST);
+    // SAFETY: it takes numbers
+    let file_size = unsafe { raw::v7_most(size, 8 * forced) };
+    let count = file_size / 12;
     let most = raw::Result { file_size, report_size: 27 * count + 11, finding_count: count, place_count: count, ..raw::Result::default() };
     let (status, result, mut program) = made_from(most, |result, program: &mut Program| {
         lend(&mut program.file, result.file_size, &mut result.file, &mut result.file_room);

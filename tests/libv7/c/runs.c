@@ -2,7 +2,8 @@
  * whatever is wanted of the report. After each edit of a session v7_session_link must give what v7_run gives for the objects that are
  * there, and v7_session_state the state of a session to which they are added anew. The objects of findings are those that v7_map has for
  * their names. A caller whose result is shorter, with nothing readable after it, gets the same link and the same list. Buffers for what
- * is not wanted, and all buffers after a fault, stay as they were. A map has the fault of the link in it, or as its own.
+ * is not wanted, and all buffers after a fault, stay as they were. A map has the fault of the link in it, or as its own. No file is larger
+ * than v7_most gives.
  *
  * usage: runs COUNT OBJECT...       the objects that the lists are made of */
 #define _DEFAULT_SOURCE
@@ -263,10 +264,14 @@ static void try_map(struct v7_request *request, unsigned number)
 static void try_link(struct v7_request *request, unsigned number)
 {
     static struct given got, plain;
+    size_t bytes = 0, i;
 
     request->wants = V7_REPORT | V7_FINDINGS | V7_PLACES;
     ask(&got, request, ROOM);
     check(is_clean(&got), "more than a link", number);
+    for (i = 0; i < request->object_count; i++)
+        bytes += request->objects[i].size;
+    check(got.result.file_size <= v7_most(bytes, request->forced.size), "a larger file than v7_most gives", number);
     request->wants = V7_FINDINGS;
     ask(&plain, request, ROOM);
     check(plain.result.place_count == 0 && is_filled(plain.places, 0, sizeof plain.places) && memcmp(plain.findings, got.findings, sizeof got.findings) == 0,
@@ -389,6 +394,8 @@ int main(int argc, char **argv)
         if (request.options < 128 && request.options != (V7_RELOCATABLE | V7_STRIP))
             try_kept(&request, number);
     }
+    check(v7_most(5, 17) == 16 + 5 + 24 && v7_most(SIZE_MAX - 16, 7) == SIZE_MAX && v7_most(SIZE_MAX, 0) == SIZE_MAX && v7_most(0, SIZE_MAX) == SIZE_MAX,
+          "another size of v7_most", number);
     printf("%u runs, %u differ\n", number, failures);
     return failures != 0;
 }

@@ -294,6 +294,7 @@ extern "C" {
         answer: *mut Answer,
     ) -> u32;
     pub fn v7_run(request: *const Request, result: *mut Result) -> u32;
+    pub fn v7_most(bytes: usize, forced_size: usize) -> usize;
     pub fn v7_map(request: *const Request, map: *mut Map) -> u32;
     pub fn v7_session_new(session: *mut Session, forced: *const u8, forced_size: usize, answer: *mut Answer) -> u32;
     pub fn v7_session_add(session: *mut Session, bytes: *const u8, size: usize, answer: *mut Answer) -> u32;

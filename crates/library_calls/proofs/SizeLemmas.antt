@@ -1,0 +1,385 @@
+-- The file of a link has no more than its objects have, one header, and a symbol for each forced name.
+use Rattle.std.proofs.Common.{◌≡◌, ℕ, zero, suc, ◌+◌, ◌*◌, ◌/◌, ◌≤◌, Bool, true, false, cond, not, ◌&&◌, eqb, List, [], ◌∷◌, ◌++◌, map}
+use Rattle.std.proofs.Common.{length, take, drop, Result, Ok, Err, refl, sym, ap, ◌∙◌, subst, arith, length-append, ◌%◌}
+use Rattle.std.proofs.lemmas.List.{length-map, map-append}
+use Rattle.std.proofs.lemmas.List.Sums.{sum_by-cons, sum_by_push}
+use Rattle.std.specs.{List.flat_map, Prelude.Option, Prelude.Some, Prelude.None, Prelude.filter, Prelude.nat_lt, Prelude.sum_by}
+use Rattle.std.specs.Prelude.{◌-◌, ◌^◌, ◌<◌, min, zip}
+use Rattle.aout_core.specs.Words.{all_word_bytes}
+use Rattle.aout_core.specs.Encoding.{encoding, file_length, header_encoding, reloc_encoding, symbol_encoding}
+use Rattle.aout_core.specs.{declared.header.Header.Header, declared.reloc.Reloc.Reloc, declared.symbol.Symbol.Symbol}
+use Rattle.aout_core.specs.{declared.file.ReadFault.ReadFault, declared.object.ObjectFault.ObjectFault}
+use Rattle.aout_core.specs.{Contents.Contents, Decoding.decode, Decoding.header_in, WellFormed.first_object_fault}
+use Rattle.aout_core.specs.{WellFormed.is_external, declared.symbol.Segment.Segment}
+use Rattle.aout_core.specs.declared.symbol.Segment.TheVariants.{TextSeg, DataSeg}
+use Rattle.aout_core.proofs.DecodingLemmas.{decoded_fits, decoded_passed}
+use Rattle.aout_core.proofs.EncodingLemmas.{length-all_word_bytes, length-header_encoding, length-reloc_encoding, length-symbols_encoding}
+use Rattle.aout_core.proofs.EncodingLemmas.{with_relocation-add}
+use Rattle.tool_options.specs.{declared.options.Keep.Keep, Choices.Choices, ForcedNames.takes, ForcedNames.with_name, NameLists.is_among}
+use Rattle.link_session.specs.Mentions.{externals_in, forced_mention, mention, mentions, mentions_in, names_by_first_mention, names_of}
+use Rattle.link_session.specs.{declared.entry.AddFault.AddFault, Cells.words_of, Earlier.with_earlier, Labelled.Labelled}
+use Rattle.link_session.specs.{Labelled.objects, Limits.refusal, Mentions.Mention, Undo.Kept}
+use Rattle.link_session.proofs.LimitLemmas.{length-new_names}
+use Rattle.link_out.specs.function.Tables.{external_row, external_rows, final_reloc, final_relocs, is_kept_local, keeps, local_rows}
+use Rattle.link_out.specs.function.Tables.{moved_local, rows_kept, table}
+use Rattle.link_out.specs.{declared.linked.LinkFault.LinkFault, function.Link.link, function.Link.linked_file, function.Plans.Plan}
+use Rattle.link_out.specs.{function.Plans.plan, function.Words.final_word, function.Words.final_words, Results.Outcome}
+use Rattle.link_out.specs.Inputs.{at_path, with_input, with_inputs}
+use Rattle.link_out.specs.Steps.{and_then, refused_as, unless}
+use Rattle.link_out.proofs.OutcomeLemmas.{made_file}
+use Rattle.library_calls.specs.{Causes.at, KeptAnswers.kept_run, KeptAnswers.kept_with, LinkAnswers.numbered, LinkAnswers.parts_linked, LinkAnswers.refusal_of}
+use Rattle.library_calls.specs.{LinkAnswers.taken_each, LinkRequests.choices_in, LinkRequests.forced_in, LinkRequests.name_of}
+use Rattle.library_calls.specs.{LinkRequests.with_names, RunAnswers.RunOutput, RunAnswers.link_run, RunAnswers.output_with, RunAnswers.run_output}
+use Rattle.library_calls.specs.{Sizes.IsMostOfRuns, Sizes.IsMostOfSessions, Sizes.bytes_in_all, Sizes.most_of}
+use Rattle.library_calls.specs.declared.cause.Cause.TheVariants.{CutNames, ManyNames, NotLinked}
+use Rattle.library_calls.specs.{declared.cause.Cause.Cause, declared.cause.Refusal.Refusal, declared.run_call.Wants.Wants}
+use Rattle.tool_options.specs.declared.options.Keep.TheVariants as kinds
+use Rattle.link_out.specs.Inputs as inputs
+
+-- ---- one object
+
+-- the bytes of all its parts
+length-parts : (c : Contents) → length (encoding c)
+    ≡ 16 + 2 * (length c.text_words + length c.data_words + (length c.text_reloc + length c.data_reloc)) + 12 * length c.symbols
+length-parts c =
+    let h = c.header in
+    let T = all_word_bytes c.text_words in
+    let D = all_word_bytes c.data_words in
+    let R = reloc_encoding c.text_reloc in
+    let Q = reloc_encoding c.data_reloc in
+    let S = flat_map symbol_encoding c.symbols in
+    omega (
+      arith,
+      length-append (header_encoding h) (T ++ (D ++ (R ++ (Q ++ S)))),
+      length-append T (D ++ (R ++ (Q ++ S))),
+      length-append D (R ++ (Q ++ S)),
+      length-append R (Q ++ S),
+      length-append Q S,
+      length-header_encoding h,
+      length-all_word_bytes c.text_words,
+      length-all_word_bytes c.data_words,
+      length-reloc_encoding c.text_reloc,
+      length-reloc_encoding c.data_reloc,
+      length-symbols_encoding c.symbols,
+    )
+
+-- what is read from bytes has no more than these
+pub read_size : (bytes : List ℕ) (c : Contents) → decode bytes ≡ Ok c → length (encoding c) ≤ length bytes
+read_size bytes c h =
+    let p = decoded_passed bytes c h in
+    let f = decoded_fits bytes c h in
+    let same : header_in bytes ≡ c.header = ap (λ (x : Contents). x.header) p.is in
+    let long : file_length c.header ≤ length bytes = subst (λ (x : Header). file_length x ≤ length bytes) same p.long in
+    omega (
+      arith,
+      length-parts c,
+      f.text,
+      f.data,
+      f.text_relocation,
+      f.data_relocation,
+      f.table,
+      with_relocation-add c.header c.header.text_size c.header.data_size,
+      long,
+    )
+
+-- ---- all objects
+
+abbrev each : (Contents → ℕ) → List Contents → ℕ
+each f [] = 0
+each f (o ∷ os) = f o + each f os
+
+abbrev word_count : Segment → Contents → ℕ
+word_count segment o = length (words_of segment o)
+
+abbrev local_count : Keep → Contents → ℕ
+local_count keep o = length (filter (is_kept_local keep) o.symbols)
+
+abbrev external_count : Contents → ℕ
+external_count o = length (externals_in o)
+
+-- a list that each object, with those before it, adds so many elements to
+counted : {A : Type 0} (f : List Contents × Contents → List A) (n : Contents → ℕ) →
+    ((earlier : List Contents) (o : Contents) → length (f (earlier, o)) ≡ n o) → (earlier os : List Contents) →
+    length (flat_map f (with_earlier earlier os)) ≡ each n os
+counted f n one earlier [] = refl
+counted f n one earlier (o ∷ os) =
+    omega (
+      arith,
+      length-append (f (earlier, o)) (flat_map f (with_earlier (earlier ++ o ∷ []) os)),
+      one earlier o,
+      counted f n one (earlier ++ o ∷ []) os,
+    )
+
+words_counted : (p : Plan) (segment : Segment) (os : List Contents) → length (final_words p segment os) ≡ each (word_count segment) os
+words_counted p segment os =
+    counted (λ q. map (λ wr. final_word p q.0 q.1 segment wr.0 wr.1) (words_of segment q.1)) (word_count segment)
+    (λ earlier o. length-map (words_of segment o) (λ wr. final_word p earlier o segment wr.0 wr.1)) [] os
+
+relocs_counted : (p : Plan) (segment : Segment) (os : List Contents) →
+    length (final_relocs p os segment) ≡ each (word_count segment) os
+relocs_counted p segment os =
+    counted (λ q. map (λ wr. final_reloc p os q.1 wr.1) (words_of segment q.1)) (word_count segment)
+    (λ earlier o. length-map (words_of segment o) (λ wr. final_reloc p os o wr.1)) [] os
+
+locals_counted : (p : Plan) (os : List Contents) → length (local_rows p os) ≡ each (local_count p.choices.keep) os
+locals_counted p os =
+    counted (λ q. map (moved_local p.at q.0 q.1) (filter (is_kept_local p.choices.keep) q.1.symbols)) (local_count p.choices.keep)
+    (λ earlier o. length-map (filter (is_kept_local p.choices.keep) o.symbols) (moved_local p.at earlier o)) [] os
+
+mentions_counted : (forced : List (List ℕ)) (os : List Contents) → length (mentions forced os) ≡ length forced + each external_count os
+mentions_counted forced os =
+    omega (
+      arith,
+      length-append (map forced_mention forced) (flat_map (λ p. mentions_in p.0 p.1) (with_earlier [] os)),
+      length-map forced forced_mention,
+      counted (λ p. mentions_in p.0 p.1) external_count (λ earlier o. length-map (externals_in o) (mention earlier o)) [] os,
+    )
+
+-- a symbol is external, or it is a local that may be kept
+symbols_split : (keep : Keep) (ss : List Symbol) → length (filter (is_kept_local keep) ss) + length (filter is_external ss) ≤ length ss
+symbols_split keep [] = omega arith
+symbols_split keep (s ∷ ss) =
+    by_kind (is_external s) (keeps keep s.name) (filter (is_kept_local keep) ss) (filter is_external ss) (symbols_split keep ss)
+  where
+    by_kind : (e k : Bool) (locals externals : List Symbol) → length locals + length externals ≤ length ss →
+        length (cond (not e && k) (s ∷ locals) locals) + length (cond e (s ∷ externals) externals) ≤ suc (length ss)
+    by_kind true k locals externals h = omega (arith, h)
+    by_kind false true locals externals h = omega (arith, h)
+    by_kind false false locals externals h = omega (arith, h)
+
+-- words and relocation words, one of each
+zip_most : {A B : Type 0} (xs : List A) (ys : List B) → 2 * length (zip xs ys) ≤ length xs + length ys
+zip_most [] ys = omega arith
+zip_most (x ∷ xs) [] = omega arith
+zip_most (x ∷ xs) (y ∷ ys) = omega (arith, zip_most xs ys)
+
+-- what an object adds to a link is no more than it has
+object_size : (keep : Keep) (o : Contents) →
+    4 * (word_count TextSeg o + word_count DataSeg o) + 12 * (local_count keep o + external_count o) ≤ length (encoding o)
+object_size keep o =
+    omega (
+      arith,
+      length-parts o,
+      zip_most o.text_words o.text_reloc,
+      zip_most o.data_words o.data_reloc,
+      symbols_split keep o.symbols,
+    )
+
+objects_size : (keep : Keep) (os : List Contents) →
+    4 * (each (word_count TextSeg) os + each (word_count DataSeg) os) + 12 * (each (local_count keep) os + each external_count os)
+    ≤ bytes_in_all os
+objects_size keep [] = omega arith
+objects_size keep (o ∷ os) =
+    omega (arith, sum_by-cons (λ o. length (encoding o)) o os, object_size keep o, objects_size keep os)
+
+-- ---- a link
+
+-- no relocation without -r
+relocs_most : (b : Bool) (rs : List Reloc) (n : ℕ) → length rs ≡ n → length (cond b rs []) ≤ n
+relocs_most true rs n h = omega (arith, h)
+relocs_most false rs n h = omega arith
+
+-- no symbols with -s
+rows_most : (keep : Keep) (rows : List Symbol) → length (rows_kept keep rows) ≤ length rows
+rows_most kinds.All rows = omega arith
+rows_most kinds.NotL rows = omega arith
+rows_most kinds.Externals rows = omega arith
+rows_most kinds.Nothing rows = omega arith
+
+table_most : (forced : List (List ℕ)) (os : List Contents) (o : Choices) → length (table (plan forced os o) os)
+    ≤ each (local_count o.keep) os + (length forced + each external_count os)
+table_most forced os o =
+    let p : Plan = plan forced os o in
+    omega (
+      arith,
+      rows_most o.keep (local_rows p os ++ external_rows p),
+      length-append (local_rows p os) (external_rows p),
+      locals_counted p os,
+      length-map (names_by_first_mention p.mentions) (external_row p),
+      length-new_names [] (names_of p.mentions),
+      length-map p.mentions (λ (m : Mention). m.name),
+      mentions_counted forced os,
+    )
+
+file_most : (forced : List (List ℕ)) (os : List Contents) (o : Choices) →
+    length (encoding (linked_file (plan forced os o) os)) ≤ 16 + bytes_in_all os + 12 * length forced
+file_most forced os o =
+    let p : Plan = plan forced os o in
+    omega (
+      arith,
+      length-parts (linked_file p os),
+      words_counted p TextSeg os,
+      words_counted p DataSeg os,
+      relocs_most o.relocatable (final_relocs p os TextSeg) (each (word_count TextSeg) os) (relocs_counted p TextSeg os),
+      relocs_most o.relocatable (final_relocs p os DataSeg) (each (word_count DataSeg) os) (relocs_counted p DataSeg os),
+      table_most forced os o,
+      objects_size o.keep os,
+    )
+
+link_most : (forced : List (List ℕ)) (os : List Contents) (o : Choices) (x : Outcome) → link forced os o ≡ Ok x →
+    length (encoding x.file) ≤ 16 + bytes_in_all os + 12 * length forced
+link_most forced os o x h =
+    subst (λ (c : Contents). length (encoding c) ≤ 16 + bytes_in_all os + 12 * length forced) (made_file (plan forced os o) os x h)
+    (file_most forced os o)
+
+-- ---- a link of parts
+
+with_name_most : (names : List (List ℕ)) (name : List ℕ) → length (with_name names name) ≤ length names + 1
+with_name_most names name = by_tests (is_among names name) (nat_lt (length names) 64)
+  where
+    by_tests : (t u : Bool) → length (cond t names (cond u (names ++ name ∷ []) names)) ≤ length names + 1
+    by_tests true u = omega arith
+    by_tests false true = omega (arith, length-append names (name ∷ []))
+    by_tests false false = omega arith
+
+-- a forced name has eight bytes
+names_most : (n number : ℕ) (names : List (List ℕ)) (bytes : List ℕ) (given : List (List ℕ)) →
+    with_names n number names bytes ≡ Ok given → length given ≤ length names + n
+names_most zero number names bytes given h =
+    let same : names ≡ given = cc in
+    subst (λ (l : List (List ℕ)). length l ≤ length names + 0) same (omega arith)
+names_most (suc n) number names bytes given h =
+    by_test (takes names (name_of (take 8 bytes)))
+    (λ e. names_most n (number + 1) (with_name names (name_of (take 8 bytes))) (drop 8 bytes) given e) h
+  where
+    by_test : (t : Bool) → (with_names n (number + 1) (with_name names (name_of (take 8 bytes))) (drop 8 bytes) ≡ Ok given →
+        length given ≤ length (with_name names (name_of (take 8 bytes))) + n) →
+        cond t (with_names n (number + 1) (with_name names (name_of (take 8 bytes))) (drop 8 bytes))
+        (Err (record { cause = ManyNames; place = number })) ≡ Ok given → length given ≤ length names + suc n
+    by_test true later e = omega (arith, later e, with_name_most names (name_of (take 8 bytes)))
+    by_test false later e = absurd (cc)
+
+forced_most : (bytes : List ℕ) (names : List (List ℕ)) → forced_in bytes ≡ Ok names → length names ≤ length bytes / 8
+forced_most bytes names h = by_test (eqb (length bytes % 8) 0) h
+  where
+    by_test : (t : Bool) → cond t (with_names (length bytes / 8) 0 [] bytes) (Err (record { cause = CutNames; place = 0 })) ≡ Ok names →
+        length names ≤ length bytes / 8
+    by_test true e = omega (arith, names_most (length bytes / 8) 0 [] bytes names e)
+    by_test false e = absurd (cc)
+
+module _ (forced : List (List ℕ)) where
+  -- an input that is taken
+  input_most : (kept more : List Labelled) (label bytes : List ℕ) → with_input forced kept label bytes ≡ Ok more →
+      bytes_in_all (objects more) ≤ bytes_in_all (objects kept) + length bytes
+  input_most kept more label bytes h = by_read (decode bytes) refl h
+    where
+      by_limit : (o : Contents) → decode bytes ≡ Ok o → (q : Option AddFault) →
+          unless inputs.not_added q (kept ++ record { label = label; object = o } ∷ []) ≡ Ok more →
+          bytes_in_all (objects more) ≤ bytes_in_all (objects kept) + length bytes
+      by_limit o d None e =
+          let same : kept ++ record { label = label; object = o } ∷ [] ≡ more = cc in
+          let whole = map-append (λ (l : Labelled). l.object) kept (record { label = label; object = o } ∷ []) in
+          let longer = ap bytes_in_all (sym whole ∙ ap objects same) in
+          omega (arith, longer, sum_by_push (λ o. length (encoding o)) (objects kept) o, read_size bytes o d)
+      by_limit o d (Some fault) e = absurd (cc)
+
+      by_fault : (o : Contents) → decode bytes ≡ Ok o → (f : Option ObjectFault) →
+          inputs.kept_with forced kept label (unless inputs.bad_object f o) ≡ Ok more →
+          bytes_in_all (objects more) ≤ bytes_in_all (objects kept) + length bytes
+      by_fault o d None e = by_limit o d (refusal forced (objects kept) o) e
+      by_fault o d (Some fault) e = absurd (cc)
+
+      by_read : (r : Result Contents ReadFault) → decode bytes ≡ r → inputs.kept_with forced kept label (inputs.object_in r) ≡ Ok more →
+          bytes_in_all (objects more) ≤ bytes_in_all (objects kept) + length bytes
+      by_read (Ok o) d e = by_fault o d (first_object_fault o) e
+      by_read (Err fault) d e = absurd (cc)
+
+  inputs_most : (number : ℕ) (parts : List (List ℕ)) (kept all : List Labelled) →
+      with_inputs forced kept (numbered number parts) ≡ Ok all → bytes_in_all (objects all) ≤ bytes_in_all (objects kept) + sum_by length parts
+  inputs_most number [] kept all h =
+      let same : kept ≡ all = cc in
+      subst (λ (l : List Labelled). bytes_in_all (objects l) ≤ bytes_in_all (objects kept) + 0) same (omega arith)
+  inputs_most number (bytes ∷ parts) kept all h =
+      by_first (with_input forced kept (number ∷ []) bytes) (λ more rest. inputs_most (number + 1) parts more all rest) refl h
+    where
+      by_first : (r : Result (List Labelled) inputs.Cause) → ((more : List Labelled) →
+          with_inputs forced more (numbered (number + 1) parts) ≡ Ok all → bytes_in_all (objects all) ≤ bytes_in_all (objects more) + sum_by length parts) →
+          with_input forced kept (number ∷ []) bytes ≡ r →
+          and_then (at_path (number ∷ []) r) (λ more. with_inputs forced more (numbered (number + 1) parts)) ≡ Ok all →
+          bytes_in_all (objects all) ≤ bytes_in_all (objects kept) + sum_by length (bytes ∷ parts)
+      by_first (Ok more) later first rest =
+          omega (arith, sum_by-cons length bytes parts, input_most kept more (number ∷ []) bytes first, later more rest)
+      by_first (Err cause) later first rest = absurd (cc)
+
+  parts_most : (o : Choices) (parts : List (List ℕ)) (x : Outcome) → parts_linked forced o parts ≡ Ok x →
+      length (encoding x.file) ≤ 16 + sum_by length parts + 12 * length forced
+  parts_most o parts x h = by_taken (with_inputs forced [] (numbered 0 parts)) refl h
+    where
+      by_link : (kept : List Labelled) → with_inputs forced [] (numbered 0 parts) ≡ Ok kept → (r : Result Outcome LinkFault) →
+          link forced (objects kept) o ≡ r → refused_as refusal_of (refused_as inputs.not_linked r) ≡ Ok x →
+          length (encoding x.file) ≤ 16 + sum_by length parts + 12 * length forced
+      by_link kept taken (Ok y) made e =
+          let same : y ≡ x = cc in
+          omega (arith, inputs_most 0 parts [] kept taken, link_most forced (objects kept) o x (made ∙ ap (λ (y : Outcome). Ok y) same))
+      by_link kept taken (Err fault) made e = absurd (cc)
+
+      by_taken : (r : Result (List Labelled) inputs.Refusal) → with_inputs forced [] (numbered 0 parts) ≡ r →
+          refused_as refusal_of (and_then r (λ kept. refused_as inputs.not_linked (link forced (objects kept) o))) ≡ Ok x →
+          length (encoding x.file) ≤ 16 + sum_by length parts + 12 * length forced
+      by_taken (Ok kept) taken e = by_link kept taken (link forced (objects kept) o) refl e
+      by_taken (Err refusal) taken e = absurd (cc)
+
+-- ---- the calls
+
+module _ (bytes size most : ℕ) (enough : most_of bytes size ≤ most) where
+  most_of_runs : (w : Wants) (bits : ℕ) (entry names : List ℕ) (parts : List (List ℕ)) (x : RunOutput) →
+      sum_by length parts ≤ bytes → length names ≤ size → link_run w bits entry names parts ≡ Ok x → length x.file ≤ most
+  most_of_runs w bits entry names parts x few short h = by_choices (choices_in bits entry) h
+    where
+      by_taken : (forced : List (List ℕ)) (o : Choices) → forced_in names ≡ Ok forced → (r : Result (List Contents) Refusal) →
+          (s : Result Outcome Refusal) → parts_linked forced o parts ≡ s →
+          and_then r (λ os. and_then s (λ y. Ok (run_output w forced os y))) ≡ Ok x → length x.file ≤ most
+      by_taken forced o named (Ok os) (Ok y) linked e =
+          let given : run_output w forced os y ≡ x = cc in
+          omega (
+            arith,
+            enough,
+            few,
+            short,
+            parts_most forced o parts y linked,
+            forced_most names forced named,
+            ap (λ (z : RunOutput). length z.file) given,
+          )
+      by_taken forced o named (Ok os) (Err refusal) linked e = absurd (cc)
+      by_taken forced o named (Err refusal) s linked e = absurd (cc)
+
+      by_forced : (o : Choices) (r : Result (List (List ℕ)) Refusal) → forced_in names ≡ r →
+          and_then r (λ forced. and_then (taken_each forced parts) (λ os. and_then (parts_linked forced o parts)
+          (λ y. Ok (run_output w forced os y)))) ≡ Ok x → length x.file ≤ most
+      by_forced o (Ok forced) named e = by_taken forced o named (taken_each forced parts) (parts_linked forced o parts) refl e
+      by_forced o (Err refusal) named e = absurd (cc)
+
+      by_choices : (r : Result Choices Cause) → and_then (at 0 r) (λ o. and_then (forced_in names) (λ forced.
+          and_then (taken_each forced parts) (λ os. and_then (parts_linked forced o parts) (λ y. Ok (run_output w forced os y))))) ≡ Ok x →
+          length x.file ≤ most
+      by_choices (Ok o) e = by_forced o (forced_in names) refl e
+      by_choices (Err cause) e = absurd (cc)
+
+  most_of_sessions : (w : Wants) (bits : ℕ) (entry : List ℕ) (k : Kept) (x : RunOutput) → bytes_in_all (objects k.entries) ≤ bytes →
+      8 * length k.forced ≤ size → kept_run w bits entry k ≡ Ok x → length x.file ≤ most
+  most_of_sessions w bits entry k x few short h = by_choices (choices_in bits entry) h
+    where
+      by_link : (o : Choices) (r : Result Outcome LinkFault) → link k.forced (objects k.entries) o ≡ r →
+          and_then (refused_as NotLinked r) (λ y. Ok (output_with w [] y)) ≡ Ok x → length x.file ≤ most
+      by_link o (Ok y) made e =
+          let given : output_with w [] y ≡ x = cc in
+          omega (
+            arith,
+            enough,
+            few,
+            short,
+            link_most k.forced (objects k.entries) o y made,
+            ap (λ (z : RunOutput). length z.file) given,
+          )
+      by_link o (Err fault) made e = absurd (cc)
+
+      by_choices : (r : Result Choices Cause) → and_then r (λ o. kept_with w o k) ≡ Ok x → length x.file ≤ most
+      by_choices (Ok o) e = by_link o (link k.forced (objects k.entries) o) refl e
+      by_choices (Err cause) e = absurd (cc)
+
+module _ (bytes size most : ℕ) (is : most ≡ min (most_of bytes size) (2 ^ 64 - 1)) (short : bytes + size < 2 ^ 63) where
+  pub runs_most : IsMostOfRuns bytes size most
+  runs_most = most_of_runs bytes size most (omega (arith, is, short))
+
+  pub sessions_most : IsMostOfSessions bytes size most
+  sessions_most = most_of_sessions bytes size most (omega (arith, is, short))

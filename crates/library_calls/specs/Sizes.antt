@@ -1,0 +1,27 @@
+-- How large the file of a link can be. (a.out(5), ld(1))
+--
+-- A link writes one header, and each word, relocation word and symbol of its objects at most once. It writes at most one symbol more
+-- for each forced name.
+use Rattle.std.specs.Prelude.{◌≡◌, ℕ, ◌+◌, ◌*◌, ◌/◌, ◌≤◌, List, length, sum_by, Ok}
+use Rattle.aout_core.specs.{Contents.Contents, Encoding.encoding}
+use Rattle.link_session.specs.{Labelled.objects, Undo.Kept}
+use Rattle.library_calls.specs.{declared.run_call.Wants.Wants, KeptAnswers.kept_run, RunAnswers.RunOutput, RunAnswers.link_run}
+
+-- for so many bytes of objects, and so many bytes of forced names
+abbrev pub most_of : ℕ → ℕ → ℕ
+most_of bytes forced = 16 + bytes + 12 * (forced / 8)
+
+abbrev pub bytes_in_all : List Contents → ℕ
+bytes_in_all os = sum_by (λ o. length (encoding o)) os
+
+-- no link of parts and forced names that have so many bytes gives a larger file
+abbrev pub IsMostOfRuns : ℕ → ℕ → ℕ → Type 0
+IsMostOfRuns bytes forced most =
+    (w : Wants) (bits : ℕ) (entry names : List ℕ) (parts : List (List ℕ)) (x : RunOutput) → sum_by length parts ≤ bytes →
+    length names ≤ forced → link_run w bits entry names parts ≡ Ok x → length x.file ≤ most
+
+-- no link of a session whose objects and forced names have so many bytes does
+abbrev pub IsMostOfSessions : ℕ → ℕ → ℕ → Type 0
+IsMostOfSessions bytes forced most =
+    (w : Wants) (bits : ℕ) (entry : List ℕ) (k : Kept) (x : RunOutput) → bytes_in_all (objects k.entries) ≤ bytes →
+    8 * length k.forced ≤ forced → kept_run w bits entry k ≡ Ok x → length x.file ≤ most
