@@ -3,11 +3,21 @@ use Rattle.std.proofs.Common.{◌≡◌, ◌≢◌, ℕ, Bool, List, [], ◌∷�
 use Rattle.std.specs.Prelude.{IfErr, IfOk, Result, Ok, Err}
 use Rattle.gnu_objects.specs.{Converted.converted, declared.options.Options.Options, declared.refusal.Refusal.Refusal}
 use Rattle.aout_core.specs.{Contents.Contents, Refusals.refused}
-use Rattle.surroundings.specs.{Answers.Faults, declared.answer.Fault.Fault}
+use Rattle.surroundings.specs.{Answer.Answer, Answers.Faults, declared.answer.Fault.Fault, declared.answer.Fault.TheVariants.Memory}
 use Rattle.v7_from_gnu.specs.Converting.{and_then, converted_from, outcome, target_of, target_with, with_names}
 use Rattle.v7_from_gnu.specs.{Jobs.Source, Jobs.Target, Plans.Plan, internal.Lists.RefusedAs}
-use Rattle.v7_from_gnu.proofs.StepLemmas.{step_ends, step_fails}
 use Rattle.gnu_objects.specs.declared.refusal.Refusal.TheVariants as refusals
+
+-- memory runs out for a step
+step_ends : {A : Type 0} (r : Result A Answer) (fault : Fault) → fault ≡ Memory refused → Faults r fault
+step_ends (Ok x) fault h = h
+step_ends (Err a) fault h = inr h
+
+-- the first step has a fault
+pub step_fails : {A B : Type 0} (r : Result A Answer) (next : A → Result B Answer) (fault : Fault) → Faults r fault →
+    Faults (and_then r next) fault
+step_fails (Ok x) next fault h = step_ends (next x) fault h
+step_fails (Err a) next fault h = h
 
 -- one is not converted
 pub converting_fails : (options : Options) (done : List Target) (all left later : List Source) (source : Source)

@@ -1,4 +1,3 @@
-pub mod StepLemmas
 pub mod ReadingLemmas
 pub mod LookLemmas
 pub mod ConvertingLemmas

@@ -1,25 +1,13 @@
 -- Objects that are stored one after another.
-use Rattle.std.proofs.Common.{◌≡◌, ℕ, ◌<◌, List, [], ◌∷◌, length, drop, get_or, drop-cons, suc, Some, None, refl, sym, ap, ◌∙◌, subst}
+use Rattle.std.proofs.Common.{◌≡◌, ℕ, ◌<◌, List, [], ◌∷◌, length, drop, get_or, drop-cons, suc, Some, refl, sym, ap, ◌∙◌, subst}
 use Rattle.aout_core.specs.Contents.{Contents}
 use Rattle.std.specs.Prelude.{Result}
 use Rattle.surroundings.specs.{Answer.Answer, Events.History, Events.Extends, Events.stored, Sources.stored_text}
 use Rattle.surroundings.specs.{declared.answer.Fault.Fault, declared.office.Stored.Stored, Answers.AnswersOr}
 use Rattle.v7_from_gnu.specs.{Runs.IsStoring, Runs.not_stored, Runs.unless_said, Jobs.Target}
 
--- one is stored
-pub stores_one : (remarks : List ℕ) (old between new : History) (t : Target) (ts : List Target) (what : Stored)
-    (result : Result Answer Fault) → Extends old between (stored t.source.to t.object what ∷ []) →
-    stored_text what ≡ None → IsStoring remarks ts between new result → IsStoring remarks (t ∷ ts) old new result
-stores_one remarks old between new t ts what result asked is h = (
-  what,
-  between,
-  asked,
-  subst (λ said. unless_said said (IsStoring remarks ts between new result)
-      (λ why. (new ≡ between) × AnswersOr result (not_stored remarks t.source.to why))) (sym is) h,
-)
-
 -- one is not stored
-pub stores_none : (remarks : List ℕ) (old new : History) (t : Target) (ts : List Target) (what : Stored) (why : List ℕ)
+stores_none : (remarks : List ℕ) (old new : History) (t : Target) (ts : List Target) (what : Stored) (why : List ℕ)
     (result : Result Answer Fault) → Extends old new (stored t.source.to t.object what ∷ []) →
     stored_text what ≡ Some why → AnswersOr result (not_stored remarks t.source.to why) → IsStoring remarks (t ∷ ts) old new result
 stores_none remarks old new t ts what why result asked is h = (

@@ -1,15 +1,14 @@
 -- What came of adding the file at a path.
-use Rattle.aout_core.specs.{Refusals.refused, declared.file.ReadFault.ReadFault, declared.object.ObjectFault.ObjectFault, Contents.Contents}
+use Rattle.std.proofs.Common.{rules}
+use Rattle.aout_core.specs.{Refusals.refused, declared.file.ReadFault.ReadFault, Contents.Contents}
 use Rattle.aout_core.specs.{Decoding.decode, Reading.IsReadOf, Reading.LeavesAfter}
-use Rattle.std.specs.{declared.alloc.Global.Global, Prelude.String, Prelude.string_bytes, Prelude.IfSome, Prelude.IsErrAnd, Prelude.IsOk}
-use Rattle.std.proofs.Common.{◌≡◌, ℕ, List, [], ◌∷◌, ◌++◌, Option, Some, None, Result, Ok, Err, refl, sym, ap, ◌∙◌, subst, inl, inr}
+use Rattle.std.specs.{declared.alloc.Global.Global, Prelude.String, Prelude.IfSome}
+use Rattle.std.proofs.Common.{◌≡◌, ℕ, List, Option, Some, None, Result, Ok, Err, refl, sym, ap, ◌∙◌, inl, inr}
 use Rattle.link_session.specs.Sessions.{Adds, IsCause, labelled}
 use Rattle.link_session.specs.{declared.entry.AddFault.AddFault, Limits.refusal, Labelled.Labelled, Labelled.objects, Undo.Kept}
-use Rattle.link_session.proofs.EditLemmas.{limit_is, within_limits}
 use Rattle.v7tools.specs.{declared.fault.CliFault.CliFault, FaultTexts.fault_of_addition, Loads.read_of, Loads.IsAtPath}
 use Rattle.v7tools.specs.{LinkAnswers.WantsMemory, internal.InputParts.IsCheckOf, internal.StepParts.IsFound, internal.StepParts.IsAddition}
-use Rattle.link_out.specs.Steps.{unless}
-use Rattle.link_out.specs.Inputs.{Cause, bad_file, bad_object, not_added, object_in, kept_with, with_input}
+use Rattle.link_out.specs.Inputs.{Cause, bad_file, bad_object, not_added, object_in}
 use Rattle.aout_core.specs.declared.file.ReadFault.TheVariants as reads
 use Rattle.link_session.specs.declared.entry.AddFault.TheVariants as adds
 use Rattle.v7tools.specs.declared.fault.CliFault.TheVariants as faults
@@ -32,11 +31,7 @@ wants_memory : (known : Option (List ℕ)) (forced : List (List ℕ)) (kept : Li
     IsFound known (Ok o) → refusal forced (objects kept) o ≡ None → IfSome known (WantsMemory forced kept path)
 wants_memory None forced kept path o h within = tt
 wants_memory (Some bytes) forced kept path o (inl e) within = absurd (cc)
-wants_memory (Some bytes) forced kept path o (inr e) within =
-    let accepted : with_input forced kept path bytes ≡ Ok (kept ++ (record { label = path; object = o }) ∷ []) =
-    ap (kept_with forced kept path) (sym e)
-    ∙ ap (λ (x : Option AddFault). unless not_added x (kept ++ (record { label = path; object = o }) ∷ [])) within in
-    inr (subst IsOk (sym accepted) refl)
+wants_memory (Some bytes) forced kept path o (inr e) within = search rules
 
 -- so may what the header announces
 header_wants : (known left : Option (List ℕ)) (forced : List (List ℕ)) (kept : List Labelled) (path : List ℕ) →
@@ -55,7 +50,7 @@ bad_read known left old path at fault same encodes read = (
   inr (record {
     found = Err (bad_file fault);
     cause = bad_file fault;
-    is_found = inr (found_at known left (Err fault) (Err (bad_file fault)) refl encodes read);
+    is_found = inr (found_at _ _ _ _ refl encodes read);
     refuses = refl;
     names = ap (λ (p : String Global). faults.BadFile p fault) same;
   }),
@@ -78,26 +73,9 @@ pub addition_unread : (known left : Option (List ℕ)) (old : Kept) (path : Stri
     IsAtPath path (Err fault) → IsReadWhereKnown known left (read_of (Err fault)) → IsAddition known old old path (Err fault)
 addition_unread known left old path (faults.BadFile at reads.Device) a h = failed_read known old path at a.0
 addition_unread known left old path (faults.BadFile at (reads.Memory _)) a h = absurd (a.1 refl)
-addition_unread known left old path (faults.BadFile at reads.ShortHeader) a h =
-    bad_read known left old path at reads.ShortHeader a.0 (λ bytes read. read) h
-addition_unread known left old path (faults.BadFile at reads.BadMagic) a h =
-    bad_read known left old path at reads.BadMagic a.0 (λ bytes read. read) h
-addition_unread known left old path (faults.BadFile at reads.OddSize) a h =
-    bad_read known left old path at reads.OddSize a.0 (λ bytes read. read) h
-addition_unread known left old path (faults.BadFile at reads.Truncated) a h =
-    bad_read known left old path at reads.Truncated a.0 (λ bytes read. read) h
-addition_unread known left old path (faults.Memory _) a h =
-    (refl, inl (refl, header_wants known left old.forced old.entries (string_bytes path) h))
-addition_unread known left old path faults.Usage a h = absurd a
-addition_unread known left old path (faults.CannotOpen at) a h = absurd a
-addition_unread known left old path (faults.BadObject at f) a h = absurd a
-addition_unread known left old path (faults.NotAdded at f) a h = absurd a
-addition_unread known left old path (faults.NotLinked f) a h = absurd a
-addition_unread known left old path (faults.CannotCreate at) a h = absurd a
-addition_unread known left old path faults.WriteFailed a h = absurd a
-addition_unread known left old path faults.LongLine a h = absurd a
-addition_unread known left old path faults.ManyLines a h = absurd a
-addition_unread known left old path faults.ScriptFailed a h = absurd a
+addition_unread known left old path (faults.BadFile at fault) a h = bad_read known left old path at fault a.0 (λ bytes read. read) h
+addition_unread known left old path (faults.Memory _) a h = search rules
+addition_unread known left old path fault a h = absurd a
 
 -- a file that is no object
 pub addition_unchecked : (known left : Option (List ℕ)) (old : Kept) (path p : String Global) (c : Contents) (fault : CliFault) →
@@ -107,9 +85,7 @@ addition_unchecked known left old path p c fault same read (cause, is, bad) = (
   inr (record {
     found = Err (bad_object cause);
     cause = bad_object cause;
-    is_found =
-        inr (found_at known left (Ok c) (Err (bad_object cause))
-        (ap (λ (x : Option ObjectFault). unless bad_object x c) bad) (λ bytes encoded. encoded) read);
+    is_found = search rules;
     refuses = refl;
     names = is ∙ ap (λ (q : String Global). faults.BadObject q cause) same;
   }),
@@ -118,9 +94,7 @@ addition_unchecked known left old path p c fault same read (cause, is, bad) = (
 -- an object that was read at a path
 pub read_object : (known left : Option (List ℕ)) (p q : String Global) (c o : Contents) →
     IsReadWhereKnown known left (Ok c) → IsCheckOf p c (Ok (q, o)) → IsFound known (Ok o)
-read_object known left p q c o read checked =
-    inr (found_at known left (Ok c) (Ok o) (ap (λ (x : Option ObjectFault). unless bad_object x c) checked.2
-    ∙ ap (λ (x : Contents). Ok x) (sym checked.1)) (λ bytes encoded. encoded) read)
+read_object known left p q c o read checked = search rules
 
 -- an object that is not added
 not_fit : (known : Option (List ℕ)) (old new : Kept) (path label : String Global) (o : Contents) (cause : AddFault) →
@@ -132,9 +106,7 @@ not_fit known old new path label o cause is_found same why real unchanged = (
     found = Ok o;
     cause = not_added cause;
     is_found = is_found;
-    refuses =
-        ap (λ (x : Option AddFault). unless not_added x (old.entries ++ (record { label = string_bytes path; object = o }) ∷ []))
-        (limit_is (refusal old.forced (objects old.entries) o) cause why real);
+    refuses = search rules;
     names = ap (λ (p : String Global). faults.NotAdded p cause) same;
   }),
 )
@@ -144,42 +116,14 @@ pub addition_refused : (known : Option (List ℕ)) (old new : Kept) (path label 
     IsFound known (Ok o) → label ≡ path →
     IsCause (refusal old.forced (objects old.entries) o) cause → new ≡ old →
     IsAddition known old new path (Err (fault_of_addition label cause))
-addition_refused known old new path label o (adds.Memory _) found same why unchanged = (
-  unchanged,
-  inl (
-    refl,
-    wants_memory known old.forced old.entries (string_bytes path) o found (within_limits old.forced (objects old.entries) o why),
-  ),
-)
-addition_refused known old new path label o adds.TextFull found same why unchanged =
-    not_fit known old new path label o adds.TextFull found same why (λ e. absurd (cc)) unchanged
-addition_refused known old new path label o adds.DataFull found same why unchanged =
-    not_fit known old new path label o adds.DataFull found same why (λ e. absurd (cc)) unchanged
-addition_refused known old new path label o adds.BssFull found same why unchanged =
-    not_fit known old new path label o adds.BssFull found same why (λ e. absurd (cc)) unchanged
-addition_refused known old new path label o adds.NamesFull found same why unchanged =
-    not_fit known old new path label o adds.NamesFull found same why (λ e. absurd (cc)) unchanged
+addition_refused known old new path label o (adds.Memory _) found same why unchanged = search rules
+addition_refused known old new path label o cause found same why unchanged = search (rules, not_fit)
 
 -- it is added
 pub addition_made : (known : Option (List ℕ)) (old new : Kept) (path label : String Global) (o : Contents) →
     IsFound known (Ok o) → label ≡ path → refusal old.forced (objects old.entries) o ≡ None →
     Adds old new (labelled label o) → IsAddition known old new path (Ok tt)
-addition_made known old new path label o found same within adds =
-    let added : Adds old new (labelled path o) = subst (λ (p : String Global). Adds old new (labelled p o)) same adds in (
-      o,
-      record {
-        adds = added;
-        is_found = found;
-        accepts =
-            ap (λ (limit : Option AddFault). unless not_added limit (old.entries ++ labelled path o ∷ [])) within
-            ∙ ap (λ (es : List Labelled). Ok es) (sym added.entries);
-      },
-    )
-
--- a fault that is carried on
-pub carried : (r : Result (Unit {0}) CliFault) (fault : CliFault) → IsErrAnd r (λ f. f ≡ fault) → r ≡ Err fault
-carried (Ok x) fault h = absurd h
-carried (Err f) fault h = ap (λ (x : CliFault). Err x) h
+addition_made known old new path label o found same within adds = search rules
 
 -- an addition leaves the forced names
 pub forced_kept : (known : Option (List ℕ)) (old new : Kept) (path : String Global) (r : Result (Unit {0}) CliFault) →

@@ -4,10 +4,10 @@ use Rattle.std.specs.{declared.alloc.Global.Global, Prelude.String, Prelude.stri
 use Rattle.std.proofs.Common.{◌≡◌, ◌≢◌, ℕ, false, List, [], ◌∷◌, Option, Some, None, option_and_then, option_map, Result, Ok, Err, refl}
 use Rattle.std.proofs.Common.{sym, ap, ◌∙◌, subst, inl, inr}
 use Rattle.link_session.specs.{Labelled.Labelled, Labelled.objects, Sessions.nothing_kept, Undo.Kept}
-use Rattle.link_out.specs.Inputs.{Cause, cannot_open, bad_file, bad_object, not_added, Refusal, of_input, not_linked, object_in, kept_with}
+use Rattle.link_out.specs.Inputs.{Cause, cannot_open, bad_file, not_added, Refusal, of_input, not_linked, object_in, kept_with}
 use Rattle.link_out.specs.Inputs.{with_input, with_inputs, at_path, linked}
 use Rattle.link_out.specs.{declared.linked.Linked.Linked, declared.linked.LinkFault.LinkFault, Steps.and_then, Steps.refused_as}
-use Rattle.link_out.specs.{function.Link.Outcome, function.Link.link, Outcomes.outcome_of}
+use Rattle.link_out.specs.{function.Link.Outcome, function.Link.link}
 use Rattle.tool_options.specs.Choices.{Choices}
 use Rattle.v7tools.specs.LinkAnswers.{Input, Said, said_by, refuses, breaks, runs_out, never, Takes, Rejects, WantsMemory, StopsAt}
 use Rattle.v7tools.specs.LinkAnswers.{TakesAll, StopsIn, HasNoLink, MayLackMemory, IsNotLinked, IsLinkOver, known_inputs, IsTrueOf}
@@ -62,25 +62,9 @@ module _ (i : Input) (path : String Global) (at : string_bytes path ≡ i.path) 
   stops_for found cannot_open possible works is_found h = absurd possible
   stops_for found (bad_file reads.Device) possible works is_found h = at
   stops_for found (bad_file (reads.Memory _)) possible works is_found h = absurd possible
-  stops_for found (bad_file reads.ShortHeader) possible works is_found h =
-      (at, rejects_found found (bad_file reads.ShortHeader) (λ e. absurd (cc)) (works (λ e. absurd (cc))) is_found h)
-  stops_for found (bad_file reads.BadMagic) possible works is_found h =
-      (at, rejects_found found (bad_file reads.BadMagic) (λ e. absurd (cc)) (works (λ e. absurd (cc))) is_found h)
-  stops_for found (bad_file reads.OddSize) possible works is_found h =
-      (at, rejects_found found (bad_file reads.OddSize) (λ e. absurd (cc)) (works (λ e. absurd (cc))) is_found h)
-  stops_for found (bad_file reads.Truncated) possible works is_found h =
-      (at, rejects_found found (bad_file reads.Truncated) (λ e. absurd (cc)) (works (λ e. absurd (cc))) is_found h)
-  stops_for found (bad_object fault) possible works is_found h =
-      (at, rejects_found found (bad_object fault) (λ e. absurd (cc)) (works (λ e. absurd (cc))) is_found h)
   stops_for found (not_added (adds.Memory _)) possible works is_found h = absurd possible
-  stops_for found (not_added adds.TextFull) possible works is_found h =
-      (at, rejects_found found (not_added adds.TextFull) (λ e. absurd (cc)) (works (λ e. absurd (cc))) is_found h)
-  stops_for found (not_added adds.DataFull) possible works is_found h =
-      (at, rejects_found found (not_added adds.DataFull) (λ e. absurd (cc)) (works (λ e. absurd (cc))) is_found h)
-  stops_for found (not_added adds.BssFull) possible works is_found h =
-      (at, rejects_found found (not_added adds.BssFull) (λ e. absurd (cc)) (works (λ e. absurd (cc))) is_found h)
-  stops_for found (not_added adds.NamesFull) possible works is_found h =
-      (at, rejects_found found (not_added adds.NamesFull) (λ e. absurd (cc)) (works (λ e. absurd (cc))) is_found h)
+  stops_for found cause possible works is_found h =
+      (at, rejects_found found cause (λ e. absurd (cc)) (works (λ e. absurd (cc))) is_found h)
 
   pub stops_at : (new : Kept) (fault : CliFault) → IsPossible (said_by fault) →
       ((fault ≡ faults.BadFile path reads.Device → ⊥) → i.has_failed ≡ false) → IsAddition i.known old new path (Err fault) →
@@ -111,9 +95,8 @@ first_known i is all h = by_parts i.known (known_inputs is) refl refl h
   where
     by_parts : (d : Option (List ℕ)) (t : Option (List (List ℕ × List ℕ))) → i.known ≡ d → known_inputs is ≡ t →
         option_and_then (λ bytes. option_map (λ rest. (i.path, bytes) ∷ rest) t) d ≡ Some all → FirstKnown i is all
-    by_parts None t e f h = absurd (cc)
-    by_parts (Some bytes) None e f h = absurd (cc)
     by_parts (Some bytes) (Some later) e f h = record { bytes = bytes; later = later; known = e; others = f; split = cc }
+    by_parts d t e f h = absurd (cc)
 
 -- what is known of bytes that are known
 known_bytes : (known : Option (List ℕ)) (bytes : List ℕ) (P : List ℕ → Type 0) → known ≡ Some bytes → IfSome known P → P bytes
@@ -149,9 +132,8 @@ module _ (forced : List (List ℕ)) where
   pub said_of_whole : {A B : Type 0} (s : Said) (part : Result A Refusal) (rest : A → Result B Refusal) →
       IsTrueOf s part → IsTrueOf s (and_then part rest)
   said_of_whole {A} (refuses r) part rest h = ap (λ (x : Result A Refusal). and_then x rest) h
-  said_of_whole (breaks path) part rest h = tt
-  said_of_whole runs_out part rest h = tt
   said_of_whole never part rest h = h
+  said_of_whole said part rest h = tt
 
   said_at : (kept : List Labelled) (i : Input) (bytes : List ℕ) (said : Said) → i.known ≡ Some bytes →
       StopsAt forced kept i said → IsTrueOf said (at_path i.path (with_input forced kept i.path bytes))
@@ -160,9 +142,8 @@ module _ (forced : List (List ℕ)) where
       (sym (known_bytes i.known bytes (λ bytes. h.found ≡ object_in (decode bytes)) known h.is_found)) ∙ h.rejects)
       ∙ ap (λ (p : List ℕ). Err (of_input p cause)) (sym at)
   said_at kept i bytes (refuses (not_linked fault)) known h = absurd h
-  said_at kept i bytes (breaks path) known h = tt
-  said_at kept i bytes runs_out known h = tt
   said_at kept i bytes never known h = absurd h
+  said_at kept i bytes said known h = tt
 
   stops_bytes : (is : List Input) (kept : List Labelled) (all : List (List ℕ × List ℕ)) (said : Said) →
       known_inputs is ≡ Some all → StopsIn forced kept is said → IsTrueOf said (with_inputs forced kept all)
@@ -183,11 +164,8 @@ module _ (forced : List (List ℕ)) where
     linked_of kept h = ap (λ (x : Result (List Labelled) Refusal). and_then x link_kept) (takes_bytes is [] kept all e h)
 
     no_link_of : (x : Result Outcome LinkFault) (said : Said) → HasNoLink x said → IsTrueOf said (refused_as not_linked x)
-    no_link_of x (refuses (of_input path cause)) h = absurd h
     no_link_of x (refuses (not_linked fault)) h = ap (refused_as not_linked) h
-    no_link_of x (breaks path) h = absurd h
-    no_link_of x runs_out h = absurd h
-    no_link_of x never h = absurd h
+    no_link_of x said h = absurd h
 
     not_linked_of : (said : Said) → IsNotLinked forced o is said → IsTrueOf said (linked forced all o)
     not_linked_of runs_out h = tt
@@ -247,10 +225,8 @@ stops_in forced kept left (i ∷ is) said (inr (next, takes, rest)) = inr (next,
 -- so there is no link
 not_linked_in : (forced : List (List ℕ)) (o : Choices) (is : List Input) (said : Said) → StopsIn forced [] is said →
     IsNotLinked forced o is said
-not_linked_in forced o is (refuses r) h = inl h
-not_linked_in forced o is (breaks path) h = inl h
 not_linked_in forced o is runs_out h = runs_out_in forced is h
-not_linked_in forced o is never h = inl h
+not_linked_in forced o is said h = inl h
 
 -- ---- the final link
 
@@ -261,10 +237,8 @@ final_fault x cause (Ok l) h e = absurd e
 final_fault x cause (Err f) h e = subst (λ (f : CliFault). IsFinalLink x (Err f)) (sym e) (by_cause cause h)
   where
     by_cause : (cause : LinkFault) → outcomes.IsLinkOf (Err cause) x → IsFinalLink x (Err (fault_of_link cause))
-    by_cause links.DoesNotFit h = h
-    by_cause links.TooManySymbols h = h
-    by_cause links.SymbolNumber h = h
     by_cause (links.Memory _) h = h
+    by_cause cause h = h
 
 -- ---- the link of what was taken
 
@@ -299,19 +273,8 @@ module _ (forced : List (List ℕ)) (o : Choices) (is : List Input) (old new : K
       by_final (Ok l) f = record { kept = new.entries; taken = taken; link = f }
       by_final (Err (faults.Memory _)) f = runs_out_after forced is new.entries taken
       by_final (Err (faults.NotLinked (links.Memory _))) f = absurd f
-      by_final (Err (faults.NotLinked links.DoesNotFit)) f = inr (record { kept = new.entries; taken = taken; none = f })
-      by_final (Err (faults.NotLinked links.TooManySymbols)) f = inr (record { kept = new.entries; taken = taken; none = f })
-      by_final (Err (faults.NotLinked links.SymbolNumber)) f = inr (record { kept = new.entries; taken = taken; none = f })
-      by_final (Err (faults.BadFile at fault)) f = absurd f
-      by_final (Err (faults.BadObject at fault)) f = absurd f
-      by_final (Err (faults.NotAdded at fault)) f = absurd f
-      by_final (Err (faults.CannotOpen at)) f = absurd f
-      by_final (Err (faults.CannotCreate at)) f = absurd f
-      by_final (Err faults.Usage) f = absurd f
-      by_final (Err faults.WriteFailed) f = absurd f
-      by_final (Err faults.LongLine) f = absurd f
-      by_final (Err faults.ManyLines) f = absurd f
-      by_final (Err faults.ScriptFailed) f = absurd f
+      by_final (Err (faults.NotLinked fault)) f = inr (record { kept = new.entries; taken = taken; none = f })
+      by_final (Err fault) f = absurd f
 
 -- memory runs out for forced names
 pub no_names : (forced : List (List ℕ)) (o : Choices) (is : List Input) (r : Result Linked CliFault) → forced ≢ [] →

@@ -1,20 +1,13 @@
 -- Histories that grow.
-use Rattle.std.specs.{declared.alloc.Global.Global, Prelude.IsErrAnd, Prelude.String, Prelude.string_bytes, List.AllByRecursion}
-use Rattle.std.proofs.Common.{◌≡◌, ℕ, List, [], ◌∷◌, ◌++◌, map, Option, Some, None, Result, Ok, Err, refl, sym, ap, ◌∙◌, subst}
-use Rattle.std.proofs.lemmas.List.{append_assoc, append-nil}
+use Rattle.std.proofs.Common.{rules}
+use Rattle.std.specs.{declared.alloc.Global.Global, Prelude.IsErrAnd, Prelude.String, Prelude.string_bytes}
+use Rattle.std.proofs.Common.{◌≡◌, ℕ, List, [], ◌∷◌, ◌++◌, map, Option, Some, None, Result, Ok, Err, refl, sym, ap, ◌∙◌}
+use Rattle.std.proofs.lemmas.List.{append_assoc, append-nil, map-append}
 use Rattle.v7tools.specs.{declared.fault.CliFault.CliFault, internal.Openings.sources, LinkRuns.StopsAt}
 use Rattle.aout_core.specs.{Wires.Latched, Contents.Contents}
 use Rattle.surroundings.proofs.EventLemmas.{asked_after}
 use Rattle.surroundings.specs.Events.{History, Extends, opened, opens, paths_of, stored}
 use Rattle.surroundings.specs.declared.office.Stored.{Stored}
-
-pub map-append : {A B : Type 0} (f : A → B) (xs ys : List A) → map f (xs ++ ys) ≡ map f xs ++ map f ys
-map-append f [] ys = refl
-map-append {A} {B} f (x ∷ xs) ys = ap (λ (l : List B). f x ∷ l) (map-append f xs ys)
-
-pub all_after : {A : Type 0} (P : A → Type 0) (xs : List A) (x : A) → AllByRecursion P xs → P x → AllByRecursion P (xs ++ x ∷ [])
-all_after P [] x h p = (p, tt)
-all_after P (y ∷ ys) x h p = (h.0, all_after P ys x h.1 p)
 
 -- none are left
 pub no_more : {A : Type 0} (all before left : List A) → all ≡ before ++ left → left ≡ [] → all ≡ before
@@ -31,9 +24,7 @@ module _ {R : Type 0} (remaining : R → Option (List ℕ)) where
       Extends a b (opens (sources remaining inputs)) →
       Extends b c (opened (string_bytes i.0) (Some (remaining i.1.device)) ∷ []) →
       Extends a c (opens (sources remaining (inputs ++ i ∷ [])))
-  opens_more a b c inputs i h k =
-      subst (Extends a c) (sym (ap opens (map-append _ inputs (i ∷ [])) ∙ map-append _ (sources remaining inputs) _))
-      (asked_after a b c _ _ h k)
+  opens_more a b c inputs i h k = search (rules, map-append, asked_after)
 
   -- the paths of the files that were opened
   pub paths_opened : (inputs : List (String Global × Latched R)) →
@@ -45,15 +36,7 @@ module _ {R : Type 0} (remaining : R → Option (List ℕ)) where
       (inputs : List (String Global × Latched R)) → Extends a b (opens (sources remaining inputs)) →
       files ≡ map (λ i. i.0) inputs ++ left → left ≡ path ∷ later → Extends b c (opened (string_bytes path) None ∷ []) →
       StopsAt a c (map string_bytes files) (string_bytes path)
-  stops_at a b c files left later path inputs h order e k = record {
-    found = sources remaining inputs;
-    rest = map string_bytes later;
-    order =
-        ap (map string_bytes) (order ∙ ap (λ (l : List (String Global)). map (λ i. i.0) inputs ++ l) e)
-        ∙ map-append string_bytes (map (λ i. i.0) inputs) (path ∷ later)
-        ∙ ap (λ (l : List (List ℕ)). l ++ string_bytes path ∷ map string_bytes later) (paths_opened inputs);
-    asked = asked_after a b c _ _ h k;
-  }
+  stops_at a b c files left later path inputs h order e k = search (rules, map-append, paths_opened, asked_after)
 
 pub opened_at : (b c : History) (at path : List ℕ) (came known : Option (Option (List ℕ))) →
     Extends b c (opened at came ∷ []) → at ≡ path → came ≡ known → Extends b c (opened path known ∷ [])

@@ -1,40 +1,34 @@
 -- Files that are read and stored one after another, and lists of them, from their parts.
+use Rattle.std.proofs.Common.{rules}
 use Rattle.std.specs.{declared.alloc.Global.Global, Prelude.String, Prelude.string_bytes, Prelude.IfSome}
-use Rattle.std.proofs.Common.{◌≡◌, ℕ, List, [], ◌∷◌, ◌++◌, map, Option, Some, Ok, Err, refl, sym, ap, ◌∙◌, subst, inr}
+use Rattle.std.proofs.Common.{◌≡◌, ℕ, List, [], ◌∷◌, ◌++◌, map, Option, Ok, Err, refl, sym, ap, ◌∙◌, subst, inr}
+use Rattle.std.proofs.lemmas.List.{map-append}
 use Rattle.aout_core.specs.{Contents.Contents, Decoding.decode, Strip.stripped}
-use Rattle.surroundings.specs.Events.{Event, History, Extends, Opened, opened, stored}
+use Rattle.surroundings.specs.Events.{Event, History, Extends, Opened, stored}
 use Rattle.surroundings.specs.declared.office.Stored.{Stored}
-use Rattle.surroundings.specs.declared.office.Stored.TheVariants.{Kept, NotCreated, Failed}
+use Rattle.surroundings.specs.declared.office.Stored.TheVariants.{Kept}
 use Rattle.v7tools.specs.FileRuns.{AreRead, IsStored, IsLoadAt, IsStripping, Loaded, Reads, ReadsNotAll, strips}
 use Rattle.v7tools.specs.declared.fault.CliFault.{CliFault}
 use Rattle.surroundings.proofs.EventLemmas.{asked_after}
-use Rattle.v7tools.proofs.EventLemmas.{map-append, one_more}
+use Rattle.v7tools.proofs.EventLemmas.{one_more}
 
 read_after : (found : List Opened) (loaded : List Loaded) (known : Option (List ℕ)) (l : Loaded) → AreRead found loaded →
     IfSome known (λ bytes. decode bytes ≡ Ok l.1) → AreRead (found ++ (string_bytes l.0, known) ∷ []) (loaded ++ l ∷ [])
 read_after [] [] known l h k = ((refl, k), tt)
 read_after [] (m ∷ ms) known l h k = absurd h
 read_after (f ∷ fs) [] known l h k = absurd h
-read_after (f ∷ fs) (m ∷ ms) known l h k = (h.0, read_after fs ms known l h.1 k)
+read_after (f ∷ fs) (m ∷ ms) known l h k = (h.0, read_after fs ms _ l h.1 k)
 
 -- one more file is read
 pub reads_more : (a b c : History) (loaded : List Loaded) (path : String Global) (l : Loaded) → Reads a b loaded →
     IsLoadAt b c path (Ok l) → Reads a c (loaded ++ l ∷ [])
-reads_more a b c loaded path l h k = record {
-  found = h.found ++ (string_bytes l.0, k.1.0) ∷ [];
-  read = read_after h.found loaded k.1.0 l h.read k.1.2;
-  asked =
-      subst (Extends a c) (sym (map-append _ h.found _)) (asked_after a b c _ _ h.asked
-      (subst (λ (p : String Global). Extends b c (opened (string_bytes p) (Some k.1.0) ∷ [])) (sym k.0) k.1.1));
-}
+reads_more a b c loaded path l h k = search (rules, read_after, map-append, asked_after)
 
 -- the paths of what was read and those that are left
 pub paths_more : (files left later : List (String Global)) (loaded : List Loaded) (path : String Global) (l : Loaded) →
     files ≡ map (λ f. f.0) loaded ++ left → left ≡ path ∷ later → l.0 ≡ path →
     files ≡ map (λ f. f.0) (loaded ++ l ∷ []) ++ later
-paths_more files left later loaded path l h e same =
-    subst (λ (xs : List (String Global)). files ≡ xs ++ later) (sym (map-append (λ (f : Loaded). f.0) loaded (l ∷ [])))
-    (one_more files (map (λ f. f.0) loaded) left later l.0 h (e ∙ ap (λ (p : String Global). p ∷ later) (sym same)))
+paths_more files left later loaded path l h e same = search (rules, map-append, one_more)
 
 -- one is not read
 pub stops_reading : (a b c : History) (files left later : List (String Global)) (loaded : List Loaded) (path : String Global)
@@ -59,8 +53,7 @@ strips_all loaded = map (λ l. strips l Kept) loaded
 pub strips_more : (a b c : History) (done : List Loaded) (l : Loaded) (what : Stored) → Extends a b (strips_all done) →
     Extends b c (strips l what ∷ []) → IsStored l.0 what (Ok tt) → Extends a c (strips_all (done ++ l ∷ []))
 strips_more a b c done l Kept h k is = subst (Extends a c) (sym (map-append _ done (l ∷ []))) (asked_after a b c _ _ h k)
-strips_more a b c done l NotCreated h k is = absurd (cc)
-strips_more a b c done l Failed h k is = absurd (cc)
+strips_more a b c done l what h k is = absurd (cc)
 
 -- one is not stored
 pub stops_storing : (a b c : History) (loaded done left later : List Loaded) (l : Loaded) (what : Stored) (fault : CliFault) →

@@ -76,9 +76,8 @@ module _ {W : Type 0} (contents : W → Option (List ℕ)) where
   broke_off : (v : Verdict) (answer : List ℕ) (fault : CliFault) (before after : Latched W) →
       GoesOut contents v answer (Err fault) before after →
       IsTrue after.has_failed × AppendsPrefix (contents before.device) (contents after.device) answer
-  broke_off done answer fault before after h = (h.fault.0 refl, h.bytes)
-  broke_off refused answer fault before after h = (h.fault.0 refl, h.bytes)
   broke_off (to_store x) answer fault before after h = absurd (cc)
+  broke_off v answer fault before after h = (h.fault.0 refl, h.bytes)
 
   pub answers_fault : (did : Stepped) (left : Kept) (fault : CliFault) (result : Result ℕ CliFault) (before after : Latched W) →
       Does contents did left (Err fault) before after → fault ≡ faults.WriteFailed → result ≡ Err fault →
@@ -98,9 +97,8 @@ module _ {W : Type 0} (contents : W → Option (List ℕ)) where
       ((x : Outcome) → v ≡ to_store x → ⊥) → GoesOut contents v answer (Ok s) before after →
       (IsErr {E = CliFault} (Ok status) ↔ IsTrue after.has_failed)
       × Puts {E = CliFault} (Ok status) (contents before.device) (contents after.device) answer
-  wrote done answer s status before after plain h = (h.fault, h.bytes)
-  wrote refused answer s status before after plain h = (h.fault, h.bytes)
   wrote (to_store x) answer s status before after plain h = absurd (plain x refl)
+  wrote v answer s status before after plain h = (h.fault, h.bytes)
 
   pub answers_status : (did : Stepped) (left : Kept) (s : Step) (status : ℕ) (before after : Latched W) →
       Does contents did left (Ok s) before after → ((x : Outcome) → verdict_of s ≡ to_store x → ⊥) →
@@ -184,31 +182,10 @@ module _ {W : Type 0} (contents : W → Option (List ℕ)) where
           changes = changes;
         }))
 
-    module _ (h : History) where
-      pub withdraw_line : TakesPlainStep remaining contents o Withdraw kept left result before after →
-          AnswersLine contents o to_withdraw kept left h h result before after
-      withdraw_line (did, e, changes, told) =
-          answered_by o to_withdraw [] did kept left h h result before after told (nothing_asked h)
-          (subst (λ (d : Stepped). TakesLast d kept (run_of to_withdraw [] did left)) e
-          (record { events = refl; does = does_step to_withdraw [] did left told.entries; changes = changes }))
-
-      pub externals_line : TakesPlainStep remaining contents o Externals kept left result before after →
-          AnswersLine contents o for_externals kept left h h result before after
-      externals_line (did, e, changes, told) =
-          answered_by o for_externals [] did kept left h h result before after told (nothing_asked h)
-          (answers_line for_externals did _ kept left e told.entries changes)
-
-      pub undefined_line : TakesPlainStep remaining contents o Undefined kept left result before after →
-          AnswersLine contents o for_undefined kept left h h result before after
-      undefined_line (did, e, changes, told) =
-          answered_by o for_undefined [] did kept left h h result before after told (nothing_asked h)
-          (answers_line for_undefined did _ kept left e told.entries changes)
-
-      pub bad_line : TakesPlainStep remaining contents o Bad kept left result before after →
-          AnswersLine contents o for_nothing kept left h h result before after
-      bad_line (did, e, changes, told) =
-          answered_by o for_nothing [] did kept left h h result before after told (nothing_asked h)
-          (answers_line for_nothing did _ kept left e told.entries changes)
+    -- a line for which no file is opened
+    told_line : (h : History) (asks : Asked) (did : Stepped) → IsLineOf o kept (run_of asks [] did left) asks →
+        AnswersStep contents did left result before after → AnswersLine contents o asks kept left h h result before after
+    told_line h asks did is told = answered_by o asks [] did kept left h h result before after told (nothing_asked h) is
 
     -- a line that is not a link, from the step that it asks for
     pub line_by_step : (old new : History) (line : Line) (command : Command R) → IsCommandOf remaining old new line command →
@@ -216,21 +193,27 @@ module _ {W : Type 0} (contents : W → Option (List ℕ)) where
         AnswersLine contents o (asked_by line) kept left old new result before after
     line_by_step old new (lines.Add path) command (wire, is, found) told =
         added_line old new path (string_bytes path) wire refl found (rw is at told)
-    line_by_step old new lines.Withdraw command (is, same) told = rw same (withdraw_line old (rw is at told))
-    line_by_step old new lines.Externals command (is, same) told = rw same (externals_line old (rw is at told))
-    line_by_step old new lines.Undefined command (is, same) told = rw same (undefined_line old (rw is at told))
+    line_by_step old new lines.Withdraw command (is, same) told =
+        let (did, e, changes, step) = rw is at told in
+        rw same (told_line old to_withdraw did (subst (λ (d : Stepped). TakesLast d kept (run_of to_withdraw [] did left)) e
+        (record { events = refl; does = does_step to_withdraw [] did left step.entries; changes = changes })) step)
+    line_by_step old new lines.Externals command (is, same) told =
+        let (did, e, changes, step) = rw is at told in
+        rw same (told_line old for_externals did (answers_line for_externals did _ kept left e step.entries changes) step)
+    line_by_step old new lines.Undefined command (is, same) told =
+        let (did, e, changes, step) = rw is at told in
+        rw same (told_line old for_undefined did (answers_line for_undefined did _ kept left e step.entries changes) step)
     line_by_step old new (lines.Link path) command h told = absurd h
-    line_by_step old new lines.Bad command (is, same) told = rw same (bad_line old (rw is at told))
+    line_by_step old new lines.Bad command (is, same) told =
+        let (did, e, changes, step) = rw is at told in
+        rw same (told_line old for_nothing did (answers_line for_nothing did _ kept left e step.entries changes) step)
 
   module _ {R : Type 0} (remaining : R → Option (List ℕ)) where
     step_of_line : (old new : History) (line : Line) (command : Command R) → IsCommandOf remaining old new line command →
         IsNoLink command
     step_of_line old new (lines.Add path) command (wire, is, found) = rw is tt
-    step_of_line old new lines.Withdraw command (is, same) = rw is tt
-    step_of_line old new lines.Externals command (is, same) = rw is tt
-    step_of_line old new lines.Undefined command (is, same) = rw is tt
     step_of_line old new (lines.Link path) command h = absurd h
-    step_of_line old new lines.Bad command (is, same) = rw is tt
+    step_of_line old new line command h = rw h.0 tt
 
     module _ (o : Choices) (kept left : Kept) (before after : Latched W) (old new : History) (line : Line) (command : Command R)
         (asks : IsCommandOf remaining old new line command) where

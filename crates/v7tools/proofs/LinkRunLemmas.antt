@@ -1,13 +1,15 @@
 -- A link over an office, from its parts.
+use Rattle.std.proofs.Common.{rules}
+use Rattle.std.proofs.Common.{arith}
 use Rattle.std.specs.{declared.alloc.Global.Global, Prelude.String, Prelude.string_bytes, List.AllByRecursion}
-use Rattle.std.proofs.Common.{◌≡◌, ℕ, List, [], ◌∷◌, map, Option, Result, Ok, Err, refl, sym, ap, ◌∙◌, subst, inl, inr}
+use Rattle.std.proofs.Common.{◌≡◌, ℕ, List, [], ◌∷◌, map, Option, Result, Ok, Err, refl, inl, inr}
 use Rattle.aout_core.specs.Wires.{Latched}
 use Rattle.link_out.specs.{declared.linked.Linked.Linked, Outcomes.report_names}
 use Rattle.tool_options.specs.Choices.{Choices}
 use Rattle.surroundings.specs.{Events.History, Events.Extends, Events.stored, declared.office.Stored.Stored}
 use Rattle.v7tools.specs.internal.Openings.{sources, IsOpening, IsWorking, OpensAll}
 use Rattle.v7tools.specs.LinkRuns.{inputs_opened, IsLinkOfFiles, IsLinkRun, ReportsIf}
-use Rattle.v7tools.specs.{LinkAnswers.Input, LinkAnswers.inputs_of, LinkAnswers.IsLinkOf, declared.fault.CliFault.CliFault}
+use Rattle.v7tools.specs.{LinkAnswers.inputs_of, LinkAnswers.IsLinkOf, declared.fault.CliFault.CliFault}
 use Rattle.surroundings.proofs.EventLemmas.{asked_after}
 use Rattle.v7tools.proofs.EventLemmas.{paths_opened}
 use Rattle.v7tools.specs.declared.fault.CliFault.TheVariants as faults
@@ -24,10 +26,7 @@ module _ {R : Type 0} (remaining : R → Option (List ℕ)) where
       (inputs : List (String Global × Latched R)) (answer : Result Linked CliFault) → files ≡ map (λ i. i.0) inputs →
       AllByRecursion IsWorking inputs → IsLinkOf forced o (inputs_of remaining inputs) answer →
       IsLinkOfFiles forced o (map string_bytes files) (sources remaining inputs) answer
-  link_of_files forced o files inputs answer order working h = record {
-    all = sym (ap (map string_bytes) order ∙ paths_opened remaining inputs);
-    link = subst (λ (is : List Input). IsLinkOf forced o is answer) (inputs_from inputs working) h;
-  }
+  link_of_files forced o files inputs answer order working h = search (rules, paths_opened, inputs_from)
 
   module _ {W : Type 0} (contents : W → Option (List ℕ)) (forced : List (List ℕ)) (o : Choices) (out : String Global)
       (files : List (String Global)) (old : History) (result : Result ℕ CliFault) (before after : Latched W) where
@@ -36,27 +35,12 @@ module _ {R : Type 0} (remaining : R → Option (List ℕ)) where
     not_opened new (faults.CannotOpen path) h is same =
         inr (inl (record { path = path; stops = h; refuses = record { refusal = is; silent = same } }))
     not_opened new (faults.Memory _) h is same = inl (h, record { refusal = is; silent = same })
-    not_opened new faults.Usage h is same = absurd h
-    not_opened new (faults.BadFile path fault) h is same = absurd h
-    not_opened new (faults.BadObject path fault) h is same = absurd h
-    not_opened new (faults.NotAdded path fault) h is same = absurd h
-    not_opened new (faults.NotLinked fault) h is same = absurd h
-    not_opened new (faults.CannotCreate path) h is same = absurd h
-    not_opened new faults.WriteFailed h is same = absurd h
-    not_opened new faults.LongLine h is same = absurd h
-    not_opened new faults.ManyLines h is same = absurd h
-    not_opened new faults.ScriptFailed h is same = absurd h
+    not_opened new fault h is same = absurd h
 
     pub no_link : (new : History) (inputs : List (String Global × Latched R)) (fault : CliFault) → OpensAll remaining old new files inputs →
         IsLinkOf forced o (inputs_of remaining inputs) (Err fault) → result ≡ Err fault → after ≡ before →
         IsLinkRun contents forced o out (map string_bytes files) old new result before after
-    no_link new inputs fault h link is same = inr (inr (inl (record {
-      fault = fault;
-      found = sources remaining inputs;
-      answer = link_of_files forced o files inputs (Err fault) h.1 h.2 link;
-      asked = h.0;
-      refuses = record { refusal = is; silent = same };
-    })))
+    no_link new inputs fault h link is same = grind (arith, link_of_files forced o files inputs)
 
     pub stores_link : (mid new : History) (inputs : List (String Global × Latched R)) (made : Linked) (what : Stored) →
         OpensAll remaining old mid files inputs →
@@ -68,7 +52,7 @@ module _ {R : Type 0} (remaining : R → Option (List ℕ)) where
       linked = made;
       what = what;
       found = sources remaining inputs;
-      answer = link_of_files forced o files inputs (Ok made) h.1 h.2 link;
-      asked = asked_after old mid new _ _ h.0 asked;
+      answer = link_of_files _ o _ _ _ h.1 h.2 link;
+      asked = asked_after _ _ _ _ _ h.0 asked;
       reports = reports;
     })))

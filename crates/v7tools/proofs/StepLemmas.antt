@@ -1,21 +1,22 @@
 -- What the parts of a step say of the whole.
+use Rattle.std.proofs.Common.{rules}
 use Rattle.aout_core.specs.{Refusals.refused as refused_request, Contents.Contents, Decoding.decode, Wires.Latched, Wires.Writes}
 use Rattle.std.specs.declared.alloc.Global.{Global}
 use Rattle.std.specs.Prelude.{String, string_bytes, codes, slice_get, IfErr, IfOk, IfSome, IsErr, IsTrue}
-use Rattle.std.proofs.Common.{◌≡◌, ◌↔◌, ℕ, suc, ◌-◌, length, arith, Bool, true, false, List, [], ◌∷◌, ◌++◌, Option, Some, None, Result, Ok}
-use Rattle.std.proofs.Common.{Err, refl, sym, ap, ◌∙◌, subst, ◌⊎◌, inl, inr}
+use Rattle.std.proofs.Common.{◌≡◌, ◌↔◌, ℕ, suc, ◌-◌, length, arith, Bool, false, List, [], ◌∷◌, ◌++◌, Option, Some, None, Result, Ok}
+use Rattle.std.proofs.Common.{Err, refl, sym, ap, ◌∙◌, ◌⊎◌, inl, inr}
 use Rattle.std.proofs.lemmas.Bool.{false_from_ne_true}
 use Rattle.aout_core.proofs.PutsLemmas.{writes_broke_off}
-use Rattle.link_session.specs.{Edits.last_of, Edits.without_last, Labelled.Labelled, Sessions.Adds, Sessions.Withdraws, Undo.Kept}
+use Rattle.link_session.specs.{Edits.last_of, Labelled.Labelled, Sessions.Adds, Sessions.Withdraws, Undo.Kept}
 use Rattle.link_out.specs.Outcomes.{IsLinkOf, outcome_of}
-use Rattle.link_out.specs.Inputs.{Cause, cannot_open, bad_file, bad_object, not_added, object_in, kept_with}
+use Rattle.link_out.specs.Inputs.{Cause, cannot_open, bad_file, object_in, kept_with}
 use Rattle.link_out.specs.{declared.linked.LinkFault.LinkFault, function.Link.Outcome, declared.linked.Linked.Linked, function.Reports.line}
 use Rattle.link_session.proofs.EditLemmas.{last_of-put_last, without_last-put_last}
 use Rattle.v7tools.specs.FaultTexts.{cause_text, cli_text, fault_at, fault_of_link}
 use Rattle.v7tools.specs.Answers.{done, refused, Stepped, add_step, withdraw_step, link_step}
 use Rattle.v7tools.specs.internal.StepParts.{IsRefusal, IsAccepted, IsAddition, IsAddOver, IsAddWorking, MakesLink, RefusesLink}
 use Rattle.v7tools.specs.internal.StepParts.{TakesWithdrawal, label_of}
-use Rattle.v7tools.specs.SessionSteps.{Does, IsAddOn, IsAddBy, IsLinkBy, WithdrawsIf, verdict_of}
+use Rattle.v7tools.specs.SessionSteps.{Does, IsAddOn, IsAddBy, IsLinkBy, verdict_of}
 use Rattle.v7tools.specs.{declared.fault.CliFault.CliFault, declared.session.commands.Step.Step}
 use Rattle.v7tools.specs.{declared.session.commands.Step.TheVariants.Refused, declared.session.commands.Step.TheVariants.ToStore}
 use Rattle.v7tools.specs.{LinkAnswers.WantsMemory, internal.InputParts.IsDeviceFault}
@@ -35,10 +36,7 @@ last_of-slice_get (d ∷ (c ∷ es)) e h =
 -- what a withdrawal does where there is an object, and where there is none
 withdrawn_last : (old new : Kept) (e : Labelled) → Withdraws old new e → withdraw_step old.entries (last_of old.entries)
     ≡ record { verdict = done; answer = line (codes "withdrew " ++ e.label); kept = new.entries }
-withdrawn_last old new e h =
-    ap (withdraw_step old.entries) (ap last_of h.entries ∙ last_of-put_last new.entries e)
-    ∙ ap (λ (es : List Labelled). record { verdict = done; answer = line (codes "withdrew " ++ e.label); kept = es })
-    (ap without_last h.entries ∙ without_last-put_last new.entries e)
+withdrawn_last old new e h = search (rules, last_of-put_last, without_last-put_last)
 
 withdrawn_none : (old : Kept) → old.entries ≡ [] → withdraw_step old.entries (last_of old.entries)
     ≡ record { verdict = refused; answer = line (codes "nothing to withdraw"); kept = old.entries }
@@ -48,16 +46,12 @@ module _ {W : Type 0} {contents : W → Option (List ℕ)} {result : Result Step
   pub takes_last : (old new : Kept) (e : Labelled) → Withdraws old new e → Does contents
       (record { verdict = done; answer = line (codes "withdrew " ++ e.label); kept = new.entries }) new result before after →
       TakesWithdrawal contents old new result before after
-  takes_last old new e h does =
-      subst (λ (did : Stepped). WithdrawsIf did.verdict old new × Does contents did new result before after)
-      (sym (withdrawn_last old new e h)) ((e, h), does)
+  takes_last old new e h does = grind (arith, withdrawn_last old new e h)
 
   pub takes_none : (old new : Kept) → old.entries ≡ [] → new ≡ old → Does contents
       (record { verdict = refused; answer = line (codes "nothing to withdraw"); kept = old.entries }) new result before after →
       TakesWithdrawal contents old new result before after
-  takes_none old new none same does =
-      subst (λ (did : Stepped). WithdrawsIf did.verdict old new × Does contents did new result before after)
-      (sym (withdrawn_none old none)) (same, does)
+  takes_none old new none same does = search rules
 
 -- ---- additions
 
@@ -86,7 +80,7 @@ added_by remaining from to old new path o before after h = by_found h.is_found
         inr (
           after,
           before,
-          inr (on_bytes (remaining from.device) old.forced old.entries path (Ok o) (Ok new.entries) (λ e. absurd (cc)) e h.accepts),
+          inr (on_bytes _ _ _ _ _ _ (λ e. absurd (cc)) e h.accepts),
         )
 
 -- the step that a fault refuses
@@ -96,9 +90,7 @@ refused_as kept text = record { verdict = refused; answer = line text; kept = ke
 -- the text of a fault is that of its cause
 text_of_cause : (path : String Global) (cause : Cause) → cli_text (fault_at path cause) ≡ cause_text (string_bytes path) cause
 text_of_cause path cannot_open = refl
-text_of_cause path (bad_file fault) = refl
-text_of_cause path (bad_object fault) = refl
-text_of_cause path (not_added fault) = refl
+text_of_cause path cause = refl
 
 -- a file is not added: the fault is that of a device exactly where the wire has failed
 module _ {R : Type 0} (remaining : R → Option (List ℕ)) (from to : Latched R) (old : Kept) (path : String Global) (fault : CliFault)
@@ -108,43 +100,17 @@ module _ {R : Type 0} (remaining : R → Option (List ℕ)) (from to : Latched R
   IsRefused = IsAddOver remaining from to old.forced old.entries (string_bytes path) (refused_as old.entries (cli_text fault))
 
   worked : to.has_failed ≡ false → from.has_failed ≡ false
-  worked after =
-      false_from_ne_true from.has_failed (λ failed. let same : to.has_failed
-      ≡ from.has_failed = ap (λ (w : Latched R). w.has_failed) (latched failed) in absurd (cc))
+  worked after = search rules
 
   -- what was found is no failure
   sound : (h : IsRefusal (remaining from.device) old path fault) → to.has_failed ≡ false → h.found ≡ Err (bad_file reads.Device) → ⊥
-  sound h after e =
-      let is : bad_file reads.Device ≡ h.cause =
-      (let r = ap (kept_with old.forced old.entries (string_bytes path)) (sym e) ∙ h.refuses in cc) in
-      let failed : to.has_failed ≡ true = device.0 (ap failed_with (h.names ∙ ap (fault_at path) (sym is))) in
-      absurd (cc)
+  sound h after e = search rules
 
   by_refusal : IsRefusal (remaining from.device) old path fault → IsRefused
-  by_refusal h = by_latch to.has_failed refl h.is_found
-    where
-      says : refused_as old.entries (cli_text fault) ≡ add_step old.entries (string_bytes path) (Err h.cause)
-      says = ap (refused_as old.entries) (ap cli_text h.names ∙ text_of_cause path h.cause)
-
-      by_latch : (t : Bool) → to.has_failed ≡ t → (h.found ≡ Err (bad_file reads.Device))
-          ⊎ IfSome (remaining from.device) (λ bytes. h.found ≡ object_in (decode bytes)) → IsRefused
-      by_latch true latch found =
-          let is : fault ≡ faults.BadFile path reads.Device = (let e = device.1 latch in cc) in
-          inl (latch, ap (λ (f : CliFault). refused_as old.entries (cli_text f)) is)
-      by_latch false latch (inl e) = absurd (sound h latch e)
-      by_latch false latch (inr e) =
-          inr (
-            latch,
-            worked latch,
-            inr (subst (IsAddWorking (remaining from.device) old.forced old.entries (string_bytes path)) (sym says)
-                (on_bytes (remaining from.device) old.forced old.entries (string_bytes path) h.found (Err h.cause)
-                (sound h latch) e h.refuses)),
-          )
+  by_refusal h = search rules
 
   by_memory : fault ≡ faults.Memory refused_request → IfSome (remaining from.device) (WantsMemory old.forced old.entries (string_bytes path)) → IsRefused
-  by_memory is header =
-      let after = false_from_ne_true to.has_failed (λ failed. let e = device.1 failed in absurd (cc)) in
-      inr (after, worked after, inl (ap (λ (f : CliFault). refused_as old.entries (cli_text f)) is, header))
+  by_memory is header = search rules
 
   pub not_added_by : (new : Kept) → IsAddition (remaining from.device) old new path (Err fault) → (new ≡ old) × IsRefused
   not_added_by new (same, inl (is, header)) = (same, by_memory is header)
@@ -161,8 +127,7 @@ pub added_over : {R : Type 0} (remaining : R → Option (List ℕ)) (from to : L
     IsAddBy remaining from forced kept path did
 added_over remaining from to forced kept path did (inl (failed, is)) = inl is
 added_over remaining from to forced kept path did (inr (after, before, inl memory)) = inr (before, inl memory)
-added_over remaining from to forced kept path did (inr (after, before, inr on)) =
-    inr (before, inr (working_on (remaining from.device) forced kept path did on))
+added_over remaining from to forced kept path did (inr (after, before, inr on)) = search rules
 
 -- ---- links
 
@@ -170,16 +135,9 @@ added_over remaining from to forced kept path did (inr (after, before, inr on)) 
 pub link_refused_by : (kept : List Labelled) (answer : Result Outcome LinkFault) (fault : LinkFault) →
     IsLinkOf (Err fault) answer → IsLinkBy kept answer (refused_as kept (cli_text (fault_of_link fault)))
 link_refused_by kept answer (links.Memory _) h = inr (refl, h)
-link_refused_by kept answer links.DoesNotFit h = inl (ap (link_step kept) (sym h))
-link_refused_by kept answer links.TooManySymbols h = inl (ap (link_step kept) (sym h))
-link_refused_by kept answer links.SymbolNumber h = inl (ap (link_step kept) (sym h))
+link_refused_by kept answer fault h = inl (ap (link_step kept) (sym h))
 
 -- ---- answers
-
--- a call that failed has no value
-pub no_value : {T E : Type 0} (r : Result T E) (P : T → Type 0) → IsErr r → IfOk r P
-no_value (Ok x) P h = absurd (cc)
-no_value (Err e) P h = tt
 
 -- an answer that went out whole
 abbrev pub stepped : Step → Result Step CliFault
@@ -207,8 +165,7 @@ module _ {W : Type 0} (contents : W → Option (List ℕ)) (answer : Result Outc
   pub refuses : {T : Type 0} (fault : LinkFault) (other : CliFault) (result : Result T CliFault) →
       IsLinkOf (Err fault) answer → other ≡ fault_of_link fault → Writes contents result before after (line (cli_text other)) →
       RefusesLink contents answer result before after
-  refuses fault other result is e written =
-      (fault, is, subst (λ (f : CliFault). Writes contents result before after (line (cli_text f))) e written)
+  refuses fault other result is e written = search rules
 
   -- a link that is refused, told by another value, or by the same fault
   pub refused_with : {T U : Type 0} (x : T) (y : U) → RefusesLink contents answer (Ok x) before after →
@@ -232,11 +189,11 @@ module _ {W : Type 0} (contents : W → Option (List ℕ)) (answer : Result Outc
     -- what a step does that asks for a link
     pub links_not : (result : Result Step CliFault) → IfOk result (λ s. s ≡ Refused) →
         RefusesLink contents answer result before after → Links result
-    links_not result refuses (fault, is, written) = (
-      refused_as kept.entries (cli_text (fault_of_link fault)),
+    links_not result refuses (fault, is, written) = grind (
+      arith,
       link_refused_by kept.entries answer fault is,
-      refl,
-      record { kept = refl; verdict = refused_verdict result refuses; answer = written },
+      refused_verdict result
+          refuses,
     )
 
     pub links_to : (linked : Linked) → MakesLink contents answer (Ok (Some linked)) before after → Links (stepped (ToStore linked))
@@ -256,24 +213,19 @@ pub failed_before : {R : Type 0} (before after : Latched R) (r : Result (Unit {0
     (IsTrue before.has_failed → after ≡ before) →
     ((r ≡ failed_with (faults.BadFile path reads.Device)) ↔ IsTrue after.has_failed) → IsTrue before.has_failed →
     r ≡ failed_with (faults.BadFile path reads.Device)
-failed_before {R} before after r path latched device failed =
-    device.1 (subst (λ (w : Latched R). IsTrue w.has_failed) (sym (latched failed)) failed)
+failed_before {R} before after r path latched device failed = search rules
 
 -- the device of a file that is added had not failed
 pub worked_before : {R : Type 0} (before after : Latched R) (path : String Global) → (IsTrue before.has_failed → after ≡ before) →
     ((Ok tt ≡ failed_with (faults.BadFile path reads.Device)) ↔ IsTrue after.has_failed) → before.has_failed ≡ false
-worked_before before after path latched device =
-    false_from_ne_true before.has_failed
-    (λ failed. let bad = failed_before before after (Ok tt) path latched device failed in absurd (cc))
+worked_before before after path latched device = search rules
 
 -- nor had that of a file that is refused, but for the fault of a device
 pub worked_unless : {R : Type 0} (before after : Latched R) (path : String Global) (fault : CliFault) →
     (IsTrue before.has_failed → after ≡ before) →
     ((failed_with fault ≡ failed_with (faults.BadFile path reads.Device)) ↔ IsTrue after.has_failed) →
     (fault ≡ faults.BadFile path reads.Device → ⊥) → before.has_failed ≡ false
-worked_unless before after path fault latched device other =
-    false_from_ne_true before.has_failed
-    (λ failed. other (let e = failed_before before after (failed_with fault) path latched device failed in cc))
+worked_unless before after path fault latched device other = search rules
 
 -- nor has it after the addition
 pub worked_after : {R : Type 0} (after : Latched R) (path : String Global) →
@@ -284,28 +236,11 @@ worked_after after path device = false_from_ne_true after.has_failed (λ failed.
 
 device_path : (path : String Global) (cause : Cause) → IsDeviceFault (fault_at path cause) →
     fault_at path cause ≡ faults.BadFile path reads.Device
-device_path path cannot_open h = absurd h
-device_path path (bad_file reads.ShortHeader) h = absurd h
-device_path path (bad_file reads.BadMagic) h = absurd h
-device_path path (bad_file reads.OddSize) h = absurd h
-device_path path (bad_file (reads.Memory _)) h = absurd h
-device_path path (bad_file reads.Truncated) h = absurd h
 device_path path (bad_file reads.Device) h = refl
-device_path path (bad_object fault) h = absurd h
-device_path path (not_added fault) h = absurd h
+device_path path cause h = absurd h
 
 -- it is answered exactly where the wire of the file has failed
 pub device_fault : (known : Option (List ℕ)) (old new : Kept) (path : String Global) (fault : CliFault) (latch : Bool) →
     IsAddition known old new path (Err fault) →
     ((failed_with fault ≡ failed_with (faults.BadFile path reads.Device)) ↔ IsTrue latch) → IsDeviceFault fault ↔ IsTrue latch
-device_fault known old new path fault latch h device =
-    (λ is. device.0 (by_why h.1 is), λ failed. subst IsDeviceFault (sym (as_fault (device.1 failed))) tt)
-  where
-    as_fault : failed_with fault ≡ failed_with (faults.BadFile path reads.Device) → fault ≡ faults.BadFile path reads.Device
-    as_fault e = cc
-
-    by_why : ((fault ≡ faults.Memory refused_request) × IfSome known (WantsMemory old.forced old.entries (string_bytes path)))
-        ⊎ IsRefusal known old path fault → IsDeviceFault fault →
-        failed_with fault ≡ failed_with (faults.BadFile path reads.Device)
-    by_why (inl (is, header)) d = absurd (subst IsDeviceFault is d)
-    by_why (inr r) d = ap failed_with (r.names ∙ device_path path r.cause (subst IsDeviceFault r.names d))
+device_fault known old new path fault latch h device = search rules

@@ -1,4 +1,4 @@
-use Rattle.std.proofs.Common.{[], drop}
+use Rattle.std.proofs.Common.{drop}
 use Rattle.v7_from_gnu.proofs.LookLemmas.{LooksOn}
 use Rattle.v7_from_gnu.proofs.checks.look.Given as goal
 

@@ -1,6 +1,6 @@
 use Rattle.v7_from_gnu.specs.Converting.{converted_from, with_names}
 use Rattle.std.proofs.Common.{[]}
-use Rattle.v7_from_gnu.proofs.{ConvertingLemmas.plan_err, ConvertingLemmas.plan_ok, StepLemmas.step_fails}
+use Rattle.v7_from_gnu.proofs.{ConvertingLemmas.plan_err, ConvertingLemmas.plan_ok, ConvertingLemmas.step_fails}
 use Rattle.v7_from_gnu.proofs.converting.make_plan.Goals as goal
 
 pub returns-in-Err-clause-err : goal.returns-in-Err-clause-err

@@ -9,7 +9,7 @@ returns-in_err-loaded-clause-run g c =
     inl (
       c.in_err-loaded.field-0.0,
       c.in_err-loaded.ensures,
-      record { refusal = passed_on c.from_residual.result c.in_err-loaded.field-0.0 c.from_residual.ensures.1; silent = refl },
+      record { refusal = passed_on _ _ c.from_residual.ensures.1; silent = refl },
     )
 
 pub returns-clause-run : goal.returns-clause-run

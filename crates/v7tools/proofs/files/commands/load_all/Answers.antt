@@ -1,17 +1,11 @@
 use Rattle.std.proofs.Common.{rules, ◌≡◌, [], ◌∷◌, ◌++◌, map, sym, subst}
-use Rattle.v7tools.specs.{internal.Openings.IsLoading, FileRuns.Reads}
+use Rattle.v7tools.specs.{FileRuns.Reads}
 use Rattle.v7tools.proofs.{EventLemmas.passed_on, FileRunLemmas.paths_more, FileRunLemmas.reads_more, FileRunLemmas.stops_reading}
 use Rattle.v7tools.proofs.files.commands.load_all.Goals as goal
 
 pub returns-in_err-file : goal.returns-in_err-file
 returns-in_err-file g c =
-    let old = g.O.Office.history c.args.office.now in
-    let new = g.O.Office.history c.load_at.new.office in
-    let fault = c.in_err-file.field-0.0 in
-    subst (IsLoading old new c.args.files.items)
-    (sym (passed_on c.from_residual-in_err-file.result fault c.from_residual-in_err-file.ensures.1))
-    (stops_reading old (g.O.Office.history c.loop-path.office) new c.args.files.items
-    c.loop-path.path-iterator.rest.items c.next.new.self.rest.items c.loop-path.loaded.items c.in-Some.path fault
+    rw (passed_on _ _ c.from_residual-in_err-file.ensures.1) (stops_reading _ _ _ _ _ _ _ _ _
     c.loop-path.invariant.read c.loop-path.invariant.order c.in-Some.ensures.steps.0 c.in_err-file.ensures)
 
 pub loop-path-preserved : goal.loop-path-preserved
@@ -23,9 +17,7 @@ loop-path-preserved g c =
     record {
       room = search rules;
       read =
-          subst (Reads old new) (sym pushed) (reads_more old (g.O.Office.history c.loop-path.office) new before
-          c.in-Some.path c.in_ok-file.file c.loop-path.invariant.read c.in_ok-file.ensures);
-      order = subst (λ xs. c.args.files.items ≡ map (λ f. f.0) xs ++ c.next.new.self.rest.items) (sym pushed)
-          (paths_more c.args.files.items c.loop-path.path-iterator.rest.items c.next.new.self.rest.items before
-          c.in-Some.path c.in_ok-file.file c.loop-path.invariant.order c.in-Some.ensures.steps.0 c.in_ok-file.ensures.0);
+          subst (Reads old new) (sym pushed) (reads_more _ _ _ _ _ _ c.loop-path.invariant.read c.in_ok-file.ensures);
+      order = subst (λ xs. c.args.files.items ≡ map (λ f. f.0) xs ++ c.next.new.self.rest.items) (sym pushed) (paths_more _ _ _ _
+          _ _ c.loop-path.invariant.order c.in-Some.ensures.steps.0 c.in_ok-file.ensures.0);
     }

@@ -1,5 +1,4 @@
-use Rattle.std.proofs.Common.{rules, ◌≡◌, [], ◌∷◌, ◌++◌, string_bytes, sym, subst}
-use Rattle.v7tools.specs.FileRuns.{IsStripping}
+use Rattle.std.proofs.Common.{rules, ◌≡◌, [], ◌∷◌, ◌++◌, string_bytes}
 use Rattle.v7tools.proofs.EventLemmas.{one_more, passed_on}
 use Rattle.v7tools.proofs.FileRunLemmas.{stops_storing, strip_at, strips_more}
 use Rattle.v7tools.proofs.files.commands.store_stripped.Goals as goal
@@ -29,7 +28,7 @@ returns-in_err-check_stored g c =
     let fault = c.in_err-check_stored.field-0.0 in
     let asked =
     strip_at before new _ _ (c.in-Some.path, c.in-Some.file) c.store-stored.result c.store-stored.ensures at c.strip_file.ensures in
-    subst (IsStripping old new c.args.loaded.items) (sym (passed_on c.from_residual.result fault c.from_residual.ensures.1))
+    rw (passed_on c.from_residual.result fault c.from_residual.ensures.1)
     (stops_storing old before new c.args.loaded.items done.0 c.loop-path.path-iterator.rest.items
     c.next.new.self.rest.items (c.in-Some.path, c.in-Some.file) c.store-stored.result fault
     done.1 c.in-Some.ensures.steps.0 done.2 asked c.in_err-check_stored.ensures)

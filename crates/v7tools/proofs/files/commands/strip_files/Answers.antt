@@ -7,7 +7,7 @@ returns-in_err-loaded g c =
     inl (
       c.in_err-loaded.field-0.0,
       c.in_err-loaded.ensures,
-      passed_on c.from_residual.result c.in_err-loaded.field-0.0 c.from_residual.ensures.1,
+      passed_on _ _ c.from_residual.ensures.1,
     )
 
 pub returns : goal.returns

@@ -1,10 +1,11 @@
+use Rattle.std.proofs.lemmas.Result.{IfOk-from_err}
 use Rattle.std.proofs.Common.{◌≡◌, ℕ, Ok, Err, None, refl}
 use Rattle.link_session.specs.Labelled.{objects}
 use Rattle.link_out.specs.function.Link.{link}
 use Rattle.command_words.specs.Scripts.{to_link}
 use Rattle.v7tools.specs.declared.fault.CliFault.TheVariants.{WriteFailed}
 use Rattle.v7tools.proofs.{EventLemmas.passed_on, LineRunLemmas.answered_from, LineRunLemmas.refused_link, LineRunLemmas.stored_link}
-use Rattle.v7tools.proofs.{StepLemmas.no_value, StepLemmas.only_fault, StepLemmas.refused_by, StepLemmas.refused_with}
+use Rattle.v7tools.proofs.{StepLemmas.only_fault, StepLemmas.refused_by, StepLemmas.refused_with}
 use Rattle.v7tools.proofs.session.command.answer_link.Goals as goal
 
 pub returns-in_err-linked-clause-run : goal.returns-in_err-linked-clause-run
@@ -16,7 +17,7 @@ returns-in_err-linked-clause-run g c =
     refused_link g.W.Write.contents o c.args.path.now s r c.args.answers.now c.make_link.new.answers (g.O.Office.history c.args.office.now)
     (refused_by g.W.Write.contents (link s.forced (objects s.entries) o) c.args.answers.now c.make_link.new.answers
     (Err c.in_err-linked.field-0.0) r refl is_err c.in_err-linked.ensures.link)
-    (no_value r (λ (status : ℕ). status ≡ 1) is_err)
+    (IfOk-from_err r (λ (status : ℕ). status ≡ 1) is_err)
     (only_fault r c.in_err-linked.field-0.0 WriteFailed
     (passed_on r c.in_err-linked.field-0.0 c.from_residual.ensures.1) c.in_err-linked.ensures.write_failed)
 

@@ -1,8 +1,7 @@
-use Rattle.std.proofs.Common.{◌++◌, sym, subst}
-use Rattle.std.specs.Prelude.{codes, decimal}
+use Rattle.std.proofs.Common.{sym, subst}
 use Rattle.aout_core.specs.Wires.{Writes}
 use Rattle.aout_core.proofs.PutsLemmas.{writes_both, writes_no_more}
-use Rattle.link_out.specs.{Outcomes.report_names, function.Reports.line, function.Reports.status_of}
+use Rattle.link_out.specs.{Outcomes.report_names}
 use Rattle.surroundings.specs.declared.office.Stored.{Stored}
 use Rattle.v7tools.specs.Answers.{link_answer_text}
 use Rattle.v7tools.proofs.session.link_answers.put_link_answer.Goals as goal
@@ -12,9 +11,7 @@ returns-in_err-write-in-Kept g c =
     let f = report_names c.args.linked.now.report in
     let path = c.args.path.now in
     subst (λ (s : Stored). Writes g.W.Write.contents c.from_residual.result c.args.answers.now c.write.new.out
-    (link_answer_text f path s)) (sym c.in-Kept.is)
-    (writes_no_more (line (codes "linked " ++ path ++ codes " " ++ decimal (status_of f))) c.from_residual.ensures.0
-    c.in_err-write-in-Kept.ensures)
+    (link_answer_text f path s)) (sym c.in-Kept.is) (writes_no_more _ c.from_residual.ensures.0 c.in_err-write-in-Kept.ensures)
 
 pub returns-in_ok-write-in-Kept : goal.returns-in_ok-write-in-Kept
 returns-in_ok-write-in-Kept g c =

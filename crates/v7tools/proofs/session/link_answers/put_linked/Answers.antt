@@ -9,7 +9,7 @@ returns-in_err-put_both g c =
     let status = decimal c.args.status in
     subst (Writes g.W.Write.contents c.from_residual.result c.args.answers.now c.put_both.new.self)
     (sym (append_assoc (codes "linked " ++ c.args.path.now) (codes " ") status))
-    (writes_no_more (codes " " ++ status) c.from_residual.ensures.0 (rw c.as_bytes.ensures.value at c.in_err-put_both.ensures))
+    (writes_no_more _ c.from_residual.ensures.0 (rw c.as_bytes.ensures.value at c.in_err-put_both.ensures))
 
 pub returns : goal.returns
 returns g c =

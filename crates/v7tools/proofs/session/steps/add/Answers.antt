@@ -1,9 +1,10 @@
+use Rattle.std.proofs.lemmas.Result.{IfOk-from_err}
 use Rattle.std.proofs.Common.{Ok, ◌∙◌, ap, refl}
 use Rattle.std.specs.Prelude.{string_bytes}
 use Rattle.link_session.specs.Undo.{Kept}
 use Rattle.v7tools.specs.{declared.session.commands.Step.TheVariants.Done, Answers.add_step, FaultTexts.cli_text}
 use Rattle.aout_core.proofs.PutsLemmas.{writes_broke_off}
-use Rattle.v7tools.proofs.StepLemmas.{written_whole, added_by, not_added_by, refused_as, no_value, refused_verdict, label_is, worked_before}
+use Rattle.v7tools.proofs.StepLemmas.{written_whole, added_by, not_added_by, refused_as, refused_verdict, label_is, worked_before}
 use Rattle.v7tools.proofs.StepLemmas.{worked_after}
 use Rattle.v7tools.proofs.session.steps.add.Goals as goal
 
@@ -23,7 +24,7 @@ returns-in_err-put_line-in-Ok-clause-step g c =
       (_, accepted.adds),
       record {
         kept = refl;
-        verdict = no_value r _ c.from_residual.ensures.0;
+        verdict = IfOk-from_err r _ c.from_residual.ensures.0;
         answer = told;
       },
     )

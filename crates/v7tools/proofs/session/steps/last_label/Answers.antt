@@ -8,4 +8,4 @@ pub returns-in-Some : goal.returns-in-Some
 returns-in-Some c =
     let es = c.args.session.now.entries in
     let last : slice_get es (length es - 1) ≡ Some c.in-Some.entry.now = search rules in
-    c.label.ensures ∙ ap label_of (sym (last_of-slice_get es c.in-Some.entry.now last))
+    c.label.ensures ∙ ap label_of (sym (last_of-slice_get es _ last))

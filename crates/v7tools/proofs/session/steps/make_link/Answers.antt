@@ -1,7 +1,6 @@
-use Rattle.std.proofs.Common.{Ok, None, Option, Result, refl}
+use Rattle.std.proofs.Common.{None, refl}
 use Rattle.link_session.specs.Labelled.{objects}
-use Rattle.link_out.specs.{declared.linked.Linked.Linked, function.Link.link}
-use Rattle.v7tools.specs.declared.fault.CliFault.{CliFault}
+use Rattle.link_out.specs.{function.Link.link}
 use Rattle.aout_core.proofs.PutsLemmas.{writes_broke_off}
 use Rattle.v7tools.proofs.StepLemmas.{not_linked, refuses, written_with}
 use Rattle.v7tools.proofs.session.steps.make_link.Goals as goal
@@ -15,14 +14,8 @@ returns-in_err-put_fault-in-Err-clause-link g c =
     let answer = link s.forced (objects s.entries) c.args.options.now in
     let r = c.from_residual.result in
     let told = writes_broke_off {r = r} c.from_residual.ensures.0 c.in_err-put_fault-in-Err.ensures in
-    not_linked g.W.Write.contents answer c.args.answers.now c.put_fault.new.answers r c.from_residual.ensures.0
-    (refuses g.W.Write.contents answer c.args.answers.now c.put_fault.new.answers c.in-Err.fault c.from.result r
-    c.in-Err.ensures.value c.from.ensures told)
+    not_linked _ _ _ _ r c.from_residual.ensures.0 (refuses _ _ _ _ _ _ r c.in-Err.ensures.value c.from.ensures told)
 
 pub returns-in_ok-put_fault-in-Err-clause-link : goal.returns-in_ok-put_fault-in-Err-clause-link
 returns-in_ok-put_fault-in-Err-clause-link g c =
-    let s = c.args.session.now in
-    let refused : Result (Option Linked) CliFault = Ok None in
-    let told = written_with None c.in_ok-put_fault-in-Err.ensures in
-    refuses g.W.Write.contents (link s.forced (objects s.entries) c.args.options.now) c.args.answers.now
-    c.put_fault.new.answers c.in-Err.fault c.from.result refused c.in-Err.ensures.value c.from.ensures told
+    refuses _ _ _ _ c.in-Err.fault _ _ c.in-Err.ensures.value c.from.ensures (written_with None c.in_ok-put_fault-in-Err.ensures)

@@ -1,3 +1,4 @@
+use Rattle.std.proofs.lemmas.Result.{IfOk-from_err}
 use Rattle.std.proofs.Common.{◌≡◌, None, Ok, Err, refl}
 use Rattle.std.specs.Prelude.{string_bytes}
 use Rattle.link_session.specs.{Edits.last_of, Labelled.objects}
@@ -6,7 +7,7 @@ use Rattle.v7tools.specs.declared.session.commands.Step.{Step}
 use Rattle.v7tools.specs.declared.session.commands.Step.TheVariants.{Done, Refused}
 use Rattle.v7tools.specs.Answers.{step, adding, absent, listing_externals, listing_undefined, anything_else, withdraw_step}
 use Rattle.aout_core.proofs.PutsLemmas.{writes_broke_off}
-use Rattle.v7tools.proofs.StepLemmas.{written_whole, no_value, refused_verdict, added_over, links_not, links_to, refused_by, refused_with}
+use Rattle.v7tools.proofs.StepLemmas.{written_whole, refused_verdict, added_over, links_not, links_to, refused_by, refused_with}
 use Rattle.v7tools.proofs.session.steps.step.Goals as goal
 
 pub returns-in_err-put_externals-in-Externals-clause-step : goal.returns-in_err-put_externals-in-Externals-clause-step
@@ -15,7 +16,7 @@ returns-in_err-put_externals-in-Externals-clause-step g c =
     let did = step s.forced c.args.options.now s.entries listing_externals in
     let r = c.from_residual.result in
     let told = writes_broke_off {r = r} c.from_residual.ensures.0 c.in_err-put_externals-in-Externals.ensures in
-    rw c.in-Externals.is (did, refl, refl, record { kept = refl; verdict = no_value r _ c.from_residual.ensures.0; answer = told })
+    rw c.in-Externals.is (did, refl, refl, record { kept = refl; verdict = IfOk-from_err r _ c.from_residual.ensures.0; answer = told })
 
 pub returns-in_ok-put_externals-in-Externals-clause-step : goal.returns-in_ok-put_externals-in-Externals-clause-step
 returns-in_ok-put_externals-in-Externals-clause-step g c =
@@ -39,7 +40,7 @@ returns-in_err-put_undefined-in-Undefined-clause-step g c =
       did,
       refl,
       refl,
-      record { kept = refl; verdict = no_value r _ c.from_residual-in_err-put_undefined-in-Undefined.ensures.0; answer = told },
+      record { kept = refl; verdict = IfOk-from_err r _ c.from_residual-in_err-put_undefined-in-Undefined.ensures.0; answer = told },
     )
 
 pub returns-in_ok-put_undefined-in-Undefined-clause-step : goal.returns-in_ok-put_undefined-in-Undefined-clause-step
@@ -63,7 +64,7 @@ returns-in_err-put_line-in-Bad-clause-step g c =
       did,
       refl,
       refl,
-      record { kept = refl; verdict = no_value r _ c.from_residual-in_err-put_line-in-Bad.ensures.0; answer = told },
+      record { kept = refl; verdict = IfOk-from_err r _ c.from_residual-in_err-put_line-in-Bad.ensures.0; answer = told },
     )
 
 pub returns-in_ok-put_line-in-Bad-clause-step : goal.returns-in_ok-put_line-in-Bad-clause-step
@@ -153,7 +154,7 @@ returns-in_err-linked-in-Link-clause-step g c =
     let answer = link s.forced (objects s.entries) c.args.options.now in
     let r = c.from_residual-in_err-linked-in-Link.result in
     rw c.in-Link.is (links_not g.W.Write.contents answer c.args.answers.now c.make_link.new.answers s r
-    (no_value r (λ (step : Step). step ≡ Refused) c.from_residual-in_err-linked-in-Link.ensures.0)
+    (IfOk-from_err r (λ (step : Step). step ≡ Refused) c.from_residual-in_err-linked-in-Link.ensures.0)
     (refused_by g.W.Write.contents answer c.args.answers.now c.make_link.new.answers (Err c.in_err-linked-in-Link.field-0.0)
     r refl c.from_residual-in_err-linked-in-Link.ensures.0 c.in_err-linked-in-Link.ensures.link))
 

@@ -1,4 +1,4 @@
-use Rattle.std.proofs.Common.{◌++◌, append_assoc, subst, sym}
+use Rattle.std.proofs.Common.{append_assoc, subst, sym}
 use Rattle.aout_core.specs.{Wires.Writes, FaultTexts.number_text}
 use Rattle.aout_core.proofs.PutsLemmas.{writes_both, writes_no_more}
 use Rattle.v7tools.specs.internal.FaultParts.{path_text}
@@ -9,11 +9,11 @@ returns-in_err-put_path g c =
     let text = c.args.self.now in
     subst (Writes g.W.Write.contents c.from_residual.result c.args.out.now c.put_path.new.out)
     (sym (append_assoc (path_text text.path) text.words.now (number_text text.index)))
-    (writes_no_more (text.words.now ++ number_text text.index) c.from_residual.ensures.0 c.in_err-put_path.ensures)
+    (writes_no_more _ c.from_residual.ensures.0 c.in_err-put_path.ensures)
 
 pub returns-in_err-put : goal.returns-in_err-put
 returns-in_err-put g c =
-    writes_no_more (number_text c.args.self.now.index) c.from_residual-in_err-put.ensures.0
+    writes_no_more _ c.from_residual-in_err-put.ensures.0
     (writes_both c.in_ok-put_path.ensures (rw c.as_bytes.ensures.value at c.in_err-put.ensures.writes))
 
 pub returns : goal.returns
