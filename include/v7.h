@@ -411,8 +411,8 @@ struct v7_result {
 uint32_t v7_run(const struct v7_request *request, struct v7_result *result);
 
 /* A size that no file of a link exceeds, by v7_run or by v7_session_link, if the objects have BYTES bytes in all, and the forced names
- * FORCED_SIZE: 16 and BYTES, and 12 for each of these names; SIZE_MAX if this sum is over it. So a caller that has a buffer of this size
- * for the file, and enough room for the report, makes a link by one call. */
+ * FORCED_SIZE, together fewer than 2^63: 16 and BYTES, and 12 for each of these names; SIZE_MAX if this sum is over it. So a caller that
+ * has a buffer of this size for the file, and enough room for the report, makes a link by one call. */
 size_t v7_most(size_t bytes, size_t forced_size);
 
 /* The map of a link, as `v7-explain -m` shows it; v7-explain(1) describes it. Objects, names and uses are numbered from 0. */
