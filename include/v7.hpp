@@ -16,7 +16,8 @@ typedef std::vector<unsigned char> Bytes;
 
 // Why a call gives nothing. `place` and `word` are as in struct v7_answer.
 struct Fault : std::runtime_error {
-    template <class Answer> explicit Fault(const Answer &answer) : std::runtime_error(v7_strerror(answer.fault)), fault(answer.fault), word(answer.word), place(answer.place) {}
+    template <class Answer> explicit Fault(const Answer &answer)
+        : std::runtime_error(v7_strerror(answer.fault)), fault(answer.fault), word(answer.word), place(answer.place) {}
     std::uint32_t fault, word;
     std::size_t place;
 };
@@ -36,17 +37,25 @@ template <class Answer, class Lend, class Call> std::uint32_t made(Answer &answe
     }
 }
 
-template <class Call> void done(Call call) { v7_answer answer = v7_answer(); made(answer, [] {}, call); }
+template <class... Taken, class... Given> void done(std::uint32_t (*call)(Taken...), Given... given)
+{
+    v7_answer answer = v7_answer();
+    made(answer, [] {}, [&](v7_answer *to) { return call(given..., to); });
+}
 
-template <class Call> Bytes filled(Call call)
+template <class... Taken, class... Given> Bytes filled(std::uint32_t (*call)(Taken...), Given... given)
 {
     v7_answer answer = v7_answer();
     Bytes bytes;
-    made(answer, [&] { bytes.resize(answer.size); }, [&](v7_answer *to) { return call(bytes.data(), bytes.size(), to); });
+    made(answer, [&] { bytes.resize(answer.size); }, [&](v7_answer *to) { return call(given..., bytes.data(), bytes.size(), to); });
     return bytes;
 }
 
-template <class T> void lend(std::vector<T> &buffer, std::size_t count, T *&records, std::size_t &room) { buffer.resize(room = count); records = buffer.data(); }
+template <class T> void lend(std::vector<T> &buffer, std::size_t count, T *&records, std::size_t &room)
+{
+    buffer.resize(room = count);
+    records = buffer.data();
+}
 
 template <class Items> v7_slice slice(const Items &items) { return {reinterpret_cast<const unsigned char *>(items.data()), items.size()}; }
 
@@ -71,9 +80,7 @@ inline v7_symbol symbol(const std::string &name, std::uint16_t type, std::uint16
 
 inline Bytes make(const Parts &p)
 {
-    return detail::filled([&](unsigned char *to, std::size_t size, v7_answer *answer) {
-        return v7_make(p.text.data(), p.text.size(), p.data.data(), p.data.size(), p.bss, p.symbols.data(), p.symbols.size(), to, size, answer);
-    });
+    return detail::filled(v7_make, p.text.data(), p.text.size(), p.data.data(), p.data.size(), p.bss, p.symbols.data(), p.symbols.size());
 }
 
 inline Parts take_apart(const Bytes &object)
@@ -81,16 +88,18 @@ inline Parts take_apart(const Bytes &object)
     Parts p;
     v7_counts n = v7_counts();
     v7_answer answer = v7_answer();
-    detail::made(answer, [&] { p.text.resize(n.text); p.data.resize(n.data); p.symbols.resize(n.symbols); p.bss = n.bss; }, [&](v7_answer *to) {
+    detail::made(answer, [&] {
+        p.text.resize(n.text);
+        p.data.resize(n.data);
+        p.symbols.resize(n.symbols);
+        p.bss = n.bss;
+    }, [&](v7_answer *to) {
         return v7_take_apart(object.data(), object.size(), p.text.data(), n.text, p.data.data(), n.data, p.symbols.data(), n.symbols, &n, to);
     });
     return p;
 }
 
-inline Bytes list(const Bytes &file)
-{
-    return detail::filled([&](unsigned char *to, std::size_t size, v7_answer *answer) { return v7_list(file.data(), file.size(), to, size, answer); });
-}
+inline Bytes list(const Bytes &file) { return detail::filled(v7_list, file.data(), file.size()); }
 
 // What a link gives. `places` has the objects of each finding, but for a session.
 struct Program {
@@ -172,14 +181,22 @@ class Session {
 public:
     explicit Session(const std::string &forced = std::string()) : kept(), most(1, v7_most(0, forced.size()))
     {
-        detail::done([&](v7_answer *to) { return v7_session_new(&kept, detail::slice(forced).bytes, forced.size(), to); });
+        detail::done(v7_session_new, &kept, detail::slice(forced).bytes, forced.size());
     }
     Session(Session &&other) noexcept : kept(other.kept), most(std::move(other.most)) { other.kept = v7_session(); }
     Session &operator=(Session &&other) noexcept { return std::swap(kept, other.kept), most.swap(other.most), *this; }
     ~Session() { v7_session_free(&kept); }
 
-    void add(const Bytes &object) { detail::done([&](v7_answer *to) { return v7_session_add(&kept, object.data(), object.size(), to); }); most.push_back(most.back() + object.size()); }
-    void withdraw() { detail::done([&](v7_answer *to) { return v7_session_withdraw(&kept, to); }); most.pop_back(); }
+    void add(const Bytes &object)
+    {
+        detail::done(v7_session_add, &kept, object.data(), object.size());
+        most.push_back(most.back() + object.size());
+    }
+    void withdraw()
+    {
+        detail::done(v7_session_withdraw, &kept);
+        most.pop_back();
+    }
     Program link(const Link &link = Link())
     {
         return link.ask(V7_REPORT | V7_FINDINGS, {}, [&](const v7_request *asked, std::size_t) {
@@ -187,7 +204,7 @@ public:
         });
     }
     // What the session shows, as V7_LINES or as V7_JSON.
-    Bytes state(std::uint32_t form) { return detail::filled([&](unsigned char *room, std::size_t size, v7_answer *to) { return v7_session_state(&kept, form, room, size, to); }); }
+    Bytes state(std::uint32_t form) { return detail::filled(v7_session_state, &kept, form); }
 
 private:
     v7_session kept;
