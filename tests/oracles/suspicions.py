@@ -170,8 +170,8 @@ def text_symbols(file):
 
 def roots(file, promise, widely):
     """Where an instruction is, whatever else the text has: where a C function begins; by the promise that text has only instructions,
-    at each symbol of text."""
-    return [at for at in text_symbols(file) if at == int(at) and (promise or calls_csv(file, at, widely))]
+    at its beginning and at each symbol of text."""
+    return [0] * promise + [at for at in text_symbols(file) if at == int(at) and (promise or calls_csv(file, at, widely))]
 
 
 def follow(file, promise, widely, begins, without=()):

@@ -1,13 +1,17 @@
--- The law of clean programs at three objects. Without one of these premises it does not hold: nothing is suspicious for sure, control stays
--- within each text, after `sys fork` too, jumps and calls refer to text, the entry point is a symbol of text, no name is multiply defined.
--- Whether the others are needed is not shown: kept symbols, words of 16 bits, a text of at most 65,535 bytes.
+-- The law of clean programs at three objects. Without one of these premises it does not hold: words of 16 bits, nothing suspicious for sure,
+-- a place for the parent after `sys fork`, jumps and calls that refer to text, and if to their own text not beyond its end, an entry point
+-- at 0 or at a symbol within its text, and no name that is multiply defined.
+--
+-- Whether two others are needed is not shown. A text of more than 65,535 bytes is too long to write out. A link without symbols has the text
+-- of one with them; so no program refutes the law without the premise that symbols are kept, if its table has room in a file.
 use Rattle.std.proofs.Common.{◌≡◌, ◌≢◌, ℕ, ◌+◌, ◌*◌, ◌/◌, ◌<◌, ◌≤◌, ◌⊎◌, inl, inr, Bool, true, false, eqb, nat_lt, List, [], ◌∷◌, ◌++◌, length}
 use Rattle.std.proofs.Common.{map, Option, Some, None, refl, sym, ap, ◌∙◌, subst, arith}
 use Rattle.std.proofs.{lemmas.Bool.or_cases, lemmas.Bool.eqb-true, lemmas.Bool.ltb-true, lemmas.Bool.ltb-false, lemmas.Option.same_Some}
-use Rattle.std.specs.{Prelude.slice_get, Prelude.slice_index, Prelude.IfSome, Prelude.Ok, List.AllByRecursion, List.list_all, List.list_any}
+use Rattle.std.specs.{Prelude.slice_get, Prelude.slice_index, Prelude.Ok, List.AllByRecursion, List.list_all, List.list_any}
 use Rattle.aout_core.specs.{declared.symbol.Symbol.Symbol, declared.symbol.Segment.TheVariants.TextSeg, declared.reloc.Reloc.Reloc}
 use Rattle.aout_core.specs.{Contents.Contents, Contents.IsWord, WellFormed.is_external}
 use Rattle.link_session.specs.{Starts.total, Sessions.IsObject}
+use Rattle.tool_options.specs.{declared.options.Layout.TheVariants.Plain, declared.options.Keep.TheVariants.All}
 use Rattle.tool_options.specs.{declared.options.Keep.TheVariants.Nothing, Choices.Choices}
 use Rattle.link_out.specs.{Results.Outcome, function.Link.link}
 use Rattle.link_laws.specs.relation.LinkedFrom.{IsLinkedFrom}
@@ -21,17 +25,18 @@ use Rattle.instructions.specs.{declared.call_table.CallRow.CallRow, Rows.begins 
 use Rattle.instructions.specs.Instructions.{jumps, word_count_of, instruction_of}
 use Rattle.disassemblies.specs.Lines.{unix_line_in}
 use Rattle.suspicions.specs.declared.evidence.Evidence.TheVariants.{Flow, Promise}
-use Rattle.suspicions.specs.Reached.{leads_to, reached, is_reached, is_text}
+use Rattle.suspicions.specs.Reached.{reached, is_reached, is_text}
 use Rattle.suspicions.specs.{ReachedLaw.IsReached, ReachedLaw.Evident, ReachedLaw.Led, SureLaw.NoneIsSure}
 use Rattle.suspicions.specs.Suspicions.{suspicions, is_foreign}
 use Rattle.suspicions.proofs.ReachLemmas.{reached_places}
-use Rattle.laws.specs.{OperandPlaces.addressing_of, ReachedInstructions.BeginsInstruction}
-use Rattle.laws.specs.CleanPrograms.{IsRun, TextSymbol, RefersToText, JumpsToText, StaysInside, IsClean, BeginsAtSymbol, IsOfObject}
-use Rattle.laws.specs.CleanPrograms.{CleanObjectsMakeCleanPrograms}
+use Rattle.laws.specs.{OperandPlaces.addressing_of, ReachedInstructions.BeginsInstruction, ReachedInstructions.kind_said}
+use Rattle.laws.specs.CleanPrograms.{IsRun, TextSymbol, RefersToOwnText, RefersToText, JumpsTo, JumpsToText, KeepsParent, IsClean, Begins}
+use Rattle.laws.specs.CleanPrograms.{IsOfObject, CleanObjectsMakeCleanPrograms}
 use Rattle.laws.proofs.CleanProgramLemmas.{clean_objects}
-use Rattle.conformance.specs.Samples.{sym as entry, object, _f, _g, _main, plain}
+use Rattle.conformance.specs.Samples.{sym as entry, object, _f, _g, _main, plain, choices}
 use Rattle.conformance.proofs.{LawExamples.all_so, LawExamples.outcome_of, ClauseLemmas.as_object, ClauseLemmas.less_so}
 use Rattle.conformance.proofs.{ClauseLemmas.at_most_so, NeededPremises.all_kept}
+use Rattle.aout_core.specs.declared.reloc.Kind.TheVariants as kinds
 
 -- what holds of each reached place of an object, by the list of them
 
@@ -55,25 +60,7 @@ unreached k place none r = let bad : true ≡ false = sym ((reached_places Promi
 words_so : (k : Contents) → list_all (λ (w : ℕ). nat_lt w 65536) k.text_words ≡ true → AllByRecursion IsWord k.text_words
 words_so k h = all_so (λ (w : ℕ). nat_lt w 65536) IsWord (λ w e. ltb-true w 65536 e) k.text_words h
 
--- the parts of `StaysInside`, and that there is no jump, by tests of a line
-
-abbrev EndsInside : Contents → ℕ → Type 0
-EndsInside k place = AllByRecursion (λ o. IfSome o (λ address. address < 2 * length k.text_words)) (leads_to Flow k place)
-
-abbrev ParentInside : Contents → ℕ → Type 0
-ParentInside k place = (c : CallRow) → unix_line_in Unix k place ≡ Call c → c.call ≡ Fork → place + 2 < length k.text_words
-
-abbrev is_before : ℕ → Option ℕ → Bool
-is_before n None = true
-is_before n (Some a) = nat_lt a n
-
-ends_so : (k : Contents) (place : ℕ) → list_all (is_before (2 * length k.text_words)) (leads_to Flow k place) ≡ true → EndsInside k place
-ends_so k place h =
-    all_so (is_before (2 * length k.text_words)) (λ o. IfSome o (λ address. address < 2 * length k.text_words)) one (leads_to Flow k place) h
-  where
-    one : (o : Option ℕ) → is_before (2 * length k.text_words) o ≡ true → IfSome o (λ address. address < 2 * length k.text_words)
-    one None e = tt
-    one (Some a) e = ltb-true a (2 * length k.text_words) e
+-- that a line is not `sys fork` and no jump, by tests
 
 abbrev forks : SystemCall → Bool
 forks Fork = true
@@ -87,19 +74,16 @@ abbrev is_jump : UnixLine → Bool
 is_jump (Machine (Decoded i a b)) = jumps i.row.operation
 is_jump _ = false
 
-no_parent : (k : Contents) (place : ℕ) → is_fork (unix_line_in Unix k place) ≡ false → ParentInside k place
-no_parent k place h c line e =
+no_parent : {k : Contents} (place : ℕ) → is_fork (unix_line_in Unix k place) ≡ false → KeepsParent k place
+no_parent {k} place h c line e =
     let bad : true ≡ false = sym (ap is_fork line ∙ ap forks e) ∙ h in absurd cc
 
-stays_so : {k : Contents} (place : ℕ) → list_all (is_before (2 * length k.text_words)) (leads_to Flow k place) ≡ true →
-    is_fork (unix_line_in Unix k place) ≡ false → StaysInside k place
-stays_so {k} place h e = record { ends = ends_so k place h; parent = no_parent k place e }
-
-no_jump : {os : List Contents} {k : Contents} (place : ℕ) → is_jump (unix_line_in Unix k place) ≡ false → JumpsToText os k place
-no_jump {os} {k} place h instruction a b line j operand p is way mode direct r found =
+no_jump : {Refers : Addressing → ℕ → Reloc → Type 0} {k : Contents} (place : ℕ) → is_jump (unix_line_in Unix k place) ≡ false →
+    JumpsTo Refers k place
+no_jump {Refers} {k} place h instruction a b line j operand p is way mode direct r found =
     let bad : true ≡ false = sym (ap is_jump line ∙ j) ∙ h in absurd cc
 
--- a jump at the beginning whose operand, of this mode, has word 1, and refers to text
+-- a jump at the beginning whose operand, of this mode, has word 1
 
 abbrev HasWordOne : Addressing → Option Operand → ℕ → Type 0
 HasWordOne a operand p = (addressing_of operand ≡ None) ⊎ ((addressing_of operand ≡ Some a) × (p ≡ 1))
@@ -108,10 +92,10 @@ abbrev UsesWordOne : Addressing → UnixLine → Type 0
 UsesWordOne a (Machine (Decoded i x y)) = HasWordOne a i.first 1 × HasWordOne a i.second (1 + word_count_of i.first)
 UsesWordOne a _ = Unit {0}
 
-module _ (os : List Contents) (k : Contents) (a : Addressing) (n : ℕ) where
-  word_one : RefersToText os k a 1 (record { 0 = n }) → slice_get k.text_reloc 1 ≡ Some (record { 0 = n }) →
+module _ (Refers : Addressing → ℕ → Reloc → Type 0) (k : Contents) (a : Addressing) (n : ℕ) where
+  word_one : Refers a 1 (record { 0 = n }) → slice_get k.text_reloc 1 ≡ Some (record { 0 = n }) →
       (operand o : Option Operand) (p q : ℕ) → operand ≡ o → p ≡ q → HasWordOne a o q →
-      (way : Addressing) → addressing_of operand ≡ Some way → (r : Reloc) → slice_get k.text_reloc p ≡ Some r → RefersToText os k way p r
+      (way : Addressing) → addressing_of operand ≡ Some way → (r : Reloc) → slice_get k.text_reloc p ≡ Some r → Refers way p r
   word_one known there operand o p q e at (inl none) way mode r found =
       let bad : None ≡ Some way = sym none ∙ ap addressing_of (sym e) ∙ mode in absurd cc
   word_one known there operand o p q e at (inr (is, one)) way mode r found =
@@ -119,18 +103,22 @@ module _ (os : List Contents) (k : Contents) (a : Addressing) (n : ℕ) where
       let here : p ≡ 1 = at ∙ one in
       let reloc : record { 0 = n } ≡ r =
       same_Some (record { 0 = n }) r (sym there ∙ ap (λ (m : ℕ). slice_get k.text_reloc m) (sym here) ∙ found) in
-      subst (λ (b : Addressing). RefersToText os k b p r) same
-      (subst (λ (m : ℕ). RefersToText os k a m r) (sym here) (subst (λ (s : Reloc). RefersToText os k a 1 s) reloc known))
+      subst (λ (b : Addressing). Refers b p r) same
+      (subst (λ (m : ℕ). Refers a m r) (sym here) (subst (λ (s : Reloc). Refers a 1 s) reloc known))
 
-  jumps_by : RefersToText os k a 1 (record { 0 = n }) → slice_get k.text_reloc 1 ≡ Some (record { 0 = n }) →
-      UsesWordOne a (unix_line_in Unix k 0) → JumpsToText os k 0
+  jumps_by : Refers a 1 (record { 0 = n }) → slice_get k.text_reloc 1 ≡ Some (record { 0 = n }) →
+      UsesWordOne a (unix_line_in Unix k 0) → JumpsTo Refers k 0
   jumps_by known there uses instruction x y line j operand p is way mode direct r found =
       let both : UsesWordOne a (Machine (Decoded instruction x y)) = subst (UsesWordOne a) line uses in
-      inr (elim is [
+      elim is [
         | inl (e, at) ↦ word_one known there operand instruction.first p 1 e at both.0 way mode r found
         | inr (e, at) ↦
             word_one known there operand instruction.second p (1 + word_count_of instruction.first) e at both.1 way mode r found
-      ])
+      ]
+
+-- what a jump of a clean object refers to
+abbrev OwnOrText : List Contents → Contents → Addressing → ℕ → Reloc → Type 0
+OwnOrText os k way p r = RefersToOwnText k way p r ⊎ RefersToText os k way p r
 
 -- three objects: one calls `_f` and returns, `_f` jumps to `_g` by mode 37, and `_g` returns
 
@@ -167,8 +155,11 @@ unfolding row_of in_row call_of
 calls_clean = record {
   words = words_so calls_o refl;
   quiet = tt;
-  stays = each calls_o _ (stays_so 0 refl refl, (stays_so 2 refl refl, tt));
-  jumps = each calls_o _ (jumps_by three calls_o Relative 0o31 refers refl (inl refl, inr (refl, refl)), (no_jump 2 refl, tt));
+  parents = each calls_o _ (no_parent 0 refl, (no_parent 2 refl, tt));
+  jumps = each calls_o _ (
+    jumps_by (OwnOrText three calls_o) calls_o Relative 0o31 (inr refers) refl (inl refl, inr (refl, refl)),
+    (no_jump 2 refl, tt),
+  );
 }
   where
     refers : RefersToText three calls_o Relative 1 (record { 0 = 0o31 })
@@ -190,8 +181,8 @@ unfolding row_of in_row call_of
 jumps_clean os g outer named = record {
   words = words_so jumps_o refl;
   quiet = tt;
-  stays = each jumps_o _ (stays_so 0 refl refl, tt);
-  jumps = each jumps_o _ (jumps_by os jumps_o Absolute 0o30 refers refl (inr (refl, refl), inl refl), tt);
+  parents = each jumps_o _ (no_parent 0 refl, tt);
+  jumps = each jumps_o _ (jumps_by (OwnOrText os jumps_o) jumps_o Absolute 0o30 (inr refers) refl (inr (refl, refl), inl refl), tt);
 }
   where
     refers : RefersToText os jumps_o Absolute 1 (record { 0 = 0o30 })
@@ -212,8 +203,8 @@ unfolding row_of in_row call_of
 returns_clean os = record {
   words = words_so returns_o refl;
   quiet = tt;
-  stays = each returns_o _ (stays_so 1 refl refl, tt);
-  jumps = each returns_o _ (no_jump 1 refl, tt);
+  parents = each returns_o _ (no_parent 1 refl, (no_parent 0 refl, tt));
+  jumps = each returns_o _ (no_jump 1 refl, (no_jump 0 refl, tt));
 }
 
 abbrev program : List Contents → Outcome
@@ -242,21 +233,20 @@ g_of_object =
         jumps_clean three (symbol_of (calls_o ∷ jumps_o ∷ []) returns_o [] 0 (entry _g 0o42 2) refl refl refl) refl refl,
         (returns_clean three, tt),
       ),
-    ) all_kept three_linked refl (at_most_so 14 65535 refl)
-    (record { first = symbol_of [] calls_o (jumps_o ∷ returns_o ∷ []) 0 (entry _main 0o42 0) refl refl refl; is = refl }) 6 g_runs
+    ) all_kept three_linked refl (at_most_so 14 65535 refl) (inl refl) 6 g_runs
 
 -- the law, with other premises on the objects, on the entry point and on the report
 
 abbrev CleanBy : (List Contents → Contents → Type 0) → (List Contents → Outcome → Type 0) → (Outcome → Type 0) → Type 0
-CleanBy IsSuch Begins Reports =
+CleanBy IsSuch Enters Reports =
     (forced : List (List ℕ)) (os : List Contents) (o : Choices) (x : Outcome) → AllByRecursion IsObject os →
     AllByRecursion (IsSuch os) os → o.keep ≢ Nothing → (l : IsLinkedFrom forced os o x) → Reports x →
-    x.file.header.text_size ≤ 65535 → Begins os x → (place : ℕ) → IsRun x.file place → IsOfObject o x l.rows os place
+    x.file.header.text_size ≤ 65535 → Enters os x → (place : ℕ) → IsRun x.file place → IsOfObject o x l.rows os place
 
 abbrev Once : Outcome → Type 0
 Once y = y.report.multiples ≡ []
 
-the_law : CleanObjectsMakeCleanPrograms → CleanBy IsClean BeginsAtSymbol Once
+the_law : CleanObjectsMakeCleanPrograms → CleanBy IsClean Begins Once
 the_law law = law
 
 -- a place of a program of two objects is one of theirs
@@ -269,13 +259,16 @@ record IsIn (k : Contents) (i : ℕ) : Type 0 where
   reached : IsReached Promise k i
   begins : is_foreign (slice_index k.text_words i) ≡ false → BeginsInstruction k i
 
+abbrev InTwo : Contents → Contents → ℕ → Type 0
+InTwo k d place = IsIn k place ⊎ ((i : ℕ) × (place ≡ total TextSeg (k ∷ []) / 2 + i) × IsIn d i)
+
 in_two : (o : Choices) (x : Outcome) (rows : List Symbol) (place : ℕ) (k d : Contents) → IsOfObject o x rows (k ∷ d ∷ []) place →
-    IsIn k place ⊎ ((i : ℕ) × (place ≡ total TextSeg (k ∷ []) / 2 + i) × IsIn d i)
+    InTwo k d place
 in_two o x rows place k d r =
     by r.before r.k r.i r.all r.at (record { reached = r.reached; begins = λ own. (r.instruction own).begins })
   where
     by : (before : List Contents) (c : Contents) (i : ℕ) → k ∷ d ∷ [] ≡ before ++ c ∷ r.after →
-        place ≡ total TextSeg before / 2 + i → IsIn c i → IsIn k place ⊎ ((i : ℕ) × (place ≡ total TextSeg (k ∷ []) / 2 + i) × IsIn d i)
+        place ≡ total TextSeg before / 2 + i → IsIn c i → InTwo k d place
     by [] c i all at is =
         let same : k ≡ c = cc in
         let here : i ≡ place = omega arith in
@@ -286,141 +279,191 @@ in_two o x rows place k d r =
         inr (i, at ∙ ap (λ (f : Contents). total TextSeg (f ∷ []) / 2 + i) (sym first), subst (λ (e : Contents). IsIn e i) (sym second) is)
     by (b ∷ (e ∷ bs)) c i all at is = let none : [] ≡ bs ++ c ∷ r.after = cc in absurd (no_more bs c r.after none)
 
--- an object whose text no evidence reaches, the second one of the programs below
+-- an object whose second word no evidence reaches, the second one of the programs below
 
-abbrev data_o : Contents
-data_o = object (7 ∷ []) (0 ∷ []) [] [] 0 []
+abbrev moves_o : Contents
+moves_o = object (0o12700 ∷ 7 ∷ []) (0 ∷ 0 ∷ []) [] [] 0 []
 
-abbrev with_data : Contents → List Contents
-with_data k = k ∷ data_o ∷ []
+abbrev with_moves : Contents → List Contents
+with_moves k = k ∷ moves_o ∷ []
 
-abbrev linked_with_data : Contents → Outcome
-linked_with_data k = program (with_data k)
+moves_good : IsObject moves_o
+moves_good = as_object moves_o refl refl refl refl refl refl refl refl
 
-data_good : IsObject data_o
-data_good = as_object data_o refl refl refl refl refl refl refl refl
-
-data_unreached : (place : ℕ) → IsReached Promise data_o place → ⊥
+-- the second word of `moves_o` and a place of the first object are not reached
+unreached_in_two : (k : Contents) (place : ℕ) → is_reached Promise k place ≡ false → place ≡ total TextSeg (k ∷ []) / 2 + 1 →
+    InTwo k moves_o place → ⊥
 unfolding row_of in_row call_of
-data_unreached place r = unreached data_o place refl r
+unreached_in_two k place none second (inl e) = unreached k place none e.reached
+unreached_in_two k place none second (inr (i, at, e)) =
+    let one : i ≡ 1 = omega (arith, at, second) in
+    unreached moves_o 1 refl (subst (λ (n : ℕ). IsReached Promise moves_o n) one e.reached)
 
-data_clean : (os : List Contents) → IsClean os data_o
+moves_clean : (os : List Contents) → IsClean os moves_o
 unfolding row_of in_row call_of
-data_clean os = record {
-  words = words_so data_o refl;
+moves_clean os = record {
+  words = words_so moves_o refl;
   quiet = tt;
-  stays = λ place r. absurd (data_unreached place r);
-  jumps = λ place r. absurd (data_unreached place r);
+  parents = each moves_o _ (no_parent 0 refl, tt);
+  jumps = each moves_o _ (no_jump 0 refl, tt);
 }
 
--- with premises that clean objects meet, a place of such a program is one of its first object
-in_first : {IsSuch : List Contents → Contents → Type 0} {Begins : List Contents → Outcome → Type 0} → CleanBy IsSuch Begins Once →
-    ((os : List Contents) (k : Contents) → IsClean os k → IsSuch os k) → (k : Contents) (good : IsObject k) →
-    link [] (with_data k) plain ≡ Ok (linked_with_data k) → IsSuch (with_data k) k → Once (linked_with_data k) →
-    nat_lt 65535 (linked_with_data k).file.header.text_size ≡ false → Begins (with_data k) (linked_with_data k) → (place : ℕ) →
-    IsRun (linked_with_data k).file place → IsIn k place
-in_first {IsSuch} {Begins} law weaker k good linked such once small begins place run =
-    let goods : AllByRecursion IsObject (with_data k) = (good, (data_good, tt)) in
-    let l : IsLinkedFrom [] (with_data k) plain (linked_with_data k) =
-    (linked_exactly [] (with_data k) plain (linked_with_data k) goods).0 linked in
-    let r = law [] (with_data k) plain (linked_with_data k) goods (such, (weaker (with_data k) data_o (data_clean (with_data k)), tt))
-    all_kept l once (ltb-false 65535 (linked_with_data k).file.header.text_size small) begins place run in
-    elim (in_two plain (linked_with_data k) l.rows place k data_o r) [
-      | inl e ↦ e
-      | inr (i, at, e) ↦ absurd (data_unreached i e.reached)
-    ]
-
--- control that begins where no symbol is
-without_symbol : CleanBy IsClean (λ os y. Unit {0}) Once → ⊥
-without_symbol law =
-    data_unreached 0 (in_first law (λ os k c. c) data_o data_good refl (data_clean (with_data data_o)) refl refl tt 0
-    (Evident 0 (less_so 0 2 refl) refl)).reached
+-- with premises that clean objects meet, a place of such a program is one of the two objects
+in_program : {IsSuch : List Contents → Contents → Type 0} {Enters : List Contents → Outcome → Type 0} → CleanBy IsSuch Enters Once →
+    ((os : List Contents) (k : Contents) → IsClean os k → IsSuch os k) → (o : Choices) → o.keep ≢ Nothing →
+    (k : Contents) (good : IsObject k) (x : Outcome) → link [] (with_moves k) o ≡ Ok x → IsSuch (with_moves k) k → Once x →
+    nat_lt 65535 x.file.header.text_size ≡ false → Enters (with_moves k) x → (place : ℕ) → IsRun x.file place → InTwo k moves_o place
+in_program {IsSuch} {Enters} law weaker o keeps k good x linked such once small enters place run =
+    let goods : AllByRecursion IsObject (with_moves k) = (good, (moves_good, tt)) in
+    let l : IsLinkedFrom [] (with_moves k) o x = (linked_exactly [] (with_moves k) o x goods).0 linked in
+    in_two o x l.rows place k moves_o
+    (law [] (with_moves k) o x goods (such, (weaker (with_moves k) moves_o (moves_clean (with_moves k)), tt)) keeps l once
+    (ltb-false 65535 x.file.header.text_size small) enters place run)
 
 -- an object with symbol `_main` at its beginning
-abbrev main_of : List ℕ → Contents
-main_of words = object words (map (λ w. 0) words) [] [] 0 (entry _main 0o42 0 ∷ [])
+abbrev main_of : List ℕ → List ℕ → Contents
+main_of words relocs = object words relocs [] [] 0 (entry _main 0o42 0 ∷ [])
+
+-- control that begins at a symbol beyond its text, in the second word of the next object
+abbrev beyond_o : Contents
+beyond_o = object (0o207 ∷ []) (0 ∷ []) [] [] 0 (entry _main 0o42 4 ∷ [])
+
+abbrev enters_main : Choices
+enters_main = choices Plain false All (Some _main) false
+
+without_begins : CleanBy IsClean (λ os y. Unit {0}) Once → ⊥
+unfolding row_of in_row call_of
+without_begins law =
+    unreached_in_two beyond_o 2 refl refl
+    (in_program law (λ os k c. c) enters_main all_kept beyond_o (as_object beyond_o refl refl refl refl refl refl refl refl)
+    (outcome_of (link [] (with_moves beyond_o) enters_main)) refl (record {
+      words = words_so beyond_o refl;
+      quiet = tt;
+      parents = each beyond_o _ (no_parent 0 refl, tt);
+      jumps = each beyond_o _ (no_jump 0 refl, tt);
+    }) refl refl tt 2 (Evident 2 (less_so 2 3 refl) refl))
+
+-- a jump to a word of more than 16 bits: the link makes it the place of an operand word
+abbrev wide_o : Contents
+wide_o = main_of (0o137 ∷ 0o200002 ∷ []) (0 ∷ 2 ∷ [])
+
+abbrev LacksWords : List Contents → Contents → Type 0
+LacksWords os k = NoneIsSure (suspicions Promise k) × Each k (KeepsParent k) × Each k (JumpsToText os k)
+
+-- its word is within the text, modulo 65,536
+goes_to : (k : Contents) (n word : ℕ) → kind_said Absolute (record { 0 = n }) ≡ Some kinds.TextSeg → slice_get k.text_words 1 ≡ Some word →
+    nat_lt (2 * length k.text_words) (word % 65536) ≡ false → RefersToOwnText k Absolute 1 (record { 0 = n })
+goes_to k n word kind there low = record {
+  kind = kind;
+  inside = λ w found.
+      subst (λ (v : ℕ). v % 65536 ≤ 2 * length k.text_words) (same_Some word w (sym there ∙ found))
+      (ltb-false (2 * length k.text_words) (word % 65536) low);
+}
+
+without_words : CleanBy LacksWords Begins Once → ⊥
+unfolding row_of in_row call_of
+without_words law = nowhere (in_program law (λ os k c. (c.quiet, c.parents, c.jumps)) plain all_kept wide_o
+    (as_object wide_o refl refl refl refl refl refl refl refl) (program (with_moves wide_o)) refl (
+      tt,
+      each wide_o _ (no_parent 0 refl, tt),
+      each wide_o _ (
+        jumps_by (OwnOrText (with_moves wide_o) wide_o) wide_o Absolute 2
+            (inl (goes_to wide_o 2 0o200002 refl refl refl)) refl (inr (refl, refl), inl refl),
+        tt,
+      ),
+    ) refl refl (inl refl) 1 (Led 0 1 (Evident 0 (less_so 0 4 refl) refl) (less_so 1 4 refl) refl))
+  where
+    nowhere : InTwo wide_o moves_o 1 → ⊥
+    nowhere (inl e) = unreached wide_o 1 refl e.reached
+    nowhere (inr (i, at, e)) = let far : 1 ≡ 2 + i = at in omega arith
 
 -- a word that begins no instruction
 abbrev seven_o : Contents
-seven_o = main_of (7 ∷ [])
+seven_o = main_of (7 ∷ []) (0 ∷ [])
 
 abbrev LacksQuiet : List Contents → Contents → Type 0
-LacksQuiet os k = AllByRecursion IsWord k.text_words × Each k (StaysInside k) × Each k (JumpsToText os k)
+LacksQuiet os k = AllByRecursion IsWord k.text_words × Each k (KeepsParent k) × Each k (JumpsToText os k)
 
-without_quiet : CleanBy LacksQuiet BeginsAtSymbol Once → ⊥
+without_quiet : CleanBy LacksQuiet Begins Once → ⊥
 unfolding row_of in_row call_of
-without_quiet law =
-    let is = in_first law (λ os k c. (c.words, c.stays, c.jumps)) seven_o
-    (as_object seven_o refl refl refl refl refl refl refl refl) refl (
-      words_so seven_o refl,
-      each seven_o _ (stays_so 0 refl refl, tt),
-      each seven_o _ (no_jump 0 refl, tt),
-    ) refl refl (record { first = symbol_of [] seven_o (data_o ∷ []) 0 (entry _main 0o42 0) refl refl refl; is = refl }) 0
-    (Evident 0 (less_so 0 2 refl) refl) in
-    let b = is.begins refl in
-    let here : 7 ∷ [] ≡ b.w ∷ b.following = b.here in
-    let word : 7 ≡ b.w = cc in
-    let none : None ≡ Some b.instruction = ap instruction_of word ∙ b.is in
-    absurd cc
-
--- control that runs past the end of a text, and comes to a word that no evidence reaches
-abbrev falls_o : Contents
-falls_o = main_of (0o240 ∷ [])
-
-abbrev LacksEnds : List Contents → Contents → Type 0
-LacksEnds os k =
-    AllByRecursion IsWord k.text_words × NoneIsSure (suspicions Promise k) × Each k (ParentInside k) × Each k (JumpsToText os k)
-
-without_ends : CleanBy LacksEnds BeginsAtSymbol Once → ⊥
-unfolding row_of in_row call_of
-without_ends law =
-    let is = in_first law (λ os k c. (c.words, c.quiet, λ place r. (c.stays place r).parent, c.jumps)) falls_o
-    (as_object falls_o refl refl refl refl refl refl refl refl) refl (
-      words_so falls_o refl,
-      tt,
-      each falls_o _ (no_parent falls_o 0 refl, tt),
-      each falls_o _ (no_jump 0 refl, tt),
-    ) refl refl (record { first = symbol_of [] falls_o (data_o ∷ []) 0 (entry _main 0o42 0) refl refl refl; is = refl }) 1
-    (Led 0 1 (Evident 0 (less_so 0 2 refl) refl) (less_so 1 2 refl) refl) in
-    unreached falls_o 1 refl is.reached
+without_quiet law = nowhere (in_program law (λ os k c. (c.words, c.parents, c.jumps)) plain all_kept seven_o
+    (as_object seven_o refl refl refl refl refl refl refl refl) (program (with_moves seven_o)) refl
+    (words_so seven_o refl, each seven_o _ (no_parent 0 refl, tt), each seven_o _ (no_jump 0 refl, tt))
+    refl refl (inl refl) 0 (Evident 0 (less_so 0 3 refl) refl))
+  where
+    nowhere : InTwo seven_o moves_o 0 → ⊥
+    nowhere (inl e) =
+        let b = e.begins refl in
+        let here : 7 ∷ [] ≡ b.w ∷ b.following = b.here in
+        let word : 7 ≡ b.w = cc in
+        let none : None ≡ Some b.instruction = ap instruction_of word ∙ b.is in
+        absurd cc
+    nowhere (inr (i, at, e)) = let far : 0 ≡ 1 + i = at in omega arith
 
 -- the parent's way after `sys fork`, past the end
 abbrev forks_o : Contents
-forks_o = main_of (0o104402 ∷ 0o207 ∷ [])
+forks_o = main_of (0o104402 ∷ []) (0 ∷ [])
 
 abbrev LacksParent : List Contents → Contents → Type 0
-LacksParent os k =
-    AllByRecursion IsWord k.text_words × NoneIsSure (suspicions Promise k) × Each k (EndsInside k) × Each k (JumpsToText os k)
+LacksParent os k = AllByRecursion IsWord k.text_words × NoneIsSure (suspicions Promise k) × Each k (JumpsToText os k)
 
-without_parent : CleanBy LacksParent BeginsAtSymbol Once → ⊥
+without_parent : CleanBy LacksParent Begins Once → ⊥
 unfolding row_of in_row call_of
 without_parent law =
-    let is = in_first law (λ os k c. (c.words, c.quiet, λ place r. (c.stays place r).ends, c.jumps)) forks_o
-    (as_object forks_o refl refl refl refl refl refl refl refl) refl (
-      words_so forks_o refl,
-      tt,
-      each forks_o _ (ends_so forks_o 0 refl, (ends_so forks_o 1 refl, tt)),
-      each forks_o _ (no_jump 0 refl, (no_jump 1 refl, tt)),
-    ) refl refl (record { first = symbol_of [] forks_o (data_o ∷ []) 0 (entry _main 0o42 0) refl refl refl; is = refl }) 2
-    (Led 0 2 (Evident 0 (less_so 0 3 refl) refl) (less_so 2 3 refl) refl) in
-    unreached forks_o 2 refl is.reached
+    unreached_in_two forks_o 2 refl refl
+    (in_program law (λ os k c. (c.words, c.quiet, c.jumps)) plain all_kept forks_o
+    (as_object forks_o refl refl refl refl refl refl refl refl) (program (with_moves forks_o)) refl
+    (words_so forks_o refl, tt, each forks_o _ (no_jump 0 refl, tt))
+    refl refl (inl refl) 2 (Led 0 2 (Evident 0 (less_so 0 3 refl) refl) (less_so 2 3 refl) refl))
 
 -- a jump to a number, which is the place of an operand word
 abbrev numbers_o : Contents
-numbers_o = main_of (0o137 ∷ 2 ∷ [])
+numbers_o = main_of (0o137 ∷ 2 ∷ []) (0 ∷ 0 ∷ [])
 
 abbrev LacksJumps : List Contents → Contents → Type 0
-LacksJumps os k = AllByRecursion IsWord k.text_words × NoneIsSure (suspicions Promise k) × Each k (StaysInside k)
+LacksJumps os k = AllByRecursion IsWord k.text_words × NoneIsSure (suspicions Promise k) × Each k (KeepsParent k)
 
-without_jumps : CleanBy LacksJumps BeginsAtSymbol Once → ⊥
+without_jumps : CleanBy LacksJumps Begins Once → ⊥
 unfolding row_of in_row call_of
-without_jumps law =
-    let is = in_first law (λ os k c. (c.words, c.quiet, c.stays)) numbers_o
-    (as_object numbers_o refl refl refl refl refl refl refl refl) refl
-    (words_so numbers_o refl, tt, each numbers_o _ (stays_so 0 refl refl, tt))
-    refl refl (record { first = symbol_of [] numbers_o (data_o ∷ []) 0 (entry _main 0o42 0) refl refl refl; is = refl }) 1
-    (Led 0 1 (Evident 0 (less_so 0 3 refl) refl) (less_so 1 3 refl) refl) in
-    unreached numbers_o 1 refl is.reached
+without_jumps law = nowhere (in_program law (λ os k c. (c.words, c.quiet, c.parents)) plain all_kept numbers_o
+    (as_object numbers_o refl refl refl refl refl refl refl refl) (program (with_moves numbers_o)) refl
+    (words_so numbers_o refl, tt, each numbers_o _ (no_parent 0 refl, tt))
+    refl refl (inl refl) 1 (Led 0 1 (Evident 0 (less_so 0 4 refl) refl) (less_so 1 4 refl) refl))
+  where
+    nowhere : InTwo numbers_o moves_o 1 → ⊥
+    nowhere (inl e) = unreached numbers_o 1 refl e.reached
+    nowhere (inr (i, at, e)) = let far : 1 ≡ 2 + i = at in omega arith
+
+-- a jump beyond the end of its own text
+abbrev leaves_o : Contents
+leaves_o = main_of (0o137 ∷ 6 ∷ []) (0 ∷ 2 ∷ [])
+
+abbrev KindOrText : List Contents → Contents → Addressing → ℕ → Reloc → Type 0
+KindOrText os k way p r = (kind_said way r ≡ Some kinds.TextSeg) ⊎ RefersToText os k way p r
+
+abbrev LacksInside : List Contents → Contents → Type 0
+LacksInside os k =
+    AllByRecursion IsWord k.text_words × NoneIsSure (suspicions Promise k) × Each k (KeepsParent k) × Each k (JumpsTo (KindOrText os k) k)
+
+without_inside : CleanBy LacksInside Begins Once → ⊥
+unfolding row_of in_row call_of
+without_inside law =
+    unreached_in_two leaves_o 3 refl refl
+    (in_program law (λ os k c. (c.words, c.quiet, c.parents, weaker os k c.jumps)) plain all_kept leaves_o
+    (as_object leaves_o refl refl refl refl refl refl refl refl) (program (with_moves leaves_o)) refl (
+      words_so leaves_o refl,
+      tt,
+      each leaves_o _ (no_parent 0 refl, tt),
+      each leaves_o _ (jumps_by (KindOrText (with_moves leaves_o) leaves_o) leaves_o Absolute 2 (inl refl) refl (inr (refl, refl), inl refl), tt),
+    ) refl refl (inl refl) 3 (Led 0 3 (Evident 0 (less_so 0 4 refl) refl) (less_so 3 4 refl) refl))
+  where
+    either : (os : List Contents) (k : Contents) (way : Addressing) (p : ℕ) (r : Reloc) → OwnOrText os k way p r → KindOrText os k way p r
+    either os k way p r (inl own) = inl own.kind
+    either os k way p r (inr named) = inr named
+
+    weaker : (os : List Contents) (k : Contents) → Each k (JumpsToText os k) → Each k (JumpsTo (KindOrText os k) k)
+    weaker os k jumps place r instruction a b line j operand p is way mode direct s found =
+        either os k way p s (jumps place r instruction a b line j operand p is way mode direct s found)
 
 -- a name that is defined twice, first as the number of an operand word
 abbrev twice_named_o : Contents
@@ -429,7 +472,7 @@ twice_named_o = object (0o207 ∷ []) (0 ∷ []) [] [] 0 (entry _g 0o41 2 ∷ en
 abbrev twice : List Contents
 twice = jumps_o ∷ twice_named_o ∷ []
 
-without_once : CleanBy IsClean BeginsAtSymbol (λ y. Unit {0}) → ⊥
+without_once : CleanBy IsClean Begins (λ y. Unit {0}) → ⊥
 unfolding row_of in_row call_of
 without_once law =
     let good : AllByRecursion IsObject twice = (
@@ -443,13 +486,12 @@ without_once law =
         record {
           words = words_so twice_named_o refl;
           quiet = tt;
-          stays = each twice_named_o _ (stays_so 0 refl refl, tt);
+          parents = each twice_named_o _ (no_parent 0 refl, tt);
           jumps = each twice_named_o _ (no_jump 0 refl, tt);
         },
         tt,
       ),
-    ) all_kept linked tt (at_most_so 6 65535 refl)
-    (record { first = symbol_of [] jumps_o (twice_named_o ∷ []) 0 (entry _f 0o42 0) refl refl refl; is = refl }) 1
+    ) all_kept linked tt (at_most_so 6 65535 refl) (inl refl) 1
     (Led 0 1 (Evident 0 (less_so 0 3 refl) refl) (less_so 1 3 refl) refl) in
     elim (in_two plain (program twice) linked.rows 1 jumps_o twice_named_o r) [
       | inl e ↦ unreached jumps_o 1 refl e.reached

@@ -1,20 +1,23 @@
 -- Each place of a program of clean objects that control reaches is a reached place of one of them.
 use Rattle.std.proofs.Common.{◌≡◌, ◌≢◌, ℕ, zero, suc, ◌+◌, ◌*◌, ◌/◌, ◌%◌, ◌<◌, ◌≤◌, inl, inr, Bool, true, false, ◌||◌, ◌&&◌, not, eqb}
 use Rattle.std.proofs.Common.{if◌then◌else◌, List, [], ◌∷◌, ◌++◌, length, map, drop, Option, Some, None, refl, sym, ◌∙◌, ap, subst, arith}
-use Rattle.std.proofs.{lemmas.Bool.and_from, lemmas.Bool.eqb-true, lemmas.Bool.eq-eqb, lemmas.List.length-drop, lemmas.Option.same_Some}
+use Rattle.std.proofs.Common.{append_assoc}
+use Rattle.std.proofs.{lemmas.Bool.and_from, lemmas.Bool.eqb-true, lemmas.Bool.eq-eqb, lemmas.Bool.ltb-false, lemmas.Bool.cases_lt}
+use Rattle.std.proofs.{lemmas.List.length-drop, lemmas.List.append-nil, lemmas.List.Sums.sum_by-append, lemmas.Option.same_Some}
 use Rattle.std.proofs.lemmas.Option.{slice_get_within}
 use Rattle.std.specs.{Prelude.slice_get, Prelude.slice_index, Prelude.IfSome, Prelude.Ok, List.list_any, List.AllByRecursion}
 use Rattle.aout_core.specs.WellFormed.{kind_numbered, kind_of, is_pc_relative, masked_type, segment_numbered, is_external}
 use Rattle.aout_core.specs.{declared.symbol.Symbol.Symbol, declared.symbol.Segment.TheVariants.TextSeg, declared.reloc.Reloc.Reloc}
 use Rattle.aout_core.specs.declared.reloc.Kind.{Kind}
 use Rattle.aout_core.specs.{Contents.Contents, Strip.stripped, Words.plus}
-use Rattle.link_session.specs.{Starts.total, Sessions.IsObject}
+use Rattle.link_session.specs.{Starts.size_of, Starts.total, Sessions.IsObject}
 use Rattle.link_session.proofs.ListLemmas.{all_split}
 use Rattle.tool_options.specs.{declared.options.Keep.TheVariants.Nothing, Choices.Choices}
 use Rattle.link_out.specs.{Results.Outcome, function.Link.link}
 use Rattle.link_laws.specs.relation.LinkedFrom.{IsLinkedFrom}
 use Rattle.link_laws.proofs.LinkedTheorem.{linked_exactly}
-use Rattle.instructions.specs.{Instructions.instruction_of, Instructions.jumps, Instructions.word_count_of, Lines.word_for}
+use Rattle.instructions.specs.{Instructions.instruction_of, Instructions.following_words, Instructions.jumps, Instructions.word_count_of}
+use Rattle.instructions.specs.Lines.{word_for}
 use Rattle.instructions.specs.declared.mode.Addressing.TheVariants.{Immediate, Absolute, Relative, RelativeDeferred, Indexed}
 use Rattle.instructions.specs.{Modes.addressing, Modes.counts_from_pc, declared.mode.Addressing.Addressing, Texts.number}
 use Rattle.instructions.specs.{declared.operand.Operand.Operand}
@@ -26,13 +29,14 @@ use Rattle.instructions.proofs.AlikeLemmas.{get_inside}
 use Rattle.disassemblies.specs.Lines.{unix_line_in}
 use Rattle.suspicions.specs.declared.evidence.Evidence.TheVariants.{Flow, Promise}
 use Rattle.suspicions.specs.{ReachedLaw.is_place, ReachedLaw.IsReached, ReachedLaw.Evident, ReachedLaw.Led, Trust.is_sure, Reached.is_reached}
-use Rattle.suspicions.specs.Reached.{is_text, named, leads_by, leads_to, jump, jump_of, jump_by, is_own_distance, is_own_address}
+use Rattle.suspicions.specs.Reached.{is_text, named, nameless, branch_of, leads_by, leads_to, jump, jump_of, jump_by, is_own_distance}
+use Rattle.suspicions.specs.{Reached.is_own_address, SureLaw.IsInside, SureLaw.AreInside, SureLaw.targets}
 use Rattle.suspicions.specs.Suspicions.{is_foreign, is_immediate}
 use Rattle.suspicions.proofs.{ReachLemmas.reached_places, SureLemmas.sure_below, SureLemmas.sure_places, SureLemmas.sure_words}
 use Rattle.laws.specs.{Core.of_instructions, Core.IsWordAt, Operands.Defines, OperandWords.machine_value}
 use Rattle.laws.specs.OperandPlaces.{addressing_of, IsDirect, kind_meant, IsOwnByte, IsNamedByte}
 use Rattle.laws.specs.ReachedInstructions.{kind_said, HasOperandSaid}
-use Rattle.laws.specs.CleanPrograms.{TextSymbol, RefersToText, IsClean, BeginsAtSymbol, IsKept, IsOfObject}
+use Rattle.laws.specs.CleanPrograms.{TextSymbol, RefersToOwnText, RefersToText, IsClean, Begins, IsKept, IsOfObject}
 use Rattle.laws.specs.CleanPrograms.{CleanObjectsMakeCleanPrograms}
 use Rattle.laws.proofs.{InstructionLemmas.text_within, InstructionLemmas.word_small, InstructionPlaceLemmas.instructions_there, LoadedLemmas.whole_words}
 use Rattle.laws.proofs.{LoadedLemmas.word_there, LoadedLemmas.found_in, OperandPlaceLemmas.one_word}
@@ -65,8 +69,20 @@ symbol_reached : (k : Contents) (n j : ℕ) (s : Symbol) → slice_get k.symbols
 symbol_reached k n j s at text even below =
     Evident j below
     (any_later (is_place j (if eqb k.header.flag 0 then None else Some k.header.entry_point))
-    (list_any (is_place j) (map (named Promise k) k.symbols ++ []))
-    (shows (named Promise k) [] k.symbols n j s at (named_at k s j text even)))
+    (list_any (is_place j) (map (named Promise k) k.symbols ++ nameless Promise k))
+    (shows (named Promise k) (nameless Promise k) k.symbols n j s at (named_at k s j text even)))
+
+-- and so is the beginning of the text
+
+ends_with_0 : (os : List (Option ℕ)) → list_any (is_place 0) (os ++ Some 0 ∷ []) ≡ true
+ends_with_0 [] = refl
+ends_with_0 (o ∷ os) = any_later (is_place 0 o) (list_any (is_place 0) (os ++ Some 0 ∷ [])) (ends_with_0 os)
+
+beginning_reached : (k : Contents) → 0 < length k.text_words → IsReached Promise k 0
+beginning_reached k below =
+    Evident 0 below
+    (any_later (is_place 0 (if eqb k.header.flag 0 then None else Some k.header.entry_point))
+    (list_any (is_place 0) (map (named Promise k) k.symbols ++ nameless Promise k)) (ends_with_0 (map (named Promise k) k.symbols)))
 
 -- a jump by a word that refers to the object's own text leads there
 
@@ -150,6 +166,20 @@ not_immediate Absolute d h = absurd cc
 not_immediate RelativeDeferred d h = absurd cc
 not_immediate Indexed d h = absurd cc
 
+-- a branch leads to the end of the text at most, and a whole line ends there at most
+
+only_end : (k : Contents) (o : Option ℕ) → IsInside Promise k o → IfSome o (λ a. a ≤ 2 * length k.text_words)
+only_end k None h = tt
+only_end k (Some a) h = h.0
+
+line_whole : (ws : List ℕ) (i w : ℕ) (f : List ℕ) (instruction : Instruction) → i < length ws → drop i ws ≡ w ∷ f →
+    instruction_of w ≡ Some instruction → is_cut (instruction_of w) f ≡ false → i + (1 + following_words instruction) ≤ length ws
+line_whole ws i w f instruction below here is uncut =
+    let enough : following_words instruction ≤ length f =
+    ltb-false (length f) (following_words instruction) (ap (λ (o : Option Instruction). is_cut o f) (sym is) ∙ uncut) in
+    let long : length (drop i ws) ≡ length (w ∷ f) = ap (λ (xs : List ℕ). length xs) here in
+    omega (arith, length-drop i ws, enough, long, below)
+
 -- a place of the program is a reached place of an object
 pub record IsAt (os : List Contents) (place : ℕ) : Type 0 where
   pub before : List Contents
@@ -175,6 +205,32 @@ module _ (forced : List (List ℕ)) (os : List Contents) (o : Choices) (x : Outc
 
     ends_within : total TextSeg before / 2 + length k.text_words ≤ length x.file.text_words
     ends_within = text_within forced os o x good l before k after all objects.1.0
+
+  -- the end of a text is the beginning of the next one, or it is the end of the program
+  starts_next : (before after : List Contents) (q : ℕ) → os ≡ before ++ after → 2 * q ≡ total TextSeg before →
+      q < length x.file.text_words → IsAt os q
+  starts_next before [] q all at below =
+      let sum : total TextSeg os ≡ total TextSeg before = ap (λ (ys : List Contents). total TextSeg ys) (all ∙ append-nil before) in
+      absurd (omega (arith, l.holds.text_words))
+  starts_next before (k ∷ after) q all at below =
+      by (length k.text_words) refl
+      (λ e. starts_next (before ++ k ∷ []) after q (all ∙ sym (append_assoc before (k ∷ []) after)) e below)
+    where
+      by : (n : ℕ) → length k.text_words ≡ n → (2 * q ≡ total TextSeg (before ++ k ∷ []) → IsAt os q) → IsAt os q
+      by zero e next =
+          let size = (objects before k after all).1.0.fits.text in
+          let sum : total TextSeg (before ++ k ∷ []) ≡ total TextSeg before + (0 + k.header.text_size) =
+          sum_by-append (size_of TextSeg) before (k ∷ []) in
+          next (omega (arith, at, sum, size, e))
+      by (suc n) e next = record {
+        before = before;
+        k = k;
+        after = after;
+        all = all;
+        i = 0;
+        at = omega (arith, at);
+        reached = beginning_reached k (omega (arith, e));
+      }
 
   -- a symbol of text is at a reached place, if it is at a place of the program
   symbol_at : (s : TextSymbol os) (place address : ℕ) → address ≡ total TextSeg s.before + s.symbol.value →
@@ -236,22 +292,32 @@ module _ (forced : List (List ℕ)) (before : List Contents) (k : Contents) (aft
             b.instruction b.is b.whole;
       }
 
-  -- to another place of the object
-  within_object : (q : ℕ) (line : UnixLine) → unix_line_in Unix k i ≡ line →
+  -- to another place of the object, or to the beginning of the next text
+  within_object : (q : ℕ) → q < length x.file.text_words → (line : UnixLine) → unix_line_in Unix k i ≡ line →
       Within (total TextSeg before / 2) (length k.text_words) q (leads_by Promise k i line) → IsAt (before ++ k ∷ after) q
-  within_object q line is w = record {
-    before = before;
-    k = k;
-    after = after;
-    all = refl;
-    i = w.j;
-    at = w.at;
-    reached =
-        Led i w.j r w.below
-        (subst (λ (m : UnixLine). list_any (is_place w.j) (leads_by Promise k i m) ≡ true) (sym is) w.led);
-  }
+  within_object q below line is w =
+      elim (cases_lt w.j (length k.text_words)) [
+        | inl less ↦ record {
+          before = before;
+          k = k;
+          after = after;
+          all = refl;
+          i = w.j;
+          at = w.at;
+          reached =
+              Led i w.j r less
+              (subst (λ (m : UnixLine). list_any (is_place w.j) (leads_by Promise k i m) ≡ true) (sym is) (w.led less));
+        }
+        | inr end ↦
+            let size = (objects forced (before ++ k ∷ after) o x good l small before k after refl).1.0.fits.text in
+            let whole = even forced (before ++ k ∷ after) o x good l small before k after refl in
+            let sum : total TextSeg (before ++ k ∷ []) ≡ total TextSeg before + (0 + k.header.text_size) =
+            sum_by-append (size_of TextSeg) before (k ∷ []) in
+            starts_next forced (before ++ k ∷ after) o x good l small (before ++ k ∷ []) after q (sym (append_assoc before (k ∷ []) after))
+            (omega (arith, w.at, w.within, end, size, whole, sum)) below
+      ]
 
-  module _ (q : ℕ) (instruction : Instruction) (w : ℕ) (f : List ℕ) (here : drop i k.text_words ≡ w ∷ f)
+  module _ (q : ℕ) (below : q < length x.file.text_words) (instruction : Instruction) (w : ℕ) (f : List ℕ) (here : drop i k.text_words ≡ w ∷ f)
       (is : instruction_of w ≡ Some instruction) (uncut : is_cut (instruction_of w) f ≡ false)
       (line : unix_line_in Unix k i ≡ Machine (decoded instruction f))
       (by : JumpBy x.file k (total TextSeg before / 2) i q instruction (leads_by Promise k i (Machine (decoded instruction f)))) where
@@ -288,8 +354,9 @@ module _ (forced : List (List ℕ)) (before : List Contents) (k : Contents) (aft
     in_object = machine_value by.goes.way (2 * by.place + 2) said.operand.w
 
     -- the object's own text
-    to_own_text : kind_said by.goes.way said.operand.r ≡ Some kinds.TextSeg → IsAt (before ++ k ∷ after) q
-    to_own_text e =
+    to_own_text : RefersToOwnText k by.goes.way by.place said.operand.r → IsAt (before ++ k ∷ after) q
+    to_own_text own_text =
+        let e = own_text.kind in
         let own : IsOwnByte k (kind_meant by.goes.way said.operand.r) in_object TextSeg in_object = record {
           meant = kinds.TextSeg;
           is = meant kinds.TextSeg e;
@@ -304,23 +371,22 @@ module _ (forced : List (List ℕ)) (before : List Contents) (k : Contents) (aft
         jump_when (jumps instruction.row.operation) (jump_of k by.place by.operand by.own_word) in_object by.goes.jumps
         (own_jump_of k by.place by.operand by.own_word by.goes.way said.operand.r narrow by.goes.mode by.goes.direct said.operand.reloc_in
         e said.bit ∙ ap (λ (n : ℕ). Some (machine_value by.goes.way (2 * by.place + 2) n)) same) in
-        let low : in_object < 2 * length k.text_words =
-        subst (λ (u : Option ℕ). IfSome u (λ a. a < 2 * length k.text_words)) leads by.ends in
+        let low : in_object ≤ 2 * length k.text_words = own_text.inside said.operand.w said.operand.word_in in
         let whole = even forced (before ++ k ∷ after) o x good l small before k after refl in
         let inside = ends_within forced (before ++ k ∷ after) o x good l small before k after refl in
         let sum : 2 * (total TextSeg before / 2) + in_object ≡ 2 * q =
         own_sum (total TextSeg before) in_object there.address (length k.text_words) (length x.file.text_words) q low whole inside
         (file_fits forced (before ++ k ∷ after) o x good l small) there.place.sum (sym value ∙ there.is) in
         let half : in_object ≡ 2 * (in_object / 2) = omega (arith, sum) in
-        within_object q (Machine (decoded instruction f)) line (record {
+        within_object q below (Machine (decoded instruction f)) line (record {
           j = in_object / 2;
           at = omega (arith, sum);
-          below = omega (arith, low);
-          led =
+          within = omega (arith, low);
+          led = λ less.
               by.led (in_object / 2) (ap (λ (u : Option ℕ). is_place (in_object / 2) u) leads ∙ place_is (in_object / 2) in_object half);
         })
       where
-        own_sum : (total n address length long q : ℕ) → n < 2 * length → 2 * (total / 2) ≡ total → total / 2 + length ≤ long →
+        own_sum : (total n address length long q : ℕ) → n ≤ 2 * length → 2 * (total / 2) ≡ total → total / 2 + length ≤ long →
             2 * long ≤ 65535 → address ≡ 0 + total + n → 2 * q ≡ address % 65536 → 2 * (total / 2) + n ≡ 2 * q
         own_sum total n address length long q a b c d e f = omega arith
 
@@ -362,23 +428,24 @@ module _ (forced : List (List ℕ)) (before : List Contents) (k : Contents) (aft
     p = total TextSeg before / 2 + i
 
     by_lines : Lines x.file k (total TextSeg before / 2 + i) i → IsAt (before ++ k ∷ after) q
-    by_lines (Calls c here there) =
-        within_object q (Call c) here
+    by_lines (Calls c long here there) =
+        within_object q below (Call c) here
         (call_leads x.file k (total TextSeg before / 2) p i q c refl
-        (subst (λ (line : UnixLine). AllByRecursion (λ o. IfSome o (λ a. a < 2 * length k.text_words)) (leads_by Flow k i line)) here
-        (clean.stays i r).ends)
-        ((clean.stays i r).parent c here)
+        (let place = sure_below Promise k i sure in omega (arith, place, long, length-drop (i + 1) k.text_words))
+        (clean.parents i r c here)
         (subst (λ (line : UnixLine). list_any (is_place q) (leads_by Flow (stripped x.file) p line) ≡ true) there led))
     by_lines (Instructs instruction w f g is uncut at_object at_program here there) =
         let fits = file_fits forced (before ++ k ∷ after) o x good l small in
         let inside = ends_within forced (before ++ k ∷ after) o x good l small before k after refl in
+        let inner : AreInside Promise k (targets i (Machine (decoded instruction f))) =
+        subst (λ (line : UnixLine). AreInside Promise k (targets i line)) here (sure_places Promise k clean.quiet i sure).1 in
         elim (instruction_leads x.file k (total TextSeg before / 2) p i q w f g instruction refl (omega (arith, fits, below))
         (omega (arith, fits, inside)) at_object at_program is
-        (subst (λ (line : UnixLine). AllByRecursion (λ o. IfSome o (λ a. a < 2 * length k.text_words)) (leads_by Flow k i line)) here
-        (clean.stays i r).ends)
+        (line_whole k.text_words i w f instruction (sure_below Promise k i sure) at_object is uncut) (only_end k (branch_of (2 * i) instruction.first) inner.0)
+        (only_end k (branch_of (2 * i) instruction.second) inner.1.0)
         (subst (λ (line : UnixLine). list_any (is_place q) (leads_by Flow (stripped x.file) p line) ≡ true) there led)) [
-          | inl own ↦ within_object q (Machine (decoded instruction f)) here own
-          | inr by ↦ jump_arrives q instruction w f at_object is uncut here by
+          | inl own ↦ within_object q below (Machine (decoded instruction f)) here own
+          | inr by ↦ jump_arrives q below instruction w f at_object is uncut here by
         ]
     by_lines (Ends w there) =
         let none : false ≡ true = subst (λ (line : UnixLine). list_any (is_place q) (leads_by Flow (stripped x.file) p line) ≡ true) there led in
@@ -424,7 +491,7 @@ kept_from forced os o x before k after all good clean kept l once small i r own 
 
 module _ (forced : List (List ℕ)) (os : List Contents) (o : Choices) (x : Outcome) (good : AllByRecursion IsObject os)
     (clean : AllByRecursion (IsClean os) os) (kept : o.keep ≢ Nothing) (l : IsLinkedFrom forced os o x)
-    (once : x.report.multiples ≡ []) (small : x.file.header.text_size ≤ 65535) (begins : BeginsAtSymbol os x) where
+    (once : x.report.multiples ≡ []) (small : x.file.header.text_size ≤ 65535) (begins : Begins os x) where
   clean_in : (before : List Contents) (k : Contents) (after : List Contents) → os ≡ before ++ k ∷ after → IsClean os k
   clean_in before k after all =
       (all_split (IsClean os) before (k ∷ after) (subst (λ (ys : List Contents). AllByRecursion (IsClean os) ys) all clean)).1.0
@@ -434,7 +501,10 @@ module _ (forced : List (List ℕ)) (os : List Contents) (o : Choices) (x : Outc
       let is : x.file.header.entry_point ≡ 2 * p =
       placed p x.file.header.entry_point (or-nothing (is_place p (Some x.file.header.entry_point)) led) in
       let fits = file_fits forced os o x good l small in
-      symbol_at forced os o x good l small begins.first p x.file.header.entry_point begins.is (omega (arith, is, below, fits))
+      elim begins [
+        | inl first ↦ starts_next forced os o x good l small [] os p refl (omega (arith, is, first)) below
+        | inr b ↦ symbol_at forced os o x good l small b.first p x.file.header.entry_point b.is (omega (arith, is, below, fits))
+      ]
   run_at place (Led from p r below led) = go (run_at from r)
     where
       go : IsAt os from → IsAt os p

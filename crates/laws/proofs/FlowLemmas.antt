@@ -122,7 +122,8 @@ uncut_more (Some i) f g e h = more_words (length f) (length g) (following_words 
 
 -- what is at a place of an object, and at its place in a program
 pub data Lines (file k : Contents) (p i : ℕ) : Type 0 where
-  Calls : (c : CallRow) → unix_line_in Unix k i ≡ Call c → unix_line_in Unix (stripped file) p ≡ Call c → Lines file k p i
+  Calls : (c : CallRow) → c.words ≤ length (drop (i + 1) k.text_words) → unix_line_in Unix k i ≡ Call c →
+      unix_line_in Unix (stripped file) p ≡ Call c → Lines file k p i
   Instructs : (instruction : Instruction) (w : ℕ) (f g : List ℕ) → instruction_of w ≡ Some instruction →
       is_cut (instruction_of w) f ≡ false →
       drop i k.text_words ≡ w ∷ f → drop p file.text_words ≡ w ∷ g → unix_line_in Unix k i ≡ Machine (decoded instruction f) →
@@ -175,5 +176,5 @@ lines_at file k p i w f g here there more still whole = by (call_by Unix w) refl
         call_whole w c (length (drop (i + 1) k.text_words)) (slice_index k.text_words i) same e (ap is_whole (sym a) ∙ whole) in
         let enough : nat_lt (length f) c.words ≡ false =
         ap (λ (xs : List ℕ). nat_lt (length xs) c.words) (sym (next_at k.text_words i w f here)) ∙ n in
-        Calls c (a ∙ call_line k.text_words i w f c here enough)
+        Calls c (ltb-false (length (drop (i + 1) k.text_words)) c.words n) (a ∙ call_line k.text_words i w f c here enough)
         (b ∙ call_line file.text_words p w g c there (more_words (length f) (length g) c.words more enough))

@@ -1,10 +1,10 @@
 -- Where a line of a program leads: within the text of its object, or by a jump or a call.
-use Rattle.std.proofs.Common.{◌≡◌, ℕ, suc, ◌+◌, ◌-◌, ◌*◌, ◌/◌, ◌%◌, ◌<◌, ◌⊎◌, inl, inr, Bool, true, false, ◌||◌, ◌&&◌, eqb, nat_lt}
+use Rattle.std.proofs.Common.{◌≡◌, ℕ, suc, ◌+◌, ◌-◌, ◌*◌, ◌/◌, ◌%◌, ◌<◌, ◌≤◌, ◌⊎◌, inl, inr, Bool, true, false, ◌||◌, ◌&&◌, eqb, nat_lt}
 use Rattle.std.proofs.Common.{if◌then◌else◌, List, ◌∷◌, length, drop, Option, Some, None, refl, sym, ◌∙◌, ap, subst, arith}
 use Rattle.std.proofs.{lemmas.Option.same_Some, lemmas.Bool.and_parts, lemmas.Bool.and_from, lemmas.Bool.or_cases, lemmas.Bool.eqb-true}
 use Rattle.std.proofs.lemmas.Bool.{eq-eqb, lt-ltb}
 use Rattle.std.specs.Prelude.{slice_get, IfSome, not}
-use Rattle.std.specs.List.{list_any, AllByRecursion}
+use Rattle.std.specs.List.{list_any}
 use Rattle.aout_core.specs.{Contents.Contents, Strip.stripped, Words.plus}
 use Rattle.instructions.specs.Instructions.{instruction_of, instruction_in, instruction as made_of, field_operand, word_count_of}
 use Rattle.instructions.specs.Instructions.{following_words, jumps}
@@ -58,19 +58,12 @@ leads_on_back : (t : Bool) (q address : ℕ) → t ≡ true → address ≡ 2 * 
 leads_on_back true q address e is = place_is q address is
 leads_on_back false q address e is = absurd cc
 
-on_below : (t : Bool) (address limit : ℕ) → t ≡ true → IfSome (if t then Some address else None) (λ a. a < limit) → address < limit
-on_below true address limit e h = h
-on_below false address limit e h = absurd cc
-
--- an address of the program that is one of the object, moved with its text
+-- an address of the program that is one of the object or the end of its text, moved with the text
 pub record Within (start length q : ℕ) (own : List (Option ℕ)) : Type 0 where
   pub j : ℕ
   pub at : q ≡ start + j
-  pub below : j < length
-  pub led : list_any (is_place j) own ≡ true
-
-below : (o : Option ℕ) (limit a : ℕ) → o ≡ Some a → IfSome o (λ b. b < limit) → a < limit
-below o limit a e h = subst (λ (x : Option ℕ). IfSome x (λ b. b < limit)) e h
+  pub within : j ≤ length
+  pub led : j < length → list_any (is_place j) own ≡ true
 
 -- calls
 
@@ -80,32 +73,35 @@ or-nothing false e = absurd cc
 
 -- the parent of `sys fork`
 parent_leads : (file k : Contents) (start p i q : ℕ) (call : SystemCall) → p ≡ start + i →
-    (call ≡ calls.Fork → i + 2 < length k.text_words) → is_place q (parent_of (stripped file) p call) ≡ true →
-    (j : ℕ) × (q ≡ start + j) × (j < length k.text_words) × (is_place j (parent_of k i call) ≡ true)
+    (call ≡ calls.Fork → i + 2 ≤ length k.text_words) → is_place q (parent_of (stripped file) p call) ≡ true →
+    (j : ℕ) × (q ≡ start + j) × (j ≤ length k.text_words) × (j < length k.text_words → is_place j (parent_of k i call) ≡ true)
 parent_leads file k start p i q calls.Fork at inside e =
     let there = leads_on (nat_lt (p + 2) (length file.text_words)) q (2 * (p + 2)) e in
-    let has : i + 2 < length k.text_words = inside refl in
-    (i + 2, omega (arith, there.1), has, leads_on_back (nat_lt (i + 2) (length k.text_words)) (i + 2) (2 * (i + 2)) (lt i has) refl)
+    let has : i + 2 ≤ length k.text_words = inside refl in (
+      i + 2,
+      omega (arith, there.1),
+      has,
+      λ below. leads_on_back (nat_lt (i + 2) (length k.text_words)) (i + 2) (2 * (i + 2)) (lt i below) refl,
+    )
   where
     lt : (i : ℕ) → i + 2 < length k.text_words → nat_lt (i + 2) (length k.text_words) ≡ true
     lt i h = lt-ltb (i + 2) (length k.text_words) h
 parent_leads file k start p i q _ at inside e = absurd cc
 
--- a call leads on within the text
+-- a call leads on within the text, or to its end
 pub call_leads : (file k : Contents) (start p i q : ℕ) (c : CallRow) → p ≡ start + i →
-    AllByRecursion (λ o. IfSome o (λ a. a < 2 * length k.text_words)) (leads_by Flow k i (Call c)) →
-    (c.call ≡ calls.Fork → i + 2 < length k.text_words) → list_any (is_place q) (leads_by Flow (stripped file) p (Call c)) ≡ true →
+    i + (1 + c.words) ≤ length k.text_words →
+    (c.call ≡ calls.Fork → i + 2 ≤ length k.text_words) → list_any (is_place q) (leads_by Flow (stripped file) p (Call c)) ≡ true →
     Within start (length k.text_words) q (leads_by Promise k i (Call c))
-call_leads file k start p i q c at ends parent e = elim (or_cases
+call_leads file k start p i q c at whole parent e = elim (or_cases
     (is_place q (if returns c.call || false then Some (2 * (p + (1 + c.words))) else None)) (is_place q (parent_of (stripped file) p c.call) || false) e) [
       | inl h ↦
           let on = leads_on (returns c.call || false) q (2 * (p + (1 + c.words))) h in
-          let inside = on_below (returns c.call || false) (2 * (i + (1 + c.words))) (2 * length k.text_words) on.0 ends.0 in
           record {
             j = i + (1 + c.words);
             at = omega (arith, on.1);
-            below = omega (arith, inside);
-            led =
+            within = whole;
+            led = λ below.
                 any_here (is_place (i + (1 + c.words)) (next_of Promise k i (Call c)))
                 (is_place (i + (1 + c.words)) (parent_of k i c.call) || false)
                 (leads_on_back (returns c.call || is_followed Promise k i (Call c)) (i + (1 + c.words)) (2 * (i + (1 + c.words)))
@@ -116,10 +112,10 @@ call_leads file k start p i q c at ends parent e = elim (or_cases
           record {
             j = led.0;
             at = led.1;
-            below = led.2;
-            led =
+            within = led.2;
+            led = λ below.
                 any_later (is_place led.0 (next_of Promise k i (Call c))) (is_place led.0 (parent_of k i c.call) || false)
-                (any_here (is_place led.0 (parent_of k i c.call)) false led.3);
+                (any_here (is_place led.0 (parent_of k i c.call)) false (led.3 below));
           }
     ]
 
@@ -194,14 +190,14 @@ short_in (Some row) w instruction e = by (is_missing (field_operand row.first w)
         subst (λ (i : Instruction). IsShort i.first × IsShort i.second) same (short_operand row.first w, short_operand row.second w)
 
 pub branch_leads : (x : Option Operand) (start length p i q : ℕ) → IsShort x → p ≡ start + i → 2 * (start + length) < 65536 →
-    IfSome (branch_of (2 * i) x) (λ a. a < 2 * length) → is_place q (branch_of (2 * p) x) ≡ true →
-    (j : ℕ) × (q ≡ start + j) × (j < length) × (is_place j (branch_of (2 * i) x) ≡ true)
+    IfSome (branch_of (2 * i) x) (λ a. a ≤ 2 * length) → is_place q (branch_of (2 * p) x) ≡ true →
+    (j : ℕ) × (q ≡ start + j) × (j ≤ length) × (is_place j (branch_of (2 * i) x) ≡ true)
 branch_leads (Some (operands.Forward v)) start length p i q short at fits inside e =
     forward (if nat_lt v 0o200 then 0 else 0o177000) inside
     (placed q ((2 * p + 2 + 2 * v + (if nat_lt v 0o200 then 0 else 0o177000)) % 0o200000) e)
   where
-    forward : (c : ℕ) → (2 * i + 2 + 2 * v + c) % 0o200000 < 2 * length → (2 * p + 2 + 2 * v + c) % 0o200000 ≡ 2 * q →
-        (j : ℕ) × (q ≡ start + j) × (j < length) × (is_place j (Some ((2 * i + 2 + 2 * v + c) % 0o200000)) ≡ true)
+    forward : (c : ℕ) → (2 * i + 2 + 2 * v + c) % 0o200000 ≤ 2 * length → (2 * p + 2 + 2 * v + c) % 0o200000 ≡ 2 * q →
+        (j : ℕ) × (q ≡ start + j) × (j ≤ length) × (is_place j (Some ((2 * i + 2 + 2 * v + c) % 0o200000)) ≡ true)
     forward c small is =
         let sum : 2 * start + (2 * i + 2 + 2 * v + c) % 0o200000 ≡ 2 * q = omega arith in (
           (2 * i + 2 + 2 * v + c) % 0o200000 / 2,
@@ -211,7 +207,7 @@ branch_leads (Some (operands.Forward v)) start length p i q short at fits inside
         )
 branch_leads (Some (operands.Backward v)) start length p i q short at fits inside e =
     let is : (2 * p + 0o400002 - 2 * v) % 0o200000 ≡ 2 * q = placed q ((2 * p + 0o400002 - 2 * v) % 0o200000) e in
-    let small : (2 * i + 0o400002 - 2 * v) % 0o200000 < 2 * length = inside in
+    let small : (2 * i + 0o400002 - 2 * v) % 0o200000 ≤ 2 * length = inside in
     let close : v < 0o400 = short in
     let sum : 2 * start + (2 * i + 0o400002 - 2 * v) % 0o200000 ≡ 2 * q = omega arith in (
       (2 * i + 0o400002 - 2 * v) % 0o200000 / 2,
@@ -287,17 +283,15 @@ pub record JumpBy (file k : Contents) (start i q : ℕ) (instruction : Instructi
   pub goes : GoesBy instruction.row.operation (start + place) q operand word
   pub own_word : Option ℕ
   pub here : own_word ≡ slice_get k.text_words place
-  pub ends : IfSome (jump k instruction.row.operation place operand own_word) (λ a. a < 2 * length k.text_words)
   pub led : (j : ℕ) → is_place j (jump k instruction.row.operation place operand own_word) ≡ true → list_any (is_place j) own ≡ true
 
 module _ (file k : Contents) (start p i q w : ℕ) (f g : List ℕ) (instruction : Instruction) (at : p ≡ start + i) (fits : 2 * q < 65536)
     (here : drop i k.text_words ≡ w ∷ f) (there : drop p file.text_words ≡ w ∷ g) (own : List (Option ℕ)) where
   jump_by_operand : (x : Option Operand) (n : ℕ) → IsOperand instruction i x (i + 1 + n) →
-      IfSome (jump k instruction.row.operation (i + 1 + n) x (word_for x n f)) (λ a. a < 2 * length k.text_words) →
       ((j : ℕ) → is_place j (jump k instruction.row.operation (i + 1 + n) x (word_for x n f)) ≡ true → list_any (is_place j) own ≡ true) →
       is_place q (jump (stripped file) instruction.row.operation (p + 1 + n) x (word_for x n g)) ≡ true →
       JumpBy file k start i q instruction own
-  jump_by_operand x n is ends led e =
+  jump_by_operand x n is led e =
       let goes = goes_by file instruction.row.operation (p + 1 + n) q x (word_for x n g) fits e in
       let takes : takes_word x ≡ true = takes_its_word x goes.way goes.mode in
       let sum : p + 1 + n ≡ start + (i + 1 + n) = omega arith in
@@ -310,14 +304,15 @@ module _ (file k : Contents) (start p i q w : ℕ) (f g : List ℕ) (instruction
         goes = subst (λ (m : ℕ). GoesBy instruction.row.operation m q x (word_for x n g)) sum goes;
         own_word = word_for x n f;
         here = word_is x n i w k.text_words f takes here;
-        ends = ends;
         led = led;
       }
 
 module _ (file k : Contents) (start p i q w : ℕ) (f g : List ℕ) (instruction : Instruction) (at : p ≡ start + i) (fits : 2 * q < 65536)
     (inside : 2 * (start + length k.text_words) < 65536) (here : drop i k.text_words ≡ w ∷ f) (there : drop p file.text_words ≡ w ∷ g)
     (is : instruction_of w ≡ Some instruction)
-    (ends : AllByRecursion (λ o. IfSome o (λ a. a < 2 * length k.text_words)) (leads_by Flow k i (Machine (decoded instruction f)))) where
+    (whole : i + (1 + following_words instruction) ≤ length k.text_words)
+    (first : IfSome (branch_of (2 * i) instruction.first) (λ a. a ≤ 2 * length k.text_words))
+    (second : IfSome (branch_of (2 * i) instruction.second) (λ a. a ≤ 2 * length k.text_words)) where
   abbrev own : List (Option ℕ)
   own = leads_by Promise k i (Machine (decoded instruction f))
 
@@ -353,25 +348,23 @@ module _ (file k : Contents) (start p i q w : ℕ) (f g : List ℕ) (instruction
       let on = leads_on (flows (stripped file) p instruction || false) q (2 * (p + line_size)) e in
       let flow : flows k i instruction ≡ true =
       flows_more file k p i instruction (or-nothing (flows (stripped file) p instruction) on.0) in
-      let low = on_below (flows k i instruction || false) (2 * (i + line_size)) (2 * length k.text_words)
-      (any_here (flows k i instruction) false flow) ends.0 in
       record {
         j = i + line_size;
         at = omega (arith, on.1);
-        below = omega (arith, low);
-        led =
+        within = whole;
+        led = λ below.
             any_here (is_next (i + line_size)) (after_next (i + line_size))
             (leads_on_back (flows k i instruction || is_followed Promise k i (Machine (decoded instruction f))) (i + line_size) (2 * (i + line_size))
             (any_here (flows k i instruction) (is_followed Promise k i (Machine (decoded instruction f))) flow) refl);
       }
 
   -- to the target of a branch
-  branches_lead : (x : Option Operand) → IsShort x → IfSome (branch_of (2 * i) x) (λ a. a < 2 * length k.text_words) →
+  branches_lead : (x : Option Operand) → IsShort x → IfSome (branch_of (2 * i) x) (λ a. a ≤ 2 * length k.text_words) →
       ((j : ℕ) → is_place j (branch_of (2 * i) x) ≡ true → list_any (is_place j) own ≡ true) → is_place q (branch_of (2 * p) x) ≡ true →
       Within start (length k.text_words) q own
   branches_lead x short low led e =
       let b = branch_leads x start (length k.text_words) p i q short at inside low e in
-      record { j = b.0; at = b.1; below = b.2; led = led b.0 b.3 }
+      record { j = b.0; at = b.1; within = b.2; led = λ below. led b.0 b.3 }
 
   abbrev JumpsBy : Type 0
   JumpsBy = JumpBy file k start i q instruction own
@@ -381,8 +374,6 @@ module _ (file k : Contents) (start p i q w : ℕ) (f g : List ℕ) (instruction
       let none : i + 1 ≡ i + 1 + 0 = omega arith in
       let none_too : p + 1 ≡ p + 1 + 0 = omega arith in
       jump_by_operand file k start p i q w f g instruction at fits here there own instruction.first 0 (inl (refl, sym none))
-      (subst (λ (m : ℕ). IfSome (jump k operation m instruction.first (word_for instruction.first 0 f)) (λ a. a < 2 * length k.text_words))
-      none ends.1.1.1.0)
       (λ j h. any_later (is_next j) (after_next j) (any_later (is_place j (branch_of (2 * i) instruction.first))
       (is_place j (branch_of (2 * i) instruction.second) || jumps_after j)
       (any_later (is_place j (branch_of (2 * i) instruction.second)) (jumps_after j)
@@ -394,7 +385,6 @@ module _ (file k : Contents) (start p i q w : ℕ) (f g : List ℕ) (instruction
       (word_for instruction.second words_first g)) ≡ true → JumpsBy
   second_jumps e =
       jump_by_operand file k start p i q w f g instruction at fits here there own instruction.second words_first (inr (refl, refl))
-      ends.1.1.1.1.0
       (λ j h. any_later (is_next j) (after_next j) (any_later (is_place j (branch_of (2 * i) instruction.first))
       (is_place j (branch_of (2 * i) instruction.second) || jumps_after j)
       (any_later (is_place j (branch_of (2 * i) instruction.second)) (jumps_after j)
@@ -425,11 +415,11 @@ module _ (file k : Contents) (start p i q w : ℕ) (f g : List ℕ) (instruction
       elim (or_cases next (branch_one || (branch_two || (jump_one || (jump_two || false)))) e) [
         | inl h ↦ inl (next_leads h)
         | inr a ↦ elim (or_cases branch_one (branch_two || (jump_one || (jump_two || false))) a) [
-          | inl h ↦ inl (branches_lead instruction.first short.0 ends.1.0
+          | inl h ↦ inl (branches_lead instruction.first short.0 first
               (λ j b. any_later (is_next j) (after_next j) (any_here (is_place j (branch_of (2 * i) instruction.first))
               (is_place j (branch_of (2 * i) instruction.second) || jumps_after j) b)) h)
           | inr b ↦ elim (or_cases branch_two (jump_one || (jump_two || false)) b) [
-            | inl h ↦ inl (branches_lead instruction.second short.1 ends.1.1.0
+            | inl h ↦ inl (branches_lead instruction.second short.1 second
                 (λ j b. any_later (is_next j) (after_next j) (any_later (is_place j (branch_of (2 * i) instruction.first))
                 (is_place j (branch_of (2 * i) instruction.second) || jumps_after j)
                 (any_here (is_place j (branch_of (2 * i) instruction.second)) (jumps_after j) b))) h)

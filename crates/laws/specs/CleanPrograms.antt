@@ -5,10 +5,10 @@
 -- to that of `jsr` or `jmp` by modes 37 and 67. The way ends at `jsr r5,f`: control goes to `f`, and nobody knows whether it comes back to
 -- the next word. All of that is `IsReached` of the file without its symbols, for these could say more than the words.
 --
--- All of each object's text is taken to be instructions, as by `-t`. Two things are asked besides: control leaves the text of an object only
--- by jumps and calls of names, and these are names of text.
+-- All of each object's text is taken to be instructions, as by `-t`. Two things are asked besides. A jump or a call refers to its own text, or
+-- to a name of text. After `sys fork` the parent's word is in the text, or is the first one after it.
 use Rattle.std.specs.Prelude.{◌≡◌, ◌≢◌, ℕ, ◌+◌, ◌*◌, ◌/◌, ◌<◌, ◌≤◌, ◌⊎◌, true, false, List, [], ◌∷◌, ◌++◌, length, Option, Some, slice_get}
-use Rattle.std.specs.Prelude.{slice_index, IfSome}
+use Rattle.std.specs.Prelude.{slice_index}
 use Rattle.std.specs.List.{AllByRecursion}
 use Rattle.aout_core.specs.{declared.symbol.Symbol.Symbol, declared.symbol.Segment.TheVariants.TextSeg, declared.reloc.Reloc.Reloc}
 use Rattle.aout_core.specs.{Contents.Contents, Contents.IsWord, Strip.stripped, WellFormed.is_external, WellFormed.symbol_number}
@@ -23,7 +23,7 @@ use Rattle.instructions.specs.{declared.unix.UnixLine.TheVariants.Call, declared
 use Rattle.instructions.specs.declared.call_table.CallRow.{CallRow}
 use Rattle.disassemblies.specs.Lines.{unix_line_in}
 use Rattle.suspicions.specs.declared.evidence.Evidence.TheVariants.{Flow, Promise}
-use Rattle.suspicions.specs.{Reached.is_text, Reached.leads_to, ReachedLaw.IsReached, Suspicions.suspicions, Suspicions.is_foreign}
+use Rattle.suspicions.specs.{Reached.is_text, ReachedLaw.IsReached, Suspicions.suspicions, Suspicions.is_foreign}
 use Rattle.suspicions.specs.SureLaw.{NoneIsSure}
 use Rattle.laws.specs.{OperandPlaces.addressing_of, OperandPlaces.IsOperand, OperandPlaces.IsDirect, OperandWords.machine_value}
 use Rattle.laws.specs.ReachedInstructions.{kind_said, KeepsInstruction, BeginsInstruction}
@@ -58,30 +58,42 @@ pub record RefersToText (os : List Contents) (k : Contents) (a : Addressing) (pl
   pub outer : is_external target.symbol ≡ true
   pub names : target.symbol.name ≡ mention.name
 
--- a jump or a call by modes 37 or 67 at a place of k refers to the text of k, or to such a name
-abbrev pub JumpsToText : List Contents → Contents → ℕ → Type 0
-JumpsToText os k place =
+-- the operand word at a place of k, with this relocation word, refers to the text of k or to its end
+pub record RefersToOwnText (k : Contents) (a : Addressing) (place : ℕ) (r : Reloc) : Type 0 where
+  pub kind : kind_said a r ≡ Some kinds.TextSeg
+  pub inside : (word : ℕ) → slice_get k.text_words place ≡ Some word → machine_value a (2 * place + 2) word ≤ 2 * length k.text_words
+
+-- so does a jump or a call by modes 37 or 67 at a place of k, by its operand word and relocation word
+abbrev pub JumpsTo : (Addressing → ℕ → Reloc → Type 0) → Contents → ℕ → Type 0
+JumpsTo Refers k place =
     (instruction : Instruction) (a b : Option ℕ) → unix_line_in Unix k place ≡ Machine (Decoded instruction a b) →
     jumps instruction.row.operation ≡ true → (operand : Option Operand) (p : ℕ) → IsOperand instruction place operand p →
     (way : Addressing) → addressing_of operand ≡ Some way → IsDirect way → (r : Reloc) → slice_get k.text_reloc p ≡ Some r →
-    (kind_said way r ≡ Some kinds.TextSeg) ⊎ RefersToText os k way p r
+    Refers way p r
 
--- each address to which the line at a place leads is before the end of the text, and after `sys fork` so is that of the parent
-pub record StaysInside (k : Contents) (place : ℕ) : Type 0 where
-  pub ends : AllByRecursion (λ o. IfSome o (λ address. address < 2 * length k.text_words)) (leads_to Flow k place)
-  pub parent : (c : CallRow) → unix_line_in Unix k place ≡ Call c → c.call ≡ Fork → place + 2 < length k.text_words
+-- it refers to its own text, or to such a name
+abbrev pub JumpsToText : List Contents → Contents → ℕ → Type 0
+JumpsToText os k place = JumpsTo (λ way p r. RefersToOwnText k way p r ⊎ RefersToText os k way p r) k place
 
--- with `-t` nothing is suspicious for sure in the object; control stays within its text, and jumps to text
+-- after `sys fork` at a place the parent goes on within the text, or at its end
+abbrev pub KeepsParent : Contents → ℕ → Type 0
+KeepsParent k place = (c : CallRow) → unix_line_in Unix k place ≡ Call c → c.call ≡ Fork → place + 2 ≤ length k.text_words
+
+-- with `-t` nothing is suspicious for sure in the object; and what is asked besides
 pub record IsClean (os : List Contents) (k : Contents) : Type 0 where
   pub words : AllByRecursion IsWord k.text_words
   pub quiet : NoneIsSure (suspicions Promise k)
-  pub stays : (place : ℕ) → IsReached Promise k place → StaysInside k place
+  pub parents : (place : ℕ) → IsReached Promise k place → KeepsParent k place
   pub jumps : (place : ℕ) → IsReached Promise k place → JumpsToText os k place
 
 -- the program begins at a symbol of text
 pub record BeginsAtSymbol (os : List Contents) (x : Outcome) : Type 0 where
   pub first : TextSymbol os
   pub is : x.file.header.entry_point ≡ total TextSeg first.before + first.symbol.value
+
+-- or at 0, as it does if no name is given
+abbrev pub Begins : List Contents → Outcome → Type 0
+Begins os x = (x.file.header.entry_point ≡ 0) ⊎ BeginsAtSymbol os x
 
 -- an instruction begins with word i of the text of k, and is in the program
 pub record IsKept (o : Choices) (x : Outcome) (rows : List Symbol) (os before : List Contents) (k : Contents) (i : ℕ) : Type 0 where
@@ -105,4 +117,4 @@ CleanObjectsMakeCleanPrograms =
     (forced : List (List ℕ)) (os : List Contents) (o : Choices) (x : Outcome) → AllByRecursion IsObject os →
     AllByRecursion (IsClean os) os → o.keep ≢ Nothing → (l : IsLinkedFrom forced os o x) → x.report.multiples ≡ [] →
     x.file.header.text_size ≤ 65535 →
-    BeginsAtSymbol os x → (place : ℕ) → IsRun x.file place → IsOfObject o x l.rows os place
+    Begins os x → (place : ℕ) → IsRun x.file place → IsOfObject o x l.rows os place

@@ -92,10 +92,11 @@ pub fn reached_instruction_law()
     ensures sure { SurePlacesBegin }
 {}
 
-/// Clean objects make a clean program. An object is clean if `v7-explain -c -t` says nothing odd of its instructions for sure, and if, from
-/// each place that `-t` reaches, control leaves its text only by jumps and calls of names. Each `jsr` and `jmp` by modes 37 or 67 there has
-/// to refer to the object's own text, or to the name of a text symbol of one of the objects, and to no byte beyond it. The entry point has
-/// to be a text symbol too. (ld(1), the handbook of the PDP-11/70; what is suspicious and what is reached: own choice)
+/// Clean objects make a clean program. An object is clean if `v7-explain -c -t` says nothing odd of its instructions for sure, and its jumps
+/// and calls refer to text. Each `jsr` and `jmp` by modes 37 or 67, at a place that `-t` reaches, has to refer to the object's own text or
+/// its end, or to the name of a text symbol of one of the objects, and to no byte beyond it. After `sys fork` the parent's word has to be
+/// in the text, or the first one after it. The entry point has to be 0 or a text symbol. A line may lead to the end of its text, where the
+/// next one begins. (ld(1), the handbook of the PDP-11/70; what is suspicious and what is reached: own choice)
 ///
 /// The law is about any link of such objects that keeps symbols, in which no name is multiply defined. Follow the program from its entry
 /// point: to the line after an instruction that lets control pass, to the target of a branch, and to that of a `jsr` or `jmp` by modes 37

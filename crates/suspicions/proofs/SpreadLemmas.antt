@@ -4,7 +4,7 @@ use Rattle.std.proofs.{lemmas.Bool.lt-ltb, lemmas.Bool.le-ltb, lemmas.List.drop_
 use Rattle.std.specs.Prelude.{Option, map, [], ◌∷◌, Bool, if◌then◌else◌, List, ◌++◌, length, drop, slice_index}
 use Rattle.aout_core.specs.Contents.{Contents}
 use Rattle.findings.specs.Found.{Found}
-use Rattle.suspicions.specs.Reached.{leads_to, visited, visited_all, named, shown, shown_from, entry, distances, evident, spread}
+use Rattle.suspicions.specs.Reached.{leads_to, visited, visited_all, named, shown, shown_from, entry, nameless, evident, spread}
 use Rattle.suspicions.specs.{declared.evidence.Evidence.Evidence, Suspicions.suspicious_place, Suspicions.suspicious_words}
 
 -- the next place, and those after it
@@ -57,12 +57,12 @@ joined : (n : ℕ) (found : List ℕ) (xs ys : List (Option ℕ)) → visited_al
 joined n found [] ys = refl
 joined n found (x ∷ xs) ys = joined n (visited n found x) xs ys
 
--- the places with which an evidence begins: the entry, then those of symbols, then those of distances
+-- the places with which an evidence begins: the entry, then those of symbols, then those that need no name
 pub begun_with : (e : Evidence) (c : Contents) (n : ℕ) (found first second third : List ℕ) → first ≡ visited n found (entry c.header) →
-    second ≡ visited_all n first (map (named e c) c.symbols) → third ≡ visited_all n second (distances e c) →
+    second ≡ visited_all n first (map (named e c) c.symbols) → third ≡ visited_all n second (nameless e c) →
     third ≡ visited_all n found (evident e c)
 begun_with e c n found first second third one two three =
     three
-    ∙ ap (λ (l : List ℕ). visited_all n l (distances e c))
+    ∙ ap (λ (l : List ℕ). visited_all n l (nameless e c))
     (two ∙ ap (λ (l : List ℕ). visited_all n l (map (named e c) c.symbols)) one)
-    ∙ sym (joined n (visited n found (entry c.header)) (map (named e c) c.symbols) (distances e c))
+    ∙ sym (joined n (visited n found (entry c.header)) (map (named e c) c.symbols) (nameless e c))

@@ -7,7 +7,8 @@
 --   show it if a line of the sweep begins there that has an operand word from the pc that is relocated so, which no data has;
 -- - the flow shows a place if a symbol of text has its address and `jsr r5,csv` is there, with which the Seventh Edition's C compiler
 --   begins each function;
--- - the promise that all of the text is instructions shows each place that has the address of a symbol of text.
+-- - the promise that all of the text is instructions shows the beginning of the text, and each place that has the address of a symbol of
+--   text.
 --
 -- Each of them shows the entry point of a linked file. A line leads to the targets of its branch, and to that of its jump or call within
 -- the text. `sys fork` leads to the line after it, for the child, and to the word after the next one, for the parent. A line leads to
@@ -260,13 +261,15 @@ shown_from c place (w ∷ ws) = shown c place ∷ shown_from c (place + 1) ws
 abbrev pub entry : Header → Option ℕ
 entry h = if eqb h.flag 0 then None else Some h.entry_point
 
-abbrev pub distances : Evidence → Contents → List (Option ℕ)
-distances Names c = shown_from c 0 c.text_words
-distances _ c = []
+-- the addresses with which the evidence begins and which need no name: of such lines, and the beginning of the text
+abbrev pub nameless : Evidence → Contents → List (Option ℕ)
+nameless Names c = shown_from c 0 c.text_words
+nameless Flow c = []
+nameless Promise c = Some 0 ∷ []
 
 -- the addresses with which the evidence begins
 abbrev pub evident : Evidence → Contents → List (Option ℕ)
-evident e c = entry c.header ∷ (map (named e c) c.symbols ++ distances e c)
+evident e c = entry c.header ∷ (map (named e c) c.symbols ++ nameless e c)
 
 -- one place after another leads to more; at most so many
 abbrev pub spread : Evidence → Contents → ℕ → ℕ → List ℕ → List ℕ

@@ -126,4 +126,4 @@ text_word_text address word m =
 unfoldable pub absolute_text : ℕ → List ℕ → ℕ → List ℕ
 absolute_text n name value =
     symbol_title n name ++ codes " is absolute with value " ++ six_digits value
-    ++ codes ", which is in text, and no symbol is of text: its type is 42"
+    ++ codes ", which is in text, and no symbol is of text: its type is 000042"

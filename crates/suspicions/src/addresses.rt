@@ -119,7 +119,7 @@ fn absolute_text(findings: &Findings, number: usize, symbol: &Symbol) -> Text
     put_symbol_title(&mut text, number, symbol);
     text.put(" is absolute with value ");
     text.put_six_digits(u32::from(symbol.value));
-    text.put(", which is in text, and no symbol is of text: its type is 42");
+    text.put(", which is in text, and no symbol is of text: its type is 000042");
     text
 }
 

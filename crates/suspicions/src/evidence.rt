@@ -8,6 +8,7 @@ pub enum Evidence {
     /// Control comes there for sure, from the entry of a linked file, or from a function that begins as those of the Seventh Edition's C
     /// compiler do.
     Flow,
-    /// The caller promises that all of the text is instructions: then one begins at each symbol of text, and after each other one.
+    /// The caller promises that all of the text is instructions: then one begins at its beginning, at each symbol of text, and after each
+    /// other one.
     Promise,
 }

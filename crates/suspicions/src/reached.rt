@@ -5,11 +5,13 @@ ghost use Rattle.instructions.specs.UnixLines.{unix_length};
 ghost use Rattle.instructions.specs.declared.line.Line.TheVariants.{Decoded};
 ghost use Rattle.instructions.specs.declared.unix.UnixLine.TheVariants.{Machine};
 ghost use Rattle.instructions.specs.Instructions.{word_count_of};
-ghost use Rattle.suspicions.specs.Reached.{leads_by, leads_to, visited, visited_all, is_still, begins, named, is_distance, has_distance, is_shown_by, shown, shown_from, entry, distances, evident, spread, reached, is_reached};
+ghost use Rattle.suspicions.specs.Reached.{leads_by, leads_to, visited, visited_all, is_still, begins, named, is_distance, has_distance, is_shown_by, shown, shown_from, entry, nameless, evident, spread, reached, is_reached};
 ghost use Rattle.suspicions.specs.internal.Marks.{AreMarks, is_unmarked};
 
 use crate::evidence::Evidence;
-use crate::leads::{address_of, branch_of, calls_csv, is_text, jump, next_of, parent_of};
+use crate::leads::{
+    address_of, branch_of, calls_csv, is_promised, is_text, jump, next_of, parent_of,
+};
 use aout_core::{File, Header, Reloc, Symbol};
 use disassemblies::Sweep;
 use instructions::{Addressing, Instruction, Line, Operand, UnixLine, is_relocated};
@@ -184,8 +186,8 @@ fn shown(sweep: &Sweep<'_>, place: usize) -> Option<u16>
     }
 }
 
-/// Notes the places of the lines that have such words, which are evidence of names.
-fn visit_distances(
+/// Notes the places that need no name: of the lines that have such words, or the beginning of a text that is all instructions.
+fn visit_nameless(
     marks: &mut [bool],
     found: &mut Vec<usize>,
     evidence: Evidence,
@@ -193,10 +195,13 @@ fn visit_distances(
 ) -> Result<(), AllocError>
     requires { AreMarks marks.old found.old.items }
     ensures found { OnOk result (found.new.items
-        ≡ visited_all (length marks.old) found.old.items (distances evidence sweep.now)) }
+        ≡ visited_all (length marks.old) found.old.items (nameless evidence sweep.now)) }
     ensures marks { OnOk result (AreMarks marks.new found.new.items) }
     ensures same { length marks.new ≡ length marks.old }
 {
+    if is_promised(evidence) {
+        return visit(marks, found, Some(0));
+    }
     if evidence != Evidence::Names {
         return Ok(());
     }
@@ -234,7 +239,7 @@ fn visit_evident(
     let file = sweep.file();
     visit(marks, found, entry(file.header()))?;
     visit_symbols(marks, found, evidence, file)?;
-    visit_distances(marks, found, evidence, sweep)?;
+    visit_nameless(marks, found, evidence, sweep)?;
     Ok(())
 }
 

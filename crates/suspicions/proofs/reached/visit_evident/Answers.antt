@@ -1,6 +1,6 @@
 use Rattle.std.proofs.Common.{◌≡◌, ℕ, Option, length, map, ap, ◌∙◌, rules}
 use Rattle.aout_core.specs.{declared.header.Header.Header, Contents.Contents}
-use Rattle.suspicions.specs.Reached.{visited, visited_all, named, entry, distances}
+use Rattle.suspicions.specs.Reached.{visited, visited_all, named, entry, nameless}
 use Rattle.suspicions.proofs.SpreadLemmas.{begun_with}
 use Rattle.suspicions.proofs.reached.visit_evident.Goals as goal
 
@@ -14,10 +14,10 @@ returns-clause-found c =
     let header : c.header.result.now ≡ file.header = search rules in
     let first : length c.visit.new.marks ≡ n = c.visit.ensures.same in
     let second : length c.visit_symbols.new.marks ≡ n = c.visit_symbols.ensures.same ∙ first in
-    begun_with e file n found c.visit.new.found.items c.visit_symbols.new.found.items c.visit_distances.new.found.items
+    begun_with e file n found c.visit.new.found.items c.visit_symbols.new.found.items c.visit_nameless.new.found.items
     (c.in_ok-visit.ensures.found ∙ ap (λ (o : Option ℕ). visited n found o) (c.entry.ensures ∙ ap (λ (h : Header). entry h) header))
     (c.in_ok-visit_symbols.ensures.found
     ∙ ap (λ (k : ℕ). visited_all k c.visit.new.found.items (map (named e c.file-file.result.now) c.file-file.result.now.symbols)) first
     ∙ ap (λ (f : Contents). visited_all n c.visit.new.found.items (map (named e f) f.symbols)) same)
-    (c.in_ok-visit_distances.ensures.found
-    ∙ ap (λ (k : ℕ). visited_all k c.visit_symbols.new.found.items (distances e file)) second)
+    (c.in_ok-visit_nameless.ensures.found
+    ∙ ap (λ (k : ℕ). visited_all k c.visit_symbols.new.found.items (nameless e file)) second)

@@ -1,6 +1,6 @@
 use Rattle.std.proofs.Common.{◌≡◌, drop, length}
 use Rattle.suspicions.specs.{Reached.visited_all, Reached.shown_from, internal.Marks.AreMarks}
-use Rattle.suspicions.proofs.reached.visit_distances.Given as goal
+use Rattle.suspicions.proofs.reached.visit_nameless.Given as goal
 
 -- what the places that are left give, and the marks
 abbrev pub invariant-loop-place : goal.invariant-loop-place
