@@ -1,7 +1,7 @@
 -- Where no name is multiply defined, each definition of the objects holds in the linked file.
 use Rattle.std.proofs.Common.{◌≡◌, ◌≢◌, ℕ, Bool, true, false, eqb, List, [], ◌∷◌, ◌++◌, Option, Some, refl, sym, ◌∙◌, ap, subst, arith}
 use Rattle.std.specs.Prelude.{slice_get, Ok}
-use Rattle.aout_core.specs.declared.symbol.Segment.TheVariants.{Undefined, Absolute, TextSeg, DataSeg, BssSeg, Other}
+use Rattle.aout_core.specs.declared.symbol.Segment.TheVariants.{Undefined, Absolute, Other}
 use Rattle.aout_core.specs.WellFormed.{is_external, masked_type, segment_of, segment_numbered}
 use Rattle.aout_core.specs.{declared.symbol.Symbol.Symbol, declared.symbol.Segment.Segment, Contents.Contents, Words.plus}
 use Rattle.aout_core.proofs.SegmentLemmas.{by_number}

@@ -3,7 +3,7 @@ use Rattle.std.proofs.Common.{◌≡◌, ◌≢◌, ℕ, Bool, true, false, cond
 use Rattle.std.proofs.Common.{sym, ◌∙◌, ap, subst}
 use Rattle.std.proofs.lemmas.Slice.Eq.{bytes_eq-Decides}
 use Rattle.std.specs.Prelude.{bytes_eq, filter, Ok}
-use Rattle.aout_core.specs.declared.symbol.Segment.TheVariants.{Undefined, Absolute, TextSeg, DataSeg, BssSeg, Other}
+use Rattle.aout_core.specs.declared.symbol.Segment.TheVariants.{Undefined, TextSeg, DataSeg, BssSeg, Other}
 use Rattle.aout_core.specs.{declared.symbol.Symbol.Symbol, Contents.Contents, Words.plus, WellFormed.is_external}
 use Rattle.link_session.specs.Mentions.{mentions, names_by_first_mention, externals}
 use Rattle.link_session.specs.{declared.state.State.State, declared.state.State.TheVariants.Defined}

@@ -10,7 +10,7 @@ use Rattle.link_session.specs.Mentions.{Mention, mentions, names_by_first_mentio
 use Rattle.link_session.specs.Cells.{Referent, to_segment, to_name, referent, words_of}
 use Rattle.link_session.specs.{declared.state.State.State, declared.state.State.TheVariants.Defined}
 use Rattle.link_session.specs.{declared.state.State.TheVariants.Wanted, Earlier.with_earlier, Starts.total, Starts.shift, States.state}
-use Rattle.tool_options.specs.declared.options.Keep.TheVariants.{All, NotL, Externals, Nothing}
+use Rattle.tool_options.specs.declared.options.Keep.TheVariants.{Nothing}
 use Rattle.tool_options.specs.Choices.{Choices, lays_commons}
 use Rattle.tool_options.specs.{NameLists.is_among, declared.options.Layout.Layout, declared.options.Keep.Keep}
 use Rattle.link_out.specs.function.Plans.{Plan, plan, commons_laid, common_offset}

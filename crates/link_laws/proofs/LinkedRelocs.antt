@@ -4,7 +4,7 @@ use Rattle.std.proofs.Common.{map, length, Option, Some, None, refl, sym, ◌∙
 use Rattle.std.proofs.{lemmas.Bool.ltb-false, lemmas.Bool.ltb-true, lemmas.List.Folds.list_any-append}
 use Rattle.std.specs.Prelude.{bytes_eq, filter, slice_get, nat_lt}
 use Rattle.std.specs.List.{flat_map, list_any, AllByRecursion}
-use Rattle.aout_core.specs.declared.symbol.Segment.TheVariants.{Undefined, Absolute, TextSeg, DataSeg, BssSeg, Other}
+use Rattle.aout_core.specs.declared.symbol.Segment.TheVariants.{Undefined, TextSeg, DataSeg, BssSeg, Other}
 use Rattle.aout_core.specs.WellFormed.{segment_of, kind_of, symbol_number, is_wanted, kind_fault}
 use Rattle.aout_core.specs.{declared.symbol.Symbol.Symbol, declared.symbol.Segment.Segment, declared.reloc.Reloc.Reloc}
 use Rattle.aout_core.specs.{declared.reloc.Kind.Kind, declared.object.ObjectFault.ObjectFault, Contents.Contents, Words.plus}

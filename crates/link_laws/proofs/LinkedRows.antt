@@ -2,7 +2,7 @@
 use Rattle.std.proofs.Common.{◌≡◌, ℕ, ◌+◌, ◌-◌, ◌%◌, ◌≤◌, Bool, true, false, cond, eqb, List, [], ◌∷◌, map, refl, sym, ◌∙◌, ap, subst}
 use Rattle.std.proofs.Common.{arith}
 use Rattle.std.specs.Prelude.{bytes_eq}
-use Rattle.aout_core.specs.declared.symbol.Segment.TheVariants.{Undefined, Absolute, TextSeg, DataSeg, BssSeg, Other}
+use Rattle.aout_core.specs.declared.symbol.Segment.TheVariants.{Absolute, TextSeg, DataSeg, BssSeg}
 use Rattle.aout_core.specs.{declared.header.Header.Header, declared.symbol.Symbol.Symbol, Words.plus, Addresses.data_start_in}
 use Rattle.link_session.specs.{declared.state.State.State, declared.state.State.TheVariants.Defined}
 use Rattle.link_session.specs.{declared.state.State.TheVariants.Wanted, Mentions.Mention, States.state}

@@ -1,6 +1,6 @@
 -- How far the segments of objects are moved.
 use Rattle.std.proofs.Common.{◌≡◌, ℕ, ◌+◌, ◌-◌, List, refl, sym, ◌∙◌, ap, arith}
-use Rattle.aout_core.specs.declared.symbol.Segment.TheVariants.{Undefined, Absolute, TextSeg, DataSeg, BssSeg, Other}
+use Rattle.aout_core.specs.declared.symbol.Segment.TheVariants.{TextSeg, DataSeg, BssSeg}
 use Rattle.aout_core.specs.Addresses.{data_start, data_start_in}
 use Rattle.aout_core.specs.{declared.symbol.Segment.Segment, Contents.Contents, Words.plus, Words.minus}
 use Rattle.link_session.specs.{Starts.total, Starts.own, Mentions.mentions}
