@@ -4,7 +4,7 @@
 --
 -- Whether two others are needed is not shown. A text of more than 65,535 bytes is too long to write out. A link without symbols has the text
 -- of one with them; so no program refutes the law without the premise that symbols are kept, if its table has room in a file.
-use Rattle.std.proofs.Common.{◌≡◌, ◌≢◌, ℕ, ◌+◌, ◌*◌, ◌/◌, ◌<◌, ◌≤◌, ◌⊎◌, inl, inr, Bool, true, false, eqb, nat_lt, List, [], ◌∷◌, ◌++◌, length}
+use Rattle.std.proofs.Common.{◌≡◌, ◌≢◌, ℕ, ◌+◌, ◌*◌, ◌/◌, ◌%◌, ◌<◌, ◌≤◌, ◌⊎◌, inl, inr, Bool, true, false, eqb, nat_lt, List, [], ◌∷◌, ◌++◌, length}
 use Rattle.std.proofs.Common.{map, Option, Some, None, refl, sym, ap, ◌∙◌, subst, arith}
 use Rattle.std.proofs.{lemmas.Bool.or_cases, lemmas.Bool.eqb-true, lemmas.Bool.ltb-true, lemmas.Bool.ltb-false, lemmas.Option.same_Some}
 use Rattle.std.specs.{Prelude.slice_get, Prelude.slice_index, Prelude.Ok, List.AllByRecursion, List.list_all, List.list_any}
@@ -74,13 +74,13 @@ abbrev is_jump : UnixLine → Bool
 is_jump (Machine (Decoded i a b)) = jumps i.row.operation
 is_jump _ = false
 
-no_parent : {k : Contents} (place : ℕ) → is_fork (unix_line_in Unix k place) ≡ false → KeepsParent k place
-no_parent {k} place h c line e =
+no_parent : (k : Contents) (place : ℕ) → is_fork (unix_line_in Unix k place) ≡ false → KeepsParent k place
+no_parent k place h c line e =
     let bad : true ≡ false = sym (ap is_fork line ∙ ap forks e) ∙ h in absurd cc
 
-no_jump : {Refers : Addressing → ℕ → Reloc → Type 0} {k : Contents} (place : ℕ) → is_jump (unix_line_in Unix k place) ≡ false →
+no_jump : (Refers : Addressing → ℕ → Reloc → Type 0) (k : Contents) (place : ℕ) → is_jump (unix_line_in Unix k place) ≡ false →
     JumpsTo Refers k place
-no_jump {Refers} {k} place h instruction a b line j operand p is way mode direct r found =
+no_jump Refers k place h instruction a b line j operand p is way mode direct r found =
     let bad : true ≡ false = sym (ap is_jump line ∙ j) ∙ h in absurd cc
 
 -- a jump at the beginning whose operand, of this mode, has word 1
@@ -155,10 +155,10 @@ unfolding row_of in_row call_of
 calls_clean = record {
   words = words_so calls_o refl;
   quiet = tt;
-  parents = each calls_o _ (no_parent 0 refl, (no_parent 2 refl, tt));
+  parents = each calls_o _ (no_parent calls_o 0 refl, (no_parent calls_o 2 refl, tt));
   jumps = each calls_o _ (
     jumps_by (OwnOrText three calls_o) calls_o Relative 0o31 (inr refers) refl (inl refl, inr (refl, refl)),
-    (no_jump 2 refl, tt),
+    (no_jump _ calls_o 2 refl, tt),
   );
 }
   where
@@ -181,7 +181,7 @@ unfolding row_of in_row call_of
 jumps_clean os g outer named = record {
   words = words_so jumps_o refl;
   quiet = tt;
-  parents = each jumps_o _ (no_parent 0 refl, tt);
+  parents = each jumps_o _ (no_parent jumps_o 0 refl, tt);
   jumps = each jumps_o _ (jumps_by (OwnOrText os jumps_o) jumps_o Absolute 0o30 (inr refers) refl (inr (refl, refl), inl refl), tt);
 }
   where
@@ -203,8 +203,8 @@ unfolding row_of in_row call_of
 returns_clean os = record {
   words = words_so returns_o refl;
   quiet = tt;
-  parents = each returns_o _ (no_parent 1 refl, (no_parent 0 refl, tt));
-  jumps = each returns_o _ (no_jump 1 refl, (no_jump 0 refl, tt));
+  parents = each returns_o _ (no_parent returns_o 1 refl, (no_parent returns_o 0 refl, tt));
+  jumps = each returns_o _ (no_jump _ returns_o 1 refl, (no_jump _ returns_o 0 refl, tt));
 }
 
 abbrev program : List Contents → Outcome
@@ -304,8 +304,8 @@ unfolding row_of in_row call_of
 moves_clean os = record {
   words = words_so moves_o refl;
   quiet = tt;
-  parents = each moves_o _ (no_parent 0 refl, tt);
-  jumps = each moves_o _ (no_jump 0 refl, tt);
+  parents = each moves_o _ (no_parent moves_o 0 refl, tt);
+  jumps = each moves_o _ (no_jump _ moves_o 0 refl, tt);
 }
 
 -- with premises that clean objects meet, a place of such a program is one of the two objects
@@ -339,8 +339,8 @@ without_begins law =
     (outcome_of (link [] (with_moves beyond_o) enters_main)) refl (record {
       words = words_so beyond_o refl;
       quiet = tt;
-      parents = each beyond_o _ (no_parent 0 refl, tt);
-      jumps = each beyond_o _ (no_jump 0 refl, tt);
+      parents = each beyond_o _ (no_parent beyond_o 0 refl, tt);
+      jumps = each beyond_o _ (no_jump _ beyond_o 0 refl, tt);
     }) refl refl tt 2 (Evident 2 (less_so 2 3 refl) refl))
 
 -- a jump to a word of more than 16 bits: the link makes it the place of an operand word
@@ -365,7 +365,7 @@ unfolding row_of in_row call_of
 without_words law = nowhere (in_program law (λ os k c. (c.quiet, c.parents, c.jumps)) plain all_kept wide_o
     (as_object wide_o refl refl refl refl refl refl refl refl) (program (with_moves wide_o)) refl (
       tt,
-      each wide_o _ (no_parent 0 refl, tt),
+      each wide_o _ (no_parent wide_o 0 refl, tt),
       each wide_o _ (
         jumps_by (OwnOrText (with_moves wide_o) wide_o) wide_o Absolute 2
             (inl (goes_to wide_o 2 0o200002 refl refl refl)) refl (inr (refl, refl), inl refl),
@@ -388,7 +388,7 @@ without_quiet : CleanBy LacksQuiet Begins Once → ⊥
 unfolding row_of in_row call_of
 without_quiet law = nowhere (in_program law (λ os k c. (c.words, c.parents, c.jumps)) plain all_kept seven_o
     (as_object seven_o refl refl refl refl refl refl refl refl) (program (with_moves seven_o)) refl
-    (words_so seven_o refl, each seven_o _ (no_parent 0 refl, tt), each seven_o _ (no_jump 0 refl, tt))
+    (words_so seven_o refl, each seven_o _ (no_parent seven_o 0 refl, tt), each seven_o _ (no_jump _ seven_o 0 refl, tt))
     refl refl (inl refl) 0 (Evident 0 (less_so 0 3 refl) refl))
   where
     nowhere : InTwo seven_o moves_o 0 → ⊥
@@ -413,7 +413,7 @@ without_parent law =
     unreached_in_two forks_o 2 refl refl
     (in_program law (λ os k c. (c.words, c.quiet, c.jumps)) plain all_kept forks_o
     (as_object forks_o refl refl refl refl refl refl refl refl) (program (with_moves forks_o)) refl
-    (words_so forks_o refl, tt, each forks_o _ (no_jump 0 refl, tt))
+    (words_so forks_o refl, tt, each forks_o _ (no_jump _ forks_o 0 refl, tt))
     refl refl (inl refl) 2 (Led 0 2 (Evident 0 (less_so 0 3 refl) refl) (less_so 2 3 refl) refl))
 
 -- a jump to a number, which is the place of an operand word
@@ -427,7 +427,7 @@ without_jumps : CleanBy LacksJumps Begins Once → ⊥
 unfolding row_of in_row call_of
 without_jumps law = nowhere (in_program law (λ os k c. (c.words, c.quiet, c.parents)) plain all_kept numbers_o
     (as_object numbers_o refl refl refl refl refl refl refl refl) (program (with_moves numbers_o)) refl
-    (words_so numbers_o refl, tt, each numbers_o _ (no_parent 0 refl, tt))
+    (words_so numbers_o refl, tt, each numbers_o _ (no_parent numbers_o 0 refl, tt))
     refl refl (inl refl) 1 (Led 0 1 (Evident 0 (less_so 0 4 refl) refl) (less_so 1 4 refl) refl))
   where
     nowhere : InTwo numbers_o moves_o 1 → ⊥
@@ -453,7 +453,7 @@ without_inside law =
     (as_object leaves_o refl refl refl refl refl refl refl refl) (program (with_moves leaves_o)) refl (
       words_so leaves_o refl,
       tt,
-      each leaves_o _ (no_parent 0 refl, tt),
+      each leaves_o _ (no_parent leaves_o 0 refl, tt),
       each leaves_o _ (jumps_by (KindOrText (with_moves leaves_o) leaves_o) leaves_o Absolute 2 (inl refl) refl (inr (refl, refl), inl refl), tt),
     ) refl refl (inl refl) 3 (Led 0 3 (Evident 0 (less_so 0 4 refl) refl) (less_so 3 4 refl) refl))
   where
@@ -486,8 +486,8 @@ without_once law =
         record {
           words = words_so twice_named_o refl;
           quiet = tt;
-          parents = each twice_named_o _ (no_parent 0 refl, tt);
-          jumps = each twice_named_o _ (no_jump 0 refl, tt);
+          parents = each twice_named_o _ (no_parent twice_named_o 0 refl, tt);
+          jumps = each twice_named_o _ (no_jump _ twice_named_o 0 refl, tt);
         },
         tt,
       ),
