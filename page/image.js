@@ -30,6 +30,12 @@ function labelsOf(state) {
             labels.set(key, [...(labels.get(key) ?? []), counts ? ["span", "label", `${name}:`] : ["s", "label unused", `${name}:`]]);
         }
     }));
+    // a name with a wrong value can be at a word of another object
+    for (const { name, kind, number } of known.values()) {
+        const word = wordOf(state, wordKey(kind, number));
+        const [key, all] = [`${word?.place} ${kind} ${word?.index}`, labels.get(`${word?.place} ${kind} ${word?.index}`) ?? []];
+        if (word?.offset === number && !all.some(([, , said]) => said === `${name}:`)) labels.set(key, [...all, ["span", "label", `${name}:`]]);
+    }
     return labels;
 }
 

@@ -5,8 +5,8 @@
 // how many instructions around a word that changed are shown, or around a chosen one
 const NEAR = 2;
 const AROUND = 4;
-// the choice that is on the stage, if it is not the step, and the groups that were unfolded in this step
-let sceneOf = "";
+// the choice that is on the stage, if it is not the step, whether the step has a row for a choice, and the groups that were unfolded in it
+let [sceneOf, isKept] = ["", false];
 const openGroups = new Set();
 
 const inOrder = (a, b) => PARTS.indexOf(a.split("-")[0]) - PARTS.indexOf(b.split("-")[0]) || a.split("-")[1] - b.split("-")[1];
@@ -75,12 +75,13 @@ function unitKey(full, { place, part, index }, by) {
     return at >= piece.end || (by !== 0 && at === units[index]) ? "" : wordKey(part, full.fronts[place][PARTS.indexOf(part)] + 2 * at);
 }
 
-// the words that refer to what is chosen, below them this, and below it what it refers to
+// the words that refer to what is chosen, below them this, and below it what it refers to; then those that mean a place before or after it
 function choiceParts({ state }) {
     const references = chosenReferences(state);
     const [place, word, own] = [chosenPlace(state), wordOf(state, chosen), references.find(({ id }) => id === chosen)];
-    const others = newGroup("others", word ? "" : place, references.filter(({ id }) => id !== chosen).map(({ id }) => id));
-    if (!word) return [{ title: "", groups: [others] }];
+    const isApart = ({ to }) => !word && to && to !== place;
+    const others = newGroup("others", word ? "" : place, references.filter((one) => one.id !== chosen && !isApart(one)).map(({ id }) => id));
+    if (!word) return [{ title: "", groups: [others, ...groupsOf(state, references.filter(isApart).map(({ id }) => id))] }];
     const self = newGroup("chosen", own?.to ?? "", [chosen]);
     self.more = nearOf(state, self, [chosen], AROUND);
     return [{ title: "", groups: word.kind < 0 ? [self, others] : [others, self] }];
@@ -108,10 +109,13 @@ function scenesOf(context) {
     const steps = [...(isBrought ? [stepParts(context, true)] : []), stepParts(context, false)];
     const own = wordOf(context.state, chosen);
     const all = keysIn([...steps[steps.length - 1], ...asked]);
-    const isThere = all.has(own ? chosen : chosenPlace(context.state)) && (!own?.to || asked.length > 0 || all.has(own.to));
+    const ends = own ? [own.to].filter(Boolean) : chosenReferences(context.state).map(({ id }) => id);
+    const isThere = all.has(own ? chosen : chosenPlace(context.state)) && (asked.length > 0 || ends.every((id) => all.has(id)));
     sceneOf = isThere ? "" : chosen;
+    const kept = sceneOf ? [] : [...steps.flat(), ...asked].flatMap(({ groups }) => groups).filter(({ words }) => words.includes(chosen));
+    for (const group of kept) group.keep.push(chosen);
+    isKept = kept.length > 0;
     if (sceneOf) return [choiceParts(context)];
-    for (const { groups } of [...steps.flat(), ...asked]) for (const group of groups) if (group.words.includes(chosen)) group.keep.push(chosen);
     if (asked.length === 0) return steps;
     const both = steps.map((step) => [...step, ...questionParts(context, wait, keysIn(step)).filter(({ groups }) => groups.length > 0)]);
     return openGroups.has("step") ? both : [...both, [{ title: "", fold: stepText(), groups: [] }, ...asked]];

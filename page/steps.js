@@ -144,13 +144,13 @@ function showChosen(isAnew, lead = () => null) {
     draw();
 }
 
-// whether what is chosen, and what it refers to, have rows; without a choice the step is shown
+// whether what is chosen, and what it refers to, have rows, and what refers to a name; without a choice the step is shown
 function isShown(state) {
-    if (!chosen) return sceneOf === "";
+    if (!chosen) return sceneOf === "" && !isKept;
     const place = chosenPlace(state);
     if (!place) return sceneOf === chosen || !byId("image").classList.contains("scene");
-    const to = wordOf(state, place)?.to;
-    return Boolean(byId(place)) && (!to || Boolean(byId(to)) || isAsked());
+    const ends = isWordKey(chosen) ? [wordOf(state, place)?.to].filter(Boolean) : chosenReferences(state).map(({ id }) => id);
+    return Boolean(byId(place)) && (isAsked() || ends.every(byId));
 }
 
 // another step has no groups unfolded

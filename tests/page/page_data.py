@@ -472,7 +472,7 @@ def scripts(folder):
             long = [lines[start] for start in starts if lines[start:].index("}" if lines[start].startswith("function") else "};") >= 39]
             same(f"long functions of {name}", (long, len(starts) > 0), ([], True))
     same("names that are declared twice", (sorted({name for name in declared if declared.count(name) > 1}), len(declared) > 200), ([], True))
-    same("lines of scripts", (total < 2358, total > 0), (True, True))
+    same("lines of scripts", (total < 2361, total > 0), (True, True))
 
 
 # ---- all of it

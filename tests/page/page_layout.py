@@ -157,7 +157,8 @@ showAll();
 return document.querySelectorAll(".instruction").length;
 """
 
-# on paper nothing is drawn, and each word that refers to something says to what
+# on paper nothing is drawn, and each word that refers to something says to what: itself, or in a step its instruction or the line of the
+# place, which follows
 PAPER = r"""
 const faults = [];
 const drawn = [...document.querySelectorAll("#drawing")].filter((element) => element.checkVisibility()).length;
@@ -165,8 +166,10 @@ if (drawn) faults.push("arrows are on the paper");
 for (const row of document.querySelectorAll(".word:not(.spot):not(.cut-off)")) {
     const word = wordAt(stateNow(), row.id.split("-")[0], Number(row.id.split("-")[1]));
     const said = [...row.querySelectorAll(".target, .place")].filter((part) => part.checkVisibility()).map((part) => part.textContent).join("");
-    if (word.kind > 0 && !said.startsWith(SEGMENTS[word.kind] + " ")) faults.push(`${row.id} says ${said}`);
-    if (word.kind < 0 && !said.includes(word.name)) faults.push(`${row.id} says ${said}`);
+    const place = document.querySelector(`[id="${word.to}"].place-line`);
+    const isBelow = place?.checkVisibility() && row.compareDocumentPosition(place) & Node.DOCUMENT_POSITION_FOLLOWING;
+    if (word.kind > 0 && !isBelow && !said.startsWith(SEGMENTS[word.kind] + " ")) faults.push(`${row.id} says ${said}`);
+    if (word.kind < 0 && !said.includes(word.name) && !row.querySelector(".instruction")?.textContent.includes(word.name)) faults.push(`${row.id} says ${said}`);
 }
 return { faults, counts: { printed: document.querySelectorAll(".word").length } };
 """

@@ -385,6 +385,7 @@ def whole_and_back(page, same):
     """Key o shows the whole image with the choice, and the scene again; Escape leads back to the step."""
     word = page.run("return allReferences(stateNow()).filter((one) => one.to)[0].id")
     page.run("document.activeElement.blur(); choose('', false)")
+    page.settle()
     step = page.run("return [...document.querySelectorAll('#image .word')].map((row) => row.id).join()")
     page.run("choose(arguments[0], true)", word)
     pressed = page.run("return document.getElementById('whole').getAttribute('aria-pressed')")
