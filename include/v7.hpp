@@ -189,8 +189,13 @@ public:
 
     void add(const Bytes &object)
     {
-        detail::done(v7_session_add, &kept, object.data(), object.size());
         most.push_back(most.back() + object.size());
+        try {
+            detail::done(v7_session_add, &kept, object.data(), object.size());
+        } catch (...) {
+            most.pop_back();
+            throw;
+        }
     }
     void withdraw()
     {
