@@ -3,7 +3,7 @@
  * /usr/share/doc/libv7-dev. The header needs C99, or C++98 with <stdint.h>.
  *
  * Each call takes bytes and gives bytes, and only a `struct v7_session` is kept for the next call. An object or a file is the bytes of
- * an a.out file. v7_run and v7_map take a list of objects, the bytes of each separately.
+ * an a.out file. v7_run takes a list of objects, the bytes of each separately.
  *
  * Sizes are in bytes. A call takes memory from malloc and gives it back before it returns, but for what a session keeps. Calls share
  * nothing else, so threads may make them at once.
@@ -341,8 +341,9 @@ uint32_t v7_remarks(const unsigned char *bytes, size_t size, unsigned char *text
 /* v7_run links objects, as `v7 ld` does. It takes the bytes of each object separately, and what
  * follows an object in its bytes is not looked at, so an object that is cut short is refused itself. Request and result begin with their
  * sizes: set these to `sizeof`, and set all fields; what is 0 asks for nothing. A later library may know longer structs. This one takes
- * shorter results too, and does not touch what they lack: without V7_PLACES one may end after `finding_room`, and without V7_FINDINGS
- * too after `report_room`. The size of a buffer is counted in what it holds: bytes, findings or places. */
+ * shorter results too, and does not touch what they lack: without V7_MAP one may end after `place_room`, without V7_PLACES too after
+ * `finding_room`, and without V7_FINDINGS too after `report_room`. The size of a buffer is counted in what it holds: bytes, findings,
+ * places or records. */
 enum v7_link_option {
     V7_RELOCATABLE = 1,   /* -r: keeps relocation, so that the result is an object */
     V7_STRIP = 2,         /* -s: keeps no symbols; wins over the next two */
@@ -359,7 +360,8 @@ struct v7_slice {
 enum v7_want {
     V7_REPORT = 1,   /* the report as lines */
     V7_FINDINGS = 2, /* the report as a list */
-    V7_PLACES = 4    /* the objects of each finding, in the same order */
+    V7_PLACES = 4,   /* the objects of each finding, in the same order */
+    V7_MAP = 8       /* the map */
 };
 enum v7_finding_kind {
     V7_MULTIPLY_DEFINED = 1,  /* a further definition of the name differs from the first; once for each that does */
@@ -376,45 +378,6 @@ struct v7_finding_place {
     size_t first;   /* the first object that defines the name; if none does, the first that has a symbol of it */
     size_t further; /* for V7_MULTIPLY_DEFINED, the object of this further definition */
 };
-struct v7_request {
-    size_t size;
-    uint32_t options; /* bits of enum v7_link_option */
-    uint32_t wants;   /* bits of enum v7_want: buffers for what is not wanted are left alone, and its size is 0 */
-    struct v7_slice entry;  /* the name of the entry point, at most 8 bytes, or of size 0 if there is none */
-    struct v7_slice forced; /* names that are mentioned before all objects, 8 bytes each, filled up with NULs */
-    const struct v7_slice *objects; /* without objects the program is empty */
-    size_t object_count;
-};
-struct v7_result {
-    size_t size;
-    uint32_t fault; /* these three as in struct v7_answer */
-    uint32_t word;
-    size_t place;
-    size_t file_size; /* what each buffer needs, also with V7_NO_ROOM; with another fault 0 */
-    size_t report_size;
-    unsigned char *file;
-    size_t file_room;
-    unsigned char *report;
-    size_t report_room;
-    size_t finding_count;
-    struct v7_finding *findings;
-    size_t finding_room;
-    size_t place_count;
-    struct v7_finding_place *places;
-    size_t place_room;
-};
-
-/* Makes the link that REQUEST asks for. The file and what is wanted of the report are all written, or none is. The first fault that
- * applies is given. V7_NO_OPTION also stands for a want that this library does not know, and for a struct that is too short for what is
- * wanted. Then come 2 to 5, 11 to 34 for each object in turn, 41 to 43, V7_NO_MEMORY as described above, and V7_NO_ROOM last. A result
- * that ends before `file` stays as it was, and the status is 2. */
-uint32_t v7_run(const struct v7_request *request, struct v7_result *result);
-
-/* A size that no file of a link exceeds, by v7_run or by v7_session_link, if the objects have BYTES bytes in all, and the forced names
- * FORCED_SIZE, together fewer than 2^63: 16 and BYTES, and 12 for each of these names; SIZE_MAX if this sum is over it. So a caller that
- * has a buffer of this size for the file, and enough room for the report, makes a link by one call. */
-size_t v7_most(size_t bytes, size_t forced_size);
-
 /* The map of a link, as `v7-explain -m` shows it; v7-explain(1) describes it. Objects, names and uses are numbered from 0. */
 struct v7_map_head {
     uint64_t text_end; /* where the segments are; commons are before bss. All are 0 if an object is refused */
@@ -486,12 +449,8 @@ struct v7_map_limit {
     uint32_t kind; /* of enum v7_map_limit_kind */
 };
 struct v7_map {
-    size_t size;
-    uint32_t fault; /* these three as in struct v7_answer */
-    uint32_t word;
-    size_t place;
-    struct v7_map_head head;
-    size_t object_count; /* how many there are for each buffer, also with V7_NO_ROOM; with another fault 0 */
+    struct v7_map_head head; /* written if the records are, and all 0 if no map is wanted */
+    size_t object_count;     /* how many there are for each buffer, also with V7_NO_ROOM; with another fault 0 */
     size_t name_count;
     size_t use_count;
     size_t limit_count;
@@ -504,11 +463,48 @@ struct v7_map {
     struct v7_map_limit *limits;
     size_t limit_room;
 };
+struct v7_request {
+    size_t size;
+    uint32_t options; /* bits of enum v7_link_option */
+    uint32_t wants;   /* bits of enum v7_want: buffers for what is not wanted are left alone, and its size is 0 */
+    struct v7_slice entry;  /* the name of the entry point, at most 8 bytes, or of size 0 if there is none */
+    struct v7_slice forced; /* names that are mentioned before all objects, 8 bytes each, filled up with NULs */
+    const struct v7_slice *objects; /* without objects the program is empty */
+    size_t object_count;
+};
+struct v7_result {
+    size_t size;
+    uint32_t fault; /* these three as in struct v7_answer */
+    uint32_t word;
+    size_t place;
+    size_t file_size; /* what each buffer needs, also with V7_NO_ROOM; with another fault 0 */
+    size_t report_size;
+    unsigned char *file;
+    size_t file_room;
+    unsigned char *report;
+    size_t report_room;
+    size_t finding_count;
+    struct v7_finding *findings;
+    size_t finding_room;
+    size_t place_count;
+    struct v7_finding_place *places;
+    size_t place_room;
+    struct v7_map map;
+};
 
-/* Gives the map of the link that REQUEST asks for; what it wants is not looked at. All objects are read first. Then a link that is
- * refused has a map too, and the status is 1. Faults: those of v7_run but for 31 to 43, which are in the map. V7_NO_OPTION also stands
- * for a struct that is too short. A map that ends before `objects` stays as it was, and the status is 2. */
-uint32_t v7_map(const struct v7_request *request, struct v7_map *map);
+/* Makes the link that REQUEST asks for. The file and what is wanted besides are all written, or none is. The first fault that
+ * applies is given. V7_NO_OPTION also stands for a want that this library does not know, and for a struct that is too short for what is
+ * wanted. Then come 2 to 5, 11 to 34 for each object in turn, 41 to 43, V7_NO_MEMORY as described above, and V7_NO_ROOM last. A result
+ * that ends before `file` stays as it was, and the status is 2.
+ *
+ * With V7_MAP all objects are read first, so that a link that is refused has a map too. Faults 31 to 43 are then in `map.head`: the
+ * status is 1, `fault` is 0, and file, report, findings and places have size 0. */
+uint32_t v7_run(const struct v7_request *request, struct v7_result *result);
+
+/* A size that no file of a link exceeds, by v7_run or by v7_session_link, if the objects have BYTES bytes in all, and the forced names
+ * FORCED_SIZE, together fewer than 2^63: 16 and BYTES, and 12 for each of these names; SIZE_MAX if this sum is over it. So a caller that
+ * has a buffer of this size for the file, and enough room for the report, makes a link by one call. */
+size_t v7_most(size_t bytes, size_t forced_size);
 
 /* A session is kept between calls, so an edit costs what the edit is, and not what is there. The struct is the caller's, and at first all of it
  * is 0, as after `struct v7_session session = {0};`. A call that has a fault leaves the session as it was. Other calls may come between. */
@@ -530,9 +526,9 @@ uint32_t v7_session_add(struct v7_session *session, const unsigned char *bytes, 
 uint32_t v7_session_withdraw(struct v7_session *session, struct v7_answer *answer);
 
 /* Links what is there, and gives it as v7_run does, with the options and the entry point of REQUEST. Its forced names and objects are not
- * looked at. An object has no label, and is known by how many were added before it. A session has neither the objects of findings nor a
- * map: for these call v7_run with V7_PLACES, or v7_map, with the bytes of the objects that are there, which the caller keeps.
- * Faults, the first that applies: V7_NO_OPTION as there, and for V7_PLACES; V7_NO_SESSION, 1 to 3, 41 to 43, V7_NO_MEMORY, V7_NO_ROOM. */
+ * looked at. An object is known by how many were added before it. A session has neither the objects of findings nor a map: for these call
+ * v7_run with V7_PLACES or V7_MAP, and the bytes of the objects that are there, which the caller keeps. Faults, the first that applies:
+ * V7_NO_OPTION as there, and for V7_PLACES and V7_MAP; V7_NO_SESSION, 1 to 3, 41 to 43, V7_NO_MEMORY, V7_NO_ROOM. */
 uint32_t v7_session_link(struct v7_session *session, const struct v7_request *request, struct v7_result *result);
 
 /* Writes what the session shows, as lines, each with its newline, or as one JSON object. It has the words of the merged text and data,

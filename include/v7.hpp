@@ -101,16 +101,12 @@ inline Parts take_apart(const Bytes &object)
 
 inline Bytes list(const Bytes &file) { return detail::filled(v7_list, file.data(), file.size()); }
 
-// What a link gives. `places` has the objects of each finding, but for a session.
+// What a link gives. `places` has the objects of each finding, but for a session. What follows is the map, if V7_MAP is wanted.
 struct Program {
     std::uint32_t status = 0;
     Bytes file, report;
     std::vector<v7_finding> findings;
     std::vector<v7_finding_place> places;
-};
-
-struct Map {
-    std::uint32_t status = 0;
     v7_map_head head = v7_map_head();
     std::vector<v7_map_object> objects;
     std::vector<v7_map_name> names;
@@ -123,55 +119,39 @@ struct Link {
     std::uint32_t options = 0;
     std::string entry, forced;
 
-    Program of(const std::vector<Bytes> &objects) const
-    {
-        return ask(V7_REPORT | V7_FINDINGS | V7_PLACES, objects, [](const v7_request *asked, std::size_t most) {
-            return run(most, [&](v7_result *result) { return v7_run(asked, result); });
-        });
-    }
-
-    Map map(const std::vector<Bytes> &objects) const
-    {
-        return ask(0, objects, [](const v7_request *asked, std::size_t) {
-            Map given;
-            struct v7_map m = {};
-            m.size = sizeof m;
-            given.status = detail::made(m, [&] {
-                detail::lend(given.objects, m.object_count, m.objects, m.object_room);
-                detail::lend(given.names, m.name_count, m.names, m.name_room);
-                detail::lend(given.uses, m.use_count, m.uses, m.use_room);
-                detail::lend(given.limits, m.limit_count, m.limits, m.limit_room);
-                given.head = m.head;
-            }, [&](struct v7_map *to) { return ::v7_map(asked, to); });
-            return given;
-        });
-    }
-
-private:
-    friend class Session;
-
-    // makes a call of a request, and of the most bytes that the file of a link can have
-    template <class Call> auto ask(std::uint32_t wants, const std::vector<Bytes> &objects, Call call) const -> decltype(call(nullptr, 0))
+    Program of(const std::vector<Bytes> &objects, std::uint32_t wants = V7_REPORT | V7_FINDINGS | V7_PLACES) const
     {
         std::size_t bytes = 0;
         std::vector<v7_slice> slices;
         for (const Bytes &object : objects)
             slices.push_back(detail::slice(object)), bytes += object.size();
-        v7_request asked = {sizeof asked, options, wants, detail::slice(entry), detail::slice(forced), slices.data(), slices.size()};
-        return call(&asked, v7_most(bytes, forced.size()));
+        return run(wants, slices, v7_most(bytes, forced.size()), v7_run);
     }
 
-    // makes a call once, if a link has no more to report than symbols
-    template <class Call> static Program run(std::size_t most, Call call)
+private:
+    friend class Session;
+
+    // makes a call once, if a link has no more to report than symbols; an object has at least 16 bytes, a name 12, and a use 4
+    template <class Call> Program run(std::uint32_t wants, const std::vector<v7_slice> &slices, std::size_t most, Call call) const
     {
         Program given;
-        v7_result r = {sizeof r, 0, 0, 0, most, 27 * (most / 12) + 11, nullptr, 0, nullptr, 0, most / 12, nullptr, 0, most / 12, nullptr, 0};
+        v7_request asked = {sizeof asked, options, wants, detail::slice(entry), detail::slice(forced), slices.data(), slices.size()};
+        v7_result r = {sizeof r, 0, 0, 0, most, 27 * (most / 12) + 11, nullptr, 0, nullptr, 0, most / 12, nullptr, 0, most / 12, nullptr, 0,
+                       v7_map()};
+        v7_map &map = r.map;
+        if (wants & V7_MAP)
+            map.object_count = most / 16, map.name_count = most / 12, map.use_count = most / 4, map.limit_count = V7_LIMIT_NAMES;
         given.status = detail::made(r, [&] {
             detail::lend(given.file, r.file_size, r.file, r.file_room);
             detail::lend(given.report, r.report_size, r.report, r.report_room);
             detail::lend(given.findings, r.finding_count, r.findings, r.finding_room);
             detail::lend(given.places, r.place_count, r.places, r.place_room);
-        }, call);
+            detail::lend(given.objects, map.object_count, map.objects, map.object_room);
+            detail::lend(given.names, map.name_count, map.names, map.name_room);
+            detail::lend(given.uses, map.use_count, map.uses, map.use_room);
+            detail::lend(given.limits, map.limit_count, map.limits, map.limit_room);
+        }, [&](v7_result *to) { return call(&asked, to); });
+        given.head = map.head;
         return given;
     }
 };
@@ -204,9 +184,8 @@ public:
     }
     Program link(const Link &link = Link())
     {
-        return link.ask(V7_REPORT | V7_FINDINGS, {}, [&](const v7_request *asked, std::size_t) {
-            return Link::run(most.empty() ? 0 : most.back(), [&](v7_result *result) { return v7_session_link(&kept, asked, result); });
-        });
+        auto call = [&](const v7_request *asked, v7_result *to) { return v7_session_link(&kept, asked, to); };
+        return link.run(V7_REPORT | V7_FINDINGS, {}, most.empty() ? 0 : most.back(), call);
     }
     // What the session shows, as V7_LINES or as V7_JSON.
     Bytes state(std::uint32_t form) { return detail::filled(v7_session_state, &kept, form); }

@@ -14,8 +14,8 @@ sys.path.insert(1, os.path.dirname(os.path.dirname(os.path.abspath(__file__))))
 from tests.lib.files import TOP, read, write  # noqa: E402
 
 # the source of the usage of each program but v7
-USAGES = {"v7-explain": "v7_explain/src/program.rt", "v7-from-gnu": "v7_from_gnu/src/program.rt", "v7-lesson": "v7_lesson/src/arguments.rt",
-          "v7-object": "v7_object/src/program.rt"}
+USAGES = {"v7-explain": "v7_explain/src/program.rt", "v7-from-gnu": "v7_from_gnu/src/help.rt", "v7-lesson": "v7_lesson/src/arguments.rt",
+          "v7-object": "v7_object/src/help.rt"}
 # options that belong to another one, which the list of the manual leaves out
 BESIDE = {"v7-explain": {"-R": (None, "With -l, looks into folders"), "-y": ("NAME", "With -m, traces a name")}}
 SHOWN = {"--help": (None, "Shows how to call it"), "--version": (None, "Shows the version")}

@@ -15,7 +15,8 @@ static char **paths;
 static size_t object_count;
 static unsigned char **texts; /* the instructions of each object */
 static size_t *text_sizes;
-static struct v7_map map = {.size = sizeof map};
+static struct v7_result result = {.size = sizeof result};
+static struct v7_map *const map = &result.map;
 
 static void *room_for(size_t count, size_t size)
 {
@@ -70,8 +71,8 @@ static void print_limits(void)
     size_t i;
 
     printf("\nLimits              used      of    left\n");
-    for (i = 0; i < map.limit_count; i++) {
-        limit = &map.limits[i];
+    for (i = 0; i < map->limit_count; i++) {
+        limit = &map->limits[i];
         printf("  %-14s%8" PRIu64 "%8" PRIu64, labels[limit->kind], limit->used, limit->most);
         if (limit->used > limit->most)
             printf("%8" PRIu64 " over\n", limit->used - limit->most);
@@ -95,10 +96,10 @@ static void print_largest(void)
     for (rank = 0; rank < LARGEST && rank < object_count; rank++) {
         best = object_count;
         for (i = 0; i < object_count; i++)
-            if (!is_shown[i] && (best == object_count || all_bytes(&map.objects[best]) < all_bytes(&map.objects[i])))
+            if (!is_shown[i] && (best == object_count || all_bytes(&map->objects[best]) < all_bytes(&map->objects[i])))
                 best = i;
         is_shown[best] = 1;
-        object = &map.objects[best];
+        object = &map->objects[best];
         printf("  %7u%8u%8u%8u%9zu  %s\n", object->text_size, object->data_size, object->bss_size, all_bytes(object), object->symbols,
                paths[best]);
     }
@@ -113,18 +114,18 @@ static void print_segment(const char *label, uint64_t from, uint64_t end)
 static void print_head(void)
 {
     printf("Link of %zu object%s: ", object_count, object_count == 1 ? "" : "s");
-    if (map.head.fault) {
-        printf("refused, %s", v7_strerror(map.head.fault));
-        if (map.head.fault < V7_DOES_NOT_FIT)
-            printf(" at\n  %s\n  (addresses below count from 0 in each segment)", paths[map.head.place]);
+    if (map->head.fault) {
+        printf("refused, %s", v7_strerror(map->head.fault));
+        if (map->head.fault < V7_DOES_NOT_FIT)
+            printf(" at\n  %s\n  (addresses below count from 0 in each segment)", paths[map->head.place]);
         putchar('\n');
         return;
     }
-    printf("made, with %s to report\n  magic 0%o, entry point %06o\n", map.head.state & 1 ? "something" : "nothing", map.head.magic,
-           map.head.entry_point);
-    if (map.head.state & 2) {
+    printf("made, with %s to report\n  magic 0%o, entry point %06o\n", map->head.state & 1 ? "something" : "nothing", map->head.magic,
+           map->head.entry_point);
+    if (map->head.state & 2) {
         printf("  entry point not in text: ");
-        print_name(map.head.entry_name);
+        print_name(map->head.entry_name);
         putchar('\n');
     }
 }
@@ -132,15 +133,15 @@ static void print_head(void)
 static void print_sizes(void)
 {
     print_limits();
-    if (map.head.fault)
+    if (map->head.fault)
         print_largest();
-    if (map.head.fault && map.head.fault < V7_DOES_NOT_FIT)
+    if (map->head.fault && map->head.fault < V7_DOES_NOT_FIT)
         return;
     printf("\nSegments    from     end   bytes\n");
-    print_segment("text", 0, map.head.text_end);
-    print_segment("data", map.head.data_start, map.head.data_end);
-    print_segment("commons", map.head.data_end, map.head.bss_start);
-    print_segment("bss", map.head.bss_start, map.head.bss_end);
+    print_segment("text", 0, map->head.text_end);
+    print_segment("data", map->head.data_start, map->head.data_end);
+    print_segment("commons", map->head.data_end, map->head.bss_start);
+    print_segment("bss", map->head.bss_start, map->head.bss_end);
 }
 
 static void print_objects(void)
@@ -150,7 +151,7 @@ static void print_objects(void)
 
     printf("\nObjects\n    text  bytes    data  bytes     bss  bytes\n");
     for (i = 0; i < object_count; i++) {
-        object = &map.objects[i];
+        object = &map->objects[i];
         printf("  %06" PRIo64 "%7u  %06" PRIo64 "%7u  %06" PRIo64 "%7u", object->text, object->text_size, object->data, object->data_size,
                object->bss, object->bss_size);
         printf("%s%s\n", strlen(paths[i]) > PATH ? "\n    " : "  ", paths[i]);
@@ -217,7 +218,7 @@ static void print_word(const struct v7_map_use *use)
     }
     if (use->kind == V7_TEXT_WORD) {
         if (!use->is_labelled)
-            printf("  %06" PRIo64, map.objects[use->object].text + use->line);
+            printf("  %06" PRIo64, map->objects[use->object].text + use->line);
         printf(": ");
         print_instruction(use->object, use->line);
     }
@@ -230,23 +231,23 @@ static void print_uses(size_t from, size_t end)
     size_t i, words;
 
     for (i = from; i < end; i++)
-        if (map.uses[i].kind == V7_DEFINES) {
-            printf("    %-12s%s\n", label, paths[map.uses[i].object]);
+        if (map->uses[i].kind == V7_DEFINES) {
+            printf("    %-12s%s\n", label, paths[map->uses[i].object]);
             label = "again in";
         }
     for (i = from; i < end; i++)
-        if (map.uses[i].kind == V7_MAKES_COMMON)
-            printf("    %-12s%s (%u)\n", "common in", paths[map.uses[i].object], map.uses[i].offset);
+        if (map->uses[i].kind == V7_MAKES_COMMON)
+            printf("    %-12s%s (%u)\n", "common in", paths[map->uses[i].object], map->uses[i].offset);
     for (i = from; i < end; i++) {
-        if (map.uses[i].kind == V7_FORCES)
+        if (map->uses[i].kind == V7_FORCES)
             printf("    %-12s-u\n", "used in");
-        if (map.uses[i].kind != V7_MAKES_COMMON && map.uses[i].kind != V7_WANTS)
+        if (map->uses[i].kind != V7_MAKES_COMMON && map->uses[i].kind != V7_WANTS)
             continue;
-        for (words = 0; i + words + 1 < end && map.uses[i + words + 1].kind >= V7_TEXT_WORD; words++)
+        for (words = 0; i + words + 1 < end && map->uses[i + words + 1].kind >= V7_TEXT_WORD; words++)
             ;
-        printf("    %-12s%s (%zu)\n", "used in", paths[map.uses[i].object], words);
+        printf("    %-12s%s (%zu)\n", "used in", paths[map->uses[i].object], words);
         for (; words > 0; words--)
-            print_word(&map.uses[++i]);
+            print_word(&map->uses[++i]);
     }
 }
 
@@ -256,9 +257,9 @@ static void print_names(const char *title, uint32_t states)
     const struct v7_map_name *name;
     size_t number, from, end = 0;
 
-    for (number = 0; number < map.name_count; number++) {
-        name = &map.names[number];
-        for (from = end; end < map.use_count && map.uses[end].name == number; end++)
+    for (number = 0; number < map->name_count; number++) {
+        name = &map->names[number];
+        for (from = end; end < map->use_count && map->uses[end].name == number; end++)
             ;
         if (states && !(name->state & states))
             continue;
@@ -277,22 +278,23 @@ static void print_names(const char *title, uint32_t states)
 
 static uint32_t ask(const struct v7_request *request)
 {
-    uint32_t status = v7_map(request, &map);
+    uint32_t status = v7_run(request, &result);
 
-    if (map.fault != V7_NO_ROOM)
+    if (result.fault != V7_NO_ROOM)
         return status;
-    map.objects = room_for(map.object_room = map.object_count, sizeof *map.objects);
-    map.names = room_for(map.name_room = map.name_count, sizeof *map.names);
-    map.uses = room_for(map.use_room = map.use_count, sizeof *map.uses);
-    map.limits = room_for(map.limit_room = map.limit_count, sizeof *map.limits);
-    return v7_map(request, &map);
+    result.file = room_for(result.file_room = result.file_size, 1);
+    map->objects = room_for(map->object_room = map->object_count, sizeof *map->objects);
+    map->names = room_for(map->name_room = map->name_count, sizeof *map->names);
+    map->uses = room_for(map->use_room = map->use_count, sizeof *map->uses);
+    map->limits = room_for(map->limit_room = map->limit_count, sizeof *map->limits);
+    return v7_run(request, &result);
 }
 
 int main(int argc, char **argv)
 {
     static const char letters[] = "rsxXnid";
     static unsigned char forced[64 * 8];
-    struct v7_request request = {.size = sizeof request};
+    struct v7_request request = {.size = sizeof request, .wants = V7_MAP};
     const char *letter_at;
     uint32_t status;
     int i, k;
@@ -320,8 +322,8 @@ int main(int argc, char **argv)
     request.objects = objects;
     request.object_count = object_count;
     status = ask(&request);
-    if (map.fault) {
-        fprintf(stderr, "map: object %zu: %s\n", map.place, v7_strerror(map.fault));
+    if (result.fault) {
+        fprintf(stderr, "map: object %zu: %s\n", result.place, v7_strerror(result.fault));
         return 2;
     }
     print_head();

@@ -25,7 +25,7 @@ try {
     same("a name that is not there", alone.findings.size() == 1 && alone.findings[0].kind == V7_UNDEFINED_NAME && alone.places[0].first == 0);
     same("parts", v7::take_apart(first).text.size() == 4 && v7::make(v7::take_apart(second)) == second);
     same("a listing", v7::list(second).size() > 0);
-    same("a map", v7::Link().map({first, second}).names.size() == 1);
+    same("a map", v7::Link().of({first, second}, V7_MAP).names.size() == 1);
 
     v7::Session begun, session;
     session = std::move(begun);

@@ -41,7 +41,7 @@ _LIBRARY = ctypes.CDLL(_PATH)
 # calls on a session that is kept: no other thread of Python runs during one
 _KEEPING = ctypes.PyDLL(_PATH)
 _NO_ROOM = 60
-_REPORT, _FINDINGS, _PLACES = 1, 2, 4
+_REPORT, _FINDINGS, _PLACES, _MAP = 1, 2, 4, 8
 
 # options of a link
 RELOCATABLE, STRIP, EXTERNALS, NOT_L, PURE, SPLIT, FORCE_COMMONS = (1 << bit for bit in range(7))
@@ -161,7 +161,7 @@ class MapLimit(NamedTuple):
 
 class Map(NamedTuple):
     """The map of a link: 0, or why it is refused, and the number of the object that is; where text ends, and data and bss begin and
-    end; the magic, the entry point, and its name if it is not in text; and what `v7-explain -m` shows."""
+    end; the magic, the entry point, and its name if it is not in text; what `v7-explain -m` shows; and what the link gives, or None."""
 
     status: int
     fault: int
@@ -174,6 +174,7 @@ class Map(NamedTuple):
     names: List[MapName]
     uses: List[MapUse]
     limits: List[MapLimit]
+    program: Optional[Program]
 
 
 class Remark(NamedTuple):
@@ -233,8 +234,9 @@ FAULTS: Dict[int, str] = {first + place: text for first, texts in _TEXTS.items()
 
 
 def _struct(*fields: Tuple[Any, str]) -> Any:
-    """A struct of C: types, each with the names of its fields."""
-    return type("Struct", (ctypes.Structure,), {"_fields_": [(name, kind) for kind, names in fields for name in names.split()]})
+    """A struct of C: types, each with the names of its fields. The fields of a struct `map` are its own too."""
+    named = [(name, kind) for kind, names in fields for name in names.split()]
+    return type("Struct", (ctypes.Structure,), {"_anonymous_": [name for name, _ in named if name == "map"], "_fields_": named})
 
 
 _U16, _U32, _U64, _SIZE, _ROOM, _NAME = ctypes.c_uint16, ctypes.c_uint32, ctypes.c_uint64, ctypes.c_size_t, ctypes.c_void_p, ctypes.c_ubyte * 8
@@ -249,19 +251,18 @@ _Counts = _struct((_SIZE, "text data symbols"), (_U32, "bss"))
 _Answer = _struct((_U32, "fault word"), (_SIZE, "place size report_size"))
 _Session = _struct((_U32, "is_open"), (ctypes.c_void_p, "state"))
 _Request = _struct((_SIZE, "size"), (_U32, "options wants"), (_Slice, "entry forced"), (ctypes.POINTER(_Slice), "objects"), (_SIZE, "object_count"))
-_GIVEN = ((_SIZE, "size"), (_U32, "fault word"), (_SIZE, "place"))
-_FILES = ((_SIZE, "file_size report_size"), (_ROOM, "file"), (_SIZE, "file_room"), (_ROOM, "report"), (_SIZE, "report_room"))
-_LISTS = ((_SIZE, "finding_count"), (_ROOM, "findings"), (_SIZE, "finding_room place_count"), (_ROOM, "places"), (_SIZE, "place_room"))
-_Result = _struct(*_GIVEN, *_FILES, *_LISTS)
-_SEGMENTS = "text_end data_start data_end bss_start bss_end"
-_MapHead = _struct((_U64, _SEGMENTS), (_SIZE, "place"), (_U32, "fault state"), (_U16, "magic entry_point"), (_NAME, "entry_name"))
+_HEAD = ((_SIZE, "place"), (_U32, "fault state"), (_U16, "magic entry_point"), (_NAME, "entry_name"))
+_MapHead = _struct((_U64, "text_end data_start data_end bss_start bss_end"), *_HEAD)
 _MapObject = _struct((_U64, "text data bss"), (_SIZE, "symbols"), (_U16, "text_size data_size bss_size"))
 _MapName = _struct((_NAME, "name"), (_SIZE, "definer next_definer user"), (_U32, "state"), (_U16, "type value"))
 _MapUse = _struct((_U64, "address"), (_SIZE, "object name"), (_NAME, "label"), (_U32, "kind"), (_U16, "offset line beyond is_labelled"))
 _MapLimit = _struct((_U64, "used most"), (_U32, "kind"))
 _RECORDS = {"objects": _MapObject, "names": _MapName, "uses": _MapUse, "limits": _MapLimit}
 _ROOMS = (field for name in _RECORDS for field in ((_ROOM, name), (_SIZE, f"{name[:-1]}_room")))
-_Map = _struct(*_GIVEN, (_MapHead, "head"), (_SIZE, "object_count name_count use_count limit_count"), *_ROOMS)
+_Map = _struct((_MapHead, "head"), (_SIZE, "object_count name_count use_count limit_count"), *_ROOMS)
+_FILES = ((_SIZE, "file_size report_size"), (_ROOM, "file"), (_SIZE, "file_room"), (_ROOM, "report"), (_SIZE, "report_room"))
+_LISTS = ((_SIZE, "finding_count"), (_ROOM, "findings"), (_SIZE, "finding_room place_count"), (_ROOM, "places"), (_SIZE, "place_room"))
+_Result = _struct((_SIZE, "size"), (_U32, "fault word"), (_SIZE, "place"), *_FILES, *_LISTS, (_Map, "map"))
 
 
 class Fault(Exception):
@@ -296,11 +297,7 @@ def refers_to(number: int) -> int:
     >>> refers_to(1) == 0o30
     True
     """
-    if not isinstance(number, int):
-        raise _wrong("number", "a number", number)
-    if not 0 <= number <= 4095:
-        raise ValueError(f"a symbol number is 0 to 4,095, and not {number}")
-    return 0o10 + 0o20 * number
+    return 0o10 + 0o20 * _fitting("number", number, 12)
 
 
 def _fitting(what: str, number: int, bits: int) -> int:
@@ -554,16 +551,18 @@ class _Run:
     """A link: what it gives."""
 
     def __init__(self, objects: Iterable[bytes], options: int, entry: str, forced: Iterable[str], wants: int, call: Any = None, size: int = 0) -> None:
-        """Links objects, or by another call what has so many bytes: by one call, if there is not more to report than symbols."""
+        """Links objects, or by another call what has so many bytes: once, if there is no more to report than symbols."""
         request, call, most = _asked(objects, options, entry, forced, wants), call or _LIBRARY.v7_run, _LIBRARY.v7_most
         most.restype = ctypes.c_size_t
         size += sum(request.objects[number].size for number in range(request.object_count))
         size = most(ctypes.c_size_t(size), ctypes.c_size_t(request.forced.size))
-        counts = [size // 12 * (wants // kind % 2) for kind in (_REPORT, _FINDINGS, _PLACES)]
+        counts = [size // 12 * (wants // kind % 2) for kind in (_REPORT, _FINDINGS, _PLACES, _MAP)]
         result = _Result(ctypes.sizeof(_Result), file_size=size, report_size=27 * counts[0] + 11, finding_count=counts[1], place_count=counts[2])
-        rooms = {"file": ctypes.c_char, "report": ctypes.c_char, "findings": _Finding, "places": _FindingPlace}
-        self.status, (self.file, report, self.findings, self.places) = _lent(lambda to: call(ctypes.byref(request), to), result, rooms)
-        self.report: str = report.decode("latin-1")
+        # a use has at least four bytes of an object, and what else a map has twelve
+        result.object_count, result.name_count, result.use_count, result.limit_count = (counts[3] * times for times in (1, 1, 3, 1))
+        rooms = {"file": ctypes.c_char, "report": ctypes.c_char, "findings": _Finding, "places": _FindingPlace, **_RECORDS}
+        self.status, (self.file, report, self.findings, self.places, *self.records) = _lent(lambda to: call(ctypes.byref(request), to), result, rooms)
+        self.report, self.head = report.decode("latin-1"), result.head
 
     def program(self) -> Program:
         return Program(self.status, self.file, self.report)
@@ -574,6 +573,14 @@ class _Run:
 
     def placed(self) -> List[Finding]:
         return [_record(Finding, *rows) for rows in zip(self.findings, self.places)]
+
+    def mapped(self) -> Map:
+        objects, names, uses, limits = ([_record(kind, row) for row in rows] for kind, rows in zip((MapObject, MapName, MapUse, MapLimit), self.records))
+        uses = [use if row.is_labelled else use._replace(label=None) for use, row in zip(uses, self.records[2])]
+        head, program = self.head, None if self.head.fault else self.program()
+        segments = head.text_end, head.data_start, head.data_end, head.bss_start, head.bss_end
+        named = _value(head.entry_name) if head.state & 2 else None
+        return Map(self.status, head.fault, head.place, segments, head.magic, head.entry_point, named, objects, names, uses, limits, program)
 
 
 def link(objects: Iterable[bytes], options: int = 0, entry: str = "", forced: Iterable[str] = ()) -> Program:
@@ -614,7 +621,7 @@ def link_places(objects: Iterable[bytes], options: int = 0, entry: str = "", for
 
 
 def link_map(objects: Iterable[bytes], options: int = 0, entry: str = "", forced: Iterable[str] = ()) -> Map:
-    """The map of the link. A link that is refused for its sizes or its names has one too.
+    """The map of the link, with the program. A link that is refused for its sizes or its names has a map too.
 
     >>> refers = make(text=[(0, refers_to(0))], symbols=[("_f", UNDEFINED | EXTERNAL, 0)])
     >>> found = link_map([make(bss=2), refers])
@@ -623,14 +630,7 @@ def link_map(objects: Iterable[bytes], options: int = 0, entry: str = "", forced
     >>> [(use.object, use.kind, use.address) for use in found.uses]
     [(1, 3, 0), (1, 5, 0)]
     """
-    request, given = _asked(objects, options, entry, forced, 0), _Map(ctypes.sizeof(_Map))
-    status, found = _lent(lambda to: _LIBRARY.v7_map(ctypes.byref(request), to), given, _RECORDS)
-    objects_at, names, uses, limits = ([_record(kind, row) for row in rows] for kind, rows in zip((MapObject, MapName, MapUse, MapLimit), found))
-    uses = [use if row.is_labelled else use._replace(label=None) for use, row in zip(uses, found[2])]
-    head = given.head
-    segments: Any = tuple(getattr(head, name) for name in _SEGMENTS.split())
-    named = _value(head.entry_name) if head.state & 2 else None
-    return Map(status, head.fault, head.place, segments, head.magic, head.entry_point, named, objects_at, names, uses, limits)
+    return _Run(objects, options, entry, forced, _REPORT | _MAP).mapped()
 
 
 def _rows(what: str, rows: Iterable[Any], size: int) -> List[Any]:

@@ -172,7 +172,7 @@ TABLE = [
     ("v7_from_gnu", converted, [*GNU_FILES]),
     ("v7_read, v7_check, v7_take_apart, v7_make", taken_apart, ALONE),
     ("v7_check, v7_take_apart, v7_run", bad, [kind for kind in KINDS if kind.startswith("bad")]),
-    ("v7_run, v7_map", linked, GOOD),
+    ("v7_run", linked, GOOD),
     ("a session of edits", edited, GOOD),
     ("v7_session_state, v7_session_link", known, GOOD),
     ("v7_disassemble_words", words_shown, [largest.WORDS, 100000]),

@@ -146,7 +146,7 @@ $CC -std=c99 -O2 -Wall -Wextra -Werror -o random_calls $compiles "$top/tests/lib
     -Wl,--wrap=malloc -Wl,--wrap=realloc -Wl,--wrap=free "$archive" || exit 1
 ./random_calls "${CALLS:-20000}" || fail "a random call differs"
 # with a library that writes past the end of a short struct they fail
-${OBJCOPY:-objcopy} --redefine-sym v7_map=real_v7_map --redefine-sym v7_run=real_v7_run \
+${OBJCOPY:-objcopy} --redefine-sym v7_run=real_v7_run \
     --redefine-sym v7_session_link=real_v7_session_link "$archive" planted.a
 $CC -std=c99 -O2 -Wall -Wextra -Werror -o random_planted $compiles "$top/tests/libv7/c/random_calls.c" "$top/tests/libv7/c/planted_records.c" \
     -Wl,--wrap=malloc -Wl,--wrap=realloc -Wl,--wrap=free planted.a || exit 1

@@ -53,7 +53,7 @@ CALLS = {
     "v7_run, findings": lambda: v7.link_findings([MAIN, MAIN, COMMON], 0, "_count"),
     "v7_run, places": lambda: v7.link_places([MAIN, MAIN, COMMON], 0, "_count"),
     "a session that is kept": session,
-    "v7_map": lambda: v7.link_map([MAIN, TWICE, COMMON], 0, "_main", ["_z"]),
+    "v7_run with the map": lambda: v7.link_map([MAIN, TWICE, COMMON], 0, "_main", ["_z"]),
     "v7_check": lambda: v7.check(MAIN),
     "v7_read": lambda: v7.read(MAIN),
     "v7_make": lambda: v7.make(*PARTS),

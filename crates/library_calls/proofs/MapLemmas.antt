@@ -10,8 +10,8 @@ use Rattle.link_maps.specs.{declared.members.Objects.Objects, Links.read_inputs,
 use Rattle.link_maps.proofs.TakingLemmas.{all_more, split_more}
 use Rattle.library_calls.specs.LinkRequests.{choices_in, forced_in}
 use Rattle.library_calls.specs.MapAnswers.{AreTaken, IsMapAnswer, IsMapped, MapMayRunOut, MapOf, MayRunOutInMap, map_asked, map_of_all, objects_each}
-use Rattle.library_calls.specs.{declared.cause.Cause.Cause, declared.cause.Refusal.Refusal, declared.map_call.Mapped.Mapped}
-use Rattle.library_calls.specs.MemoryWanted.{MayRunOutInParts}
+use Rattle.library_calls.specs.{declared.cause.Cause.Cause, declared.cause.Refusal.Refusal, declared.map_call.LinkOutput.LinkOutput}
+use Rattle.library_calls.specs.{MemoryWanted.MayRunOutInParts, declared.run_call.Wants.Wants}
 use Rattle.library_calls.specs.{Causes.at, FileAnswers.object_in, LinkAnswers.numbered, LinkAnswers.refusal_of, internal.Taken.with_read}
 use Rattle.link_out.specs.Inputs as inputs
 
@@ -38,11 +38,11 @@ read_all (Ok found) os h = let same : found ≡ os = cc in ap (λ (l : List Cont
 read_all (Err refusal) os h = absurd (cc)
 
 -- what a map is of, once nothing is refused, and a map of it
-pub mapped_all : (bits : ℕ) (entry bytes : List ℕ) (parts : List (List ℕ)) (o : Choices) (forced : List (List ℕ)) (os : List Contents)
-    (m : Mapped) → Ok o ≡ choices_in bits entry → Ok forced ≡ forced_in bytes → objects_each parts ≡ Ok os →
-    (read_inputs (numbered 0 parts) ≡ Ok os → IsMapped (map_of_all o forced (numbered 0 parts) os) m) → IsMapAnswer (map_asked bits entry bytes parts) m
-mapped_all bits entry bytes parts o forced os m first second third mapped =
-    subst (λ (r : Result MapOf Refusal). IsMapAnswer r m)
+pub mapped_all : (w : Wants) (bits : ℕ) (entry bytes : List ℕ) (parts : List (List ℕ)) (o : Choices) (forced : List (List ℕ)) (os : List Contents)
+    (m : LinkOutput) → Ok o ≡ choices_in bits entry → Ok forced ≡ forced_in bytes → objects_each parts ≡ Ok os →
+    (read_inputs (numbered 0 parts) ≡ Ok os → IsMapped w (map_of_all o forced (numbered 0 parts) os) m) → IsMapAnswer w (map_asked bits entry bytes parts) m
+mapped_all w bits entry bytes parts o forced os m first second third mapped =
+    subst (λ (r : Result MapOf Refusal). IsMapAnswer w r m)
     (sym (ap (λ (r : Result Choices Cause).
     and_then (at 0 r) (λ x. and_then (forced_in bytes)
     (λ names. and_then (objects_each parts) (λ l. Ok (map_of_all x names (numbered 0 parts) l))))) (sym first)

@@ -3,6 +3,7 @@ use Rattle.std.proofs.Common.{◌≡◌, ℕ, zero, suc, ◌+◌, ◌*◌, ◌/�
 use Rattle.std.proofs.Common.{length, take, drop, Result, Ok, Err, refl, sym, ap, ◌∙◌, subst, arith, length-append, ◌%◌}
 use Rattle.std.proofs.lemmas.List.{length-map, map-append}
 use Rattle.std.proofs.lemmas.List.Sums.{sum_by-cons, sum_by_push}
+use Rattle.std.specs.Prelude.{IfSome}
 use Rattle.std.specs.{List.flat_map, Prelude.Option, Prelude.Some, Prelude.None, Prelude.filter, Prelude.nat_lt, Prelude.sum_by}
 use Rattle.std.specs.Prelude.{◌-◌, ◌^◌, ◌<◌, min, zip}
 use Rattle.aout_core.specs.Words.{all_word_bytes}
@@ -30,11 +31,16 @@ use Rattle.link_out.proofs.OutcomeLemmas.{made_file}
 use Rattle.library_calls.specs.{Causes.at, KeptAnswers.kept_run, KeptAnswers.kept_with, LinkAnswers.numbered, LinkAnswers.parts_linked, LinkAnswers.refusal_of}
 use Rattle.library_calls.specs.{LinkAnswers.taken_each, LinkRequests.choices_in, LinkRequests.forced_in, LinkRequests.name_of}
 use Rattle.library_calls.specs.{LinkRequests.with_names, RunAnswers.RunOutput, RunAnswers.link_run, RunAnswers.output_with, RunAnswers.run_output}
-use Rattle.library_calls.specs.{Sizes.IsMostOfRuns, Sizes.IsMostOfSessions, Sizes.bytes_in_all, Sizes.most_of}
+use Rattle.library_calls.specs.MapAnswers.{IsMapAnswer, linked_run, map_asked, map_of_all, objects_each, run_shown}
+use Rattle.library_calls.specs.{Sizes.IsMostOfMaps, Sizes.IsMostOfRuns, Sizes.IsMostOfSessions, Sizes.bytes_in_all, Sizes.most_of}
 use Rattle.library_calls.specs.declared.cause.Cause.TheVariants.{CutNames, ManyNames, NotLinked}
 use Rattle.library_calls.specs.{declared.cause.Cause.Cause, declared.cause.Refusal.Refusal, declared.run_call.Wants.Wants}
 use Rattle.tool_options.specs.declared.options.Keep.TheVariants as kinds
+use Rattle.library_calls.specs.declared.map_call.LinkOutput.{LinkOutput}
+use Rattle.link_out.specs.{declared.linked.Linked.Linked, Outcomes.outcome_of}
+use Rattle.link_maps.specs.Links.{link_shown}
 use Rattle.link_out.specs.Inputs as inputs
+use Rattle.link_maps.specs.declared.outcome.Outcome as shown
 
 -- ---- one object
 
@@ -355,6 +361,44 @@ module _ (bytes size most : ℕ) (enough : most_of bytes size ≤ most) where
       by_choices (Ok o) e = by_forced o (forced_in names) refl e
       by_choices (Err cause) e = absurd (cc)
 
+  most_of_maps : (w : Wants) (bits : ℕ) (entry names : List ℕ) (parts : List (List ℕ)) (x : LinkOutput) → sum_by length parts ≤ bytes →
+      length names ≤ size → IsMapAnswer w (map_asked bits entry names parts) x → length x.run.file.items ≤ most
+  most_of_maps w bits entry names parts x few short h = by_choices (choices_in bits entry) h
+    where
+      by_link : (o : Choices) (forced : List (List ℕ)) → forced_in names ≡ Ok forced → (f : List (List ℕ)) (os : List Contents)
+          (r : Result Linked LinkFault) → inputs.linked forced (numbered 0 parts) o ≡ link_shown r → length (linked_run w f os r).file ≤ most
+      by_link o forced named f os (Ok l) e =
+          let file = parts_most forced o parts (outcome_of l) (ap (refused_as refusal_of) e) in
+          let fits : length (encoding (outcome_of l).file) ≤ most = omega (arith, enough, few, short, file, forced_most names forced named) in
+          fits
+      by_link o forced named f os (Err fault) e = omega arith
+
+      by_outcome : (o : Choices) (forced : List (List ℕ)) → forced_in names ≡ Ok forced → (f : List (List ℕ)) (os : List Contents)
+          (r : Option shown.Outcome) → IfSome r (λ y. inputs.linked forced (numbered 0 parts) o ≡ link_shown y.linked) →
+          length (run_shown w f os r).file ≤ most
+      by_outcome o forced named f os None e = omega arith
+      by_outcome o forced named f os (Some y) e = by_link o forced named f os y.linked e
+
+      by_objects : (o : Choices) (forced : List (List ℕ)) → forced_in names ≡ Ok forced → (r : Result (List Contents) Refusal) →
+          IsMapAnswer w (and_then r (λ os. Ok (map_of_all o forced (numbered 0 parts) os))) x → length x.run.file.items ≤ most
+      by_objects o forced named (Ok os) m =
+          let f = m.all.session.forced in
+          let kept = objects m.all.session.entries in
+          let same : length x.run.file.items ≡ length (run_shown w f kept m.map.outcome).file = ap (λ (z : RunOutput). length z.file) m.run in
+          omega (arith, same, by_outcome o forced named f kept m.map.outcome m.shows.made)
+      by_objects o forced named (Err refusal) m = absurd m
+
+      by_forced : (o : Choices) (r : Result (List (List ℕ)) Refusal) → forced_in names ≡ r →
+          IsMapAnswer w (and_then r (λ forced. and_then (objects_each parts) (λ os. Ok (map_of_all o forced (numbered 0 parts) os)))) x →
+          length x.run.file.items ≤ most
+      by_forced o (Ok forced) named m = by_objects o forced named (objects_each parts) m
+      by_forced o (Err refusal) named m = absurd m
+
+      by_choices : (r : Result Choices Cause) → IsMapAnswer w (and_then (at 0 r) (λ o. and_then (forced_in names) (λ forced.
+          and_then (objects_each parts) (λ os. Ok (map_of_all o forced (numbered 0 parts) os))))) x → length x.run.file.items ≤ most
+      by_choices (Ok o) m = by_forced o (forced_in names) refl m
+      by_choices (Err cause) m = absurd m
+
   most_of_sessions : (w : Wants) (bits : ℕ) (entry : List ℕ) (k : Kept) (x : RunOutput) → bytes_in_all (objects k.entries) ≤ bytes →
       8 * length k.forced ≤ size → kept_run w bits entry k ≡ Ok x → length x.file ≤ most
   most_of_sessions w bits entry k x few short h = by_choices (choices_in bits entry) h
@@ -380,6 +424,9 @@ module _ (bytes size most : ℕ) (enough : most_of bytes size ≤ most) where
 module _ (bytes size most : ℕ) (is : most ≡ min (most_of bytes size) (2 ^ 64 - 1)) (short : bytes + size < 2 ^ 63) where
   pub runs_most : IsMostOfRuns bytes size most
   runs_most = most_of_runs bytes size most (omega (arith, is, short))
+
+  pub maps_most : IsMostOfMaps bytes size most
+  maps_most = most_of_maps bytes size most (omega (arith, is, short))
 
   pub sessions_most : IsMostOfSessions bytes size most
   sessions_most = most_of_sessions bytes size most (omega (arith, is, short))

@@ -6,8 +6,8 @@ pub mod ObjectParts
 pub mod MemoryWanted
 pub mod RunAnswers
 pub mod KeptAnswers
-pub mod Sizes
 pub mod MapAnswers
+pub mod Sizes
 pub mod ListingAnswers
 pub mod GnuAnswers
 pub mod RemarkAnswers

@@ -1,5 +1,5 @@
--- The map of a link of objects whose bytes are apart, as a call answers it. (own choice)
-use Rattle.std.specs.Prelude.{◌≡◌, ◌⊎◌, ℕ, ◌+◌, is_some, List, length, Option, Some, None, Result, Ok, Err, IsOk, IsOkAnd}
+-- The map of a link of objects whose bytes are apart, as a call answers it, with the file and the report. (own choice)
+use Rattle.std.specs.Prelude.{◌≡◌, ◌⊎◌, ℕ, ◌+◌, is_some, List, [], length, Option, Some, None, Result, Ok, Err, IsOk, IsOkAnd}
 use Rattle.aout_core.specs.{Contents.Contents, Names.padded}
 use Rattle.link_session.specs.{declared.entry.AddFault.AddFault, Labelled.objects}
 use Rattle.tool_options.specs.Choices.{Choices}
@@ -10,8 +10,9 @@ use Rattle.link_maps.specs.{declared.map.LinkMap.LinkMap, declared.members.Objec
 use Rattle.link_maps.specs.{Members.all_of, Members.cause_of, Records.bit, Records.no_label, Taking.split, Taking.split_of}
 use Rattle.library_calls.specs.declared.cause.Cause.TheVariants.{NotAdded, NotLinked}
 use Rattle.library_calls.specs.LinkRequests.{choices_in, forced_in}
-use Rattle.library_calls.specs.{declared.cause.Refusal.Refusal, declared.map_call.MapHead.MapHead, declared.map_call.Mapped.Mapped}
+use Rattle.library_calls.specs.{declared.cause.Refusal.Refusal, declared.map_call.MapHead.MapHead, declared.map_call.LinkOutput.LinkOutput}
 use Rattle.library_calls.specs.{Causes.at, Causes.number_of, LinkAnswers.numbered, LinkAnswers.refusal_of, MemoryWanted.MayRunOutInParts}
+use Rattle.library_calls.specs.{RunAnswers.RunOutput, RunAnswers.results_of, RunAnswers.run_output, declared.run_call.Wants.Wants}
 
 -- the objects that these parts begin with, or why one of them has none
 abbrev pub objects_each : List (List ℕ) → Result (List Contents) Refusal
@@ -120,19 +121,43 @@ map_asked bits entry forced parts =
     (λ names. and_then (objects_each parts)
     (λ os. Ok (map_of_all o names (numbered 0 parts) os))))
 
--- a map of that, which shows the link of the inputs
-pub record IsMapped (asked : MapOf) (m : Mapped) : Type 0 where
+-- ---- the file and the report
+
+-- a link that is not made gives nothing, and its map is what there is to report
+abbrev pub no_run : RunOutput
+no_run = record { status = 1; file = []; report = []; findings = []; places = [] }
+
+abbrev pub linked_run : Wants → List (List ℕ) → List Contents → Result Linked LinkFault → RunOutput
+linked_run w forced os (Ok l) = run_output w forced os (outcome_of l)
+linked_run w forced os (Err fault) = no_run
+
+-- what the link that a map shows gives, of these objects
+abbrev pub run_shown : Wants → List (List ℕ) → List Contents → Option Outcome → RunOutput
+run_shown w forced os None = no_run
+run_shown w forced os (Some x) = linked_run w forced os x.linked
+
+-- a map of that, which shows the link of the inputs, and what this link gives
+pub record IsMapped (w : Wants) (asked : MapOf) (x : LinkOutput) : Type 0 where
   pub all : Objects
   pub map : LinkMap
   pub taken : AreTaken asked.forced asked.objects all
   pub is_map : IsMapOf all asked.forced asked.choices map
   pub shows : ShowsLink asked.forced asked.choices asked.inputs all map.outcome
-  pub records : AreRecords all asked.choices map m.records
-  pub head : m.head ≡ head_by (cause_of all.refused) (length all.session.entries) map.outcome
+  pub records : AreRecords all asked.choices map x.records
+  pub head : x.head ≡ head_by (cause_of all.refused) (length all.session.entries) map.outcome
+  pub run : results_of x.run ≡ run_shown w all.session.forced (objects all.session.entries) map.outcome
 
-abbrev pub IsMapAnswer : Result MapOf Refusal → Mapped → Type 0
-IsMapAnswer (Ok asked) m = IsMapped asked m
-IsMapAnswer (Err r) m = ⊥
+abbrev pub IsMapAnswer : Wants → Result MapOf Refusal → LinkOutput → Type 0
+IsMapAnswer w (Ok asked) x = IsMapped w asked x
+IsMapAnswer w (Err r) x = ⊥
+
+-- no map is given
+pub record HasNoMap (x : LinkOutput) : Type 0 where
+  pub head : x.head ≡ no_head
+  pub objects : x.records.objects.items ≡ []
+  pub names : x.records.names.items ≡ []
+  pub uses : x.records.uses.items ≡ []
+  pub limits : x.records.limits.items ≡ []
 
 -- ---- memory
 

@@ -5,7 +5,8 @@
 use Rattle.std.specs.Prelude.{◌≡◌, ℕ, ◌+◌, ◌*◌, ◌/◌, ◌≤◌, List, length, sum_by, Ok}
 use Rattle.aout_core.specs.{Contents.Contents, Encoding.encoding}
 use Rattle.link_session.specs.{Labelled.objects, Undo.Kept}
-use Rattle.library_calls.specs.{declared.run_call.Wants.Wants, KeptAnswers.kept_run, RunAnswers.RunOutput, RunAnswers.link_run}
+use Rattle.library_calls.specs.{declared.map_call.LinkOutput.LinkOutput, declared.run_call.Wants.Wants, KeptAnswers.kept_run}
+use Rattle.library_calls.specs.{MapAnswers.IsMapAnswer, MapAnswers.map_asked, RunAnswers.RunOutput, RunAnswers.link_run}
 
 -- for so many bytes of objects, and so many bytes of forced names
 abbrev pub most_of : ℕ → ℕ → ℕ
@@ -19,6 +20,12 @@ abbrev pub IsMostOfRuns : ℕ → ℕ → ℕ → Type 0
 IsMostOfRuns bytes forced most =
     (w : Wants) (bits : ℕ) (entry names : List ℕ) (parts : List (List ℕ)) (x : RunOutput) → sum_by length parts ≤ bytes →
     length names ≤ forced → link_run w bits entry names parts ≡ Ok x → length x.file ≤ most
+
+-- nor does one that is given with its map
+abbrev pub IsMostOfMaps : ℕ → ℕ → ℕ → Type 0
+IsMostOfMaps bytes forced most =
+    (w : Wants) (bits : ℕ) (entry names : List ℕ) (parts : List (List ℕ)) (x : LinkOutput) → sum_by length parts ≤ bytes →
+    length names ≤ forced → IsMapAnswer w (map_asked bits entry names parts) x → length x.run.file.items ≤ most
 
 -- no link of a session whose objects and forced names have so many bytes does
 abbrev pub IsMostOfSessions : ℕ → ℕ → ℕ → Type 0

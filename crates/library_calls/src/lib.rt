@@ -15,7 +15,7 @@
 //! - `ObjectBytes`: bytes that begin with an object
 //! - `RunResult`, `Wants`: what a link gives, its report as lines and as a list, and what is wanted of it
 //! - `ReportedName`, `FindingPlace`: a name that is reported, and its objects
-//! - `Mapped`, `MapHead`: the map of a link, and what becomes of it
+//! - `LinkOutput`, `MapHead`: what a link gives with its map, and what becomes of it
 //! - `MapRecords`, `ObjectRecord`, `NameRecord`, `UseRecord`, `LimitRecord`: the records of a map
 //! - `ObjectParts`, `PartLists`: the parts that an object is made of, and those that one is taken apart into
 //! - `FileLists`: the parts of any file
@@ -27,7 +27,7 @@
 //! Functions:
 //!
 //! - `run_link`: links objects
-//! - `map_link`: gives the map of a link
+//! - `map_link`: links objects, and gives the map of the link too
 //! - `begin_session`, `add_bytes`, `withdraw_last`: a session that is kept, and edits of it
 //! - `link_session`, `state_of`: its link, and its state
 //! - `most`: how large the file of a link can be
@@ -73,7 +73,7 @@ pub use kept_calls::{add_bytes, begin_session, link_session, state_of, withdraw_
 pub use link_maps::{LimitRecord, MapRecords, NameRecord, ObjectRecord, UseRecord};
 pub use listing_calls::{from_listing, list_file};
 pub use make_call::make;
-pub use map_call::{MapHead, Mapped, map_link};
+pub use map_call::{LinkOutput, MapHead, map_link};
 pub use parts::{FileLists, ObjectBytes, ObjectParts, ObjectWord, PartLists, SymbolRow};
 pub use remarks_call::{RemarkRecord, Remarks, remarks_of};
 pub use reported::ReportedName;

@@ -1,12 +1,13 @@
-//! The map of a link of objects whose bytes are apart, as records.
+//! The map of a link of objects whose bytes are apart, as records, with its file and its report.
 ghost use Rattle.std.specs.Prelude.{◌≡◌, ◌≢◌, ◌⊎◌, ℕ, List, length, Ok, Err, IfOk, IfErr, IsOk};
 ghost use Rattle.aout_core.specs.Refusals.{refused};
 ghost use Rattle.link_session.specs.Labelled.{objects};
 ghost use Rattle.link_maps.specs.Links.{read_inputs};
 ghost use Rattle.link_maps.specs.Members.{all_of, cause_of};
 ghost use Rattle.library_calls.specs.LinkAnswers.{each_of};
-ghost use Rattle.library_calls.specs.MapAnswers.{AreTaken, IsMapAnswer, IsMapped, MapMayRunOut, head_by, linked_head, made_head, map_asked, map_of_all, objects_each, placed_head};
+ghost use Rattle.library_calls.specs.MapAnswers.{AreTaken, HasNoMap, IsMapAnswer, IsMapped, MapMayRunOut, head_by, linked_head, made_head, map_asked, map_of_all, no_run, objects_each, placed_head, run_shown};
 ghost use Rattle.library_calls.specs.MemoryWanted.{HasBody, MayRunOutInParts};
+ghost use Rattle.library_calls.specs.RunAnswers.{results_of};
 ghost use Rattle.library_calls.specs.internal.Taken.{with_read};
 ghost use Rattle.library_calls.specs.declared.cause.Cause.TheVariants.{Memory};
 
@@ -14,9 +15,10 @@ use crate::cause::{Cause, Refusal};
 use crate::first::first_object;
 use crate::parts::ObjectBytes;
 use crate::requests::{LinkRequest, forced_names, tool_options};
+use crate::run_call::{RunResult, Wants, result_of};
 use link_maps::{LinkMap, MapRecords, Objects, Outcome, map_of, padded, records_of};
 use link_out::{Bases, Linked, Options};
-use link_session::Forced;
+use link_session::{Forced, Session};
 use std::alloc::{AllocError, Global};
 
 /// What becomes of a link, and where its segments lie.
@@ -43,11 +45,34 @@ pub struct MapHead {
     pub entry_name: [u8; 8],
 }
 
-/// The map of a link: what becomes of it, and its records.
+/// What a link gives: its file and its report, and its map, if that is wanted.
 #[derive(Drop)]
-pub struct Mapped {
+pub struct LinkOutput {
+    pub run: RunResult,
+    /// What becomes of the link; all 0 without a map.
     pub head: MapHead,
+    /// The records of the map; none without one.
     pub records: MapRecords,
+}
+
+impl LinkOutput {
+    /// A file and a report, without a map.
+    pub fn without_map(alloc: Global, run: RunResult) -> LinkOutput
+        ensures run { result.run ≡ run }
+        ensures none { HasNoMap result }
+    {
+        let records = MapRecords {
+            objects: Vec::new(alloc),
+            names: Vec::new(alloc),
+            uses: Vec::new(alloc),
+            limits: Vec::new(alloc),
+        };
+        LinkOutput {
+            run,
+            head: NOTHING,
+            records,
+        }
+    }
 }
 
 /// Takes the object that the bytes begin with, without a label.
@@ -160,38 +185,73 @@ fn head_of(map: &LinkMap, all: &Objects) -> MapHead
     }
 }
 
-/// The map of these objects.
+/// Nothing but a status, for a link that is not made.
+fn no_run(alloc: Global) -> RunResult
+    ensures { results_of result ≡ no_run }
+{
+    RunResult {
+        status: 1,
+        file: Vec::new(alloc),
+        report: Vec::new(alloc),
+        findings: Vec::new(alloc),
+        places: Vec::new(alloc),
+    }
+}
+
+/// The file of the link that a map shows, and what is wanted of its report; nothing if there is no link.
+fn run_shown(
+    alloc: Global,
+    wants: Wants,
+    map: &LinkMap,
+    session: Session,
+) -> Result<RunResult, AllocError>
+    ensures { IfOk result (λ run. results_of run
+        ≡ run_shown wants session.forced (objects session.entries) map.now.outcome) }
+{
+    match &map.outcome {
+        Some(outcome) => match &outcome.linked {
+            Ok(linked) => result_of(alloc, wants, session, linked),
+            Err(_) => Ok(no_run(alloc)),
+        },
+        None => Ok(no_run(alloc)),
+    }
+}
+
+/// The map of these objects, with what their link gives.
 fn map_objects(
     alloc: Global,
-    all: &Objects,
+    wants: Wants,
+    all: Objects,
     forced: &Forced,
     options: &Options,
-) -> Result<Mapped, AllocError>
-    ensures { IfOk result (λ m. (inputs : List (List ℕ × List ℕ))
-        → read_inputs inputs ≡ Ok (objects (all_of all.now))
-        → AreTaken forced.now (objects (all_of all.now)) all.now
-        → IsMapped (map_of_all options.now forced.now inputs (objects (all_of all.now))) m) }
+) -> Result<LinkOutput, AllocError>
+    ensures { IfOk result (λ x. (inputs : List (List ℕ × List ℕ))
+        → read_inputs inputs ≡ Ok (objects (all_of all)) → AreTaken forced.now (objects (all_of all)) all
+        → IsMapped wants (map_of_all options.now forced.now inputs (objects (all_of all))) x) }
 {
-    let map = map_of(alloc, all, forced, options)?;
-    let records = records_of(alloc, &map, all, options)?;
-    Ok(Mapped {
-        head: head_of(&map, all),
+    let map = map_of(alloc, &all, forced, options)?;
+    let records = records_of(alloc, &map, &all, options)?;
+    let head = head_of(&map, &all);
+    Ok(LinkOutput {
+        run: run_shown(alloc, wants, &map, all.session)?,
+        head,
         records,
     })
 }
 
-/// The map of the link of the object that each of the parts begins with, in their order. A link that is refused has one too. (own
-/// choice)
+/// The map of the link of the object that each of the parts begins with, in their order, with the file and what is wanted of the report.
+/// A link that is refused has a map too, and nothing else. (own choice)
 ///
 /// Errors: those of `run_link` but for 31 to 43, which are in the map.
 #[tactic(auto, using(crate::proofs::MapLemmas::mapped_all))]
 pub fn map_link(
     alloc: Global,
     request: &LinkRequest<'_>,
+    wants: Wants,
     parts: &[ObjectBytes<'_>],
-) -> Result<Mapped, Refusal>
-    ensures ok { IfOk result (λ m. IsMapAnswer (map_asked request.now.options request.now.entry.now
-        request.now.forced.now (each_of parts.now)) m) }
+) -> Result<LinkOutput, Refusal>
+    ensures ok { IfOk result (λ x. IsMapAnswer wants (map_asked request.now.options
+        request.now.entry.now request.now.forced.now (each_of parts.now)) x) }
     ensures err { IfErr result (λ r. r.cause ≢ Memory refused → map_asked request.now.options
         request.now.entry.now request.now.forced.now (each_of parts.now) ≡ Err r) }
     ensures memory { IfErr result (λ r. r.cause ≡ Memory refused → MapMayRunOut request.now.options
@@ -200,5 +260,5 @@ pub fn map_link(
     let options = tool_options(request.options, request.entry)?;
     let forced = forced_names(request.forced)?;
     let all = objects_of(alloc, parts, &forced)?;
-    Ok(map_objects(alloc, &all, &forced, &options)?)
+    Ok(map_objects(alloc, wants, all, &forced, &options)?)
 }

@@ -128,7 +128,7 @@ pub(crate) fn given_of(
 }
 
 /// The same, with these objects if they are wanted.
-fn result_of(
+pub(crate) fn result_of(
     alloc: Global,
     wants: Wants,
     session: Session,

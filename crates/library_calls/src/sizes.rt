@@ -1,6 +1,6 @@
 //! How large the file of a link can be.
 ghost use Rattle.std.specs.Prelude.{◌≡◌, ◌+◌, ◌-◌, ◌^◌, ◌<◌, min};
-ghost use Rattle.library_calls.specs.Sizes.{IsMostOfRuns, IsMostOfSessions, most_of};
+ghost use Rattle.library_calls.specs.Sizes.{IsMostOfMaps, IsMostOfRuns, IsMostOfSessions, most_of};
 
 /// A size in bytes that no link of these objects exceeds: a header, the objects, and a symbol for each forced name. `bytes` is how many
 /// bytes the objects have in all, as they are passed, and `forced_size` how many the forced names have, 8 for each. A sum that does not
@@ -8,6 +8,7 @@ ghost use Rattle.library_calls.specs.Sizes.{IsMostOfRuns, IsMostOfSessions, most
 pub fn most(bytes: usize, forced_size: usize) -> usize
     ensures value { result ≡ min (most_of bytes forced_size) (2 ^ 64 - 1) }
     ensures runs { bytes + forced_size < 2 ^ 63 → IsMostOfRuns bytes forced_size result }
+    ensures maps { bytes + forced_size < 2 ^ 63 → IsMostOfMaps bytes forced_size result }
     ensures sessions { bytes + forced_size < 2 ^ 63 → IsMostOfSessions bytes forced_size result }
 {
     (forced_size / 8)

@@ -5,7 +5,7 @@ use Rattle.std.specs.declared.alloc.Global.{Global}
 use Rattle.aout_core.specs.Refusals.{refused}
 use Rattle.link_session.specs.Undo.{Kept}
 use Rattle.library_calls.specs.declared.cause.Cause.TheVariants.{Memory, NoOption}
-use Rattle.library_calls.specs.{declared.cause.Refusal.Refusal, declared.run_call.RunResult.RunResult}
+use Rattle.library_calls.specs.{declared.cause.Refusal.Refusal, declared.map_call.LinkOutput.LinkOutput}
 use Rattle.library_calls.specs.KeptAnswers.{HasJournal, MayRunOutToLink, kept_run, shown_in}
 use Rattle.library_calls.specs.RunAnswers.{RunOutput, results_of}
 use Rattle.v7_c.specs.KeptLeft.{IsGiven, Keeps, LeavesChange, LeavesShown, LinkMayRunOut, is_link, kept_in, of_session}
@@ -37,7 +37,7 @@ module _ (kept : Option Kept) (q : Request) (size : ℕ) where
   by_request : (b : Bool) → is_link q size ≡ b → kept_in kept q size ≡ (if b then run else Err (of_none NoOption))
   by_request b known = ap (λ (x : Bool). if x then run else Err (of_none NoOption)) known
 
-  pub link_given : (r : Result RunResult Refusal) → is_link q size ≡ true → IfOk r (λ given. run ≡ Ok (results_of given)) →
+  pub link_given : (r : Result LinkOutput Refusal) → is_link q size ≡ true → IfOk r (λ given. run ≡ Ok (results_of given.run)) →
       IfErr r (λ refusal. refusal.cause ≢ Memory refused → run ≡ Err refusal) →
       IfErr r (λ refusal. refusal.cause ≡ Memory refused → (refusal.place ≡ 0) × Keeps (MayRunOutToLink q.options q.entry.now) kept) →
       IsGiven (kept_in kept q size) (LinkMayRunOut kept q size) (results_or r)

@@ -1,5 +1,5 @@
 pub mod Left
-pub mod RunLeft
 pub mod MapLeft
+pub mod RunLeft
 pub mod Slots
 pub mod KeptLeft

@@ -3,41 +3,49 @@
 -- A request and a result begin with their sizes in bytes. A caller may have a shorter result, without the last fields: a link whose
 -- report is wanted as lines alone does not need them. So it is with the objects of what is reported. Fields that a result lacks stay as
 -- they are; one that lacks a field which every answer fills stays as it is.
-use Rattle.std.specs.Prelude.{◌≡◌, ◌≢◌, ℕ, Bool, true, ◌||◌, ◌&&◌, not, nat_lt, nat_le, if◌then◌else◌, List, length, Result}
+use Rattle.std.specs.Prelude.{◌≡◌, ◌≢◌, ℕ, Bool, true, false, ◌||◌, ◌&&◌, not, nat_lt, nat_le, if◌then◌else◌, List, length, Result}
 use Rattle.std.specs.Prelude.{Ok, Err}
 use Rattle.aout_core.specs.Refusals.{refused}
+use Rattle.library_calls.specs.MapAnswers.{HasNoMap, IsMapAnswer, MapMayRunOut, MapOf, map_asked}
 use Rattle.library_calls.specs.RunAnswers.{RunOutput, link_run, results_of}
 use Rattle.library_calls.specs.{declared.cause.Cause.TheVariants.Memory, declared.cause.Cause.TheVariants.NoOption}
 use Rattle.library_calls.specs.declared.run_call.Wants.{Wants}
 use Rattle.library_calls.specs.{declared.cause.Refusal.Refusal, declared.reported.ReportedName.ReportedName}
-use Rattle.library_calls.specs.{declared.run_call.RunResult.RunResult, Causes.number_of, Causes.word_of, FileAnswers.has_bit}
+use Rattle.library_calls.specs.{declared.map_call.LinkOutput.LinkOutput, Causes.number_of, Causes.word_of, FileAnswers.has_bit}
 use Rattle.library_calls.specs.{LinkAnswers.each_of, MemoryWanted.LinkMayRunOut}
 use Rattle.finding_objects.specs.declared.places.FindingPlace.{FindingPlace}
+use Rattle.v7_c.specs.MapLeft.{MapLeft, counted, no_records, left_in as map_left_in, counts_of as record_counts}
+use Rattle.v7_c.specs.MapLeft.{filled as map_filled, is_short as map_is_short}
 use Rattle.v7_c.specs.{Left.put_in, declared.run.RunCounts.RunCounts, declared.run.Request.Request, declared.run.RunAnswer.RunAnswer}
 
 -- ---- what is asked for
 
--- a result of this size has the fields of a list; and all fields
+-- a result of this size has the fields of a list, those of places, and all fields
 abbrev pub has_list : ℕ → Bool
 has_list size = nat_le 96 size
 
 abbrev pub has_places : ℕ → Bool
 has_places size = nat_le 120 size
 
--- a result has the fields that these wants need: bit 2, the report as a list; bit 4, the objects of what is reported
+abbrev pub has_map : ℕ → Bool
+has_map size = nat_le 288 size
+
+-- a result has the fields that these wants need. Bit 2 is for the report as a list, bit 4 for the objects of what is reported, and bit 8
+-- for the map.
 abbrev pub is_enough : ℕ → ℕ → Bool
 is_enough wants size =
-    nat_le 72 size && ((not (has_bit wants 2) || has_list size) && (not (has_bit wants 4) || has_places size))
+    nat_le 72 size && ((not (has_bit wants 2) || has_list size)
+    && ((not (has_bit wants 4) || has_places size) && (not (has_bit wants 8) || has_map size)))
 
 -- the sizes of request and result, and what is wanted, are known
 abbrev pub is_known : Request → ℕ → Bool
-is_known q size = nat_le 64 q.size && (nat_le q.wants 7 && is_enough q.wants size)
+is_known q size = nat_le 64 q.size && (nat_le q.wants 15 && is_enough q.wants size)
 
 -- what is wanted of the report: its lines by bit 1, a list by bit 2, and the objects of what that has by bit 4
 abbrev pub wants_of : ℕ → Wants
 wants_of wants = record { report = has_bit wants 1; findings = has_bit wants 2; places = has_bit wants 4 }
 
--- what the library gives, to a caller with a result of this size
+-- what the library gives without a map, to a caller with a result of this size
 abbrev pub run_in : Request → ℕ → Result RunOutput Refusal
 run_in q size =
     if is_known q size then link_run (wants_of q.wants) q.options q.entry.now q.forced.now (each_of q.objects.now)
@@ -48,14 +56,33 @@ abbrev pub RunMayRunOut : Request → ℕ → ℕ → Type 0
 RunMayRunOut q size place =
     (is_known q size ≡ true) × LinkMayRunOut q.options q.entry.now q.forced.now (each_of q.objects.now) place
 
--- an answer is what the library gives, or that memory ran out at a place at which it may
-abbrev pub IsAnswer : Request → ℕ → Result RunOutput Refusal → Type 0
-IsAnswer q size (Ok x) = run_in q size ≡ Ok x
-IsAnswer q size (Err r) = (r.cause ≢ Memory refused → run_in q size ≡ Err r) × (r.cause ≡ Memory refused → RunMayRunOut q size r.place)
+-- the objects, options and names of the map that is asked for
+abbrev pub map_in : Request → ℕ → Result MapOf Refusal
+map_in q size =
+    if is_known q size then map_asked q.options q.entry.now q.forced.now (each_of q.objects.now)
+    else Err (record { cause = NoOption; place = 0 })
 
-abbrev pub results_or : Result RunResult Refusal → Result RunOutput Refusal
-results_or (Ok given) = Ok (results_of given)
+abbrev pub MapRunsOut : Request → ℕ → ℕ → Type 0
+MapRunsOut q size place =
+    (is_known q size ≡ true) × MapMayRunOut q.options q.entry.now q.forced.now (each_of q.objects.now) place
+
+-- a refusal is that of what is asked for, or memory ran out at a place at which it may
+abbrev pub IsRefusal : {A : Type 0} → Result A Refusal → (ℕ → Type 0) → Refusal → Type 0
+IsRefusal asked MayRunOut r = (r.cause ≢ Memory refused → asked ≡ Err r) × (r.cause ≡ Memory refused → MayRunOut r.place)
+
+abbrev pub results_or : Result LinkOutput Refusal → Result RunOutput Refusal
+results_or (Ok x) = Ok (results_of x.run)
 results_or (Err r) = Err r
+
+-- an answer is what the library gives: with a map, if bit 8 is set, or without one
+abbrev pub AnswerBy : Bool → Request → ℕ → Result LinkOutput Refusal → Type 0
+AnswerBy true q size (Ok x) = IsMapAnswer (wants_of q.wants) (map_in q size) x
+AnswerBy true q size (Err r) = IsRefusal (map_in q size) (MapRunsOut q size) r
+AnswerBy false q size (Ok x) = (run_in q size ≡ Ok (results_of x.run)) × HasNoMap x
+AnswerBy false q size (Err r) = IsRefusal (run_in q size) (RunMayRunOut q size) r
+
+abbrev pub IsAnswer : Request → ℕ → Result LinkOutput Refusal → Type 0
+IsAnswer q size r = AnswerBy (has_bit q.wants 8) q size r
 
 -- ---- what is left
 
@@ -74,6 +101,7 @@ pub record RunLeft : Type 0 where
   pub findings : List ReportedName
   pub place_count : ℕ
   pub places : List FindingPlace
+  pub map : MapLeft
 
 abbrev pub left_in : ℕ → RunAnswer → RunLeft
 left_in status x = record {
@@ -90,11 +118,18 @@ left_in status x = record {
   findings = x.findings.now;
   place_count = x.place_count;
   places = x.places.now;
+  map = map_left_in x.map;
 }
 
 -- how much there is for each buffer
-abbrev pub counts_of : RunOutput → RunCounts
-counts_of x = record { file = length x.file; report = length x.report; findings = length x.findings; places = length x.places }
+abbrev pub counts_of : LinkOutput → RunCounts
+counts_of x = record {
+  file = length x.run.file.items;
+  report = length x.run.report.items;
+  findings = length x.run.findings.items;
+  places = length x.run.places.items;
+  records = record_counts x.records;
+}
 
 -- a status and a fault, with the sizes of what there is
 abbrev pub answered : ℕ → ℕ → ℕ → ℕ → RunCounts → RunLeft → RunLeft
@@ -112,10 +147,11 @@ answered status fault word place counts l = record {
   findings = l.findings;
   place_count = if has_places l.size then counts.places else l.place_count;
   places = l.places;
+  map = if has_map l.size then counted counts.records l.map else l.map;
 }
 
 -- what there is at the beginning of each buffer
-abbrev pub filled : RunOutput → RunLeft → RunLeft
+abbrev pub filled : LinkOutput → RunLeft → RunLeft
 filled x l = record {
   status = l.status;
   size = l.size;
@@ -124,30 +160,33 @@ filled x l = record {
   place = l.place;
   file_size = l.file_size;
   report_size = l.report_size;
-  file = put_in l.file x.file;
-  report = put_in l.report x.report;
+  file = put_in l.file x.run.file.items;
+  report = put_in l.report x.run.report.items;
   finding_count = l.finding_count;
-  findings = if has_list l.size then put_in l.findings x.findings else l.findings;
+  findings = if has_list l.size then put_in l.findings x.run.findings.items else l.findings;
   place_count = l.place_count;
-  places = if has_places l.size then put_in l.places x.places else l.places;
+  places = if has_places l.size then put_in l.places x.run.places.items else l.places;
+  map = if has_map l.size then map_filled x l.map else l.map;
 }
 
 -- a buffer is too short
-abbrev pub is_short : RunOutput → RunLeft → Bool
+abbrev pub is_short : LinkOutput → RunLeft → Bool
 is_short x l =
-    nat_lt (length l.file) (length x.file) || (nat_lt (length l.report) (length x.report)
-    || ((has_list l.size && nat_lt (length l.findings) (length x.findings))
-    || (has_places l.size && nat_lt (length l.places) (length x.places))))
+    nat_lt (length l.file) (length x.run.file.items) || (nat_lt (length l.report) (length x.run.report.items)
+    || ((has_list l.size && nat_lt (length l.findings) (length x.run.findings.items))
+    || ((has_places l.size && nat_lt (length l.places) (length x.run.places.items))
+    || (has_map l.size && map_is_short x.records l.map))))
 
 -- all of it, or nothing
-abbrev pub output_left : RunOutput → RunLeft → RunLeft
-output_left x l = if is_short x l then answered 2 60 0 0 (counts_of x) l else answered x.status 0 0 0 (counts_of x) (filled x l)
+abbrev pub output_left : LinkOutput → RunLeft → RunLeft
+output_left x l =
+    if is_short x l then answered 2 60 0 0 (counts_of x) l else answered x.run.status 0 0 0 (counts_of x) (filled x l)
 
 abbrev pub nothing : RunCounts
-nothing = record { file = 0; report = 0; findings = 0; places = 0 }
+nothing = record { file = 0; report = 0; findings = 0; places = 0; records = no_records }
 
 -- what is left of an answer, in a result that was so
-abbrev pub answer_left : Result RunOutput Refusal → RunLeft → RunLeft
+abbrev pub answer_left : Result LinkOutput Refusal → RunLeft → RunLeft
 answer_left (Err r) l = answered 2 (number_of r.cause) (word_of r.cause) r.place nothing l
 answer_left (Ok x) l = output_left x l
 
@@ -157,6 +196,6 @@ is_answered size = nat_le 40 size
 
 -- a status, and a result before and after the call
 pub record LeavesRun (q : Request) (old new : RunAnswer) (status : ℕ) : Type 0 where
-  pub answer : Result RunOutput Refusal
+  pub answer : Result LinkOutput Refusal
   pub given : IsAnswer q old.size answer
   pub is : left_in status new ≡ (if is_answered old.size then answer_left answer (left_in 0 old) else left_in 2 old)

@@ -2,15 +2,16 @@
 ghost use Rattle.std.specs.Prelude.{◌≡◌, ◌≢◌, None, Ok, Err, IsOk, IfOk, IfErr, OnOk, OnErr};
 ghost use Rattle.aout_core.specs.Refusals.{refused};
 ghost use Rattle.library_calls.specs.KeptAnswers.{AddsBytes, HasJournal, MayRunOutToAdd, MayRunOutToLink, TakesLast, kept_run, last_in, shown_in, taken_in};
+ghost use Rattle.library_calls.specs.MapAnswers.{HasNoMap};
 ghost use Rattle.library_calls.specs.RunAnswers.{results_of};
 ghost use Rattle.library_calls.specs.declared.cause.Cause.TheVariants.{Memory};
 ghost use Rattle.v7_c.specs.KeptLeft.{Begins, Both, IsGiven, Keeps, LeavesLink, LinkMayRunOut, beginning, is_link, kept_in, of_session, kept_by};
 ghost use Rattle.v7_c.specs.RunLeft.{results_or, wants_of};
 
 use crate::handle::Handle;
-use crate::run::{ANSWERED, Request, RunAnswer, is_known, is_wanted, leave, wants_of};
+use crate::run::{ANSWERED, Request, RunAnswer, is_known, leave, wants_of};
 use library_calls::{
-    Cause, Refusal, RunResult, add_bytes, begin_session, link_session, state_of, withdraw_last,
+    Cause, LinkOutput, Refusal, add_bytes, begin_session, link_session, state_of, withdraw_last,
 };
 use std::alloc::{AllocError, Global};
 
@@ -95,11 +96,16 @@ pub(crate) fn state(alloc: Global, handle: &mut Handle, form: u32) -> Result<Vec
     }
 }
 
-/// The link of what the session keeps.
-fn run_kept(alloc: Global, handle: &mut Handle, request: &Request<'_>) -> Result<RunResult, Refusal>
+/// The link of what the session keeps, without a map.
+fn run_kept(
+    alloc: Global,
+    handle: &mut Handle,
+    request: &Request<'_>,
+) -> Result<LinkOutput, Refusal>
     ensures ok { IfOk result (λ given.
         of_session (kept_run (wants_of request.now.wants) request.now.options request.now.entry.now)
-        (kept_by handle.old) ≡ Ok (results_of given)) }
+        (kept_by handle.old) ≡ Ok (results_of given.run)) }
+    ensures alone { IfOk result (λ given. HasNoMap given) }
     ensures err { IfErr result (λ r. r.cause ≢ Memory refused
         → of_session (kept_run (wants_of request.now.wants) request.now.options request.now.entry.now)
         (kept_by handle.old) ≡ Err r) }
@@ -113,7 +119,7 @@ fn run_kept(alloc: Global, handle: &mut Handle, request: &Request<'_>) -> Result
             let wants = wants_of(request.wants);
             let given = link_session(alloc, &session, wants, request.options, request.entry);
             handle.put(session);
-            Ok(given?)
+            Ok(LinkOutput::without_map(alloc, given?))
         }
     }
 }
@@ -122,7 +128,7 @@ fn run_kept(alloc: Global, handle: &mut Handle, request: &Request<'_>) -> Result
 fn is_link(request: &Request<'_>, size: usize) -> bool
     ensures { result ≡ is_link request.now size }
 {
-    is_known(request, size) && !is_wanted(request.wants, 4)
+    is_known(request, size) && request.wants < 4
 }
 
 /// The link that is asked for, by a caller with a result of this size.
@@ -132,9 +138,10 @@ fn link_for(
     handle: &mut Handle,
     request: &Request<'_>,
     size: usize,
-) -> Result<RunResult, Refusal>
+) -> Result<LinkOutput, Refusal>
     ensures given { IsGiven (kept_in (kept_by handle.old) request.now size)
         (LinkMayRunOut (kept_by handle.old) request.now size) (results_or result) }
+    ensures alone { IfOk result (λ given. HasNoMap given) }
     ensures unchanged { kept_by handle.new ≡ kept_by handle.old }
 {
     if !is_link(request, size) {

@@ -23,9 +23,8 @@ ghost use Rattle.library_calls.specs.ListingAnswers.{DescribedMayRunOut, describ
 ghost use Rattle.library_calls.specs.MemoryWanted.{HasBody};
 ghost use Rattle.library_calls.specs.ObjectParts.{file_for, made_of, parts_in, pieces, whole_in};
 ghost use Rattle.library_calls.specs.RemarkAnswers.{remarked_in};
-ghost use Rattle.library_calls.specs.Sizes.{IsMostOfRuns, IsMostOfSessions, most_of};
+ghost use Rattle.library_calls.specs.Sizes.{IsMostOfMaps, IsMostOfRuns, IsMostOfSessions, most_of};
 ghost use Rattle.v7_c.specs.KeptLeft.{LeavesAdded, LeavesBegun, LeavesLink, LeavesShown, LeavesWithdrawn, kept_by};
-ghost use Rattle.v7_c.specs.MapLeft.{LeavesMap};
 ghost use Rattle.v7_c.specs.RunLeft.{LeavesRun};
 ghost use Rattle.v7_c.specs.Left.{apart_left, both_left, counted_by, file_left, left, left_at, left_by, no_bytes, no_bytes_at, no_output, output_left, parts_left, read_left};
 
@@ -34,7 +33,6 @@ use crate::buffers::{
     leave_bytes, leave_bytes_at, leave_count, leave_done, leave_file, leave_parts, leave_remarks,
 };
 use crate::handle::Handle;
-use crate::map::MapAnswer;
 use crate::run::{Request, RunAnswer};
 use library_calls::{ObjectParts, ObjectWord, RemarkRecord, SymbolRow};
 use std::alloc::Global;
@@ -212,6 +210,7 @@ pub extern "C" fn v7_remarks(
 pub extern "C" fn v7_most(bytes: usize, forced_size: usize) -> usize
     ensures value { result ≡ min (most_of bytes forced_size) (2 ^ 64 - 1) }
     ensures runs { bytes + forced_size < 2 ^ 63 → IsMostOfRuns bytes forced_size result }
+    ensures maps { bytes + forced_size < 2 ^ 63 → IsMostOfMaps bytes forced_size result }
     ensures sessions { bytes + forced_size < 2 ^ 63 → IsMostOfSessions bytes forced_size result }
 {
     library_calls::most(bytes, forced_size)
@@ -223,14 +222,6 @@ pub extern "C" fn v7_run(alloc: Global, request: &Request<'_>, answer: &mut RunA
     ensures { LeavesRun request.now answer.old answer.new result }
 {
     run::run(alloc, request, answer)
-}
-
-/// Gives the map of the link that a request asks for.
-#[unsafe(no_mangle)]
-pub extern "C" fn v7_map(alloc: Global, request: &Request<'_>, answer: &mut MapAnswer<'_>) -> u32
-    ensures { LeavesMap request.now answer.old answer.new result }
-{
-    map::map(alloc, request, answer)
 }
 
 /// Makes an object of its parts.

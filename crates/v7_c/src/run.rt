@@ -1,27 +1,29 @@
 //! A link: what is asked for, and what it gives, each a struct that begins with its size.
 ghost use Rattle.std.specs.Prelude.{◌≡◌, ◌<◌, false};
 ghost use Rattle.library_calls.specs.FileAnswers.{has_bit};
-ghost use Rattle.library_calls.specs.RunAnswers.{results_of};
-ghost use Rattle.v7_c.specs.RunLeft.{IsAnswer, LeavesRun, answer_left, answered, counts_of, filled, has_list, has_places, is_enough, is_known, is_short, left_in, output_left, results_or, wants_of};
+ghost use Rattle.v7_c.specs.RunLeft.{IsAnswer, LeavesRun, answer_left, answered, counts_of, filled, has_list, has_map, has_places, is_enough, is_known, is_short, left_in, nothing, output_left, wants_of};
 
 use crate::answer::Answer;
 use crate::buffers::{NO_ROOM, put};
+use crate::map::{MapAnswer, RecordCounts};
 use library_calls::{
-    Cause, FindingPlace, LinkRequest, ObjectBytes, Refusal, ReportedName, RunResult, Wants,
-    run_link,
+    Cause, FindingPlace, LinkOutput, LinkRequest, ObjectBytes, Refusal, ReportedName, Wants,
+    map_link, run_link,
 };
 use std::alloc::Global;
 
 /// The size of a request.
-pub(crate) const REQUEST: usize = 64;
+const REQUEST: usize = 64;
 /// The size of a result that has what every answer fills.
 pub(crate) const ANSWERED: usize = 40;
 /// The size of a result for a report that is wanted as lines.
 const RESULT: usize = 72;
 /// The size of a result for a report that is wanted as a list.
 const LIST_RESULT: usize = 96;
-/// The size of a result that has all fields.
+/// The size of a result for the objects of what is reported.
 const PLACES_RESULT: usize = 120;
+/// The size of a result that has all fields.
+const MAP_RESULT: usize = 288;
 
 /// What is asked for.
 #[repr(C)]
@@ -31,7 +33,7 @@ pub struct Request<'a> {
     pub size: usize,
     /// The options of the link, a bit each.
     pub options: u32,
-    /// In which forms the report is wanted: 1 as lines, 2 as a list, 4 as the objects of what the list has; or several.
+    /// What is wanted besides the file: 1 the report as lines, 2 as a list, 4 the objects of what the list has, 8 the map; or several.
     pub wants: u32,
     /// The name of the entry point.
     pub entry: &'a [u8],
@@ -40,8 +42,8 @@ pub struct Request<'a> {
     pub objects: &'a [ObjectBytes<'a>],
 }
 
-/// What is given. A caller may have a smaller struct, so what begins with `finding_count`, and what begins with `place_count`, is not
-/// touched unless the size has it.
+/// What is given. A caller may have a smaller struct, so what begins with `finding_count`, what begins with `place_count`, and `map`
+/// are not touched unless the size has them.
 #[repr(C)]
 #[derive(Drop)]
 pub struct RunAnswer<'a> {
@@ -65,14 +67,15 @@ pub struct RunAnswer<'a> {
     /// For how many findings there are objects.
     pub place_count: usize,
     pub places: &'a mut [FindingPlace],
+    pub map: MapAnswer<'a>,
 }
 
-/// Whether the report is wanted in a form.
-pub(crate) fn is_wanted(wants: u32, form: u32) -> bool
-    requires { 0 < form }
-    ensures { result ≡ has_bit wants form }
+/// Whether what has this bit is wanted.
+fn is_wanted(wants: u32, bit: u32) -> bool
+    requires { 0 < bit }
+    ensures { result ≡ has_bit wants bit }
 {
-    wants / form % 2 == 1
+    wants / bit % 2 == 1
 }
 
 /// Whether a result of this size has the fields that these wants need.
@@ -82,13 +85,14 @@ fn is_enough(wants: u32, size: usize) -> bool
     RESULT <= size
         && (!is_wanted(wants, 2) || has_list(size))
         && (!is_wanted(wants, 4) || has_places(size))
+        && (!is_wanted(wants, 8) || has_map(size))
 }
 
 /// Whether the sizes of both structs and what is wanted are known.
 pub(crate) fn is_known(request: &Request<'_>, size: usize) -> bool
     ensures { result ≡ is_known request.now size }
 {
-    REQUEST <= request.size && request.wants <= 7 && is_enough(request.wants, size)
+    REQUEST <= request.size && request.wants <= 15 && is_enough(request.wants, size)
 }
 
 /// What is wanted of the report.
@@ -104,8 +108,8 @@ pub(crate) fn wants_of(wants: u32) -> Wants
 
 /// Does what is asked for, by a caller with a result of this size.
 #[tactic(auto, using(crate::proofs::RunLemmas::by_answer))]
-fn answer_to(alloc: Global, request: &Request<'_>, size: usize) -> Result<RunResult, Refusal>
-    ensures { IsAnswer request.now size (results_or result) }
+fn answer_to(alloc: Global, request: &Request<'_>, size: usize) -> Result<LinkOutput, Refusal>
+    ensures { IsAnswer request.now size result }
 {
     if !is_known(request, size) {
         return Err(Refusal {
@@ -118,7 +122,12 @@ fn answer_to(alloc: Global, request: &Request<'_>, size: usize) -> Result<RunRes
         entry: request.entry,
         forced: request.forced,
     };
-    run_link(alloc, &link, wants_of(request.wants), request.objects)
+    let wants = wants_of(request.wants);
+    if is_wanted(request.wants, 8) {
+        return map_link(alloc, &link, wants, request.objects);
+    }
+    let run = run_link(alloc, &link, wants, request.objects)?;
+    Ok(LinkOutput::without_map(alloc, run))
 }
 
 /// How much there is for each buffer.
@@ -128,24 +137,32 @@ struct RunCounts {
     report: usize,
     findings: usize,
     places: usize,
+    records: RecordCounts,
 }
 
 /// None for each buffer.
-const NOTHING: RunCounts = RunCounts {
-    file: 0,
-    report: 0,
-    findings: 0,
-    places: 0,
-};
-
-fn counts_of(given: &RunResult) -> RunCounts
-    ensures { result ≡ counts_of (results_of given.now) }
+fn nothing() -> RunCounts
+    ensures { result ≡ nothing }
 {
     RunCounts {
-        file: given.file.len(),
-        report: given.report.len(),
-        findings: given.findings.len(),
-        places: given.places.len(),
+        file: 0,
+        report: 0,
+        findings: 0,
+        places: 0,
+        records: RecordCounts::none(),
+    }
+}
+
+fn counts_of(given: &LinkOutput) -> RunCounts
+    ensures { result ≡ counts_of given.now }
+{
+    let run = &given.run;
+    RunCounts {
+        file: run.file.len(),
+        report: run.report.len(),
+        findings: run.findings.len(),
+        places: run.places.len(),
+        records: RecordCounts::of(&given.records),
     }
 }
 
@@ -156,11 +173,18 @@ fn has_list(size: usize) -> bool
     LIST_RESULT <= size
 }
 
-/// Whether a result of this size has all fields.
+/// Whether a result of this size has the fields of places.
 fn has_places(size: usize) -> bool
     ensures { result ≡ has_places size }
 {
     PLACES_RESULT <= size
+}
+
+/// Whether a result of this size has all fields.
+fn has_map(size: usize) -> bool
+    ensures { result ≡ has_map size }
+{
+    MAP_RESULT <= size
 }
 
 /// Answers by a status, by a fault with its word and its place, and by sizes.
@@ -179,56 +203,63 @@ fn answer_by(answer: &mut RunAnswer<'_>, status: u32, said: &Answer, counts: &Ru
     if has_places(answer.size) {
         answer.place_count = counts.places;
     }
+    if has_map(answer.size) {
+        answer.map.count(&counts.records);
+    }
     status
 }
 
 /// Whether a buffer is too short.
-fn is_short(given: &RunResult, answer: &RunAnswer<'_>) -> bool
-    ensures { result ≡ is_short (results_of given.now) (left_in 0 answer.now) }
+fn is_short(given: &LinkOutput, answer: &RunAnswer<'_>) -> bool
+    ensures { result ≡ is_short given.now (left_in 0 answer.now) }
 {
-    answer.file.len() < given.file.len()
-        || answer.report.len() < given.report.len()
-        || (has_list(answer.size) && answer.findings.len() < given.findings.len())
-        || (has_places(answer.size) && answer.places.len() < given.places.len())
+    let run = &given.run;
+    answer.file.len() < run.file.len()
+        || answer.report.len() < run.report.len()
+        || (has_list(answer.size) && answer.findings.len() < run.findings.len())
+        || (has_places(answer.size) && answer.places.len() < run.places.len())
+        || (has_map(answer.size) && answer.map.is_short(&given.records))
 }
 
 /// Fills the buffers.
-fn fill(answer: &mut RunAnswer<'_>, given: &RunResult)
-    requires { is_short (results_of given.now) (left_in 0 answer.old) ≡ false }
-    ensures { left_in 0 answer.new ≡ filled (results_of given.now) (left_in 0 answer.old) }
+fn fill(answer: &mut RunAnswer<'_>, given: &LinkOutput)
+    requires { is_short given.now (left_in 0 answer.old) ≡ false }
+    ensures { left_in 0 answer.new ≡ filled given.now (left_in 0 answer.old) }
 {
-    put(&given.file, &mut *answer.file);
-    put(&given.report, &mut *answer.report);
+    let run = &given.run;
+    put(&run.file, &mut *answer.file);
+    put(&run.report, &mut *answer.report);
     if has_list(answer.size) {
-        put(&given.findings, &mut *answer.findings);
+        put(&run.findings, &mut *answer.findings);
     }
     if has_places(answer.size) {
-        put(&given.places, &mut *answer.places);
+        put(&run.places, &mut *answer.places);
+    }
+    if has_map(answer.size) {
+        answer.map.fill(given);
     }
 }
 
 /// Writes all of it, or nothing.
-fn leave_output(answer: &mut RunAnswer<'_>, given: &RunResult) -> u32
-    ensures { left_in result answer.new
-        ≡ output_left (results_of given.now) (left_in 0 answer.old) }
+fn leave_output(answer: &mut RunAnswer<'_>, given: &LinkOutput) -> u32
+    ensures { left_in result answer.new ≡ output_left given.now (left_in 0 answer.old) }
 {
     let counts = counts_of(given);
     if is_short(given, answer) {
         return answer_by(answer, 2, &Answer::given(NO_ROOM, 0, 0), &counts);
     }
     fill(answer, given);
-    let status = u32::from(given.status);
+    let status = u32::from(given.run.status);
     answer_by(answer, status, &Answer::given(0, 0, 0), &counts)
 }
 
 /// Writes what there is, or why there is nothing.
-pub(crate) fn leave(answer: &mut RunAnswer<'_>, given: Result<RunResult, Refusal>) -> u32
-    ensures { left_in result answer.new
-        ≡ answer_left (results_or given) (left_in 0 answer.old) }
+pub(crate) fn leave(answer: &mut RunAnswer<'_>, given: Result<LinkOutput, Refusal>) -> u32
+    ensures { left_in result answer.new ≡ answer_left given (left_in 0 answer.old) }
 {
     match given {
         Ok(given) => leave_output(answer, &given),
-        Err(refusal) => answer_by(answer, 2, &Answer::refused(refusal), &NOTHING),
+        Err(refusal) => answer_by(answer, 2, &Answer::refused(refusal), &nothing()),
     }
 }
 

@@ -18,7 +18,8 @@ fn show_findings(program: &Program, paths: &[String]) {
 
 /// The map knows the same objects, and for each name that is reported the same first one.
 fn compare_map(program: &Program, objects: &[Vec<u8>]) {
-    let map = Link::default().map(objects).expect("a map");
+    let (same, map) = Link::default().map(objects).expect("a map");
+    assert_eq!(&same, program);
     assert_eq!((map.status, map.head.fault, map.objects.len()), (program.status, 0, objects.len()));
     for (finding, place) in program.findings.iter().zip(&program.places) {
         let row = map.names.iter().find(|row| row.name == finding.name).expect("the name");

@@ -23,15 +23,18 @@ use std::mem::size_of;
 impl Link {
     /// Links these objects in their order.
     pub fn of<B: AsRef<[u8]>>(&self, objects: &[B]) -> Result<Program, Fault> {
-        let wants = raw::V7_REPORT | raw::V7_FINDINGS | raw::V7_PLACES;
-        let size = objects.iter().map(|object| object.as_ref().len()).sum();
-        // SAFETY: the request is of `ask`; the result is of `run`
-        self.ask(wants, objects, |request| run(size, self.forced.len(), |result| unsafe { raw::v7_run(request, result) }))
+        Ok(self.given(raw::V7_REPORT | raw::V7_FINDINGS | raw::V7_PLACES, objects)?.0)
     }
 
-    /// The map of the link of these objects. A link that is refused for its sizes or its names has one too.
-    pub fn map<B: AsRef<[u8]>>(&self, objects: &[B]) -> Result<Map, Fault> {
-        self.ask(0, objects, map)
+    /// The same, with the map of the link. A link that is refused for its sizes or its names has a map too, and an empty program.
+    pub fn map<B: AsRef<[u8]>>(&self, objects: &[B]) -> Result<(Program, Map), Fault> {
+        self.given(raw::V7_REPORT | raw::V7_FINDINGS | raw::V7_PLACES | raw::V7_MAP, objects)
+    }
+
+    fn given<B: AsRef<[u8]>>(&self, wants: u32, objects: &[B]) -> Result<(Program, Map), Fault> {
+        let size = objects.iter().map(|object| object.as_ref().len()).sum();
+        // SAFETY: the request is of `ask`; the result is of `run`
+        self.ask(wants, objects, |request| run(request, size, self.forced.len(), |result| unsafe { raw::v7_run(request, result) }))
     }
 
     /// Lends a request to a call: what its slices point to has the sizes that they say.
@@ -80,35 +83,38 @@ fn lend<T: Clone + Default>(buffer: &mut Vec<T>, count: usize, records: &mut *mu
 }
 
 /// Makes a call whose result has buffers of the sizes that they say, which outlive it: once, if a link has no more to report than symbols.
-fn run(size: usize, forced: usize, mut call: impl FnMut(&mut raw::Result) -> u32) -> Result<Program, Fault> {
+/// An object has at least sixteen bytes, a name twelve, and a use four.
+fn run(request: &raw::Request, size: usize, forced: usize, mut call: impl FnMut(&mut raw::Result) -> u32) -> Result<(Program, Map), Fault> {
     // SAFETY: it takes numbers
     let file_size = unsafe { raw::v7_most(size, 8 * forced) };
     let count = file_size / 12;
-    let most = raw::Result { file_size, report_size: 27 * count + 11, finding_count: count, place_count: count, ..raw::Result::default() };
-    let (status, result, mut program) = made_from(most, |result, program: &mut Program| {
+    let mut most =
+        raw::Result { file_size, report_size: 27 * count + 11, finding_count: count, place_count: count, ..raw::Result::default() };
+    if request.wants & raw::V7_MAP != 0 {
+        (most.map.object_count, most.map.name_count) = (file_size / 16, count);
+        (most.map.use_count, most.map.limit_count) = (file_size / 4, raw::V7_LIMIT_NAMES as usize);
+    }
+    let (status, result, (mut program, mut map)) = made_from(most, |result, (program, map): &mut (Program, Map)| {
         lend(&mut program.file, result.file_size, &mut result.file, &mut result.file_room);
         lend(&mut program.report, result.report_size, &mut result.report, &mut result.report_room);
         lend(&mut program.findings, result.finding_count, &mut result.findings, &mut result.finding_room);
         lend(&mut program.places, result.place_count, &mut result.places, &mut result.place_room);
+        let records = &mut result.map;
+        lend(&mut map.objects, records.object_count, &mut records.objects, &mut records.object_room);
+        lend(&mut map.names, records.name_count, &mut records.names, &mut records.name_room);
+        lend(&mut map.uses, records.use_count, &mut records.uses, &mut records.use_room);
+        lend(&mut map.limits, records.limit_count, &mut records.limits, &mut records.limit_room);
         call(result)
     })?;
     program.file.truncate(result.file_size);
     program.report.truncate(result.report_size);
     program.findings.truncate(result.finding_count);
     program.places.truncate(result.place_count);
-    Ok(Program { status, ..program })
-}
-
-fn map(request: &raw::Request) -> Result<Map, Fault> {
-    let (status, answer, map) = made(|answer: &mut raw::Map, map: &mut Map| {
-        lend(&mut map.objects, answer.object_count, &mut answer.objects, &mut answer.object_room);
-        lend(&mut map.names, answer.name_count, &mut answer.names, &mut answer.name_room);
-        lend(&mut map.uses, answer.use_count, &mut answer.uses, &mut answer.use_room);
-        lend(&mut map.limits, answer.limit_count, &mut answer.limits, &mut answer.limit_room);
-        // SAFETY: the request is of `ask`; the buffers have the sizes that are passed, and outlive the call
-        unsafe { raw::v7_map(request, answer) }
-    })?;
-    Ok(Map { status, head: answer.head, ..map })
+    map.objects.truncate(result.map.object_count);
+    map.names.truncate(result.map.name_count);
+    map.uses.truncate(result.map.use_count);
+    map.limits.truncate(result.map.limit_count);
+    Ok((Program { status, ..program }, Map { status, head: result.map.head, ..map }))
 }
 
 /// Makes a call that fills a buffer with bytes.

@@ -42,7 +42,10 @@ impl Session {
         let (wants, size) = (raw::V7_REPORT | raw::V7_FINDINGS, self.sizes.iter().sum());
         let (kept, forced) = (&mut self.kept, self.forced);
         // SAFETY: as in `call`; the request is of `ask`
-        link.ask(wants, &[] as &[&[u8]], |request| run(size, forced, |result| unsafe { raw::v7_session_link(kept, request, result) }))
+        let linked = link.ask(wants, &[] as &[&[u8]], |request| {
+            run(request, size, forced, |result| unsafe { raw::v7_session_link(kept, request, result) })
+        });
+        Ok(linked?.0)
     }
 
     /// What the session shows, in the form `raw::V7_LINES` or `raw::V7_JSON`.

@@ -1,4 +1,4 @@
-/* v7_map and v7_run with a fault in a field of their records, beside the real ones under other names: PLANT=map_name.value changes the
+/* v7_run with a fault in a field of its records, beside the real one under another name: PLANT=map_name.value changes the
  * first byte of the value of every name of a map. PLANT=short_map, short_result and short_kept write all of a struct that has fewer fields.
  * tests/libv7/library.sh makes libraries of it. */
 #include <stddef.h>
@@ -7,7 +7,6 @@
 
 #include "v7.h"
 
-uint32_t real_v7_map(const struct v7_request *request, struct v7_map *map);
 uint32_t real_v7_run(const struct v7_request *request, struct v7_result *result);
 uint32_t real_v7_session_link(struct v7_session *session, const struct v7_request *request, struct v7_result *result);
 
@@ -52,32 +51,23 @@ static int is_planted(const char *name)
     return plant && strcmp(plant, name) == 0;
 }
 
-uint32_t v7_map(const struct v7_request *request, struct v7_map *map)
-{
-    uint32_t status = real_v7_map(request, map);
-
-    if (is_planted("short_map"))
-        map->limit_count = 0;
-    if (map->size < sizeof *map || map->fault)
-        return status;
-    plant(heads, &map->head, 1, sizeof map->head);
-    plant(objects, map->objects, map->object_count, sizeof *map->objects);
-    plant(names, map->names, map->name_count, sizeof *map->names);
-    plant(uses, map->uses, map->use_count, sizeof *map->uses);
-    plant(limits, map->limits, map->limit_count, sizeof *map->limits);
-    return status;
-}
-
 uint32_t v7_run(const struct v7_request *request, struct v7_result *result)
 {
     uint32_t status = real_v7_run(request, result);
 
     if (is_planted("short_result"))
         result->report_size = 0;
+    if (is_planted("short_map"))
+        result->map.limit_count = 0;
     if (result->size < sizeof *result || result->fault)
         return status;
     plant(findings, result->findings, result->finding_count, sizeof *result->findings);
     plant(places, result->places, result->place_count, sizeof *result->places);
+    plant(heads, &result->map.head, request->wants / V7_MAP % 2, sizeof result->map.head);
+    plant(objects, result->map.objects, result->map.object_count, sizeof *result->map.objects);
+    plant(names, result->map.names, result->map.name_count, sizeof *result->map.names);
+    plant(uses, result->map.uses, result->map.use_count, sizeof *result->map.uses);
+    plant(limits, result->map.limits, result->map.limit_count, sizeof *result->map.limits);
     return status;
 }
 

@@ -1,9 +1,9 @@
 /* Random links by v7_run, always the same, compared with the same links in large buffers. The answer, the file and the report must be
  * equal, and the first object that v7_check refuses is the one that the link refuses. Each buffer ends at a page that may not be touched,
  * or begins after one; so do request and result. What a call reads may not be written, and nothing is written beside a result. Each call
- * is made once more with each of its requests for memory refused, and all later ones. The findings, as lines, must be the report. Request,
- * result and map are tried in each size that they may have, each right before such a page: what a struct lacks is not touched, and one
- * that lacks what every answer fills stays as it was. A session that keeps the objects gives the same.
+ * is made once more with each of its requests for memory refused, and all later ones. The findings, as lines, must be the report. With
+ * the map the rest must be the same. Request and result are tried in each size that they may have, each right before such a page: what a
+ * struct lacks is not touched, and one that lacks what every answer fills stays as it was. A session that keeps the objects gives the same.
  *
  * Of the first object v7_disassemble and v7_list must refuse what v7_strip refuses. v7_disassemble gives for the stripped file what
  * v7_disassemble_words gives for its words, and v7_from_listing of the listing the file again, in such buffers and with memory refused.
@@ -73,7 +73,7 @@ struct buffer {
     size_t size;
 };
 
-static struct buffer inputs[PARTS + 4], file, report, words, found, answers, kept;
+static struct buffer inputs[PARTS + 4], file, report, words, found, records[4], answers, kept;
 static unsigned char filled[SPACE];
 
 static void make_buffer(struct buffer *b)
@@ -169,9 +169,19 @@ static struct v7_request *asked(uint32_t wants, size_t size)
 /* the link of the slices into the buffers, by a result of this size */
 static uint32_t link_slices(uint32_t wants, size_t size, struct v7_result *to)
 {
-    struct v7_result result = {size, 0, 0, 0, 0, 0, file.at, file.size, report.at, report.size, 0, (struct v7_finding *)found.at,
-                               found.size / sizeof(struct v7_finding), 0, NULL, 0};
+    struct v7_result result = {.size = size, .file = file.at, .file_room = file.size, .report = report.at, .report_room = report.size};
     uint32_t status;
+
+    result.findings = (struct v7_finding *)found.at;
+    result.finding_room = found.size / sizeof *result.findings;
+    result.map.objects = (struct v7_map_object *)records[0].at;
+    result.map.object_room = records[0].size / sizeof *result.map.objects;
+    result.map.names = (struct v7_map_name *)records[1].at;
+    result.map.name_room = records[1].size / sizeof *result.map.names;
+    result.map.uses = (struct v7_map_use *)records[2].at;
+    result.map.use_room = records[2].size / sizeof *result.map.uses;
+    result.map.limits = (struct v7_map_limit *)records[3].at;
+    result.map.limit_room = records[3].size / sizeof *result.map.limits;
 
     place(&answers, size, 1);
     memcpy(answers.at, &result, size);
@@ -188,7 +198,8 @@ static uint32_t link_copies(unsigned char *room, unsigned char *lines, struct v7
     struct v7_slice objects[PARTS];
     struct v7_request request = {sizeof request, options, V7_REPORT | V7_FINDINGS, {names[0], inputs[PARTS].size}, {names[1], inputs[PARTS + 1].size},
                                  objects, count};
-    struct v7_result given = {sizeof given, 0, 0, 0, 0, 0, room, SPACE, lines, SPACE, 0, findings, SPACE, 0, NULL, 0};
+    struct v7_result given = {.size = sizeof given, .file = room, .file_room = SPACE, .report = lines, .report_room = SPACE,
+                              .findings = findings, .finding_room = SPACE};
     uint32_t status;
     size_t i;
 
@@ -276,7 +287,7 @@ static int is_right(uint32_t status, const struct v7_result *wanted, const unsig
 }
 
 /* whether the call, with its requests for memory refused from each on, answers so, keeps no memory and writes nothing */
-static int is_refused(size_t all)
+static int is_refused(uint32_t wants, size_t all)
 {
     struct v7_result result;
     uint32_t status;
@@ -287,7 +298,7 @@ static int is_refused(size_t all)
     for (n = 1; n <= all; n++) {
         requests = 0;
         refused_from = n;
-        status = link_slices(V7_REPORT, sizeof result, &result);
+        status = link_slices(wants, sizeof result, &result);
         refused_from = (size_t)-1;
         if (status != 2 || result.fault != V7_NO_MEMORY || result.place >= count + (count == 0) || held != 0)
             return 0;
@@ -295,14 +306,59 @@ static int is_refused(size_t all)
     return has_alone(&file, filled, 0) && has_alone(&report, filled, 0);
 }
 
+/* places a buffer for the records of each kind, of which there are so many */
+static void fill_records(const struct v7_map *map)
+{
+    fill(&records[0], map->object_count * sizeof *map->objects);
+    fill(&records[1], map->name_count * sizeof *map->names);
+    fill(&records[2], map->use_count * sizeof *map->uses);
+    fill(&records[3], map->limit_count * sizeof *map->limits);
+}
+
+/* whether the call with the map gives the same file and report, or the fault of the link in the map, and fills the records alone; or none
+ * of all that, if a buffer of records is too short */
+static int is_mapped(uint32_t status, const struct v7_result *wanted, const unsigned char *room, const unsigned char *lines)
+{
+    static const struct v7_map none;
+    struct v7_result result;
+    int i, is_shown = wanted->fault >= V7_TEXT_FULL && wanted->fault <= V7_SYMBOL_NUMBER, is_given = wanted->fault == 0 || is_shown;
+    uint32_t fault = is_shown ? 0 : wanted->fault;
+
+    fill(&file, wanted->file_size);
+    fill(&report, wanted->report_size);
+    fill(&found, 0);
+    fill_records(&none);
+    if (link_slices(V7_REPORT | V7_MAP, sizeof result, &result) != 2 || result.fault != (is_given ? (uint32_t)V7_NO_ROOM : fault) || held != 0 ||
+        !has_alone(&file, filled, 0) || !has_alone(&report, filled, 0))
+        return 0;
+    if (is_given && (result.map.object_count != count || result.map.limit_count < 3))
+        return 0;
+    fill_records(is_given ? &result.map : &none);
+    requests = 0;
+    if (link_slices(V7_REPORT | V7_MAP, sizeof result, &result) != (is_shown ? 1 : status) || result.fault != fault || held != 0 ||
+        result.map.head.fault != (is_shown ? wanted->fault : 0) || result.file_size != wanted->file_size || result.report_size != wanted->report_size)
+        return 0;
+    for (i = 0; i < 4; i++)
+        if (is_given ? memcmp(records[i].pages, filled, (size_t)(records[i].at - records[i].pages)) != 0 ||
+                           memcmp(records[i].at + records[i].size, filled, SPACE - (size_t)(records[i].at - records[i].pages) - records[i].size) != 0
+                     : !has_alone(&records[i], filled, 0))
+            return 0;
+    return has_alone(&file, room, wanted->file_size) && has_alone(&report, lines, wanted->report_size) && has_alone(&found, filled, 0);
+}
+
 /* ---- structs of each size, right before a page that may not be touched */
 
 enum {
     RESULT_ANSWERED = offsetof(struct v7_result, file),
     RESULT_LINKED = offsetof(struct v7_result, finding_count),
-    REQUEST_LINKED = sizeof(struct v7_request),
-    MAP_ANSWERED = offsetof(struct v7_map, objects)
+    REQUEST_LINKED = sizeof(struct v7_request)
 };
+
+/* what needs a result of this size at least */
+static const struct {
+    uint32_t want;
+    size_t size;
+} wants_from[] = {{V7_FINDINGS, offsetof(struct v7_result, place_count)}, {V7_PLACES, offsetof(struct v7_result, map)}, {V7_MAP, sizeof(struct v7_result)}};
 
 /* a struct of this size, filled up but for its size, that ends at the page, or before it for its alignment */
 static void *put_struct(size_t size)
@@ -327,60 +383,49 @@ static uint32_t link_by(struct v7_session *session, uint32_t wants, size_t size,
     return session ? v7_session_link(session, request, result) : v7_run(request, result);
 }
 
+/* a result of this size with the buffers of the file and the report, if it has fields for them */
+static struct v7_result *put_result(size_t size)
+{
+    struct v7_result all = {.size = size, .file = file.at, .file_room = file.size, .report = report.at, .report_room = report.size};
+
+    put_struct(size);
+    if (size >= RESULT_LINKED)
+        memcpy(answers.at, &all, size);
+    return (struct v7_result *)answers.at;
+}
+
 static int takes_short_results(struct v7_session *session, uint32_t status)
 {
     struct v7_result *result;
-    size_t size;
+    size_t size, i;
 
     for (size = sizeof size; size <= sizeof *result; size++) {
-        struct v7_result all = {size, 0, 0, 0, 0, 0, file.at, file.size, report.at, report.size, 0, NULL, 0, 0, NULL, 0};
         int is_answered = size >= RESULT_ANSWERED, is_linked = size >= RESULT_LINKED;
 
-        result = put_struct(size);
-        if (is_linked)
-            memcpy(result, &all, size);
+        result = put_result(size);
         if (link_by(session, V7_REPORT, sizeof(struct v7_request), result) != (is_linked ? status : 2) || result->size != size ||
             !is_left(is_linked ? answers.size : is_answered ? RESULT_ANSWERED : sizeof size) || (is_answered && !is_linked && result->fault != V7_NO_OPTION))
             return 0;
-        result = put_struct(size);
-        if (is_linked)
-            memcpy(result, &all, size);
-        if (size < sizeof *result &&
-            (link_by(session, V7_PLACES, sizeof(struct v7_request), result) != 2 || (is_answered && result->fault != V7_NO_OPTION)))
-            return 0;
+        for (i = 0; i < sizeof wants_from / sizeof *wants_from; i++) {
+            result = put_result(size);
+            if (size < wants_from[i].size &&
+                (link_by(session, wants_from[i].want, sizeof(struct v7_request), result) != 2 || (is_answered && result->fault != V7_NO_OPTION)))
+                return 0;
+        }
     }
     return 1;
 }
 
 static int takes_short_requests(struct v7_session *session, uint32_t status)
 {
-    struct v7_result result;
-    struct v7_map *map;
+    struct v7_result *result;
     size_t size;
 
     for (size = sizeof size; size <= sizeof(struct v7_request); size++) {
         int is_linked = size >= REQUEST_LINKED;
 
-        result = (struct v7_result){sizeof result, 0, 0, 0, 0, 0, file.at, file.size, report.at, report.size, 0, NULL, 0, 0, NULL, 0};
-        if (link_by(session, V7_REPORT, size, &result) != (is_linked ? status : 2) || (!is_linked && result.fault != V7_NO_OPTION))
-            return 0;
-        map = put_struct(sizeof *map);
-        memset(&map->fault, 0, sizeof *map - sizeof size);
-        if (!is_linked && (v7_map(asked(0, size), map) != 2 || map->fault != V7_NO_OPTION))
-            return 0;
-    }
-    return 1;
-}
-
-static int takes_short_maps(void)
-{
-    struct v7_map *map;
-    size_t size;
-
-    for (size = sizeof size; size < sizeof *map; size++) {
-        map = put_struct(size);
-        if (v7_map(asked(0, sizeof(struct v7_request)), map) != 2 || map->size != size || !is_left(size >= MAP_ANSWERED ? MAP_ANSWERED : sizeof size) ||
-            (size >= MAP_ANSWERED && map->fault != V7_NO_OPTION))
+        result = put_result(sizeof *result);
+        if (link_by(session, V7_REPORT, size, result) != (is_linked ? status : 2) || (!is_linked && result->fault != V7_NO_OPTION))
             return 0;
     }
     return 1;
@@ -412,7 +457,7 @@ static int takes_short_structs(uint32_t status, const struct v7_result *wanted)
 {
     fill(&file, wanted->file_size);
     fill(&report, wanted->report_size);
-    return takes_short_results(NULL, status) && takes_short_requests(NULL, status) && takes_short_maps() && takes_kept_structs(status, wanted);
+    return takes_short_results(NULL, status) && takes_short_requests(NULL, status) && takes_kept_structs(status, wanted);
 }
 
 /* the lines of a report, by its findings; returns how many bytes they take */
@@ -562,6 +607,8 @@ int main(int argc, char **argv)
     make_buffer(&file);
     make_buffer(&report);
     make_buffer(&found);
+    for (i = 0; i < 4; i++)
+        make_buffer(&records[i]);
     make_buffer(&answers);
     make_buffer(&kept);
     make_buffer(&words);
@@ -571,8 +618,9 @@ int main(int argc, char **argv)
         status = link_copies(room, lines, findings, &wanted);
         linked += status != 2;
         requests = 0;
-        if (!is_right(status, &wanted, room, lines, wanted.file_size, wanted.report_size) || !is_refused(requests) ||
-            !is_right(status, &wanted, room, lines, below(200), below(30)) || !finds(status, &wanted, room, lines, findings)) {
+        if (!is_right(status, &wanted, room, lines, wanted.file_size, wanted.report_size) || !is_refused(V7_REPORT, requests) ||
+            !is_right(status, &wanted, room, lines, below(200), below(30)) || !finds(status, &wanted, room, lines, findings) ||
+            !is_mapped(status, &wanted, room, lines) || !is_refused(V7_REPORT | V7_MAP, requests)) {
             printf("call %ld: another answer than that of large buffers: fault %u\n", n, (unsigned)wanted.fault);
             return 1;
         }

@@ -1,6 +1,6 @@
-/* v7_run and v7_map beside each other: for random lists of objects, some of them cut or with bytes after them, v7_run must give the same
- * whatever is wanted of the report. After each edit of a session v7_session_link must give what v7_run gives for the objects that are
- * there, and v7_session_state the state of a session to which they are added anew. The objects of findings are those that v7_map has for
+/* v7_run by its wants: for random lists of objects, some of them cut or with bytes after them, it must give the same whatever is wanted
+ * besides the file. After each edit of a session v7_session_link must give what v7_run gives for the objects that are
+ * there, and v7_session_state the state of a session to which they are added anew. The objects of findings are those that the map has for
  * their names. A caller whose result is shorter, with nothing readable after it, gets the same link and the same list. Buffers for what
  * is not wanted, and all buffers after a fault, stay as they were. A map has the fault of the link in it, or as its own. No file is larger
  * than v7_most gives.
@@ -30,6 +30,10 @@ struct given {
     unsigned char file[ROOM], report[ROOM];
     struct v7_finding findings[FEW];
     struct v7_finding_place places[FEW];
+    struct v7_map_object objects[OBJECTS];
+    struct v7_map_name names[FEW];
+    struct v7_map_use uses[ROOM / 64];
+    struct v7_map_limit limits[FEW];
 };
 
 static struct v7_slice known[16];
@@ -93,6 +97,14 @@ static void ask_of(struct v7_session *session, struct given *to, struct v7_reque
     to->result.finding_room = FEW;
     to->result.places = to->places;
     to->result.place_room = FEW;
+    to->result.map.objects = to->objects;
+    to->result.map.object_room = OBJECTS;
+    to->result.map.names = to->names;
+    to->result.map.name_room = FEW;
+    to->result.map.uses = to->uses;
+    to->result.map.use_room = sizeof to->uses / sizeof *to->uses;
+    to->result.map.limits = to->limits;
+    to->result.map.limit_room = FEW;
     to->status = session ? v7_session_link(session, request, &to->result) : v7_run(request, &to->result);
 }
 
@@ -108,7 +120,11 @@ static int is_clean(const struct given *g)
 
     return is_filled(g->file, there * g->result.file_size, ROOM) && is_filled(g->report, there * g->result.report_size, ROOM) &&
            is_filled(g->findings, there * g->result.finding_count * sizeof *g->findings, sizeof g->findings) &&
-           is_filled(g->places, there * g->result.place_count * sizeof *g->places, sizeof g->places);
+           is_filled(g->places, there * g->result.place_count * sizeof *g->places, sizeof g->places) &&
+           is_filled(g->objects, there * g->result.map.object_count * sizeof *g->objects, sizeof g->objects) &&
+           is_filled(g->names, there * g->result.map.name_count * sizeof *g->names, sizeof g->names) &&
+           is_filled(g->uses, there * g->result.map.use_count * sizeof *g->uses, sizeof g->uses) &&
+           is_filled(g->limits, there * g->result.map.limit_count * sizeof *g->limits, sizeof g->limits);
 }
 
 /* a copy at the end of a page, after which nothing can be read */
@@ -208,57 +224,43 @@ static void try_places(const struct given *got, const struct v7_map *map, unsign
     }
 }
 
-/* the map of the link: its faults are those of v7_run, of which some are in the map. All records are written, or none */
+/* the same link with its map: a link that is refused is in the map. All records are written, or none */
 static void try_map(struct v7_request *request, unsigned number)
 {
-    static struct given got;
-    static struct v7_map_object objects[OBJECTS];
-    static struct v7_map_name names[FEW];
-    static struct v7_map_use uses[ROOM / 64];
-    static struct v7_map_limit limits[FEW];
-    struct v7_map map;
-    uint32_t status;
-    int is_mapped;
+    static struct given plain, got;
+    const struct v7_result *without = &plain.result, *with = &got.result;
+    const struct v7_map *map = &got.result.map;
 
-    request->wants = V7_FINDINGS | V7_PLACES;
+    request->wants = V7_REPORT | V7_FINDINGS | V7_PLACES;
+    ask(&plain, request, ROOM);
+    request->wants |= V7_MAP;
     ask(&got, request, ROOM);
-    is_mapped = got.result.fault == 0 || (got.result.fault >= V7_TEXT_FULL && got.result.fault <= V7_SYMBOL_NUMBER);
-    memset(&map, 0, sizeof map);
-    map.size = sizeof map;
-    map.objects = objects;
-    map.object_room = OBJECTS;
-    map.names = names;
-    map.name_room = FEW;
-    map.uses = uses;
-    map.use_room = sizeof uses / sizeof *uses;
-    map.limits = limits;
-    map.limit_room = FEW;
-    memset(objects, FILL, sizeof objects);
-    memset(names, FILL, sizeof names);
-    memset(uses, FILL, sizeof uses);
-    memset(limits, FILL, sizeof limits);
-    status = v7_map(request, &map);
-    if (is_mapped) {
-        check(map.fault == 0 && map.head.fault == got.result.fault && map.head.place == got.result.place &&
-                  status == (got.result.fault ? 1 : got.status) && map.object_count == request->object_count,
+    check(is_clean(&got), "records beyond their number", number);
+    if (without->fault == 0) {
+        check(got.status == plain.status && with->fault == 0 && map->head.fault == 0 && map->object_count == request->object_count &&
+                  with->file_size == without->file_size && memcmp(got.file, plain.file, ROOM) == 0 && with->report_size == without->report_size &&
+                  memcmp(got.report, plain.report, ROOM) == 0 && memcmp(got.findings, plain.findings, sizeof got.findings) == 0 &&
+                  memcmp(got.places, plain.places, sizeof got.places) == 0,
+              "another link with a map", number);
+        try_places(&got, map, number);
+    } else if (without->fault >= V7_TEXT_FULL && without->fault <= V7_SYMBOL_NUMBER) {
+        check(got.status == 1 && with->fault == 0 && map->head.fault == without->fault && map->head.place == without->place &&
+                  map->object_count == request->object_count && with->file_size + with->report_size + with->finding_count + with->place_count == 0,
               "another map than the link", number);
-        if (got.result.fault == 0)
-            try_places(&got, &map, number);
     } else {
-        check(status == 2 && map.fault == got.result.fault && map.place == got.result.place && map.word == got.result.word &&
-                  map.object_count + map.name_count + map.use_count + map.limit_count == 0,
+        check(got.status == 2 && with->fault == without->fault && with->place == without->place && with->word == without->word &&
+                  map->object_count + map->name_count + map->use_count + map->limit_count == 0,
               "another fault of a map", number);
     }
-    check(is_filled(objects, map.object_count * sizeof *objects, sizeof objects) && is_filled(names, map.name_count * sizeof *names, sizeof names) &&
-              is_filled(uses, map.use_count * sizeof *uses, sizeof uses) && is_filled(limits, map.limit_count * sizeof *limits, sizeof limits),
-          "records beyond their number", number);
-    if (map.limit_count > 0 && is_mapped) {
-        memset(uses, FILL, sizeof uses);
-        map.limit_room = map.limit_count - 1;
-        check(v7_map(request, &map) == 2 && map.fault == V7_NO_ROOM && is_filled(uses, 0, sizeof uses), "records without room for all", number);
+    if (map->limit_count > 0) {
+        memset(got.file, FILL, ROOM);
+        memset(got.uses, FILL, sizeof got.uses);
+        got.result.map.limit_room = map->limit_count - 1;
+        check(v7_run(request, &got.result) == 2 && with->fault == V7_NO_ROOM && is_filled(got.uses, 0, sizeof got.uses) && is_filled(got.file, 0, ROOM),
+              "records without room for all", number);
     }
-    map.size--;
-    check(v7_map(request, &map) == 2 && map.fault == V7_NO_OPTION, "a map that is too short", number);
+    got.result.size--;
+    check(v7_run(request, &got.result) == 2 && with->fault == V7_NO_OPTION, "a result that is too short for a map", number);
 }
 
 static void try_link(struct v7_request *request, unsigned number)
@@ -288,7 +290,7 @@ static void try_link(struct v7_request *request, unsigned number)
         check(plain.status == 2 && plain.result.fault == V7_NO_ROOM && plain.result.file_size == got.result.file_size && is_clean(&plain),
               "a buffer that is too small", number);
     }
-    request->wants = 8;
+    request->wants = 16;
     ask(&plain, request, ROOM);
     check(plain.status == 2 && plain.result.fault == V7_NO_OPTION && plain.result.file_size == 0 && is_clean(&plain), "an unknown want", number);
 }
@@ -352,9 +354,10 @@ static void try_kept(const struct v7_request *request, unsigned number)
               "another link of what is kept", number);
         compare_states(&session, &link, number);
     }
-    link.wants = V7_PLACES;
-    ask_of(&session, &got, &link, ROOM);
-    check(got.status == 2 && got.result.fault == V7_NO_OPTION && is_clean(&got), "places of what is kept", number);
+    for (link.wants = V7_PLACES; link.wants <= V7_MAP; link.wants *= 2) {
+        ask_of(&session, &got, &link, ROOM);
+        check(got.status == 2 && got.result.fault == V7_NO_OPTION && is_clean(&got), "places or a map of what is kept", number);
+    }
     link.wants = 0;
     check(v7_session_free(&session) == 0 && session.is_open == 0 && session.state == NULL && v7_session_free(&session) == 0, "a session that stays", number);
     ask_of(&session, &got, &link, ROOM);

@@ -28,43 +28,33 @@ static void called(uint32_t status, const struct v7_answer *answer)
 
 static struct v7_request asked(uint32_t options)
 {
-    struct v7_request request = {sizeof request, options, V7_REPORT | V7_FINDINGS | V7_PLACES, {0, 0}, {0, 0}, slices, count};
+    struct v7_request request = {sizeof request, options, V7_REPORT | V7_FINDINGS | V7_PLACES | V7_MAP, {0, 0}, {0, 0}, slices, count};
 
     return request;
 }
 
+/* the link with its map, by two calls: for how many records there are, and for them */
 static void run(uint32_t options)
 {
     struct v7_request request = asked(options);
-    struct v7_result result = {sizeof result, 0, 0, 0, 0, 0, room, ROOM, more, ROOM, 0, findings, SYMBOLS, 0, places, SYMBOLS};
-    uint32_t status = v7_run(&request, &result);
-    struct v7_answer answer = {result.fault, result.word, result.place, 0, 0};
-
-    called(status, &answer);
-}
-
-/* the map, by two calls: for how many records there are, and for them */
-static void show_map(uint32_t options)
-{
-    struct v7_request request = asked(options);
-    struct v7_map map;
+    struct v7_result result = {.size = sizeof result, .file = room, .file_room = ROOM, .report = more, .report_room = ROOM,
+                               .findings = findings, .finding_room = SYMBOLS, .places = places, .place_room = SYMBOLS};
+    struct v7_map *map = &result.map;
     struct v7_answer answer = {0, 0, 0, 0, 0};
     uint32_t status;
 
-    memset(&map, 0, sizeof map);
-    map.size = sizeof map;
-    v7_map(&request, &map);
-    map.objects = malloc((map.object_room = map.object_count) * sizeof *map.objects);
-    map.names = malloc((map.name_room = map.name_count) * sizeof *map.names);
-    map.uses = malloc((map.use_room = map.use_count) * sizeof *map.uses);
-    map.limits = malloc((map.limit_room = map.limit_count) * sizeof *map.limits);
-    status = v7_map(&request, &map);
-    answer.fault = map.fault;
+    v7_run(&request, &result);
+    map->objects = malloc((map->object_room = map->object_count) * sizeof *map->objects);
+    map->names = malloc((map->name_room = map->name_count) * sizeof *map->names);
+    map->uses = malloc((map->use_room = map->use_count) * sizeof *map->uses);
+    map->limits = malloc((map->limit_room = map->limit_count) * sizeof *map->limits);
+    status = v7_run(&request, &result);
+    answer.fault = result.fault;
     called(status, &answer);
-    free(map.objects);
-    free(map.names);
-    free(map.uses);
-    free(map.limits);
+    free(map->objects);
+    free(map->names);
+    free(map->uses);
+    free(map->limits);
 }
 
 /* a session of the same objects */
@@ -72,7 +62,8 @@ static void keep(void)
 {
     struct v7_session session = {0, NULL};
     struct v7_request request = asked(0);
-    struct v7_result result = {sizeof result, 0, 0, 0, 0, 0, room, ROOM, more, ROOM, 0, findings, SYMBOLS, 0, NULL, 0};
+    struct v7_result result = {.size = sizeof result, .file = room, .file_room = ROOM, .report = more, .report_room = ROOM,
+                               .findings = findings, .finding_room = SYMBOLS};
     struct v7_answer answer;
     uint32_t status;
     size_t i;
@@ -113,10 +104,8 @@ static void *call_all(void *unused)
     calls++;
     results++;
     called(v7_disassemble_words(0, (const uint16_t *)objects, objects_size / 2, room, ROOM, &answer), &answer);
-    for (option = 0; option < 128; option = 2 * option + (option == 0)) {
+    for (option = 0; option < 128; option = 2 * option + (option == 0))
         run(option);
-        show_map(option);
-    }
     keep();
     called(v7_read(objects, objects_size, &header, text, WORDS, data, WORDS, symbols, SYMBOLS, &counts, &answer), &answer);
     called(v7_take_apart(objects, objects_size, text, WORDS, data, WORDS, symbols, SYMBOLS, &counts, &answer), &answer);
@@ -170,5 +159,5 @@ int main(void)
         append(150, 25, (unsigned)count);
     call_in_thread();
     printf("%u calls, %u with a result\n", calls, results);
-    return calls != 70 || results < 66;
+    return calls != 54 || results < 52;
 }

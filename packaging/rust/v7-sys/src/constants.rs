@@ -114,6 +114,7 @@ pub const V7_FORCE_COMMONS: u32 = 64;
 pub const V7_REPORT: u32 = 1;
 pub const V7_FINDINGS: u32 = 2;
 pub const V7_PLACES: u32 = 4;
+pub const V7_MAP: u32 = 8;
 
 // enum v7_finding_kind
 pub const V7_MULTIPLY_DEFINED: u32 = 1;

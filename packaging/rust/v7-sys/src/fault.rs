@@ -1,7 +1,7 @@
 //! Faults of calls, as errors.
 use std::{error, fmt};
 
-use crate::{Answer, Map, Result};
+use crate::{Answer, Result};
 
 /// Why a call gives nothing: the number of the fault, of the object, edit, line or byte, and of the word or column, as in
 /// `struct v7_answer`.
@@ -30,7 +30,7 @@ macro_rules! faults_of {
     )*};
 }
 
-faults_of!(Answer, Map, Result);
+faults_of!(Answer, Result);
 
 /// What a fault means, as `v7_strerror` of v7.h says it.
 fn text(fault: u32) -> &'static str {

@@ -41,49 +41,6 @@ pub struct FindingPlace {
     pub further: Number,
 }
 
-/// `struct v7_request`
-#[repr(C)]
-#[derive(Clone, Copy, Debug)]
-pub struct Request {
-    pub size: usize,
-    pub options: u32,
-    pub wants: u32,
-    pub entry: Slice,
-    pub forced: Slice,
-    pub objects: *const Slice,
-    pub object_count: usize,
-}
-
-/// `struct v7_result`
-#[repr(C)]
-#[derive(Clone, Copy, Debug)]
-pub struct Result {
-    pub size: usize,
-    pub fault: u32,
-    pub word: u32,
-    pub place: usize,
-    pub file_size: usize,
-    pub report_size: usize,
-    pub file: *mut u8,
-    pub file_room: usize,
-    pub report: *mut u8,
-    pub report_room: usize,
-    pub finding_count: usize,
-    pub findings: *mut Finding,
-    pub finding_room: usize,
-    pub place_count: usize,
-    pub places: *mut FindingPlace,
-    pub place_room: usize,
-}
-
-impl Default for Result {
-    /// Without buffers.
-    fn default() -> Self {
-        // SAFETY: 0 is a number or a null pointer in each field
-        Result { size: mem::size_of::<Result>(), ..unsafe { mem::zeroed() } }
-    }
-}
-
 /// `struct v7_map_head`
 #[repr(C)]
 #[derive(Clone, Copy, Debug, Default, PartialEq, Eq)]
@@ -155,10 +112,6 @@ pub struct MapLimit {
 #[repr(C)]
 #[derive(Clone, Copy, Debug)]
 pub struct Map {
-    pub size: usize,
-    pub fault: u32,
-    pub word: u32,
-    pub place: usize,
     pub head: MapHead,
     pub object_count: usize,
     pub name_count: usize,
@@ -178,7 +131,51 @@ impl Default for Map {
     /// Without buffers.
     fn default() -> Self {
         // SAFETY: 0 is a number or a null pointer in each field
-        Map { size: mem::size_of::<Map>(), ..unsafe { mem::zeroed() } }
+        unsafe { mem::zeroed() }
+    }
+}
+
+/// `struct v7_request`
+#[repr(C)]
+#[derive(Clone, Copy, Debug)]
+pub struct Request {
+    pub size: usize,
+    pub options: u32,
+    pub wants: u32,
+    pub entry: Slice,
+    pub forced: Slice,
+    pub objects: *const Slice,
+    pub object_count: usize,
+}
+
+/// `struct v7_result`
+#[repr(C)]
+#[derive(Clone, Copy, Debug)]
+pub struct Result {
+    pub size: usize,
+    pub fault: u32,
+    pub word: u32,
+    pub place: usize,
+    pub file_size: usize,
+    pub report_size: usize,
+    pub file: *mut u8,
+    pub file_room: usize,
+    pub report: *mut u8,
+    pub report_room: usize,
+    pub finding_count: usize,
+    pub findings: *mut Finding,
+    pub finding_room: usize,
+    pub place_count: usize,
+    pub places: *mut FindingPlace,
+    pub place_room: usize,
+    pub map: Map,
+}
+
+impl Default for Result {
+    /// Without buffers.
+    fn default() -> Self {
+        // SAFETY: 0 is a number or a null pointer in each field
+        Result { size: mem::size_of::<Result>(), ..unsafe { mem::zeroed() } }
     }
 }
 
@@ -295,7 +292,6 @@ extern "C" {
     ) -> u32;
     pub fn v7_run(request: *const Request, result: *mut Result) -> u32;
     pub fn v7_most(bytes: usize, forced_size: usize) -> usize;
-    pub fn v7_map(request: *const Request, map: *mut Map) -> u32;
     pub fn v7_session_new(session: *mut Session, forced: *const u8, forced_size: usize, answer: *mut Answer) -> u32;
     pub fn v7_session_add(session: *mut Session, bytes: *const u8, size: usize, answer: *mut Answer) -> u32;
     pub fn v7_session_withdraw(session: *mut Session, answer: *mut Answer) -> u32;
