@@ -155,20 +155,26 @@ class File:
                 return shown(name) + ("" if number == 0 else "+" + octal(number) if number < 0o100000 else "-" + octal(0o200000 - number))
         return None
 
-    def located(self, address, fetches):
-        """The name of an address in a linked file."""
-        text, data, bss = 2 * len(self.words), 2 * len(self.data), self.bss
+    @property
+    def data_start(self):
+        return {0o410: -(-2 * len(self.words) // 0o20000) * 0o20000, 0o411: 0}.get(self.magic, 2 * len(self.words))
+
+    def segment(self, address, fetches):
+        """The segment of an address in a linked file, by its type."""
         split = self.magic == 0o411
-        if address < text and (fetches or not split):
-            return self.exact(2, address)
+        if address < 2 * len(self.words) and (fetches or not split):
+            return 2
         if self.magic == 0o405 or (split and fetches):
             return None
-        start = {0o407: text, 0o410: -(-text // 0o20000) * 0o20000, 0o411: 0}[self.magic]
-        if start <= address < start + data:
-            return self.exact(3, address)
-        if start + data <= address < start + data + bss:
-            return self.exact(4, address)
-        return None
+        end = self.data_start + 2 * len(self.data)
+        if self.data_start <= address < end:
+            return 3
+        return 4 if end <= address < end + self.bss else None
+
+    def located(self, address, fetches):
+        """The name of an address in a linked file."""
+        segment = self.segment(address, fetches)
+        return segment and self.exact(segment, address)
 
     def reference(self, name, mode, register, word, after, place):
         """The name in place of an operand word, which has this place in the text."""
@@ -263,9 +269,9 @@ class File:
         return length, name + (" " if texts else "") + ",".join(texts)
 
     @functools.cached_property
-    def of_text(self):
-        """Each symbol of text, as it is shown, with its value."""
-        return [(shown(name), value) for name, kind, value in self.symbols if kind & 0o37 == 2]
+    def values(self):
+        """For text, data and bss each symbol, as it is shown, with its value."""
+        return {of: [(shown(name), value) for name, kind, value in self.symbols if kind & 0o37 == of] for of in (2, 3, 4)}
 
     def call(self, place, name, count):
         """The length and the text of a system call at a place. An argument is named as an immediate number is."""
@@ -275,23 +281,26 @@ class File:
         named = [(self.reference("sys", 2, 7, self.words[at], 0, at), self.words[at]) for at in range(place + 1, end)]
         return 1 + count, "; ".join(["sys " + name] + [text or "%06o" % word for text, word in named])
 
-    def labels(self, address, length):
-        return [name + ":" for name, value in self.of_text if value == address] + [
-            "%s = .+%o" % (name, value - address) for name, value in self.of_text if address < value < address + 2 * length
+    def labels(self, address, length, of=2):
+        symbols = self.values[of]
+        return [name + ":" for name, value in symbols if value == address] + [
+            "%s = .+%o" % (name, value - address) for name, value in symbols if address < value < address + 2 * length
         ]
 
     def operand_words(self, place):
-        """The places of the operand words of the line at a place, or of its arguments, each with its name in the line, if it has one."""
+        """The places of the operand words of the line at a place, or of its arguments, each with its name in the line, if it has one. If
+        the number itself may be an address, the last says whether an instruction is fetched there."""
         length = self.line(place)[0]
         if self.knows_calls and self.words[place] in SYS:
             for at in range(place + 1, place + length):
-                yield at, self.reference("sys", 2, 7, self.words[at], 0, at)
+                yield at, self.reference("sys", 2, 7, self.words[at], 0, at), False
         elif length > 1:
             name, fields = FOUND[self.words[place]]
             at = place + 1
             for letter, value in fields:
                 if has_word(letter, value):
-                    yield at, self.reference(name, value >> 3, value & 7, self.words[at], 2 * at + 2, at)
+                    absolute = name in ("jmp", "jsr") if value == 0o37 else None
+                    yield at, self.reference(name, value >> 3, value & 7, self.words[at], 2 * at + 2, at), False if value == 0o27 else absolute
                     at += 1
 
     def nearest(self, kind, address):
@@ -304,7 +313,7 @@ class File:
 
     def string(self, address):
         """The string at an address of data, as a remark shows it."""
-        start = {0o410: -(-2 * len(self.words) // 0o20000) * 0o20000, 0o411: 0}.get(self.magic, 2 * len(self.words))
+        start = self.data_start
         following = struct.pack("<%dH" % len(self.data), *self.data)[address - start :] if start <= address else b""
         found = re.match(rb"[\t\n -~]*", following).group()
         if len(found) <= 40 and (len(found) < 2 or following[len(found) : len(found) + 1] != b"\0"):
@@ -312,19 +321,28 @@ class File:
         escapes = {9: "\\t", 10: "\\n", 34: '\\"', 92: "\\\\"}
         return '"%s"%s' % ("".join(escapes.get(byte, chr(byte)) for byte in found[:40]), ".." if len(found) > 40 else "")
 
+    def perhaps(self, number, fetches):
+        """What a number of a linked file points to, if it is an address: a string, or a label."""
+        segment = self.segment(number, fetches)
+        string = self.string(number) if segment == 3 else None
+        label = self.exact(2, number) if segment == 2 else segment and self.nearest(segment, number)
+        return string or label and "perhaps " + label
+
+    def pointed(self, relocation, number):
+        """What a number refers to by a relocation word, with the near label, and the string there."""
+        kind = relocation >> 1 & 7
+        label = self.nearest(kind + 1, number) if 0 < kind < 4 else self.referred(relocation, number)
+        return [self.meaning(relocation, number, label), self.string(number) if kind == 2 else None]
+
     def remarks(self, place):
-        """What is said after the instruction at a place: of a relocated operand word without a name, and of a string."""
+        """What is said after the instruction at a place: of a relocated operand word without a name, and of a string; without relocation
+        of a number that may be an address."""
         texts = []
-        for at, named in self.operand_words(place):
-            if not self.is_relocated(at):
-                continue
-            relocation = self.relocation[at]
-            number, kind = self.number_of(at), relocation >> 1 & 7
-            if not named:
-                label = self.nearest(kind + 1, number) if 0 < kind < 4 else self.referred(relocation, number)
-                texts.append(self.meaning(relocation, number, label))
-            if kind == 2:
-                texts.append(self.string(number))
+        for at, named, fetches in self.operand_words(place):
+            if self.is_relocated(at):
+                texts += self.pointed(self.relocation[at], self.number_of(at))[1 if named else 0 :]
+            elif self.relocation is None and not named and fetches is not None:
+                texts.append(self.perhaps(self.words[at], fetches))
         return "".join(" / " + text for text in texts if text)
 
     def disassembly(self):
@@ -354,39 +372,54 @@ class File:
         relocs = [] if self.relocation is None or self.magic != 0o407 else [*self.relocation, *self.data_relocation]
         return any(reloc & 0o16 > 0o10 or reloc & 0o16 == 0o10 and reloc >> 4 not in undefined for reloc in relocs)
 
-    def remark(self, place):
-        """What a listing says of an operand word."""
-        if self.relocation is None:
-            return ""
-        relocation, word = self.relocation[place], self.words[place]
-        number, kind = self.number_of(place), relocation >> 1 & 7
-        after = ", from the pc" if relocation & 1 else ""
+    def said(self, address, word, relocation):
+        """What a listing says of a word that begins no instruction, by its relocation word."""
+        number, kind = (word + (address + 2 if relocation & 1 else 0)) & 0o177777, relocation >> 1 & 7
         if kind > 4:
-            return "no kind of relocation" + after
-        if kind == 0:
-            return "the number %06o%s" % (number, after) if after else "a number"
-        if kind < 4:
-            return "%s %06o%s" % (("text", "data", "bss")[kind - 1], number, after)
-        index = relocation >> 4
-        if index >= len(self.symbols):
-            text = "no symbol %d" % index
-        else:
+            return "no kind of relocation"
+        if kind == 4:
+            index = relocation >> 4
+            if index >= len(self.symbols):
+                return "no symbol %d" % index
             name, of, _ = self.symbols[index]
-            text = in_listing(name) if of & 0o77 == 0o40 else "not wanted: symbol %d %s" % (index, in_listing(name))
-        return text + (" + " + octal(number) if number else "") + after
+            if of & 0o77 != 0o40:
+                return "not wanted: symbol %d %s" % (index, in_listing(name))
+        if relocation & 0o17 == 0:
+            return ""
+        return " / ".join(text for text in self.pointed(relocation, number) if text)
+
+    def begun(self, place):
+        """The string that begins in a word of data, at a byte that follows no byte of text."""
+        data = b"." + struct.pack("<%dH" % len(self.data), *self.data)
+        starts = [at for at in (2 * place, 2 * place + 1) if at == 0 or not re.match(rb"[\t\n -~]", data[at : at + 1])]
+        return "".join(self.string(self.data_start + at) or "" for at in starts)
+
+    def row(self, address, word, relocation, said):
+        relocated = "" if relocation is None else "  %4o" % relocation
+        return "%06o  %06o%s%s" % (address, word, relocated, "  " + said if said else "")
 
     def listing(self):
-        """The lines of the text in a listing, with the labels of its end."""
+        """The lines of text and data in a listing, with the labels of each, those of bss after data."""
         place, lines = 0, []
         while place < len(self.words):
             length, text = self.line(place)
             lines += self.labels(2 * place, length)
             for number in range(place, place + length):
-                said = text if number == place else self.remark(number)
-                relocated = "" if self.relocation is None else "  %4o" % self.relocation[number]
-                lines.append("%06o  %06o%s%s" % (2 * number, self.words[number], relocated, "  " + said if said else ""))
+                relocation, word = self.relocation and self.relocation[number], self.words[number]
+                said = text + (self.remarks(place) if relocation is None else "") if number == place else ""
+                if number != place and relocation is not None:
+                    said = self.said(2 * number, word, relocation)
+                lines.append(self.row(2 * number, word, relocation, said))
             place += length
-        return lines + self.labels(2 * place, 0)
+        lines += self.labels(2 * place, 0) + ["data"]
+        for place, word in enumerate(self.data):
+            address = self.data_start + 2 * place
+            relocation = None if self.relocation is None else self.data_relocation[place]
+            relocated = relocation is not None and relocation & 0o17 != 0
+            said = self.said(address, word, relocation) if relocated else self.begun(place)
+            lines += self.labels(address, 1, 3) + [self.row(address, word, relocation, said)]
+        end = self.data_start + 2 * len(self.data)
+        return lines + self.labels(end, 0, 3) + self.labels(end, 32768, 4)
 
 
 def shown(padded):
@@ -425,9 +458,9 @@ def compare(made, folder, what):
 
 
 def compare_listing(made, folder, what):
-    """Compares the text of the listing, and returns how many lines it has."""
+    """Compares text and data of the listing, and returns how many lines they have."""
     lines = shown_by([EXPLAIN], made, folder, what)
-    same(what, lines[lines.index("text") + 1 : lines.index("data")], made.listing())
+    same(what, lines[lines.index("text") + 1 : lines.index("bss " + octal(made.bss))], made.listing())
     return len(made.listing())
 
 
@@ -484,7 +517,7 @@ def random_file(dice):
         usual = [0, 0, 0, 1, 2, 3, 4, 5, 6, 7]
         some = lambda: dice.choice([0, 0, 0, dice.choice(usual), dice.randrange(8, 10) + 16 * dice.randrange(64), dice.randrange(65536)])
         relocation = [some() for _ in words]
-    return File(words, relocation, symbols, magic, data, [0] * len(data), bss)
+    return File(words, relocation, symbols, magic, data, [some() if relocated and dice.randrange(2) else 0 for _ in data], bss)
 
 
 def assembled(text, assembler, folder):

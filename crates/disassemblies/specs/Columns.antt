@@ -5,6 +5,7 @@ use Rattle.aout_core.specs.{Contents.Contents, Words.plus}
 use Rattle.instructions.specs.Lines.{line_length, lines, words_of}
 use Rattle.instructions.specs.{declared.line.Line.Line, declared.unix.Decoder.Decoder, Texts.line_text}
 use Rattle.texts.specs.Numbers.{six_digits}
+use Rattle.aout_core.specs.declared.symbol.Segment.TheVariants.{TextSeg}
 use Rattle.disassemblies.specs.{Remarks.remarked_text, Starts.by_lines, Labels.labels}
 
 abbrev pub word_column : ℕ → List ℕ
@@ -28,10 +29,10 @@ abbrev pub row : Decoder → Contents → ℕ → ℕ → List ℕ
 row d c place n = row_of d c place (take n (drop place c.text_words))
 
 abbrev pub labelled_row : Decoder → Contents → ℕ → ℕ → List ℕ
-labelled_row d c place n = labels c.symbols (2 * place) n ++ row d c place n
+labelled_row d c place n = labels c.symbols TextSeg (2 * place) n ++ row d c place n
 
 abbrev pub disassembly : Decoder → Contents → List ℕ
-disassembly d c = by_lines d c (λ place n. labelled_row d c place n) (labels c.symbols (2 * length c.text_words) 0)
+disassembly d c = by_lines d c (λ place n. labelled_row d c place n) (labels c.symbols TextSeg (2 * length c.text_words) 0)
 
 -- a line at an address, without names
 abbrev pub plain_row : ℕ → Line → List ℕ

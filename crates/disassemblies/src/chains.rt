@@ -7,7 +7,7 @@ use std::alloc::{AllocError, Global};
 
 /// The block of a value.
 fn block(shift: u8, value: usize) -> usize
-    requires { value ≤ 100000 }
+    requires { value ≤ 200000 }
     ensures { result ≡ block shift value }
 {
     (value + usize::from(shift)) / 32
@@ -131,8 +131,8 @@ impl<'a> Chains<'a> {
         self.next[place]
     }
 
-    /// Whether a line of so many words is in one block, and with it the address after it.
-    pub(crate) fn is_in_block(&self, address: u16, length: u8) -> bool
+    /// Whether so many words from an address on are in one block, and with them the address after them.
+    pub(crate) fn is_in_block(&self, address: u16, length: u16) -> bool
         ensures { IsTrue result
             → block self.now.shift address ≡ block self.now.shift (address + 2 * length) }
     {

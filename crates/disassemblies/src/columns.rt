@@ -1,6 +1,7 @@
 //! A text in columns.
 ghost use Rattle.std.specs.Prelude.{◌≡◌, ◌<◌, ◌≤◌, ◌+◌, ◌-◌, ◌*◌, [], ◌++◌, length, take, drop, replicate, codes};
 ghost use Rattle.std.specs.List.{flat_map};
+ghost use Rattle.aout_core.specs.declared.symbol.Segment.TheVariants.{TextSeg};
 ghost use Rattle.texts.specs.Numbers.{six_digits};
 ghost use Rattle.texts.specs.Texts.{Puts};
 ghost use Rattle.instructions.specs.Lines.{words_of};
@@ -13,7 +14,7 @@ use crate::label::put_labels;
 use crate::line::{put_text_of, unix_line_in};
 use crate::named::NamedFile;
 use crate::remarks::put_remarks;
-use aout_core::File;
+use aout_core::{File, Segment};
 use instructions::{Decoder, Line, UnixLine, decode};
 use texts::Text;
 
@@ -151,16 +152,22 @@ fn put_labelled_row(text: &mut Text, at: &PlacedLine<'_>, count: usize)
     ensures { Puts text.old text.new
         (labelled_row at.now.decoder at.now.file.now at.now.place count) }
 {
-    put_labels(text, at.file, at.file.address(at.place), count as u8);
+    put_labels(
+        text,
+        at.file,
+        Segment::TextSeg,
+        at.file.address(at.place),
+        count as u16,
+    );
     put_row(text, at, count);
 }
 
 /// Appends the labels of the end of the text.
 fn put_end_labels(text: &mut Text, file: &NamedFile<'_>)
-    ensures { Puts text.old text.new (labels file.now.symbols (2 * length file.now.text_words) 0) }
+    ensures { Puts text.old text.new (labels file.now.symbols TextSeg (2 * length file.now.text_words) 0) }
 {
     let end = file.file().text_words().len();
-    put_labels(text, file, (2 * end) as u16, 0);
+    put_labels(text, file, Segment::TextSeg, (2 * end) as u16, 0);
 }
 
 /// Appends the lines of a file's text in columns, with the labels before each, and those of the end.

@@ -17,7 +17,9 @@
 //! - `put_plain_disassembly`: appends words at an address in these columns, without names
 //! - `unix_line_in`: the line at a place of a file's text
 //! - `put_line_text`: appends the text of that line
-//! - `put_labels`: appends the labels before a line
+//! - `put_labels`: appends the labels of words
+//! - `put_pointed_text`: appends what a number refers to by its relocation word, with the string there
+//! - `put_string_in`: appends the string that begins in a word of data
 //! - `Sweep`: a file and the lines of its text, decoded once for all that is said of them
 //! - `line_starts`: for each word of a text, whether a line begins there
 //! - `is_start`, `line_start`: whether a line begins at a place, and where the line begins that has the word there
@@ -45,5 +47,7 @@ pub use columns::{put_disassembly, put_plain_disassembly};
 pub use label::put_labels;
 pub use line::{put_line_text, unix_line_in};
 pub use named::NamedFile;
+pub use remarks::put_pointed_text;
 pub use starts::{is_start, line_start, line_starts};
+pub use strings::put_string_in;
 pub use sweep::Sweep;

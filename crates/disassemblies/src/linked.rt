@@ -8,7 +8,7 @@ use aout_core::{Header, Segment};
 use instructions::{Addressing, Operation, Reference};
 
 /// The segment in which an address lies, in the space of instructions or in that of data.
-fn segment_at(header: &Header, fetches: bool, address: u16) -> Option<Segment>
+pub(crate) fn segment_at(header: &Header, fetches: bool, address: u16) -> Option<Segment>
     ensures { result ≡ segment_at header.now fetches address }
 {
     let is_split = header.magic == 0o411;

@@ -1,22 +1,27 @@
-//! What relocated operand words refer to, after their instruction.
-ghost use Rattle.std.specs.Prelude.{◌≡◌, ◌<◌, ◌≤◌, ◌+◌, ◌*◌, length, slice_get};
+//! What operand words refer to, or may refer to, after their instruction.
+ghost use Rattle.std.specs.Prelude.{◌≡◌, ◌<◌, ◌≤◌, ◌+◌, ◌*◌, Some, false, length, slice_get};
 ghost use Rattle.texts.specs.Texts.{Puts};
 ghost use Rattle.aout_core.specs.WellFormed.{kind_of};
+ghost use Rattle.aout_core.specs.Addresses.{data_start_in};
+ghost use Rattle.aout_core.specs.declared.symbol.Segment.TheVariants.{DataSeg};
 ghost use Rattle.instructions.specs.UnixLines.{unix_length};
 ghost use Rattle.instructions.specs.declared.line.Line.TheVariants.{Decoded};
 ghost use Rattle.instructions.specs.declared.unix.UnixLine.TheVariants.{Machine, Call};
+ghost use Rattle.instructions.specs.declared.unix.Decoder.TheVariants.{Unix};
 ghost use Rattle.disassemblies.specs.Lines.{unix_line_in, operand_reference, argument_reference};
-ghost use Rattle.disassemblies.specs.Remarks.{near_referred, unnamed_remark, string_at, pointed_remark, target_remarks, word_remarks, operand_remarks, argument_remarks, line_remarks};
+ghost use Rattle.disassemblies.specs.Remarks.{near_referred, string_at, pointed_remark, pointed_text, target_remarks, perhaps, perhaps_data, perhaps_in, perhaps_at, addressing_of, unrelocated_remark, word_remarks, operand_remarks, argument_remarks, line_remarks, linked_remarks, listed_text};
 
-use crate::line::{Spot, argument_reference, operand_reference, reloc_at, spots};
+use crate::line::{Spot, argument_reference, operand_reference, put_text_of, reloc_at, spots};
+use crate::linked::segment_at;
 use crate::named::NamedFile;
 use crate::names::Names;
+use crate::naming::reference_at;
 use crate::near::near_reference;
 use crate::relocated::{put_from_the_pc, put_referred, referred};
-use crate::strings::put_string;
+use crate::strings::{is_string, put_string};
 use aout_core::{File, Kind, Reloc, Segment};
 use instructions::{
-    CallRow, Decoder, Instruction, Line, Operand, Reference, UnixLine, is_relocated,
+    Addressing, CallRow, Decoder, Instruction, Line, Operand, Reference, UnixLine, is_relocated,
 };
 use texts::Text;
 
@@ -32,27 +37,6 @@ fn near_referred(names: &Names<'_>, reloc: Reloc, number: u16) -> Option<Referen
     }
 }
 
-/// Appends what a number refers to, unless it has a name in the instruction.
-fn put_unnamed(
-    text: &mut Text,
-    names: &Names<'_>,
-    reloc: Reloc,
-    number: u16,
-    reference: Option<Reference>,
-)
-    ensures { Puts text.old text.new
-        (unnamed_remark names.now.symbols.now reloc number reference) }
-{
-    match reference {
-        Some(_) => {},
-        None => {
-            text.put(" / ");
-            put_referred(text, near_referred(names, reloc, number), reloc, number);
-            put_from_the_pc(text, reloc);
-        }
-    }
-}
-
 /// Appends the string at an address of data, if there is one.
 fn put_string_at(text: &mut Text, file: &File, address: u16)
     ensures { Puts text.old text.new (string_at file.now address) }
@@ -60,7 +44,7 @@ fn put_string_at(text: &mut Text, file: &File, address: u16)
     let start = file.header().data_start();
     let address = usize::from(address);
     if address >= start {
-        put_string(text, file.data_words(), address - start);
+        put_string(text, " / ", file.data_words(), address - start);
     }
 }
 
@@ -74,6 +58,17 @@ fn put_pointed(text: &mut Text, file: &File, reloc: Reloc, number: u16)
     }
 }
 
+/// Appends what a number refers to by its relocation word: a symbol with this address, or the label near it, or its segment and the
+/// address; and the string there. (own choice)
+pub fn put_pointed_text(text: &mut Text, file: &NamedFile<'_>, reloc: Reloc, number: u16)
+    ensures { Puts text.old text.new (pointed_text file.now reloc number) }
+{
+    let names = file.names();
+    put_referred(text, near_referred(names, reloc, number), reloc, number);
+    put_from_the_pc(text, reloc);
+    put_pointed(text, file.file(), reloc, number);
+}
+
 /// Appends the remarks on a relocated word at a place, with the reference in its instruction.
 fn put_target(
     text: &mut Text,
@@ -84,8 +79,99 @@ fn put_target(
 )
     ensures { Puts text.old text.new (target_remarks file.now reloc number reference) }
 {
-    put_unnamed(text, file.names(), reloc, number, reference);
-    put_pointed(text, file.file(), reloc, number);
+    match reference {
+        Some(_) => put_pointed(text, file.file(), reloc, number),
+        None => {
+            text.put(" / ");
+            put_pointed_text(text, file, reloc, number);
+        }
+    }
+}
+
+/// Appends what a number without relocation may refer to.
+fn put_perhaps(text: &mut Text, reference: Option<Reference>)
+    ensures { Puts text.old text.new (perhaps reference) }
+{
+    match reference {
+        Some(reference) => {
+            text.put(" / perhaps ");
+            reference.put_text(text);
+        }
+        None => {}
+    }
+}
+
+/// Appends the string at an address of data, or else what the address may refer to.
+fn put_perhaps_data(text: &mut Text, file: &NamedFile<'_>, number: u16)
+    requires { data_start_in file.now.header ≤ number }
+    ensures { Puts text.old text.new (perhaps_data file.now number) }
+{
+    let words = file.file().data_words();
+    let place = usize::from(number) - file.file().header().data_start();
+    if is_string(words, place) {
+        put_string(text, " / ", words, place);
+    } else {
+        put_perhaps(text, near_reference(file.names(), Segment::DataSeg, number));
+    }
+}
+
+/// Appends what a number of a linked file may refer to, if it is an address in this segment.
+fn put_perhaps_in(text: &mut Text, file: &NamedFile<'_>, number: u16, segment: Option<Segment>)
+    requires { segment ≡ Some DataSeg → data_start_in file.now.header ≤ number }
+    ensures { Puts text.old text.new (perhaps_in file.now number segment) }
+{
+    match segment {
+        Some(Segment::TextSeg) => {
+            put_perhaps(text, reference_at(file.names(), Segment::TextSeg, number));
+        }
+        Some(Segment::DataSeg) => put_perhaps_data(text, file, number),
+        Some(Segment::BssSeg) => {
+            put_perhaps(text, near_reference(file.names(), Segment::BssSeg, number));
+        }
+        _ => {}
+    }
+}
+
+/// Appends what a number may refer to in the space of instructions or in that of data.
+fn put_perhaps_at(text: &mut Text, file: &NamedFile<'_>, fetches: bool, number: u16)
+    ensures { Puts text.old text.new (perhaps_at file.now fetches number) }
+{
+    let segment = segment_at(file.file().header(), fetches, number);
+    put_perhaps_in(text, file, number, segment);
+}
+
+/// How an operand uses its operand word, if it has one.
+fn addressing_of(operand: Option<Operand>) -> Option<Addressing>
+    ensures { result ≡ addressing_of operand }
+{
+    match operand {
+        Some(Operand::General(mode, register)) => mode.addressing(register),
+        _ => None,
+    }
+}
+
+/// Appends the remark on an operand word without relocation.
+fn put_unrelocated(
+    text: &mut Text,
+    file: &NamedFile<'_>,
+    spot: Spot,
+    operand: Option<Operand>,
+    number: u16,
+)
+    requires { spot.next < 0o400000 }
+    ensures { Puts text.old text.new (unrelocated_remark file.now spot.operation number
+        (operand_reference file.now spot.operation spot.address spot.next
+        (slice_get file.now.text_reloc spot.place) operand (Some number)) (addressing_of operand)) }
+{
+    match addressing_of(operand) {
+        Some(Addressing::Immediate) => put_perhaps_at(text, file, false, number),
+        Some(Addressing::Absolute) => {
+            if operand_reference(file, spot, operand, Some(number)).is_none() {
+                put_perhaps_at(text, file, spot.operation.jumps(), number);
+            }
+        }
+        _ => {}
+    }
 }
 
 /// Appends the remarks on the word of an operand, if it has one.
@@ -97,7 +183,7 @@ fn put_operand(
     word: Option<u16>,
 )
     requires { spot.next < 0o400000 }
-    ensures { Puts text.old text.new (operand_remarks file.now spot.place word
+    ensures { Puts text.old text.new (operand_remarks file.now spot.operation operand spot.place word
         (operand_reference file.now spot.operation spot.address spot.next
         (slice_get file.now.text_reloc spot.place) operand word)) }
 {
@@ -110,7 +196,8 @@ fn put_operand(
             let target = reloc.target(number, (2 * spot.place) as u16);
             put_target(text, file, reloc, target, reference);
         }
-        _ => {},
+        Some(_) => {},
+        None => put_unrelocated(text, file, spot, operand, number),
     }
 }
 
@@ -135,7 +222,7 @@ fn put_instruction(
 fn put_argument(text: &mut Text, file: &NamedFile<'_>, place: usize, argument: u16)
     ensures { Puts text.old text.new (word_remarks file.now place argument
         (argument_reference file.now.symbols (slice_get file.now.text_reloc place) argument)
-        (slice_get file.now.text_reloc place)) }
+        (perhaps_at file.now false argument) (slice_get file.now.text_reloc place)) }
 {
     match reloc_at(file.file(), place) {
         Some(reloc) if is_relocated(Some(reloc)) => {
@@ -143,7 +230,8 @@ fn put_argument(text: &mut Text, file: &NamedFile<'_>, place: usize, argument: u
             let target = reloc.target(argument, (2 * place) as u16);
             put_target(text, file, reloc, target, reference);
         }
-        _ => {},
+        Some(_) => {},
+        None => put_perhaps_at(text, file, false, argument),
     }
 }
 
@@ -193,5 +281,18 @@ pub(crate) fn put_remarks(
         UnixLine::Machine(Line::Decoded(instruction, word, other)) => {
             put_instruction(text, file, place, instruction, (*word, *other));
         }
+    }
+}
+
+/// Appends the text of the line at a place, which has been decoded, and in a linked file its remarks.
+#[tactic(auto, unfolding(crate::specs::Remarks::listed_text))]
+pub(crate) fn put_listed_text(text: &mut Text, file: &NamedFile<'_>, place: usize, line: &UnixLine)
+    requires within { place < length file.now.text_words }
+    requires line { line.now ≡ unix_line_in Unix file.now place }
+    ensures { Puts text.old text.new (listed_text file.now place) }
+{
+    put_text_of(text, Decoder::Unix, file, place, line);
+    if file.file().header().flag != 0 {
+        put_remarks(text, Decoder::Unix, file, place, line);
     }
 }

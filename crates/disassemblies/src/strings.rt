@@ -1,7 +1,7 @@
 //! Strings in data.
-ghost use Rattle.std.specs.Prelude.{◌≡◌, ◌≤◌};
+ghost use Rattle.std.specs.Prelude.{◌≡◌, ◌≤◌, ◌<◌};
 ghost use Rattle.texts.specs.Texts.{Puts};
-ghost use Rattle.disassemblies.specs.Strings.{byte_in, is_text, is_nul, run, character, character_at, characters, quoted, string_by, text_run, string_remark};
+ghost use Rattle.disassemblies.specs.Strings.{byte_in, is_text, is_nul, run, character, character_at, characters, quoted, string_by, text_run, is_string_by, is_string, string_after, follows_no_text, string_from, string_in};
 
 use texts::Text;
 
@@ -102,29 +102,75 @@ fn put_quoted(text: &mut Text, words: &[u16], place: usize, count: usize)
     requires count { count ≤ 41 }
     ensures { Puts text.old text.new (quoted words.now place count) }
 {
-    text.put(" / \"");
+    text.put("\"");
     put_characters(text, words, place, count);
     text.put("\"");
 }
 
-/// Appends the string with so many bytes of text from a place on, if it is one.
-fn put_string_of(text: &mut Text, words: &[u16], place: usize, count: usize)
+/// Appends the string with so many bytes of text from a place on, if it is one, and a text before it.
+fn put_string_of(text: &mut Text, before: &str, words: &[u16], place: usize, count: usize)
     requires place { place ≤ 200000 }
     requires count { count ≤ 41 }
-    ensures { Puts text.old text.new (string_by words.now place count) }
+    ensures { Puts text.old text.new (string_by before.now words.now place count) }
 {
     if count > SHOWN {
+        text.put(before);
         put_quoted(text, words, place, SHOWN);
         text.put("..");
     } else if count >= 2 && is_nul(byte_in(words, place + count)) {
+        text.put(before);
         put_quoted(text, words, place, count);
     }
 }
 
-/// Appends the remark on a string at a place of words, which counts bytes, if one begins there.
-pub(crate) fn put_string(text: &mut Text, words: &[u16], place: usize)
-    requires { place ≤ 200000 }
-    ensures { Puts text.old text.new (string_remark words.now place) }
+/// Whether so many bytes of text from a place on are a string.
+fn is_string_of(words: &[u16], place: usize, count: usize) -> bool
+    requires place { place ≤ 200000 }
+    requires count { count ≤ 41 }
+    ensures { result ≡ is_string_by words.now place count }
 {
-    put_string_of(text, words, place, text_run(words, place));
+    count > SHOWN || (count >= 2 && is_nul(byte_in(words, place + count)))
+}
+
+/// Whether there is a string at a place of words, which counts bytes.
+pub(crate) fn is_string(words: &[u16], place: usize) -> bool
+    requires { place ≤ 200000 }
+    ensures { result ≡ is_string words.now place }
+{
+    is_string_of(words, place, text_run(words, place))
+}
+
+/// Appends the string at a place of words, which counts bytes, and a text before it; nothing if there is no string.
+pub(crate) fn put_string(text: &mut Text, before: &str, words: &[u16], place: usize)
+    requires { place ≤ 200000 }
+    ensures { Puts text.old text.new (string_after before.now words.now place) }
+{
+    put_string_of(text, before, words, place, text_run(words, place));
+}
+
+/// Whether no byte of text is before a place.
+fn follows_no_text(words: &[u16], place: usize) -> bool
+    ensures { result ≡ follows_no_text words.now place }
+{
+    place == 0 || !is_text(byte_in(words, place - 1))
+}
+
+/// Appends the string that begins at a place, after a byte that is not of text.
+fn put_string_from(text: &mut Text, words: &[u16], place: usize)
+    requires { place ≤ 200000 }
+    ensures { Puts text.old text.new (string_from words.now place) }
+{
+    if follows_no_text(words, place) {
+        put_string(text, "", words, place);
+    }
+}
+
+/// Appends the string that begins in a word of data, in quotation marks: two or more bytes of text and a NUL, after a byte that is not
+/// of text. At most 40 bytes are shown. If none begins there, nothing is appended. (own choice)
+pub fn put_string_in(text: &mut Text, words: &[u16], place: usize)
+    requires { place < 65536 }
+    ensures { Puts text.old text.new (string_in words.now place) }
+{
+    put_string_from(text, words, 2 * place);
+    put_string_from(text, words, 2 * place + 1);
 }

@@ -3,12 +3,14 @@ ghost use Rattle.std.specs.Prelude.{◌≡◌, ◌≤◌, ◌<◌, ◌+◌, ◌+
 ghost use Rattle.texts.specs.Texts.{Puts};
 ghost use Rattle.instructions.specs.UnixLines.{unix_length};
 ghost use Rattle.instructions.specs.declared.unix.Decoder.TheVariants.{Unix};
-ghost use Rattle.disassemblies.specs.Lines.{unix_line_in, line_text_in};
+ghost use Rattle.disassemblies.specs.Lines.{unix_line_in};
+ghost use Rattle.disassemblies.specs.Remarks.{listed_text};
 ghost use Rattle.disassemblies.specs.Starts.{starts, is_start, swept_line};
 ghost use Rattle.disassemblies.specs.internal.Swept.{swept, line_words};
 
-use crate::line::{put_text_of, unix_line_in};
+use crate::line::unix_line_in;
 use crate::named::NamedFile;
+use crate::remarks::put_listed_text;
 use aout_core::File;
 use instructions::{Decoder, UnixLine};
 use std::alloc::{AllocError, Global};
@@ -129,12 +131,12 @@ impl<'a> Sweep<'a> {
         }
     }
 
-    /// Appends the text of a line at a place, as `put_line_text` does.
-    pub fn put_text(&self, text: &mut Text, place: usize, line: &UnixLine)
+    /// Appends the text of a line at a place, and in a linked file its remarks, as `put_disassembly` has them.
+    pub fn put_listed_text(&self, text: &mut Text, place: usize, line: &UnixLine)
         requires within { place < length self.now.text_words }
         requires line { line.now ≡ unix_line_in Unix self.now place }
-        ensures { Puts text.old text.new (line_text_in Unix self.now place) }
+        ensures { Puts text.old text.new (listed_text self.now place) }
     {
-        put_text_of(text, Decoder::Unix, &self.named, place, line);
+        put_listed_text(text, &self.named, place, line);
     }
 }

@@ -2,8 +2,8 @@
 use Rattle.std.proofs.Common.{◌≡◌, ℕ, ◌+◌, ◌*◌, ◌<◌, ◌≤◌, true, false, List, [], ◌∷◌, ◌++◌, length, min, refl, ap, sym, ◌∙◌, append_assoc}
 use Rattle.std.proofs.Common.{arith}
 use Rattle.std.proofs.lemmas.List.{length-append}
-use Rattle.std.specs.Prelude.{bytes_eq}
-use Rattle.explanations.specs.{declared.rows.Base.Base, Dumps.rows, Dumps.rows_from, Dumps.folded, Dumps.row_text}
+use Rattle.std.specs.Prelude.{Bool, if◌then◌else◌}
+use Rattle.explanations.specs.{declared.rows.Base.Base, Dumps.rows, Dumps.rows_from, Dumps.folded, Dumps.row_text, Dumps.is_again}
 
 -- a row comes off, which is short only where nothing follows it
 rows_step : (row rest : List ℕ) → 0 < length row → length row ≤ 8 → (length row < 8 → rest ≡ []) → rows (row ++ rest) ≡ row ∷ rows rest
@@ -53,21 +53,32 @@ place_after start words row rest left at off is =
     record { bound = omega arith; exact = λ more. omega arith }
 
 -- the rows that are left have still to be put: after one that is the same, and after another
-pub same_put : (base : Base) (at : ℕ) (last : List ℕ) (times : ℕ) (row rest left bytes all : List ℕ) → ComesOff row rest left →
-    bytes_eq row last ≡ true → bytes ++ rows_from base at last times (rows left) ≡ all →
-    bytes ++ rows_from base (at + 16) last (times + 1) (rows rest) ≡ all
-same_put base at last times row rest left bytes all off same put =
-    let step : rows_from base at last times (row ∷ rows rest) ≡ rows_from base (at + 16) last (times + 1) (rows rest) = rw same refl in
-    ap (λ (t : List ℕ). bytes ++ t) (sym (ap (rows_from base at last times) (rows_left row rest left off) ∙ step)) ∙ put
+pub same_put : (base : Base) (named : ℕ → ℕ → List ℕ) (at : ℕ) (last : List ℕ) (times : ℕ) (row rest left bytes all : List ℕ) →
+    ComesOff row rest left → is_again (named at (length row)) row last ≡ true →
+    bytes ++ rows_from base named at last times (rows left) ≡ all →
+    bytes ++ rows_from base named (at + 16) last (times + 1) (rows rest) ≡ all
+same_put base named at last times row rest left bytes all off same put =
+    let step : rows_from base named at last times (row ∷ rows rest) ≡ rows_from base named (at + 16) last (times + 1) (rows rest) =
+    ap (λ (t : Bool). if t then rows_from base named (at + 16) last (times + 1) (rows rest)
+    else folded base at times
+    ++ (named at (length row) ++ (row_text base at row ++ rows_from base named (at + 16) row 0 (rows rest)))) same in
+    ap (λ (t : List ℕ). bytes ++ t) (sym (ap (rows_from base named at last times) (rows_left row rest left off) ∙ step)) ∙ put
 
-pub other_put : (base : Base) (at : ℕ) (last : List ℕ) (times : ℕ) (row rest left bytes middle new all : List ℕ) → ComesOff row rest left →
-    bytes_eq row last ≡ false → middle ≡ bytes ++ folded base at times → new ≡ middle ++ row_text base at row →
-    bytes ++ rows_from base at last times (rows left) ≡ all → new ++ rows_from base (at + 16) row 0 (rows rest) ≡ all
-other_put base at last times row rest left bytes middle new all off other first second put =
-    let after : List ℕ = rows_from base (at + 16) row 0 (rows rest) in
-    let step : rows_from base at last times (row ∷ rows rest) ≡ folded base at times ++ (row_text base at row ++ after) = rw other refl in
-    ap (λ (t : List ℕ). t ++ after) (second ∙ ap (λ (t : List ℕ). t ++ row_text base at row) first)
-    ∙ append_assoc (bytes ++ folded base at times) (row_text base at row) after
-    ∙ append_assoc bytes (folded base at times) (row_text base at row ++ after)
-    ∙ ap (λ (t : List ℕ). bytes ++ t) (sym (ap (rows_from base at last times) (rows_left row rest left off) ∙ step))
+pub other_put : (base : Base) (named : ℕ → ℕ → List ℕ) (at : ℕ) (last : List ℕ) (times : ℕ) (row rest left bytes new all : List ℕ) →
+    ComesOff row rest left → is_again (named at (length row)) row last ≡ false →
+    new ≡ bytes ++ (folded base at times ++ (named at (length row) ++ row_text base at row)) →
+    bytes ++ rows_from base named at last times (rows left) ≡ all → new ++ rows_from base named (at + 16) row 0 (rows rest) ≡ all
+other_put base named at last times row rest left bytes new all off other shown put =
+    let before : List ℕ = folded base at times in
+    let labels : List ℕ = named at (length row) in
+    let text : List ℕ = row_text base at row in
+    let after : List ℕ = rows_from base named (at + 16) row 0 (rows rest) in
+    let step : rows_from base named at last times (row ∷ rows rest) ≡ before ++ (labels ++ (text ++ after)) =
+    ap (λ (t : Bool). if t then rows_from base named (at + 16) last (times + 1) (rows rest)
+    else before ++ (labels ++ (text ++ after))) other in
+    ap (λ (t : List ℕ). t ++ after) shown
+    ∙ append_assoc bytes (before ++ (labels ++ text)) after
+    ∙ ap (λ (t : List ℕ). bytes ++ t) (append_assoc before (labels ++ text) after)
+    ∙ ap (λ (t : List ℕ). bytes ++ (before ++ t)) (append_assoc labels text after)
+    ∙ ap (λ (t : List ℕ). bytes ++ t) (sym (ap (rows_from base named at last times) (rows_left row rest left off) ∙ step))
     ∙ put

@@ -1,11 +1,15 @@
--- A dump of text and data: rows of eight words, in octal or in hexadecimal, and their bytes as characters. (own choice)
+-- A dump of text and data: rows of eight words, in octal or in hexadecimal, their bytes as characters, and labels. (own choice)
 --
 -- A row has its address, its words and its characters. A word is six octal digits, or its two bytes in hexadecimal, the low byte
--- first, as they are in the file. Rows that are the same as the row before them are not shown, and a remark counts them.
-use Rattle.std.specs.Prelude.{ℕ, ◌+◌, ◌-◌, ◌*◌, ◌/◌, ◌%◌, ◌&&◌, nat_le, nat_lt, eqb, bytes_eq, if◌then◌else◌, List, [], ◌∷◌, ◌++◌, length}
-use Rattle.std.specs.Prelude.{slice_index, codes, decimal}
+-- first, as they are in the file. Labels are before their row. Rows without labels that are the same as the row before them are not
+-- shown, and a remark counts them.
+use Rattle.std.specs.Prelude.{ℕ, ◌+◌, ◌-◌, ◌*◌, ◌/◌, ◌%◌, Bool, ◌&&◌, nat_le, nat_lt, eqb, bytes_eq, if◌then◌else◌, List, [], ◌∷◌, ◌++◌}
+use Rattle.std.specs.Prelude.{length, slice_index, codes, decimal}
 use Rattle.std.specs.List.{flat_map}
 use Rattle.aout_core.specs.{Addresses.data_start_in, Contents.Contents}
+use Rattle.aout_core.specs.{declared.symbol.Symbol.Symbol, declared.symbol.Segment.Segment}
+use Rattle.aout_core.specs.declared.symbol.Segment.TheVariants.{TextSeg, DataSeg, BssSeg}
+use Rattle.disassemblies.specs.Labels.{labels}
 use Rattle.texts.specs.{Columns.blanks, Numbers.six_digits}
 use Rattle.explanations.specs.{declared.rows.Base.Base, declared.rows.Base.TheVariants.Octal, declared.rows.Base.TheVariants.Hexadecimal}
 
@@ -73,15 +77,20 @@ folded base at times =
     else (if eqb times 1 then once_text base (at - 16)
     else range_text base (at - 16 * times) (at - 16) times)
 
--- the rows from an address on. The last row that is shown is known, and how many rows after it are the same
-abbrev pub rows_from : Base → ℕ → List ℕ → ℕ → List (List ℕ) → List ℕ
-rows_from base at last times [] = folded base at times
-rows_from base at last times (row ∷ more) =
-    if bytes_eq row last then rows_from base (at + 16) last (times + 1) more
-    else folded base at times ++ (row_text base at row ++ rows_from base (at + 16) row 0 more)
+-- a row is not shown: it has no labels, and is the same as the last one
+abbrev pub is_again : List ℕ → List ℕ → List ℕ → Bool
+is_again named row last = eqb (length named) 0 && bytes_eq row last
 
-abbrev pub rows_text : Base → ℕ → List ℕ → List ℕ
-rows_text base start words = rows_from base start [] 0 (rows words)
+-- the rows from an address on, with the labels of each by its address and its words. The last row that is shown is known, and how many
+-- rows after it are the same
+abbrev pub rows_from : Base → (ℕ → ℕ → List ℕ) → ℕ → List ℕ → ℕ → List (List ℕ) → List ℕ
+rows_from base named at last times [] = folded base at times
+rows_from base named at last times (row ∷ more) =
+    if is_again (named at (length row)) row last then rows_from base named (at + 16) last (times + 1) more
+    else folded base at times ++ (named at (length row) ++ (row_text base at row ++ rows_from base named (at + 16) row 0 more))
+
+abbrev pub rows_text : Base → (ℕ → ℕ → List ℕ) → ℕ → List ℕ → List ℕ
+rows_text base named start words = rows_from base named start [] 0 (rows words)
 
 -- ---- a file
 
@@ -92,8 +101,19 @@ size_text size = codes ": " ++ decimal size ++ codes " bytes from "
 unfoldable pub head_text : Base → List ℕ → ℕ → ℕ → List ℕ
 head_text base name start size = codes "/ " ++ name ++ size_text size ++ address base start ++ codes "\n"
 
-abbrev pub segment_text : Base → List ℕ → ℕ → List ℕ → List ℕ
-segment_text base name start words = head_text base name start (2 * length words) ++ rows_text base start words
+-- the labels of so many words from an address of a segment on
+abbrev pub labels_at : List Symbol → Segment → ℕ → ℕ → List ℕ
+labels_at symbols segment at count = labels symbols segment (at % 65536) count
 
+-- the words of a segment that begins at an address, and the labels of its end
+abbrev pub segment_text : Base → List Symbol → Segment → List ℕ → ℕ → List ℕ → List ℕ
+segment_text base symbols segment name start words =
+    head_text base name start (2 * length words)
+    ++ (rows_text base (labels_at symbols segment) start words ++ labels_at symbols segment (start + 2 * length words) 0)
+
+-- the labels of bss, which begins where data end, are last
 abbrev pub dump : Base → Contents → List ℕ
-dump base c = segment_text base (codes "text") 0 c.text_words ++ segment_text base (codes "data") (data_start_in c.header) c.data_words
+dump base c =
+    segment_text base c.symbols TextSeg (codes "text") 0 c.text_words
+    ++ (segment_text base c.symbols DataSeg (codes "data") (data_start_in c.header) c.data_words
+    ++ labels_at c.symbols BssSeg (data_start_in c.header + 2 * length c.data_words) 32768)

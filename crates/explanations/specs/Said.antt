@@ -1,5 +1,7 @@
--- What a listing remarks of a file: its notes, the labels of its text, for each word the instruction that begins there or what its
--- relocation word refers to, and the letter that nm has for each symbol. (a.out(5), as(1), nm(1); the words: own choice)
+-- What a listing remarks of a file: its notes, the labels of its words, for each word the instruction or the string that begins there or
+-- what its relocation word refers to, and the letter that nm has for each symbol. (a.out(5), as(1), nm(1); the words: own choice)
+--
+-- A word that a link does not change says nothing. In a linked file an instruction has the remarks of a disassembly.
 --
 -- A byte below the blank is shown as a backslash and three octal digits, so a note or a remark never leaves its line.
 use Rattle.std.specs.Prelude.{ℕ, ◌+◌, ◌*◌, ◌%◌, Bool, true, ◌&&◌, nat_lt, nat_le, eqb, if◌then◌else◌, List, [], ◌∷◌, ◌++◌, length, map}
@@ -9,10 +11,13 @@ use Rattle.aout_core.specs.WellFormed.{is_undefined, is_pc_relative, kind_of, sy
 use Rattle.aout_core.specs.{declared.reloc.Reloc.Reloc, declared.reloc.Kind.Kind, declared.symbol.Symbol.Symbol, Contents.Contents}
 use Rattle.aout_core.specs.{declared.part.Part.Part, Addresses.data_start_in, Addresses.target}
 use Rattle.symtools.specs.SymbolLines.{letter}
-use Rattle.texts.specs.{Numbers.six_digits, Numbers.octal, Names.escaped, Names.printable_name}
+use Rattle.texts.specs.{Names.escaped, Names.printable_name}
 use Rattle.listings.specs.Listing.{Remarks}
 use Rattle.instructions.specs.{declared.unix.Decoder.TheVariants.Unix, UnixLines.unix_length}
-use Rattle.disassemblies.specs.{Lines.unix_line_in, Lines.line_text_in, Labels.label_lines, Starts.is_start}
+use Rattle.instructions.specs.{Relocated.is_relocated}
+use Rattle.disassemblies.specs.{Lines.unix_line_in, Labels.label_lines, Remarks.listed_text, Remarks.pointed_text, Starts.is_start}
+use Rattle.disassemblies.specs.{Strings.string_in}
+use Rattle.aout_core.specs.declared.symbol.Segment.TheVariants as segments
 use Rattle.aout_core.specs.declared.reloc.Kind.TheVariants as kinds
 use Rattle.aout_core.specs.declared.part.Part.TheVariants as parts
 
@@ -27,50 +32,48 @@ abbrev pub is_plain : List ℕ → Bool
 is_plain [] = true
 is_plain (b ∷ bs) = nat_le 32 b && is_plain bs
 
-abbrev pub number_said : ℕ → ℕ → Reloc → List ℕ
-number_said at w r = if is_pc_relative r then codes "the number " ++ six_digits (target r w at) else codes "a number"
+-- a word refers to the symbol of a number, or why it may not
+abbrev pub external_said : Contents → Reloc → ℕ → Option Symbol → List ℕ
+external_said c r n None = codes "no symbol " ++ decimal (symbol_number r)
+external_said c r n (Some s) =
+    if is_undefined s then pointed_text c r n
+    else codes "not wanted: symbol " ++ (decimal (symbol_number r) ++ 32 ∷ printable_name s.name)
 
--- the symbol of a number, if there is one
-abbrev pub symbol_said : ℕ → Option Symbol → List ℕ
-symbol_said n None = codes "no symbol " ++ decimal n
-symbol_said n (Some s) =
-    if is_undefined s then printable_name s.name else codes "not wanted: symbol " ++ (decimal n ++ 32 ∷ printable_name s.name)
+-- what a number refers to by a relocation word of this kind
+abbrev pub number_said : Contents → Reloc → ℕ → Option Kind → List ℕ
+number_said c r n None = codes "no kind of relocation"
+number_said c r n (Some kinds.Absolute) = if is_pc_relative r then pointed_text c r n else []
+number_said c r n (Some kinds.External) = external_said c r n (slice_get c.symbols (symbol_number r))
+number_said c r n (Some _) = pointed_text c r n
 
-abbrev pub addend_said : ℕ → List ℕ
-addend_said n = if eqb n 0 then [] else codes " + " ++ octal n
-
-abbrev pub target_said : List Symbol → ℕ → ℕ → Reloc → Option Kind → List ℕ
-target_said symbols at w r None = codes "no kind of relocation"
-target_said symbols at w r (Some kinds.Absolute) = number_said at w r
-target_said symbols at w r (Some kinds.TextSeg) = codes "text " ++ six_digits (target r w at)
-target_said symbols at w r (Some kinds.DataSeg) = codes "data " ++ six_digits (target r w at)
-target_said symbols at w r (Some kinds.BssSeg) = codes "bss " ++ six_digits (target r w at)
-target_said symbols at w r (Some kinds.External) =
-    symbol_said (symbol_number r) (slice_get symbols (symbol_number r)) ++ addend_said (target r w at)
-
-abbrev pub pc_said : Reloc → List ℕ
-pc_said r = if is_pc_relative r then codes ", from the pc" else []
-
-abbrev pub word_said : List Symbol → ℕ → ℕ → Reloc → List ℕ
-word_said symbols at w r = target_said symbols at w r (kind_of r) ++ pc_said r
+-- what a word at an address refers to
+abbrev pub word_said : Contents → ℕ → ℕ → Reloc → List ℕ
+word_said c at w r = number_said c r (target r w at) (kind_of r)
 
 -- what the relocation word of a word refers to, if it has one
-abbrev pub reloc_said : List Symbol → ℕ → ℕ → Option Reloc → List ℕ
-reloc_said symbols at w None = []
-reloc_said symbols at w (Some r) = word_said symbols at w r
+abbrev pub reloc_said : Contents → ℕ → ℕ → Option Reloc → List ℕ
+reloc_said c at w None = []
+reloc_said c at w (Some r) = word_said c at w r
 
 -- the remark on a word of text: the instruction that begins there, or what the relocation word refers to
 abbrev pub text_said : List Bool → Contents → ℕ → List ℕ
 text_said starts c i =
     if nat_lt i (length c.text_words)
-    then (if is_start starts i then line_text_in Unix c i
-    else reloc_said c.symbols (2 * i) (slice_index c.text_words i) (slice_get c.text_reloc i))
+    then (if is_start starts i then listed_text c i
+    else reloc_said c (2 * i) (slice_index c.text_words i) (slice_get c.text_reloc i))
     else []
 
+-- the address of a word of data, or of their end
+abbrev pub data_address : Contents → ℕ → ℕ
+data_address c i = (data_start_in c.header + 2 * i) % 65536
+
+-- the remark on a word of data: what its relocation word refers to, or the string that begins there
 abbrev pub data_said : Contents → ℕ → List ℕ
 data_said c i =
     if nat_lt i (length c.data_words)
-    then reloc_said c.symbols ((data_start_in c.header + 2 * i) % 65536) (slice_index c.data_words i) (slice_get c.data_reloc i)
+    then (if is_relocated (slice_get c.data_reloc i)
+    then reloc_said c (data_address c i) (slice_index c.data_words i) (slice_get c.data_reloc i)
+    else string_in c.data_words i)
     else []
 
 abbrev pub word_remark : List Bool → Contents → Part → ℕ → List ℕ
@@ -80,13 +83,20 @@ word_remark starts c parts.Data i = data_said c i
 -- the labels before the line that begins at a place of the text, or at its end
 abbrev pub labels_said : List Bool → Contents → ℕ → List (List ℕ)
 labels_said starts c i =
-    if eqb i (length c.text_words) then label_lines c.symbols (2 * i) 0
+    if eqb i (length c.text_words) then label_lines c.symbols segments.TextSeg (2 * i) 0
     else (if nat_lt i (length c.text_words) && is_start starts i
-    then label_lines c.symbols (2 * i) (unix_length (unix_line_in Unix c i)) else [])
+    then label_lines c.symbols segments.TextSeg (2 * i) (unix_length (unix_line_in Unix c i)) else [])
+
+-- the labels before a word of data; at their end also those of bss, which begins there: a segment has at most 32,768 words
+abbrev pub data_labels_said : Contents → ℕ → List (List ℕ)
+data_labels_said c i =
+    if eqb i (length c.data_words)
+    then label_lines c.symbols segments.DataSeg (data_address c i) 0 ++ label_lines c.symbols segments.BssSeg (data_address c i) 32768
+    else (if nat_lt i (length c.data_words) then label_lines c.symbols segments.DataSeg (data_address c i) 1 else [])
 
 abbrev pub labels_before : List Bool → Contents → Part → ℕ → List (List ℕ)
 labels_before starts c parts.Text i = labels_said starts c i
-labels_before starts c parts.Data i = []
+labels_before starts c parts.Data i = data_labels_said c i
 
 -- these notes before a file, and these after it; and the words at which lines of instructions begin
 abbrev pub explained : List Bool → Contents → List (List ℕ) → List (List ℕ) → Remarks

@@ -1,25 +1,30 @@
 //! What a listing remarks of a file.
-ghost use Rattle.std.specs.Prelude.{◌≡◌, ◌<◌, ◌+◌, ◌*◌, ◌%◌, ◌++◌, ◌∷◌, [], false, length, map, slice_get, slice_index};
+ghost use Rattle.std.specs.Prelude.{◌≡◌, ◌<◌, ◌≤◌, ◌+◌, ◌*◌, ◌++◌, ◌∷◌, [], false, length, map, slice_get, slice_index};
 ghost use Rattle.texts.specs.Lines.{text_of};
 ghost use Rattle.texts.specs.Texts.{Puts};
-ghost use Rattle.aout_core.specs.Addresses.{data_start_in};
 ghost use Rattle.listings.specs.Listing.{remarked, note_lines};
 ghost use Rattle.findings.specs.Found.{Holds};
 ghost use Rattle.instructions.specs.declared.unix.Decoder.TheVariants.{Unix};
-ghost use Rattle.disassemblies.specs.Lines.{unix_line_in, line_text_in};
+ghost use Rattle.aout_core.specs.declared.symbol.Segment.TheVariants.{TextSeg, DataSeg, BssSeg};
+ghost use Rattle.disassemblies.specs.Lines.{unix_line_in};
+ghost use Rattle.disassemblies.specs.Remarks.{listed_text};
+ghost use Rattle.disassemblies.specs.Strings.{string_in};
 ghost use Rattle.disassemblies.specs.Starts.{starts};
 ghost use Rattle.disassemblies.specs.Labels.{label_lines};
-ghost use Rattle.explanations.specs.Said.{printed_byte, printed, is_plain, reloc_said, text_said, data_said, labels_said};
+ghost use Rattle.explanations.specs.Said.{printed_byte, printed, is_plain, reloc_said, text_said, data_address, data_said, labels_said, data_labels_said};
 
 use crate::words_in::put_word_text;
-use aout_core::{File, Part, Reloc, Symbol};
-use disassemblies::{NamedFile, Sweep, put_labels};
+use aout_core::{File, Part, Reloc, Segment, Symbol};
+use disassemblies::{NamedFile, Sweep, put_labels, put_string_in};
 use findings::Notes;
-use instructions::UnixLine;
+use instructions::{UnixLine, is_relocated};
 use listings::Remark;
 use std::alloc::Global;
 use symtools::letter;
 use texts::Text;
+
+/// How many words a segment has at most.
+pub(crate) const SEGMENT_WORDS: u16 = 32768;
 
 /// A file that is listed, with what is remarked of it.
 #[derive(Clone, Copy)]
@@ -123,22 +128,22 @@ struct PlacedWord {
 }
 
 /// What the relocation word of a word says.
-fn reloc_text(alloc: Global, symbols: &[Symbol], spot: PlacedWord) -> Text
-    ensures { Holds result (reloc_said symbols.now spot.at spot.word spot.reloc) }
+fn reloc_text(alloc: Global, file: &NamedFile<'_>, spot: PlacedWord) -> Text
+    ensures { Holds result (reloc_said file.now spot.at spot.word spot.reloc) }
 {
     let mut text = Text::new(alloc);
     if let Some(reloc) = spot.reloc {
-        put_word_text(&mut text, symbols, spot.at, spot.word, reloc);
+        put_word_text(&mut text, file, spot.at, spot.word, reloc);
     }
     text
 }
 
 /// Appends what the relocation word of a word says.
-fn put_reloc(text: &mut Text, symbols: &[Symbol], spot: PlacedWord)
+fn put_reloc(text: &mut Text, file: &NamedFile<'_>, spot: PlacedWord)
     ensures { Puts text.old text.new
-        (remarked (printed (reloc_said symbols.now spot.at spot.word spot.reloc))) }
+        (remarked (printed (reloc_said file.now spot.at spot.word spot.reloc))) }
 {
-    let remark = reloc_text(text.allocator(), symbols, spot);
+    let remark = reloc_text(text.allocator(), file, spot);
     put_made(text, remark);
 }
 
@@ -158,28 +163,26 @@ fn text_spot(file: &File, place: usize) -> PlacedWord
 
 fn data_spot(file: &File, place: usize) -> PlacedWord
     requires { place < length file.now.data_words }
-    ensures at { result.at ≡ (data_start_in file.now.header + 2 * place) % 65536 }
+    ensures at { result.at ≡ data_address file.now place }
     ensures word { result.word ≡ slice_index file.now.data_words place }
     ensures reloc { result.reloc ≡ slice_get file.now.data_reloc place }
 {
-    let header = file.header();
-    let start = header.data_start();
     let words = file.data_words();
     PlacedWord {
-        at: ((start + 2 * place) % 65536) as u16,
+        at: data_address(file, place),
         word: words[place],
         reloc: file.data_reloc().get(place).copied(),
     }
 }
 
-/// The instruction that begins at a place of the text.
+/// The instruction that begins at a place of the text, and in a linked file its remarks.
 fn instruction_text(alloc: Global, sweep: &Sweep<'_>, place: usize, line: &UnixLine) -> Text
     requires within { place < length sweep.now.text_words }
     requires line { line.now ≡ unix_line_in Unix sweep.now place }
-    ensures { Holds result (line_text_in Unix sweep.now place) }
+    ensures { Holds result (listed_text sweep.now place) }
 {
     let mut text = Text::new(alloc);
-    sweep.put_text(&mut text, place, line);
+    sweep.put_listed_text(&mut text, place, line);
     text
 }
 
@@ -187,7 +190,7 @@ fn instruction_text(alloc: Global, sweep: &Sweep<'_>, place: usize, line: &UnixL
 fn put_instruction(text: &mut Text, sweep: &Sweep<'_>, place: usize, line: &UnixLine)
     requires within { place < length sweep.now.text_words }
     requires line { line.now ≡ unix_line_in Unix sweep.now place }
-    ensures { Puts text.old text.new (remarked (printed (line_text_in Unix sweep.now place))) }
+    ensures { Puts text.old text.new (remarked (printed (listed_text sweep.now place))) }
 {
     let remark = instruction_text(text.allocator(), sweep, place, line);
     put_made(text, remark);
@@ -204,26 +207,100 @@ fn put_text_remark(x: &Explained<'_>, text: &mut Text, place: usize)
     }
     match x.sweep.line_from(place) {
         Some(line) => put_instruction(text, x.sweep, place, &line),
-        None => put_reloc(text, file.symbols(), text_spot(file, place)),
+        None => put_reloc(text, x.sweep.named(), text_spot(file, place)),
     }
 }
 
-/// Appends what is remarked of a word of data.
+/// The string that begins in a word of data.
+fn string_text(alloc: Global, words: &[u16], place: usize) -> Text
+    requires { place < 65536 }
+    ensures { Holds result (string_in words.now place) }
+{
+    let mut text = Text::new(alloc);
+    put_string_in(&mut text, words, place);
+    text
+}
+
+/// Appends the string that begins in a word of data.
+fn put_data_string(text: &mut Text, words: &[u16], place: usize)
+    requires { place < 65536 }
+    ensures { Puts text.old text.new (remarked (printed (string_in words.now place))) }
+{
+    let remark = string_text(text.allocator(), words, place);
+    put_made(text, remark);
+}
+
+/// Appends what is remarked of a word of data: what its relocation word says, or the string that begins there.
 fn put_data_remark(x: &Explained<'_>, text: &mut Text, place: usize)
     ensures { Puts text.old text.new (remarked (printed (data_said x.now.sweep.now place))) }
 {
     let file = x.sweep.file();
-    if place < file.data_words().len() {
-        put_reloc(text, file.symbols(), data_spot(file, place));
+    if place >= file.data_words().len() {
+        return;
+    }
+    let spot = data_spot(file, place);
+    if is_relocated(spot.reloc) {
+        put_reloc(text, x.sweep.named(), spot);
+    } else {
+        put_data_string(text, file.data_words(), place);
     }
 }
 
-/// Appends the labels of a line of so many words at a place of the text, 0 for its end.
-fn put_line_labels(text: &mut Text, file: &NamedFile<'_>, place: usize, length: u8)
-    requires { place < 32768 }
-    ensures { Puts text.old text.new (text_of (label_lines file.now.symbols (2 * place) length)) }
+/// Appends the labels of so many words from an address of a segment on.
+fn put_label_lines(
+    text: &mut Text,
+    file: &NamedFile<'_>,
+    segment: Segment,
+    address: u16,
+    length: u16,
+)
+    ensures { Puts text.old text.new (text_of (label_lines file.now.symbols segment address length)) }
 {
-    put_labels(text, file, (2 * place) as u16, length);
+    put_labels(text, file, segment, address, length);
+}
+
+/// Appends the labels of a line of so many words at a place of the text, 0 for its end.
+fn put_line_labels(text: &mut Text, file: &NamedFile<'_>, place: usize, length: u16)
+    requires { place < 32768 }
+    ensures { Puts text.old text.new (text_of (label_lines file.now.symbols TextSeg (2 * place) length)) }
+{
+    put_label_lines(text, file, Segment::TextSeg, (2 * place) as u16, length);
+}
+
+/// Appends the labels of the end of data, and those of bss, which begins there.
+fn put_bss_labels(text: &mut Text, file: &NamedFile<'_>, address: u16)
+    ensures { Puts text.old text.new (text_of (label_lines file.now.symbols DataSeg address 0
+        ++ label_lines file.now.symbols BssSeg address 32768)) }
+{
+    put_label_lines(text, file, Segment::DataSeg, address, 0);
+    put_label_lines(text, file, Segment::BssSeg, address, SEGMENT_WORDS);
+}
+
+/// The address of a word of data, or of their end.
+fn data_address(file: &File, place: usize) -> u16
+    requires { place ≤ length file.now.data_words }
+    ensures { result ≡ data_address file.now place }
+{
+    let is_inside = place <= file.data_words().len();
+    prove!(is_inside);
+    ((file.header().data_start() + 2 * place) % 65536) as u16
+}
+
+/// Appends the labels before a word of data, or at the end of data.
+fn put_data_labels(x: &Explained<'_>, text: &mut Text, place: usize)
+    ensures { Puts text.old text.new (text_of (data_labels_said x.now.sweep.now place)) }
+{
+    let file = x.sweep.file();
+    let end = file.data_words().len();
+    if place > end {
+        return;
+    }
+    let address = data_address(file, place);
+    if place == end {
+        put_bss_labels(text, x.sweep.named(), address);
+    } else {
+        put_label_lines(text, x.sweep.named(), Segment::DataSeg, address, 1);
+    }
 }
 
 /// Appends the labels before the line that begins at a place of the text, or at the end of the text.
@@ -238,7 +315,7 @@ fn put_text_labels(x: &Explained<'_>, text: &mut Text, place: usize)
     if place < end
         && let Some(line) = x.sweep.line_from(place)
     {
-        put_line_labels(text, x.sweep.named(), place, line.length() as u8);
+        put_line_labels(text, x.sweep.named(), place, line.length() as u16);
     }
 }
 
@@ -259,7 +336,7 @@ impl Remark for Explained<'_> {
     fn put_labels(&self, text: &mut Text, part: Part, place: usize) {
         match part {
             Part::Text => put_text_labels(self, text, place),
-            Part::Data => {}
+            Part::Data => put_data_labels(self, text, place),
         }
     }
 

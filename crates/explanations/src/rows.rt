@@ -1,9 +1,13 @@
-//! Rows of eight words, each with its address and its bytes as characters.
-ghost use Rattle.std.specs.Prelude.{◌≡◌, ◌+◌, ◌-◌, ◌*◌, ◌^◌, ◌<◌, ◌≤◌, length};
+//! Rows of eight words, each with its address and its bytes as characters, and labels before them.
+ghost use Rattle.std.specs.Prelude.{◌≡◌, ◌+◌, ◌-◌, ◌*◌, ◌^◌, ◌<◌, ◌≤◌, ◌++◌, false, length};
 ghost use Rattle.std.specs.List.{flat_map};
 ghost use Rattle.texts.specs.Texts.{Puts};
-ghost use Rattle.explanations.specs.Dumps.{address, character, characters, folded, hex_byte, hex_digit, once_text, again_text, range_text, row_text, rows_text, times_text, word_text, word_width};
+ghost use Rattle.findings.specs.Found.{Holds};
+ghost use Rattle.explanations.specs.Dumps.{address, character, characters, folded, hex_byte, hex_digit, is_again, labels_at, once_text, again_text, range_text, row_text, rows_text, times_text, word_text, word_width};
 
+use aout_core::Segment;
+use disassemblies::{NamedFile, put_labels};
+use std::alloc::Global;
 use texts::Text;
 
 /// How many words a row has.
@@ -176,20 +180,79 @@ fn put_folded(text: &mut Text, base: Base, at: u32, times: u32)
     }
 }
 
-/// Appends the words from an address on, in rows. Rows that are the same as the row before them are counted in a remark.
-pub(crate) fn put_rows(text: &mut Text, base: Base, start: u32, words: &[u16])
+/// The symbols of a segment.
+#[derive(Clone, Copy)]
+pub(crate) struct Named<'a> {
+    pub(crate) file: &'a NamedFile<'a>,
+    pub(crate) segment: Segment,
+}
+
+/// Appends the labels of so many words from an address on.
+pub(crate) fn put_labels_at(text: &mut Text, named: &Named<'_>, at: u32, count: u16)
+    ensures { Puts text.old text.new
+        (labels_at named.now.file.now.symbols named.now.segment at count) }
+{
+    put_labels(text, named.file, named.segment, (at % 65536) as u16, count);
+}
+
+/// The labels of so many words from an address on.
+fn labels_text(alloc: Global, named: &Named<'_>, at: u32, count: u16) -> Text
+    ensures { Holds result (labels_at named.now.file.now.symbols named.now.segment at count) }
+{
+    let mut text = Text::new(alloc);
+    put_labels_at(&mut text, named, at, count);
+    text
+}
+
+/// The labels of a row, which are to be appended to a text. If memory runs out, the text is cut.
+fn row_labels(text: &mut Text, named: &Named<'_>, at: u32, count: usize) -> Vec<u8>
+    requires { count ≤ 8 }
+    ensures { text.new.is_cut ≡ false → (text.old.is_cut ≡ false) × (text.new.bytes ≡ text.old.bytes)
+        × (result.items ≡ labels_at named.now.file.now.symbols named.now.segment at count) }
+{
+    match labels_text(text.allocator(), named, at, count as u16).finish() {
+        Ok(labels) => labels,
+        Err(error) => {
+            text.cut(error);
+            Vec::new(text.allocator())
+        }
+    }
+}
+
+/// Whether a row has no labels and is the same as the last one.
+fn is_again(labels: &[u8], row: &[u16], last: &[u16]) -> bool
+    ensures { result ≡ is_again labels.now row.now last.now }
+{
+    labels.is_empty() && row == last
+}
+
+/// Appends a row, with its labels, after a remark on those before it that are not shown.
+fn put_shown(text: &mut Text, base: Base, at: u32, times: u32, labels: &[u8], row: &[u16])
+    requires less { 16 * times ≤ at }
+    requires few { length row.now ≤ 8 }
+    ensures { Puts text.old text.new
+        (folded base at times ++ (labels.now ++ row_text base at row.now)) }
+{
+    put_folded(text, base, at, times);
+    text.put_bytes(labels);
+    put_row(text, base, at, row);
+}
+
+/// Appends the words from an address on, in rows. Rows without labels that are the same as the row before them are counted in a remark.
+pub(crate) fn put_rows(text: &mut Text, base: Base, named: &Named<'_>, start: u32, words: &[u16])
     requires { start + 2 * length words.now < 2 ^ 24 }
-    ensures { Puts text.old text.new (rows_text base start words.now) }
+    ensures { Puts text.old text.new
+        (rows_text base (labels_at named.now.file.now.symbols named.now.segment) start words.now) }
 {
     let mut at = start;
     let mut last: &[u16] = &[];
     let mut times = 0;
     for row in words.chunks(ROW) {
-        if row == last {
+        let labels = row_labels(text, named, at, row.len());
+        if is_again(&labels, row, last) {
             times += 1;
         } else {
-            put_folded(text, base, at, times);
-            put_row(text, base, at, row);
+            put_shown(text, base, at, times, &labels, row);
             last = row;
             times = 0;
         }

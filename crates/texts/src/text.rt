@@ -48,8 +48,10 @@ impl Text {
     pub fn put_bytes(&mut self, bytes: &[u8])
         ensures { Puts self.old self.new bytes.now }
     {
-        if self.refused.is_none() {
-            self.refused = self.bytes.extend_from_slice(bytes).err();
+        if self.refused.is_none()
+            && let Err(error) = self.bytes.extend_from_slice(bytes)
+        {
+            self.refused = Some(error);
         }
     }
 

@@ -7,10 +7,11 @@ use Rattle.listings.specs.Laws.{IsLine, IsLabel, AreRemarks}
 use Rattle.instructions.specs.{declared.unix.Decoder.TheVariants.Unix, UnixLines.unix_length}
 use Rattle.disassemblies.specs.{Lines.unix_line_in, Labels.label_lines, Starts.is_start}
 use Rattle.disassemblies.proofs.StartLemmas.{length_in}
-use Rattle.explanations.specs.internal.SilentLabels.{are_labels}
-use Rattle.explanations.specs.Said.{printed_byte, printed, word_remark, labels_before, explained}
+use Rattle.explanations.specs.internal.SilentLabels.{are_labels, labels_append}
+use Rattle.explanations.specs.Said.{printed_byte, printed, word_remark, data_address, labels_before, explained}
 use Rattle.symtools.specs.SymbolLines.{letter}
 use Rattle.aout_core.specs.declared.part.Part.TheVariants as parts
+use Rattle.aout_core.specs.declared.symbol.Segment.TheVariants as segments
 
 append_line : (f g : List ℕ) → IsLine f → IsLine g → IsLine (f ++ g)
 append_line [] g hf hg = hg
@@ -29,15 +30,28 @@ printed_lines [] = tt
 printed_lines (l ∷ ls) = (printed_line l, printed_lines ls)
 
 labels_by : (c : Contents) (i : ℕ) (last first : Bool) →
-    AllByRecursion IsLabel (if last then label_lines c.symbols (2 * i) 0
-    else (if first then label_lines c.symbols (2 * i) (unix_length (unix_line_in Unix c i)) else []))
-labels_by c i true first = are_labels c.symbols (2 * i) 0 (omega arith)
-labels_by c i false true = are_labels c.symbols (2 * i) (unix_length (unix_line_in Unix c i)) (length_in Unix c i).1
+    AllByRecursion IsLabel (if last then label_lines c.symbols segments.TextSeg (2 * i) 0
+    else (if first then label_lines c.symbols segments.TextSeg (2 * i) (unix_length (unix_line_in Unix c i)) else []))
+labels_by c i true first = are_labels c.symbols segments.TextSeg (2 * i) 0 (omega arith)
+labels_by c i false true =
+    let short = (length_in Unix c i).1 in
+    are_labels c.symbols segments.TextSeg (2 * i) (unix_length (unix_line_in Unix c i)) (omega (arith, short))
 labels_by c i false false = tt
+
+data_labels_by : (c : Contents) (at : ℕ) (last within : Bool) →
+    AllByRecursion IsLabel (if last
+    then label_lines c.symbols segments.DataSeg at 0 ++ label_lines c.symbols segments.BssSeg at 32768
+    else (if within then label_lines c.symbols segments.DataSeg at 1 else []))
+data_labels_by c at true within =
+    labels_append (label_lines c.symbols segments.DataSeg at 0) (label_lines c.symbols segments.BssSeg at 32768)
+    (are_labels c.symbols segments.DataSeg at 0 (omega arith)) (are_labels c.symbols segments.BssSeg at 32768 (omega arith))
+data_labels_by c at false true = are_labels c.symbols segments.DataSeg at 1 (omega arith)
+data_labels_by c at false false = tt
 
 labels_are : (starts : List Bool) (c : Contents) (p : Part) (i : ℕ) → AllByRecursion IsLabel (labels_before starts c p i)
 labels_are starts c parts.Text i = labels_by c i (eqb i (length c.text_words)) (nat_lt i (length c.text_words) && is_start starts i)
-labels_are starts c parts.Data i = tt
+labels_are starts c parts.Data i =
+    data_labels_by c (data_address c i) (eqb i (length c.data_words)) (nat_lt i (length c.data_words))
 
 pub explained_lines : (starts : List Bool) (c : Contents) (notes findings : List (List ℕ)) → AreRemarks (explained starts c notes findings)
 explained_lines starts c notes findings = record {

@@ -4,7 +4,8 @@ use Rattle.std.proofs.Common.{subst, arith, length-append}
 use Rattle.std.proofs.{lemmas.Bool.Decides.nat_tests, lemmas.List.append-nil, lemmas.List.drop_at}
 use Rattle.std.specs.Prelude.{nat_le, ◌*◌, ◌&&◌, ◌||◌, if◌then◌else◌, codes, Ok}
 use Rattle.std.specs.{Cmp.Lexicographic.pointwise, List.AllByRecursion, List.flat_map, List.ends_with}
-use Rattle.aout_core.specs.{declared.symbol.Symbol.Symbol, declared.symbol.Segment.TheVariants.TextSeg, WellFormed.masked_type}
+use Rattle.aout_core.specs.{declared.symbol.Symbol.Symbol, declared.symbol.Segment.Segment, WellFormed.masked_type}
+use Rattle.aout_core.specs.WellFormed.{segment_number}
 use Rattle.listings.specs.Reading.{is_decimal, is_label, entry_in, named, row_by}
 use Rattle.listings.specs.{Columns.Row, Columns.row_of, Columns.column, Columns.from_fourth, Drafts.Draft, Listing.gap, Laws.IsLabel}
 use Rattle.listings.proofs.ColumnLemmas.{IsInk, IsColumn, ink as ink_of, row_one, row_three, line_of_column, line_gap}
@@ -144,8 +145,8 @@ within_label f k small is =
       λ d. ap (λ (r : Row). row_by r.first d r) columns ∙ passed f d row is.is_begun refl,
     )
 
--- the labels of a line
-labels_append : (xs ys : List (List ℕ)) → AllByRecursion IsLabel xs → AllByRecursion IsLabel ys → AllByRecursion IsLabel (xs ++ ys)
+-- the labels of words
+pub labels_append : (xs ys : List (List ℕ)) → AllByRecursion IsLabel xs → AllByRecursion IsLabel ys → AllByRecursion IsLabel (xs ++ ys)
 labels_append [] ys hx hy = hy
 labels_append (x ∷ xs) ys hx hy = (hx.0, labels_append xs ys hx.1 hy)
 
@@ -153,36 +154,36 @@ at_by : (s : Symbol) (t : Bool) → AllByRecursion IsLabel (if t then (assembly_
 at_by s true = (named_label (assembly_name s.name) (name_is s.name), tt)
 at_by s false = tt
 
-all_at : (address : ℕ) (symbols : List Symbol) → AllByRecursion IsLabel (flat_map (λ s. label_at address s) symbols)
-all_at address [] = tt
-all_at address (s ∷ ss) =
-    labels_append (label_at address s) (flat_map (λ s. label_at address s) ss) (at_by s (is_at TextSeg address s)) (all_at address ss)
+all_at : (g : Segment) (address : ℕ) (symbols : List Symbol) → AllByRecursion IsLabel (flat_map (λ s. label_at g address s) symbols)
+all_at g address [] = tt
+all_at g address (s ∷ ss) =
+    labels_append (label_at g address s) (flat_map (λ s. label_at g address s) ss) (at_by s (is_at g address s)) (all_at g address ss)
 
 and_last : (a c : Bool) → (a && c) ≡ true → c ≡ true
 and_last true c h = h
 and_last false c h = absurd cc
 
-within_short : (address length : ℕ) (s : Symbol) → length ≤ 5 → is_within address length s ≡ true → s.value - address < 0o200000
-within_short address length s small h =
+within_short : (g : Segment) (address length : ℕ) (s : Symbol) → length ≤ 32768 → is_within g address length s ≡ true → s.value - address < 0o200000
+within_short g address length s small h =
     let test : nat_lt s.value (address + 2 * length) ≡ true =
-    and_last (eqb (masked_type s) 2 && nat_lt address s.value) (nat_lt s.value (address + 2 * length)) h in
+    and_last (eqb (masked_type s) (segment_number g) && nat_lt address s.value) (nat_lt s.value (address + 2 * length)) h in
     let near : s.value < address + 2 * length = grind (arith, nat_tests) in
     omega arith
 
-within_by : (address length : ℕ) (s : Symbol) (t : Bool) → length ≤ 5 → is_within address length s ≡ t →
+within_by : (g : Segment) (address length : ℕ) (s : Symbol) (t : Bool) → length ≤ 32768 → is_within g address length s ≡ t →
     AllByRecursion IsLabel (if t then (assembly_name s.name ++ (codes " = .+" ++ octal (s.value - address))) ∷ [] else [])
-within_by address length s true small e =
-    (within_label (assembly_name s.name) (s.value - address) (within_short address length s small e) (name_is s.name), tt)
-within_by address length s false small e = tt
+within_by g address length s true small e =
+    (within_label (assembly_name s.name) (s.value - address) (within_short g address length s small e) (name_is s.name), tt)
+within_by g address length s false small e = tt
 
-all_within : (address length : ℕ) (symbols : List Symbol) → length ≤ 5 →
-    AllByRecursion IsLabel (flat_map (λ s. label_within address length s) symbols)
-all_within address length [] small = tt
-all_within address length (s ∷ ss) small =
-    labels_append (label_within address length s) (flat_map (λ s. label_within address length s) ss)
-    (within_by address length s (is_within address length s) small refl) (all_within address length ss small)
+all_within : (g : Segment) (address length : ℕ) (symbols : List Symbol) → length ≤ 32768 →
+    AllByRecursion IsLabel (flat_map (λ s. label_within g address length s) symbols)
+all_within g address length [] small = tt
+all_within g address length (s ∷ ss) small =
+    labels_append (label_within g address length s) (flat_map (λ s. label_within g address length s) ss)
+    (within_by g address length s (is_within g address length s) small refl) (all_within g address length ss small)
 
-pub are_labels : (symbols : List Symbol) (address length : ℕ) → length ≤ 5 → AllByRecursion IsLabel (label_lines symbols address length)
-are_labels symbols address length small =
-    labels_append (flat_map (λ s. label_at address s) symbols) (flat_map (λ s. label_within address length s) symbols)
-    (all_at address symbols) (all_within address length symbols small)
+pub are_labels : (symbols : List Symbol) (g : Segment) (address length : ℕ) → length ≤ 32768 → AllByRecursion IsLabel (label_lines symbols g address length)
+are_labels symbols g address length small =
+    labels_append (flat_map (λ s. label_at g address s) symbols) (flat_map (λ s. label_within g address length s) symbols)
+    (all_at g address symbols) (all_within g address length symbols small)

@@ -1,4 +1,5 @@
 use Rattle.std.proofs.Common.{◌≡◌, ◌-◌, ◌*◌, ◌≤◌, ◌++◌, length, false}
+use Rattle.aout_core.specs.declared.symbol.Segment.TheVariants.{TextSeg}
 use Rattle.disassemblies.specs.{Labels.labels, Starts.lines_from, Columns.labelled_row, Columns.disassembly}
 use Rattle.disassemblies.proofs.columns.put_rows.Given as goal
 
@@ -7,7 +8,7 @@ abbrev pub invariant-loop-place : goal.invariant-loop-place
 invariant-loop-place l =
     (l.text.is_cut ≡ false → (l.initial.text.is_cut ≡ false)
     × (l.text.bytes ++ lines_from l.decoder l.file (λ place n. labelled_row l.decoder l.file place n)
-    (labels l.file.symbols (2 * length l.file.text_words) 0) (length l.file.text_words - l.place) l.place
+    (labels l.file.symbols TextSeg (2 * length l.file.text_words) 0) (length l.file.text_words - l.place) l.place
     ≡ l.initial.text.bytes ++ disassembly l.decoder l.file))
     × (l.place ≤ length l.file.text_words)
     × (l.end ≡ length l.file.text_words)

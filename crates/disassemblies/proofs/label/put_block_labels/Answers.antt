@@ -10,8 +10,8 @@ loop-symbol-init c =
     λ whole. (
       whole,
       walk_begins (bucket_of chains.shift chains.count) (block chains.shift c.args.address % chains.count)
-          (λ s. text_of (label_within c.args.address c.args.length s))
-          (λ s. no_label_within chains.shift chains.count c.args.address c.args.length s c.requires)
+          (λ s. text_of (label_within c.args.segment c.args.address c.args.length s))
+          (λ s. no_label_within chains.shift chains.count c.args.segment c.args.address c.args.length s c.requires)
           chains.symbols.now c.args.text.now.bytes c.first-place.result c.first-place.ensures.value c.first-place.ensures.is_in,
     )
 
@@ -29,8 +29,8 @@ loop-symbol-preserved c =
     let so_far = c.loop-symbol.invariant put.0 in (
       so_far.0,
       walk_goes_on (bucket_of chains.shift chains.count) (block chains.shift c.args.address % chains.count)
-          (λ s. text_of (label_within c.args.address c.args.length s))
-          (λ s. no_label_within chains.shift chains.count c.args.address c.args.length s c.requires)
+          (λ s. text_of (label_within c.args.segment c.args.address c.args.length s))
+          (λ s. no_label_within chains.shift chains.count c.args.segment c.args.address c.args.length s c.requires)
           chains.symbols.now c.args.text.now.bytes c.loop-symbol.place c.after-place.result c.in-Some.symbol.now
           c.loop-symbol.text.bytes c.put_label_within.new.text.bytes
           c.in-Some.ensures.lookup.3.0 c.in-Some.ensures.lookup.1 c.after-place.ensures put.1 so_far.1,

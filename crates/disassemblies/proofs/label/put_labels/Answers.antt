@@ -10,8 +10,8 @@ pub returns : goal.returns
 unfolding labels
 returns c =
     let symbols : List Symbol = c.blocks-blocks.result.now.whole.symbols.now in
-    let f : Symbol → List (List ℕ) = λ s. label_at c.args.address s in
-    let g : Symbol → List (List ℕ) = λ s. label_within c.args.address c.args.length s in
+    let f : Symbol → List (List ℕ) = λ s. label_at c.args.segment c.args.address s in
+    let g : Symbol → List (List ℕ) = λ s. label_within c.args.segment c.args.address c.args.length s in
     λ whole.
     let second = c.put_labels_within.ensures whole in
     let first = c.put_labels_at.ensures second.0 in (

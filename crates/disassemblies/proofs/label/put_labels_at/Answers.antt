@@ -10,7 +10,7 @@ loop-symbol-init c =
     λ whole. (
       whole,
       walk_begins (bucket_of chains.shift chains.count) (block chains.shift c.args.address % chains.count)
-          (λ s. text_of (label_at c.args.address s)) (no_label_at chains.shift chains.count c.args.address)
+          (λ s. text_of (label_at c.args.segment c.args.address s)) (no_label_at chains.shift chains.count c.args.segment c.args.address)
           chains.symbols.now c.args.text.now.bytes c.first-place.result c.first-place.ensures.value c.first-place.ensures.is_in,
     )
 
@@ -28,7 +28,7 @@ loop-symbol-preserved c =
     let so_far = c.loop-symbol.invariant put.0 in (
       so_far.0,
       walk_goes_on (bucket_of chains.shift chains.count) (block chains.shift c.args.address % chains.count)
-          (λ s. text_of (label_at c.args.address s)) (no_label_at chains.shift chains.count c.args.address)
+          (λ s. text_of (label_at c.args.segment c.args.address s)) (no_label_at chains.shift chains.count c.args.segment c.args.address)
           chains.symbols.now c.args.text.now.bytes c.loop-symbol.place c.after-place.result c.in-Some.symbol.now
           c.loop-symbol.text.bytes c.put_label_at.new.text.bytes
           c.in-Some.ensures.lookup.3.0 c.in-Some.ensures.lookup.1 c.after-place.ensures put.1 so_far.1,

@@ -1,5 +1,5 @@
 use Rattle.disassemblies.specs.Labels.{labels}
-use Rattle.explanations.proofs.remarks.put_line_labels.Goals as goal
+use Rattle.explanations.proofs.remarks.put_label_lines.Goals as goal
 
 pub returns : goal.returns
 unfolding labels
