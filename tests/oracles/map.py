@@ -7,11 +7,12 @@ MAP is another program that prints maps, examples/c/map.c: of each link it must 
 
 The links are those of a few lists of objects in examples/, and 200 that are made, the same in each run: objects of some
 words, with names that are defined, wanted as commons and referred to. Who defines a name, who wants it, and which words
-of an object refer to it are known from the objects as they were made. The instruction of each such word is what
+of an object refer to it are known from the objects as they were made, and so is what is odd. The instruction of each such word is what
 tests/oracles/disassembly.py makes of the object's words. What is used of each limit is counted in the objects and in the linked
 file. 60 further links are refused, some because a file can't be read. Each made link, and 51 that are refused, have
 a map of some names too (-y), with names that are too long, absent or asked for twice.
 """
+import itertools
 import os
 import random
 import re
@@ -24,7 +25,9 @@ from tests.oracles import disassembly, model
 
 EXAMPLES = os.path.join(TOP, "examples")
 OPTIONS = [[], ["-n"], ["-i"], ["-r"], ["-r", "-d"], ["-x"], ["-X"], ["-s"], ["-u", "_forced"], ["-e", "_a"], ["-d"]]
-NAMES = ["_a", "_b", "_c", "_main", "_long_na", "x", "_forced", "_end", "_etext", "Lx"]
+NAMES = ["_a", "_b", "_c", "_main", "_long_na", "long_nax", "a", "x", "_forced", "_end", "_etext", "Lx"]
+# the names that a link defines
+OWN = {"_etext", "_edata", "_end"}
 # first words of one to three words, one that begins no instruction, and words like those of operands
 WORDS = [0o000207, 0o005200, 0o004767, 0o004737, 0o012700, 0o016167, 0o016767, 0o012737, 0o013737, 0o170006, 2, 0o177772, 0o177776]
 
@@ -35,7 +38,9 @@ def run(*words):
 
 
 def by_records(status, text, said):
-    """The same as records tell it: names without a place, of a link that is refused before it has places, have no letters."""
+    """The same as records tell it: not what is odd, and names without a place, of a link that is refused before it has places, have no
+    letters."""
+    text = re.sub(r"\nOdd\n(?:.+\n)+", "", text)
     has_places = not re.match(r"[^\n]*: refused(?!, too many symbols|, symbol number)", text)
     return status, text if has_places else re.sub(r"(?m)^ {7}[A-Z?] ", " " * 9, text), said
 
@@ -55,12 +60,13 @@ class RandomObject:
 
     def __init__(self, text, data, bss, symbols, references, words=()):
         self.text, self.data, self.bss, self.symbols, self.references = text, data, bss, symbols, references
+        self.words = list(words) or [0] * text
         relocation = [0] * (text + data)
         for word, number, pc in references:
             relocation[word] = 0o10 + 16 * number + pc
         table = [(name.encode("latin-1").ljust(8, b"\0"), kind, value) for name, kind, value in symbols]
         in_data = [0] * data
-        self.file = disassembly.File(list(words) or [0] * text, relocation[:text], table, 0o407, in_data, relocation[text:], 2 * bss)
+        self.file = disassembly.File(self.words, relocation[:text], table, 0o407, in_data, relocation[text:], 2 * bss)
 
     def write(self, path):
         write(path, self.file.encoded())
@@ -177,6 +183,47 @@ def check_words(what, names, found, objects, asked=None):
                 expected.setdefault(symbol[0], {})[f"{place}.o"] = lines
     same(f"{what}: words", {name: words for name, (_, _, words) in names.items() if words}, expected)
     return sum(len(lines) for words in expected.values() for lines in words.values())
+
+
+def is_call(given, word):
+    """Whether a word of text is the operand word of jsr or jmp by modes 37 and 67."""
+    owner = given.file.owner(word) if word < given.text else None
+    if owner in (None, word):
+        return False
+    first = given.words[owner]
+    return first & 0o77 in (0o37, 0o67) and (first & 0o177000 == 0o4000 or first & 0o177700 == 0o100)
+
+
+def is_cut(uses):
+    """Whether two of the symbols of a name of eight bytes may be of two names; of each its object, segment and value."""
+    return any(one == other or (kind and next_kind) or (not kind and not next_kind and value and next_value and value != next_value)
+               for (one, kind, value), (other, next_kind, next_value) in itertools.combinations(uses, 2))
+
+
+def check_odd(what, found, objects, is_forced):
+    """What is odd in a link is so in the objects as they were made. Returns how many lines there are."""
+    symbols = {"_forced": []} if is_forced else {}
+    for place, given in enumerate(objects):
+        for number, (name, kind, value) in enumerate(given.symbols):
+            if kind & 0o40:
+                symbols.setdefault(name, []).append((place, number, kind & 0o37, value))
+    there = {name for name, of in symbols.items() if any(segment or value for *_, segment, value in of)}
+    missing = set(symbols) - there - OWN
+    starts = [int(row.split()[0], 8) for row in found["Objects"][1:]]
+    lines = []
+    for name, of in sorted(symbols.items()):
+        segments = [segment for *_, segment, _ in of if segment]
+        if segments[0] in (3, 4) if segments else name in there:
+            lines += [f"  {name}: data, and called at text {starts[place] + 2 * word:06o} in {place}.o"
+                      for place, number, *_ in of for word, to, _ in objects[place].references
+                      if to == number and is_call(objects[place], word)]
+        if len(name) == 8 and is_cut([(place, segment, value) for place, _, segment, value in of]):
+            lines.append(f"  {name}: perhaps two names, cut to eight bytes")
+        other = ("_" + name)[:8]
+        pairs = [(name, other), (other, name)]
+        lines += [f"  {one}: undefined; there is {two}" for one, two in pairs if one in missing and two in there]
+    same(f"{what}: odd", found.get("Odd", []), lines)
+    return len(lines)
 
 
 def check_asked(what, dice, command, objects, whole):
@@ -339,11 +386,14 @@ def check_random(number):
     names, found = check_map(what, options, paths)
     check_lists(what, names, objects)
     check_places(what, found, objects)
+    ODD.append(check_odd(what, found, objects, "-u" in options))
     status = run(V7, "ld", *options, "-o", "out", *paths)[0]
     check_asked(what, dice, options + paths, objects, (status, found, run(V7, "nm", "-g", "bare")[1].split("\n")[:-1]))
     return check_words(what, names, found, objects)
 
 
+# how many lines each map has that say what is odd
+ODD = []
 LETTERS = {0o41: "A", 0o42: "T", 0o43: "D", 0o44: "B"}
 # an object that a link has no place for, the fault, and options with which it has none
 TOO_MUCH = [
@@ -379,6 +429,7 @@ def check_random_refused(number):
     same(f"{what}: fault", found[""][0].split(" at")[0], f"Link of {counted(paths)}: refused, {fault}")
     names = names_in(found["Externals"])
     check_lists(what, names, objects)
+    ODD.append(check_odd(what, found, objects, "-u" in options))
     expected = [line_without_address(objects, name) for name in names]
     if fault == "too many symbols":
         run(V7, "ld", *options, "-x", "-o", "bare", *paths)
@@ -466,24 +517,36 @@ def all_refused():
     return 9
 
 
-def planted():
-    """A map in which a name is another one."""
+def with_change(old, new, check):
+    """Does a check by maps in which a text is another one."""
     global explain
     asked = explain
-    explain = lambda *words: (lambda status, out, err: (status, out.replace("_twice", "_twicf"), err))(*asked(*words))
+    explain = lambda *words: (lambda status, out, err: (status, out.replace(old, new), err))(*asked(*words))
     try:
-        check_map("planted", [], ["main.o", "twice.o"])
+        check()
     finally:
         explain = asked
+
+
+def planted():
+    """A map in which a name is another one."""
+    with_change("_twice", "_twicf", lambda: check_map("planted", [], ["main.o", "twice.o"]))
+
+
+def planted_odd():
+    """Maps in which something odd is said of another name."""
+    with_change(": undefined; there is ", ": undefined; there is _", lambda: [check_random(link) for link in range(LINKS)])
 
 
 def main():
     examples = check_examples()
     notices(planted)
+    notices(planted_odd)
+    ODD.clear()
     words = sum(check_random(link) for link in range(LINKS))
     words += sum(check_random_refused(link) for link in range(51))
     refused = 51 + all_refused()
-    print(f"{examples} maps of examples, {LINKS} of made links and {refused} of refused ones agree with ld, nm and size; {words} words are placed; "
+    print(f"{examples} maps of examples, {LINKS} of made links and {refused} of refused ones agree with ld, nm and size; {words} words are placed, and {sum(ODD)} lines say what is odd; "
           f"{LINKS + 51} maps of some names have what the objects have of these")
 
 

@@ -150,10 +150,12 @@ def map_of(objects, arguments):
             for file, place in zip(files, places)]
     limits = limits_of(files, arguments, merged, laid)
     if not laid:
-        return v7.Map(1, fault, refused_at, (0,) * 5, 0, 0, None, rows, found.names, found.uses, limits)
+        return v7.Map(1, fault, refused_at, (0,) * 5, 0, 0, None, rows, found.names, found.uses, limits, None)
     segments = laid.segments(merged.sizes)
     if not laid.link:
-        return v7.Map(1, laid.fault, 0, segments, 0, 0, None, rows, found.names, found.uses, limits)
+        return v7.Map(1, laid.fault, 0, segments, 0, 0, None, rows, found.names, found.uses, limits, None)
     link = laid.link
     entry = text(link.entry) if link.entry is not None and not link.has_entry else None
-    return v7.Map(1 if link.report else 0, 0, 0, segments, link.magic, link.file.entry, entry, rows, found.names, found.uses, limits)
+    status, report = 1 if link.report else 0, "".join(line.decode("latin-1") + "\n" for line in link.report)
+    program = v7.Program(status, model.write_file(link.file), report)
+    return v7.Map(status, 0, 0, segments, link.magic, link.file.entry, entry, rows, found.names, found.uses, limits, program)

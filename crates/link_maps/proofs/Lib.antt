@@ -2,6 +2,7 @@ pub mod LabelLemmas
 pub mod LinkLemmas
 pub mod ListLemmas
 pub mod MemberLemmas
+pub mod OddityLemmas
 pub mod PaddedLemmas
 pub mod RecordLemmas
 pub mod RowLemmas

@@ -58,6 +58,11 @@ name_of_front rest front n u some at is =
 
 module _ (rest front back : List Use) (n : ℕ) (some : 0 < length rest) (is : n ≡ uses_of_name rest)
     (at : front ≡ take n rest) (last : back ≡ drop n rest) where
+  pub first_name : by_name rest ≡ front ∷ by_name back
+  first_name =
+      cut rest some
+      ∙ sym (λ i. ((at ∙ ap (λ (k : ℕ). take k rest) is) i) ∷ by_name ((last ∙ ap (λ (k : ℕ). drop k rest) is) i))
+
   pub names_cut : {A : Type 0} (f : List Use → A) (whole so_far : List A) → so_far ++ map f (by_name rest) ≡ whole →
       (so_far ++ f front ∷ []) ++ map f (by_name back) ≡ whole
   names_cut f whole so_far h =

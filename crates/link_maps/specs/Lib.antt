@@ -8,4 +8,5 @@ pub mod Records
 pub mod MapLimits
 pub mod Maps
 pub mod Links
+pub mod Oddities
 pub mod internal

@@ -1,10 +1,9 @@
 -- The objects of the map, their files, and the names of a part, one after another.
-use Rattle.std.proofs.Common.{◌≡◌, ℕ, ◌<◌, Bool, ◌||◌, ◌⊎◌, inl, inr, List, [], ◌∷◌, ◌++◌, length, map, take, drop, refl, sym, ap, ◌∙◌}
+use Rattle.std.proofs.Common.{◌≡◌, ℕ, Bool, ◌||◌, ◌⊎◌, inl, inr, List, [], ◌∷◌, ◌++◌, refl, sym, ap, ◌∙◌}
 use Rattle.std.proofs.Common.{append_assoc}
-use Rattle.std.proofs.lemmas.List.{append-nil, map-append, map-id}
+use Rattle.std.proofs.lemmas.List.{append-nil, map-append}
 use Rattle.aout_core.specs.Contents.{Contents}
-use Rattle.link_maps.proofs.RecordLemmas.{names_cut}
-use Rattle.link_maps.specs.{Records.by_name, Records.uses_of_name, Members.Member, Members.all_of, Members.left_of, Uses.Use}
+use Rattle.link_maps.specs.{Records.by_name, Members.Member, Members.all_of, Members.left_of, Uses.Use}
 use Rattle.link_maps.specs.{declared.members.Objects.Objects, declared.places.Places.Places}
 use Rattle.link_session.specs.Labelled.{Labelled, objects}
 use Rattle.map_texts.specs.MapTexts.{Mapped, group_text, has_name, member_lines, part_from}
@@ -28,15 +27,6 @@ pub files_whole : (files some : List Contents) (o : Objects) → some ≡ [] ++ 
 files_whole files some o first more =
     more ∙ ap (λ (os : List Contents). os ++ objects (left_of o.refused)) first
     ∙ sym (map-append (λ (e : Labelled). e.object) o.session.entries (left_of o.refused))
-
--- the first name, and those after it
-pub first_name : (rest front back : List Use) (n : ℕ) → 0 < length rest → n ≡ uses_of_name rest → front ≡ take n rest → back ≡ drop n rest →
-    by_name rest ≡ front ∷ by_name back
-first_name rest front back n some is at last =
-    let each : List Use → List Use = λ us. us in
-    sym (map-id (by_name rest))
-    ∙ sym (names_cut rest front back n some is at last each (map each (by_name rest)) [] refl)
-    ∙ ap (λ (gs : List (List Use)). front ∷ gs) (map-id (by_name back))
 
 pub part_step : (k : Mapped) (section : Section) (title : List ℕ) (titled next : Bool) (before after whole : List ℕ)
     (rest front back : List Use) → by_name rest ≡ front ∷ by_name back → next ≡ (titled || has_name k section front) →

@@ -1,15 +1,16 @@
 -- The text of the map of a link, as v7-explain -m writes it. (own choice)
 --
--- What becomes of the link, the limits, where the segments lie, the names that stay undefined or are multiply defined, the objects, and
--- all externals. Each name has the objects that define it, make it a common and mention it, with the words that refer to it. If names are
--- asked for, the text has only what becomes of the link, these externals, and those names that the link does not have.
-use Rattle.std.specs.Prelude.{ℕ, suc, ◌-◌, Bool, true, false, not, ◌||◌, eqb, nat_lt, bytes_eq, if◌then◌else◌, codes, decimal, List, []}
+-- What becomes of the link, the limits, where the segments lie, the names that stay undefined or are multiply defined, what is odd, the
+-- objects, and all externals. Each name has the objects that define it, make it a common and mention it, with the words that refer to it.
+-- If names are asked for, the text has only what becomes of the link, these externals, and those names that the link does not have.
+use Rattle.std.specs.Prelude.{ℕ, suc, ◌-◌, Bool, true, false, not, ◌||◌, eqb, nat_lt, if◌then◌else◌, codes, decimal, List, []}
 use Rattle.std.specs.Prelude.{◌∷◌, ◌++◌, length, map, take, filter, slice_get, Option, Some, None, option_map, Result, Ok, Err}
 use Rattle.std.specs.List.{flat_map}
-use Rattle.indexmap.specs.IndexSet.{insert_all}
 use Rattle.aout_core.specs.{Contents.Contents, declared.header.Header.Header, declared.part.Part.Part, declared.part.Part.TheVariants.Text}
 use Rattle.aout_core.specs.{declared.part.Part.TheVariants.Data, declared.symbol.Symbol.Symbol}
 use Rattle.link_maps.specs.Records.{by_name, is_multiple_in, knowledge_of, row_among, rows_in}
+use Rattle.link_maps.specs.declared.oddities.Oddity.TheVariants.{DataCalled, Underscore, Cut}
+use Rattle.link_maps.specs.{declared.oddities.Oddity.Oddity, Oddities.each_once, Oddities.oddities}
 use Rattle.link_maps.specs.Uses.{Use, is_common, is_definition, name_of, stays_undefined, telling}
 use Rattle.link_maps.specs.{MapLimits.map_limits, Members.Member, Members.all_of, Members.capped, Members.start_in, References.text_of_line}
 use Rattle.link_maps.specs.{declared.limit_records.LimitRecord.LimitRecord, declared.map.LinkMap.LinkMap, declared.members.Objects.Objects}
@@ -401,6 +402,43 @@ part_from k section title titled (us ∷ groups) =
 abbrev pub names_text : Mapped → Section → List ℕ → List ℕ
 names_text k section title = part_from k section title false (by_name k.link_map.uses.items)
 
+-- ---- what is odd
+
+unfoldable pub said_line : List ℕ → List ℕ → List ℕ
+said_line name said = codes "  " ++ printable_bytes name ++ said
+
+-- the address so many bytes after the beginning of the text of an object
+abbrev pub text_address : Option Places → ℕ → List ℕ
+text_address None offset = []
+text_address (Some at) offset = padded_octal (capped at.text offset)
+
+unfoldable pub called_text : LinkMap → List ℕ → ℕ → ℕ → List ℕ
+called_text m name object offset =
+    said_line name (codes ": data, and called at text ") ++ text_address (slice_get m.places.items object) offset ++ codes " in "
+    ++ or_nothing (label_of m.members.items (Some object)) ++ codes "\n"
+
+unfoldable pub underscore_text : List ℕ → List ℕ → List ℕ
+underscore_text missing there = said_line missing (codes ": undefined; there is ") ++ printable_bytes there ++ codes "\n"
+
+abbrev pub odd_text : LinkMap → Oddity → List ℕ
+odd_text m (DataCalled name object offset) = called_text m name object offset
+odd_text m (Underscore missing there) = underscore_text missing there
+odd_text m (Cut name) = said_line name (codes ": perhaps two names, cut to eight bytes\n")
+
+abbrev pub odd_lines : LinkMap → List Oddity → List ℕ
+odd_lines m found = flat_map (odd_text m) found
+
+-- nothing if nothing is odd
+abbrev pub odd_title : List Oddity → List ℕ
+odd_title [] = []
+odd_title (x ∷ xs) = codes "\nOdd\n"
+
+unfoldable pub odd_part : LinkMap → List Oddity → List ℕ
+odd_part m found = odd_title found ++ odd_lines m found
+
+abbrev pub oddities_text : Objects → LinkMap → List ℕ
+oddities_text o m = odd_part m (oddities (objects (all_of o)) m.uses.items)
+
 -- ---- the whole map
 
 abbrev pub limits_in : Choices → Objects → LinkMap → List ℕ
@@ -415,17 +453,14 @@ faults_text k = names_text k Undefined (codes "\nUndefined\n") ++ names_text k M
 unfoldable pub whole_text : Choices → Mapped → List ℕ
 whole_text choices k =
     head_text (length k.link_map.members.items) k.objects.refused k.link_map.outcome ++ sizes_text choices k.objects k.link_map
-    ++ faults_text k ++ members_text k.link_map.members.items k.link_map.places.items ++ names_text k All (codes "\nExternals\n")
+    ++ faults_text k ++ oddities_text k.objects k.link_map
+    ++ members_text k.link_map.members.items k.link_map.places.items ++ names_text k All (codes "\nExternals\n")
 
 -- the map of these objects
 abbrev pub map_text : Choices → Objects → LinkMap → List ℕ
 map_text choices o m = whole_text choices (record { link_map = m; objects = o; files = objects (all_of o); asked = [] })
 
 -- ---- the map of some names
-
--- these names, each once
-abbrev pub each_once : List (List ℕ) → List (List ℕ)
-each_once names = insert_all bytes_eq [] names
 
 -- the names that are asked for and have no use among these
 abbrev pub absent_names : List Use → List (List ℕ) → List (List ℕ)

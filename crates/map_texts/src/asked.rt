@@ -3,7 +3,8 @@ ghost use Rattle.std.specs.Prelude.{◌≡◌, ◌++◌, filter, map, not, IfOk,
 ghost use Rattle.link_maps.specs.Uses.{name_of};
 ghost use Rattle.texts.specs.Texts.{Puts};
 ghost use Rattle.tool_options.specs.NameLists.{is_among};
-ghost use Rattle.map_texts.specs.MapTexts.{absent_line, absent_lines, absent_names, each_once};
+ghost use Rattle.link_maps.specs.Oddities.{each_once};
+ghost use Rattle.map_texts.specs.MapTexts.{absent_line, absent_lines, absent_names};
 
 use crate::pieces::put_name;
 use aout_core::Name;

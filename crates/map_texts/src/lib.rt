@@ -5,6 +5,7 @@ mod asked;
 mod limits;
 mod members;
 mod names;
+mod oddities;
 mod outcomes;
 mod pieces;
 mod segments;

@@ -41,7 +41,7 @@ impl<'a> Model for Names<'a> {
 }
 
 /// The path of an object; none for a forced name.
-fn label_of(members: &[Member], object: Option<usize>) -> Option<&str>
+pub(crate) fn label_of(members: &[Member], object: Option<usize>) -> Option<&str>
     ensures { option_map (λ path. path.now) result ≡ label_of members.now object }
 {
     match members.get(object?) {

@@ -10,6 +10,7 @@ use crate::asked::{each_once, put_absent_names};
 use crate::limits::{put_largest, put_limits};
 use crate::members::put_members;
 use crate::names::{Names, Section, put_names};
+use crate::oddities::put_oddities;
 use crate::outcomes::put_head;
 use crate::segments::put_segments_if;
 use aout_core::Name;
@@ -118,6 +119,7 @@ fn put_whole(text: &mut Text, names: &Names<'_>, options: &Options)
     put_head(text, names.map, names.objects);
     put_sizes(text, names.map, names.objects, options);
     put_faults(text, names);
+    put_oddities(text, names.objects, names.map);
     put_members(text, names.map);
     put_names(text, names, Section::All, "\nExternals\n");
 }

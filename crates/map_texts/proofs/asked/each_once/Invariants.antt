@@ -1,7 +1,7 @@
 use Rattle.std.proofs.Common.{◌≡◌, drop}
 use Rattle.std.specs.Prelude.{bytes_eq}
 use Rattle.indexmap.specs.IndexSet.{insert_all}
-use Rattle.map_texts.specs.MapTexts.{each_once}
+use Rattle.link_maps.specs.Oddities.{each_once}
 use Rattle.map_texts.proofs.asked.each_once.Given as goal
 
 -- the names that are left come after those that are in

@@ -2,7 +2,7 @@ use Rattle.std.proofs.Common.{◌≡◌, drop, map}
 use Rattle.std.specs.Prelude.{bytes_eq}
 use Rattle.indexmap.specs.IndexSet.{insert_all}
 use Rattle.link_maps.specs.Uses.{name_of}
-use Rattle.map_texts.specs.MapTexts.{each_once}
+use Rattle.link_maps.specs.Oddities.{each_once}
 use Rattle.map_texts.proofs.asked.used_names.Given as goal
 
 -- the names that are left come after those that are in

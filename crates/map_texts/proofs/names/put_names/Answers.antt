@@ -1,6 +1,7 @@
 use Rattle.std.proofs.Common.{◌<◌, ◌++◌, length, rules}
 use Rattle.map_texts.specs.MapTexts.{names_text}
-use Rattle.map_texts.proofs.MapTextLemmas.{first_name, part_step}
+use Rattle.link_maps.proofs.RecordLemmas.{first_name}
+use Rattle.map_texts.proofs.MapTextLemmas.{part_step}
 use Rattle.map_texts.proofs.names.put_names.Goals as goal
 
 pub loop-rest-preserved : goal.loop-rest-preserved
