@@ -8,3 +8,4 @@ pub mod LawLemmas
 pub mod AlikeLemmas
 pub mod ClashLemmas
 pub mod RankLemmas
+pub mod ChosenLemmas

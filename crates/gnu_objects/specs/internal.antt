@@ -3,3 +3,4 @@ pub mod Sizes
 pub mod AlikeNames
 pub mod Files
 pub mod Ranks
+pub mod Chosen

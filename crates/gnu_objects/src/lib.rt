@@ -35,6 +35,7 @@
 mod alike;
 mod bytes;
 mod checks;
+mod chosen;
 mod clash;
 mod conversion;
 mod file_table;

@@ -7,10 +7,11 @@ ghost use Rattle.gnu_objects.specs.GnuRefusals.{sizes_refusal};
 ghost use Rattle.gnu_objects.specs.Remarks.{cut_remark, dropped_remark, remark_of, remarks_of, remarks};
 
 use crate::alike::NamedSymbols;
+use crate::chosen::ChosenLocals;
 use crate::names::{is_stab, name_at};
 use crate::options::Locals;
 use crate::refusal::Refusal;
-use crate::staying::{is_chosen, is_external};
+use crate::staying::is_external;
 use crate::symbols::GnuSymbol;
 use crate::whole::{relocation_of, strings_of, symbols_of, whole_header};
 use std::alloc::{AllocError, Global};
@@ -44,22 +45,21 @@ fn dropped_remark(n: u16, other: Option<u16>) -> Option<Remark>
 }
 
 fn remark_of(
-    locals: Locals,
     named: &NamedSymbols<'_>,
-    words: &[u16],
+    chosen: &ChosenLocals<'_>,
     n: u16,
     symbol: &GnuSymbol,
 ) -> Option<Remark>
     requires { named.now.externals ≡ false }
-    ensures { result
-        ≡ remark_of locals named.now.strings.now named.now.symbols.now words.now n symbol.now }
+    ensures { result ≡ remark_of chosen.now.locals named.now.strings.now named.now.symbols.now
+        chosen.now.words.now n symbol.now }
 {
     let name = name_at(named.strings, symbol.place);
     if is_stab(named.strings, symbol) {
         None
     } else if is_external(symbol) {
         cut_remark(n, name)
-    } else if is_chosen(locals, words, n) {
+    } else if chosen.has(n) {
         dropped_remark(n, named.alike_with(name))
     } else {
         None
@@ -86,9 +86,10 @@ fn remarks_of(
     ensures { IfOk result (λ v. v.items ≡ remarks_of locals strings.now symbols.now words.now) }
 {
     let named = NamedSymbols::new(alloc, strings, false, symbols)?;
+    let chosen = ChosenLocals::new(alloc, locals, words)?;
     let mut remarks = Vec::new(alloc);
     for (n, symbol) in symbols.iter().enumerate() {
-        let remark = remark_of(locals, &named, words, n as u16, symbol);
+        let remark = remark_of(&named, &chosen, n as u16, symbol);
         put_remark(&mut remarks, remark)?;
     }
     Ok(remarks)

@@ -1,8 +1,9 @@
 //! Which symbols stay in the table.
 ghost use Rattle.std.specs.Prelude.{◌≡◌, ◌≤◌, ◌<◌, ◌^◌, false, IfOk, length};
-ghost use Rattle.gnu_objects.specs.Staying.{is_external, refers, is_needed, is_chosen, counts, collides, stays, staying, count, kept};
+ghost use Rattle.gnu_objects.specs.Staying.{is_external, refers, counts, collides, stays, staying, count, kept};
 
 use crate::alike::NamedSymbols;
+use crate::chosen::ChosenLocals;
 use crate::names::{is_stab, name_at};
 use crate::options::Locals;
 use crate::symbols::GnuSymbol;
@@ -22,23 +23,6 @@ pub(crate) fn refers(word: u16) -> bool
     word / 2 % 8 == 4
 }
 
-fn is_needed(words: &[u16], n: u16) -> bool
-    ensures { result ≡ is_needed words.now n }
-{
-    words.iter().any(|word| refers(*word) && *word / 16 == n)
-}
-
-/// Whether the options keep the local of this number.
-pub(crate) fn is_chosen(locals: Locals, words: &[u16], n: u16) -> bool
-    ensures { result ≡ is_chosen locals words.now n }
-{
-    match locals {
-        Locals::KeepAll => true,
-        Locals::KeepNeeded => is_needed(words, n),
-        Locals::KeepNone => false,
-    }
-}
-
 /// Whether the name of a symbol counts: it is not for a debugger, and if externals alone count it is external.
 pub(crate) fn counts(strings: &[u8], externals: bool, symbol: &GnuSymbol) -> bool
     ensures { result ≡ counts strings.now externals symbol.now }
@@ -56,19 +40,13 @@ fn collides(named: &NamedSymbols<'_>, symbol: &GnuSymbol) -> bool
 }
 
 /// Whether symbol `n` stays.
-fn stays(
-    locals: Locals,
-    named: &NamedSymbols<'_>,
-    words: &[u16],
-    n: u16,
-    symbol: &GnuSymbol,
-) -> bool
+fn stays(named: &NamedSymbols<'_>, chosen: &ChosenLocals<'_>, n: u16, symbol: &GnuSymbol) -> bool
     requires { named.now.externals ≡ false }
-    ensures { result
-        ≡ stays locals named.now.strings.now named.now.symbols.now words.now n symbol.now }
+    ensures { result ≡ stays chosen.now.locals named.now.strings.now named.now.symbols.now
+        chosen.now.words.now n symbol.now }
 {
     !is_stab(named.strings, symbol)
-        && (is_external(symbol) || (is_chosen(locals, words, n) && !collides(named, symbol)))
+        && (is_external(symbol) || (chosen.has(n) && !collides(named, symbol)))
 }
 
 /// For each symbol whether it stays.
@@ -84,9 +62,10 @@ pub(crate) fn staying(
     ensures count { IfOk result (λ v. length v.items ≡ length symbols.now) }
 {
     let named = NamedSymbols::new(alloc, strings, false, symbols)?;
+    let chosen = ChosenLocals::new(alloc, locals, words)?;
     let mut flags = Vec::new(alloc);
     for (n, symbol) in symbols.iter().enumerate() {
-        flags.push(stays(locals, &named, words, n as u16, symbol))?;
+        flags.push(stays(&named, &chosen, n as u16, symbol))?;
     }
     Ok(flags)
 }
