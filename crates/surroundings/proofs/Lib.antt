@@ -1,2 +1,3 @@
 pub mod EventLemmas
 pub mod ShownLemmas
+pub mod PieceLemmas

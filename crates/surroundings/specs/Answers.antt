@@ -2,6 +2,7 @@
 use Rattle.std.specs.Prelude.{◌≡◌, ◌⊎◌, ℕ, Bool, List, [], ◌++◌, if◌then◌else◌, ◌∷◌, Option, Some, None, Result, Ok, Err, bytes_eq, codes}
 use Rattle.aout_core.specs.{Refusals.refused, Wires.Latched}
 use Rattle.surroundings.specs.{declared.shown.Shown.Shown, declared.shown.Shown.TheVariants.Help, declared.shown.Shown.TheVariants.Version}
+use Rattle.surroundings.specs.{Reasons.reason_text, declared.reasons.Reason.Reason}
 use Rattle.surroundings.specs.{Emits.PutsUnless, declared.answer.Fault.Fault, declared.answer.Fault.TheVariants.Answered}
 use Rattle.surroundings.specs.{declared.answer.Fault.TheVariants.Memory, Answer.Answer, Events.History, Events.Surroundings}
 
@@ -29,21 +30,33 @@ HasAnswer fault answer = (fault ≡ Answered answer) ⊎ (fault ≡ Memory refus
 abbrev pub says_usage : List ℕ → Answer
 says_usage usage = only_errors usage 2
 
--- what the first argument asks a program to show of itself
+-- the usage of a program, and why its arguments are refused
+unfoldable pub refusal_text : List ℕ → List ℕ → Reason → List ℕ
+refusal_text program usage reason = usage ++ program ++ codes ": " ++ reason_text reason ++ codes "\n"
+
+abbrev pub says_reason : List ℕ → List ℕ → Reason → Answer
+says_reason program usage reason = only_errors (refusal_text program usage reason) 2
+
+-- what an argument asks a program to show of itself
 abbrev pub shown_by : List ℕ → Option Shown
 shown_by word = if bytes_eq word (codes "--help") then Some Help else (if bytes_eq word (codes "--version") then Some Version else None)
 
+abbrev pub or_later : Option Shown → Option Shown → Option Shown
+or_later None later = later
+or_later (Some shown) later = Some shown
+
+-- what the first argument asks that asks for something, before `--`
 abbrev pub shown_in : List (List ℕ) → Option Shown
 shown_in [] = None
-shown_in (word ∷ words) = shown_by word
+shown_in (word ∷ words) = if bytes_eq word (codes "--") then None else or_later (shown_by word) (shown_in words)
 
 -- what a program shows in place of its work
 abbrev pub shown_text : List ℕ → List ℕ → Shown → List ℕ
-shown_text program usage Help = usage
-shown_text program usage Version = program ++ codes " 0.4.0\n"
+shown_text program help Help = help
+shown_text program help Version = program ++ codes " 0.4.0\n"
 
 abbrev pub shows : List ℕ → List ℕ → Shown → Answer
-shows program usage shown = record { output = shown_text program usage shown; errors = []; status = 0 }
+shows program help shown = record { output = shown_text program help shown; errors = []; status = 0 }
 
 -- the answer that a fault has, or that memory ran out
 abbrev pub fault_answer : List ℕ → Fault → Answer
@@ -59,10 +72,10 @@ answer_in program (Err fault) = fault_answer program fault
 abbrev pub AnswersOr : Result Answer Fault → Answer → Type 0
 AnswersOr result answer = (result ≡ Ok answer) ⊎ (result ≡ Err (Memory refused))
 
--- help or the version is shown, which the first argument asks for, and nothing is asked of the system; or the rest is done
+-- help or the version is shown, which an argument asks for, and nothing is asked of the system; or the rest is done
 abbrev pub IsShownOr : List ℕ → List ℕ → Option Shown → History → History → Result Answer Fault → Type 0 → Type 0
-IsShownOr program usage (Some shown) old new result rest = (new ≡ old) × AnswersOr result (shows program usage shown)
-IsShownOr program usage None old new result rest = rest
+IsShownOr program help (Some shown) old new result rest = (new ≡ old) × AnswersOr result (shows program help shown)
+IsShownOr program help None old new result rest = rest
 
 -- ---- the answers of checks and of steps
 

@@ -1,9 +1,11 @@
 pub mod Events
 pub mod Emits
+pub mod Pieces
 pub mod Answer
 pub mod Answers
 pub mod Sources
 pub mod Nodes
 pub mod Programs
+pub mod Reasons
 pub mod Arguments
 pub mod internal

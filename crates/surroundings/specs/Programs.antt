@@ -3,9 +3,9 @@
 -- A program goes step by step. A step may ask the system for something. It finds something, or has a fault, and then no further step
 -- is made.
 use Rattle.std.specs.Prelude.{◌≡◌, ◌⊎◌, ℕ, List, [], ◌∷◌, Option, Some, None, Result, Ok, Err}
-use Rattle.surroundings.specs.Answers.{AnswersOr, AnswersStored, Checks, Faults, IsShownOr, says_usage, shown_in}
+use Rattle.surroundings.specs.Answers.{AnswersOr, AnswersStored, Checks, Faults, IsShownOr, says_reason, says_usage, shown_in}
 use Rattle.surroundings.specs.{Answer.Answer, Events.Event, Events.Extends, Events.History, Sources.EndsReading, Sources.ReadsAt}
-use Rattle.surroundings.specs.{Sources.stored_text, declared.answer.Fault.Fault, declared.office.Stored.Stored}
+use Rattle.surroundings.specs.{declared.reasons.Reason.Reason, Sources.stored_text, declared.answer.Fault.Fault, declared.office.Stored.Stored}
 
 -- what was asked of the system before and after a step, and what it found
 abbrev pub Step : Type 0 → Type 1
@@ -49,3 +49,18 @@ Calls usage Does (Some call) old new result = Does call old new result
 abbrev pub AnswersWords : {C : Type 0} → List ℕ → List ℕ → (C → Step Answer) → (List (List ℕ) → Option C) → List (List ℕ) → Step Answer
 AnswersWords program usage Does asked_in words old new result =
     IsShownOr program usage (shown_in words) old new result (Calls usage Does (asked_in words) old new result)
+
+-- the call that the arguments ask for is done, or the usage of the program goes to standard error, and why they are refused
+abbrev pub CallsOr : {C : Type 0} → List ℕ → List ℕ → (C → Step Answer) → Result C Reason → Step Answer
+CallsOr program usage Does (Err reason) old new result = (new ≡ old) × AnswersOr result (says_reason program usage reason)
+CallsOr program usage Does (Ok call) old new result = Does call old new result
+
+-- the same, once there is memory for the arguments
+abbrev pub DoesWords : {C : Type 0} → List ℕ → List ℕ → (C → Step Answer) → Result C Reason → Step Answer
+DoesWords program usage Does asked = Then (Finds (Ok asked)) (CallsOr program usage Does)
+
+-- what is given by the arguments is shown or done
+abbrev pub AnswersGiven : {C : Type 0} → List ℕ → List ℕ → List ℕ → (C → Step Answer) → (List (List ℕ) → Result C Reason) →
+    List (List ℕ) → Step Answer
+AnswersGiven program help usage Does asked_in words old new result =
+    IsShownOr program help (shown_in words) old new result (DoesWords program usage Does (asked_in words) old new result)

@@ -3,12 +3,13 @@ ghost use Rattle.std.specs.Prelude.{◌≡◌, ◌++◌, [], false, IfOk};
 ghost use Rattle.aout_core.specs.Refusals.{refused};
 ghost use Rattle.aout_core.specs.Wires.{Writes};
 ghost use Rattle.surroundings.specs.declared.answer.Fault.TheVariants.{Memory};
-ghost use Rattle.surroundings.specs.Answers.{AnswersStored, Gives, HasAnswer, answer_in, errors_unless, failed_at, fault_answer, only_errors, says_usage, status_unless};
+ghost use Rattle.surroundings.specs.Answers.{AnswersStored, Gives, HasAnswer, answer_in, errors_unless, failed_at, fault_answer, only_errors, says_reason, says_usage, status_unless};
 ghost use Rattle.surroundings.specs.Sources.{stored_text};
 
-use crate::lines::put_fault_line;
+use crate::lines::{put_fault_line, put_why_refused};
 use crate::office::{Stored, stored_text};
 use crate::outputs::Outputs;
+use crate::reasons::Reason;
 use aout_core::{DeviceFault, Refused, Wire};
 use std::alloc::{AllocError, AllocFailed, Global};
 use std::io::Write;
@@ -95,6 +96,20 @@ pub fn usage_answer(alloc: Global, usage: &str) -> Result<Answer, AllocError>
 {
     let mut errors = Text::new(alloc);
     errors.put(usage);
+    error_answer(alloc, errors, 2)
+}
+
+/// The answer to arguments that are refused: how the program is called, and why they are refused. (own choice)
+pub fn refused_answer(
+    alloc: Global,
+    program: &str,
+    usage: &str,
+    reason: Reason,
+) -> Result<Answer, AllocError>
+    ensures { IfOk result (λ a. a ≡ says_reason program.now usage.now reason) }
+{
+    let mut errors = Text::new(alloc);
+    put_why_refused(&mut errors, program, usage, reason);
     error_answer(alloc, errors, 2)
 }
 

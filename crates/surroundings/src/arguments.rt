@@ -1,11 +1,12 @@
 //! The arguments of the program.
-ghost use Rattle.std.specs.Prelude.{◌≡◌, drop, map, string_bytes, IfOk};
+ghost use Rattle.std.specs.Prelude.{◌≡◌, IsUtf8, drop, map, string_bytes, IfOk};
 ghost use Rattle.std.specs.Option.{option_map};
 ghost use Rattle.std.specs.Vec.Iter.{into_iter_items};
 ghost use Rattle.surroundings.specs.Arguments.{after_letter, letter_in, letters_of, paths_in};
 
 use std::alloc::{AllocError, Global};
-use std::env::Args;
+use std::env::{Args, Env, FillError};
+use texts::Text;
 
 /// All that an iterator still gives, in order.
 fn gathered(alloc: Global, rest: Args) -> Result<Vec<String>, AllocError>
@@ -30,6 +31,51 @@ pub fn words(alloc: Global, arguments: Args) -> Result<Vec<String>, AllocError>
         Some(_) => gathered(alloc, rest),
         None => Ok(Vec::new(alloc)),
     }
+}
+
+/// How many bytes an argument has at most on Linux, with its NUL.
+const MOST_BYTES: usize = 131_072;
+
+/// The argument of this number, from 0 on, if there is one.
+fn argument<R: Env>(alloc: Global, rt: &R, number: usize) -> Result<Option<Vec<u8>>, AllocError> {
+    let mut bytes = Vec::new(alloc);
+    bytes.resize(MOST_BYTES, 0)?;
+    match rt.arg(number, &mut bytes) {
+        Ok(length) => {
+            bytes.truncate(length);
+            Ok(Some(bytes))
+        }
+        Err(FillError::NotPresent | FillError::TooLong) => Ok(None),
+    }
+}
+
+/// Bytes as a text: as they are if they are UTF-8, and else each that does not print as a backslash and three octal digits.
+fn readable(alloc: Global, bytes: Vec<u8>) -> Result<String, AllocError>
+    ensures { IsUtf8 bytes.items → IfOk result (λ text. string_bytes text ≡ bytes.items) }
+{
+    match String::from_utf8(bytes) {
+        Ok(text) => Ok(text),
+        Err(error) => {
+            let mut shown = Text::new(alloc);
+            shown.put_printable_bytes(&error.into_bytes());
+            String::from_utf8_lossy(alloc, &shown.finish()?)
+        }
+    }
+}
+
+/// The arguments of a program after its name, in order. One that is not UTF-8 cannot be opened as a path: it is shown by `\ooo` for
+/// each byte that does not print. No contract can say what a system gives, so these lines are to be read. (own choice)
+///
+/// Errors: `AllocError` if memory runs out.
+pub fn readable_words<R: Env>(alloc: Global, rt: &R) -> Result<Vec<String>, AllocError> {
+    let mut words = Vec::new(alloc);
+    for number in 1..usize::MAX {
+        match argument(alloc, rt, number)? {
+            Some(bytes) => words.push(readable(alloc, bytes)?)?,
+            None => break,
+        }
+    }
+    Ok(words)
 }
 
 /// The letters of an option, which is an argument that begins with a hyphen. (own choice)

@@ -5,6 +5,7 @@ ghost use Rattle.surroundings.specs.Emits.{IsStoredOn};
 
 use crate::nodes::Node;
 use crate::office::{Office, Stored};
+use crate::pieces::PieceWriter;
 use aout_core::{File, Wire, write_file};
 use std::fs;
 use std::io::Write;
@@ -68,7 +69,7 @@ impl<H: Runtime> Office for Disk<'_, H> {
 
     fn store(&mut self, path: &str, file: &File) -> Stored {
         match fs::create(self.rt, path) {
-            Ok(device) => store_on(file, &mut Wire::new(device)),
+            Ok(device) => store_on(file, &mut Wire::new(PieceWriter::new(device))),
             Err(_) => Stored::NotCreated,
         }
     }

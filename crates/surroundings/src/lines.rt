@@ -1,8 +1,9 @@
-//! Lines on a path, for standard error.
+//! Lines for standard error.
 ghost use Rattle.aout_core.specs.FaultTexts.{number_text, object_text};
-ghost use Rattle.surroundings.specs.Answers.{fault_line, line_front};
+ghost use Rattle.surroundings.specs.Answers.{fault_line, line_front, refusal_text};
 ghost use Rattle.texts.specs.Texts.{Puts};
 
+use crate::reasons::{Reason, put_reason};
 use aout_core::ObjectFault;
 use texts::Text;
 
@@ -25,6 +26,18 @@ pub fn put_fault_line(line: &mut Text, program: &str, path: &str, text: &str)
     put_line_front(line, program, path);
     line.put(text);
     line.put("\n");
+}
+
+/// Puts how a program is called, and why its arguments are refused.
+#[tactic(auto, unfolding(crate::specs::Answers::refusal_text))]
+pub(crate) fn put_why_refused(lines: &mut Text, program: &str, usage: &str, reason: Reason)
+    ensures { Puts lines.old lines.new (refusal_text program.now usage.now reason) }
+{
+    lines.put(usage);
+    lines.put(program);
+    lines.put(": ");
+    put_reason(lines, reason);
+    lines.put("\n");
 }
 
 /// Puts the number of a word, if there is one.

@@ -17,7 +17,7 @@ pub const VERSION: &str = "0.4.0";
 /// What a program shows in place of its work. (own choice)
 #[derive(Clone, Copy, Debug, PartialEq, Eq)]
 pub enum Shown {
-    /// How it is called.
+    /// How it is called, and what its options do.
     Help,
     Version,
 }
@@ -33,28 +33,33 @@ fn shown_by(word: &str) -> Option<Shown>
     }
 }
 
-/// What the first argument of a program asks to be shown. (own choice)
+/// What the arguments of a program ask to be shown: the first that asks, before `--`. (own choice)
 pub fn shown_in(words: &[String]) -> Option<Shown>
     ensures { result ≡ shown_in (map string_bytes words.now) }
 {
-    match words {
-        [] => None,
-        [word, ..] => shown_by(word.as_str()),
+    for word in words {
+        if word.as_str() == "--" {
+            return None;
+        }
+        if let Some(shown) = shown_by(word.as_str()) {
+            return Some(shown);
+        }
     }
+    None
 }
 
 /// The answer to an argument that asks a program to show something of itself. (own choice)
 pub fn shown_answer(
     alloc: Global,
     program: &str,
-    usage: &str,
+    help: &str,
     shown: Shown,
 ) -> Result<Answer, AllocError>
-    ensures { IfOk result (λ a. a ≡ shows program.now usage.now shown) }
+    ensures { IfOk result (λ a. a ≡ shows program.now help.now shown) }
 {
     let mut output = Text::new(alloc);
     match shown {
-        Shown::Help => output.put(usage),
+        Shown::Help => output.put(help),
         Shown::Version => {
             output.put(program);
             output.put(" ");
@@ -69,15 +74,15 @@ pub fn shown_answer(
     })
 }
 
-/// Shows on standard output how a program is called, or its name and version, and returns its status: 0, or 2 if standard output
-/// failed or memory ran out. (own choice)
-pub fn show<H: Runtime + AllocGlobal>(rt: &H, program: &str, usage: &str, shown: Shown) -> u8
+/// Shows the help of a program on standard output, or its name and version, and returns its status: 0, or 2 if standard output failed
+/// or memory ran out. (own choice)
+pub fn show<H: Runtime + AllocGlobal>(rt: &H, program: &str, help: &str, shown: Shown) -> u8
     ensures { result ≤ 2 }
 {
     let mut outputs = Outputs {
         output: Wire::new(io::writer(rt)),
         error: Wire::new(StandardError::new(rt)),
     };
-    let answer = shown_answer(rt.alloc(), program, usage, shown).map_err(Fault::from);
+    let answer = shown_answer(rt.alloc(), program, help, shown).map_err(Fault::from);
     give(program, &answer, &mut outputs)
 }

@@ -19,7 +19,20 @@ abbrev pub program : List ℕ
 program = codes "v7-from-gnu"
 
 abbrev pub usage : List ℕ
-usage = codes "usage: v7-from-gnu [-SXxq] IN OUT\n       v7-from-gnu [-SXxq] -o FOLDER FILE...\n       v7-from-gnu --help | --version\n"
+usage =
+    codes "usage: v7-from-gnu [-SXxq] IN OUT\n       v7-from-gnu [-SXxq] -o FOLDER FILE...\n"
+    ++ codes "       v7-from-gnu --help | --version\n"
+
+abbrev pub help : List ℕ
+help =
+    codes "usage: v7-from-gnu [-SXxq] IN OUT\n       v7-from-gnu [-SXxq] -o FOLDER FILE...\n\n"
+    ++ codes "Makes objects of the Seventh Edition of those that GNU's assembler makes. Names\nare cut at eight bytes.\n\n"
+    ++ codes "  -o FOLDER  puts the object of each FILE into FOLDER, under its name\n"
+    ++ codes "  -S         drops the symbols for a debugger\n  -X         drops locals to which no word refers\n"
+    ++ codes "  -x         drops all locals\n  -q         is quiet about names that are cut and locals that are dropped\n\n"
+    ++ codes "examples:\n  v7-from-gnu squares.gnu squares.o\n"
+    ++ codes "  mkdir converted && v7-from-gnu -o converted main.gnu twice.gnu\n\n"
+    ++ codes "The manual is v7-from-gnu(1): man v7-from-gnu\n"
 
 -- ---- parts of lines
 

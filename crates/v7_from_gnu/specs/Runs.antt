@@ -4,12 +4,12 @@
 -- converted before one is stored. So nothing is stored if one is refused. If memory runs out, that is the answer; it does so after a file
 -- was stored only if one was not.
 use Rattle.std.specs.Prelude.{◌≡◌, ℕ, List, [], ◌∷◌, ◌++◌, Option, Some, None, Result, Ok}
-use Rattle.surroundings.specs.Answers.{AnswersOr, IsPerformed, IsShownOr, fault_line, only_errors, shown_in}
+use Rattle.surroundings.specs.Answers.{AnswersOr, IsPerformed, fault_line, only_errors}
 use Rattle.surroundings.specs.Events.{History, Extends, Surroundings, stored}
-use Rattle.surroundings.specs.Programs.{Calls, Finds, Passes, Step, Then}
+use Rattle.surroundings.specs.Programs.{AnswersGiven, Finds, Passes, Step, Then}
 use Rattle.surroundings.specs.{Answer.Answer, Sources.stored_text, declared.office.Stored.Stored}
-use Rattle.v7_from_gnu.specs.{Calls.call_of, Checks.ChecksInputs, Checks.path_answer, Converting.outcome, Jobs.Conversion, Jobs.Target}
-use Rattle.v7_from_gnu.specs.{Lines.program, Lines.usage, Plans.Plan, Readings.IsReading}
+use Rattle.v7_from_gnu.specs.{Calls.conversion_asked, Checks.ChecksInputs, Checks.path_answer, Converting.outcome, Jobs.Conversion, Jobs.Target}
+use Rattle.v7_from_gnu.specs.{Lines.help, Lines.program, Lines.usage, Plans.Plan, Readings.IsReading}
 
 -- what is reported of names, and then the line of an object that is not stored
 abbrev pub not_stored : List ℕ → List ℕ → List ℕ → Answer
@@ -40,15 +40,8 @@ IsConverting c =
 abbrev pub IsConversion : Conversion → Step Answer
 IsConversion c = Then (ChecksInputs c.jobs) (λ _. Then (Passes (path_answer c.jobs)) (λ _. IsConverting c))
 
--- the conversion that the arguments ask for, or how the program is called, once there is memory for the arguments
-abbrev pub IsCall : List (List ℕ) → Step Answer
-IsCall words = Then (Finds (Ok (call_of words))) (Calls usage IsConversion)
-
-abbrev pub AnswersArguments : List (List ℕ) → Step Answer
-AnswersArguments words old new result = IsShownOr program usage (shown_in words) old new result (IsCall words old new result)
-
 -- what the arguments ask for is done, and its answer is written
 abbrev pub PerformsFromGnu : {W E : Type 0} → (W → Option (List ℕ)) → (E → Option (List ℕ)) → List (List ℕ) →
     Surroundings W E → Surroundings W E → ℕ → Type 0
 PerformsFromGnu contents error_contents words before after status =
-    IsPerformed contents error_contents program (AnswersArguments words) before after status
+    IsPerformed contents error_contents program (AnswersGiven program help usage IsConversion conversion_asked words) before after status

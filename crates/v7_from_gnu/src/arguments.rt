@@ -1,12 +1,13 @@
 //! What the arguments ask for.
 ghost use Rattle.std.specs.Prelude.{◌≡◌, ◌++◌, codes, ◌∷◌, [], None, map, string_bytes, IfOk};
 ghost use Rattle.std.specs.Option.{option_map};
-ghost use Rattle.v7_from_gnu.specs.Calls.{after_slash, call_of, conversion_of, into_folder, jobs_of, letter_read, letters_read, options_read, unread};
+ghost use Rattle.v7_from_gnu.specs.Calls.{after_slash, conversion_of, into_folder, jobs_of, locals_in};
+ghost use Rattle.v7_from_gnu.specs.internal.Lists.{listed};
 
 use gnu_objects::{Locals, Options};
 use std::alloc::{AllocError, Global};
 use std::marker::Model;
-use surroundings::letters_of;
+use surroundings::{Given, Reason};
 
 /// A file that is to be converted, and the path where its object is to go.
 #[derive(Drop)]
@@ -41,73 +42,17 @@ impl Model for Conversion {
     ghost view = { λ c. record { options = c.options; is_quiet = c.is_quiet; jobs = c.jobs.items } };
 }
 
-/// What the letters ask for that were read so far.
-#[derive(Clone, Copy)]
-struct Letters {
-    options: Options,
-    is_quiet: bool,
-    has_folder: bool,
-    /// The next argument is the folder.
-    wants_folder: bool,
-}
-
-/// No letter has been read.
-fn unread() -> Letters
-    ensures { result ≡ unread }
+/// What becomes of locals.
+fn locals_in(given: &Given) -> Locals
+    ensures { result ≡ locals_in given.now }
 {
-    Letters {
-        options: Options {
-            drops_debugger: false,
-            locals: Locals::KeepAll,
-        },
-        is_quiet: false,
-        has_folder: false,
-        wants_folder: false,
+    if given.has(b'x') {
+        return Locals::KeepNone;
     }
-}
-
-/// With one more letter, if it may be there: none may follow `o`, and that comes once.
-fn with_letter(letters: Letters, letter: u8) -> Option<Letters>
-    ensures { result ≡ letter_read letters letter }
-{
-    let mut more = letters;
-    if letters.wants_folder {
-        return None;
+    if given.has(b'X') {
+        return Locals::KeepNeeded;
     }
-    match letter {
-        b'S' => more.options.drops_debugger = true,
-        b'x' => more.options.locals = Locals::KeepNone,
-        b'X' if letters.options.locals == Locals::KeepNone => {}
-        b'X' => more.options.locals = Locals::KeepNeeded,
-        b'q' => more.is_quiet = true,
-        b'o' if !letters.has_folder => {
-            more.has_folder = true;
-            more.wants_folder = true;
-        }
-        _ => return None,
-    }
-    Some(more)
-}
-
-/// With the letters after a hyphen, if there are any and each may be there.
-fn with_letters(before: Letters, bytes: &[u8]) -> Option<Letters>
-    ensures { result ≡ letters_read before bytes.now }
-{
-    let mut letters = before;
-    for letter in bytes {
-        letters = with_letter(letters, *letter)?;
-    }
-    Some(letters)
-}
-
-/// With the letters of an argument; a hyphen alone is refused.
-fn with_options(before: Letters, letters: &[u8]) -> Option<Letters>
-    ensures { result ≡ options_read before letters.now }
-{
-    if letters.is_empty() {
-        return None;
-    }
-    with_letters(before, letters)
+    Locals::KeepAll
 }
 
 /// What follows the last slash of a path, or all of it.
@@ -165,60 +110,50 @@ fn one_job(alloc: Global, from: &str, to: &str) -> Result<Vec<Job>, AllocError>
     Ok(jobs)
 }
 
+/// What is to be converted without a folder: one file to another.
+fn pair_of(alloc: Global, paths: &[String]) -> Result<Result<Vec<Job>, Reason>, AllocError>
+    ensures { IfOk result (λ jobs. listed jobs ≡ jobs_of None (map string_bytes paths.now)) }
+{
+    match paths {
+        [from, to] => Ok(Ok(one_job(alloc, from.as_str(), to.as_str())?)),
+        _ => Ok(Err(Reason::NotTwoFiles)),
+    }
+}
+
 /// What is to be converted: all files to a folder, or without a folder one file to another.
 fn jobs_of(
     alloc: Global,
     folder: Option<&str>,
     paths: &[String],
-) -> Result<Option<Vec<Job>>, AllocError>
-    ensures { IfOk result (λ jobs. option_map (λ jobs. jobs.items) jobs
+) -> Result<Result<Vec<Job>, Reason>, AllocError>
+    ensures { IfOk result (λ jobs. listed jobs
         ≡ jobs_of (option_map (λ f. f.now) folder.entry) (map string_bytes paths.now)) }
 {
-    match (folder, paths) {
-        (Some(folder), _) => Ok(Some(all_into_folder(alloc, folder, paths)?)),
-        (None, [from, to]) => Ok(Some(one_job(alloc, from.as_str(), to.as_str())?)),
-        _ => Ok(None),
+    let Some(folder) = folder else {
+        return pair_of(alloc, paths);
+    };
+    match paths {
+        [] => Ok(Err(Reason::NoFile)),
+        _ => Ok(Ok(all_into_folder(alloc, folder, paths)?)),
     }
 }
 
-/// The conversion that letters and paths ask for.
-fn conversion_of(
+/// The conversion that is asked for, if one is.
+pub(crate) fn conversion_of(
     alloc: Global,
-    letters: Letters,
-    folder: Option<&str>,
-    paths: &[String],
-) -> Result<Option<Conversion>, AllocError>
-    ensures { IfOk result (λ found. found ≡ conversion_of letters
-        (option_map (λ f. f.now) folder.entry) (map string_bytes paths.now)) }
+    given: &Given,
+) -> Result<Result<Conversion, Reason>, AllocError>
+    ensures { IfOk result (λ found. found ≡ conversion_of given.now) }
 {
-    match jobs_of(alloc, folder, paths)? {
-        Some(jobs) => Ok(Some(Conversion {
-            options: letters.options,
-            is_quiet: letters.is_quiet,
+    match jobs_of(alloc, given.value_of(b'o'), given.paths())? {
+        Ok(jobs) => Ok(Ok(Conversion {
+            options: Options {
+                drops_debugger: given.has(b'S'),
+                locals: locals_in(given),
+            },
+            is_quiet: given.has(b'q'),
             jobs,
         })),
-        None => Ok(None),
+        Err(reason) => Ok(Err(reason)),
     }
-}
-
-/// The conversion that arguments ask for, if they ask for one.
-pub(crate) fn call_of(alloc: Global, words: &[String]) -> Result<Option<Conversion>, AllocError>
-    ensures { IfOk result (λ call. call ≡ call_of (map string_bytes words.now)) }
-{
-    let mut letters = unread();
-    let mut folder = None;
-    for (index, word) in words.iter().enumerate() {
-        if letters.wants_folder {
-            letters.wants_folder = false;
-            folder = Some(word.as_str());
-        } else if let Some(option) = letters_of(word.as_str()) {
-            match with_options(letters, option) {
-                Some(more) => letters = more,
-                None => return Ok(None),
-            }
-        } else {
-            return conversion_of(alloc, letters, folder, &words[index..]);
-        }
-    }
-    Ok(None)
 }

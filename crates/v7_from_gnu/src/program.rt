@@ -1,41 +1,55 @@
 //! The program, over any files and any streams.
 ghost use Rattle.std.specs.Prelude.{map, string_bytes};
-ghost use Rattle.v7_from_gnu.specs.Runs.{AnswersArguments, IsCall, PerformsFromGnu};
+ghost use Rattle.surroundings.specs.Programs.{AnswersGiven, DoesWords};
+ghost use Rattle.v7_from_gnu.specs.Calls.{conversion_asked, conversion_of};
+ghost use Rattle.v7_from_gnu.specs.Lines.{help, program, usage};
+ghost use Rattle.v7_from_gnu.specs.Runs.{IsConversion, PerformsFromGnu};
 
-use crate::arguments::call_of;
+use crate::arguments::conversion_of;
 use crate::converting::convert_files;
+use crate::help::{HELP, USAGE};
 use std::alloc::Global;
 use std::io::Write;
-use surroundings::{Answer, Fault, Office, Outputs, give, shown_answer, shown_in, usage_answer};
+use surroundings::{
+    Answer, Fault, Given, Office, Outputs, give, given_in, refused_answer, shown_answer, shown_in,
+};
 
 /// The name of the program.
 pub(crate) const NAME: &str = "v7-from-gnu";
 
-/// How it is called.
-pub(crate) const USAGE: &str =
-    "usage: v7-from-gnu [-SXxq] IN OUT\n       v7-from-gnu [-SXxq] -o FOLDER FILE...\n       v7-from-gnu --help | --version\n";
-
-/// Does the conversion that the arguments ask for.
-#[tactic(auto, using(crate::proofs::CallLemmas::by_call))]
-fn answer_call<O: Office>(alloc: Global, office: &mut O, words: &[String]) -> Result<Answer, Fault>
-    ensures { IsCall (map string_bytes words.now)
+/// Does the conversion that is asked for, if one is.
+#[tactic(auto, using(surroundings::proofs::ShownLemmas::by_words))]
+fn answer_given<O: Office>(alloc: Global, office: &mut O, given: &Given) -> Result<Answer, Fault>
+    ensures { DoesWords program usage IsConversion (conversion_of given.now)
         (O.history office.old) (O.history office.new) result }
 {
-    match call_of(alloc, words)? {
-        None => Ok(usage_answer(alloc, USAGE)?),
-        Some(conversion) => convert_files(alloc, office, conversion),
+    match conversion_of(alloc, given)? {
+        Ok(conversion) => convert_files(alloc, office, conversion),
+        Err(reason) => Ok(refused_answer(alloc, NAME, USAGE, reason)?),
+    }
+}
+
+/// Does what the arguments ask for.
+#[tactic(auto, using(surroundings::proofs::ShownLemmas::by_read))]
+fn answer_words<O: Office>(alloc: Global, office: &mut O, words: &[String]) -> Result<Answer, Fault>
+    ensures { DoesWords program usage IsConversion (conversion_asked (map string_bytes words.now))
+        (O.history office.old) (O.history office.new) result }
+{
+    match given_in(alloc, b"SXxq", b"o", words)? {
+        Ok(given) => answer_given(alloc, office, &given),
+        Err(reason) => Ok(refused_answer(alloc, NAME, USAGE, reason)?),
     }
 }
 
 /// Does what the arguments ask for, and returns what is written at the end.
 #[tactic(auto, using(surroundings::proofs::ShownLemmas::by_shown))]
 fn answer<O: Office>(alloc: Global, office: &mut O, words: &[String]) -> Result<Answer, Fault>
-    ensures { AnswersArguments (map string_bytes words.now)
-        (O.history office.old) (O.history office.new) result }
+    ensures { AnswersGiven program help usage IsConversion conversion_asked
+        (map string_bytes words.now) (O.history office.old) (O.history office.new) result }
 {
     match shown_in(words) {
-        Some(shown) => Ok(shown_answer(alloc, NAME, USAGE, shown)?),
-        None => answer_call(alloc, office, words),
+        Some(shown) => Ok(shown_answer(alloc, NAME, HELP, shown)?),
+        None => answer_words(alloc, office, words),
     }
 }
 

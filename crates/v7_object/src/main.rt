@@ -1,20 +1,23 @@
 //! The program `v7-object`: makes an a.out file of a listing.
 #![tactic(auto)]
 
+mod help;
 mod lines;
 mod making;
 mod program;
+mod remarks;
 
 use aout_core::Wire;
-use program::{NAME, USAGE, perform};
+use help::USAGE;
+use program::{NAME, perform};
+use std::io;
 use std::process::ExitCode;
-use std::{env, io};
-use surroundings::{Disk, Outputs, StandardError, end, hold_streams, words};
+use surroundings::{Disk, Outputs, StandardError, end, hold_streams, readable_words};
 
 /// The status of the program. The streams are held until it has ended.
 fn run(rt: &HostRuntime) -> io::Result<u8> {
     let _held = hold_streams(rt)?;
-    let words = words(rt.alloc(), env::args(rt)?)?;
+    let words = readable_words(rt.alloc(), rt)?;
     let mut outputs = Outputs {
         output: Wire::new(io::writer(rt)),
         error: Wire::new(StandardError::new(rt)),

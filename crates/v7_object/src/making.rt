@@ -1,16 +1,19 @@
 //! The file of a listing. It is written only if the listing has no mistake.
 ghost use Rattle.std.specs.Prelude.{◌≡◌, [], IfErr, IfOk, Ok};
 ghost use Rattle.listings.specs.Reading.{read};
-ghost use Rattle.surroundings.specs.Answers.{Faults, only_errors};
-ghost use Rattle.v7_object.specs.Lines.{mistake_line};
-ghost use Rattle.v7_object.specs.Runs.{IsMaking, IsStoring, file_of};
+ghost use Rattle.surroundings.specs.Answers.{Faults, fault_line, only_errors};
+ghost use Rattle.v7_object.specs.Lines.{mistake_line, nothing_said, program};
+ghost use Rattle.v7_object.specs.Runs.{IsMaking, IsStoring, file_in, file_of};
 
 use crate::lines::put_mistake;
 use crate::program::NAME;
+use crate::remarks::says_something;
 use aout_core::File;
 use listings::{ListingFault, read_listing};
 use std::alloc::{AllocError, Global};
-use surroundings::{Answer, Fault, Office, answer_stored, check_output, error_answer, read_whole};
+use surroundings::{
+    Answer, Fault, Office, answer_stored, check_output, error_answer, put_fault_line, read_whole,
+};
 use texts::Text;
 
 /// The answer with the first mistake of a listing.
@@ -22,8 +25,17 @@ fn mistaken(alloc: Global, path: &str, fault: listings::Fault) -> Result<Answer,
     error_answer(alloc, line, 1)
 }
 
-/// The file of a listing.
-fn file_in(alloc: Global, path: &str, text: &[u8]) -> Result<File, Fault>
+/// The answer to a listing that has no line but remarks.
+fn silent_listing(alloc: Global, path: &str) -> Result<Answer, AllocError>
+    ensures { IfOk result (λ a. a ≡ only_errors (fault_line program path.now nothing_said) 1) }
+{
+    let mut line = Text::new(alloc);
+    put_fault_line(&mut line, NAME, path, "no line but remarks");
+    error_answer(alloc, line, 1)
+}
+
+/// The file of a listing that says something.
+fn file_of(alloc: Global, path: &str, text: &[u8]) -> Result<File, Fault>
     ensures ok { IfOk result (λ file. file_of path.now (read text.now) ≡ Ok file) }
     ensures err { IfErr result (λ fault. Faults (file_of path.now (read text.now)) fault) }
 {
@@ -32,6 +44,17 @@ fn file_in(alloc: Global, path: &str, text: &[u8]) -> Result<File, Fault>
         Err(ListingFault::Wrong(fault)) => Err(Fault::Answered(mistaken(alloc, path, fault)?)),
         Err(ListingFault::Memory(refused)) => Err(Fault::Memory(refused)),
     }
+}
+
+/// The file of a listing.
+fn file_in(alloc: Global, path: &str, text: &[u8]) -> Result<File, Fault>
+    ensures ok { IfOk result (λ file. file_in path.now text.now ≡ Ok file) }
+    ensures err { IfErr result (λ fault. Faults (file_in path.now text.now) fault) }
+{
+    if says_something(text) {
+        return file_of(alloc, path, text);
+    }
+    Err(Fault::Answered(silent_listing(alloc, path)?))
 }
 
 /// The answer if nothing is to be said.

@@ -1,54 +1,64 @@
 //! The program, over any files and any streams.
-ghost use Rattle.std.specs.Prelude.{◌≡◌, map, option_map, string_bytes};
-ghost use Rattle.surroundings.specs.Programs.{AnswersWords, Calls};
-ghost use Rattle.v7_object.specs.Lines.{program, usage};
-ghost use Rattle.v7_object.specs.Runs.{IsMaking, PerformsObject, making_in, call_in};
+ghost use Rattle.std.specs.Prelude.{◌≡◌, map, string_bytes};
+ghost use Rattle.surroundings.specs.Programs.{AnswersGiven, DoesWords};
+ghost use Rattle.v7_object.specs.Lines.{help, program, usage};
+ghost use Rattle.v7_object.specs.Runs.{IsMaking, PerformsObject, making_asked, making_in, result_in};
 
+use crate::help::{HELP, USAGE};
 use crate::making::make_file;
 use std::alloc::Global;
 use std::io::Write;
 use surroundings::{
-    Answer, Fault, Office, Outputs, give, paths_in, shown_answer, shown_in, usage_answer,
+    Answer, Fault, Given, Office, Outputs, Reason, give, given_in, refused_answer, shown_answer,
+    shown_in,
 };
 
 /// The name of the program.
 pub(crate) const NAME: &str = "v7-object";
 
-/// How it is called.
-pub(crate) const USAGE: &str =
-    "usage: v7-object LISTING FILE\n       v7-object --help | --version\n";
-
-/// The paths of a listing and of its file, if these are the arguments.
-fn making_in(words: &[String]) -> Option<(&str, &str)>
-    ensures { option_map call_in result ≡ making_in (map string_bytes words.now) }
+/// The paths of a listing and of its file, if there are two paths.
+fn making_in(given: &Given) -> Result<(&str, &str), Reason>
+    ensures { result_in result ≡ making_in given.now }
 {
-    match paths_in(words)? {
-        [listing, to] => Some((listing.as_str(), to.as_str())),
-        _ => None,
+    match given.paths() {
+        [listing, to] => Ok((listing.as_str(), to.as_str())),
+        _ => Err(Reason::NotTwoFiles),
     }
 }
 
-/// Makes the file of a listing, if the arguments are two paths.
-#[tactic(auto, using(surroundings::proofs::ShownLemmas::by_call))]
-fn answer_call<O: Office>(alloc: Global, office: &mut O, words: &[String]) -> Result<Answer, Fault>
-    ensures { Calls usage IsMaking (making_in (map string_bytes words.now))
+/// Makes the file of a listing, if that is asked for.
+#[tactic(auto, using(surroundings::proofs::ShownLemmas::by_words))]
+fn answer_given<O: Office>(alloc: Global, office: &mut O, given: &Given) -> Result<Answer, Fault>
+    ensures { DoesWords program usage IsMaking (making_in given.now)
         (O.history office.old) (O.history office.new) result }
 {
-    match making_in(words) {
-        Some((listing, to)) => make_file(alloc, office, listing, to),
-        None => Ok(usage_answer(alloc, USAGE)?),
+    match making_in(given) {
+        Ok((listing, to)) => make_file(alloc, office, listing, to),
+        Err(reason) => Ok(refused_answer(alloc, NAME, USAGE, reason)?),
+    }
+}
+
+/// Does what the arguments ask for.
+#[tactic(auto, using(surroundings::proofs::ShownLemmas::by_read))]
+fn answer_words<O: Office>(alloc: Global, office: &mut O, words: &[String]) -> Result<Answer, Fault>
+    ensures { DoesWords program usage IsMaking (making_asked (map string_bytes words.now))
+        (O.history office.old) (O.history office.new) result }
+{
+    match given_in(alloc, b"", b"", words)? {
+        Ok(given) => answer_given(alloc, office, &given),
+        Err(reason) => Ok(refused_answer(alloc, NAME, USAGE, reason)?),
     }
 }
 
 /// Does what the arguments ask for, and returns what is written at the end.
 #[tactic(auto, using(surroundings::proofs::ShownLemmas::by_shown))]
 fn answer<O: Office>(alloc: Global, office: &mut O, words: &[String]) -> Result<Answer, Fault>
-    ensures { AnswersWords program usage IsMaking making_in (map string_bytes words.now)
+    ensures { AnswersGiven program help usage IsMaking making_asked (map string_bytes words.now)
         (O.history office.old) (O.history office.new) result }
 {
     match shown_in(words) {
-        Some(shown) => Ok(shown_answer(alloc, NAME, USAGE, shown)?),
-        None => answer_call(alloc, office, words),
+        Some(shown) => Ok(shown_answer(alloc, NAME, HELP, shown)?),
+        None => answer_words(alloc, office, words),
     }
 }
 

@@ -1,7 +1,8 @@
--- A file that is not read, by the reason.
-use Rattle.std.specs.Prelude.{ℕ, List, [], ◌∷◌, Option, Some, None}
+-- A file that is not read, and arguments that are refused, by the reason.
+use Rattle.std.specs.Prelude.{ℕ, List, [], ◌∷◌, Option, Some, None, Result, Ok, Err}
 use Rattle.aout_core.specs.declared.whole.FileFault.{FileFault}
 use Rattle.aout_core.specs.declared.whole.FileFault.TheVariants.{NotOpened, Failed, Memory}
+use Rattle.surroundings.specs.{Arguments.Given, declared.reasons.Reason.Reason}
 use Rattle.surroundings.specs.Events.{History, Extends, opened}
 
 -- the file at a path was opened
@@ -12,3 +13,8 @@ abbrev pub ReadsNot : History → History → List ℕ → FileFault → Type 0
 ReadsNot old new path NotOpened = Extends old new (opened path None ∷ [])
 ReadsNot old new path Failed = Opens old new path
 ReadsNot old new path (Memory _) = Opens old new path
+
+-- what was read, unless there is a reason to refuse it
+abbrev pub after : Option Reason → Given → Result Given Reason
+after None given = Ok given
+after (Some reason) given = Err reason

@@ -1,15 +1,14 @@
 use Rattle.std.proofs.Common.{rules, ◌≡◌, refl, subst, inl, inr}
 use Rattle.std.specs.Prelude.{Ok}
-use Rattle.listings.specs.Reading.{read}
 use Rattle.surroundings.specs.Answers.{Faults}
-use Rattle.v7_object.specs.Runs.{file_of}
+use Rattle.v7_object.specs.Runs.{file_in}
 use Rattle.v7_object.proofs.making.make_file.Goals as goal
 
 pub returns : goal.returns
 returns g c =
     let same : c.deref.result.now ≡ c.in_ok-text.text.items = search rules in
     let between = g.O.Office.history c.read_whole.new.office in
-    let found = subst (λ text. file_of c.args.listing.now (read text) ≡ Ok c.in_ok-file.file) same c.in_ok-file.ensures.ok in
+    let found = subst (λ text. file_in c.args.listing.now text ≡ Ok c.in_ok-file.file) same c.in_ok-file.ensures.ok in
     inr (
       tt,
       g.O.Office.history c.check_output.new.office,
@@ -25,7 +24,7 @@ returns-in_err-file g c =
     let same : c.deref.result.now ≡ c.in_ok-text.text.items = search rules in
     let between = g.O.Office.history c.read_whole.new.office in
     let fault = c.in_err-file.field-0.0 in
-    let found = subst (λ text. Faults (file_of c.args.listing.now (read text)) fault) same c.in_err-file.ensures.err in
+    let found = subst (λ text. Faults (file_in c.args.listing.now text) fault) same c.in_err-file.ensures.err in
     inr (
       tt,
       g.O.Office.history c.check_output.new.office,

@@ -1,0 +1,11 @@
+-- A file, and the bytes that were taken for it and not written yet. (own choice)
+use Rattle.std.specs.Prelude.{ℕ, List, Option}
+use Rattle.std.specs.Io.KnownBytes.{append_known}
+
+pub record Held (F : Type 0) : Type 0 where
+  pub file : F
+  pub held : List ℕ
+
+-- what was written, with what is held
+abbrev pub written : {F : Type 0} → (F → Option (List ℕ)) → Held F → Option (List ℕ)
+written contents h = append_known (contents h.file) h.held

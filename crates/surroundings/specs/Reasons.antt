@@ -1,0 +1,20 @@
+-- Why arguments are refused, as a text. (own choice)
+use Rattle.std.specs.Prelude.{ℕ, List, ◌++◌, codes}
+use Rattle.surroundings.specs.declared.reasons.Reason.{Reason}
+use Rattle.surroundings.specs.declared.reasons.Reason.TheVariants.{NoOption, NoLongOption, NoValue, SecondValue, NoFile}
+use Rattle.surroundings.specs.declared.reasons.Reason.TheVariants.{NotTwoFiles}
+use Rattle.texts.specs.Names.{printable_byte}
+
+unfoldable pub option_text : ℕ → List ℕ
+option_text letter = codes "-" ++ printable_byte letter
+
+unfoldable pub about_option : List ℕ → ℕ → List ℕ → List ℕ
+about_option front letter back = front ++ option_text letter ++ back
+
+abbrev pub reason_text : Reason → List ℕ
+reason_text (NoOption letter) = about_option (codes "there is no option ") letter (codes "")
+reason_text NoLongOption = codes "an option has one letter, but for --help and --version"
+reason_text (NoValue letter) = about_option (codes "") letter (codes " needs the next argument as its value")
+reason_text (SecondValue letter) = about_option (codes "") letter (codes " takes one value")
+reason_text NoFile = codes "it needs a file"
+reason_text NotTwoFiles = codes "it takes two files"
