@@ -140,9 +140,11 @@ function showsAll(context, parts) {
     return [...(count <= FEW ? [{ near: true }] : []), {}, { cells: true }, { cells: true, isLast: true }].some((how) => putScene(context, parts, { limit: Infinity, ...how }));
 }
 
-// puts the first scene that fits on the stage; if none does, the last one, with so many words of large groups as fit
+// puts the first scene that fits on the stage; if none does, the last one, with so many words of large groups as fit. That of another
+// choice is shown from its beginning
 function showScene(context) {
-    const scenes = scenesOf(context);
+    const [before, scenes] = [sceneOf, scenesOf(context)];
+    if (sceneOf !== before) byId("stage").scrollTop = 0;
     if (scenes.some((parts) => showsAll(context, parts))) return;
     const parts = scenes[scenes.length - 1];
     let [low, high] = [1, Math.max(1, ...parts.flatMap(({ groups }) => groups.map(({ words }) => words.length)))];
@@ -212,9 +214,7 @@ function nearRow(context, key, className = "near") {
 const placeRow = (context, id) => (isWordKey(id) ? nearRow(context, id, "place-line") : spotRow(context, id, "word spot place-line"));
 
 // a line for what is not shown
-function moreRow(id, text) {
-    return rowOf(`more-${id.replace(/\W/g, "-")}`, "fold more-line", `fold more ${id}`, [text, ["span", "open", "show"]]);
-}
+const moreRow = (id, text) => rowOf(`more-${id.replace(/\W/g, "-")}`, "fold more-line", `fold more ${id}`, [text, ["span", "open", "show"]]);
 
 function groupRows(context, { by, words, target, keep, more, isPlain }, { limit, near }, used) {
     const isFree = (key) => !used.has(key) && used.add(key);

@@ -53,7 +53,6 @@ QUESTIONS = [
     (ONE + "ask refers _count Which?", 3, "refers is followed by a name, a number and a text"),
     # questions about the next step
     (ONE + "ask changes Which?\nword text 4\nadd twice.o", 5, "the word at 4 does not change"),
-    (ONE + "ask changes Which?\nword text 6\nword text 4\nadd twice.o", 6, "the word at 4 does not change"),
     (TWO + "ask changes Which?\nword text 2\nwithdraw", 6, "the word at 2 does not change"),
     (ONE + "ask value text 6 What?\nnumber 4\nadd twice.o", 5, "the number is 2"),
     (ONE + "ask value text 12 What?\nimage", 4, "after the step there is no such word"),

@@ -5,6 +5,7 @@ import struct
 
 from tests.page.page_browser import Keys
 from tests.page.page_data import object_of
+from tests.page.page_stage import VIEW, first
 
 FIRST = """
 const text = (selector) => {
@@ -473,8 +474,19 @@ def old_browser(page, default, same, more=""):
     page.load(default)
 
 
-def presenter(page, default, same):
-    """Large words for a projector: at least 28 pixels, two objects in view, no legend."""
+def presenter(page, default, compiled, count, same):
+    """Large words for a projector: at least 28 pixels, two objects in view, no legend. At each step the sentence and what changed are seen."""
+    page.load(compiled)
+    for width, height in ((1024, 768), (1366, 768)):
+        page.size(width, height)
+        page.open("#" + first(count))
+        page.type("l")
+        for number in range(count, 0, -1):
+            for act in ("show({ ...view, gone: -1 })", "withdraw()"):
+                page.run(act)
+                page.settle()
+                seen = page.run(VIEW)
+                same(f"for a projector, {width} wide: what cannot be seen of step {number}, {act}", [name for name, is_seen in seen.items() if name != "count" and not is_seen], [])
     page.load(default)
     page.size(1920, 1080)
     page.open("#objects=1,2")
@@ -685,7 +697,7 @@ def use_all(tools, page, default, program, compiled, pages, layouts, same):
     numbers(page, default, same)
     leads(page, default, same)
     texts(page, default, same)
-    presenter(page, default, same)
+    presenter(page, default, compiled, len(pages[3][1]), same)
     paper(page, default, same)
     for path, files in pages[:3]:
         maps(tools, page, path, files, layouts, same)

@@ -9,6 +9,8 @@ use Rattle.link_session.specs.declared.mark.Mark.TheVariants.{CellWas, StateWas}
 use Rattle.link_session.specs.declared.mark.Place.TheVariants.{InText, InData}
 use Rattle.link_session.specs.declared.state.State.TheVariants.{Defined, Wanted}
 use Rattle.session_states.specs.Items.{each}
+use Rattle.std.specs.List.{list_any}
+use Rattle.aout_core.specs.WellFormed.{segment_number}
 use Rattle.v7_lesson.specs.{declared.keys.WordPlace.WordPlace, Meant.place_meant}
 
 -- whether nothing has defined a name: with a size it is a common, else undefined
@@ -54,6 +56,23 @@ abbrev pub changed_words : List Mark → List WordPlace
 changed_words [] = []
 changed_words (CellWas place c ∷ ks) = word_of place ∷ changed_words ks
 changed_words (StateWas i s ∷ ks) = changed_words ks
+
+abbrev pub is_word : WordPlace → WordPlace → Bool
+is_word v w = eqb (segment_number v.segment) (segment_number w.segment) && eqb v.offset w.offset
+
+abbrev pub is_among : List WordPlace → WordPlace → Bool
+is_among vs w = list_any (λ v. is_word v w) vs
+
+-- whether all of the words are among those that a step changes
+abbrev pub are_changed : List WordPlace → List WordPlace → Bool
+are_changed changed [] = true
+are_changed changed (w ∷ ws) = is_among changed w && are_changed changed ws
+
+-- what a word was before the addition with these marks, if one of them is of it
+abbrev pub was_before : List Mark → WordPlace → Option ℕ
+was_before [] w = None
+was_before (CellWas place c ∷ ks) w = if is_word (word_of place) w then Some c.value else was_before ks w
+was_before (StateWas i s ∷ ks) w = was_before ks w
 
 -- the cell at an offset of a segment; any segment but data is taken for text
 abbrev pub cells_of : Image → Segment → List Cell

@@ -2,14 +2,14 @@
 --
 -- A word refers to its segment. In this it has a row, or the end, which is the byte after the last one. Elsewhere it has in the image so
 -- many bytes before or after the segment, and in a link what is at that address: there the end of a segment is not what follows it.
-use Rattle.std.specs.Prelude.{ℕ, ◌-◌, ◌%◌, Bool, true, false, ◌&&◌, ◌||◌, not, eqb, nat_lt, nat_le, if◌then◌else◌, List, Option, Some, None, slice_get}
+use Rattle.std.specs.Prelude.{ℕ, ◌-◌, ◌/◌, ◌%◌, Bool, true, false, ◌&&◌, ◌||◌, not, eqb, nat_lt, nat_le, if◌then◌else◌, List, Option, Some, None, slice_get}
 use Rattle.aout_core.specs.{declared.symbol.Segment.Segment, declared.symbol.Symbol.Symbol, WellFormed.segment_of}
 use Rattle.aout_core.specs.declared.symbol.Segment.TheVariants as segments
 use Rattle.link_out.specs.Layouts.{Bases}
 use Rattle.link_session.specs.{declared.cell.Cell.Cell, declared.cell.Target.Target, Image.Image}
 use Rattle.link_session.specs.declared.cell.Target.TheVariants as targets
 use Rattle.v7_lesson.specs.declared.places.{ArrowEnd.ArrowEnd, Merged.Merged}
-use Rattle.v7_lesson.specs.declared.places.ArrowEnd.TheVariants.{Nowhere, Row, End, Beyond, Common, Outside}
+use Rattle.v7_lesson.specs.declared.places.ArrowEnd.TheVariants.{Nowhere, AsInImage, Row, End, Beyond, Common, Outside}
 use Rattle.v7_lesson.specs.declared.places.Merged.TheVariants.{Text, Data, Bss}
 use Rattle.v7_lesson.specs.Meant.{place_meant, size_of}
 
@@ -98,3 +98,22 @@ place_by b is_split target pc address None = Nowhere
 -- the place at an address of a link that a cell refers to
 abbrev pub place_in_link : Bases → Bool → List Symbol → Cell → ℕ → ArrowEnd
 place_in_link b is_split symbols c address = place_by b is_split c.target c.pc address (target_segment symbols c.target)
+
+-- the place that the page reads in a number: 65,536 times its kind, and its offset or address
+abbrev pub place_of_kind : ℕ → ℕ → ArrowEnd
+place_of_kind kind n =
+    if eqb kind 0 then (if eqb n 0 then AsInImage else Nowhere) else
+    if eqb kind 1 then Row Text n else
+    if eqb kind 2 then Row Data n else
+    if eqb kind 3 then Row Bss n else
+    if eqb kind 4 then End Text n else
+    if eqb kind 5 then End Data n else
+    if eqb kind 6 then End Bss n else
+    if eqb kind 7 then Beyond Text n else
+    if eqb kind 8 then Beyond Data n else
+    if eqb kind 9 then Beyond Bss n else
+    if eqb kind 10 then Common n else
+    Outside n
+
+abbrev pub place_numbered : ℕ → ArrowEnd
+place_numbered number = place_of_kind (number / 65536) (number % 65536)

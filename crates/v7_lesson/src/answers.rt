@@ -1,14 +1,17 @@
 //! The answers to questions about what a session knows now: names, words that refer to a place, and the object that defines a name.
-ghost use Rattle.std.specs.Prelude.{◌≡◌, ◌≤◌, ◌*◌, ◌++◌, length, IfOk, OnOk};
+ghost use Rattle.std.specs.Prelude.{◌≡◌, ◌≤◌, ◌*◌, ◌&&◌, ◌++◌, not, bytes_eq, length, IfOk, OnOk};
+ghost use Rattle.aout_core.specs.WellFormed.{is_external, is_undefined};
+ghost use Rattle.std.specs.List.{list_any, position};
+ghost use Rattle.link_session.specs.Bounds.{defines};
 ghost use Rattle.link_session.specs.Undo.{image_of};
 ghost use Rattle.session_states.specs.Items.{each};
 ghost use Rattle.v7_lesson.specs.Answers.{is_wanted, refers_to, wanted_names, word_to, words_to};
 
-use crate::keys::WordPlace;
+use crate::keys::{WordPlace, is_among};
 use crate::links::links_of;
 use crate::parts::place_meant;
 use anyhow::{Result, anyhow};
-use aout_core::{Name, Segment};
+use aout_core::{Name, Object, Segment, Symbol};
 use link_session::{Cell, Session, State, Target};
 use session_states::JsonWriter;
 use std::alloc::{AllocError, Global};
@@ -178,19 +181,31 @@ fn words_to_name(
     }
 }
 
+/// Whether one of the symbols is external, and defines a name.
+fn has_definition(symbols: &[Symbol], name: &Name) -> bool
+    ensures { result ≡ list_any (λ s. (is_external s && not (is_undefined s))
+        && bytes_eq name.now s.name) symbols.now }
+{
+    symbols.iter().any(|symbol| {
+        symbol.is_external() && !symbol.is_undefined() && *name == symbol.name
+    })
+}
+
+/// Whether an external symbol of an object defines a name.
+fn defines(object: &Object, name: &Name) -> bool
+    ensures { result ≡ defines object.now name.now }
+{
+    has_definition(object.file().symbols(), name)
+}
+
 /// The place of the first object that defines a name.
-fn object_with(session: &Session, name: &Name) -> Option<usize> {
-    for (place, entry) in session.entries().iter().enumerate() {
-        for symbol in entry.object().file().symbols() {
-            if symbol.is_external()
-                && symbol.segment() != Segment::Undefined
-                && symbol.name == *name
-            {
-                return Some(place);
-            }
-        }
-    }
-    None
+fn object_with(session: &Session, name: &Name) -> Option<usize>
+    ensures { result ≡ position (λ entry. defines entry.object name.now) session.now.entries }
+{
+    session
+        .entries()
+        .iter()
+        .position(|entry| defines(entry.object(), name))
 }
 
 /// The answers to a question. One that has none is a fault.
@@ -234,7 +249,7 @@ impl Answers {
     /// Whether a word is one of them.
     pub(crate) fn has_word(&self, word: WordPlace) -> bool {
         match self {
-            Answers::Words(words) => words.contains(&word),
+            Answers::Words(words) => is_among(words, word),
             _ => false,
         }
     }

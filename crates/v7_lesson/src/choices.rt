@@ -10,7 +10,7 @@ pub(crate) struct Choices {
 
 impl Choices {
     ghost use Rattle.std.specs.Prelude.{◌≡◌, ◌↔◌, true, None};
-    ghost use Rattle.v7_lesson.specs.Choices.{are_complete, no_choices, with_choice};
+    ghost use Rattle.v7_lesson.specs.Choices.{are_complete, may_follow, no_choices, with_choice};
 
     /// No answers.
     pub(crate) fn none() -> Choices
@@ -50,7 +50,9 @@ impl Choices {
     }
 
     /// Whether a line may begin by this word.
-    pub(crate) fn allow(self, word: &str) -> bool {
+    pub(crate) fn allow(self, word: &str) -> bool
+        ensures { result ≡ may_follow self word.now }
+    {
         match word {
             "because" => self.needs_reason,
             "right" | "wrong" => !self.needs_reason,

@@ -1,7 +1,7 @@
 //! The answers to questions: what a session knows after a step.
 ghost use Rattle.std.specs.Prelude.{◌≡◌, true, false, IfOk, OnOk, OnErr};
 ghost use Rattle.link_session.specs.Sessions.{newest};
-ghost use Rattle.v7_lesson.specs.Answers.{changed_words, is_key, word_of};
+ghost use Rattle.v7_lesson.specs.Answers.{are_changed, changed_words, is_among, is_key, was_before, word_of};
 
 use crate::links::links_of;
 use crate::numbers::{cell_at, linked_word};
@@ -99,7 +99,10 @@ pub(crate) fn changed_words(alloc: Global, session: &Session) -> Result<Vec<Word
 }
 
 /// What a word was before the last addition, if this overwrote it.
-pub(crate) fn was_before(session: &Session, word: WordPlace) -> Option<u16> {
+#[tactic(auto, using(crate::proofs::AnswerLemmas::same_word))]
+pub(crate) fn was_before(session: &Session, word: WordPlace) -> Option<u16>
+    ensures { result ≡ was_before (newest session.now.journal) word }
+{
     for mark in session.last_marks() {
         if let Mark::CellWas(place, cell) = *mark
             && WordPlace::of(place) == word
@@ -214,10 +217,21 @@ pub(crate) struct Asked<'a> {
     pub(crate) before: u16,
 }
 
+/// Whether a word is among these.
+#[tactic(auto, using(crate::proofs::AnswerLemmas::any_word))]
+pub(crate) fn is_among(words: &[WordPlace], word: WordPlace) -> bool
+    ensures { result ≡ is_among words.now word }
+{
+    words.contains(&word)
+}
+
 /// The words that a file gives as changed have to be among those that are.
-fn compare_words(words: &[WordPlace], changed: &[WordPlace]) -> Result<()> {
+fn compare_words(words: &[WordPlace], changed: &[WordPlace]) -> Result<()>
+    ensures right { OnOk result (are_changed changed.now words.now ≡ true) }
+    ensures wrong { OnErr result (are_changed changed.now words.now ≡ false) }
+{
     for word in words {
-        if !changed.contains(word) {
+        if !is_among(changed, *word) {
             return Err(anyhow!("the word at {:o} does not change", word.offset));
         }
     }

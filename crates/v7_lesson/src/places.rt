@@ -3,7 +3,7 @@ ghost use Rattle.std.specs.Prelude.{◌≡◌};
 ghost use Rattle.link_session.specs.Undo.{image_of};
 ghost use Rattle.v7_lesson.specs.Meant.{place_meant, size_of};
 ghost use Rattle.v7_lesson.specs.declared.places.ArrowEnd.TheVariants.{AsInImage};
-ghost use Rattle.v7_lesson.specs.Places.{end_of, found_at, image_place, is_end, merged_segment, named_segment, place_in_link, place_in_segment, row_with, target_segment, start_of};
+ghost use Rattle.v7_lesson.specs.Places.{end_of, found_at, image_place, is_end, merged_segment, named_segment, place_in_link, place_numbered, place_of_kind, place_in_segment, row_with, target_segment, start_of};
 
 use crate::links::Link;
 use crate::parts::place_meant;
@@ -50,7 +50,9 @@ impl ArrowEnd {
     }
 
     /// What the page has for the kind of the place, and its offset or address.
-    fn kind_and_offset(self) -> (u16, u16) {
+    fn kind_and_offset(self) -> (u16, u16)
+        ensures { place_of_kind result.0 result.1 ≡ self }
+    {
         match self {
             ArrowEnd::AsInImage => (0, 0),
             ArrowEnd::Nowhere => (0, 1),
@@ -69,7 +71,9 @@ impl ArrowEnd {
     }
 
     /// The place as the page has it: 65,536 times its kind, and its offset or address.
-    pub(crate) fn number(self) -> u32 {
+    pub(crate) fn number(self) -> u32
+        ensures { place_numbered result ≡ self }
+    {
         let (kind, offset) = self.kind_and_offset();
         u32::from(kind) * 65_536 + u32::from(offset)
     }

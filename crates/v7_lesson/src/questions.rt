@@ -1,4 +1,7 @@
 //! The questions of lessons: a text file, of which each line is checked against the objects as it is read.
+ghost use Rattle.std.specs.Prelude.{◌≡◌};
+ghost use Rattle.v7_lesson.specs.Choices.{may_begin};
+
 use crate::answers::{Answers, Known, answers_of};
 use crate::choices::Choices;
 use crate::files::text_at;
@@ -29,7 +32,9 @@ enum Begun {
 
 impl Begun {
     /// Whether a line may begin by this word.
-    fn allows(self, word: &str) -> bool {
+    fn allows(self, word: &str) -> bool
+        ensures { result ≡ may_begin self word.now }
+    {
         match self {
             Begun::Nothing => word == "lesson",
             Begun::Choice(_, choices) => choices.allow(word),
