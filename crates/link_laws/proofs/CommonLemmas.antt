@@ -1,7 +1,7 @@
 -- The commons of a linked file: each has room of its own.
 use Rattle.std.proofs.Common.{◌≡◌, ◌≢◌, ℕ, ◌+◌, ◌-◌, ◌%◌, ◌≤◌, Bool, true, false, cond, ◌||◌, eqb, List, [], ◌∷◌, Some, refl, sym, ◌∙◌, ap}
-use Rattle.std.proofs.Common.{subst, arith, ◌⊎◌, inl, inr, take, add-one}
-use Rattle.std.proofs.{lemmas.List.Sums.sum_by-append, lemmas.Slice.Eq.bytes_eq-Decides}
+use Rattle.std.proofs.Common.{subst, arith, ◌⊎◌, inl, inr, take, add-one, rules}
+use Rattle.std.proofs.{lemmas.Grind.common_steps, lemmas.List.Sums.sum_by-cons, lemmas.Option.same_Some, lemmas.Slice.Eq.bytes_eq-Decides}
 use Rattle.std.specs.Prelude.{bytes_eq, Ok}
 use Rattle.aout_core.specs.declared.symbol.Segment.TheVariants.{TextSeg, DataSeg, BssSeg}
 use Rattle.aout_core.specs.{declared.symbol.Symbol.Symbol, Contents.Contents, Words.plus, Addresses.data_start_in}
@@ -23,7 +23,7 @@ module _ (ms : List Mention) where
   size_at n = common_size (state ms n)
 
   space_more : (n : List ℕ) (ns : List (List ℕ)) → commons_size ms (n ∷ ns) ≡ size_at n + commons_size ms ns
-  space_more n ns = sum_by-append (λ m. common_size (state ms m)) (n ∷ []) ns ∙ omega arith
+  space_more n ns = sum_by-cons (λ m. common_size (state ms m)) n ns
 
   -- the room before a name in a list
   abbrev before_in : List (List ℕ) → List ℕ → ℕ
@@ -78,10 +78,7 @@ module _ (ms : List Mention) where
 
       by_tests : (t : Bool) → bytes_eq a n ≡ t → (u : Bool) → bytes_eq b n ≡ u → (t || is_among ns a) ≡ true → (u || is_among ns b) ≡ true →
           (is_among ns a ≡ true → is_among ns b ≡ true → Apart ns a b) → Apart (n ∷ ns) a b
-      by_tests true te true ue h k rest =
-          let one : a ≡ n = (bytes_eq-Decides a n).0 te in
-          let two : b ≡ n = (bytes_eq-Decides b n).0 ue in
-          absurd (let bad : true ≡ false = sym ((bytes_eq-Decides a b).1 (one ∙ sym two)) ∙ d in cc)
+      by_tests true te true ue h k rest = search (rules, bytes_eq-Decides)
       by_tests true te false ue h k rest =
           inl (front (before_in (n ∷ ns) a) (before_in (n ∷ ns) b) (size_at n) (size_at a) (before_in ns b) (before_first n ns a te)
           (ap (λ (m : List ℕ). common_size (state ms m)) ((bytes_eq-Decides a n).0 te)) (before_next n ns b ue))
@@ -129,11 +126,7 @@ module _ (forced : List (List ℕ)) (os : List Contents) (o : Choices) (others :
   -- the address does not wrap
   common_place : p.at.bss_end ≤ 65535 → (name : List ℕ) (size : ℕ) → IsCommon forced os name size →
       plus p.at.data_end (common_offset ms name) ≡ p.at.data_end + common_offset ms name
-  common_place fits name size c =
-      small p.at.data_end (common_offset ms name) size (commons_laid o ms) (total BssSeg os) (common_fits name size c) fits
-    where
-      small : (d a n l b : ℕ) → a + n ≤ l → d + l + b ≤ 65535 → plus d a ≡ d + a
-      small d a n l b h k = omega arith
+  common_place fits name size c = grind (arith, common_steps)
 
   common_row : p.at.bss_end ≤ 65535 → (name : List ℕ) (size : ℕ) → IsCommon forced os name size →
       (external_row p name).value ≡ p.at.data_end + common_offset ms name
@@ -152,11 +145,7 @@ module _ (forced : List (List ℕ)) (os : List Contents) (o : Choices) (others :
         after =
             over (external_row p name).value p.at.data_end (common_offset ms name)
             (data_start_in (linked_file p os).header + total DataSeg os) (common_row fits name size c) start;
-        before =
-            under (external_row p name).value p.at.data_end (common_offset ms name)
-            (data_start_in (linked_file p os).header + total DataSeg os) size
-            ((linked_file p os).header.bss_size - total BssSeg os) (commons_laid o ms)
-            (common_row fits name size c) start rest (common_fits name size c);
+        before = search (rules, under, common_row, common_fits);
       }
     where
       over : (v d a s : ℕ) → v ≡ d + a → d ≡ s → s ≤ v
@@ -197,15 +186,12 @@ pub commons_apart : (forced : List (List ℕ)) (os : List Contents) (o : Choices
 commons_apart forced os o x others lays linked a b size more c d different r s found there =
     let file = made_file (plan forced os o) os x linked in
     let one : external_row (plan forced os o) a ≡ r =
-    same a r (sym (entry_there (plan forced os o) os a others (common_known forced os o others lays a size c))
+    same_Some (external_row (plan forced os o) a) r (sym (entry_there (plan forced os o) os a others (common_known forced os o others lays a size c))
     ∙ ap (λ (f : Contents). entry_of f.symbols a) file ∙ found) in
     let two : external_row (plan forced os o) b ≡ s =
-    same b s (sym (entry_there (plan forced os o) os b others (common_known forced os o others lays b more d))
+    same_Some (external_row (plan forced os o) b) s (sym (entry_there (plan forced os o) os b others (common_known forced os o others lays b more d))
     ∙ ap (λ (f : Contents). entry_of f.symbols b) file ∙ there) in
     subst (λ (u : Symbol). (u.value + size ≤ s.value) ⊎ (s.value + more ≤ u.value)) one
     (subst (λ (u : Symbol). ((external_row (plan forced os o) a).value + size ≤ u.value)
     ⊎ (u.value + more ≤ (external_row (plan forced os o) a).value)) two
     (spaces_apart forced os o others lays (made_fits (plan forced os o) os x linked) a b size more c d different))
-  where
-    same : (n : List ℕ) (t : Symbol) → Some (external_row (plan forced os o) n) ≡ Some t → external_row (plan forced os o) n ≡ t
-    same n t e = cc

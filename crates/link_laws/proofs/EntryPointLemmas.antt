@@ -1,6 +1,7 @@
 -- The entry point of a linked file, by its own symbol table.
 use Rattle.std.proofs.Common.{◌≡◌, ◌≢◌, ℕ, Bool, true, false, cond, ◌&&◌, eqb, List, Option, Some, None, refl, sym, ◌∙◌, ap, subst, inl}
 use Rattle.std.proofs.Common.{inr, eqb-true}
+use Rattle.std.proofs.lemmas.Option.{same_Some}
 use Rattle.std.specs.Prelude.{bytes_eq, Ok}
 use Rattle.aout_core.specs.declared.symbol.Segment.TheVariants.{TextSeg, DataSeg, BssSeg}
 use Rattle.aout_core.specs.{declared.symbol.Symbol.Symbol, Contents.Contents, Words.plus}
@@ -50,14 +51,11 @@ entry_made p rows there (Some name) =
     by_tests false ke t te = inr ((λ row e. absurd (let bad : None ≡ Some row = sym ke ∙ e in cc)), refl, refl)
     by_tests true ke false te =
         inr (
-          (λ row e. let same : external_row p name ≡ row = inside (external_row p name) row (sym ke ∙ e) in
+          (λ row e. let same : external_row p name ≡ row = same_Some (external_row p name) row (sym ke ∙ e) in
               ap (λ (s : Symbol). eqb s.type_bits 34) (sym same) ∙ te),
           refl,
           refl,
         )
-      where
-        inside : (a b : Symbol) → Some a ≡ Some b → a ≡ b
-        inside a b e = cc
     by_tests true ke true te = inl (external_row p name, ke, eqb-true _ _ te, text_written p name (state p.mentions name) te, refl)
 
 -- there is one entry word at most, and one name that is bad
@@ -65,10 +63,7 @@ pub entry_once : (rows : List Symbol) (e : Option (List ℕ)) (w v : ℕ) (b c :
     IsEntry rows e v c → (w ≡ v) × (b ≡ c)
 entry_once rows None w v b c h k = (h.0 ∙ sym k.0, h.1 ∙ sym k.1)
 entry_once rows (Some name) w v b c (inl h) (inl k) =
-    (h.3 ∙ ap (λ (r : Symbol). r.value) (inside h.0 k.0 (sym h.1 ∙ k.1)) ∙ sym k.3, h.4 ∙ sym k.4)
-  where
-    inside : (a b : Symbol) → Some a ≡ Some b → a ≡ b
-    inside a b e = cc
+    (h.3 ∙ ap (λ (r : Symbol). r.value) (same_Some h.0 k.0 (sym h.1 ∙ k.1)) ∙ sym k.3, h.4 ∙ sym k.4)
 entry_once rows (Some name) w v b c (inl h) (inr k) =
     absurd (let bad : true ≡ false = sym (ap (λ (n : ℕ). eqb n 34) h.2) ∙ k.0 h.0 h.1 in cc)
 entry_once rows (Some name) w v b c (inr h) (inl k) =

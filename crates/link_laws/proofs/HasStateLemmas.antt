@@ -1,6 +1,6 @@
 -- What the mentions make of a name, told by the mentions alone, is its state.
 use Rattle.std.proofs.Common.{◌≡◌, ℕ, ◌≤◌, max, Bool, true, false, cond, List, [], ◌∷◌, Option, Some, None, refl, sym, ◌∙◌, ap, inl, inr}
-use Rattle.std.proofs.Common.{arith}
+use Rattle.std.proofs.Common.{arith, rules}
 use Rattle.std.proofs.lemmas.Slice.Eq.{bytes_eq-Decides}
 use Rattle.std.specs.{Prelude.bytes_eq, List.AllByRecursion}
 use Rattle.aout_core.specs.{declared.symbol.Segment.Segment, WellFormed.first_of}
@@ -52,10 +52,7 @@ passed_over m name rest leaves = by_test (bytes_eq name m.name) refl m.says refl
 pub first_is : (ms : List Mention) (name : List ℕ) (segment : Segment) (offset : ℕ) → IsFirst ms name segment offset →
     first_definition ms name ≡ Some (segment, offset)
 first_is [] name segment offset h = absurd h
-first_is (m ∷ ms) name segment offset (inl h) =
-    ap (λ (t : Bool). cond t (first_of (definition_by m.says) (first_definition ms name)) (first_definition ms name))
-    ((bytes_eq-Decides name m.name).1 h.0)
-    ∙ ap (λ (s : State). first_of (definition_by s) (first_definition ms name)) h.1
+first_is (m ∷ ms) name segment offset (inl h) = search (rules, bytes_eq-Decides)
 first_is (m ∷ ms) name segment offset (inr h) = passed_over m name (first_definition ms name) h.0 ∙ first_is ms name segment offset h.1
 
 none_is : (ms : List Mention) (name : List ℕ) → AllByRecursion (LeavesOpen name) ms → first_definition ms name ≡ None
@@ -78,10 +75,7 @@ most_wanted (m ∷ ms) name n h = by_test (bytes_eq name m.name) refl m.says ref
         (wanted_size ms name ≤ n → AllByRecursion (WantsAtMost name n) ms) → AllByRecursion (WantsAtMost name n) (m ∷ ms)
     by_test false te s se h rest =
         ((λ same size e. absurd (let bad : false ≡ true = sym te ∙ (bytes_eq-Decides name m.name).1 same in cc)), rest h)
-    by_test true te s se h rest = (
-      (λ same size e. first (size_wanted_by s) (wanted_size ms name) n size h (ap size_wanted_by (sym se ∙ e))),
-      rest (next (size_wanted_by s) (wanted_size ms name) n h),
-    )
+    by_test true te s se h rest = search (rules, first, next)
 
 least_wanted : (ms : List Mention) (name : List ℕ) (n : ℕ) → AllByRecursion (WantsAtMost name n) ms → wanted_size ms name ≤ n
 least_wanted [] name n h = omega arith
@@ -101,11 +95,7 @@ pub has_state : (ms : List Mention) (name : List ℕ) → HasState ms name (stat
 has_state ms name = by_first (first_definition ms name) refl
   where
     by_first : (d : Option Definition) → first_definition ms name ≡ d → HasState ms name (state_by d (wanted_size ms name))
-    by_first None e = record {
-      undefined = has_none ms name e;
-      most = most_wanted ms name (wanted_size ms name) (omega arith);
-      least = least_wanted ms name;
-    }
+    by_first None e = search (rules, has_none, most_wanted, least_wanted)
     by_first (Some d) e = has_first ms name d e
 
 -- at most one state holds of a name

@@ -1,6 +1,6 @@
 -- Links in two layouts differ by where data and bss begin, alone.
 use Rattle.std.proofs.Common.{◌≡◌, ℕ, ◌+◌, ◌*◌, ◌%◌, Bool, true, false, cond, ◌&&◌, eqb, List, [], ◌∷◌, ◌++◌, map, Option, Some, None, refl}
-use Rattle.std.proofs.Common.{sym, ◌∙◌, ap, subst, arith}
+use Rattle.std.proofs.Common.{sym, ◌∙◌, ap, subst, arith, rules}
 use Rattle.std.specs.{Prelude.bytes_eq, Prelude.filter, Prelude.Ok, List.flat_map}
 use Rattle.aout_core.specs.declared.symbol.Segment.TheVariants.{Undefined, Absolute, TextSeg, DataSeg, BssSeg, Other}
 use Rattle.aout_core.specs.{declared.header.Header.Header, declared.symbol.Symbol.Symbol, declared.symbol.Segment.Segment}
@@ -12,10 +12,10 @@ use Rattle.link_session.specs.{declared.state.State.State, declared.state.State.
 use Rattle.link_session.specs.{declared.state.State.TheVariants.Wanted, Earlier.with_earlier, Starts.total, Starts.shift, States.state}
 use Rattle.tool_options.specs.declared.options.Keep.TheVariants.{Nothing}
 use Rattle.tool_options.specs.Choices.{Choices, lays_commons}
-use Rattle.tool_options.specs.{NameLists.is_among, declared.options.Layout.Layout, declared.options.Keep.Keep}
+use Rattle.tool_options.specs.{declared.options.Layout.Layout, declared.options.Keep.Keep}
 use Rattle.link_out.specs.function.Plans.{Plan, plan, commons_laid, common_offset}
 use Rattle.link_out.specs.function.Finals.{final, final_by, type_of, bound_at, waiting}
-use Rattle.link_out.specs.function.Tables.{moved_value, moved_local, local_rows, external_row, external_rows, table, name_bits}
+use Rattle.link_out.specs.function.Tables.{moved_value, moved_local, table, name_bits}
 use Rattle.link_out.specs.function.Tables.{referent_bits, final_relocs}
 use Rattle.link_out.specs.{ReservedNames.etext, ReservedNames.edata, ReservedNames.end_name, KeptSymbols.is_kept_local}
 use Rattle.link_out.specs.{KeptSymbols.rows_kept, function.Reports.entry_word, function.Reports.entry_found_bad, function.Reports.report_of}
@@ -179,11 +179,7 @@ module _ (forced : List (List ℕ)) (os : List Contents) (o : Choices) (layout :
       (filter (is_kept_local o.keep) k.symbols)) (locals_shifted (earlier ++ k ∷ []) ks)
 
   table_shifted : AreShifted g h bss (table p os) (table q os)
-  table_shifted =
-      shifted_kept g h bss o.keep (local_rows p os ++ external_rows p) (local_rows q os ++ external_rows q)
-      (shifted_append g h bss (local_rows p os) (local_rows q os) (external_rows p) (external_rows q) (locals_shifted [] os)
-      (shifted_map g h bss (external_row p) (external_row q)
-      (λ name. shown name (state ms name) (state_is_proper forced os name)) (names_by_first_mention ms)))
+  table_shifted = search (rules, shifted_kept, shifted_append, locals_shifted, shifted_map, shown, state_is_proper)
 
   -- where names are bound, and the entry point
 
@@ -237,11 +233,7 @@ module _ (forced : List (List ℕ)) (os : List Contents) (o : Choices) (layout :
 
   entry_same : (e : Option (List ℕ)) → (entry_word p e ≡ entry_word q e) × (entry_found_bad p e ≡ entry_found_bad q e)
   entry_same None = (refl, refl)
-  entry_same (Some name) = (
-    by_among (is_among (names_by_first_mention ms) name),
-    ap (λ (b : Option Segment). let r : Option (List ℕ) = cond (is_among (names_by_first_mention ms) name && eqb (type_of b) 34)
-        None (Some name) in r) (bound_same name (state ms name)),
-  )
+  entry_same (Some name) = search (rules, by_among, bound_same)
     where
       by_among : (k : Bool) → cond (k && eqb (type_of (final p name).bound) 34) (final p name).address 0
           ≡ cond (k && eqb (type_of (final q name).bound) 34) (final q name).address 0

@@ -1,7 +1,7 @@
 -- The kept locals and the relocation words are those that the relation of linking tells, and no others.
 use Rattle.std.proofs.Common.{◌≡◌, ℕ, zero, suc, ◌+◌, ◌*◌, ◌/◌, ◌%◌, ◌≤◌, Bool, true, false, cond, ◌&&◌, ◌||◌, eqb, List, [], ◌∷◌, ◌++◌}
-use Rattle.std.proofs.Common.{map, length, Option, Some, None, refl, sym, ◌∙◌, ap, subst, arith, append_assoc}
-use Rattle.std.proofs.{lemmas.Bool.ltb-false, lemmas.Bool.ltb-true, lemmas.List.Folds.list_any-append}
+use Rattle.std.proofs.Common.{map, length, Option, Some, None, refl, sym, ◌∙◌, ap, subst, arith, append_assoc, rules}
+use Rattle.std.proofs.{lemmas.Bool.ltb-false, lemmas.Bool.ltb-true, lemmas.List.Folds.list_any-append, lemmas.Option.same_Some}
 use Rattle.std.specs.Prelude.{bytes_eq, filter, slice_get, nat_lt}
 use Rattle.std.specs.List.{flat_map, list_any, AllByRecursion}
 use Rattle.aout_core.specs.declared.symbol.Segment.TheVariants.{Undefined, TextSeg, DataSeg, BssSeg, Other}
@@ -154,25 +154,16 @@ module _ (forced : List (List ℕ)) (os : List Contents) (o : Choices) where
       RefersAmong (names_of (mentions forced os)) (referent_by k number kind) → AreBits rows locals k kind number bits →
       (bits ≡ referent_bits p os (referent_by k number kind)) × (needs_too_large p os (referent_by k number kind) ≡ false)
   bits_are k None number bits known is = absurd is
-  bits_are k (Some kinds.External) number bits known is =
-      let name = is.symbol.name in
-      let mentioned : is_among (names_of (mentions forced os)) name ≡ true =
-      ap (λ (s : Option Symbol). is_among (names_of (mentions forced os)) (name_in s)) (sym is.named) ∙ known in
-      let same : is.row ≡ external_row p name = inside is.row (external_row p name) (sym is.found ∙ there name mentioned) in
-      let here : bits ≡ name_bits (final p name).bound (row_of p os name) =
-      is.are ∙ (λ i. row_bits (same i) (number_same name i))
-      ∙ bits_same name (final p name).written (final p name).bound (placed name) (row_of p os name) in
-      let numbered : (eqb (type_of (final p name).bound % 32) 0 ≡ true) → row_of p os name ≤ 4095 =
-      λ z. subst (λ (m : ℕ). m ≤ 4095) (number_same name) (is.numbered (ap (λ (r : Symbol). eqb (r.type_bits % 32) 0) same ∙ z)) in
-      let large : number_too_large (final p name).bound (row_of p os name) ≡ false =
-      large_same (final p name).bound (placed name) (row_of p os name)
-      ∙ large_of (eqb (type_of (final p name).bound % 32) 0) (row_of p os name) numbered in (
-        here ∙ ap (λ (s : Option Symbol). name_bits (final p (name_in s)).bound (row_of p os (name_in s))) (sym is.named),
-        ap (λ (s : Option Symbol). number_too_large (final p (name_in s)).bound (row_of p os (name_in s))) is.named ∙ large,
-      )
-    where
-      inside : (a b : Symbol) → Some a ≡ Some b → a ≡ b
-      inside a b e = cc
+  bits_are k (Some kinds.External) number bits known is = search (
+    rules,
+    same_Some,
+    there,
+    number_same,
+    bits_same,
+    placed,
+    large_same,
+    large_of,
+  )
   bits_are k (Some kind) number bits known is = (is, refl)
 
   -- relocation words

@@ -1,6 +1,6 @@
 -- The report of a link is the one that the relation of linking tells, and no other.
 use Rattle.std.proofs.Common.{◌≡◌, ℕ, Bool, true, false, cond, not, ◌&&◌, List, [], ◌∷◌, Option, Some, None, refl, sym, ◌∙◌, ap, subst, inl}
-use Rattle.std.proofs.Common.{inr, eqb-true}
+use Rattle.std.proofs.Common.{inr, eqb-true, rules}
 use Rattle.std.proofs.lemmas.Bool.{and_parts}
 use Rattle.std.specs.{Prelude.bytes_eq, Prelude.filter, List.AllByRecursion}
 use Rattle.link_session.specs.States.{Definition, definition_by, first_definition, differs, state}
@@ -77,10 +77,7 @@ other_of ms m known e = by_says m.says refl (first_definition ms m.name) refl
       at = d.1;
       says = se;
       is = has_first ms m.name d de;
-      differ =
-          λ same. absurd (let agree : differs (first_definition ms m.name) m.says ≡ false = ap (λ (s : State).
-          differs (first_definition ms m.name) s) (se ∙ sym same) ∙ own_again (Defined d.0 d.1) (first_definition ms m.name) de in
-          let bad : false ≡ true = sym agree ∙ e in cc);
+      differ = search (rules, own_again);
     }
 
 other_differs : (ms : List Mention) (m : Mention) → IsOther ms m → differs (first_definition ms m.name) m.says ≡ true

@@ -1,6 +1,6 @@
 -- The rows of the externals are those that the relation of linking tells, and no others.
-use Rattle.std.proofs.Common.{◌≡◌, ℕ, ◌+◌, ◌-◌, ◌%◌, ◌≤◌, Bool, true, false, cond, eqb, List, [], ◌∷◌, map, refl, sym, ◌∙◌, ap, subst}
-use Rattle.std.proofs.Common.{arith}
+use Rattle.std.proofs.Common.{◌≡◌, ℕ, ◌+◌, ◌-◌, ◌%◌, ◌≤◌, Bool, true, false, cond, eqb, List, [], ◌∷◌, map, refl, ap}
+use Rattle.std.proofs.Common.{arith, rules}
 use Rattle.std.specs.Prelude.{bytes_eq}
 use Rattle.aout_core.specs.declared.symbol.Segment.TheVariants.{Absolute, TextSeg, DataSeg, BssSeg}
 use Rattle.aout_core.specs.{declared.header.Header.Header, declared.symbol.Symbol.Symbol, Words.plus, Addresses.data_start_in}
@@ -104,18 +104,8 @@ laid_next o b at offset end rest st l = by_test (lays_commons o) refl (space_lai
     by_test : (c : Bool) → lays_commons o ≡ c → space_for o st ≡ cond c (common_size st) 0 →
         (lays_commons o ≡ true → at ≡ b.data_end + offset) → at + cond (lays_commons o) (common_size st + rest) 0 ≡ end →
         IsLaid o b (at + space_for o st) (offset + common_size st) end rest
-    by_test true c r here ends = record {
-      here = λ lays. sum at (space_for o st) (common_size st) b.data_end offset r (here lays);
-      ends =
-          ap (λ (t : Bool). (at + space_for o st) + cond t rest 0) c ∙ all at (space_for o st) (common_size st) rest end r
-          (sym (ap (λ (t : Bool). at + cond t (common_size st + rest) 0) c) ∙ ends);
-    }
-    by_test false c r here ends = record {
-      here = λ lays. absurd (let bad : true ≡ false = sym lays ∙ c in cc);
-      ends =
-          ap (λ (t : Bool). (at + space_for o st) + cond t rest 0) c
-          ∙ all at (space_for o st) 0 0 end r (sym (ap (λ (t : Bool). at + cond t (common_size st + rest) 0) c) ∙ ends);
-    }
+    by_test true c r here ends = search (rules, sum, all)
+    by_test false c r here ends = search (rules, all)
 
 module _ (h : Header) (bss : ℕ) (o : Choices) (b : Bases) (gives_bases : GivesBases h bss b) (ms : List Mention)
     (proper : (name : List ℕ) → IsProper (state ms name)) (end : ℕ) (short : end ≤ 65535) where
@@ -127,31 +117,14 @@ module _ (h : Header) (bss : ℕ) (o : Choices) (b : Bases) (gives_bases : Gives
       nothing : (a e : ℕ) (c : Bool) → a + cond c 0 0 ≡ e → a ≡ e
       nothing a e true f = omega arith
       nothing a e false f = omega arith
-  are_rows (n ∷ ns) at offset l = (
-    state ms n,
-    has_state ms n,
-    sym (row_same h bss o b gives_bases at offset (laid_at o b at offset end (commons_size_in (named_by ms (n ∷ ns))) l short) n
-        (state ms n) (proper n)),
-    are_rows ns (at + space_for o (state ms n)) (offset + common_size (state ms n))
-        (laid_next o b at offset end (commons_size_in (named_by ms ns)) (state ms n) l),
-  )
+  are_rows (n ∷ ns) at offset l = search (rules, has_state, row_same, laid_at, named_by, laid_next, (are_rows ns))
 
   -- and no others
   pub rows_are : (rs : List Symbol) (at offset : ℕ) →
       IsLaid o b at offset end (commons_size_in (named_by ms (map (λ s. s.name) rs))) → AreRows h bss o ms at rs end →
       rs ≡ rows_at (map (λ s. s.name) rs) (finals_from o b offset (named_by ms (map (λ s. s.name) rs)))
   rows_are [] at offset l are = refl
-  rows_are (r ∷ rs) at offset l are =
-      let st : state ms r.name ≡ are.0 = state_is ms r.name are.0 are.1 in
-      let here : r ≡ row_at r.name (final_at o b offset r.name (state ms r.name)) =
-      are.2 ∙ ap (λ (s : State). row_for h bss o at r.name s) (sym st) ∙ row_same h bss o b gives_bases at offset
-      (laid_at o b at offset end (commons_size_in (named_by ms (map (λ s. s.name) (r ∷ rs)))) l short) r.name
-      (state ms r.name) (proper r.name) in
-      let rest : AreRows h bss o ms (at + space_for o (state ms r.name)) rs end =
-      subst (λ (s : State). AreRows h bss o ms (at + space_for o s) rs end) (sym st) are.3 in
-      let more = rows_are rs (at + space_for o (state ms r.name)) (offset + common_size (state ms r.name))
-      (laid_next o b at offset end (commons_size_in (named_by ms (map (λ s. s.name) rs))) (state ms r.name) l) rest in
-      λ i. here i ∷ more i
+  rows_are (r ∷ rs) at offset l are = search (rules, state_is, row_at, row_same, laid_at, named_by, laid_next, (rows_are rs))
 
 -- rows end after the room of their commons
 pub rows_end : (h : Header) (bss : ℕ) (o : Choices) (ms : List Mention) (rs : List Symbol) (at end : ℕ) →
@@ -161,11 +134,7 @@ rows_end h bss o ms [] at end are = nothing at end (lays_commons o) are
     nothing : (a e : ℕ) (c : Bool) → a ≡ e → a + cond c 0 0 ≡ e
     nothing a e true f = omega arith
     nothing a e false f = omega arith
-rows_end h bss o ms (r ∷ rs) at end are =
-    let st : state ms r.name ≡ are.0 = state_is ms r.name are.0 are.1 in
-    let rest = rows_end h bss o ms rs (at + space_for o are.0) end are.3 in
-    both at (space_for o are.0) (common_size (state ms r.name)) (commons_size_in (named_by ms (map (λ s. s.name) rs))) end
-    (lays_commons o) (space_laid o are.0 ∙ ap (λ (s : State). cond (lays_commons o) (common_size s) 0) (sym st)) rest
+rows_end h bss o ms (r ∷ rs) at end are = search (rules, state_is, both, named_by, space_laid, (rows_end h bss o ms rs))
   where
     both : (a r c x e : ℕ) (t : Bool) → r ≡ cond t c 0 → (a + r) + cond t x 0 ≡ e → a + cond t (c + x) 0 ≡ e
     both a r c x e true f g = omega arith

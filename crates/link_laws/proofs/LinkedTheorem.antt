@@ -1,6 +1,6 @@
 -- The relation of linking holds exactly of what a link answers, and of one file and report at most.
 use Rattle.std.proofs.Common.{◌≡◌, ◌↔◌, ℕ, ◌+◌, ◌-◌, ◌*◌, ◌≤◌, Bool, true, false, cond, ◌&&◌, ◌||◌, List, [], ◌∷◌, ◌++◌, map, length}
-use Rattle.std.proofs.Common.{Option, Some, None, refl, sym, ◌∙◌, ap, subst, arith}
+use Rattle.std.proofs.Common.{Option, Some, None, refl, sym, ◌∙◌, ap, subst, arith, rules}
 use Rattle.std.proofs.lemmas.Bool.{ltb-false}
 use Rattle.std.specs.{Prelude.Result, Prelude.Ok, List.AllByRecursion}
 use Rattle.aout_core.specs.declared.symbol.Segment.TheVariants.{TextSeg, DataSeg, BssSeg}
@@ -8,14 +8,14 @@ use Rattle.aout_core.specs.{declared.header.Header.Header, declared.symbol.Symbo
 use Rattle.aout_core.specs.{Addresses.data_start_in}
 use Rattle.link_session.specs.Mentions.{Mention, mentions, names_by_first_mention, externals}
 use Rattle.link_session.specs.{Starts.total, Sessions.IsObject, States.state}
-use Rattle.tool_options.specs.{NameLists.is_among, Choices.Choices, Choices.lays_commons}
+use Rattle.tool_options.specs.{NameLists.is_among, Choices.Choices}
 use Rattle.link_out.specs.function.Plans.{Plan, plan, commons_laid}
 use Rattle.link_out.specs.function.Tables.{local_rows, external_row, external_rows, rows_kept, table, final_reloc, final_relocs}
 use Rattle.link_out.specs.function.Tables.{has_too_large_in, has_number_too_large}
 use Rattle.link_out.specs.function.Reports.{report_of, reserved_names, undefined_names, entry_word, entry_found_bad}
 use Rattle.link_out.specs.internal.InOrder.{finals_from, commons_size_in}
 use Rattle.link_out.specs.function.Link.{Outcome, linked_header, linked_file, link}
-use Rattle.link_out.specs.{declared.linked.LinkFault.LinkFault, Layouts.data_base, function.Words.final_words}
+use Rattle.link_out.specs.{declared.linked.LinkFault.LinkFault, function.Words.final_words}
 use Rattle.link_laws.specs.{relation.Relocated.base_in, relation.Relocated.IsEntry, relation.LinkedTable.AreRows}
 use Rattle.link_laws.specs.{relation.LinkedTable.moved_locals_in, relation.LinkedWords.AreRelocated, relation.LinkedWords.AreKept}
 use Rattle.link_laws.specs.{relation.Reported.ArePicked, relation.Reported.IsReported, relation.LinkedFrom.IsLinkedFrom}
@@ -49,17 +49,7 @@ module _ (forced : List (List ℕ)) (os : List Contents) (o : Choices) where
   header_with symbol_size entry_point = record (linked_header p os) { symbol_size = symbol_size; entry_point = entry_point }
 
   gives_bases : (s e : ℕ) → GivesBases (header_with s e) bss p.at
-  gives_bases s e =
-      let start : data_start_in (header_with s e) ≡ data_base o.layout (total TextSeg os) = sym (data_begun o.layout (total TextSeg os)) in
-      record {
-        text_end = refl;
-        data_start = start;
-        data_end = ap (λ (n : ℕ). n + total DataSeg os) start;
-        bss_start = λ i. start i + total DataSeg os + rest_back (commons_laid o ms) bss i;
-        bss_end =
-            sums (data_start_in (header_with s e)) (data_base o.layout (total TextSeg os)) (total DataSeg os)
-            (commons_laid o ms) bss start;
-      }
+  gives_bases s e = search (rules, data_begun, rest_back, sums)
     where
       sums : (a b d c n : ℕ) → a ≡ b → a + d + (c + n) ≡ b + d + c + n
       sums a b d c n e = omega arith
@@ -103,10 +93,7 @@ module _ (forced : List (List ℕ)) (os : List Contents) (o : Choices) where
         less a b n e f g = omega arith
 
     lies : IsLaid o p.at at 0 end (commons_size_in (named_by ms names))
-    lies = record {
-      here = λ lays. given.data_end ∙ omega arith;
-      ends = (λ i. given.data_end i + cond (lays_commons o) (commons_size-all ms i) 0) ∙ sym given.bss_start;
-    }
+    lies = search (rules, commons_size-all)
 
     shown : AreRows h bss o ms at (external_rows p) end
     shown =
@@ -139,14 +126,7 @@ module _ (forced : List (List ℕ)) (os : List Contents) (o : Choices) where
     linked = record {
       rows = external_rows p;
       holds = file_filled forced os o good;
-      header = record {
-        magic = refl;
-        symbol_size = refl;
-        unused = refl;
-        flag = refl;
-        short = subst (λ (n : ℕ). n ≤ 65535) (sym given.bss_end) fits;
-        few = ltb-false 5461 (length (table p os)) m.few;
-      };
+      header = search (rules, short, fits, ltb-false);
       names = names_of_rows p names;
       are_rows = shown;
       table = ap (λ (ls : List Symbol). rows_kept o.keep (ls ++ external_rows p)) (sym (locals_same forced os o));
@@ -183,44 +163,19 @@ module _ (forced : List (List ℕ)) (os : List Contents) (o : Choices) where
 
     -- the rows' commons and the objects' bytes are bss
     bss_same : g.bss_size ≡ commons_laid o ms + bss
-    bss_same =
-        let space : (data_start_in g + g.data_size)
-        + cond (lays_commons o) (commons_size_in (named_by ms (map (λ s. s.name) l.rows))) 0 ≡ base_in g bss BssSeg =
-        rows_end g bss o ms l.rows (data_start_in g + g.data_size) (base_in g bss BssSeg) l.are_rows in
-        let laid : cond (lays_commons o) (commons_size_in (named_by ms (map (λ s. s.name) l.rows))) 0 ≡ commons_laid o ms =
-        ap (λ (ns : List (List ℕ)). cond (lays_commons o) (commons_size_in (named_by ms ns)) 0) l.names
-        ∙ ap (λ (n : ℕ). cond (lays_commons o) n 0) (commons_size-all ms) in
-        sums (data_start_in g + g.data_size) (cond (lays_commons o) (commons_size_in (named_by ms (map (λ s. s.name) l.rows))) 0)
-        (commons_laid o ms) g.bss_size bss space laid l.holds.bss
+    bss_same = search (rules, named_by, rows_end, commons_size-all, sums)
       where
         sums : (a r c b n : ℕ) → a + r ≡ a + (b - n) → r ≡ c → n ≤ b → b ≡ c + n
         sums a r c b n e f k = omega arith
 
     sizes : g ≡ header_with g.symbol_size g.entry_point
-    sizes = λ i. record {
-      magic = l.header.magic i;
-      text_size = l.holds.text i;
-      data_size = l.holds.data i;
-      bss_size = bss_same i;
-      symbol_size = g.symbol_size;
-      entry_point = g.entry_point;
-      unused = l.header.unused i;
-      flag = l.header.flag i;
-    }
+    sizes = search (rules, bss_same)
 
     gives_back : GivesBases g bss p.at
     gives_back = subst (λ (k : Header). GivesBases k bss p.at) (sym sizes) (gives_bases g.symbol_size g.entry_point)
 
     rows_same : l.rows ≡ external_rows p
-    rows_same =
-        rows_are g bss o p.at gives_back ms proper (base_in g bss BssSeg)
-        (less (data_start_in g + g.data_size) g.bss_size bss l.header.short) l.rows (data_start_in g + g.data_size) 0
-        (record {
-          here = λ lays. gives_back.data_end ∙ omega arith;
-          ends = rows_end g bss o ms l.rows (data_start_in g + g.data_size) (base_in g bss BssSeg) l.are_rows;
-        }) l.are_rows
-        ∙ ap (λ (ns : List (List ℕ)). rows_at ns (finals_from o p.at 0 (named_by ms ns))) l.names
-        ∙ rows_finals
+    rows_same = search (rules, rows_are, gives_back, proper, less, rows_end, rows_at, named_by, rows_finals)
       where
         less : (a b n : ℕ) → a + b ≤ 65535 → a + (b - n) ≤ 65535
         less a b n e = omega arith
@@ -263,15 +218,7 @@ module _ (forced : List (List ℕ)) (os : List Contents) (o : Choices) where
         none (r ∷ rs) e = absurd (omega arith)
 
         by_test : (t : Bool) → o.relocatable ≡ t → AreSame
-        by_test false e = record {
-          text =
-              none x.file.text_reloc (l.text_relocs ∙ ap (λ (t : Bool). cond t (total TextSeg os) 0) e)
-              ∙ sym (ap (λ (t : Bool). let rs : List Reloc = cond t (final_relocs p os TextSeg) [] in rs) e);
-          «data» =
-              none x.file.data_reloc (l.data_relocs ∙ ap (λ (t : Bool). cond t (total DataSeg os) 0) e)
-              ∙ sym (ap (λ (t : Bool). let rs : List Reloc = cond t (final_relocs p os DataSeg) [] in rs) e);
-          numbered = ap (λ (t : Bool). t && has_number_too_large p os) e;
-        }
+        by_test false e = search (rules, none, numbered)
         by_test true e =
             let count : length (moved_locals_in g os o) ≡ length (local_rows p os) = ap (λ (ls : List Symbol). length ls) locals_back in
             let text = kept_whole forced os o x.file TextSeg tt good (l.text_relocs ∙ ap (λ (t : Bool). cond t (total TextSeg os) 0) e)
@@ -281,11 +228,7 @@ module _ (forced : List (List ℕ)) (os : List Contents) (o : Choices) where
             kept_whole forced os o x.file DataSeg tt good (l.data_relocs ∙ ap (λ (t : Bool). cond t (total DataSeg os) 0) e)
             (subst (λ (rs : List Symbol). AreKept x.file rs (length (local_rows p os)) os DataSeg) rows_same
             (subst (λ (n : ℕ). AreKept x.file l.rows n os DataSeg) count (l.data_kept e))) in
-            record {
-              text = text.0 ∙ sym (ap (λ (t : Bool). let rs : List Reloc = cond t (final_relocs p os TextSeg) [] in rs) e);
-              «data» = datas.0 ∙ sym (ap (λ (t : Bool). let rs : List Reloc = cond t (final_relocs p os DataSeg) [] in rs) e);
-              numbered = λ i. e i && (text.1 i || datas.1 i);
-            }
+            search (rules, numbered)
 
     undefined_same : x.report.undefined ≡ cond o.relocatable [] (undefined_names ms)
     undefined_same = by_test o.relocatable refl

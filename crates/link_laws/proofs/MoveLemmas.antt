@@ -1,14 +1,14 @@
 -- How far the segments of objects are moved.
-use Rattle.std.proofs.Common.{◌≡◌, ℕ, ◌+◌, ◌-◌, List, refl, sym, ◌∙◌, ap, arith}
+use Rattle.std.proofs.Common.{◌≡◌, ℕ, ◌+◌, ◌-◌, List, refl, ◌∙◌, ap, arith, rules}
 use Rattle.aout_core.specs.declared.symbol.Segment.TheVariants.{TextSeg, DataSeg, BssSeg}
 use Rattle.aout_core.specs.Addresses.{data_start, data_start_in}
 use Rattle.aout_core.specs.{declared.symbol.Segment.Segment, Contents.Contents, Words.plus, Words.minus}
-use Rattle.link_session.specs.{Starts.total, Starts.own, Mentions.mentions}
+use Rattle.link_session.specs.{Starts.total, Starts.own}
 use Rattle.tool_options.specs.{declared.options.Layout.Layout, declared.options.Layout.TheVariants.Plain}
 use Rattle.tool_options.specs.{declared.options.Layout.TheVariants.Pure, declared.options.Layout.TheVariants.Split, Choices.Choices}
 use Rattle.link_out.specs.Layouts.{data_base, magic_of}
-use Rattle.link_out.specs.{function.Plans.plan, function.Plans.commons_laid, function.Words.move, function.Link.linked_file}
-use Rattle.link_laws.specs.relation.Relocated.{base_in, move_in}
+use Rattle.link_out.specs.{function.Plans.plan, function.Words.move, function.Link.linked_file}
+use Rattle.link_laws.specs.relation.Relocated.{move_in}
 
 sum_moved : (b t n : ℕ) → plus b (minus t n) ≡ minus (b + t) n
 sum_moved b t n = omega arith
@@ -31,9 +31,5 @@ move_by_header forced os o before k TextSeg = sum_moved 0 (total TextSeg before)
 move_by_header forced os o before k DataSeg =
     ap (λ (b : ℕ). plus b (minus (total DataSeg before) (own k DataSeg))) (data_begun o.layout (total TextSeg os))
     ∙ sum_moved (data_start_in (linked_file (plan forced os o) os).header) (total DataSeg before) (own k DataSeg)
-move_by_header forced os o before k BssSeg =
-    let c = commons_laid o (mentions forced os) in
-    (λ i. plus (data_begun o.layout (total TextSeg os) i + total DataSeg os + sym (rest_back c (total BssSeg os)) i)
-    (minus (total BssSeg before) (own k BssSeg)))
-    ∙ sum_moved (base_in (linked_file (plan forced os o) os).header (total BssSeg os) BssSeg) (total BssSeg before) (own k BssSeg)
+move_by_header forced os o before k BssSeg = search (rules, data_begun, rest_back, sum_moved)
 move_by_header forced os o before k segment = refl

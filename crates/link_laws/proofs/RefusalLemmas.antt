@@ -1,6 +1,6 @@
 -- A link is refused exactly where an end, a count or a number is too large.
 use Rattle.std.proofs.Common.{◌≡◌, ◌↔◌, ℕ, zero, suc, ◌+◌, ◌<◌, ◌≤◌, Bool, true, false, cond, ◌&&◌, ◌||◌, eqb, eqb-true, List, [], ◌∷◌}
-use Rattle.std.proofs.Common.{◌++◌, map, length, Option, Some, None, refl, sym, ◌∙◌, ap, subst, arith, inl, inr, ◌⊎◌, length-append}
+use Rattle.std.proofs.Common.{◌++◌, map, length, Option, Some, None, refl, sym, ◌∙◌, ap, subst, arith, inl, inr, ◌⊎◌, length-append, rules}
 use Rattle.std.proofs.{lemmas.Bool.ltb-false, lemmas.Bool.ltb-true, lemmas.Bool.lt-ltb, lemmas.List.length-map, lemmas.List.Folds.list_any-append}
 use Rattle.std.proofs.lemmas.Map.Keys.{any_passes_from_place}
 use Rattle.std.specs.Prelude.{filter, slice_get, nat_lt, Result, Ok, Err}
@@ -78,11 +78,7 @@ commons_are o ms [] space take = take ∙ nothing (lays_commons o)
     nothing : (c : Bool) → (let none : ℕ = 0 in none) ≡ cond c 0 0
     nothing true = refl
     nothing false = refl
-commons_are o ms (n ∷ ns) space take =
-    let st : state ms n ≡ take.0 = state_is ms n take.0 take.1 in
-    both space (space_for o take.0) (common_size (state ms n)) take.2.0 (commons_size_in (named_by ms ns)) (lays_commons o)
-    take.2.1 (space_laid o take.0 ∙ ap (λ (s : State). cond (lays_commons o) (common_size s) 0) (sym st))
-    (commons_are o ms ns take.2.0 take.2.2)
+commons_are o ms (n ∷ ns) space take = search (rules, state_is, both, named_by, space_laid, (commons_are o ms ns take.2.0 take.2.2))
   where
     both : (a r c y x : ℕ) (t : Bool) → a ≡ r + y → r ≡ cond t c 0 → y ≡ cond t x 0 → a ≡ cond t (c + x) 0
     both a r c y x true e f g = omega arith
@@ -337,24 +333,8 @@ module _ (forced : List (List ℕ)) (os : List Contents) (o : Choices) where
       by_tests true te u ue r re v ve h =
           let same : DoesNotFit ≡ fault = same_fault DoesNotFit fault h in
           subst (λ (f : LinkFault). IsRefused forced os o f) same (p.at.bss_end, ends_here, ltb-true 65535 p.at.bss_end te)
-      by_tests false te true ue r re v ve h =
-          let same : TooManySymbols ≡ fault = same_fault TooManySymbols fault h in
-          subst (λ (f : LinkFault). IsRefused forced os o f) same (
-            p.at.bss_end,
-            ends_here,
-            ltb-false 65535 p.at.bss_end te,
-            subst (λ (n : ℕ). 5461 < n) table_long (ltb-true 5461 (length (table p os)) ue),
-          )
-      by_tests false te false ue true re true ve h =
-          let same : SymbolNumber ≡ fault = same_fault SymbolNumber fault h in
-          subst (λ (f : LinkFault). IsRefused forced os o f) same (
-            p.at.bss_end,
-            ends_here,
-            ltb-false 65535 p.at.bss_end te,
-            subst (λ (n : ℕ). n ≤ 5461) table_long (ltb-false 5461 (length (table p os)) ue),
-            re,
-            large_found good re ve,
-          )
+      by_tests false te true ue r re v ve h = search (rules, same_fault, ends_here, ltb-false, table_long, ltb-true)
+      by_tests false te false ue true re true ve h = search (rules, same_fault, ends_here, ltb-false, table_long, large_found)
       by_tests false te false ue true re false ve h = absurd (made_refused _ fault h)
       by_tests false te false ue false re v ve h = absurd (made_refused _ fault h)
 

@@ -1,6 +1,7 @@
 -- The words of a linked file are those of its objects, relocated.
 use Rattle.std.proofs.Common.{◌≡◌, ◌≢◌, ℕ, ◌+◌, ◌*◌, ◌/◌, ◌≤◌, true, cond, List, [], ◌∷◌, ◌++◌, length, Option, Some, None, refl, sym, ◌∙◌}
 use Rattle.std.proofs.Common.{ap, subst, arith}
+use Rattle.std.proofs.lemmas.Option.{same_Some}
 use Rattle.std.specs.{Prelude.slice_get, Prelude.Ok, List.AllByRecursion}
 use Rattle.aout_core.specs.declared.symbol.Segment.TheVariants.{TextSeg, DataSeg, BssSeg}
 use Rattle.aout_core.specs.WellFormed.{kind_of, is_pc_relative, symbol_number, is_wanted, kind_fault}
@@ -69,13 +70,10 @@ module _ (forced : List (List ℕ)) (os : List Contents) (o : Choices) where
     added_is (Some kinds.External) number a known is =
         let slot : is_among (names_of (mentions forced os)) is.symbol.name ≡ true =
         ap (λ (s : Option Symbol). is_among (names_of (mentions forced os)) (name_in s)) (sym is.named) ∙ known in
-        let same : is.row ≡ external_row p is.symbol.name = inside is.row (external_row p is.symbol.name)
+        let same : is.row ≡ external_row p is.symbol.name = same_Some is.row (external_row p is.symbol.name)
         (sym is.found ∙ there is.symbol.name (is_among-externals (mentions forced os) is.symbol.name ∙ slot)) in
         is.gives ∙ ap address_in same ∙ row_address forced os o is.symbol.name
         ∙ ap (λ (s : Option Symbol). (final p (name_in s)).address) (sym is.named)
-      where
-        inside : (a b : Symbol) → Some a ≡ Some b → a ≡ b
-        inside a b e = cc
 
     word_same : (segment : Segment) (w : ℕ) (r : Reloc) →
         minus (plus w (referent_move p before k (referent k r)))

@@ -1,6 +1,6 @@
 -- What the entries of objects say of names, and the mentions that they make: multiples are definitions that differ.
 use Rattle.std.proofs.Common.{◌≡◌, ◌↔◌, ℕ, zero, suc, ◌+◌, Bool, true, false, cond, ◌||◌, List, [], ◌∷◌, ◌++◌, map, length, Option, Some}
-use Rattle.std.proofs.Common.{None, refl, sym, ◌∙◌, ap, subst, append_assoc}
+use Rattle.std.proofs.Common.{None, refl, sym, ◌∙◌, ap, subst, append_assoc, rules}
 use Rattle.std.proofs.lemmas.Slice.Eq.{bytes_eq-Decides}
 use Rattle.std.specs.{Prelude.bytes_eq, Prelude.filter, Prelude.slice_get, Prelude.Ok, List.AllByRecursion}
 use Rattle.aout_core.specs.WellFormed.{is_external, segment_of, first_of}
@@ -156,10 +156,7 @@ module _ (forced : List (List ℕ)) (os : List Contents) (name : List ℕ) where
             at_two = offset;
             first = said_of g.0 d.0 d.1 g.1;
             second = said_of h segment offset se;
-            differ = λ same. absurd (let agree : differs (first_definition ms name) h.m.says ≡ false =
-                ap (λ (s : State). differs (first_definition ms name) s) (se ∙ sym same)
-                ∙ own_again (Defined d.0 d.1) (first_definition ms name) de in
-                let bad : false ≡ true = sym agree ∙ e in cc);
+            differ = search (rules, own_again);
           }
 
   -- where each mention of a name agrees, what an entry says is its first definition

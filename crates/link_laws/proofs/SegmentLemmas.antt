@@ -1,7 +1,7 @@
 -- The words of a segment of the objects, one after another, and what is made of each.
-use Rattle.std.proofs.Common.{◌≡◌, ℕ, zero, suc, ◌+◌, ◌*◌, ◌/◌, List, [], ◌∷◌, ◌++◌, map, length, Option, Some, None, refl, sym, ◌∙◌, ap}
-use Rattle.std.proofs.Common.{subst, arith, length-append, append_assoc, append-nil, inl, inr, ◌⊎◌}
-use Rattle.std.proofs.{lemmas.List.length-map, lemmas.List.Sums.sum_by-append}
+use Rattle.std.proofs.Common.{◌≡◌, ℕ, zero, suc, ◌+◌, ◌*◌, ◌/◌, List, [], ◌∷◌, ◌++◌, map, length, Option, Some, None, refl, ◌∙◌, ap}
+use Rattle.std.proofs.Common.{subst, arith, append-nil, inl, inr, ◌⊎◌, rules}
+use Rattle.std.proofs.{lemmas.Grind.common_steps, lemmas.List.length-map, lemmas.List.Sums.sum_by-append}
 use Rattle.std.specs.{Prelude.slice_get, List.AllByRecursion}
 use Rattle.aout_core.specs.declared.symbol.Segment.TheVariants.{TextSeg, DataSeg}
 use Rattle.aout_core.specs.WellFormed.{word_fault, first_of, first_bad_word}
@@ -25,14 +25,8 @@ HasWords DataSeg = Unit {0}
 HasWords _ = ⊥
 
 object_words : (segment : Segment) → HasWords segment → (o : Contents) → IsObject o → 2 * length (words_of segment o) ≡ size_of segment o
-object_words TextSeg has o h =
-    let relocs : 2 * length o.text_reloc ≡ o.header.text_size = h.fits.text_relocation ∙ with_all o h.well o.header.text_size in
-    ap (λ (n : ℕ). 2 * n) (zip_length o.text_words o.text_reloc
-    (both_as_long (length o.text_words) (length o.text_reloc) o.header.text_size h.fits.text relocs)) ∙ h.fits.text
-object_words DataSeg has o h =
-    let relocs : 2 * length o.data_reloc ≡ o.header.data_size = h.fits.data_relocation ∙ with_all o h.well o.header.data_size in
-    ap (λ (n : ℕ). 2 * n) (zip_length o.data_words o.data_reloc
-    (both_as_long (length o.data_words) (length o.data_reloc) o.header.data_size h.fits.data relocs)) ∙ h.fits.data
+object_words TextSeg has o h = search (rules, with_all, zip_length, both_as_long)
+object_words DataSeg has o h = search (rules, with_all, zip_length, both_as_long)
 object_words segment has o h = absurd has
 
 half : (n t : ℕ) → 2 * n ≡ t → n ≡ t / 2
@@ -51,11 +45,7 @@ module _ {A : Type 0} (g : List Contents → Contents → ℕ → Reloc → A) (
       let here : length (made earlier o) ≡ length (words_of segment o) = length-map (words_of segment o) (λ wr. g earlier o wr.0 wr.1) in
       let size : 2 * length (words_of segment o) ≡ size_of segment o = object_words segment has o h.0 in
       let rest : 2 * length (blocks made (earlier ++ o ∷ []) os) ≡ total segment os = made_length has (earlier ++ o ∷ []) os h.1 in
-      let both : length (blocks made earlier (o ∷ os)) ≡ length (made earlier o) + length (blocks made (earlier ++ o ∷ []) os) =
-      length-append (made earlier o) (blocks made (earlier ++ o ∷ []) os) in
-      sums (length (blocks made earlier (o ∷ os))) (length (made earlier o)) (length (words_of segment o))
-      (length (blocks made (earlier ++ o ∷ []) os)) (size_of segment o) (total segment os) both here size rest
-      ∙ sym (sum_by-append (size_of segment) (o ∷ []) os)
+      grind (arith, common_steps, blocks, sums, sum_by-append)
     where
       sums : (n a w b s t : ℕ) → n ≡ a + b → a ≡ w → 2 * w ≡ s → 2 * b ≡ t → 2 * n ≡ (0 + s) + t
       sums n a w b s t e f g h = omega arith
@@ -103,20 +93,7 @@ module _ {A : Type 0} (g : List Contents → Contents → ℕ → Reloc → A) (
         place = omega arith;
         found = ap (λ (es : List Contents). slice_get (made es k) i) (append-nil before) ∙ h;
       }
-      by_block (inr h) rest =
-          let b = rest h.0 h.2 in
-          record {
-            earlier = k ∷ b.earlier;
-            k = b.k;
-            later = b.later;
-            split = ap (λ (xs : List Contents). k ∷ xs) b.split;
-            j = b.j;
-            place =
-                sums i (length (made before k)) h.0 (length (blocks made (before ++ k ∷ []) b.earlier)) b.j
-                (length (blocks made before (k ∷ b.earlier))) h.1 b.place
-                (length-append (made before k) (blocks made (before ++ k ∷ []) b.earlier));
-            found = ap (λ (es : List Contents). slice_get (made es b.k) b.j) (sym (append_assoc before (k ∷ []) b.earlier)) ∙ b.found;
-          }
+      by_block (inr h) rest = grind (arith, common_steps, sums, blocks)
 
   -- a list of that length with each of these at its place is this one
   pub made_whole : HasWords segment → (os : List Contents) → AllByRecursion IsObject os → (xs : List A) → 2 * length xs ≡ total segment os →
@@ -134,10 +111,7 @@ module _ {A : Type 0} (g : List Contents → Contents → ℕ → Reloc → A) (
           (all_split IsObject b.earlier (b.k ∷ b.later) (subst (λ (zs : List Contents). AllByRecursion IsObject zs) b.split good)).0 in
           let n : length (blocks made [] b.earlier) ≡ total segment b.earlier / 2 =
           half (length (blocks made [] b.earlier)) (total segment b.earlier) (made_length has [] b.earlier front) in
-          let back = get_back (λ wr. g b.earlier b.k wr.0 wr.1) (words_of segment b.k) b.j y b.found in
-          ap (λ (m : ℕ). slice_get xs m) (b.place ∙ ap (λ (m : ℕ). m + b.j) n)
-          ∙ each b.earlier b.k b.later b.split b.j back.0.0 back.0.1 back.1
-          ∙ ap (λ (z : A). let o : Option A = Some z in o) (sym back.2)
+          search (rules, get_back)
 
 -- the kind and number of a word of an object are fine
 no_fault : (symbols : List Symbol) (n : ℕ) (rs : List Reloc) (i : ℕ) (r : Reloc) → first_bad_word symbols n rs ≡ None →

@@ -1,7 +1,7 @@
 -- The undefined names of a linked file: those that are reported have no address, and where none is each has one.
 use Rattle.std.proofs.Common.{◌≡◌, ◌≢◌, ℕ, ◌%◌, Bool, true, false, cond, not, ◌&&◌, ◌||◌, eqb, List, [], ◌∷◌, Some, None, refl, sym, ◌∙◌}
-use Rattle.std.proofs.Common.{ap, subst}
-use Rattle.std.proofs.lemmas.Slice.Eq.{bytes_eq-Decides}
+use Rattle.std.proofs.Common.{ap, rules}
+use Rattle.std.proofs.{lemmas.Option.same_Some, lemmas.Slice.Eq.bytes_eq-Decides}
 use Rattle.std.specs.Prelude.{bytes_eq, filter, Ok}
 use Rattle.aout_core.specs.declared.symbol.Segment.TheVariants.{Undefined, TextSeg, DataSeg, BssSeg, Other}
 use Rattle.aout_core.specs.{declared.symbol.Symbol.Symbol, Contents.Contents, Words.plus, WellFormed.masked_type}
@@ -55,12 +55,6 @@ bound_by p name (Wanted size) h r u =
     by_tests a false false e d u = refl
 bound_by p name (Defined segment offset) h r u = refl
 
-no_row : (row : Symbol) → None ≡ Some row → ⊥
-no_row row e = cc
-
-same_row : (one other : Symbol) → Some one ≡ Some other → one ≡ other
-same_row one other e = cc
-
 -- without relocation, and if no name is undefined, each row gives an address
 pub names_have_addresses : (forced : List (List ℕ)) (os : List Contents) (o : Choices) (x : Outcome) →
     o.keep ≢ Nothing → o.relocatable ≡ false → link forced os o ≡ Ok x → x.report.undefined ≡ [] →
@@ -76,13 +70,8 @@ names_have_addresses forced os o x others plain linked none name row e =
 
     by_test : (t : Bool) → is_among (names_by_first_mention (mentions forced os)) name ≡ t →
         cond t (Some (external_row (plan forced os o) name)) None ≡ Some row → eqb (masked_type row) 0 ≡ false
-    by_test false k f = absurd (no_row row f)
-    by_test true k f =
-        let same : external_row (plan forced os o) name ≡ row = same_row (external_row (plan forced os o) name) row f in
-        subst (λ (s : Symbol). eqb (masked_type s) 0 ≡ false) same
-        (bound_by (plan forced os o) name (state (mentions forced os) name) (state_is_proper forced os name) plain
-        (none_filtered (λ n. is_undefined (state (mentions forced os) n) && not (is_among reserved_names n))
-        (names_by_first_mention (mentions forced os)) name undefined k))
+    by_test false k f = absurd (cc)
+    by_test true k f = search (rules, same_Some, bound_by, state_is_proper, none_filtered, undefined)
 
 -- names that are reported
 
