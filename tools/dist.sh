@@ -181,7 +181,7 @@ manual() {
     mkdir -p "$debian/tmp/manual/tests/programs" "$debian/tmp/manual/build" "$debian/tmp/manual/man"
     cp tests/programs/manual.sh "$debian/tmp/manual/tests/programs"
     cp -r "$debian$share/doc/v7/examples" "$debian/tmp/manual"
-    inside sh -euc 'cd /tmp/manual && cp "$1"/man/man[15]/v7* man && { gunzip -q man/*.gz 2>/dev/null || :; }
+    inside sh -euc 'cd /tmp/manual && cp "$1"/man/man[157]/v7* man && { gunzip -q man/*.gz 2>/dev/null || :; }
         for program in v7 v7-from-gnu v7-object v7-explain v7-lesson; do ln -s "$(command -v $program)" build; done
         sh tests/programs/manual.sh man/* "$1/doc/v7/README.md" "$1/doc/v7/docs/RESTORING.md"' sh "$share" || fail "an example of the manual differs"
     # the folder has no Python
@@ -190,7 +190,7 @@ manual() {
 }
 
 # a page of a teacher's own: three sources, which the assembler of the release takes outside, since Python is not there, and questions; a
-# wrong line is named
+# wrong line of either is named
 lessons() {
     rm -rf "$debian/tmp/own"
     mkdir "$debian/tmp/own"
@@ -203,6 +203,9 @@ lessons() {
     inside sh -euc 'cd /tmp/own && v7-lesson -p "$0/v7/page" -q mine.txt menu.o stop.o room.o >page.html && grep -q "<script" page.html' "$share" || fail "no page of three sources"
     said=$(inside sh -c 'cd /tmp/own && v7-lesson -p "$0/v7/page" -q wrong.txt menu.o 2>&1' "$share")
     [ "$said" = "v7-lesson: wrong.txt: line 3: a number is in no braces, and in no quotation" ] || fail "a wrong line: $said"
+    printf 'start:\tmov r0,r1\n\tjsx pc,_x\n' >"$debian/tmp/own/wrong.s"
+    said=$(cd "$debian/tmp/own" && python3 "$debian$share/doc/v7/examples/asm.py" wrong.s 2>&1)
+    [ "$said" = "wrong.s:2:2: there is no instruction jsx" ] || fail "a wrong line of a source: $said"
     echo "a page of three sources and a file of questions"
 }
 

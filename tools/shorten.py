@@ -103,9 +103,11 @@ def parts(proof):
         if at and not is_let:
             last = end_of(proof, first, depth + 1)
             yield first, last, line[:at] + " ", ";" * proof[last].endswith(";")
-            yield from ((first, k - 1, line[:at] + " ", "") for k in range(first, last) if proof[k].strip() == "where")
+            yield from ((first, k - 1, line[:at] + " ", "") for k in range(first, last) if proof[k] == " " * (depth + 2) + "where")
         elif at:
-            last = next((k for k in range(first, len(proof)) if proof[k].endswith(" in")), first)
+            last = next((k for k in range(first, len(proof)) if re.search(r" in(?: \W| record \{)?$", proof[k])), first)
+            if not proof[last].endswith(" in"):
+                continue
             yield first, last, line[:at] + " ", " in"
             if last + 1 < len(proof) and indent(proof[last + 1]) == depth:
                 end = end_of(proof, last + 1, depth)

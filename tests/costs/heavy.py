@@ -1,6 +1,7 @@
 """Makes the objects of a heavy link, and counts by valgrind the instructions of linking them, plain and with -i; with the least time
-of a processor in 60 runs. Then counts those of one object more that is added to a session and withdrawn, in a session without objects
-and in one of all these. tests/costs/counting.py says how.
+of a processor in 60 runs, the calls by which the program reads and writes, and its page faults. Then counts the instructions of one
+object more that is added to a session and withdrawn, in a session without objects and in one of all these. tests/costs/counting.py
+says how.
 
 There are 200 objects with 65,000 bytes of text. Each defines 20 names, and 12,869 words refer to names of other objects,
 taken by a sequence of numbers that is the same each time. With -i the objects have 65,000 bytes of data more.
@@ -8,7 +9,7 @@ taken by a sequence of numbers that is the same each time. With -i the objects h
 import glob
 import sys
 
-from tests.costs.counting import counted, is_installed, milliseconds
+from tests.costs.counting import counted, ended, is_installed, milliseconds
 from tests.lib.files import room, write
 from tests.lib.objects import pack
 from tests.lib.programs import program
@@ -65,7 +66,8 @@ def measure(v7, options, has_data):
     run, instructions = counted(command)
     if run.returncode != 0:
         sys.exit(f"the link ended with status {run.returncode}: {run.stderr}")
-    return f"{instructions} instructions, {milliseconds(command):.2f} ms"
+    used, (reads, writes) = ended(command)
+    return f"{instructions} instructions, {milliseconds(command):.2f} ms, {reads} reads, {writes} writes, {used.ru_minflt} page faults"
 
 
 def edited(v7, path, objects):

@@ -62,7 +62,7 @@ class Work:
     """What a command does, in a folder of its own."""
 
     def __init__(self, programs, folder):
-        self.v7, self.explain, self.from_gnu, self.to_object = programs
+        self.v7, self.explain, self.from_gnu, self.to_object, self.lesson = programs
         self.folder = folder
 
     def object(self, name, words=(), symbols=()):
@@ -84,9 +84,9 @@ class Work:
         """One object more, each of 100 words and 10 names."""
         return [self.object(f"o{number}.o", PLAIN, names(10 * number, 10)) for number in range(count + 1)]
 
-    def convert(self, *files):
+    def convert(self, *files, options=("-q",)):
         os.mkdir(f"{self.folder}/converted")
-        return [self.from_gnu, "-q", "-o", "converted", *files], ""
+        return [self.from_gnu, *options, "-o", "converted", *files], ""
 
     def link(self, *files):
         return [self.v7, "ld", "-s", "-o", "out", *files], ""
@@ -172,13 +172,31 @@ class Work:
             files.append(self.gnu_object(f"o{number}.o", [*PLAIN[1:], reference(10)], symbols))
         return self.convert(*files)
 
-    def symbols(self, size):
+    def symbols(self, size, options=("-q",)):
         """Converts an object in GNU's form of so many symbols, each second one a local, and three words for each. A word refers to
         one of the others, of the first 4,096 symbols."""
         rows = [(name, *((LOCAL, 2 * number) if number % 2 else (WANTED, 0))) for number, (name, _, _) in enumerate(long_names(0, size))]
         most = min(size, 4096) // 2
         words = [reference(2 * (7 * number % most)) for number in range(3 * size)]
-        return self.convert(self.gnu_object("symbols.o", words, rows))
+        return self.convert(self.gnu_object("symbols.o", words, rows), options=options)
+
+    def locals(self, size):
+        """The same with -X, which keeps a local only if a word refers to it, and with what there is to say of names."""
+        return self.symbols(size, ("-X",))
+
+    def nested(self, size):
+        """Says what the file in the innermost of folders one in another is. Their paths have so many bytes in all."""
+        path = "folder"
+        os.mkdir(f"{self.folder}/{path}")
+        for _ in range(math.isqrt(size)):
+            path += "/f"
+            os.mkdir(f"{self.folder}/{path}")
+        self.object(f"{path}/in.o", PLAIN)
+        return [self.explain, "-l", "-R", "folder"], ""
+
+    def steps(self, size):
+        """Shows what each step of a lesson changes, with so many objects of 100 words and 10 names."""
+        return [self.lesson, "-c", *self.of_words(size)], ""
 
     def read_back(self, size):
         """Makes an object of the listing of so many words, each of which refers to a name of its own, up to 4,096."""
@@ -206,6 +224,9 @@ KINDS = {
     "mapped": [341, 1365, 2730, MOST_SYMBOLS],
     "converted": [20, 80, 160, 320],
     "symbols": [341, 1365, 2730, MOST_SYMBOLS],
+    "locals": [341, 1365, 2730, MOST_SYMBOLS],
+    "nested": [16384, 65536, 131072, 262144],
+    "steps": [3, 12, 24, 48],
     "read_back": [512, 2048, 8192, MOST_WORDS],
 }
 # their status is 1: an addition is refused, or names stay undefined
@@ -251,7 +272,7 @@ def line(programs, kind):
 def main(*kinds):
     if not is_installed():
         return
-    programs = [program(name) for name in ("v7", "v7-explain", "v7-from-gnu", "v7-object")]
+    programs = [program(name) for name in ("v7", "v7-explain", "v7-from-gnu", "v7-object", "v7-lesson")]
     print("how instructions grow: the exponent, and the instructions at four sizes")
     with ThreadPoolExecutor(os.cpu_count()) as pool:
         for row in pool.map(lambda kind: line(programs, kind), kinds or KINDS):

@@ -240,8 +240,8 @@ def shown(kind):
         same("status", status, int(kind.startswith("bad")))
 
 
-def rows(words, start, letter):
-    """Words in rows of eight, as `-s` and `-x` show them."""
+def rows(words, start, letter, labels):
+    """Words in rows of eight, as `-s` and `-x` show them, with the labels of each."""
     def at(place):
         return f"{place % 65536:06o}" if letter == "s" else f"{place % 65536:04x}"
 
@@ -251,8 +251,16 @@ def rows(words, start, letter):
         shown_text = "".join(chr(byte) if 32 <= byte < 127 else "." for byte in text)
         return f"{''.join(numbers):{56 if letter == 's' else 48}}  {shown_text}"
 
-    for row, alike in itertools.groupby(tuple(words[place:place + 8]) for place in range(0, len(words), 8)):
-        more = len(list(alike)) - 1
+    shown_rows, labelled = [], 0
+    for place in range(0, len(words), 8):
+        row = tuple(words[place:place + 8])
+        before = labels((start + 2 * place) % 65536, len(row))
+        labelled += bool(before)
+        shown_rows.append((labelled, row, before))
+    for (_, row), alike in itertools.groupby(shown_rows, lambda shown_row: shown_row[:2]):
+        first, *others = alike
+        more = len(others)
+        yield from first[2]
         yield f"{at(start)} {line(row)}"
         if more == 1:
             yield f"/ {at(start + 16)}: the row before, once"
@@ -261,13 +269,15 @@ def rows(words, start, letter):
         start += 16 * (more + 1)
 
 
-def dumped(data, letter):
-    """The lines of a file in a dump, without its notes."""
+def dumped(data, symbols, letter):
+    """The lines of a file in a dump, without its notes, with the labels of these symbols."""
     file = notes.File(data)
     start = {0o410: (file.text + 8191) // 8192 * 8192, 0o411: 0}.get(file.magic, file.text)
-    for name, size, begin, place in (("text", file.text, 0, 16), ("data", file.data_size, start, file.data_at)):
+    for name, of, size, begin, place in (("text", 2, file.text, 0, 16), ("data", 3, file.data_size, start, file.data_at)):
         yield f"/ {name}: {size} bytes from {begin % 65536:0{6 if letter == 's' else 4}{'o' if letter == 's' else 'x'}}"
-        yield from rows(struct.unpack_from(f"<{size // 2}H", data, place), begin, letter)
+        yield from rows(struct.unpack_from(f"<{size // 2}H", data, place), begin, letter, lambda at, count: symbols.labels(at, count, of))
+        yield from symbols.labels((begin + size) % 65536, 0, of)
+    yield from symbols.labels((start + file.data_size) % 65536, 32768, 4)
 
 
 def shown_in_rows(kind):
@@ -277,7 +287,7 @@ def shown_in_rows(kind):
         status, text, errors = answer("v7-explain", f"-{letter}", *written(files))
         same("errors", errors, "")
         lines = [line for line in text.split("\n")[:-1] if not re.match(r"/ (\d+\.o: 0|an? |wrong: )", line)]
-        same(f"rows of -{letter}", lines, [line for data in files.values() for line in dumped(data, letter)])
+        same(f"rows of -{letter}", lines, [line for data, file in zip(files.values(), KINDS[kind]) for line in dumped(data, file, letter)])
         same("status", status, int(kind.startswith("bad")))
 
 

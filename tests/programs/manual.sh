@@ -15,7 +15,7 @@ build=$(realpath "${V7_BUILD:-build}")
 for program in v7 v7-from-gnu v7-object v7-explain v7-lesson; do
     [ -x "$build/$program" ] || { echo "$build/$program is missing: make build/$program makes it"; exit 2; }
 done
-[ $# -gt 0 ] || set -- man/*.1 man/*.5 README.md CONTRIBUTING.md examples/*.md docs/*.md docs/*/*.md
+[ $# -gt 0 ] || set -- man/*.1 man/*.5 man/*.7 README.md CONTRIBUTING.md examples/*.md docs/*.md docs/*/*.md
 room=$(mktemp -d)
 trap 'rm -rf "$room"' EXIT
 PATH=$build:$PATH

@@ -5,7 +5,7 @@ The terminal is a pseudo-terminal, by the module `pty`. What is expected here is
 v7-session(1). Options are those of the manual pages. Random command lines, always the same, show that a reason is given for those
 that v7 refuses, and for no others.
 
-tier: check, 25 seconds; programs: v7; for: crates/v7 crates/command_words man/v7.1 man/v7-session.1
+tier: check, 25 seconds; programs: v7 v7-explain v7-from-gnu v7-object; for: crates/v7 crates/command_words crates/v7_object crates/v7_from_gnu man/v7.1 man/v7-session.1
 """
 import os
 import pty
@@ -19,6 +19,7 @@ from tests.lib.files import TOP, read, room, write
 from tests.lib.programs import program, ran
 
 TOOLS = ["ld", "nm", "session", "size", "strip"]
+BESIDE = ["v7-object", "v7-from-gnu"]
 SECONDS = 10
 RANDOM_LINES = 400
 
@@ -189,26 +190,47 @@ def without_input(words):
 
 # --- help and version
 
-def options_of(tool):
-    """The options of a tool in its manual page, each with its argument."""
-    items = re.findall(r"^\.It Fl (\w)(?: Ar (\w+))?", read(f"{TOP}/man/v7-{tool}.1"), re.M)
+def options_of(manual):
+    """The options of a manual page, each with its argument."""
+    items = re.findall(r"^\.It Fl (\w)(?: Ar (\w+))?", read(f"{TOP}/man/{manual}.1"), re.M)
     return {f"-{letter} {argument.upper()}".strip() for letter, argument in items}
 
 
-def check_page(words, tool, page):
+def check_text(words, named, manual, page):
     """A page has the usage, each option of the manual and no other one, two examples that run, and where the manual is."""
-    named = f"v7 {tool}" if tool else "v7"
     holds(f"{words}: usage", page.startswith(f"usage: {named} "))
-    manual = f"v7-{tool}" if tool else "v7"
     holds(f"{words}: manual", page.endswith(f"The manual is {manual}(1): man {manual}\n") and os.path.exists(f"{TOP}/man/{manual}.1"))
     shown = {option.strip() for option in re.findall(r"^  (-\w(?: [A-Z]+)?)  ", page, re.M)}
-    same(f"{words}: options", shown, options_of(tool) if tool not in (None, "session") else set())
-    if tool is None:
-        same(f"{words}: commands", re.findall(r"^  (\w+)  +\w", page, re.M), TOOLS)
-    examples = re.findall(r"^  (v7 .*)$", page.partition("examples:\n")[2], re.M)
+    same(f"{words}: options", shown, options_of(manual) if manual not in ("v7", "v7-session") else set())
+    examples = re.findall(r"^  (\w.*)$", page.partition("examples:\n")[2], re.M)
     same(f"{words}: examples", len(examples), 2)
     holds(f"{words}: 80 columns", all(len(line) <= 80 for line in page.split("\n")))
     return examples
+
+
+def check_page(words, tool, page):
+    """The page of a tool, or of v7, which lists its commands."""
+    if tool is None:
+        same(f"{words}: commands", re.findall(r"^  (\w+)  +\w", page.partition("examples:\n")[0], re.M), TOOLS)
+    return check_text(words, f"v7 {tool}" if tool else "v7", f"v7-{tool}" if tool else "v7", page)
+
+
+def check_beside():
+    """The help of the programs beside v7, anywhere before `--`. Their options may follow the paths."""
+    examples = set()
+    for name in BESIDE:
+        for words in (["--help"], ["x", "--help"], ["-q", "--help", "--"]):
+            status, page, error = ran(program(name), *words)
+            same(f"{name} {words}: standard error and status", (error, status), (b"", 0))
+            examples.update(check_text(f"{name} {words}", name, name, plain(page)))
+    return sorted(examples)
+
+
+def run_example(command):
+    """An example of a page ends with 0, and reports nothing."""
+    path = f"{os.path.dirname(program('v7'))}:{os.environ['PATH']}"
+    status, _, err = ran("sh", "-c", command, env={**os.environ, "PATH": path})
+    same(f"example: {command}", (status, err), (0, b""))
 
 
 def check_help():
@@ -221,13 +243,11 @@ def check_help():
     version = re.search(r'^#define V7_VERSION "(.*)"', read(f"{TOP}/include/v7.h"), re.M)[1]
     notices(same, "--version", at_terminal(["--version"]), ("", f"v7 {version}\n", 1))
     same("--version", at_terminal(["--version"]), ("", f"v7 {version}\n", 0))
-    for command in sorted(examples):
-        path = f"{os.path.dirname(program('v7'))}:{os.environ['PATH']}"
-        status, _, err = ran("sh", "-c", command, env={**os.environ, "PATH": path})
-        same(f"example: {command}", (status, err), (0, b""))
+    for command in [*sorted(examples), *check_beside()]:
+        run_example(command)
     for words in [words for words, _ in HELP] + [["--version"]]:
         same(f"{words}: through pipes", through_pipes(words), ("v7: usage\n", "", 2))
-    return len(HELP) + 1
+    return len(HELP) + 1 + 3 * len(BESIDE)
 
 
 # --- why arguments are refused
