@@ -28,7 +28,7 @@ use Rattle.suspicions.specs.declared.evidence.Evidence.TheVariants.{Flow, Promis
 use Rattle.suspicions.specs.Reached.{reached, is_reached, is_text}
 use Rattle.suspicions.specs.{ReachedLaw.IsReached, ReachedLaw.Evident, ReachedLaw.Led, SureLaw.NoneIsSure}
 use Rattle.suspicions.specs.Suspicions.{suspicions, is_foreign}
-use Rattle.suspicions.proofs.ReachLemmas.{reached_places}
+use Rattle.suspicions.proofs.ReachLemmas.{reached_law}
 use Rattle.laws.specs.{OperandPlaces.addressing_of, ReachedInstructions.BeginsInstruction, ReachedInstructions.kind_said}
 use Rattle.laws.specs.CleanPrograms.{IsRun, TextSymbol, RefersToOwnText, RefersToText, JumpsTo, JumpsToText, KeepsParent, IsClean, Begins}
 use Rattle.laws.specs.CleanPrograms.{IsOfObject, CleanObjectsMakeCleanPrograms}
@@ -52,10 +52,10 @@ abbrev Each : Contents → (ℕ → Type 0) → Type 0
 Each k Q = (place : ℕ) → IsReached Promise k place → Q place
 
 each : (k : Contents) (Q : ℕ → Type 0) → AllByRecursion Q (reached Promise k) → Each k Q
-each k Q all place r = each_of Q (reached Promise k) place ((reached_places Promise k place).1 r) all
+each k Q all place r = each_of Q (reached Promise k) place ((reached_law Promise k place).1 r) all
 
 unreached : (k : Contents) (place : ℕ) → is_reached Promise k place ≡ false → IsReached Promise k place → ⊥
-unreached k place none r = let bad : true ≡ false = sym ((reached_places Promise k place).1 r) ∙ none in absurd cc
+unreached k place none r = let bad : true ≡ false = sym ((reached_law Promise k place).1 r) ∙ none in absurd cc
 
 words_so : (k : Contents) → list_all (λ (w : ℕ). nat_lt w 65536) k.text_words ≡ true → AllByRecursion IsWord k.text_words
 words_so k h = all_so (λ (w : ℕ). nat_lt w 65536) IsWord (λ w e. ltb-true w 65536 e) k.text_words h

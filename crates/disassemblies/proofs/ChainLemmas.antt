@@ -124,11 +124,6 @@ none_first of ss count b i e =
 pub none_next : (of : Symbol → ℕ) (ss : List Symbol) (next : List ℕ) → AreNext of ss (length ss) next
 none_next of ss next j from i e s f = let past : slice_get ss j ≡ None = slice_get_past ss j from in absurd cc
 
--- where a walk begins, and where it goes after a symbol of the bucket
-pub begins : (of : Symbol → ℕ) (ss : List Symbol) (first : List ℕ) (b i : ℕ) → AreFirst of ss 0 first →
-    slice_get first b ≡ Some i → i ≡ place_of of b ss
-begins of ss first b i h e = let found : i ≡ 0 + place_of of b ss = h b i e in omega arith
-
 goes : (of : Symbol → ℕ) (b : ℕ) (ss : List Symbol) (place next : ℕ) (s : Symbol) → slice_get ss place ≡ Some s →
     IsIn of b ss place → IsNext of ss place next → next ≡ suc place + place_of of b (drop (suc place) ss)
 goes of b ss place next s e is goes_to =

@@ -32,7 +32,7 @@ use Rattle.suspicions.specs.{ReachedLaw.is_place, ReachedLaw.IsReached, ReachedL
 use Rattle.suspicions.specs.Reached.{is_text, named, nameless, branch_of, leads_by, leads_to, jump, jump_of, jump_by, is_own_distance}
 use Rattle.suspicions.specs.{Reached.is_own_address, SureLaw.IsInside, SureLaw.AreInside, SureLaw.targets}
 use Rattle.suspicions.specs.Suspicions.{is_foreign, is_immediate}
-use Rattle.suspicions.proofs.{ReachLemmas.reached_places, SureLemmas.sure_below, SureLemmas.sure_places, SureLemmas.sure_words}
+use Rattle.suspicions.proofs.{ReachLemmas.reached_law, SureLemmas.sure_below, SureLemmas.sure_places, SureLemmas.sure_words}
 use Rattle.laws.specs.{Core.of_instructions, Core.IsWordAt, Operands.Defines, OperandWords.machine_value}
 use Rattle.laws.specs.OperandPlaces.{addressing_of, IsDirect, kind_meant, IsOwnByte, IsNamedByte}
 use Rattle.laws.specs.ReachedInstructions.{kind_said, HasOperandSaid}
@@ -273,7 +273,7 @@ module _ (forced : List (List ℕ)) (before : List Contents) (k : Contents) (aft
     (kept : o.keep ≢ Nothing) (l : IsLinkedFrom forced (before ++ k ∷ after) o x) (once : x.report.multiples ≡ [])
     (small : x.file.header.text_size ≤ 65535) (i : ℕ) (r : IsReached Promise k i) where
   sure : is_sure Promise k i ≡ true
-  sure = and_from (is_reached Promise k i) true ((reached_places Promise k i).1 r) refl
+  sure = and_from (is_reached Promise k i) true ((reached_law Promise k i).1 r) refl
 
   still : is_relocated (slice_get k.text_reloc i) ≡ false
   still = (sure_words Promise k clean.quiet i sure).0

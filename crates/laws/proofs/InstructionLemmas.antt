@@ -63,9 +63,6 @@ moves_low rs i r at e = low_bits (eqb (r.0 % 16) 0) r.0 refl (sym (ap is_relocat
 
 module _ (forced : List (List ℕ)) (os : List Contents) (o : Choices) (x : Outcome) (all : AllByRecursion IsObject os)
     (l : IsLinkedFrom forced os o x) where
-  start : List Contents → ℕ
-  start before = total TextSeg before / 2
-
   -- each word of the text of k, and what is in its place
   pub linked_pairs : (before : List Contents) (k : Contents) (after : List Contents) → os ≡ before ++ k ∷ after → IsObject k →
       Pairs (IsLinkedWord x.file l.rows os before k) 0 k.text_words (drop (total TextSeg before / 2) x.file.text_words)

@@ -5,7 +5,6 @@ pub mod EachLemmas
 pub mod MapLemmas
 pub mod MemoryLemmas
 pub mod NumberLemmas
-pub mod ListingLemmas
 pub mod GnuLemmas
 pub mod RemarkLemmas
 pub mod KeptLemmas

@@ -2,12 +2,7 @@
 use Rattle.std.proofs.Common.{◌≡◌, ℕ, ◌+◌, Option, List, [], ◌∷◌, ◌++◌, length, ap, ◌∙◌, append_assoc, length-append}
 use Rattle.aout_core.specs.declared.header.Header.{Header}
 use Rattle.findings.specs.Found.{Found}
-use Rattle.library_calls.specs.{RemarkAnswers.records_from, RemarkAnswers.texts_of, declared.remarks_call.RemarkRecord.RemarkRecord}
-
--- the text of one more
-pub text_put : (old new : List ℕ) (f : Found) (fs all : List Found) → new ≡ old ++ f.text →
-    old ++ texts_of (f ∷ fs) ≡ texts_of all → new ++ texts_of fs ≡ texts_of all
-text_put old new f fs all grown before = ap (λ (t : List ℕ). t ++ texts_of fs) grown ∙ append_assoc old f.text (texts_of fs) ∙ before
+use Rattle.library_calls.specs.{RemarkAnswers.records_from, declared.remarks_call.RemarkRecord.RemarkRecord}
 
 -- its record
 pub record_put : (h : Option Header) (old new : List RemarkRecord) (texts more : List ℕ) (r : RemarkRecord) (f : Found) (fs all : List Found) →

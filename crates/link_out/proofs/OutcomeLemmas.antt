@@ -2,10 +2,10 @@
 use Rattle.std.proofs.Common.{◌≡◌, ℕ, ◌≤◌, false, ◌&&◌, List, length, ap, rules}
 use Rattle.std.proofs.lemmas.Bool.{ltb-false}
 use Rattle.aout_core.specs.{Contents.Contents}
-use Rattle.std.specs.Prelude.{Ok, Err, nat_lt}
-use Rattle.link_out.specs.{declared.linked.LinkFault.LinkFault, function.Plans.Plan, function.Tables.table}
+use Rattle.std.specs.Prelude.{Ok, nat_lt}
+use Rattle.link_out.specs.{function.Plans.Plan, function.Tables.table}
 use Rattle.link_out.specs.{function.Tables.has_number_too_large, function.Reports.report_of, function.Link.Outcome}
-use Rattle.link_out.specs.{function.Link.linked_file, function.Link.link_by, Outcomes.IsLinkOf}
+use Rattle.link_out.specs.{function.Link.linked_file, function.Link.link_by}
 
 -- what a link that no fault refuses passed, and what it gives
 pub record IsMade (p : Plan) (os : List Contents) (x : Outcome) : Type 0 where
@@ -37,7 +37,3 @@ made_fits p os x h = ltb-false 65535 p.at.bss_end (made p os x h).short
 -- a number that is at most the limit is not over it
 pub not_over : (m n : ℕ) → n ≤ m → nat_lt m n ≡ false
 not_over m n h = search rules
-
--- a refusal is the answer to a link that is refused
-pub refused_link : (p : Plan) (os : List Contents) (fault : LinkFault) → link_by p os ≡ Err fault → IsLinkOf (Err fault) (link_by p os)
-refused_link p os fault h = search rules

@@ -8,7 +8,7 @@ use Rattle.aout_core.specs.{declared.symbol.Segment.Segment, Contents.Contents, 
 use Rattle.link_session.specs.{declared.cell.Cell.Cell, declared.cell.Target.Target, declared.state.State.State}
 use Rattle.link_session.specs.{Cells.cells}
 use Rattle.link_session.specs.{Cells.words_of, Image.image, Image.named_states, Mentions.names_of}
-use Rattle.link_session.specs.{Sessions.IsObject, States.state}
+use Rattle.link_session.specs.{Sessions.IsObject}
 use Rattle.link_session.proofs.{CellLemmas.AllReferAmong, AdditionLemmas.well_formed, WellFormedLemmas.objects_refer}
 use Rattle.tool_options.specs.Choices.{Choices, lays_commons}
 use Rattle.link_out.specs.function.Finals.{final_by}
@@ -23,9 +23,6 @@ module _ (p : Plan) (kept : p.choices.relocatable ≡ true) where
   -- a name is bound by its state as it is in the end
   bound_by : (name : List ℕ) (s : State) → kept_bound (lays_commons p.choices) s ≡ (final_by p name s).bound
   bound_by name s = search rules
-
-  abbrev named : List ℕ → List ℕ × State
-  named n = (n, state p.mentions n)
 
   bound_at_place : (i : ℕ) →
       kept_bound_of (lays_commons p.choices) (slice_get (named_states p.mentions) i) ≡ bound_of (slice_get (finals p) i)

@@ -7,7 +7,7 @@ use Rattle.link_session.specs.internal.Bindings.{Bindable, bindable_in, settled,
 use Rattle.link_session.specs.internal.Bindings.{BindsAt, BindsTo}
 use Rattle.link_session.specs.{declared.bind.Definition.Definition, declared.cell.Cell.Cell, declared.mark.Mark.Mark}
 use Rattle.link_session.specs.{declared.mark.Place.Place, declared.merged.Merged.Merged, declared.state.State.State}
-use Rattle.link_session.specs.{declared.state.State.TheVariants.Defined, declared.state.State.TheVariants.Wanted, Image.Image, Image.Named}
+use Rattle.link_session.specs.{declared.state.State.TheVariants.Defined, declared.state.State.TheVariants.Wanted, Image.Named}
 use Rattle.link_session.specs.{Image.state_at, internal.Additions.bound_by, internal.Additions.bound_or, internal.Counts.NotesBound}
 use Rattle.link_session.specs.{internal.Restores.LeavesMarks, internal.Settled.settled_at, internal.Settled.settled_over}
 use Rattle.link_session.specs.{internal.Threads.Threads, internal.Threads.cut_by_state, internal.Threads.cut_heads}
@@ -183,9 +183,6 @@ none_defined m k size wanted = search (rules, unsettled)
 -- One external after another.
 
 module _ (old mid new : Merged) (marks mid_marks new_marks : List Mark) (r : KeepsRest old mid) where
-  names_same : mid.externals.entries ≡ old.externals.entries
-  names_same = ap (λ (x : Image). x.externals) r.image
-
   -- the marks of one external and of those after it, in turn, undo all that was bound
   pub back_then : HoldsChains old → HoldsChains mid → LeavesMarksIn old mid marks mid_marks →
       LeavesMarksIn mid new mid_marks new_marks → LeavesMarksIn old new marks new_marks

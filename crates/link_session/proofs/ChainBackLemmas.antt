@@ -8,7 +8,7 @@ use Rattle.link_session.specs.internal.Chains.{Link, is_on, IsWithin, bound_wher
 use Rattle.link_session.specs.{declared.cell.Cell.Cell, declared.mark.Mark.Mark, declared.mark.Mark.TheVariants.CellWas}
 use Rattle.link_session.specs.{declared.mark.Mark.TheVariants.StateWas, declared.mark.Place.Place, declared.mark.Place.TheVariants.InText}
 use Rattle.link_session.specs.{declared.mark.Place.TheVariants.InData, Image.Image, Undo.put_all_back, Undo.IsInside}
-use Rattle.link_session.proofs.UndoLemmas.{put_back_all, put_back-old, AreOf, IsMarked, text_writes, data_writes}
+use Rattle.link_session.proofs.WriteBackLemmas.{written_back, written_back-old, AreOf, IsWritten, text_writes, data_writes}
 use Rattle.link_session.proofs.ChainLemmas.{length-bound_where, other_number}
 
 get_unbound : (test : ℕ → Bool) (segment : Segment) (offset : ℕ) (cs : List Cell) (i : ℕ) → test i ≡ false →
@@ -36,53 +36,53 @@ module _ (texts datas : List Cell) where
   datas_are_old (InText i ∷ ps) h = datas_are_old ps h.1
   datas_are_old (InData i ∷ ps) h = (get_inside datas i h.0, datas_are_old ps h.1)
 
-  text_marked : (ps : List Place) (i : ℕ) → is_on ps (InText i) ≡ true → IsMarked i (text_writes (marks_of texts datas ps))
-  text_marked [] i e = absurd (cc)
-  text_marked (InText j ∷ ps) i e = search (rules, cases_eq, text_writes, other_number, text_marked ps i)
-  text_marked (InData j ∷ ps) i e = text_marked ps i e
+  text_written : (ps : List Place) (i : ℕ) → is_on ps (InText i) ≡ true → IsWritten i (text_writes (marks_of texts datas ps))
+  text_written [] i e = absurd (cc)
+  text_written (InText j ∷ ps) i e = search (rules, cases_eq, text_writes, other_number, text_written ps i)
+  text_written (InData j ∷ ps) i e = text_written ps i e
 
-  data_marked : (ps : List Place) (i : ℕ) → is_on ps (InData i) ≡ true → IsMarked i (data_writes (marks_of texts datas ps))
-  data_marked [] i e = absurd (cc)
-  data_marked (InText j ∷ ps) i e = data_marked ps i e
-  data_marked (InData j ∷ ps) i e = by_order (cases_eq i j) (data_marked ps i)
+  data_written : (ps : List Place) (i : ℕ) → is_on ps (InData i) ≡ true → IsWritten i (data_writes (marks_of texts datas ps))
+  data_written [] i e = absurd (cc)
+  data_written (InText j ∷ ps) i e = data_written ps i e
+  data_written (InData j ∷ ps) i e = by_order (cases_eq i j) (data_written ps i)
     where
-      by_order : (i ≡ j) ⊎ (i ≡ j → ⊥) → (is_on ps (InData i) ≡ true → IsMarked i (data_writes (marks_of texts datas ps))) →
-          (j ≡ i) ⊎ IsMarked i (data_writes (marks_of texts datas ps))
+      by_order : (i ≡ j) ⊎ (i ≡ j → ⊥) → (is_on ps (InData i) ≡ true → IsWritten i (data_writes (marks_of texts datas ps))) →
+          (j ≡ i) ⊎ IsWritten i (data_writes (marks_of texts datas ps))
       by_order (inl same) rest = inl (sym same)
       by_order (inr ne) rest = inr (rest (ap (λ (t : Bool). t || is_on ps (InData i)) (sym (other_number i j ne)) ∙ e))
 
   -- marks of cells write cells alone
   only_cells : (ps : List Place) (m : Image) → put_all_back (marks_of texts datas ps) m ≡ (record m {
-    text_cells = put_back_all (text_writes (marks_of texts datas ps)) m.text_cells;
-    data_cells = put_back_all (data_writes (marks_of texts datas ps)) m.data_cells;
+    text_cells = written_back (text_writes (marks_of texts datas ps)) m.text_cells;
+    data_cells = written_back (data_writes (marks_of texts datas ps)) m.data_cells;
   })
   only_cells [] m = refl
   only_cells (InText i ∷ ps) m = cc (only_cells ps m)
   only_cells (InData i ∷ ps) m = cc (only_cells ps m)
 
   module _ (segment : Segment) (offset : ℕ) (ps : List Place) (h : Inside ps) where
-    text_back : put_back_all (text_writes (marks_of texts datas ps)) (bound_where (λ i. is_on ps (InText i)) segment offset texts) ≡ texts
+    text_back : written_back (text_writes (marks_of texts datas ps)) (bound_where (λ i. is_on ps (InText i)) segment offset texts) ≡ texts
     text_back =
-        put_back-old (text_writes (marks_of texts datas ps)) texts (bound_where (λ i. is_on ps (InText i)) segment offset texts)
+        written_back-old (text_writes (marks_of texts datas ps)) texts (bound_where (λ i. is_on ps (InText i)) segment offset texts)
         (texts_are_old ps h) (length-bound_where (λ i. is_on ps (InText i)) segment offset texts)
         (λ i. by_test i (is_on ps (InText i)) refl)
       where
         by_test : (i : ℕ) (t : Bool) → is_on ps (InText i) ≡ t →
             (slice_get (bound_where (λ j. is_on ps (InText j)) segment offset texts) i ≡ slice_get texts i)
-            ⊎ IsMarked i (text_writes (marks_of texts datas ps))
-        by_test i true e = inr (text_marked ps i e)
+            ⊎ IsWritten i (text_writes (marks_of texts datas ps))
+        by_test i true e = inr (text_written ps i e)
         by_test i false e = inl (get_unbound (λ j. is_on ps (InText j)) segment offset texts i e)
 
-    data_back : put_back_all (data_writes (marks_of texts datas ps)) (bound_where (λ i. is_on ps (InData i)) segment offset datas) ≡ datas
+    data_back : written_back (data_writes (marks_of texts datas ps)) (bound_where (λ i. is_on ps (InData i)) segment offset datas) ≡ datas
     data_back =
-        put_back-old (data_writes (marks_of texts datas ps)) datas (bound_where (λ i. is_on ps (InData i)) segment offset datas)
+        written_back-old (data_writes (marks_of texts datas ps)) datas (bound_where (λ i. is_on ps (InData i)) segment offset datas)
         (datas_are_old ps h) (length-bound_where (λ i. is_on ps (InData i)) segment offset datas)
         (λ i. by_test i (is_on ps (InData i)) refl)
       where
         by_test : (i : ℕ) (t : Bool) → is_on ps (InData i) ≡ t →
             (slice_get (bound_where (λ j. is_on ps (InData j)) segment offset datas) i ≡ slice_get datas i)
-            ⊎ IsMarked i (data_writes (marks_of texts datas ps))
-        by_test i true e = inr (data_marked ps i e)
+            ⊎ IsWritten i (data_writes (marks_of texts datas ps))
+        by_test i true e = inr (data_written ps i e)
         by_test i false e = inl (get_unbound (λ j. is_on ps (InData j)) segment offset datas i e)
 
     -- the marks of a chain put back in an image in which it was bound
@@ -90,8 +90,8 @@ module _ (texts datas : List Cell) where
         m.data_cells ≡ bound_where (λ i. is_on ps (InData i)) segment offset datas →
         put_all_back (marks_of texts datas ps) m ≡ (record m { text_cells = texts; data_cells = datas })
     chain_back m t d = only_cells ps m ∙ (λ i. record m {
-      text_cells = (ap (put_back_all (text_writes (marks_of texts datas ps))) t ∙ text_back) i;
-      data_cells = (ap (put_back_all (data_writes (marks_of texts datas ps))) d ∙ data_back) i;
+      text_cells = (ap (written_back (text_writes (marks_of texts datas ps))) t ∙ text_back) i;
+      data_cells = (ap (written_back (data_writes (marks_of texts datas ps))) d ∙ data_back) i;
     })
 
     -- they lie inside the image

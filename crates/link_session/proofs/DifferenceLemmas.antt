@@ -2,7 +2,7 @@
 use Rattle.std.proofs.Common.{◌≡◌, ◌≢◌, ◌<◌, ◌+◌, ℕ, zero, suc, Bool, true, false, not, ◌||◌, ◌&&◌, cond, List, [], ◌∷◌, ◌++◌, map}
 use Rattle.std.proofs.Common.{length, Some, slice_index_or, nat_lt, refl, sym, ap, ◌∙◌, subst, arith, rules}
 use Rattle.std.proofs.lemmas.Bool.{lt-ltb, or_parts}
-use Rattle.std.proofs.{lemmas.List.length-map, lemmas.Slice.Eq.bytes_eq-Decides}
+use Rattle.std.proofs.{lemmas.List.length-map, lemmas.Option.slice_get_within, lemmas.Slice.Eq.bytes_eq-Decides}
 use Rattle.std.specs.{Prelude.bytes_eq, Prelude.slice_get, List.AllByRecursion}
 use Rattle.aout_core.specs.Contents.{Contents}
 use Rattle.link_session.specs.Image.{Image, Named, image, named_states}
@@ -22,7 +22,7 @@ use Rattle.link_session.proofs.MentionedLemmas.{keys-named_states, state_for-nam
 use Rattle.link_session.proofs.UpdateLemmas.{own_name, state_mention}
 use Rattle.link_session.proofs.{AdditionLemmas.joined_image-is, AdditionLemmas.next_mentions-in, ChainLemmas.own_number}
 use Rattle.link_session.proofs.{ChainLemmas.other_number, ListLemmas.get_append, ListLemmas.get_mapped, ListLemmas.index_get}
-use Rattle.link_session.proofs.{MarkedLemmas.states_marked-append, UndoLemmas.slice_get-below}
+use Rattle.link_session.proofs.MarkedLemmas.{states_marked-append}
 use Rattle.tool_options.proofs.NameListLemmas.{is_among-append}
 
 -- Cells.
@@ -211,5 +211,5 @@ taken_difference forced os o heads marks good b = record {
     kept : (forced : List (List ℕ)) (os : List Contents) (i : ℕ) (name : List ℕ) →
         slice_get (externals forced os) i ≡ Some name → i < length (image forced os).externals
     kept forced os i name there =
-        let below = slice_get-below (externals forced os) i name there in
+        let below = slice_get_within (externals forced os) i name there in
         let same = length-map {B = List ℕ × State} (externals forced os) (λ n. (n, state (mentions forced os) n)) in omega arith

@@ -2,7 +2,7 @@
 use Rattle.std.proofs.lemmas.Grind.{common_steps}
 use Rattle.std.proofs.Common.{◌≡◌, ◌≤◌, ℕ, List, [], ◌∷◌, ◌++◌, map, length, refl, sym, ap, ◌∙◌, subst, arith, append_assoc, rules}
 use Rattle.std.proofs.Common.{append-nil}
-use Rattle.std.proofs.lemmas.List.{length-replicate, length-map}
+use Rattle.std.proofs.{lemmas.List.length-replicate, lemmas.List.length-map, lemmas.Option.slice_get_within}
 use Rattle.std.specs.List.{AllByRecursion}
 use Rattle.aout_core.specs.{declared.symbol.Symbol.Symbol, declared.symbol.Segment.Segment, Contents.Contents}
 use Rattle.link_session.specs.Mentions.{Mention, mention, mentions, mentions_in, externals, externals_in, names_of, names_by_first_mention}
@@ -18,7 +18,7 @@ use Rattle.link_session.proofs.AdditionLemmas.{WaitsAmong, cells_wait, next_name
 use Rattle.link_session.proofs.HeadLemmas.{cut_all, more_heads, grown_chained, length-cut_heads, length-grown_heads, length-threaded_heads}
 use Rattle.link_session.proofs.{EarlierLemmas.with_earlier-append, MentionLemmas.names_of-map, MentionedLemmas.length-with_mentions}
 use Rattle.link_session.proofs.{WellFormedLemmas.objects_refer, ListLemmas.all_append, ListLemmas.all_split, ListLemmas.all_map}
-use Rattle.link_session.proofs.{UndoLemmas.slice_get-below, PushLemmas.new_chain, ChainedLemmas.WaitsBelow, ChainedLemmas.all_text}
+use Rattle.link_session.proofs.{PushLemmas.new_chain, ChainedLemmas.WaitsBelow, ChainedLemmas.all_text}
 use Rattle.link_session.proofs.{ChainedLemmas.all_data, CoverLemmas.all_covered}
 use Rattle.aout_core.specs.declared.symbol.Segment.TheVariants as segments
 
@@ -55,7 +55,7 @@ datas_last texts datas cs t a h =
 
 -- a cell that waits for one of the names waits below their number
 waits_below : (ms : List Mention) (t : Target) → WaitsAmong ms t → WaitsBelow (length (names_by_first_mention ms)) t
-waits_below ms t h = search (rules, slice_get-below)
+waits_below ms t h = search (rules, slice_get_within)
 
 module _ (forced : List (List ℕ)) (os : List Contents) (o : Contents) (good : AllByRecursion IsObject os) where
   abbrev es : Named

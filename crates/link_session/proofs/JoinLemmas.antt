@@ -12,7 +12,7 @@ use Rattle.link_session.specs.internal.Additions.{next_limit, next_shifts, next_
 use Rattle.link_session.specs.{declared.relocate.Shifts.Shifts, Image.Image, Image.Named, declared.cell.Cell.Cell, declared.mark.Mark.Mark}
 use Rattle.link_session.specs.{internal.Chains.Link, internal.Counts.NotesBound, Undo.undo}
 use Rattle.tool_options.specs.NameLists.{new_names}
-use Rattle.link_session.proofs.WithdrawalLemmas.{heads_back-after_states, heads_alone_back}
+use Rattle.link_session.proofs.ThreadBackLemmas.{heads_back-after_states, heads_alone_back}
 use Rattle.link_session.proofs.{MentionedLemmas.length-with_mentions, LimitLemmas.new_count-le, TotalLemmas.within_limit}
 use Rattle.link_session.proofs.{TakenBackLemmas.taken_back, TakenBackLemmas.bound_alone, MentionLemmas.names_of-map}
 

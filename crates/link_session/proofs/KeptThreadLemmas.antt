@@ -7,7 +7,7 @@ use Rattle.link_session.specs.internal.Threads.{IsThreaded, KeepsThreads}
 use Rattle.link_session.specs.{declared.mark.Mark.Mark, Image.image, Sessions.IsObject, internal.Chains.heads_back}
 use Rattle.link_session.proofs.JournalLemmas.{journal_empty, journal_push, journal_pop}
 use Rattle.link_session.proofs.HistoryLemmas.{threads_push, threaded_of}
-use Rattle.link_session.proofs.{AdditionLemmas.joined_image-is, WithdrawalLemmas.threads_back}
+use Rattle.link_session.proofs.{AdditionLemmas.joined_image-is, ThreadBackLemmas.threads_back}
 
 -- kept threads hold the chains of the image
 pub kept_threaded : (forced : List (List ℕ)) (os : List Contents) (journal : List (List Mark)) (t : Threads) →

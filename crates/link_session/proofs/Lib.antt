@@ -1,3 +1,6 @@
+-- If `e : a ≡ b` and `f : c ≡ d`, then `λ i. F (e i) (f i)` shows `F a c ≡ F b d`. With `subst (λ P. P)` it turns a proof of `F a c` into
+-- one of `F b d`.
+
 pub mod ListLemmas
 pub mod WordLemmas
 pub mod EarlierLemmas
@@ -13,13 +16,11 @@ pub mod BoundLemmas
 pub mod UpdateLemmas
 pub mod PlaceLemmas
 pub mod PlainLemmas
-pub mod PutBackLemmas
 pub mod MentionedLemmas
 pub mod LimitLemmas
 pub mod NewNameLemmas
 pub mod TotalLemmas
 pub mod AdditionLemmas
-pub mod BackLemmas
 pub mod JoinLemmas
 pub mod SessionLemmas
 pub mod ChainLemmas
@@ -28,22 +29,17 @@ pub mod WaitLemmas
 pub mod PushLemmas
 pub mod ChainedLemmas
 pub mod WalkLemmas
-pub mod UndoLemmas
-pub mod ChainBackLemmas
 pub mod ThreadLemmas
 pub mod MarkedLemmas
 pub mod DifferenceLemmas
 pub mod ChangedLemmas
-pub mod RestoreLemmas
 pub mod NamesLemmas
 pub mod EmptyChainLemmas
 pub mod CoverLemmas
 pub mod HeadLemmas
 pub mod HistoryLemmas
-pub mod WithdrawalLemmas
 pub mod KeptThreadLemmas
 pub mod FewLemmas
-pub mod TakenBackLemmas
 pub mod PlacedLemmas
 pub mod PlacedCellLemmas
 pub mod ExternalLemmas
@@ -51,3 +47,11 @@ pub mod AgreementLemmas
 pub mod NeighbourLemmas
 pub mod BindingLemmas
 pub mod EditLemmas
+-- How marks take an addition back: lists, states, the cells of a chain, links and heads, the loop of `undo`, chains, a whole object.
+pub mod WriteBackLemmas
+pub mod StateBackLemmas
+pub mod ChainBackLemmas
+pub mod ThreadBackLemmas
+pub mod PutBackLemmas
+pub mod RestoreLemmas
+pub mod TakenBackLemmas

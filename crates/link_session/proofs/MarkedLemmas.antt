@@ -1,5 +1,5 @@
 -- What marks hold of one place: those of chains and of mentions, and of two lists of marks together.
-use Rattle.std.proofs.Common.{◌≡◌, ℕ, Bool, true, false, not, ◌&&◌, cond, List, [], ◌∷◌, ◌++◌, nat_eq, refl}
+use Rattle.std.proofs.Common.{◌≡◌, ℕ, Bool, true, cond, List, [], ◌∷◌, ◌++◌, nat_eq, refl}
 use Rattle.std.proofs.Common.{rules}
 use Rattle.aout_core.specs.declared.symbol.Segment.{Segment}
 use Rattle.link_session.specs.Marks.{cells_marked, states_marked}
@@ -46,10 +46,6 @@ chain_marked texts datas [] apart p = refl
 chain_marked texts datas (q ∷ ps) apart p = search (rules, same_is, chain_marked texts datas ps apart.1 p)
 
 -- Cells that get bound.
-
--- a cell is not bound and left alone at once
-pub none_bound : (t : Bool) → (t && not t) ≡ false
-none_bound t = search rules
 
 -- a cell that waits is bound, or it stays
 pub bound_held : (k : ℕ) (segment : Segment) (offset : ℕ) (c : Cell) (is_bound : Bool) → (is_bound ≡ true → c.target ≡ External k) →

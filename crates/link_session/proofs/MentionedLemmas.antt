@@ -87,9 +87,6 @@ state_for-named_states ms name =
         after_place (state ms) (names_by_first_mention ms) name h
         ∙ sym (unmentioned ms name (sym (is_among-externals ms name) ∙ h))
 
-abbrev one : List ℕ → State → Named
-one name s = (name, s) ∷ []
-
 -- one more mention
 pub with_mention-named_states : (ms : List Mention) (m : Mention) → with_mention (named_states ms) m ≡ named_states (ms ++ m ∷ [])
 with_mention-named_states ms m = search (

@@ -90,7 +90,3 @@ restores_then texts datas mid_texts mid_datas new_texts new_datas heads mid_head
   no_states,
   states_marked-append,
 )
-
--- nothing changes and nothing is marked
-pub nothing_left : (texts datas : List Cell) (heads : List Link) (old : List Mark) → LeavesMarks texts datas heads texts datas heads old old
-nothing_left texts datas heads old = search rules

@@ -157,7 +157,7 @@ module _ (forced : List (List ℕ)) (es : List Labelled) (undo_records : List Un
       joined : m ≡ joined_image (image forced (objects es)) e.object
       joined = now ∙ sym (joined_image-is forced (objects es) e.object earlier_good)
 
-  -- the fields after a withdrawal
+  -- the fields after a withdrawal: that its marks take the object back was proved at its addition, and the journal has kept it
   pub withdrawn_session : IsSession forced es undo_records (undo undo_record.marks.items m (image forced (objects es)))
       (with_heads_back undo_record.marks.items (threads_by undo_record.sizes m t))
   withdrawn_session = record {

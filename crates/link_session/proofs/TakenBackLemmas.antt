@@ -12,8 +12,8 @@ use Rattle.link_session.specs.{internal.Counts.NotesBound, internal.Threads.boun
 use Rattle.link_session.specs.{internal.Threads.next_datas, internal.Restores.Restores, internal.Restores.TakesBack}
 use Rattle.link_session.specs.{internal.Restores.HoldBound}
 use Rattle.link_session.proofs.{ListLemmas.all_append, MarkedLemmas.cells_marked-append, MarkedLemmas.states_marked-append}
-use Rattle.link_session.proofs.{MarkedLemmas.no_cells, MarkLemmas.put_all_back-append, MarkLemmas.cut_front, BackLemmas.mentions_back}
-use Rattle.link_session.proofs.{BackLemmas.states_inside, BackLemmas.states_few, WithdrawalLemmas.heads_back-after_states}
+use Rattle.link_session.proofs.{MarkedLemmas.no_cells, MarkLemmas.put_all_back-append, MarkLemmas.cut_front, StateBackLemmas.mentions_back}
+use Rattle.link_session.proofs.{StateBackLemmas.states_inside, StateBackLemmas.states_few, ThreadBackLemmas.heads_back-after_states}
 
 module _ (m : Image) (o : Contents) where
   abbrev at : List Cell → List Cell → Named → Image

@@ -3,8 +3,7 @@ use Rattle.std.proofs.Common.{◌≡◌, ℕ, ◌+◌, Bool, true, false, cond, 
 use Rattle.std.proofs.Common.{◌∙◌, ap, arith, add-one, rules}
 use Rattle.std.proofs.lemmas.Bool.{or_left, or_right, or_parts}
 use Rattle.std.proofs.{lemmas.List.map-append, lemmas.List.Sums.sum_by-append, lemmas.Slice.Eq.bytes_eq-Decides}
-use Rattle.std.specs.Prelude.{bytes_eq, eqb}
-use Rattle.aout_core.specs.WellFormed.{segment_number}
+use Rattle.std.specs.Prelude.{bytes_eq}
 use Rattle.aout_core.specs.{declared.symbol.Segment.Segment, Contents.Contents}
 use Rattle.link_session.specs.Mentions.{Mention, mentions_in, mentions, names_of, names_by_first_mention, place_of}
 use Rattle.link_session.specs.States.{definition_by, first_definition, wanted_size, state}
@@ -31,9 +30,6 @@ definition_of ms name = search rules
 -- a definition is the same as itself, by the test
 pub own_definition : (segment : Segment) (offset : ℕ) → is_definition segment offset (Some (segment, offset)) ≡ true
 own_definition segment offset = search rules
-
-same_segment : (a b : Segment) → eqb (segment_number a) (segment_number b) ≡ true → a ≡ b
-same_segment a b e = search rules
 
 -- a name is the same as itself, by the test
 pub own_name : (name : List ℕ) → bytes_eq name name ≡ true
@@ -137,8 +133,6 @@ externals_mention ms m =
         ap (λ (s : State). let pair : List ℕ × State = (m.name, s) in pair ∷ []) mention_of
 
 module _ (ms : List Mention) (m : Mention) where
-  abbrev place : ℕ
-  place = place_of m.name (names_by_first_mention ms)
 
 -- once all mentions of an object are known: its own cells and its bss stand last
 pub image_own : (forced : List (List ℕ)) (os : List Contents) (o : Contents) →

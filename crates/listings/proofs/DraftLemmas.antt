@@ -5,7 +5,7 @@ use Rattle.std.proofs.Common.{subst, arith, length-append, rules}
 use Rattle.std.proofs.lemmas.Bool.{ltb-true}
 use Rattle.std.specs.Prelude.{if◌then◌else◌, Result, Ok, Err}
 use Rattle.aout_core.specs.{declared.reloc.Reloc.Reloc, declared.symbol.Symbol.Symbol}
-use Rattle.listings.specs.Drafts.{Segment, Draft, empty_draft}
+use Rattle.listings.specs.Drafts.{Segment, Draft}
 use Rattle.listings.specs.Reading.{Mistake, ◌>>=◌, with_word, word_entry, symbol_entry, entry_in}
 use Rattle.listings.specs.Reading.{only_first, not_last, named_by, row_by, row_read}
 use Rattle.listings.specs.internal.Whole.{IsWhole, Begins, IsDraft}
@@ -76,6 +76,3 @@ row_keeps_by (b ∷ bs) d r h = search (rules, if_holds, entry_keeps, last_holds
 
 pub row_keeps : (d e : Draft) (r : Row) → IsDraft d → row_read d r ≡ Ok e → IsDraft e
 row_keeps d e r h found = subst (λ (x : Result Draft Mistake). Holds IsDraft x) found (row_keeps_by r.first d r h)
-
-pub empty_is : IsDraft empty_draft
-empty_is = search rules

@@ -1,4 +1,3 @@
-pub mod MarkLemmas
 pub mod SpreadLemmas
 pub mod ReachLemmas
 pub mod SureLemmas

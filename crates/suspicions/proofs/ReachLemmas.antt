@@ -187,16 +187,16 @@ visited_all_below n found os before p e =
       | inr h ↦ ltb-true p n (and_parts (list_any (is_place p) os) (nat_lt p n) h).1
     ]
 
--- of the places that have been found, each before the next one has led to those that it leads to
-record Whole (v : Evidence) (c : Contents) (next : ℕ) (found : List ℕ) : Type 0 where
+-- what `spread` keeps: each place that was found before the next one has led to those that it leads to
+record IsSpreadTo (v : Evidence) (c : Contents) (next : ℕ) (found : List ℕ) : Type 0 where
   distinct : IsDistinct eqb found
   below : (p : ℕ) → has p found ≡ true → p < length c.text_words
   done : (j p : ℕ) → j < next → j < length found → p < length c.text_words →
       list_any (is_place p) (leads_to v c (slice_index found j)) ≡ true → has p found ≡ true
 
-next_whole : (v : Evidence) (c : Contents) (next : ℕ) (found : List ℕ) → Whole v c next found → next < length found →
-    Whole v c (next + 1) (visited_all (length c.text_words) found (leads_to v c (slice_index found next)))
-next_whole v c next found w inside =
+next_spread : (v : Evidence) (c : Contents) (next : ℕ) (found : List ℕ) → IsSpreadTo v c next found → next < length found →
+    IsSpreadTo v c (next + 1) (visited_all (length c.text_words) found (leads_to v c (slice_index found next)))
+next_spread v c next found w inside =
     let n : ℕ = length c.text_words in
     let os : List (Option ℕ) = leads_to v c (slice_index found next) in
     let new : List ℕ = visited_all n found os in
@@ -222,28 +222,28 @@ IsClosed v c found =
     (q p : ℕ) → has q found ≡ true → p < length c.text_words → list_any (is_place p) (leads_to v c q) ≡ true →
     has p found ≡ true
 
-whole_closed : (v : Evidence) (c : Contents) (next : ℕ) (found : List ℕ) → Whole v c next found → length found ≤ next → IsClosed v c found
-whole_closed v c next found w all q p member below led =
+spread_to_end : (v : Evidence) (c : Contents) (next : ℕ) (found : List ℕ) → IsSpreadTo v c next found → length found ≤ next → IsClosed v c found
+spread_to_end v c next found w all q p member below led =
     let (j, inside, is) = place_of_member q found member in
     w.done j p (omega arith) inside below (ap (λ (k : ℕ). list_any (is_place p) (leads_to v c k)) is ∙ led)
 
-spread_closed : (v : Evidence) (c : Contents) (more next : ℕ) (found : List ℕ) → Whole v c next found → length c.text_words ≤ more + next →
+spread_closed : (v : Evidence) (c : Contents) (more next : ℕ) (found : List ℕ) → IsSpreadTo v c next found → length c.text_words ≤ more + next →
     IsClosed v c (spread v c more next found)
 spread_closed v c zero next found w enough =
     let few : length found ≤ length c.text_words = length-le_from_distinct_below found (length c.text_words) w.distinct w.below in
-    whole_closed v c next found w (omega arith)
+    spread_to_end v c next found w (omega arith)
 spread_closed v c (suc more) next found w enough =
     by (nat_lt next (length found)) refl
     (λ h. spread_closed v c more (next + 1)
     (visited_all (length c.text_words) found (leads_to v c (slice_index found next))) h (omega arith))
   where
     by : (t : Bool) → nat_lt next (length found) ≡ t →
-        (Whole v c (next + 1) (visited_all (length c.text_words) found (leads_to v c (slice_index found next))) →
+        (IsSpreadTo v c (next + 1) (visited_all (length c.text_words) found (leads_to v c (slice_index found next))) →
         IsClosed v c (spread v c more (next + 1) (visited_all (length c.text_words) found (leads_to v c (slice_index found next))))) →
         IsClosed v c (if t then spread v c more (next + 1)
         (visited_all (length c.text_words) found (leads_to v c (slice_index found next))) else found)
-    by true e later = later (next_whole v c next found w (ltb-true next (length found) e))
-    by false e later = whole_closed v c next found w (ltb-false next (length found) e)
+    by true e later = later (next_spread v c next found w (ltb-true next (length found) e))
+    by false e later = spread_to_end v c next found w (ltb-false next (length found) e)
 
 spread_grows : (v : Evidence) (c : Contents) (more next : ℕ) (found : List ℕ) → Grows found (spread v c more next found)
 spread_grows v c zero next found = grows_by found
@@ -265,9 +265,9 @@ spread_grows v c (suc more) next found =
 abbrev begun : Evidence → Contents → List ℕ
 begun v c = visited_all (length c.text_words) [] (evident v c)
 
-begun_whole : (v : Evidence) (c : Contents) → Whole v c 0 (begun v c)
+begun_spread : (v : Evidence) (c : Contents) → IsSpreadTo v c 0 (begun v c)
 unfolding IsDistinct
-begun_whole v c = record {
+begun_spread v c = record {
   distinct = visited_all_distinct (length c.text_words) [] (evident v c) tt;
   below = visited_all_below (length c.text_words) [] (evident v c) (λ p e. absurd cc);
   done = λ j p before there below led. absurd (omega arith);
@@ -278,7 +278,7 @@ none_missed v c p (Evident place below led) =
     grown_has place (begun v c) (reached v c) (spread_grows v c (length c.text_words) 0 (begun v c))
     (visited_led (length c.text_words) place [] (evident v c) led below)
 none_missed v c p (Led from place r below led) =
-    spread_closed v c (length c.text_words) 0 (begun v c) (begun_whole v c) (omega arith) from place (none_missed v c from r) below led
+    spread_closed v c (length c.text_words) 0 (begun v c) (begun_spread v c) (omega arith) from place (none_missed v c from r) below led
 
-pub reached_places : ReachedLaw
-reached_places v c p = (only_reached v c p, none_missed v c p)
+pub reached_law : ReachedLaw
+reached_law v c p = (only_reached v c p, none_missed v c p)

@@ -1,13 +1,15 @@
 -- The places that lead to more, one after the other.
-use Rattle.std.proofs.Common.{◌≡◌, ℕ, zero, suc, ◌+◌, ◌-◌, ◌<◌, ◌≤◌, refl, sym, ap, ◌∙◌, arith, append_assoc}
-use Rattle.std.proofs.{lemmas.Bool.lt-ltb, lemmas.Bool.le-ltb, lemmas.List.drop_more}
-use Rattle.std.specs.Prelude.{Option, map, [], ◌∷◌, Bool, if◌then◌else◌, List, ◌++◌, length, drop, slice_index}
+use Rattle.std.proofs.Common.{◌≡◌, ℕ, zero, suc, ◌+◌, ◌-◌, ◌<◌, ◌≤◌, refl, sym, ap, ◌∙◌, inl, inr, arith, append_assoc}
+use Rattle.std.proofs.{lemmas.Bool.cases_lt, lemmas.Bool.eq-eqb, lemmas.Bool.lt-ltb, lemmas.Bool.le-ltb, lemmas.List.drop_more}
+use Rattle.std.proofs.{lemmas.List.get_or_past, lemmas.List.Folds.list_any_at}
+use Rattle.std.specs.Prelude.{Option, map, [], ◌∷◌, Bool, true, false, eqb, if◌then◌else◌, List, ◌++◌, length, drop, get_or, slice_index}
 use Rattle.aout_core.specs.Contents.{Contents}
 use Rattle.findings.specs.Found.{Found}
-use Rattle.suspicions.specs.Reached.{leads_to, visited, visited_all, named, shown, shown_from, entry, nameless, evident, spread}
+use Rattle.suspicions.specs.Reached.{leads_to, visited, visited_all, named, entry, nameless, evident, spread}
 use Rattle.suspicions.specs.{declared.evidence.Evidence.Evidence, Suspicions.suspicious_place, Suspicions.suspicious_words}
+use Rattle.suspicions.specs.{internal.Marks.AreMarks}
 
--- the next place, and those after it
+-- the step of `spread`, if a place is left
 first : (e : Evidence) (c : Contents) (more next : ℕ) (found : List ℕ) → next < length found →
     spread e c (suc more) next found
     ≡ spread e c more (next + 1) (visited_all (length c.text_words) found (leads_to e c (slice_index found next)))
@@ -33,6 +35,18 @@ spread_all e c (suc more) next found h =
     (visited_all (length c.text_words) found (leads_to e c (slice_index found next))) else found)
     (le-ltb next (length found) h)
 
+-- each place that has been found is one of the text
+pub found_inside : (marks : List Bool) (found : List ℕ) (next d : ℕ) → AreMarks marks found → next < length found →
+    get_or found next d < length marks
+found_inside marks found next d h inside =
+    let place : ℕ = get_or found next d in
+    let marked : get_or marks place false ≡ true =
+    h place ∙ list_any_at (eqb place) found next d inside (eq-eqb place place refl) in
+    elim (cases_lt place (length marks)) [
+      | inl below ↦ below
+      | inr above ↦ let none : get_or marks place false ≡ false = get_or_past marks place false above in absurd cc
+    ]
+
 -- what is suspicious at one place more
 pub places_more : (e : Evidence) (c : Contents) (words : List ℕ) (i : ℕ) (old new whole : List Found) → i < length words →
     new ≡ old ++ suspicious_place e c i → old ++ suspicious_words e c i (drop i words) ≡ whole →
@@ -42,14 +56,6 @@ places_more e c words i old new whole inside put so_far =
     ap (λ (l : List Found). l ++ rest) put
     ∙ append_assoc old (suspicious_place e c i) rest
     ∙ ap (λ (l : List ℕ). old ++ suspicious_words e c i l) (sym (drop_more words i 0 inside))
-    ∙ so_far
-
--- the addresses that the words from a place on show
-pub shown_more : (c : Contents) (words : List ℕ) (i n : ℕ) (old new whole : List ℕ) → i < length words → new ≡ visited n old (shown c i) →
-    visited_all n old (shown_from c i (drop i words)) ≡ whole → visited_all n new (shown_from c (i + 1) (drop (i + 1) words)) ≡ whole
-shown_more c words i n old new whole inside put so_far =
-    ap (λ (l : List ℕ). visited_all n l (shown_from c (i + 1) (drop (i + 1) words))) put
-    ∙ ap (λ (l : List ℕ). visited_all n old (shown_from c i l)) (sym (drop_more words i 0 inside))
     ∙ so_far
 
 -- addresses after others

@@ -30,7 +30,7 @@ use Rattle.suspicions.specs.{declared.evidence.Evidence.Evidence, declared.evide
 use Rattle.suspicions.specs.{declared.evidence.Evidence.TheVariants.Promise, declared.trust.Trust.Trust, Reached.branch_of}
 use Rattle.suspicions.specs.{Reached.is_promised, Reached.is_reached, ReachedLaw.IsReached}
 use Rattle.suspicions.specs.{ReachedLaw.Evident, ReachedLaw.Led}
-use Rattle.suspicions.proofs.ReachLemmas.{reached_places}
+use Rattle.suspicions.proofs.ReachLemmas.{reached_law}
 
 quiet_parts : (xs ys : List Found) → NoneIsSure (xs ++ ys) → NoneIsSure xs × NoneIsSure ys
 quiet_parts [] ys q = (tt, q)
@@ -142,7 +142,7 @@ ends_before v c place none start r before = elim (cases_lt place (start + unix_l
       absurd (all_hold (nat_lt place back) (nat_lt start (length c.text_words)) (is_reached v c start)
       (nat_lt back (unix_length (unix_line_in Unix c start)))
       (le-ltb place back (omega arith)) (lt-ltb start (length c.text_words) (place_below v c start r))
-      ((reached_places v c start).1 r)
+      ((reached_law v c start).1 r)
       (lt-ltb back (unix_length (unix_line_in Unix c start)) (omega arith)) there)
 ]
 
@@ -214,7 +214,7 @@ line_inside e c t place (Call k) s r q = (refl, tt)
 pub sure_below : (e : Evidence) (c : Contents) (place : ℕ) → is_sure e c place ≡ true → place < length c.text_words
 sure_below e c place s =
     place_below e c place
-    ((reached_places e c place).0 (and_parts (is_reached e c place) (is_promised e || not (overlaps e c place)) s).0)
+    ((reached_law e c place).0 (and_parts (is_reached e c place) (is_promised e || not (overlaps e c place)) s).0)
 
 -- what is known of a sure place
 record IsQuiet (e : Evidence) (c : Contents) (place : ℕ) : Type 0 where

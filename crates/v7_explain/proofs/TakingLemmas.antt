@@ -94,13 +94,6 @@ takes_object old new path bytes object before after reads is grows =
 
 -- ---- and what is said of it
 
--- nothing, if it is
-pub next_taken : (E : Type 0) → (old new : History) (path : List ℕ) (before after : List Labelled) (said : Answer) →
-    TakesOne old new path before after (Ok tt) → TakesNext {E = E} old new path before after said said (Ok tt)
-next_taken E old new path before after said (Ok bytes, takes, inl (same, grows)) = (Ok bytes, takes, (grows, refl))
-next_taken E old new path before after said (Err answer, takes, inl (never, same)) = absurd (cc)
-next_taken E old new path before after said (found, takes, inr never) = absurd (cc)
-
 -- it is not, and what is said of it is added
 next_said : (E : Type 0) → (old new : History) (path : List ℕ) (before after : List Labelled) (said more longer : Answer) →
     TakesOne old new path before after (Err (faults.Answered more)) → longer ≡ joined said more →

@@ -1,5 +1,5 @@
 -- Files that are found in folders, folder by folder and name by name.
-use Rattle.std.proofs.Common.{◌≡◌, ℕ, zero, suc, ◌-◌, Bool, true, false, cond, List, [], ◌∷◌, ◌++◌, map, refl, sym, ap, ◌∙◌, subst, arith}
+use Rattle.std.proofs.Common.{◌≡◌, ℕ, zero, suc, ◌-◌, Bool, true, false, cond, List, [], ◌∷◌, ◌++◌, map, refl, sym, ap, ◌∙◌, arith}
 use Rattle.std.proofs.Common.{string_bytes, is_lt, append_assoc}
 use Rattle.std.proofs.{lemmas.List.MinMax.ranks_by, lemmas.Cmp.nat_list_cmp_total, lemmas.Result.on_ok_weaker}
 use Rattle.std.specs.Prelude.{Option, Some, None, Result, Ok, Err, OnOk, String, string_cmp}
@@ -44,14 +44,6 @@ sorted_names xs ys sorted stable =
     ∙ map-in_order xs
 
 -- ---- a folder at a level
-
-pub lowest : (levels : ℕ) (at : Folders) (path : List ℕ) → levels ≡ 0 → None ≡ ordered_at levels at path
-lowest levels at path e = subst (λ n. None ≡ ordered_at n at path) (sym e) refl
-
-pub above_lowest : (levels : ℕ) (at : Folders) (path : List ℕ) (found : Option Folder) → (levels ≡ 0 → ⊥) → found ≡ at path →
-    ordered_if found ≡ ordered_at levels at path
-above_lowest zero at path found above is = absurd (above refl)
-above_lowest (suc levels) at path found above is = ap ordered_if is
 
 -- what is found at a path, by the folder with its names in order
 abbrev pub found_at : (List ℕ → List (List ℕ)) → List ℕ → Option Folder → List (List ℕ)

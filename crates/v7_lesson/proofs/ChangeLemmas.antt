@@ -1,5 +1,5 @@
 -- Rows that differ, as far as a loop has come.
-use Rattle.std.proofs.Common.{◌≡◌, ℕ, ◌+◌, ◌≤◌, zero, suc, List, [], ◌∷◌, ◌++◌, length, drop, ◌∙◌, ap, sym, refl, append-nil, append_assoc}
+use Rattle.std.proofs.Common.{◌≡◌, ℕ, ◌+◌, zero, suc, List, [], ◌∷◌, ◌++◌, drop, ◌∙◌, ap, sym, refl, append_assoc}
 use Rattle.std.proofs.Common.{arith}
 use Rattle.std.specs.List.{concat}
 use Rattle.v7_lesson.specs.{Rows.row_at, Steps.changed_row, Steps.changed_rows}
@@ -38,32 +38,6 @@ row_compared i bs ns whole text next so_far more =
     let rest = changed_rows (drop (i + 1) bs) (drop (i + 1) ns) in
     let more_rows = row_changed i bs ns ∙ ap (λ (k : ℕ). row ++ changed_rows (drop k bs) (drop k ns)) (one_on i) in
     so_far ∙ ap (λ l. text ++ l) more_rows ∙ sym (append_assoc text row rest) ∙ ap (λ t. t ++ rest) (sym more)
-
-nothing_before : (n : ℕ) (bs : List (List ℕ)) → length bs ≤ n → changed_rows (drop n bs) [] ≡ []
-nothing_before zero [] h = refl
-nothing_before zero (b ∷ bs) h = absurd (omega (arith, h))
-nothing_before (suc n) [] h = refl
-nothing_before (suc n) (b ∷ bs) h = nothing_before n bs (omega (arith, h))
-
-nothing_after : (n : ℕ) (ns : List (List ℕ)) → length ns ≤ n → changed_rows [] (drop n ns) ≡ []
-nothing_after zero [] h = refl
-nothing_after zero (a ∷ ns) h = absurd (omega (arith, h))
-nothing_after (suc n) [] h = refl
-nothing_after (suc n) (a ∷ ns) h = nothing_after n ns (omega (arith, h))
-
-nothing_left : (n : ℕ) (bs ns : List (List ℕ)) → length bs ≤ n → length ns ≤ n → changed_rows (drop n bs) (drop n ns) ≡ []
-nothing_left zero [] [] h k = refl
-nothing_left zero (b ∷ bs) ns h k = absurd (omega (arith, h))
-nothing_left zero [] (a ∷ ns) h k = absurd (omega (arith, k))
-nothing_left (suc n) [] [] h k = refl
-nothing_left (suc n) (b ∷ bs) [] h k = nothing_before n bs (omega (arith, h))
-nothing_left (suc n) [] (a ∷ ns) h k = nothing_after n ns (omega (arith, k))
-nothing_left (suc n) (b ∷ bs) (a ∷ ns) h k = nothing_left n bs ns (omega (arith, h)) (omega (arith, k))
-
--- all rows were compared
-pub all_compared : (n : ℕ) (bs ns : List (List ℕ)) (whole text : List ℕ) → length bs ≤ n → length ns ≤ n →
-    whole ≡ text ++ changed_rows (drop n bs) (drop n ns) → text ≡ whole
-all_compared n bs ns whole text h k so_far = sym (so_far ∙ ap (λ l. text ++ l) (nothing_left n bs ns h k) ∙ append-nil text)
 
 row_first : (i : ℕ) (rows : List (List ℕ)) → concat (drop i rows) ≡ row_at rows i ++ concat (drop (suc i) rows)
 row_first zero [] = refl

@@ -5,9 +5,9 @@ use Rattle.aout_core.specs.{Decoding.decode, Reading.IsReadOf, Reading.LeavesAft
 use Rattle.std.specs.{declared.alloc.Global.Global, Prelude.String, Prelude.IfSome}
 use Rattle.std.proofs.Common.{◌≡◌, ℕ, List, Option, Some, None, Result, Ok, Err, refl, sym, ap, ◌∙◌, inl, inr}
 use Rattle.link_session.specs.Sessions.{Adds, IsCause, labelled}
-use Rattle.link_session.specs.{declared.entry.AddFault.AddFault, Limits.refusal, Labelled.Labelled, Labelled.objects, Undo.Kept}
+use Rattle.link_session.specs.{declared.entry.AddFault.AddFault, Limits.refusal, Labelled.objects, Undo.Kept}
 use Rattle.v7tools.specs.{declared.fault.CliFault.CliFault, FaultTexts.fault_of_addition, Loads.read_of, Loads.IsAtPath}
-use Rattle.v7tools.specs.{LinkAnswers.WantsMemory, internal.InputParts.IsCheckOf, internal.StepParts.IsFound, internal.StepParts.IsAddition}
+use Rattle.v7tools.specs.{internal.InputParts.IsCheckOf, internal.StepParts.IsFound, internal.StepParts.IsAddition}
 use Rattle.link_out.specs.Inputs.{Cause, bad_file, bad_object, not_added, object_in}
 use Rattle.aout_core.specs.declared.file.ReadFault.TheVariants as reads
 use Rattle.link_session.specs.declared.entry.AddFault.TheVariants as adds
@@ -25,19 +25,6 @@ found_at : (known left : Option (List ℕ)) (r : Result Contents ReadFault) (fou
     IsReadWhereKnown known left r → IfSome known (λ bytes. found ≡ object_in (decode bytes))
 found_at None left r found is encodes h = tt
 found_at (Some bytes) left r found is encodes h = sym is ∙ ap object_in (sym (encodes bytes h.0))
-
--- an object that was found, and is within all limits, may want memory
-wants_memory : (known : Option (List ℕ)) (forced : List (List ℕ)) (kept : List Labelled) (path : List ℕ) (o : Contents) →
-    IsFound known (Ok o) → refusal forced (objects kept) o ≡ None → IfSome known (WantsMemory forced kept path)
-wants_memory None forced kept path o h within = tt
-wants_memory (Some bytes) forced kept path o (inl e) within = absurd (cc)
-wants_memory (Some bytes) forced kept path o (inr e) within = search rules
-
--- so may what the header announces
-header_wants : (known left : Option (List ℕ)) (forced : List (List ℕ)) (kept : List Labelled) (path : List ℕ) →
-    IsReadWhereKnown known left (Err (reads.Memory refused)) → IfSome known (WantsMemory forced kept path)
-header_wants None left forced kept path h = tt
-header_wants (Some bytes) left forced kept path h = inl h.0
 
 -- ---- why a file is not added
 

@@ -9,14 +9,14 @@ use Rattle.std.proofs.lemmas.Bool.{false_from_ne_true}
 use Rattle.aout_core.proofs.PutsLemmas.{writes_broke_off}
 use Rattle.link_session.specs.{Edits.last_of, Labelled.Labelled, Sessions.Adds, Sessions.Withdraws, Undo.Kept}
 use Rattle.link_out.specs.Outcomes.{IsLinkOf, outcome_of}
-use Rattle.link_out.specs.Inputs.{Cause, cannot_open, bad_file, object_in, kept_with}
+use Rattle.link_out.specs.Inputs.{Cause, bad_file, object_in, kept_with}
 use Rattle.link_out.specs.{declared.linked.LinkFault.LinkFault, function.Link.Outcome, declared.linked.Linked.Linked, function.Reports.line}
 use Rattle.link_session.proofs.EditLemmas.{last_of-put_last, without_last-put_last}
-use Rattle.v7tools.specs.FaultTexts.{cause_text, cli_text, fault_at, fault_of_link}
+use Rattle.v7tools.specs.FaultTexts.{cli_text, fault_of_link}
 use Rattle.v7tools.specs.Answers.{done, refused, Stepped, add_step, withdraw_step, link_step}
 use Rattle.v7tools.specs.internal.StepParts.{IsRefusal, IsAccepted, IsAddition, IsAddOver, IsAddWorking, MakesLink, RefusesLink}
 use Rattle.v7tools.specs.internal.StepParts.{TakesWithdrawal, label_of}
-use Rattle.v7tools.specs.SessionSteps.{Does, IsAddOn, IsAddBy, IsLinkBy, verdict_of}
+use Rattle.v7tools.specs.SessionSteps.{Does, IsAddBy, IsLinkBy, verdict_of}
 use Rattle.v7tools.specs.{declared.fault.CliFault.CliFault, declared.session.commands.Step.Step}
 use Rattle.v7tools.specs.{declared.session.commands.Step.TheVariants.Refused, declared.session.commands.Step.TheVariants.ToStore}
 use Rattle.v7tools.specs.{LinkAnswers.WantsMemory, internal.InputParts.IsDeviceFault}
@@ -37,10 +37,6 @@ last_of-slice_get (d ∷ (c ∷ es)) e h =
 withdrawn_last : (old new : Kept) (e : Labelled) → Withdraws old new e → withdraw_step old.entries (last_of old.entries)
     ≡ record { verdict = done; answer = line (codes "withdrew " ++ e.label); kept = new.entries }
 withdrawn_last old new e h = search (rules, last_of-put_last, without_last-put_last)
-
-withdrawn_none : (old : Kept) → old.entries ≡ [] → withdraw_step old.entries (last_of old.entries)
-    ≡ record { verdict = refused; answer = line (codes "nothing to withdraw"); kept = old.entries }
-withdrawn_none old none = ap (λ (es : List Labelled). withdraw_step old.entries (last_of es)) none
 
 module _ {W : Type 0} {contents : W → Option (List ℕ)} {result : Result Step CliFault} {before after : Latched W} where
   pub takes_last : (old new : Kept) (e : Labelled) → Withdraws old new e → Does contents
@@ -87,20 +83,12 @@ added_by remaining from to old new path o before after h = by_found h.is_found
 abbrev pub refused_as : List Labelled → List ℕ → Stepped
 refused_as kept text = record { verdict = refused; answer = line text; kept = kept }
 
--- the text of a fault is that of its cause
-text_of_cause : (path : String Global) (cause : Cause) → cli_text (fault_at path cause) ≡ cause_text (string_bytes path) cause
-text_of_cause path cannot_open = refl
-text_of_cause path cause = refl
-
 -- a file is not added: the fault is that of a device exactly where the wire has failed
 module _ {R : Type 0} (remaining : R → Option (List ℕ)) (from to : Latched R) (old : Kept) (path : String Global) (fault : CliFault)
     (latched : IsTrue from.has_failed →
     to ≡ from) (device : (failed_with fault ≡ failed_with (faults.BadFile path reads.Device)) ↔ IsTrue to.has_failed) where
   abbrev IsRefused : Type 0
   IsRefused = IsAddOver remaining from to old.forced old.entries (string_bytes path) (refused_as old.entries (cli_text fault))
-
-  worked : to.has_failed ≡ false → from.has_failed ≡ false
-  worked after = search rules
 
   -- what was found is no failure
   sound : (h : IsRefusal (remaining from.device) old path fault) → to.has_failed ≡ false → h.found ≡ Err (bad_file reads.Device) → ⊥
@@ -115,12 +103,6 @@ module _ {R : Type 0} (remaining : R → Option (List ℕ)) (from to : Latched R
   pub not_added_by : (new : Kept) → IsAddition (remaining from.device) old new path (Err fault) → (new ≡ old) × IsRefused
   not_added_by new (same, inl (is, header)) = (same, by_memory is header)
   not_added_by new (same, inr h) = (same, by_refusal h)
-
--- what the wire is like after an addition is left out
-working_on : (known : Option (List ℕ)) (forced : List (List ℕ)) (kept : List Labelled) (path : List ℕ) (did : Stepped) →
-    IsAddWorking known forced kept path did → IsAddOn known forced kept path did
-working_on None forced kept path did (found, sound, is) = (found, is)
-working_on (Some bytes) forced kept path did is = is
 
 pub added_over : {R : Type 0} (remaining : R → Option (List ℕ)) (from to : Latched R) (forced : List (List ℕ))
     (kept : List Labelled) (path : List ℕ) (did : Stepped) → IsAddOver remaining from to forced kept path did →
@@ -208,13 +190,6 @@ module _ {W : Type 0} (contents : W → Option (List ℕ)) (answer : Result Outc
 pub label_is : (old new : Kept) (e : Labelled) → Adds old new e → label_of (last_of new.entries) ≡ e.label
 label_is old new e h = ap label_of (ap last_of h.entries ∙ last_of-put_last old.entries e)
 
--- a device that has failed is answered
-pub failed_before : {R : Type 0} (before after : Latched R) (r : Result (Unit {0}) CliFault) (path : String Global) →
-    (IsTrue before.has_failed → after ≡ before) →
-    ((r ≡ failed_with (faults.BadFile path reads.Device)) ↔ IsTrue after.has_failed) → IsTrue before.has_failed →
-    r ≡ failed_with (faults.BadFile path reads.Device)
-failed_before {R} before after r path latched device failed = search rules
-
 -- the device of a file that is added had not failed
 pub worked_before : {R : Type 0} (before after : Latched R) (path : String Global) → (IsTrue before.has_failed → after ≡ before) →
     ((Ok tt ≡ failed_with (faults.BadFile path reads.Device)) ↔ IsTrue after.has_failed) → before.has_failed ≡ false
@@ -233,11 +208,6 @@ pub worked_after : {R : Type 0} (after : Latched R) (path : String Global) →
 worked_after after path device = false_from_ne_true after.has_failed (λ failed. let bad = device.1 failed in absurd (cc))
 
 -- ---- the fault of a device
-
-device_path : (path : String Global) (cause : Cause) → IsDeviceFault (fault_at path cause) →
-    fault_at path cause ≡ faults.BadFile path reads.Device
-device_path path (bad_file reads.Device) h = refl
-device_path path cause h = absurd h
 
 -- it is answered exactly where the wire of the file has failed
 pub device_fault : (known : Option (List ℕ)) (old new : Kept) (path : String Global) (fault : CliFault) (latch : Bool) →

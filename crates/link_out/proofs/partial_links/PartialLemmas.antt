@@ -5,16 +5,16 @@ use Rattle.std.proofs.{lemmas.Bool.and_parts, lemmas.List.Elements.filter-append
 use Rattle.std.specs.{Prelude.filter, List.flat_map, List.AllByRecursion}
 use Rattle.aout_core.specs.declared.symbol.Segment.TheVariants.{Undefined, Other}
 use Rattle.aout_core.specs.WellFormed.{is_external, segment_of, segment_numbered}
-use Rattle.aout_core.specs.{declared.symbol.Symbol.Symbol, declared.symbol.Segment.Segment, Contents.Contents, Words.plus}
+use Rattle.aout_core.specs.{declared.symbol.Symbol.Symbol, declared.symbol.Segment.Segment, Contents.Contents}
 use Rattle.link_session.specs.Mentions.{Mention, mention, statement, mentions_in, mentions, externals_in, forced_mention}
 use Rattle.link_session.specs.States.{first_definition, wanted_size, state_by, state}
 use Rattle.link_session.specs.{declared.state.State.State, declared.state.State.TheVariants.Defined}
-use Rattle.link_session.specs.{declared.state.State.TheVariants.Wanted, Earlier.with_earlier, Starts.shift}
+use Rattle.link_session.specs.{declared.state.State.TheVariants.Wanted, Earlier.with_earlier}
 use Rattle.link_session.proofs.ListLemmas.{all_append}
 use Rattle.tool_options.specs.{declared.options.Keep.Keep, Choices.Choices}
 use Rattle.link_out.specs.function.Finals.{final_by, type_of}
 use Rattle.link_out.specs.function.Tables.{is_kept_local, moved_local, local_rows, external_row, external_rows}
-use Rattle.link_out.specs.{Layouts.Bases, Layouts.base, function.Plans.Plan, function.Plans.plan, function.Link.linked_file}
+use Rattle.link_out.specs.{Layouts.Bases, function.Plans.Plan, function.Plans.plan, function.Link.linked_file}
 use Rattle.link_out.proofs.ObjectLemmas.{relocating}
 
 -- the options of a partial link, its plan and its file: relocation, no laid commons, and a table
@@ -97,11 +97,6 @@ state_proper (m ∷ ms) name h size = search (rules, state_proper ms name h.1 si
 -- what is known of each name is such a state
 pub state_is_proper : (forced : List (List ℕ)) (os : List Contents) (name : List ℕ) → IsProper (state (mentions forced os) name)
 state_is_proper forced os name = state_proper (mentions forced os) name (mentions_proper forced os) (wanted_size (mentions forced os) name)
-
--- in the file of a partial link, taken as an object, base and own start undo each other
-pub based : (forced : List (List ℕ)) (os : List Contents) (keep : Keep) (entry : Option (List ℕ)) (segment : Segment) →
-    plus (base (partial_plan forced os keep entry).at segment) (shift [] (partial_file forced os keep entry) segment) ≡ 0
-based forced os keep entry segment = search rules
 
 -- what a row of the table says is the state of its name
 pub row_says : (forced : List (List ℕ)) (os : List Contents) (keep : Keep) (entry : Option (List ℕ)) (name : List ℕ)

@@ -10,10 +10,10 @@ use Rattle.link_session.specs.{declared.cell.Cell.Cell, declared.state.State.Sta
 use Rattle.tool_options.specs.{Choices.Choices, Choices.lays_commons}
 use Rattle.link_session.proofs.{WellFormedLemmas.objects_refer, NeighbourLemmas.AreAsLong}
 use Rattle.link_out.specs.declared.linked.LinkFault.TheVariants.{DoesNotFit, TooManySymbols, SymbolNumber}
-use Rattle.link_out.specs.function.Plans.{Plan, plan, commons_laid, common_size, commons_size, commons_total, common_offset}
+use Rattle.link_out.specs.function.Plans.{Plan, plan, commons_laid, common_size, commons_size, commons_total}
 use Rattle.link_out.specs.function.Finals.{final}
 use Rattle.link_out.specs.function.Tables.{local_rows, external_rows, table, final_relocs, has_too_large_in}
-use Rattle.link_out.specs.function.Reports.{report_of, is_in_text, entry_word, entry_found_bad, is_undefined, reserved_taken}
+use Rattle.link_out.specs.function.Reports.{report_of, entry_word, entry_found_bad, is_undefined, reserved_taken}
 use Rattle.link_out.specs.function.Reports.{undefined_names, reserved_names}
 use Rattle.link_out.specs.internal.FromCells.{finals, word_of_cell, reloc_of_cell, target_too_large}
 use Rattle.link_out.specs.{declared.linked.LinkFault.LinkFault, Layouts.Bases, Layouts.bases, Layouts.magic_of, function.Words.final_words}
@@ -35,9 +35,6 @@ module _ (o : Choices) (b : Bases) (ms ns : List Mention) (names : names_by_firs
 
   same_total : commons_total ms ≡ commons_total ns
   same_total = same_room (names_by_first_mention ms) ∙ ap (λ (xs : List (List ℕ)). commons_size ns xs) names
-
-  same_offset : (name : List ℕ) → common_offset ms name ≡ common_offset ns name
-  same_offset name = search rules
 
   same_final : (name : List ℕ) → final first name ≡ final second name
   same_final name = search rules
@@ -118,9 +115,6 @@ module _ (forced : List (List ℕ)) (xs ys : List Contents) (alike : AreAlike fo
   same_large segment same = sym (has_too_large_in-cells one segment xs (objects_refer forced segment xs alike.good_xs))
       ∙ (λ i. list_any (λ (c : Cell). target_too_large (lists i) (length (same_locals i)) c.target) (same i))
       ∙ has_too_large_in-cells all segment ys (objects_refer forced segment ys alike.good_ys)
-
-  in_text : (name : List ℕ) → is_in_text one name ≡ is_in_text all name
-  in_text name = search rules
 
   entries : (e : Option (List ℕ)) → entry_word one e ≡ entry_word all e
   entries e = search rules

@@ -2,7 +2,7 @@ use Rattle.std.proofs.Common.{◌≡◌, ℕ, ◌-◌, ◌<◌, ◌≤◌, lengt
 use Rattle.std.proofs.lemmas.List.{get_or_read}
 use Rattle.std.specs.Prelude.{slice_index}
 use Rattle.suspicions.specs.Reached.{leads_to, visited_all, spread}
-use Rattle.suspicions.proofs.{MarkLemmas.found_inside, SpreadLemmas.spread_more, SpreadLemmas.spread_all}
+use Rattle.suspicions.proofs.SpreadLemmas.{found_inside, spread_more, spread_all}
 use Rattle.suspicions.proofs.reached.spread.Goals as goal
 
 pub returns-then-next-len-clause-found : goal.returns-then-next-len-clause-found

@@ -30,7 +30,7 @@ pub heads_back-states : (kept : ℕ) (es : Named) (ms : List Mention) (heads : L
 heads_back-states kept es [] heads = refl
 heads_back-states kept es (m ∷ ms) heads = search (rules, heads_back-append, heads_back-states kept (with_mention es m) ms heads)
 
--- marks of names put no cell back, so they change no head
+-- the same, if marks of cells come after them
 pub heads_back-after_states : (kept : ℕ) (es : Named) (ms : List Mention) (ks : List Mark) (heads : List Link) →
     heads_back (state_marks kept es ms ++ ks) heads ≡ heads_back ks heads
 heads_back-after_states kept es ms ks heads = search (rules, heads_back-append, heads_back-states)
@@ -38,9 +38,6 @@ heads_back-after_states kept es ms ks heads = search (rules, heads_back-append, 
 module _ (m : Image) (o : Contents) (t : Threads) (h : IsThreaded m t) where
   abbrev es : Named
   es = next_named m o
-
-  abbrev grown : Threads
-  grown = record t { heads = next_heads m o t.heads }
 
   abbrev then : Threads
   then = with_texts (next_texts m o) (record t { heads = next_heads m o t.heads })
