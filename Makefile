@@ -155,7 +155,7 @@ gate:
 # the cheapest first, so that a fault shows early. The gate leaves the programs that the tests of `check` run. A wrong body that is not
 # refused is printed, and ends nothing but check-all: in the form that they have now, those of some crates have not been tried yet
 check:
-	@python3 -m tests parts 'make quick' 'make test' 'make gate' '$(if $(MORE),,-)make check-wrong-bodies' \
+	@python3 -m tests parts 'make quick' 'make test' 'make gate' '$(if $(MORE),,-)make check-wrong-bodies MINUTES=30' \
 		'make all lib build/library_uses' 'python3 -m tests check' $(MORE)
 
 # all wrong bodies, in place of those of crates that have changed
@@ -163,9 +163,9 @@ check-all:
 	@$(MAKE) check NAMES=all MORE="'python3 -m tests all' 'make planted'"
 
 # those of the crates that have changed since theirs were refused, as tests/wrong_bodies/wrong-bodies.seen tells, or all, and the script
-# itself, with harmless edits planted among wrong ones; or those of the crates NAMES
+# itself, with harmless edits planted among wrong ones; or those of the crates NAMES. After MINUTES those left are named, and not tried
 check-wrong-bodies:
-	python3 -m tests.wrong_bodies.wrong_bodies $(or $(filter-out all,$(NAMES)),$(if $(NAMES),,-c))
+	python3 -m tests.wrong_bodies.wrong_bodies $(or $(filter-out all,$(NAMES)),$(if $(NAMES),,-c $(if $(MINUTES),-m $(MINUTES))))
 	$(if $(filter-out all,$(NAMES)),,python3 -m tests.wrong_bodies.wrong_bodies --try)
 
 # the bugs of docs/internals/PLANTED.md, one after another

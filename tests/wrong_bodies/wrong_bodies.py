@@ -3,8 +3,8 @@
 usage: python3 -m tests.wrong_bodies.wrong_bodies [-j N] [CRATE ..]   tries all edits of these crates, or of all, and notes in
                                                  tests/wrong_bodies/wrong-bodies.seen each crate whose edits are all refused
        python3 -m tests.wrong_bodies.wrong_bodies [-j N] CRATE/EDIT ..  tries these edits alone, and notes nothing
-       python3 -m tests.wrong_bodies.wrong_bodies [-j N] -c           tries those of the crates that have changed since they were noted, or
-                                                 are not noted
+       python3 -m tests.wrong_bodies.wrong_bodies [-j N] -c [-m M]    tries those of the crates that have changed since they were noted, or
+                                                 are not noted; once M minutes are over, those left are named, and not tried
        python3 -m tests.wrong_bodies.wrong_bodies [-j N] --try        tries this script: tests/wrong_bodies/wrong_bodies_tried.py
 
 A wrong body is an edit in must-fail/ or in the file wrong-bodies of a crate: tests/wrong_bodies/edits.py has its form. A copy has at most one edit for
@@ -22,6 +22,7 @@ of its kind: of a clause at any return, or else of its name.
 N copies are checked side by side, two if it is not given. The last line has how many edits are refused, and the minutes.
 """
 import hashlib
+import math
 import os
 import re
 import resource
@@ -274,13 +275,13 @@ def run(words, folder):
 class Trial:
     """The edits of a crate, tried in copies."""
 
-    def __init__(self, crate, kit, slots, only):
-        self.crate, self.kit, self.slots = crate, kit, slots
+    def __init__(self, crate, kit, slots, only, until):
+        self.crate, self.kit, self.slots, self.until = crate, kit, slots, until
         self.folder = f"crates/{crate.name}"
         found = [Edit(self.folder, body) for body in edits.edits_of(crate.name)]
         self.kept = None
         self.edits = [it for it in found if not only or {crate.name, f"{crate.name}/{it.name}"} & only]
-        self.results, self.apart, self.copies, self.seconds = {}, set(), 0, 0
+        self.results, self.apart, self.left, self.copies, self.seconds = {}, set(), [], 0, 0
 
     def check(self, texts, without=()):
         """Checks a copy of the crate with these texts and without some folders of proofs, over what `rt check` of the crate left, or
@@ -331,7 +332,7 @@ class Trial:
                 self.end(edit, "it cannot be made", edit.misfit)
         waiting = sorted((it for it in self.edits if not it.misfit), key=lambda it: it.alone)
         with tempfile.TemporaryDirectory(prefix="wrong-bodies-") as self.kept:
-            while waiting:
+            while waiting and time.monotonic() < self.until:
                 chosen, texts = self.next_copy(waiting)
                 before = self.seconds
                 answer = self.check(texts)
@@ -341,7 +342,8 @@ class Trial:
                     print(f"{self.crate.name}: copy {self.copies}: {name} is refused too, and no edit changes it", flush=True)
                 again = [it for it in chosen if not self.has_ended(it, chosen, answer)]
                 waiting = sorted(again + [it for it in waiting if it not in chosen], key=lambda it: it.alone)
-        return not any(self.results.values())
+        self.left = [it.name for it in waiting]
+        return not self.left and not any(self.results.values())
 
     def has_ended(self, edit, chosen, answer):
         """Notes what a copy says of an edit. Whether it is the last word on it."""
@@ -487,14 +489,14 @@ def note(passed):
     write(SEEN, "".join(f"{crate} {found[crate]}\n" for crate in with_edits() if crate in found))
 
 
-def try_edits(names, jobs, only=()):
-    """Tries the edits of crates, or only some, once the libraries below are proved. The trials, and whether all edits are
-    refused, by crate."""
+def try_edits(names, jobs, only=(), until=math.inf):
+    """Tries the edits of crates, or only some, once the libraries below are proved; no copy begins after a time. The trials, and whether
+    all edits are refused, by crate."""
     with tempfile.TemporaryDirectory(prefix="wrong-bodies-") as place:
         kit, crates = Kit(place), {it.name: it for it in prove.crates_under(*names)}
         needed = {below for name in names for below in crates[name].below}
         slots = threading.Semaphore(jobs)
-        trials = {name: Trial(crates[name], kit, slots, only) for name in names}
+        trials = {name: Trial(crates[name], kit, slots, only, until) for name in names}
         if not has_libraries([it for it in crates.values() if it in needed], place):
             return trials, dict.fromkeys(names, False)
         with ThreadPoolExecutor(len(names)) as pool:
@@ -508,28 +510,33 @@ def minutes():
     return sum(it.ru_utime + it.ru_stime for it in used) / 60
 
 
-def whole(names, jobs, only=()):
-    """Tries the edits of crates, or only some, and prints a summary. The digests of the crates whose edits are all refused."""
+def whole(names, jobs, only=(), most=math.inf):
+    """Tries the edits of crates, or only some, for some minutes at most, and prints a summary. The digests of the crates whose edits are
+    all refused, and whether none of those tried was not."""
     was = {name: digest(name) for name in names}
     begun = time.monotonic()
-    trials, passed = try_edits(names, jobs, only)
+    trials, passed = try_edits(names, jobs, only, begun + 60 * most)
+    failed = {name: [edit for edit, fault in trial.results.items() if fault] for name, trial in trials.items()}
+    right = all(passed[name] or trial.left and not failed[name] for name, trial in trials.items())
     for name, trial in trials.items():
-        failed = [edit for edit, fault in trial.results.items() if fault]
-        fault = "" if passed[name] else f": FAILED: {' '.join(failed) or 'a library below it is not proved'}"
-        print(f"{name}: {len(trial.results) - len(failed)} of {len(trial.edits)} refused, in {trial.copies} copies, "
+        said = {"FAILED": failed[name], "not tried": trial.left}
+        if not passed[name] and not any(said.values()):
+            said["FAILED"] = ["a library below it is not proved"]
+        fault = "".join(f": {word}: {' '.join(those)}" for word, those in said.items() if those)
+        print(f"{name}: {len(trial.results) - len(failed[name])} of {len(trial.edits)} refused, in {trial.copies} copies, "
               f"{trial.seconds:.0f} seconds of a processor{fault}")
     results = [not fault for trial in trials.values() for fault in trial.results.values()]
     copies = sum(trial.copies for trial in trials.values())
     print(f"{sum(results)} of {sum(len(it.edits) for it in trials.values())} wrong bodies refused, in {copies} copies of "
           f"{len(names)} crates: {minutes():.0f} minutes of a processor, {(time.monotonic() - begun) / 60:.0f} by the clock")
-    return {name: was[name] for name in names if passed[name]}
+    return {name: was[name] for name in names if passed[name]}, right
 
 
-def changed_alone(jobs):
-    """Tries the edits of the crates that have changed. The status to end with."""
+def changed_alone(jobs, most):
+    """Tries the edits of the crates that have changed, for some minutes at most. The status to end with."""
     names = have_changed()
     print(f"changed since their wrong bodies were refused: {' '.join(names) or 'no crate'}", flush=True)
-    return 0 if not names or len(whole(names, jobs)) == len(names) else 1
+    return 0 if not names or whole(names, jobs, most=most)[1] else 1
 
 
 def named(names, jobs):
@@ -541,10 +548,10 @@ def named(names, jobs):
         return 2
     crates = sorted({name.split("/")[0] for name in names}) or with_edits()
     only = set(names) if any("/" in name for name in names) else set()
-    passed = whole(crates, jobs, only)
+    passed, right = whole(crates, jobs, only)
     if not only:
         note(passed)
-    return 0 if len(passed) == len(crates) else 1
+    return 0 if right else 1
 
 
 def main(words):
@@ -555,12 +562,12 @@ def main(words):
         print("rt, the command of the Rattle kit, is not on the PATH", file=sys.stderr)
         return 2
     os.chdir(TOP)
-    jobs = int(words[words.index("-j") + 1]) if "-j" in words else 2
+    jobs, most = (int(words[words.index(option) + 1]) if option in words else usual for option, usual in (("-j", 2), ("-m", math.inf)))
     if "--try" in words:
         from tests.wrong_bodies import wrong_bodies_tried
         return wrong_bodies_tried.main(jobs)
     if "-c" in words:
-        return changed_alone(jobs)
+        return changed_alone(jobs, most)
     return named([word for at, word in enumerate(words) if not word.startswith("-") and words[at - 1:at] != ["-j"]], jobs)
 
 
