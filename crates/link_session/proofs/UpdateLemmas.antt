@@ -132,8 +132,6 @@ externals_mention ms m =
         (own_name m.name) ∙ ap (λ (s : State). updated_state s m.says) (unmentioned ms m.name e) ∙ says_alone m.says in
         ap (λ (s : State). let pair : List ℕ × State = (m.name, s) in pair ∷ []) mention_of
 
-module _ (ms : List Mention) (m : Mention) where
-
 -- once all mentions of an object are known: its own cells and its bss stand last
 pub image_own : (forced : List (List ℕ)) (os : List Contents) (o : Contents) →
     image forced (os ++ o ∷ []) ≡ record {
