@@ -4,8 +4,8 @@
 --
 -- Whether two others are needed is not shown. A text of more than 65,535 bytes is too long to write out. A link without symbols has the text
 -- of one with them; so no program refutes the law without the premise that symbols are kept, if its table has room in a file.
-use Rattle.std.proofs.Common.{◌≡◌, ◌≢◌, ℕ, ◌+◌, ◌*◌, ◌/◌, ◌%◌, ◌<◌, ◌≤◌, ◌⊎◌, inl, inr, Bool, true, false, eqb, nat_lt, List, [], ◌∷◌, ◌++◌, length}
-use Rattle.std.proofs.Common.{map, Option, Some, None, refl, sym, ap, ◌∙◌, subst, arith}
+use Rattle.std.proofs.Common.{◌≡◌, ◌≢◌, ℕ, ◌+◌, ◌*◌, ◌/◌, ◌%◌, ◌≤◌, ◌⊎◌, inl, inr, Bool, true, false, eqb, nat_lt, List, [], ◌∷◌, ◌++◌, length}
+use Rattle.std.proofs.Common.{Option, Some, None, refl, sym, ap, ◌∙◌, subst, arith}
 use Rattle.std.proofs.{lemmas.Bool.or_cases, lemmas.Bool.eqb-true, lemmas.Bool.ltb-true, lemmas.Bool.ltb-false, lemmas.Option.same_Some}
 use Rattle.std.specs.{Prelude.slice_get, Prelude.slice_index, Prelude.Ok, List.AllByRecursion, List.list_all, List.list_any}
 use Rattle.aout_core.specs.{declared.symbol.Symbol.Symbol, declared.symbol.Segment.TheVariants.TextSeg, declared.reloc.Reloc.Reloc}
@@ -21,10 +21,10 @@ use Rattle.instructions.specs.declared.mode.Addressing.TheVariants.{Absolute, Re
 use Rattle.instructions.specs.{declared.unix.Decoder.TheVariants.Unix, declared.unix.UnixLine.UnixLine}
 use Rattle.instructions.specs.declared.unix.UnixLine.TheVariants.{Machine, Call}
 use Rattle.instructions.specs.{declared.call.SystemCall.SystemCall, declared.call.SystemCall.TheVariants.Fork}
-use Rattle.instructions.specs.{declared.call_table.CallRow.CallRow, Rows.begins as in_row, Rows.row_of, UnixLines.call_of}
+use Rattle.instructions.specs.{Rows.begins as in_row, Rows.row_of, UnixLines.call_of}
 use Rattle.instructions.specs.Instructions.{jumps, word_count_of, instruction_of}
 use Rattle.disassemblies.specs.Lines.{unix_line_in}
-use Rattle.suspicions.specs.declared.evidence.Evidence.TheVariants.{Flow, Promise}
+use Rattle.suspicions.specs.declared.evidence.Evidence.TheVariants.{Promise}
 use Rattle.suspicions.specs.Reached.{reached, is_reached, is_text}
 use Rattle.suspicions.specs.{ReachedLaw.IsReached, ReachedLaw.Evident, ReachedLaw.Led, SureLaw.NoneIsSure}
 use Rattle.suspicions.specs.Suspicions.{suspicions, is_foreign}

@@ -1,5 +1,5 @@
 -- The laws at samples: their premises can be met.
-use Rattle.std.specs.Prelude.{◌≡◌, ℕ, ◌<◌, Bool, true, false, List, [], ◌∷◌, ◌++◌, take, drop, Ok, Err, refl, nat_lt, Result}
+use Rattle.std.specs.Prelude.{◌≡◌, ℕ, ◌<◌, Bool, true, List, [], ◌∷◌, ◌++◌, take, drop, Ok, Err, refl, nat_lt, Result}
 use Rattle.std.specs.List.{AllByRecursion, list_all}
 use Rattle.std.proofs.lemmas.Bool.{and_parts, ltb-true}
 use Rattle.aout_core.specs.{Contents.Contents, Encoding.encoding, Encodes.Encodes, Decoding.decode}

@@ -3,6 +3,7 @@ use Rattle.std.proofs.Common.{◌≡◌, ◌≢◌, ℕ, zero, suc, ◌+◌, ◌
 use Rattle.std.proofs.Common.{if◌then◌else◌, List, [], ◌∷◌, ◌++◌, length, map, drop, Option, Some, None, refl, sym, ◌∙◌, ap, subst, arith}
 use Rattle.std.proofs.Common.{append_assoc}
 use Rattle.std.proofs.{lemmas.Bool.and_from, lemmas.Bool.eqb-true, lemmas.Bool.eq-eqb, lemmas.Bool.ltb-false, lemmas.Bool.cases_lt}
+use Rattle.std.proofs.lemmas.Bool.{or_left, or_right}
 use Rattle.std.proofs.{lemmas.List.length-drop, lemmas.List.append-nil, lemmas.List.Sums.sum_by-append, lemmas.Option.same_Some}
 use Rattle.std.proofs.lemmas.Option.{slice_get_within}
 use Rattle.std.specs.{Prelude.slice_get, Prelude.slice_index, Prelude.IfSome, Prelude.Ok, List.list_any, List.AllByRecursion}
@@ -42,7 +43,7 @@ use Rattle.laws.proofs.{InstructionLemmas.text_within, InstructionLemmas.word_sm
 use Rattle.laws.proofs.{LoadedLemmas.word_there, LoadedLemmas.found_in, OperandPlaceLemmas.one_word}
 use Rattle.laws.proofs.ReachedInstructionLemmas.{decoded, words_from, value_small, reached_instructions_kept, sure_places_begin}
 use Rattle.laws.proofs.FlowLemmas.{Lines, Calls, Instructs, Ends, whole_at, lines_at}
-use Rattle.laws.proofs.LeadLemmas.{any_here, any_later, or-nothing, placed, place_is, Within, call_leads, JumpBy, instruction_leads}
+use Rattle.laws.proofs.LeadLemmas.{or-nothing, placed, place_is, Within, call_leads, JumpBy, instruction_leads}
 use Rattle.aout_core.specs.declared.reloc.Kind.TheVariants as kinds
 use Rattle.instructions.specs.declared.operand.Operand.TheVariants as operands
 
@@ -53,9 +54,9 @@ shows : (f : Symbol → Option ℕ) (more : List (Option ℕ)) (ss : List Symbol
 shows f more [] n j s e h = absurd cc
 shows f more (t ∷ ss) zero j s e h =
     let same : t ≡ s = same_Some t s e in
-    any_here (is_place j (f t)) (list_any (is_place j) (map f ss ++ more)) (ap (λ (u : Symbol). is_place j (f u)) same ∙ h)
+    or_left (is_place j (f t)) (list_any (is_place j) (map f ss ++ more)) (ap (λ (u : Symbol). is_place j (f u)) same ∙ h)
 shows f more (t ∷ ss) (suc n) j s e h =
-    any_later (is_place j (f t)) (list_any (is_place j) (map f ss ++ more)) (shows f more ss n j s e h)
+    or_right (is_place j (f t)) (list_any (is_place j) (map f ss ++ more)) (shows f more ss n j s e h)
 
 named_at : (k : Contents) (s : Symbol) (j : ℕ) → is_text s ≡ true → s.value ≡ 2 * j → is_place j (named Promise k s) ≡ true
 named_at k s j text even = by (is_text s) text
@@ -68,7 +69,7 @@ symbol_reached : (k : Contents) (n j : ℕ) (s : Symbol) → slice_get k.symbols
     j < length k.text_words → IsReached Promise k j
 symbol_reached k n j s at text even below =
     Evident j below
-    (any_later (is_place j (if eqb k.header.flag 0 then None else Some k.header.entry_point))
+    (or_right (is_place j (if eqb k.header.flag 0 then None else Some k.header.entry_point))
     (list_any (is_place j) (map (named Promise k) k.symbols ++ nameless Promise k))
     (shows (named Promise k) (nameless Promise k) k.symbols n j s at (named_at k s j text even)))
 
@@ -76,12 +77,12 @@ symbol_reached k n j s at text even below =
 
 ends_with_0 : (os : List (Option ℕ)) → list_any (is_place 0) (os ++ Some 0 ∷ []) ≡ true
 ends_with_0 [] = refl
-ends_with_0 (o ∷ os) = any_later (is_place 0 o) (list_any (is_place 0) (os ++ Some 0 ∷ [])) (ends_with_0 os)
+ends_with_0 (o ∷ os) = or_right (is_place 0 o) (list_any (is_place 0) (os ++ Some 0 ∷ [])) (ends_with_0 os)
 
 beginning_reached : (k : Contents) → 0 < length k.text_words → IsReached Promise k 0
 beginning_reached k below =
     Evident 0 below
-    (any_later (is_place 0 (if eqb k.header.flag 0 then None else Some k.header.entry_point))
+    (or_right (is_place 0 (if eqb k.header.flag 0 then None else Some k.header.entry_point))
     (list_any (is_place 0) (map (named Promise k) k.symbols ++ nameless Promise k)) (ends_with_0 (map (named Promise k) k.symbols)))
 
 -- a jump by a word that refers to the object's own text leads there
@@ -104,11 +105,11 @@ own_distance r said bit = by (eqb (r.0 % 16) 0) refl said
   where
     by : (t : Bool) → eqb (r.0 % 16) 0 ≡ t → (if not t then kind_of r else Some kinds.TextSeg) ≡ Some kinds.TextSeg →
         (eqb (r.0 % 16) 0 || eqb (r.0 % 16) 3) ≡ true
-    by true e h = any_here (eqb (r.0 % 16) 0) (eqb (r.0 % 16) 3) e
+    by true e h = or_left (eqb (r.0 % 16) 0) (eqb (r.0 % 16) 3) e
     by false e h =
         let kind = text_number (r.0 / 2 % 8) h in
         let pc = (one_bit (r.0 % 2) true (bit (ap not e))).0 refl in
-        any_later (eqb (r.0 % 16) 0) (eqb (r.0 % 16) 3) (eq-eqb (r.0 % 16) 3 (omega arith))
+        or_right (eqb (r.0 % 16) 0) (eqb (r.0 % 16) 3) (eq-eqb (r.0 % 16) 3 (omega arith))
 
 own_address : (r : Reloc) → kind_said Absolute r ≡ Some kinds.TextSeg → (is_relocated (Some r) ≡ true → is_pc_relative r ≡ false) →
     is_own_address (Some r) ≡ true

@@ -4,7 +4,7 @@ use Rattle.std.proofs.Common.{take, drop, get_or, set, Option, Some, refl, sym, 
 use Rattle.std.proofs.Common.{get_or-set_other}
 use Rattle.std.proofs.lemmas.Bool.{ltb-true, ltb-false, eqb-true, eqb-false}
 use Rattle.std.proofs.lemmas.Option.{slice_get_within, slice_get-get_or, get_or_from_slice_get}
-use Rattle.std.proofs.{lemmas.List.Edits.length-swap, lemmas.List.Edits.swap_is, lemmas.List.Sums.sum_by-append}
+use Rattle.std.proofs.{lemmas.List.Edits.length-swap, lemmas.List.Edits.swap_is, lemmas.List.Sums.sum_by-cons}
 use Rattle.std.specs.{Prelude.slice_get, Prelude.sum_by, List.swap, List.Sorted.SwapsInRange, List.Sorted.apply_swaps}
 use Rattle.aout_core.specs.Contents.{Contents}
 use Rattle.laws.specs.Isomorphism.{AreRenumbered, OrdersAreRenumbered}
@@ -21,9 +21,6 @@ pub record IsUnit {A : Type 0} (f : A → ℕ) (xs : List A) (n : ℕ) : Type 0 
   pub inside : j < f element
 
 module _ {A : Type 0} (f : A → ℕ) where
-  first_more : (x : A) (xs : List A) → sum_by f (x ∷ xs) ≡ f x + sum_by f xs
-  first_more x xs = sum_by-append f (x ∷ []) xs ∙ omega arith
-
   -- a number below the sum of all sizes is of a unit in one of the elements
   pub unit_at : (xs : List A) (n : ℕ) → n < sum_by f xs → IsUnit f xs n
   unit_at [] n h = absurd (omega arith)
@@ -39,13 +36,13 @@ module _ {A : Type 0} (f : A → ℕ) where
       by_test true e more = record { i = 0; element = x; is = refl; j = n; place = omega arith; inside = ltb-true n (f x) e }
       by_test false e more =
           let beyond : f x ≤ n = ltb-false n (f x) e in
-          let u = more (rest n (f x) (sum_by f xs) (sum_by f (x ∷ xs)) (first_more x xs) h beyond) in
+          let u = more (rest n (f x) (sum_by f xs) (sum_by f (x ∷ xs)) (sum_by-cons f x xs) h beyond) in
           record {
             i = suc u.i;
             element = u.element;
             is = u.is;
             j = u.j;
-            place = sums n (f x) (sum_by f (take u.i xs)) u.j (sum_by f (x ∷ take u.i xs)) beyond u.place (first_more x (take u.i xs));
+            place = sums n (f x) (sum_by f (take u.i xs)) u.j (sum_by f (x ∷ take u.i xs)) beyond u.place (sum_by-cons f x (take u.i xs));
             inside = u.inside;
           }
 
@@ -57,13 +54,13 @@ module _ {A : Type 0} (f : A → ℕ) where
   one_unit (x ∷ xs) zero (suc k) a b j l ea eb ha hb e =
       let same : x ≡ a = cc in
       let inside : j < f x = subst (λ (y : A). j < f y) (sym same) ha in
-      absurd (omega (arith, first_more x (take k xs)))
+      absurd (omega (arith, sum_by-cons f x (take k xs)))
   one_unit (x ∷ xs) (suc i) zero a b j l ea eb ha hb e =
       let same : x ≡ b = cc in
       let inside : l < f x = subst (λ (y : A). l < f y) (sym same) hb in
-      absurd (omega (arith, first_more x (take i xs)))
+      absurd (omega (arith, sum_by-cons f x (take i xs)))
   one_unit (x ∷ xs) (suc i) (suc k) a b j l ea eb ha hb e =
-      let r = one_unit xs i k a b j l ea eb ha hb (omega (arith, first_more x (take i xs), first_more x (take k xs))) in
+      let r = one_unit xs i k a b j l ea eb ha hb (omega (arith, sum_by-cons f x (take i xs), sum_by-cons f x (take k xs))) in
       (ap suc r.0, r.1)
 
   -- the units of an element are among all
@@ -71,8 +68,8 @@ module _ {A : Type 0} (f : A → ℕ) where
   unit_inside [] i a e = absurd (cc)
   unit_inside (x ∷ xs) zero a e =
       let same : x ≡ a = cc in
-      subst (λ (y : A). sum_by f [] + f y ≤ sum_by f (x ∷ xs)) same (omega (arith, first_more x xs))
-  unit_inside (x ∷ xs) (suc i) a e = omega (arith, unit_inside xs i a e, first_more x xs, first_more x (take i xs))
+      subst (λ (y : A). sum_by f [] + f y ≤ sum_by f (x ∷ xs)) same (omega (arith, sum_by-cons f x xs))
+  unit_inside (x ∷ xs) (suc i) a e = omega (arith, unit_inside xs i a e, sum_by-cons f x xs, sum_by-cons f x (take i xs))
 
 -- an element, with what is before and after it
 pub cut : {A : Type 0} (xs : List A) (i : ℕ) (a : A) → slice_get xs i ≡ Some a → xs ≡ take i xs ++ a ∷ drop (suc i) xs

@@ -2,7 +2,7 @@
 use Rattle.std.proofs.Common.{◌≡◌, ℕ, suc, ◌+◌, ◌-◌, ◌*◌, ◌/◌, ◌%◌, ◌<◌, ◌≤◌, ◌⊎◌, inl, inr, Bool, true, false, ◌||◌, ◌&&◌, eqb, nat_lt}
 use Rattle.std.proofs.Common.{if◌then◌else◌, List, ◌∷◌, length, drop, Option, Some, None, refl, sym, ◌∙◌, ap, subst, arith}
 use Rattle.std.proofs.{lemmas.Option.same_Some, lemmas.Bool.and_parts, lemmas.Bool.and_from, lemmas.Bool.or_cases, lemmas.Bool.eqb-true}
-use Rattle.std.proofs.lemmas.Bool.{eq-eqb, lt-ltb}
+use Rattle.std.proofs.lemmas.Bool.{eq-eqb, lt-ltb, or_left, or_right}
 use Rattle.std.specs.Prelude.{slice_get, IfSome, not}
 use Rattle.std.specs.List.{list_any}
 use Rattle.aout_core.specs.{Contents.Contents, Strip.stripped, Words.plus}
@@ -26,16 +26,6 @@ use Rattle.instructions.specs.declared.operand.Operand.TheVariants as operands
 use Rattle.instructions.specs.declared.operation.Operation.TheVariants as operations
 use Rattle.instructions.specs.declared.field.Field.TheVariants as fields
 use Rattle.instructions.specs.declared.call.SystemCall.TheVariants as calls
-
--- one of several addresses
-
-pub any_here : (t u : Bool) → t ≡ true → (t || u) ≡ true
-any_here true u e = refl
-any_here false u e = absurd cc
-
-pub any_later : (t u : Bool) → u ≡ true → (t || u) ≡ true
-any_later true u e = refl
-any_later false u e = e
 
 -- an address is that of a place
 pub placed : (q address : ℕ) → is_place q (Some address) ≡ true → address ≡ 2 * q
@@ -102,10 +92,10 @@ call_leads file k start p i q c at whole parent e = elim (or_cases
             at = omega (arith, on.1);
             within = whole;
             led = λ below.
-                any_here (is_place (i + (1 + c.words)) (next_of Promise k i (Call c)))
+                or_left (is_place (i + (1 + c.words)) (next_of Promise k i (Call c)))
                 (is_place (i + (1 + c.words)) (parent_of k i c.call) || false)
                 (leads_on_back (returns c.call || is_followed Promise k i (Call c)) (i + (1 + c.words)) (2 * (i + (1 + c.words)))
-                (any_here (returns c.call) (is_followed Promise k i (Call c)) (or-nothing (returns c.call) on.0)) refl);
+                (or_left (returns c.call) (is_followed Promise k i (Call c)) (or-nothing (returns c.call) on.0)) refl);
           }
       | inr h ↦
           let led = parent_leads file k start p i q c.call at parent (or-nothing (is_place q (parent_of (stripped file) p c.call)) h) in
@@ -114,8 +104,8 @@ call_leads file k start p i q c at whole parent e = elim (or_cases
             at = led.1;
             within = led.2;
             led = λ below.
-                any_later (is_place led.0 (next_of Promise k i (Call c))) (is_place led.0 (parent_of k i c.call) || false)
-                (any_here (is_place led.0 (parent_of k i c.call)) false (led.3 below));
+                or_right (is_place led.0 (next_of Promise k i (Call c))) (is_place led.0 (parent_of k i c.call) || false)
+                (or_left (is_place led.0 (parent_of k i c.call)) false (led.3 below));
           }
     ]
 
@@ -353,9 +343,9 @@ module _ (file k : Contents) (start p i q w : ℕ) (f g : List ℕ) (instruction
         at = omega (arith, on.1);
         within = whole;
         led = λ below.
-            any_here (is_next (i + line_size)) (after_next (i + line_size))
+            or_left (is_next (i + line_size)) (after_next (i + line_size))
             (leads_on_back (flows k i instruction || is_followed Promise k i (Machine (decoded instruction f))) (i + line_size) (2 * (i + line_size))
-            (any_here (flows k i instruction) (is_followed Promise k i (Machine (decoded instruction f))) flow) refl);
+            (or_left (flows k i instruction) (is_followed Promise k i (Machine (decoded instruction f))) flow) refl);
       }
 
   -- to the target of a branch
@@ -374,10 +364,10 @@ module _ (file k : Contents) (start p i q w : ℕ) (f g : List ℕ) (instruction
       let none : i + 1 ≡ i + 1 + 0 = omega arith in
       let none_too : p + 1 ≡ p + 1 + 0 = omega arith in
       jump_by_operand file k start p i q w f g instruction at fits here there own instruction.first 0 (inl (refl, sym none))
-      (λ j h. any_later (is_next j) (after_next j) (any_later (is_place j (branch_of (2 * i) instruction.first))
+      (λ j h. or_right (is_next j) (after_next j) (or_right (is_place j (branch_of (2 * i) instruction.first))
       (is_place j (branch_of (2 * i) instruction.second) || jumps_after j)
-      (any_later (is_place j (branch_of (2 * i) instruction.second)) (jumps_after j)
-      (any_here (is_place j jump_first) (is_place j jump_second || false)
+      (or_right (is_place j (branch_of (2 * i) instruction.second)) (jumps_after j)
+      (or_left (is_place j jump_first) (is_place j jump_second || false)
       (subst (λ (m : ℕ). is_place j (jump k operation m instruction.first (word_for instruction.first 0 f)) ≡ true) (sym none) h)))))
       (subst (λ (m : ℕ). is_place q (jump (stripped file) operation m instruction.first (word_for instruction.first 0 g)) ≡ true) none_too e)
 
@@ -385,11 +375,11 @@ module _ (file k : Contents) (start p i q w : ℕ) (f g : List ℕ) (instruction
       (word_for instruction.second words_first g)) ≡ true → JumpsBy
   second_jumps e =
       jump_by_operand file k start p i q w f g instruction at fits here there own instruction.second words_first (inr (refl, refl))
-      (λ j h. any_later (is_next j) (after_next j) (any_later (is_place j (branch_of (2 * i) instruction.first))
+      (λ j h. or_right (is_next j) (after_next j) (or_right (is_place j (branch_of (2 * i) instruction.first))
       (is_place j (branch_of (2 * i) instruction.second) || jumps_after j)
-      (any_later (is_place j (branch_of (2 * i) instruction.second)) (jumps_after j)
-      (any_later (is_place j jump_first) (is_place j jump_second || false)
-      (any_here (is_place j jump_second) false h)))))
+      (or_right (is_place j (branch_of (2 * i) instruction.second)) (jumps_after j)
+      (or_right (is_place j jump_first) (is_place j jump_second || false)
+      (or_left (is_place j jump_second) false h)))))
       e
 
   abbrev next : Bool
@@ -416,13 +406,13 @@ module _ (file k : Contents) (start p i q w : ℕ) (f g : List ℕ) (instruction
         | inl h ↦ inl (next_leads h)
         | inr a ↦ elim (or_cases branch_one (branch_two || (jump_one || (jump_two || false))) a) [
           | inl h ↦ inl (branches_lead instruction.first short.0 first
-              (λ j b. any_later (is_next j) (after_next j) (any_here (is_place j (branch_of (2 * i) instruction.first))
+              (λ j b. or_right (is_next j) (after_next j) (or_left (is_place j (branch_of (2 * i) instruction.first))
               (is_place j (branch_of (2 * i) instruction.second) || jumps_after j) b)) h)
           | inr b ↦ elim (or_cases branch_two (jump_one || (jump_two || false)) b) [
             | inl h ↦ inl (branches_lead instruction.second short.1 second
-                (λ j b. any_later (is_next j) (after_next j) (any_later (is_place j (branch_of (2 * i) instruction.first))
+                (λ j b. or_right (is_next j) (after_next j) (or_right (is_place j (branch_of (2 * i) instruction.first))
                 (is_place j (branch_of (2 * i) instruction.second) || jumps_after j)
-                (any_here (is_place j (branch_of (2 * i) instruction.second)) (jumps_after j) b))) h)
+                (or_left (is_place j (branch_of (2 * i) instruction.second)) (jumps_after j) b))) h)
             | inr c ↦ elim (or_cases jump_one (jump_two || false) c) [
               | inl h ↦ inr (first_jumps h)
               | inr d ↦ inr (second_jumps (or-nothing jump_two d))

@@ -18,6 +18,9 @@ use Rattle.v7tools.specs.{LinkAnswers.Input, LinkAnswers.Takes, LinkAnswers.Take
 use Rattle.v7tools.specs.{SessionRuns.Chains, SessionSteps.AddsIf, SessionSteps.IsAddOn, SessionSteps.WithdrawsIf}
 use Rattle.laws.specs.{Disks.Disk, SessionsByCommands.AreThere, SessionsByCommands.left_after, SessionsByCommands.left_by}
 
+pub same_ok : {A B : Type 0} (a b : A) → (let x : Result A B = Ok a in let y : Result A B = Ok b in x ≡ y) → a ≡ b
+same_ok a b e = cc
+
 -- ---- inputs that are taken, one more and one less
 
 takes_more : (forced : List (List ℕ)) (kept mid more : List Labelled) (is : List Input) (i : Input) → TakesAll forced kept is mid →

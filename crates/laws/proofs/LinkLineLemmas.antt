@@ -24,7 +24,7 @@ use Rattle.v7tools.specs.{LinkAnswers.said_by, SessionSteps.IsLinkBy, declared.f
 use Rattle.laws.specs.SessionsByCommands.{AreThere, AsksToLink, CannotRead, CannotWrite, DoesAsLd, FailsBy, IsOpening, IsRefusedAsLd, LinkLineLaw}
 use Rattle.laws.specs.SessionsByCommands.{RefusedLineLaw, Says, files_left}
 use Rattle.laws.specs.{Disks.Disk, Disks.IsOn, Disks.Run, Disks.Writes}
-use Rattle.laws.proofs.LeftLemmas.{IsAt, IsLeft, all_known, at_line, bytes_of, left_lines, taken_bytes}
+use Rattle.laws.proofs.LeftLemmas.{IsAt, IsLeft, all_known, at_line, bytes_of, left_lines, same_ok, taken_bytes}
 use Rattle.laws.proofs.{CallLemmas.IsLink, CallLemmas.same_link}
 use Rattle.aout_core.specs.declared.file.ReadFault.TheVariants as reads
 use Rattle.link_session.specs.declared.entry.AddFault.TheVariants as adds
@@ -72,9 +72,6 @@ linked_left disk forced o left k there is =
     ∙ ap (λ (ns : List (List ℕ)). refused_as not_linked (link ns (objects k.entries) o)) (sym is.names)
 
 -- ---- what the line did
-
-same_ok : {A B : Type 0} (a b : A) → (let x : Result A B = Ok a in let y : Result A B = Ok b in x ≡ y) → a ≡ b
-same_ok a b e = cc
 
 -- a line that stored its link
 record StoredLink (o : Choices) (k : undo.Kept) (p : List ℕ) (file : Contents) (r : LineRun) : Type 0 where

@@ -12,6 +12,7 @@ use Rattle.link_session.specs.{Mentions.externals, Mentions.mentions, Sessions.I
 use Rattle.link_out.specs.{function.Link.link, function.Link.linked_file, function.Plans.Plan, function.Plans.commons_laid}
 use Rattle.link_out.specs.{function.Plans.plan, Results.Outcome}
 use Rattle.link_out.proofs.OutcomeLemmas.{made_file, made_fits}
+use Rattle.link_session.proofs.TotalLemmas.{total-first}
 use Rattle.link_laws.specs.relation.Relocated.{base_in}
 use Rattle.link_laws.proofs.MoveLemmas.{data_begun, rest_back}
 use Rattle.link_maps.specs.Members.{capped, first_places, member_of, next_places, places_from, start_in}
@@ -22,10 +23,6 @@ use Rattle.laws.specs.{CoreLaws.IsPlace, Maps.IsShown, Maps.places_mapped}
 use Rattle.aout_core.specs.declared.part.Part.TheVariants as parts
 
 -- ---- sums
-
-next_total : (segment : Segment) (o : Contents) (os : List Contents) → total segment (o ∷ os) ≡ size_of segment o + total segment os
-next_total segment o os =
-    let e : total segment (o ∷ os) ≡ 0 + size_of segment o + total segment os = sum_by-append (size_of segment) (o ∷ []) os in omega (arith, e)
 
 total_before : (segment : Segment) (before : List Contents) (k : Contents) (after : List Contents) →
     total segment before ≤ total segment (before ++ k ∷ after)
@@ -64,7 +61,7 @@ object_in_total : (segment : Segment) (before : List Contents) (k : Contents) (a
 object_in_total segment before k after =
     let e : total segment (before ++ k ∷ after) ≡ total segment before + total segment (k ∷ after) =
     sum_by-append (size_of segment) before (k ∷ after) in
-    let f = next_total segment k after in omega (arith, e, f)
+    let f = total-first segment k after in omega (arith, e, f)
 
 object_at : (before : List Contents) (k : Contents) (after : List Contents) → AllByRecursion IsObject (before ++ k ∷ after) → IsObject k
 object_at [] k after all = all.0
@@ -110,7 +107,7 @@ module _ (segment : Segment) (start : Places → ℕ)
   start_moved : (at : Places) (os : List Contents) → start at + total segment os < 4294967296 → start (moved_on at os) ≡ start at + total segment os
   start_moved at [] small = let e : start at ≡ start at + 0 = omega arith in e
   start_moved at (o ∷ os) small =
-      let sum = next_total segment o os in
+      let sum = total-first segment o os in
       let here : start (next_places at o.header) ≡ start at + size_of segment o =
       next at o ∙ not_capped (start at) (size_of segment o) (omega (arith, small, sum)) in
       start_moved (next_places at o.header) os (omega (arith, small, sum, here)) ∙ omega (arith, sum, here)

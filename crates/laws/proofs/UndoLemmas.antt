@@ -19,7 +19,7 @@ use Rattle.v7tools.specs.SessionRuns.{Chains, answers_of, events_of, lines_asked
 use Rattle.v7tools.specs.SessionSteps.{AddsIf, IsLinkBy, WithdrawsIf}
 use Rattle.laws.specs.Disks.{Writes}
 use Rattle.laws.specs.SessionsByCommands.{AreGivenTheSame, IsKnown, IsUndisturbed, UndoLaw, gift}
-use Rattle.laws.proofs.LeftLemmas.{IsAt, adds_found, at_line}
+use Rattle.laws.proofs.LeftLemmas.{IsAt, adds_found, at_line, same_ok}
 
 -- ---- an addition that is done, and the withdrawal after it
 
@@ -140,9 +140,6 @@ link_done o old r path h calm = by h.is_link
         h.did ≡ link_step old.entries (link old.forced (objects old.entries) o)
     by (inl e) = e
     by (inr (e, ok)) = absurd (calm (h.only_answer.does.answer ∙ ap (λ (s : Stepped). s.answer) e))
-
-same_ok : {A B : Type 0} (a b : A) → (let x : Result A B = Ok a in let y : Result A B = Ok b in x ≡ y) → a ≡ b
-same_ok a b e = cc
 
 module _ (o : Choices) (old twin : Kept) (same : Alike twin old) (r t : LineRun) (gives : map gift r.events ≡ map gift t.events)
     (known : AllByRecursion IsKnown r.events) where

@@ -1,5 +1,5 @@
 -- The lines of a report, put part by part.
-use Rattle.std.proofs.Common.{◌≡◌, ℕ, zero, suc, List, [], ◌∷◌, ◌++◌, length, append-nil, Option, Some, None, refl, sym, ap, ◌∙◌, subst}
+use Rattle.std.proofs.Common.{◌≡◌, ℕ, List, [], ◌∷◌, ◌++◌, length, append-nil, Option, Some, None, refl, sym, ap, ◌∙◌, subst}
 use Rattle.std.specs.{Prelude.codes, List.flat_map}
 use Rattle.texts.specs.Texts.{Puts, Written}
 use Rattle.texts.proofs.PutLemmas.{puts_both}

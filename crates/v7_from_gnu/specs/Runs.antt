@@ -3,7 +3,7 @@
 -- Paths, and the files that they lead to, are checked before a file is opened. All files are read before one is converted, and all are
 -- converted before one is stored. So nothing is stored if one is refused. If memory runs out, that is the answer; it does so after a file
 -- was stored only if one was not.
-use Rattle.std.specs.Prelude.{◌≡◌, ℕ, List, [], ◌∷◌, ◌++◌, Option, Some, None, Result, Ok}
+use Rattle.std.specs.Prelude.{◌≡◌, ℕ, List, [], ◌∷◌, ◌++◌, Option, Some, None, Ok}
 use Rattle.surroundings.specs.Answers.{AnswersOr, IsPerformed, fault_line, only_errors}
 use Rattle.surroundings.specs.Events.{History, Extends, Surroundings, stored}
 use Rattle.surroundings.specs.Programs.{AnswersGiven, Finds, Passes, Step, Then}

@@ -1,6 +1,6 @@
 -- What private functions return.
 use Rattle.std.specs.declared.alloc.Global.{Global}
-use Rattle.std.specs.Prelude.{◌≡◌, ◌≢◌, ◌⊎◌, ℕ, List, map, Result, Ok, Err, Vec}
+use Rattle.std.specs.Prelude.{◌≡◌, ◌≢◌, ◌⊎◌, List, Result, Ok, Err, Vec}
 use Rattle.aout_core.specs.Refusals.{refused}
 use Rattle.gnu_objects.specs.declared.refusal.Refusal.{Refusal}
 use Rattle.surroundings.specs.{Answers.HasAnswer, declared.answer.Fault.Fault, declared.answer.Fault.TheVariants.Memory}
