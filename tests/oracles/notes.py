@@ -31,7 +31,10 @@ MEMBERS = "take its members out with the ar of its system"
 FORMS = [(b"\x7fELF", "this is an ELF file, of another system", "ELF"),
          (b"\x65\xff", f"this is an archive (0177545); {MEMBERS}", "archive"),
          (b"\x6d\xff", f"this is an old archive (0177555); {MEMBERS}", "archive"),
-         (b"!<arch>", "this is an archive; take its members out with ar", "archive")]
+         (b"!<arch>", "this is an archive; take its members out with ar", "archive"),
+         *((begin, "this is a program with overlays (0430, 0431), of 2BSD", "overlaid") for begin in (b"\x18\1", b"\x19\1"))]
+# a header of tar(5): a name of 100 bytes, mode, user, group, size, time and sum, each in octal before a blank or a NUL
+TAPE = re.compile(rb"(?s).{100}(?:[ 0-7]{6}..){3}(?:[ 0-7]{11}.){2}[ 0-7]{6}")
 SEGMENTS = {2: "text", 3: "data", 4: "bss"}
 # types of symbols, without the external bit
 TYPES = (0, 1, 2, 3, 4, 0o24, 0o37)
@@ -168,15 +171,25 @@ def kind(file, is_damaged):
 def form(data):
     """What a file is that has no magic number of ours, and its kind in an inventory, if that is known."""
     if not data:
-        return "the file is empty", "other"
+        return "the file is empty", "empty"
     for begin, said, kind_said in FORMS:
         if data.startswith(begin):
             return said, kind_said
-    if all(byte in b"\n\r\t" or 32 <= byte < 127 for byte in data):
+    if re.fullmatch(rb"[\b\t\n\f\r -~\x80-\xff]*", data):
         return "this is text", "text"
     if len(data) > 1 and 256 * data[0] + data[1] in PROGRAMS:
-        return "a magic number with its bytes swapped: each word has its low byte first", "other"
+        return "a magic number with its bytes swapped: each word has its low byte first", "swapped"
+    if len(data) >= 512 and TAPE.match(data):
+        return "this is an archive of tar; take its files out with tar", "tar"
+    if is_core(data):
+        return "this is a core file, of a process that has ended", "core"
     return None, "other"
+
+
+def is_core(data):
+    """Whether 1,024 bytes of the system are followed by data and stack, whose sizes in 64 bytes are the words at 0412 and 0414."""
+    sizes = struct.unpack_from("<2H", data, 0o412) if len(data) >= 1024 else (0, 0)
+    return sizes[1] > 0 and len(data) == 1024 + 64 * sum(sizes)
 
 
 def has_no_magic(data):
@@ -373,8 +386,15 @@ def files():
             yield whole[:at] + struct.pack("<H", size) + whole[at + 2:]
     for magic in (*PROGRAMS, 0o404, 0o406, 0o412, 0, 65535):
         yield from (random_file(text, 1, magic, flag) for text in (0, 1, 2) for flag in (0, 1, 65535))
-    for begin in (*(begin for begin, _, _ in FORMS), b"text\r\n\t", b"text\x1b", b"text\x7f", b"\1\7", b"\1\4", b"\1\6"):
+    texts = (b"text\r\n\t", b"text\x1b", b"text\x7f", b"\ftext\b_\xe9", b"text\x0b")
+    for begin in (*(begin for begin, _, _ in FORMS), *texts, b"\1\7", b"\1\4", b"\1\6"):
         yield from (begin, begin + bytes(12) + b"and more", begin + b" and more of it, all of them text")
+    header = b"name" + bytes(96) + 3 * b"   644 \0" + 2 * b"          5 " + b"  4567\0 " + bytes(356)
+    yield from (header, header[:-1], header + bytes(512))
+    yield from (header[:at] + b"8" + header[at + 1:] for at in (99, 100, 105, 106, 124, 134, 135, 146, 153, 154))
+    for sizes in ((1, 2), (0, 1), (1, 0), (0, 0), (300, 7)):
+        core = bytes(0o412) + struct.pack("<2H", *sizes) + bytes(1024 - 0o416 + 64 * sum(sizes))
+        yield from (core, core[:-1], core + b"\0")
     # text and data of more than 65,536 bytes, the last words of which have relocation words of text and of data
     yield struct.pack("<8H", 0o407, 40000, 40000, 0, 0, 0, 0, 0) + bytes(159996) + b"\x22\0\x05\0"
     yield from (random_file(dice.randrange(9), dice.randrange(5)) for _ in range(1000))

@@ -33,7 +33,12 @@ kind_of_form (Some forms.Archive) = kinds.Archive
 kind_of_form (Some forms.OldArchive) = kinds.Archive
 kind_of_form (Some forms.PortableArchive) = kinds.Archive
 kind_of_form (Some forms.PlainText) = kinds.PlainText
-kind_of_form _ = kinds.Other
+kind_of_form (Some forms.Empty) = kinds.Empty
+kind_of_form (Some forms.Swapped) = kinds.Swapped
+kind_of_form (Some forms.Overlaid) = kinds.Overlaid
+kind_of_form (Some forms.Tape) = kinds.Tape
+kind_of_form (Some forms.Core) = kinds.Core
+kind_of_form None = kinds.Other
 
 abbrev pub kind_text : FileKind → List ℕ
 kind_text kinds.Object = codes "object"
@@ -45,6 +50,11 @@ kind_text kinds.Archive = codes "archive"
 kind_text kinds.GnuObject = codes "GNU object"
 kind_text kinds.Elf = codes "ELF"
 kind_text kinds.PlainText = codes "text"
+kind_text kinds.Empty = codes "empty"
+kind_text kinds.Swapped = codes "swapped"
+kind_text kinds.Overlaid = codes "overlaid"
+kind_text kinds.Tape = codes "tar"
+kind_text kinds.Core = codes "core"
 kind_text kinds.Other = codes "other"
 
 -- ---- numbers

@@ -26,6 +26,16 @@ pub enum FileKind {
     Elf,
     /// Text.
     PlainText,
+    /// A file without a byte.
+    Empty,
+    /// A file whose magic number has its bytes swapped.
+    Swapped,
+    /// A program with overlays, of magic number 0430 or 0431.
+    Overlaid,
+    /// An archive of tar.
+    Tape,
+    /// A core file.
+    Core,
     /// Anything else.
     Other,
 }
@@ -53,7 +63,12 @@ pub(crate) fn kind_of_form(form: Option<OtherForm>) -> FileKind
             FileKind::Archive
         }
         Some(OtherForm::PlainText) => FileKind::PlainText,
-        Some(OtherForm::Empty | OtherForm::Swapped) | None => FileKind::Other,
+        Some(OtherForm::Empty) => FileKind::Empty,
+        Some(OtherForm::Swapped) => FileKind::Swapped,
+        Some(OtherForm::Overlaid) => FileKind::Overlaid,
+        Some(OtherForm::Tape) => FileKind::Tape,
+        Some(OtherForm::Core) => FileKind::Core,
+        None => FileKind::Other,
     }
 }
 
@@ -71,6 +86,11 @@ pub(crate) fn kind_text(kind: FileKind) -> &'static str
         FileKind::GnuObject => "GNU object",
         FileKind::Elf => "ELF",
         FileKind::PlainText => "text",
+        FileKind::Empty => "empty",
+        FileKind::Swapped => "swapped",
+        FileKind::Overlaid => "overlaid",
+        FileKind::Tape => "tar",
+        FileKind::Core => "core",
         FileKind::Other => "other",
     }
 }

@@ -1,7 +1,7 @@
 //! What a file is that is not an a.out file of the Seventh Edition.
-ghost use Rattle.std.specs.Prelude.{◌≡◌, if◌then◌else◌, nat_lt, length, None, Some, IfOk, option_map};
+ghost use Rattle.std.specs.Prelude.{◌≡◌, ◌≤◌, if◌then◌else◌, nat_lt, length, None, Some, IfOk, option_map};
 ghost use Rattle.aout_core.specs.Decoding.{header_in};
-ghost use Rattle.findings.specs.OtherFiles.{form_text, has_symbols, is_of_gnu, is_of_gnu_refused, is_of_text, is_swapped, is_text, known_form, likeness, other_form};
+ghost use Rattle.findings.specs.OtherFiles.{form_text, has_number, has_owner, has_sum, has_symbols, is_core, is_of_gnu, is_of_gnu_refused, is_of_number, is_of_text, is_swapped, is_tape, is_text, known_form, likeness, other_form};
 
 use aout_core::{Header, is_magic};
 use gnu_objects::{Locals, Options, Refusal, convert};
@@ -23,7 +23,7 @@ pub fn header_of(bytes: &[u8]) -> Option<Header>
 fn is_of_text(byte: u8) -> bool
     ensures { result ≡ is_of_text byte }
 {
-    byte == b'\n' || byte == b'\r' || byte == b'\t' || (b' ' <= byte && byte < 127)
+    (8 <= byte && byte <= b'\n') || byte == 12 || byte == b'\r' || (b' ' <= byte && byte != 127)
 }
 
 /// Whether bytes are those of a text.
@@ -46,10 +46,16 @@ pub enum OtherForm {
     OldArchive,
     /// An archive of later systems.
     PortableArchive,
-    /// Text.
+    /// A program with overlays, of a later system.
+    Overlaid,
+    /// Text, in seven bits or in eight.
     PlainText,
     /// A magic number of ours, the high byte first.
     Swapped,
+    /// An archive of tar.
+    Tape,
+    /// What a process leaves that the system ends.
+    Core,
 }
 
 /// The form of a file that begins with the bytes of another one.
@@ -62,6 +68,7 @@ fn known_form(bytes: &[u8]) -> Option<OtherForm>
         [0o145, 0o377, ..] => Some(OtherForm::Archive),
         [0o155, 0o377, ..] => Some(OtherForm::OldArchive),
         [b'!', b'<', b'a', b'r', b'c', b'h', b'>', ..] => Some(OtherForm::PortableArchive),
+        [0o030 | 0o031, 1, ..] => Some(OtherForm::Overlaid),
         _ => None,
     }
 }
@@ -72,6 +79,59 @@ fn is_swapped(bytes: &[u8]) -> bool
 {
     match bytes {
         [low, high, ..] => is_magic(u16::from(*high) + 256 * u16::from(*low)),
+        _ => false,
+    }
+}
+
+/// Whether a number of a header of tar may have a byte.
+fn is_of_number(byte: u8) -> bool
+    ensures { result ≡ is_of_number byte }
+{
+    byte == b' ' || (b'0' <= byte && byte <= b'7')
+}
+
+/// Whether bytes have a number from one of them up to another one.
+fn has_number(bytes: &[u8], start: usize, end: usize) -> bool
+    requires ordered { start ≤ end }
+    requires inside { end ≤ length bytes.now }
+    ensures { result ≡ has_number bytes.now start end }
+{
+    bytes[start..end].iter().all(|byte| is_of_number(*byte))
+}
+
+/// Whether a header of tar has the mode, the user and the group.
+fn has_owner(bytes: &[u8]) -> bool
+    requires { 512 ≤ length bytes.now }
+    ensures { result ≡ has_owner bytes.now }
+{
+    has_number(bytes, 100, 106) && has_number(bytes, 108, 114) && has_number(bytes, 116, 122)
+}
+
+/// Whether a header of tar has the size, the time and the sum.
+fn has_sum(bytes: &[u8]) -> bool
+    requires { 512 ≤ length bytes.now }
+    ensures { result ≡ has_sum bytes.now }
+{
+    has_number(bytes, 124, 135) && has_number(bytes, 136, 147) && has_number(bytes, 148, 154)
+}
+
+/// Whether a file begins with a header of tar.
+fn is_tape(bytes: &[u8]) -> bool
+    ensures { result ≡ is_tape bytes.now }
+{
+    bytes.len() >= 512 && has_owner(bytes) && has_sum(bytes)
+}
+
+/// Whether a file has the size that a core file says.
+fn is_core(bytes: &[u8]) -> bool
+    ensures { result ≡ is_core bytes.now }
+{
+    match bytes.get(0o412..0o416) {
+        Some([data_low, data_high, stack_low, stack_high]) => {
+            let data = usize::from(*data_low) + 256 * usize::from(*data_high);
+            let stack = usize::from(*stack_low) + 256 * usize::from(*stack_high);
+            stack > 0 && bytes.len() == 1024 + 64 * (data + stack)
+        }
         _ => false,
     }
 }
@@ -88,6 +148,12 @@ pub fn other_form(bytes: &[u8]) -> Option<OtherForm>
     }
     if is_swapped(bytes) {
         return Some(OtherForm::Swapped);
+    }
+    if is_tape(bytes) {
+        return Some(OtherForm::Tape);
+    }
+    if is_core(bytes) {
+        return Some(OtherForm::Core);
     }
     None
 }
@@ -106,10 +172,13 @@ fn form_text(form: OtherForm) -> &'static str
             "this is an old archive (0177555); take its members out with the ar of its system"
         }
         OtherForm::PortableArchive => "this is an archive; take its members out with ar",
+        OtherForm::Overlaid => "this is a program with overlays (0430, 0431), of 2BSD",
         OtherForm::PlainText => "this is text",
         OtherForm::Swapped => {
             "a magic number with its bytes swapped: each word has its low byte first"
         }
+        OtherForm::Tape => "this is an archive of tar; take its files out with tar",
+        OtherForm::Core => "this is a core file, of a process that has ended",
     }
 }
 
