@@ -10,6 +10,7 @@ tests/costs/counting.py says how instructions are counted.
 
 usage: python3 -m tests.costs.scaling [KIND ..]
 """
+import functools
 import math
 import os
 import re
@@ -26,6 +27,8 @@ MOST_SYMBOLS = 5461
 DEFINED, WANTED, LOCAL = 0o42, 0o40, 0o2
 PLAIN = [(7, 0)] * 100
 MOST_WORDS = 32767
+# of the hasher of names
+SEED, MULTIPLIER = 0x243F6A8885A308D3, 0x9E3779B97F4A7C15 ^ 16
 # instructions as compilers write them: moves, calls, tests, branches and arithmetic
 CODE = [
     [0o016500, 4], [0o012746, 0o1000], [0o004767, 0o2000], [0o005726], [0o005700], [0o001403], [0o060401], [0o016567, 6, 0o300],
@@ -42,6 +45,15 @@ def names(first, count, kind=DEFINED):
 def long_names(first, count, kind=DEFINED):
     """The same with names that are cut at eight bytes."""
     return [(f"{name}_long", kind, value) for name, kind, value in names(first, count, kind)]
+
+
+@functools.cache
+def colliding():
+    """4,800 names whose hashes have ten bits in common, found by trying."""
+    def bits(name):
+        product = (SEED ^ int.from_bytes(name.encode(), "little")) * MULTIPLIER
+        return ((product ^ product >> 64) ^ (product ^ product >> 64) >> 32) % 1024
+    return [name for name in map("{:08x}".format, range(4800 * 1088)) if bits(name) == 0][:4800]
 
 
 def reference(number):
@@ -103,6 +115,10 @@ class Work:
     def names(self, size):
         """Links objects with so many names, 3,840 in each."""
         return self.link(self.object("first.o"), *self.of_names(size, 3840))
+
+    def collisions(self, size):
+        """Links an object with so many names, whose look-ups all begin at the same place of the table."""
+        return self.link(self.object("first.o"), self.object("collide.o", [], [(name, DEFINED, 0) for name in colliding()[:size]]))
 
     def references(self, size):
         """Links so many words that refer to 100 names defined before."""
@@ -210,6 +226,7 @@ class Work:
 KINDS = {
     "objects": [20, 80, 160, 320],
     "names": [3840, 15360, 30720, 61440],
+    "collisions": [300, 1200, 2400, 4800],
     "references": [2000, 8000, 16000, 32000],
     "chains": [2000, 8000, 16000, 32000],
     "scripts": [200, 800, 1600, 3200],

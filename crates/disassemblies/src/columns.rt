@@ -24,7 +24,7 @@ fn put_words(text: &mut Text, words: &[u16])
 {
     for word in words {
         text.put_six_digits(u32::from(*word));
-        text.put(" ");
+        text.put_byte(b' ');
     }
 }
 
@@ -58,7 +58,7 @@ fn put_more_words(text: &mut Text, words: &[u16])
     ensures { Puts text.old text.new (flat_map (λ v. codes " " ++ six_digits v) words.now) }
 {
     for word in words {
-        text.put(" ");
+        text.put_byte(b' ');
         text.put_six_digits(u32::from(*word));
     }
 }
@@ -75,7 +75,7 @@ fn put_rest_row(text: &mut Text, place: usize, words: &[u16])
             text.put("  ");
             text.put_six_digits(u32::from(*first));
             put_more_words(text, rest);
-            text.put("\n");
+            text.put_byte(b'\n');
         }
     }
 }
@@ -128,7 +128,7 @@ fn put_row_of(text: &mut Text, at: &PlacedLine<'_>, words: &[u16])
     let (shown, rest) = first_three(words);
     put_columns(text, at.file.address(at.place), shown);
     put_remarked_text(text, at);
-    text.put("\n");
+    text.put_byte(b'\n');
     put_rest_row(text, at.place + 3, rest);
 }
 
@@ -211,7 +211,7 @@ fn put_plain_row(text: &mut Text, address: u16, line: &Line, words: &[u16])
 {
     put_columns(text, address, words);
     line.put_text(address, text);
-    text.put("\n");
+    text.put_byte(b'\n');
 }
 
 /// Appends the lines of words in the columns of `put_disassembly`, without names and labels. The first word is at the address,

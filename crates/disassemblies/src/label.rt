@@ -43,7 +43,7 @@ fn put_label_within(text: &mut Text, segment: Segment, address: u16, length: u16
     put_assembly_name(text, &symbol.name);
     text.put(" = .+");
     text.put_octal(u64::from(symbol.value - address));
-    text.put("\n");
+    text.put_byte(b'\n');
 }
 
 /// Appends the labels of an address.

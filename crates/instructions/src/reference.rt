@@ -107,10 +107,10 @@ fn put_offset(text: &mut Text, offset: u16)
         return;
     }
     if offset < 0o100000 {
-        text.put("+");
+        text.put_byte(b'+');
         text.put_octal(u64::from(offset));
     } else {
-        text.put("-");
+        text.put_byte(b'-');
         text.put_octal(0o200000 - u64::from(offset));
     }
 }

@@ -1,5 +1,5 @@
 //! The text of a line.
-ghost use Rattle.std.specs.Prelude.{◌≡◌, ◌<◌, ◌++◌, codes};
+ghost use Rattle.std.specs.Prelude.{◌≡◌, ◌<◌, ◌++◌, ◌∷◌, [], codes};
 ghost use Rattle.texts.specs.Numbers.{octal};
 ghost use Rattle.texts.specs.Texts.{Puts};
 ghost use Rattle.instructions.specs.Texts.{register_text, signed, in_parentheses, shown, increment_text, index_text, general_text, operand_text, branch_target, branch_back_target, is_ldf, name, operand_after, number, first_next, second_next, text_with, line_text};
@@ -11,27 +11,36 @@ use crate::operand::Operand;
 use crate::reference::{Reference, References};
 use texts::Text;
 
-fn register_text(register: Register) -> &'static str
-    ensures { result.now ≡ register_text register }
+/// The two characters of a register.
+fn characters(register: Register) -> (u8, u8)
+    ensures { result.0 ∷ result.1 ∷ [] ≡ register_text register }
 {
     match register {
-        Register::R0 => "r0",
-        Register::R1 => "r1",
-        Register::R2 => "r2",
-        Register::R3 => "r3",
-        Register::R4 => "r4",
-        Register::R5 => "r5",
-        Register::Sp => "sp",
-        Register::Pc => "pc",
+        Register::R0 => (b'r', b'0'),
+        Register::R1 => (b'r', b'1'),
+        Register::R2 => (b'r', b'2'),
+        Register::R3 => (b'r', b'3'),
+        Register::R4 => (b'r', b'4'),
+        Register::R5 => (b'r', b'5'),
+        Register::Sp => (b's', b'p'),
+        Register::Pc => (b'p', b'c'),
     }
+}
+
+fn put_register(text: &mut Text, register: Register)
+    ensures { Puts text.old text.new (register_text register) }
+{
+    let (first, second) = characters(register);
+    text.put_byte(first);
+    text.put_byte(second);
 }
 
 fn put_in_parentheses(text: &mut Text, register: Register)
     ensures { Puts text.old text.new (in_parentheses register) }
 {
-    text.put("(");
-    text.put(register_text(register));
-    text.put(")");
+    text.put_byte(b'(');
+    put_register(text, register);
+    text.put_byte(b')');
 }
 
 fn put_signed(text: &mut Text, number: u16)
@@ -40,7 +49,7 @@ fn put_signed(text: &mut Text, number: u16)
     if number < 0o100000 {
         return text.put_octal(u64::from(number));
     }
-    text.put("-");
+    text.put_byte(b'-');
     text.put_octal(0o200000 - u64::from(number));
 }
 
@@ -69,12 +78,12 @@ fn put_increment(text: &mut Text, register: Register, number: u16, reference: Op
 {
     match register {
         Register::Pc => {
-            text.put("$");
+            text.put_byte(b'$');
             put_shown(text, number, reference);
         }
         _ => {
             put_in_parentheses(text, register);
-            text.put("+");
+            text.put_byte(b'+');
         }
     }
 }
@@ -114,15 +123,15 @@ fn put_general(
     ensures { Puts text.old text.new (general_text mode register number next reference) }
 {
     match mode {
-        Mode::Direct => text.put(register_text(register)),
+        Mode::Direct => put_register(text, register),
         Mode::Deferred => put_in_parentheses(text, register),
         Mode::Increment => put_increment(text, register, number, reference),
         Mode::IncrementDeferred => {
-            text.put("*");
+            text.put_byte(b'*');
             put_increment(text, register, number, reference);
         }
         Mode::Decrement => {
-            text.put("-");
+            text.put_byte(b'-');
             put_in_parentheses(text, register);
         }
         Mode::DecrementDeferred => {
@@ -131,7 +140,7 @@ fn put_general(
         }
         Mode::Index => put_index(text, register, number, next, reference),
         Mode::IndexDeferred => {
-            text.put("*");
+            text.put_byte(b'*');
             put_index(text, register, number, next, reference);
         }
     }
@@ -172,7 +181,7 @@ fn put_operand(
             text.put("fr");
             text.put_octal(u64::from(value));
         }
-        Operand::Register(register) => text.put(register_text(register)),
+        Operand::Register(register) => put_register(text, register),
         Operand::Forward(offset) => put_shown(text, branch_target(address, offset), reference),
         Operand::Backward(offset) => put_shown(
             text,
@@ -186,7 +195,7 @@ fn put_operand(
 /// Appends an operand, if there is one, with what precedes it.
 fn put_operand_after(
     text: &mut Text,
-    front: &str,
+    front: u8,
     operand: Option<Operand>,
     word: Option<u16>,
     next: u32,
@@ -194,11 +203,11 @@ fn put_operand_after(
     reference: Option<Reference>,
 )
     requires { next < 0o400000 }
-    ensures { Puts text.old text.new (operand_after front.now operand word next address reference) }
+    ensures { Puts text.old text.new (operand_after (front ∷ []) operand word next address reference) }
 {
     match operand {
         Some(operand) => {
-            text.put(front);
+            text.put_byte(front);
             put_operand(text, operand, word.unwrap_or(0), next, address, reference);
         }
         None => {},
@@ -232,7 +241,7 @@ fn put_operands(
     let (word, other) = words;
     put_operand_after(
         text,
-        " ",
+        b' ',
         instruction.first,
         word,
         next,
@@ -241,7 +250,7 @@ fn put_operands(
     );
     put_operand_after(
         text,
-        ",",
+        b',',
         instruction.second,
         other,
         later,
