@@ -2,10 +2,10 @@
 use Rattle.std.proofs.Common.{◌≡◌, ℕ, ◌+◌, ◌<◌, List, [], ◌∷◌, ◌++◌, refl, ap, arith}
 use Rattle.std.specs.{Prelude.codes, Prelude.drop, Prelude.get_or, Prelude.Result, Prelude.Ok, Prelude.Err, Fmt.digits}
 use Rattle.aout_core.specs.{declared.reloc.Reloc.Reloc, declared.symbol.Symbol.Symbol, Contents.Contents, Contents.IsSound}
-use Rattle.listings.specs.declared.fault.Reason.TheVariants.{NotOctal, UnknownWord, WrongNumber, NoMagic, OddSize}
+use Rattle.listings.specs.declared.fault.Reason.TheVariants.{NotOctal, UnknownWord, WrongAddress, WrongNumber, NoMagic, OddSize}
 use Rattle.listings.specs.Listing.{gap, no_remarks, listing}
 use Rattle.listings.specs.{declared.fault.Reason.Reason, Laws.ListingLaw, Reading.Mistakes, Reading.read}
-use Rattle.listings.specs.declared.draft.Addresses.TheVariants.{Compared}
+use Rattle.listings.specs.declared.draft.Addresses.TheVariants.{Compared, Computed}
 use Rattle.texts.specs.{Numbers.six_digits, Numbers.octal, Names.printable_name, Lines.text_of}
 use Rattle.conformance.specs.Samples.{sym as entry_of, object, header, _f}
 use Rattle.conformance.proofs.LdRuns.{sound_file}
@@ -63,6 +63,13 @@ no_equation = refl
 
 odd_bss : read Compared (codes "bss 3\n") ≡ mistake 1 5 OddSize
 odd_bss = refl
+
+-- a word that was put in: the address that is next is said, and later lines are right
+wrong_address : read Compared (codes "text\n0 207 0\n0 240 0\n2 5 0\n") ≡ mistake 3 1 (WrongAddress 2)
+wrong_address = refl
+
+computed_address : read Computed (codes "text\n0 207 0\n0 240 0\n") ≡ Ok (object (0o207 ∷ 0o240 ∷ []) (0 ∷ 0 ∷ []) [] [] 0 [])
+computed_address = refl
 
 -- the law, of one way to write a file
 abbrev ReadsBack : (Contents → List ℕ) → Type 0
