@@ -82,7 +82,7 @@ enum v7_fault {
     V7_NO_COLUMN = 61,         /* a column is missing */
     V7_NOT_OCTAL = 62,         /* a number has a byte that is not an octal digit */
     V7_TOO_LARGE = 63,         /* a number is over 0177777 */
-    V7_BAD_NAME = 64,          /* a byte of a name does not print, or a backslash is not followed by three octal digits up to 377 */
+    V7_BAD_NAME = 64,          /* a byte of a name does not print or follows a NUL, or after a backslash are not three octal digits up to 377 */
     V7_WRONG_ADDRESS = 65,     /* the address is not that of the next word */
     V7_WRONG_NUMBER = 66,      /* the number is not that of the next symbol */
     V7_TOO_MANY_WORDS = 67,    /* the section has 32,767 words already */
@@ -94,6 +94,7 @@ enum v7_fault {
     V7_AFTER_TABLE = 73,       /* a word comes after the symbols */
     V7_NO_MAGIC = 74,          /* no file has this magic number */
     V7_ODD_BSS = 75,           /* the size of bss is odd */
+    V7_LONG_SYMBOL = 76,       /* a name has more than 8 bytes */
     /* an object in GNU's form: `place` is the byte of the file, and `word` a number, as said here */
     V7_BAD_STRINGS = 81,       /* the strings have a length under 4 */
     V7_OVERLAY = 82,           /* the symbol of number `word` belongs to an overlay */
@@ -192,6 +193,8 @@ static inline const char *v7_strerror(uint32_t fault)
         return "no such magic number";
     case V7_ODD_BSS:
         return "odd size of bss";
+    case V7_LONG_SYMBOL:
+        return "more than 8 bytes in a name";
     case V7_BAD_STRINGS:
         return "the strings have a length under 4";
     case V7_OVERLAY:
@@ -218,11 +221,11 @@ static inline const char *v7_strerror(uint32_t fault)
 struct v7_answer {
     uint32_t fault;     /* of enum v7_fault */
     uint32_t word;      /* V7_BAD_RELOCATION, V7_BAD_SYMBOL_NUMBER: the index of the word, text before data, from 0. V7_TOO_LONG:
-                         * the first part that is too long, of enum v7_part. 61 to 75: the column, or 0xffffffff if it is larger.
+                         * the first part that is too long, of enum v7_part. 61 to 76: the column, or 0xffffffff if it is larger.
                          * v7_from_gnu: with V7_BAD_MAGIC the word that is there, with V7_ODD_SIZE the part, with
                          * V7_TOO_MANY_SYMBOLS how many symbols stay, and with 82 to 89 as described there. Otherwise 0 */
     size_t place;       /* a number, counted from 0. For the faults 11 to 34 of a link it is that of the object, and for
-                         * V7_MANY_NAMES that of the name. For 61 to 75 it is the line, counted from 1. For v7_from_gnu it is the
+                         * V7_MANY_NAMES that of the name. For 61 to 76 it is the line, counted from 1. For v7_from_gnu it is the
                          * byte of the file. For V7_NO_MEMORY it is that of an object which the call reached, or 0. Otherwise 0 */
     size_t size;        /* the size of the result; 0 for v7_take_apart and v7_read */
     size_t report_size; /* for v7_remarks the number of remarks; otherwise 0 */
@@ -275,7 +278,8 @@ uint32_t v7_disassemble_words(uint16_t address, const uint16_t *words, size_t wo
 uint32_t v7_list(const unsigned char *bytes, size_t size, unsigned char *room, size_t room_size, struct v7_answer *answer);
 
 /* Writes the file that a listing describes, as `v7-object` does: v7-object(1) has the form. TEXT may have notes and remarks, which are
- * not read. Faults: 61 to 75 for the first mistake, V7_NO_ROOM. V7_NO_MEMORY comes once all lines before a word or a symbol are read. */
+ * not read. Faults: 61 to 76 for the first mistake, V7_NO_ROOM. V7_NO_MEMORY comes once all lines before a word, a symbol or a second
+ * mistake are read. */
 uint32_t v7_from_listing(const unsigned char *text, size_t size, unsigned char *room, size_t room_size, struct v7_answer *answer);
 
 /* Writes the object that BYTES, an object of GNU's assembler, become, as `v7-from-gnu` does. Faults, the first that applies:

@@ -45,6 +45,8 @@ OTHERS = {
     "V7_NO_COLUMN": ("library_calls/src/cause.rt", r"Reason::Missing => (\d+),", 1),
     "V7_TABLE_FULL": ("library_calls/src/cause.rt", r"Reason::TooManySymbols => (\d+),", 1),
     "V7_ODD_BSS": ("library_calls/src/cause.rt", r"Reason::OddSize => (\d+),", 1),
+    "V7_LONG_NAME": ("library_calls/src/cause.rt", r"Cause::LongName => (\d+),", 1),
+    "V7_LONG_SYMBOL": ("library_calls/src/cause.rt", r"Reason::LongName => (\d+),", 1),
     "V7_DROP_DEBUGGER": ("library_calls/src/gnu_call.rt", r"drops_debugger: has_bit\(bits, (\d+)\)", 1),
     "V7_DROP_UNUSED": ("library_calls/src/gnu_call.rt", r"has_bit\(bits, (\d+)\) \{\s*Locals::KeepNeeded", 1),
     "V7_DROP_LOCALS": ("library_calls/src/gnu_call.rt", r"has_bit\(bits, (\d+)\) \{\s*Locals::KeepNone", 1),

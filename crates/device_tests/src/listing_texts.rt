@@ -1,6 +1,6 @@
 //! Listings that are read, and written again byte for byte. What is refused is in cases.
 use aout_core::{File, Reloc};
-use listings::{Nothing, read_listing, write_listing};
+use listings::{Addresses, Nothing, read_listing, write_listing};
 
 /// A listing that was written by hand, with notes, remarks and short numbers.
 static BY_HAND: &[u8] =
@@ -30,13 +30,13 @@ fn is_main(file: &File) -> bool {
 
 #[test]
 fn by_hand(rt: HostRuntime) {
-    let file = read_listing(rt.alloc(), BY_HAND);
+    let file = read_listing(rt.alloc(), Addresses::Compared, BY_HAND);
     assert!(rt; file.is_ok_and(|file| is_main(&file)));
 }
 
 /// Whether the file of a listing is written as this text.
 fn comes_out(rt: &HostRuntime, listing: &[u8], text: &[u8]) -> bool {
-    let Ok(file) = read_listing(rt.alloc(), listing) else {
+    let Ok(file) = read_listing(rt.alloc(), Addresses::Compared, listing) else {
         return false;
     };
     let Ok(written) = write_listing(rt.alloc(), &file, &Nothing) else {

@@ -2,6 +2,7 @@
 ghost use Rattle.std.specs.Prelude.{◌≡◌, Ok, IfOk};
 ghost use Rattle.listings.specs.Listing.{listing};
 ghost use Rattle.listings.specs.Reading.{read};
+ghost use Rattle.listings.specs.declared.draft.Addresses.TheVariants.{Compared};
 ghost use Rattle.instructions.specs.declared.unix.Decoder.TheVariants.{Unix};
 ghost use Rattle.disassemblies.specs.Starts.{starts};
 ghost use Rattle.explanations.specs.Said.{explained};
@@ -25,7 +26,7 @@ pub fn write_explained(
     ensures lists { IfOk result (λ v. v.items
         ≡ listing (explained (starts Unix sweep.now) sweep.now notes.now.lines findings.now.lines)
         sweep.now) }
-    ensures again { IfOk result (λ v. read v.items ≡ Ok sweep.now) }
+    ensures again { IfOk result (λ v. read Compared v.items ≡ Ok sweep.now) }
 {
     let remarks = Explained {
         sweep,

@@ -11,12 +11,13 @@ use Rattle.library_calls.specs.declared.cause.Cause.TheVariants.{NoOption, TooLo
 use Rattle.library_calls.specs.FileAnswers.{checked_in, disassembled_in, file_in, names_in, nm_options_in, nm_options_of, object_in}
 use Rattle.library_calls.specs.FileAnswers.{object_of, sizes_in, stripped_in}
 use Rattle.library_calls.specs.ObjectParts.{Pieces, contents_for, file_for, header_for, header_of, made_of, parts_in, pieces_of, whole_in}
-use Rattle.library_calls.specs.{declared.cause.Cause.Cause, declared.cause.Refusal.Refusal, Causes.at, Causes.mistake_of, Causes.number_of}
+use Rattle.library_calls.specs.{declared.cause.Cause.Cause, declared.cause.Refusal.Refusal, Causes.at, Causes.first_mistake, Causes.number_of}
 use Rattle.library_calls.specs.{Causes.reason_number, ListingAnswers.described_in, ListingAnswers.listed, ListingAnswers.listed_in}
 use Rattle.link_session.specs.{Labelled.objects, Limits.refusal}
 use Rattle.symtools.specs.{NmLists.nm_text, SizeLines.size_text}
 use Rattle.disassemblies.specs.Columns.{disassembly}
-use Rattle.listings.specs.{Reading.read, declared.fault.Fault.Fault, declared.fault.Reason.Reason}
+use Rattle.listings.specs.{Reading.read, Reading.Mistakes, declared.fault.Reason.Reason}
+use Rattle.listings.specs.declared.draft.Addresses.TheVariants.{Compared}
 use Rattle.library_calls.proofs.FileLemmas.{object_is}
 use Rattle.aout_core.specs.declared.object.ObjectFault.TheVariants as faults
 use Rattle.aout_core.specs.declared.file.ReadFault.TheVariants as reads
@@ -97,8 +98,8 @@ not_memory_reason reasons.Missing = other 61 refl
 not_memory_reason reasons.NotOctal = other 62 refl
 not_memory_reason reasons.TooLarge = other 63 refl
 not_memory_reason reasons.BadName = other 64 refl
-not_memory_reason reasons.WrongAddress = other 65 refl
-not_memory_reason reasons.WrongNumber = other 66 refl
+not_memory_reason (reasons.WrongAddress next) = other 65 refl
+not_memory_reason (reasons.WrongNumber next) = other 66 refl
 not_memory_reason reasons.TooManyWords = other 67 refl
 not_memory_reason reasons.TooManySymbols = other 68 refl
 not_memory_reason reasons.NoSection = other 69 refl
@@ -108,14 +109,15 @@ not_memory_reason reasons.TooLate = other 72 refl
 not_memory_reason reasons.AfterTable = other 73 refl
 not_memory_reason reasons.NoMagic = other 74 refl
 not_memory_reason reasons.OddSize = other 75 refl
+not_memory_reason reasons.LongName = other 76 refl
 
-not_memory_mistake : (r : Result Contents Fault) → IsNotMemory (refused_as mistake_of r)
+not_memory_mistake : (r : Result Contents Mistakes) → IsNotMemory (refused_as first_mistake r)
 not_memory_mistake (Ok c) = tt
-not_memory_mistake (Err fault) = not_memory_reason fault.reason
+not_memory_mistake (Err mistakes) = not_memory_reason mistakes.first.reason
 
 pub not_memory_described : (text : List ℕ) → IsNotMemory (described_in text)
 not_memory_described text =
-    is_not_memory_then (refused_as mistake_of (read text)) (λ c. Ok (encoding c)) (not_memory_mistake (read text)) (λ c. tt)
+    is_not_memory_then (refused_as first_mistake (read Compared text)) (λ c. Ok (encoding c)) (not_memory_mistake (read Compared text)) (λ c. tt)
 
 pub not_memory_apart : (bytes : List ℕ) → CauseIsNotMemory (parts_in bytes)
 not_memory_apart bytes = not_memory_then (object_in bytes) (λ c. Ok (pieces_of c)) (not_memory_object bytes) (λ c. tt)

@@ -7,7 +7,7 @@ use Rattle.gnu_objects.specs.declared.refusal.Size.{Size}
 use Rattle.gnu_objects.specs.declared.refusal.Size.TheVariants.{TextSize, DataSize, BssSize, SymbolSize}
 use Rattle.link_session.specs.declared.entry.AddFault.{AddFault}
 use Rattle.link_out.specs.{declared.linked.LinkFault.LinkFault, Steps.refused_as}
-use Rattle.listings.specs.{declared.fault.Fault.Fault, declared.fault.Reason.Reason}
+use Rattle.listings.specs.{Reading.Mistakes, declared.fault.Reason.Reason}
 use Rattle.library_calls.specs.declared.cause.Cause.TheVariants.{NoOption, Excluded, LongName, CutNames, ManyNames, TooLong}
 use Rattle.library_calls.specs.declared.cause.Cause.TheVariants.{NoSession, NothingKept}
 use Rattle.library_calls.specs.declared.cause.Cause.TheVariants.{BadFile, BadObject, NotAdded, NotLinked, BadListing, NotConverted, Memory}
@@ -37,9 +37,9 @@ cause_of_input (inputs.bad_file fault) = BadFile fault
 cause_of_input (inputs.bad_object fault) = BadObject fault
 cause_of_input (inputs.not_added fault) = NotAdded fault
 
--- a mistake of a listing, at its line
-abbrev pub mistake_of : Fault → Refusal
-mistake_of fault = record { cause = BadListing fault; place = fault.line }
+-- the first mistake of a listing, at its line
+abbrev pub first_mistake : Mistakes → Refusal
+first_mistake mistakes = record { cause = BadListing mistakes.first; place = mistakes.first.line }
 
 abbrev pub object_number : ObjectFault → ℕ
 object_number objects.NotAnObject = 21
@@ -52,8 +52,8 @@ reason_number reasons.Missing = 61
 reason_number reasons.NotOctal = 62
 reason_number reasons.TooLarge = 63
 reason_number reasons.BadName = 64
-reason_number reasons.WrongAddress = 65
-reason_number reasons.WrongNumber = 66
+reason_number (reasons.WrongAddress next) = 65
+reason_number (reasons.WrongNumber next) = 66
 reason_number reasons.TooManyWords = 67
 reason_number reasons.TooManySymbols = 68
 reason_number reasons.NoSection = 69
@@ -63,6 +63,7 @@ reason_number reasons.TooLate = 72
 reason_number reasons.AfterTable = 73
 reason_number reasons.NoMagic = 74
 reason_number reasons.OddSize = 75
+reason_number reasons.LongName = 76
 
 -- what an object in GNU's form has in common with a file has the number of that
 abbrev pub gnu_number : gnu.Refusal → ℕ

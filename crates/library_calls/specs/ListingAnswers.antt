@@ -5,8 +5,9 @@ use Rattle.disassemblies.specs.Starts.{starts}
 use Rattle.explanations.specs.Said.{explained}
 use Rattle.instructions.specs.declared.unix.Decoder.TheVariants.{Unix}
 use Rattle.link_out.specs.Steps.{and_then, refused_as}
+use Rattle.listings.specs.declared.draft.Addresses.TheVariants.{Compared}
 use Rattle.listings.specs.{Listing.listing, MemoryWanted.ListingMayRunOut, Reading.read}
-use Rattle.library_calls.specs.{declared.cause.Cause.Cause, declared.cause.Refusal.Refusal, Causes.mistake_of, FileAnswers.file_in}
+use Rattle.library_calls.specs.{declared.cause.Cause.Cause, declared.cause.Refusal.Refusal, Causes.first_mistake, FileAnswers.file_in}
 
 -- the listing with explanations, and without notes
 abbrev pub listed : Contents → List ℕ
@@ -18,8 +19,8 @@ listed_in bytes = and_then (file_in bytes) (λ c. Ok (listed c))
 
 -- the bytes of the file that a listing describes, or its first mistake
 abbrev pub described_in : List ℕ → Result (List ℕ) Refusal
-described_in text = and_then (refused_as mistake_of (read text)) (λ c. Ok (encoding c))
+described_in text = and_then (refused_as first_mistake (read Compared text)) (λ c. Ok (encoding c))
 
 -- memory may run out for a word or a symbol of the listing, or for the bytes of the file; that has no place
 abbrev pub DescribedMayRunOut : List ℕ → ℕ → Type 0
-DescribedMayRunOut text place = (place ≡ 0) × (ListingMayRunOut text ⊎ IsOk (described_in text))
+DescribedMayRunOut text place = (place ≡ 0) × (ListingMayRunOut Compared text ⊎ IsOk (described_in text))

@@ -51,7 +51,7 @@ pub enum Cause {
     NothingKept,
     /// 41 to 43: the objects can't be linked.
     NotLinked(LinkFault),
-    /// 61 to 75: a listing has this mistake.
+    /// 61 to 76: a listing has this mistake.
     BadListing(Fault),
     /// 11 to 14, 21 to 24, 42 and 81 to 89: an object in GNU's form is refused.
     NotConverted(gnu_objects::Refusal),
@@ -191,8 +191,8 @@ fn reason_number(reason: Reason) -> u32
         Reason::NotOctal => 62,
         Reason::TooLarge => 63,
         Reason::BadName => 64,
-        Reason::WrongAddress => 65,
-        Reason::WrongNumber => 66,
+        Reason::WrongAddress(_) => 65,
+        Reason::WrongNumber(_) => 66,
         Reason::TooManyWords => 67,
         Reason::TooManySymbols => 68,
         Reason::NoSection => 69,
@@ -202,6 +202,7 @@ fn reason_number(reason: Reason) -> u32
         Reason::AfterTable => 73,
         Reason::NoMagic => 74,
         Reason::OddSize => 75,
+        Reason::LongName => 76,
     }
 }
 

@@ -4,7 +4,8 @@ ghost use Rattle.aout_core.specs.Refusals.{refused};
 ghost use Rattle.link_out.specs.Steps.{refused_as};
 ghost use Rattle.listings.specs.MemoryWanted.{ListingMayRunOut};
 ghost use Rattle.listings.specs.Reading.{read};
-ghost use Rattle.library_calls.specs.Causes.{mistake_of};
+ghost use Rattle.listings.specs.declared.draft.Addresses.TheVariants.{Compared};
+ghost use Rattle.library_calls.specs.Causes.{first_mistake};
 ghost use Rattle.library_calls.specs.ListingAnswers.{DescribedMayRunOut, described_in, listed, listed_in};
 ghost use Rattle.library_calls.specs.declared.cause.Cause.TheVariants.{Memory};
 
@@ -15,7 +16,7 @@ use aout_core::File;
 use disassemblies::Sweep;
 use explanations::write_explained;
 use findings::Notes;
-use listings::{ListingFault, read_listing};
+use listings::{Addresses, ListingFault, read_listing};
 use std::alloc::{AllocError, Global};
 
 /// The listing of a file with explanations, and without notes, by its lines.
@@ -49,26 +50,26 @@ pub fn list_file(alloc: Global, bytes: &[u8]) -> Result<Vec<u8>, Cause>
 
 /// The file that a listing describes.
 fn file_described(alloc: Global, text: &[u8]) -> Result<File, Refusal>
-    ensures ok { IfOk result (λ file. refused_as mistake_of (read text.now) ≡ Ok file) }
+    ensures ok { IfOk result (λ file. refused_as first_mistake (read Compared text.now) ≡ Ok file) }
     ensures err { IfErr result (λ r.
-        r.cause ≢ Memory refused → refused_as mistake_of (read text.now) ≡ Err r) }
+        r.cause ≢ Memory refused → refused_as first_mistake (read Compared text.now) ≡ Err r) }
     ensures memory { IfErr result (λ r.
-        r.cause ≡ Memory refused → (r.place ≡ 0) × ListingMayRunOut text.now) }
+        r.cause ≡ Memory refused → (r.place ≡ 0) × ListingMayRunOut Compared text.now) }
 {
-    match read_listing(alloc, text) {
+    match read_listing(alloc, Addresses::Compared, text) {
         Ok(file) => Ok(file),
         Err(ListingFault::Memory(refused)) => Err(Refusal::from(refused)),
-        Err(ListingFault::Wrong(fault)) => Err(Refusal {
-            cause: Cause::BadListing(fault),
-            place: fault.line,
+        Err(ListingFault::Wrong(mistakes)) => Err(Refusal {
+            cause: Cause::BadListing(mistakes.first),
+            place: mistakes.first.line,
         }),
     }
 }
 
 /// The bytes of the file that a listing describes. (own choice)
 ///
-/// Errors: `BadListing`, 61 to 75, for the first mistake, with its line as the place; `Memory`, 50, if memory runs out for a word, a
-/// symbol or the file.
+/// Errors: `BadListing`, 61 to 76, for the first mistake, with its line as the place; `Memory`, 50, if memory runs out for a word, a
+/// symbol, a mistake after the first, or the file.
 pub fn from_listing(alloc: Global, text: &[u8]) -> Result<Vec<u8>, Refusal>
     ensures ok { IfOk result (λ written. described_in text.now ≡ Ok written.items) }
     ensures err { IfErr result (λ r. r.cause ≢ Memory refused → described_in text.now ≡ Err r) }

@@ -4,7 +4,7 @@ ghost use Rattle.aout_core.specs.Refusals.{refused};
 ghost use Rattle.listings.specs.declared.fault.ListingFault.TheVariants.{Memory};
 
 use aout_core::{File, Refused};
-use listings::{ListingFault, Nothing, read_listing, write_listing};
+use listings::{Addresses, ListingFault, Nothing, read_listing, write_listing};
 use std::alloc::Global;
 
 /// The file that the listing of a file is read as, which is that file.
@@ -13,7 +13,7 @@ pub(crate) fn read_back(alloc: Global, file: &File) -> Result<File, ListingFault
     ensures err { IfErr result (λ fault. fault ≡ Memory refused) }
 {
     match write_listing(alloc, file, &Nothing) {
-        Ok(text) => read_listing(alloc, &text),
+        Ok(text) => read_listing(alloc, Addresses::Compared, &text),
         Err(error) => Err(ListingFault::Memory(Refused::from(error))),
     }
 }

@@ -1,15 +1,17 @@
 -- A draft stays one of a file, whatever row is read.
 use Rattle.std.proofs.lemmas.Grind.{common_steps}
-use Rattle.std.proofs.Common.{◌≡◌, ℕ, ◌+◌, ◌<◌, Bool, true, eqb, eqb-true, List, [], ◌∷◌, length}
-use Rattle.std.proofs.Common.{subst, arith, length-append, rules}
+use Rattle.std.proofs.Common.{◌≡◌, ℕ, ◌+◌, ◌<◌, Bool, true, false, eqb, eqb-true, List, [], ◌∷◌, length}
+use Rattle.std.proofs.Common.{arith, length-append, rules}
 use Rattle.std.proofs.lemmas.Bool.{ltb-true}
 use Rattle.std.specs.Prelude.{if◌then◌else◌, Result, Ok, Err}
 use Rattle.aout_core.specs.{declared.reloc.Reloc.Reloc, declared.symbol.Symbol.Symbol}
 use Rattle.listings.specs.Drafts.{Segment, Draft}
 use Rattle.listings.specs.Reading.{Mistake, ◌>>=◌, with_word, word_entry, symbol_entry, entry_in}
-use Rattle.listings.specs.Reading.{only_first, not_last, named_by, row_by, row_read}
+use Rattle.listings.specs.Reading.{only_first, not_last, named_by, begins_with_digit, row_by, row_read, own, next_after}
+use Rattle.listings.specs.Reading.{State, line_by, line_read}
+use Rattle.listings.specs.declared.draft.Addresses.{Addresses}
 use Rattle.listings.specs.internal.Whole.{IsWhole, Begins, IsDraft}
-use Rattle.listings.specs.{declared.fault.Section.Section, declared.fault.Word.Word, Columns.Row}
+use Rattle.listings.specs.{declared.fault.Section.Section, declared.fault.Word.Word, Columns.Row, Columns.row_of, Octal.number}
 
 -- what holds of a value that may be missing
 abbrev Holds : {B : Type 0} → (B → Type 0) → Result B Mistake → Type 0
@@ -41,14 +43,14 @@ word_more : (flag : ℕ) (s : Segment) (w : ℕ) (rs : List Reloc) → IsWhole f
     length rs ≡ (if eqb flag 0 then 1 else 0) → IsWhole flag (with_word s w rs)
 word_more flag s w rs h room few = search (rules, length-append, one_more)
 
-word_whole : (start flag : ℕ) (s : Segment) (r : Row) → IsWhole flag s → Holds (IsWhole flag) (word_entry start flag s r)
-word_whole start flag s r h = search (rules, then_holds, both_hold, relocs_by, if_holds, word_more, ltb-true)
+word_whole : (a : Addresses) (next flag : ℕ) (s : Segment) (r : Row) → IsWhole flag s → Holds (IsWhole flag) (word_entry a next flag s r)
+word_whole a next flag s r h = search (rules, then_holds, both_hold, relocs_by, if_holds, word_more, ltb-true)
 
 abbrev Few : List Symbol → Type 0
 Few ss = length ss < 5462
 
-symbol_few : (ss : List Symbol) (r : Row) → Few ss → Holds Few (symbol_entry ss r)
-symbol_few ss r h = search (rules, then_holds, if_holds, ltb-true, length-append)
+symbol_few : (next : ℕ) (ss : List Symbol) (r : Row) → Few ss → Holds Few (symbol_entry next ss r)
+symbol_few next ss r h = search (rules, then_holds, if_holds, ltb-true, length-append)
 
 -- a row that begins with a digit
 entry_keeps : (d : Draft) (r : Row) (s : Section) → d.section ≡ s → IsDraft d → Holds IsDraft (entry_in s d r)
@@ -64,8 +66,8 @@ first_holds s found h = search rules
 last_holds : (s : Section) (found : Result Draft Mistake) → Holds IsDraft found → Holds IsDraft (not_last s found)
 last_holds s found h = search rules
 
-in_section : (d : Draft) (s : Section) → IsDraft d → Begins s d.text_part d.data_part → IsDraft (record d { section = s })
-in_section d s h begins = search rules
+in_section : (d : Draft) (s : Section) (n : ℕ) → IsDraft d → Begins s d.text_part d.data_part → IsDraft (record d { section = s; next = n })
+in_section d s n h begins = search rules
 
 word_keeps : (w : Word) (d : Draft) (n : Result ℕ Mistake) → IsDraft d → Holds IsDraft (named_by w d n)
 word_keeps w d n h = grind (arith, common_steps, if_holds, in_section, then_holds, eqb-true, first_holds, flag_keeps)
@@ -74,5 +76,16 @@ row_keeps_by : (first : List ℕ) (d : Draft) (r : Row) → IsDraft d → Holds 
 row_keeps_by [] d r h = h
 row_keeps_by (b ∷ bs) d r h = search (rules, if_holds, entry_keeps, last_holds, word_keeps)
 
-pub row_keeps : (d e : Draft) (r : Row) → IsDraft d → row_read d r ≡ Ok e → IsDraft e
-row_keeps d e r h found = subst (λ (x : Result Draft Mistake). Holds IsDraft x) found (row_keeps_by r.first d r h)
+passed_keeps : (d : Draft) (t : Bool) (n : ℕ) → IsDraft d → IsDraft (if t then record d { next = n } else d)
+passed_keeps d true n h = search rules
+passed_keeps d false n h = h
+
+line_keeps_by : (s : State) (l : List ℕ) (found : Result Draft Mistake) → Holds IsDraft found → IsDraft s.draft → IsDraft (line_by s l found).draft
+line_keeps_by s l (Ok d) h before = h
+line_keeps_by s l (Err m) h before =
+    passed_keeps s.draft (begins_with_digit (row_of l).first)
+    (next_after s.draft.section s.draft.next (own s.draft.next (number (row_of l).first))) before
+
+-- whether the line has a mistake or not
+pub line_keeps : (s : State) (l : List ℕ) → IsDraft s.draft → IsDraft (line_read s l).draft
+line_keeps s l h = line_keeps_by s l (row_read s.draft (row_of l)) (row_keeps_by (row_of l).first s.draft (row_of l) h) h

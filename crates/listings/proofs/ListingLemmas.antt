@@ -7,12 +7,13 @@ use Rattle.std.specs.{List.AllByRecursion}
 use Rattle.aout_core.specs.Contents.{Contents, is_magic, has_whole_sizes, IsWord, IsSound}
 use Rattle.aout_core.specs.{declared.reloc.Reloc.Reloc, declared.symbol.Symbol.Symbol, declared.header.Header.Header, Addresses.data_start}
 use Rattle.aout_core.specs.{declared.part.Part.Part}
-use Rattle.listings.specs.declared.fault.Section.TheVariants.{InText, InData, InSymbols}
+use Rattle.listings.specs.declared.fault.Section.TheVariants.{InText, InData}
 use Rattle.listings.specs.Columns.{Row, row_of, column, from_third, from_fourth}
 use Rattle.listings.specs.Drafts.{Segment, Draft, empty_segment, empty_draft, finished}
 use Rattle.listings.specs.Listing.{Remarks, gap, wide, remarked, word_line, word_lines, symbol_lines, named_line, unusual, note_lines}
 use Rattle.listings.specs.Listing.{head_lines, text_lines, data_lines, bss_lines, table_lines, listing_lines, listing}
-use Rattle.listings.specs.Reading.{◌>>=◌, in_column, named, is_label, row_read, lines_read, file_of, read}
+use Rattle.listings.specs.Reading.{◌>>=◌, in_column, named, is_label, row_read, lines_read, at_first_line, file_of, read}
+use Rattle.listings.specs.declared.draft.Addresses.{Addresses}
 use Rattle.listings.specs.Laws.{IsLine, IsLabel, AreRemarks}
 use Rattle.listings.specs.{declared.fault.Reason.Reason, declared.fault.Reason.TheVariants.NoMagic}
 use Rattle.listings.specs.{declared.fault.Reason.TheVariants.OddSize, Octal.number}
@@ -20,8 +21,8 @@ use Rattle.texts.specs.{Numbers.six_digits, Numbers.octal, Lines.lines_in, Names
 use Rattle.listings.proofs.OctalLemmas.{IsNumber, octal_again, short_again, octal_digits, short_digits}
 use Rattle.listings.proofs.ColumnLemmas.{IsColumn, ink, number_column, row_two, line_of_column, line_gap, line_last, lines_again}
 use Rattle.listings.proofs.NameLemmas.{name_column}
-use Rattle.listings.proofs.RowLemmas.{Reads, reads_nil, reads_one, reads_both, reads_more, entry_row, Enters, AreRelocs, line_with}
-use Rattle.listings.proofs.RowLemmas.{line_alone, words_with, words_alone, symbols_read}
+use Rattle.listings.proofs.RowLemmas.{at_line, Reads, reads_nil, reads_one, reads_both, reads_more, entry_row, Enters, AreRelocs, line_with}
+use Rattle.listings.proofs.RowLemmas.{line_alone, words_with, words_alone, in_symbols, symbols_read}
 use Rattle.aout_core.specs.declared.part.Part.TheVariants as parts
 
 -- no line has a newline
@@ -154,20 +155,21 @@ short_row d w n put h small even found =
     ∙ rw even refl
 
 -- what has been read after the magic number
-abbrev with_magic : ℕ → Draft
-with_magic n = let d : Draft = empty_draft in record d { magic = n }
+abbrev with_magic : Addresses → ℕ → Draft
+with_magic a n = let d : Draft = empty_draft a in record d { magic = n }
 
 whole_bss : (h : Header) → IsTrue (has_whole_sizes h) → eqb (h.bss_size % 2) 0 ≡ true
 whole_bss h whole = search rules
 
 -- the magic number, which has to be one that a file has
-magic_row : (n : ℕ) → IsWord n → IsTrue (is_magic n) → row_read empty_draft (row_of (named_line (codes "magic") n)) ≡ Ok (with_magic n)
-magic_row n small is =
-    ap (row_read empty_draft) (ap (λ (y : List ℕ). row_of (gap 0 (codes "magic") y)) (sym (append-nil (six_digits n)))
+magic_row : (a : Addresses) (n : ℕ) → IsWord n → IsTrue (is_magic n) →
+    row_read (empty_draft a) (row_of (named_line (codes "magic") n)) ≡ Ok (with_magic a n)
+magic_row a n small is =
+    ap (row_read (empty_draft a)) (ap (λ (y : List ℕ). row_of (gap 0 (codes "magic") y)) (sym (append-nil (six_digits n)))
     ∙ row_two 0 (codes "magic") (six_digits n) [] magic_column (octal_column n))
-    ∙ unlabelled empty_draft (codes "magic") (six_digits n) (column (from_third (gap 0 (codes "magic") (six_digits n ++ []))))
+    ∙ unlabelled (empty_draft a) (codes "magic") (six_digits n) (column (from_third (gap 0 (codes "magic") (six_digits n ++ []))))
     (column (from_fourth (gap 0 (codes "magic") (six_digits n ++ [])))) (octal_digits n)
-    ∙ ap (λ (x : Result ℕ Reason). in_column 1 x >>= (λ (y : ℕ). if is_magic y then Ok (with_magic y) else Err (1, NoMagic)))
+    ∙ ap (λ (x : Result ℕ Reason). in_column 1 x >>= (λ (y : ℕ). if is_magic y then Ok (with_magic a y) else Err (1, NoMagic)))
     (octal_again n small)
     ∙ rw is refl
 
@@ -187,25 +189,25 @@ notes_read d [] = reads_nil d
 notes_read d (n ∷ ns) = reads_more d d d (47 ∷ n) (map (λ (note : List ℕ). 47 ∷ note) ns) refl (notes_read d ns)
 
 -- and after the flag
-abbrev with_flag : Contents → ℕ → Draft
-with_flag c n = let d : Draft = with_magic c.header.magic in record d { flag = n }
+abbrev with_flag : Addresses → Contents → ℕ → Draft
+with_flag a c n = let d : Draft = with_magic a c.header.magic in record d { flag = n }
 
-abbrev head_draft : Contents → Draft
-head_draft c = with_flag c c.header.flag
+abbrev head_draft : Addresses → Contents → Draft
+head_draft a c = with_flag a c c.header.flag
 
-head_reads : (c : Contents) → IsSound c → Reads empty_draft (head_lines c.header) (head_draft c)
-head_reads c sound =
+head_reads : (a : Addresses) (c : Contents) → IsSound c → Reads (empty_draft a) (head_lines c.header) (head_draft a c)
+head_reads a c sound =
     let h = sound.header in
-    reads_both empty_draft (with_magic c.header.magic) (head_draft c) (unusual 0o407 (codes "magic") c.header.magic)
+    reads_both (empty_draft a) (with_magic a c.header.magic) (head_draft a c) (unusual 0o407 (codes "magic") c.header.magic)
     (unusual 0 (codes "flag") c.header.flag)
-    (unusual_reads with_magic 0o407 c.header.magic (codes "magic") (magic_row c.header.magic h.magic sound.fits.magic))
-    (unusual_reads (with_flag c) 0 c.header.flag (codes "flag")
-    (header_row (with_magic c.header.magic) (codes "flag") c.header.flag (with_flag c) flag_column h.flag
-    (λ k m. unlabelled (with_magic c.header.magic) (codes "flag") (six_digits c.header.flag) k m (octal_digits c.header.flag))))
+    (unusual_reads (with_magic a) 0o407 c.header.magic (codes "magic") (magic_row a c.header.magic h.magic sound.fits.magic))
+    (unusual_reads (with_flag a c) 0 c.header.flag (codes "flag")
+    (header_row (with_magic a c.header.magic) (codes "flag") c.header.flag (with_flag a c) flag_column h.flag
+    (λ k m. unlabelled (with_magic a c.header.magic) (codes "flag") (six_digits c.header.flag) k m (octal_digits c.header.flag))))
 
--- what has been read within the text, the data and the table
-abbrev in_text : Contents → Segment → Draft
-in_text c s = let d : Draft = head_draft c in record d { section = InText; text_part = s }
+-- what has been read within the text, the data and the table, and what is next
+abbrev in_text : Addresses → Contents → Segment → ℕ → Draft
+in_text a c s n = let d : Draft = head_draft a c in record d { section = InText; next = n; text_part = s }
 
 abbrev text_segment : Contents → Segment
 text_segment c = record { words = c.text_words; relocs = c.text_reloc }
@@ -213,97 +215,118 @@ text_segment c = record { words = c.text_words; relocs = c.text_reloc }
 abbrev data_segment : Contents → Segment
 data_segment c = record { words = c.data_words; relocs = c.data_reloc }
 
-abbrev in_data : Contents → Segment → Draft
-in_data c s = let d : Draft = head_draft c in record d { section = InData; text_part = text_segment c; data_part = s }
+abbrev in_data : Addresses → Contents → Segment → ℕ → Draft
+in_data a c s n = let d : Draft = head_draft a c in record d { section = InData; next = n; text_part = text_segment c; data_part = s }
 
-abbrev with_bss : Contents → ℕ → Draft
-with_bss c n = let d : Draft = in_data c (data_segment c) in record d { bss = n }
+abbrev text_end : Contents → ℕ
+text_end c = (0 + 2 * length c.text_words) % 65536
 
-abbrev with_entry : Contents → ℕ → Draft
-with_entry c n = let d : Draft = with_bss c c.header.bss_size in record d { entry = n }
+abbrev data_begin : Contents → ℕ
+data_begin c = data_start c.header.magic c.header.text_size
 
-abbrev with_unused : Contents → ℕ → Draft
-with_unused c n = let d : Draft = with_entry c c.header.entry_point in record d { unused = n }
+abbrev data_end : Contents → ℕ
+data_end c = (data_begin c + 2 * length c.data_words) % 65536
 
-abbrev header_draft : Contents → Draft
-header_draft c = with_unused c c.header.unused
+abbrev data_draft : Addresses → Contents → Draft
+data_draft a c = in_data a c (data_segment c) (data_end c)
 
-abbrev in_table : Contents → List Symbol → Draft
-in_table c ss = let d : Draft = header_draft c in record d { section = InSymbols; symbols = ss }
+abbrev with_bss : Addresses → Contents → ℕ → Draft
+with_bss a c n = let d : Draft = data_draft a c in record d { bss = n }
 
-bss_reads : (c : Contents) → IsSound c → Reads (in_data c (data_segment c)) (bss_lines c.header) (header_draft c)
-bss_reads c sound =
+abbrev with_entry : Addresses → Contents → ℕ → Draft
+with_entry a c n = let d : Draft = with_bss a c c.header.bss_size in record d { entry = n }
+
+abbrev with_unused : Addresses → Contents → ℕ → Draft
+with_unused a c n = let d : Draft = with_entry a c c.header.entry_point in record d { unused = n }
+
+abbrev header_draft : Addresses → Contents → Draft
+header_draft a c = with_unused a c c.header.unused
+
+abbrev in_table : Addresses → Contents → Draft
+in_table a c = in_symbols (header_draft a c) c.symbols (0 + length c.symbols)
+
+bss_reads : (a : Addresses) (c : Contents) → IsSound c → Reads (data_draft a c) (bss_lines c.header) (header_draft a c)
+bss_reads a c sound =
     let h = sound.header in
-    let data_draft = in_data c (data_segment c) in
-    reads_more data_draft (with_bss c c.header.bss_size) (header_draft c) (gap 0 (codes "bss") (octal c.header.bss_size))
+    reads_more (data_draft a c) (with_bss a c c.header.bss_size) (header_draft a c) (gap 0 (codes "bss") (octal c.header.bss_size))
     (unusual 0 (codes "entry") c.header.entry_point ++ unusual 0 (codes "unused") c.header.unused)
-    (short_row data_draft (codes "bss") c.header.bss_size (with_bss c) bss_column h.bss_size (whole_bss c.header sound.fits.sizes)
-    (λ k m. unlabelled data_draft (codes "bss") (octal c.header.bss_size) k m (short_digits c.header.bss_size)))
-    (reads_both (with_bss c c.header.bss_size) (with_entry c c.header.entry_point) (header_draft c)
+    (short_row (data_draft a c) (codes "bss") c.header.bss_size (with_bss a c) bss_column h.bss_size (whole_bss c.header sound.fits.sizes)
+    (λ k m. unlabelled (data_draft a c) (codes "bss") (octal c.header.bss_size) k m (short_digits c.header.bss_size)))
+    (reads_both (with_bss a c c.header.bss_size) (with_entry a c c.header.entry_point) (header_draft a c)
     (unusual 0 (codes "entry") c.header.entry_point) (unusual 0 (codes "unused") c.header.unused)
-    (unusual_reads (with_entry c) 0 c.header.entry_point (codes "entry")
-    (header_row (with_bss c c.header.bss_size) (codes "entry") c.header.entry_point (with_entry c) entry_column h.entry_point (λ k m.
-    unlabelled (with_bss c c.header.bss_size) (codes "entry") (six_digits c.header.entry_point) k m (octal_digits c.header.entry_point))))
-    (unusual_reads (with_unused c) 0 c.header.unused (codes "unused")
-    (header_row (with_entry c c.header.entry_point) (codes "unused") c.header.unused (with_unused c) unused_column h.unused (λ k m.
-    unlabelled (with_entry c c.header.entry_point) (codes "unused") (six_digits c.header.unused) k m (octal_digits c.header.unused)))))
+    (unusual_reads (with_entry a c) 0 c.header.entry_point (codes "entry")
+    (header_row (with_bss a c c.header.bss_size) (codes "entry") c.header.entry_point (with_entry a c) entry_column h.entry_point (λ k m.
+    unlabelled (with_bss a c c.header.bss_size) (codes "entry") (six_digits c.header.entry_point) k m (octal_digits c.header.entry_point))))
+    (unusual_reads (with_unused a c) 0 c.header.unused (codes "unused")
+    (header_row (with_entry a c c.header.entry_point) (codes "unused") c.header.unused (with_unused a c) unused_column h.unused (λ k m.
+    unlabelled (with_entry a c c.header.entry_point) (codes "unused") (six_digits c.header.unused) k m (octal_digits c.header.unused)))))
 
 -- the relocation of a segment is whole, or not there
-segment_reads : (x : Remarks) (p : Part) (put : Segment → Draft) (start flag at size : ℕ) (ws : List ℕ)
+segment_reads : (x : Remarks) (p : Part) (put : Segment → ℕ → Draft) (a : Addresses) (flag at size : ℕ) (ws : List ℕ)
     (rs : List Reloc) (t : Bool) → AreRemarks x → eqb flag 0 ≡ t →
-    Enters put start flag → at ≡ start → 2 * length ws ≡ size → size < 65536 → 2 * length rs ≡ cond t size 0 →
+    Enters put a flag → 2 * length ws ≡ size → size < 65536 → 2 * length rs ≡ cond t size 0 →
     AllByRecursion IsWord ws → AreRelocs rs →
-    Reads (put empty_segment) (word_lines x p 0 at ws rs) (put (record { words = ws; relocs = rs }))
-segment_reads x p put start flag at size ws rs true are on enters place long small also words relocs =
-    words_with x p 0 put start flag at empty_segment ws rs are enters on (omega arith) (omega arith) words relocs (omega arith)
-segment_reads x p put start flag at size ws [] false are off enters place long small also words relocs =
-    words_alone x p 0 put start flag at empty_segment ws are enters off (omega arith) words (omega arith)
-segment_reads x p put start flag at size ws (r ∷ rs) false are off enters place long small also words relocs = absurd (omega arith)
+    Reads (put empty_segment (at % 65536)) (word_lines x p 0 at ws rs) (put (record { words = ws; relocs = rs }) ((at + 2 * length ws) % 65536))
+segment_reads x p put a flag at size ws rs true are on enters long small also words relocs =
+    words_with x p 0 put a flag at empty_segment ws rs are enters on (omega arith) words relocs (omega arith)
+segment_reads x p put a flag at size ws [] false are off enters long small also words relocs =
+    words_alone x p 0 put a flag at empty_segment ws are enters off words (omega arith)
+segment_reads x p put a flag at size ws (r ∷ rs) false are off enters long small also words relocs = absurd (omega arith)
 
-body_reads : (x : Remarks) (c : Contents) → AreRemarks x → IsSound c → Reads (head_draft c) (text_lines x c
-    ++ (data_lines x c ++ (bss_lines c.header ++ (table_lines x c ++ note_lines x.findings)))) (in_table c c.symbols)
-body_reads x c are sound =
+-- text ends where its size says
+text_ends : (c : Contents) → IsSound c → text_end c ≡ c.header.text_size
+text_ends c sound =
+    let long = sound.fits.text in
+    let small = sound.header.text_size in
+    omega arith
+
+body_reads : (a : Addresses) (x : Remarks) (c : Contents) → AreRemarks x → IsSound c → Reads (head_draft a c) (text_lines x c
+    ++ (data_lines x c ++ (bss_lines c.header ++ (table_lines x c ++ note_lines x.findings)))) (in_table a c)
+body_reads a x c are sound =
     let fits = sound.fits in
     let flag = c.header.flag in
-    let text : Reads (in_text c empty_segment) (word_lines x parts.Text 0 0 c.text_words c.text_reloc) (in_text c (text_segment c)) =
-    segment_reads x parts.Text (in_text c) 0 flag 0 c.header.text_size c.text_words c.text_reloc (eqb flag 0) are refl
-    (λ s f g k m h. entry_row (in_text c s) f g k m h) refl
+    let text_draft = in_text a c (text_segment c) (text_end c) in
+    let text : Reads (in_text a c empty_segment 0) (word_lines x parts.Text 0 0 c.text_words c.text_reloc) text_draft =
+    segment_reads x parts.Text (in_text a c) a flag 0 c.header.text_size c.text_words c.text_reloc (eqb flag 0) are refl
+    (λ s n f g k m h. entry_row (in_text a c s n) f g k m h)
     fits.text sound.header.text_size fits.text_relocation sound.text_words sound.text_reloc in
-    let data_rows : Reads (in_data c empty_segment) (word_lines x parts.Data 0
-    (data_start c.header.magic c.header.text_size) c.data_words c.data_reloc) (in_data c (data_segment c)) =
-    segment_reads x parts.Data (in_data c) (data_start c.header.magic (2 * length c.text_words)) flag
-    (data_start c.header.magic c.header.text_size) c.header.data_size c.data_words c.data_reloc (eqb flag 0) are refl
-    (λ s f g k m h. entry_row (in_data c s) f g k m h) (ap (data_start c.header.magic) (sym fits.text)) fits.«data»
+    let data_first = in_data a c empty_segment (data_begin c % 65536) in
+    let data_rows : Reads data_first (word_lines x parts.Data 0 (data_begin c) c.data_words c.data_reloc) (data_draft a c) =
+    segment_reads x parts.Data (in_data a c) a flag (data_begin c) c.header.data_size c.data_words c.data_reloc (eqb flag 0) are refl
+    (λ s n f g k m h. entry_row (in_data a c s n) f g k m h) fits.«data»
     sound.header.data_size fits.data_relocation sound.data_words sound.data_reloc in
+    let data_opens : row_read text_draft (row_of (codes "data")) ≡ Ok data_first =
+    ap (λ (n : ℕ). Ok (in_data a c empty_segment (data_start c.header.magic n % 65536))) (text_ends c sound) in
     let whole = fits.table in
     let small = sound.header.symbol_size in
-    let table : Reads (in_table c []) (symbol_lines x 0 c.symbols) (in_table c c.symbols) =
-    symbols_read x (in_table c []) 0 [] c.symbols refl sound.symbols (omega arith) in
-    let text_draft = in_text c (text_segment c) in
-    let data_draft = in_data c (data_segment c) in
-    let last = in_table c c.symbols in
-    reads_both (head_draft c) text_draft last (text_lines x c)
+    let table_first = in_symbols (header_draft a c) [] 0 in
+    let table : Reads table_first (symbol_lines x 0 c.symbols) (in_table a c) =
+    symbols_read x (header_draft a c) 0 [] c.symbols refl sound.symbols (omega arith) in
+    reads_both (head_draft a c) text_draft (in_table a c) (text_lines x c)
     (data_lines x c ++ (bss_lines c.header ++ (table_lines x c ++ note_lines x.findings)))
-    (reads_more (head_draft c) (in_text c empty_segment) text_draft (codes "text")
+    (reads_more (head_draft a c) (in_text a c empty_segment 0) text_draft (codes "text")
     (word_lines x parts.Text 0 0 c.text_words c.text_reloc) refl text)
-    (reads_both text_draft data_draft last (data_lines x c) (bss_lines c.header ++ (table_lines x c ++ note_lines x.findings))
-    (reads_more text_draft (in_data c empty_segment) data_draft (codes "data")
-    (word_lines x parts.Data 0 (data_start c.header.magic c.header.text_size) c.data_words c.data_reloc) refl data_rows)
-    (reads_both data_draft (header_draft c) last (bss_lines c.header) (table_lines x c ++ note_lines x.findings) (bss_reads c sound)
-    (reads_both (header_draft c) last last (table_lines x c) (note_lines x.findings) (reads_more (header_draft c)
-    (in_table c []) last (codes "symbols") (symbol_lines x 0 c.symbols) refl table) (notes_read last x.findings))))
+    (reads_both text_draft (data_draft a c) (in_table a c) (data_lines x c) (bss_lines c.header ++ (table_lines x c ++ note_lines x.findings))
+    (reads_more text_draft data_first (data_draft a c) (codes "data")
+    (word_lines x parts.Data 0 (data_begin c) c.data_words c.data_reloc) data_opens data_rows)
+    (reads_both (data_draft a c) (header_draft a c) (in_table a c) (bss_lines c.header) (table_lines x c ++ note_lines x.findings)
+    (bss_reads a c sound)
+    (reads_both (header_draft a c) (in_table a c) (in_table a c) (table_lines x c) (note_lines x.findings)
+    (reads_more (header_draft a c) table_first (in_table a c) (codes "symbols") (symbol_lines x 0 c.symbols) refl table)
+    (notes_read (in_table a c) x.findings))))
 
-finished_is : (c : Contents) → IsSound c → finished (in_table c c.symbols) ≡ c
-finished_is c sound = search rules
+finished_is : (a : Addresses) (c : Contents) → IsSound c → finished (in_table a c) ≡ c
+finished_is a c sound = search rules
 
-pub listing_read : (x : Remarks) (c : Contents) → AreRemarks x → IsSound c → read (listing x c) ≡ Ok c
-listing_read x c are sound =
-    let last = in_table c c.symbols in
+pub listing_read : (a : Addresses) (x : Remarks) (c : Contents) → AreRemarks x → IsSound c → read a (listing x c) ≡ Ok c
+listing_read a x c are sound =
+    let last = in_table a c in
+    let none = empty_draft a in
     let body = text_lines x c ++ (data_lines x c ++ (bss_lines c.header ++ (table_lines x c ++ note_lines x.findings))) in
-    let all = reads_both empty_draft empty_draft last (note_lines x.notes) (head_lines c.header ++ body) (notes_read empty_draft x.notes)
-    (reads_both empty_draft (head_draft c) last (head_lines c.header) body (head_reads c sound) (body_reads x c are sound)) 1 [] in
-    let said : lines_read 1 empty_draft (lines_in (listing x c)) ≡ Ok last =
-    ap (lines_read 1 empty_draft) (lines_again (listing_lines x c) (listing_lines_are x c are))
-    ∙ ap (lines_read 1 empty_draft) (sym (append-nil (listing_lines x c)))
+    let all = reads_both none none last (note_lines x.notes) (head_lines c.header ++ body) (notes_read none x.notes)
+    (reads_both none (head_draft a c) last (head_lines c.header) body (head_reads a c sound) (body_reads a x c are sound)) 1 [] in
+    let said : lines_read (at_first_line a) (lines_in (listing x c)) ≡ at_line all.0 last =
+    ap (lines_read (at_first_line a)) (lines_again (listing_lines x c) (listing_lines_are x c are))
+    ∙ ap (lines_read (at_first_line a)) (sym (append-nil (listing_lines x c)))
     ∙ all.1 in
-    ap file_of said ∙ ap Ok (finished_is c sound)
+    ap file_of said ∙ ap Ok (finished_is a c sound)

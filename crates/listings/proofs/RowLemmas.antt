@@ -6,7 +6,10 @@ use Rattle.std.specs.{Prelude.◌-◌, Prelude.Some, Prelude.None, Prelude.Resul
 use Rattle.aout_core.specs.{declared.reloc.Reloc.Reloc, declared.symbol.Symbol.Symbol, Contents.IsWord, Contents.IsSymbol}
 use Rattle.aout_core.specs.{declared.part.Part.Part}
 use Rattle.listings.specs.Listing.{Remarks, gap, wide, remarked, word_line, word_lines, symbol_line, symbol_lines}
-use Rattle.listings.specs.Reading.{Mistake, ◌>>=◌, relocs_of, with_word, word_entry, symbol_entry, entry_in, row_read, in_line, lines_read}
+use Rattle.listings.specs.Reading.{Mistake, ◌>>=◌, relocs_of, with_word, is_right, word_entry, symbol_entry, entry_in, row_read}
+use Rattle.listings.specs.Reading.{State, line_by, lines_read}
+use Rattle.listings.specs.declared.draft.Addresses.{Addresses}
+use Rattle.listings.specs.declared.draft.Addresses.TheVariants.{Compared, Computed}
 use Rattle.listings.specs.{declared.fault.Section.TheVariants.InSymbols, Octal.number, Columns.row_of, Columns.column, Columns.from_third}
 use Rattle.listings.specs.{Columns.from_fourth, Names.name_of, Drafts.Segment, Drafts.Draft, Laws.IsLabel, Laws.AreRemarks}
 use Rattle.texts.specs.{Numbers.six_digits, Numbers.octal, Names.printable_name}
@@ -14,21 +17,25 @@ use Rattle.listings.proofs.OctalLemmas.{octal_again, short_again, IsNumber, octa
 use Rattle.listings.proofs.ColumnLemmas.{number_column, row_two, row_three, row_four}
 use Rattle.listings.proofs.NameLemmas.{name_column, name_again}
 
+-- without a mistake so far
+abbrev pub at_line : ℕ → Draft → State
+at_line n d = record { number = n; draft = d; noted = record { first = None; others = [] } }
+
 -- these lines, whatever follows them, turn one draft into another
 abbrev pub Reads : Draft → List (List ℕ) → Draft → Type 0
-Reads d ls e = (n : ℕ) (rest : List (List ℕ)) → (m : ℕ) × (lines_read n d (ls ++ rest) ≡ lines_read m e rest)
+Reads d ls e = (n : ℕ) (rest : List (List ℕ)) → (m : ℕ) × (lines_read (at_line n d) (ls ++ rest) ≡ lines_read (at_line m e) rest)
 
 pub reads_nil : (d : Draft) → Reads d [] d
 reads_nil d = λ n rest. (n, refl)
 
 pub reads_one : (d e : Draft) (l : List ℕ) → row_read d (row_of l) ≡ Ok e → Reads d (l ∷ []) e
-reads_one d e l h = λ n rest. (n + 1, ap (λ (x : Result Draft Mistake). in_line n l x >>= (λ f. lines_read (n + 1) f rest)) h)
+reads_one d e l h = λ n rest. (n + 1, ap (λ (x : Result Draft Mistake). lines_read (line_by (at_line n d) l x) rest) h)
 
 pub reads_both : (d e f : Draft) (xs ys : List (List ℕ)) → Reads d xs e → Reads e ys f → Reads d (xs ++ ys) f
 reads_both d e f xs ys a b = λ n rest.
     let p = a n (ys ++ rest) in
     let q = b p.0 rest in
-    (q.0, ap (lines_read n d) (append_assoc xs ys rest) ∙ p.1 ∙ q.1)
+    (q.0, ap (lines_read (at_line n d)) (append_assoc xs ys rest) ∙ p.1 ∙ q.1)
 
 pub reads_more : (d e f : Draft) (l : List ℕ) (ls : List (List ℕ)) → row_read d (row_of l) ≡ Ok e → Reads e ls f → Reads d (l ∷ ls) f
 reads_more d e f l ls h b = reads_both d e f (l ∷ []) ls (reads_one d e l h) b
@@ -39,10 +46,14 @@ pub entry_row : (d : Draft) (f g k m : List ℕ) → IsNumber f →
     ≡ entry_in d.section d (record { first = f; second = g; third = k; fourth = m })
 entry_row d f g k m h = search rules
 
-word_found : (start flag at w : ℕ) (s : Segment) (rs : List Reloc) (f g k m : List ℕ) →
-    number f ≡ Ok at → number g ≡ Ok w → relocs_of flag k ≡ Ok rs → at ≡ (start + 2 * length s.words) % 65536 → length s.words < 32767 →
-    word_entry start flag s (record { first = f; second = g; third = k; fourth = m }) ≡ Ok (with_word s w rs)
-word_found start flag at w s rs f g k m hf hg hk place room = search rules
+right_here : (a : Addresses) (n : ℕ) → is_right a n n ≡ true
+right_here Compared n = search rules
+right_here Computed n = refl
+
+word_found : (a : Addresses) (flag at w : ℕ) (s : Segment) (rs : List Reloc) (f g k m : List ℕ) →
+    number f ≡ Ok at → number g ≡ Ok w → relocs_of flag k ≡ Ok rs → length s.words < 32767 →
+    word_entry a at flag s (record { first = f; second = g; third = k; fourth = m }) ≡ Ok (with_word s w rs)
+word_found a flag at w s rs f g k m hf hg hk room = search (rules, right_here)
 
 relocs_there : (flag : ℕ) (r : Reloc) → eqb flag 0 ≡ true → IsWord r.0 → relocs_of flag (octal r.0) ≡ Ok (r ∷ [])
 relocs_there flag r on h = rw (on, short_again r.0 h) refl
@@ -60,10 +71,10 @@ joined_more : (s : Segment) (w : ℕ) (r ws_r : List Reloc) (ws : List ℕ) → 
 joined_more s w r ws_r ws = λ i. record { words = append_assoc s.words (w ∷ []) ws i; relocs = append_assoc s.relocs r ws_r i }
 
 -- the rows of a section belong to this segment of a draft
-abbrev pub Enters : (Segment → Draft) → ℕ → ℕ → Type 0
-Enters put start flag = (s : Segment) (f g k m : List ℕ) → IsNumber f →
-    row_read (put s) (record { first = f; second = g; third = k; fourth = m })
-    ≡ (word_entry start flag s (record { first = f; second = g; third = k; fourth = m }) >>= (λ t. Ok (put t)))
+abbrev pub Enters : (Segment → ℕ → Draft) → Addresses → ℕ → Type 0
+Enters put a flag = (s : Segment) (n : ℕ) (f g k m : List ℕ) → IsNumber f →
+    row_read (put s n) (record { first = f; second = g; third = k; fourth = m })
+    ≡ (word_entry a n flag s (record { first = f; second = g; third = k; fourth = m }) >>= (λ t. Ok (put t ((n + 2) % 65536))))
 
 abbrev pub AreRelocs : List Reloc → Type 0
 AreRelocs rs = AllByRecursion (λ (r : Reloc). IsWord r.0) rs
@@ -83,93 +94,113 @@ labels_read : (d : Draft) (ls : List (List ℕ)) → AllByRecursion IsLabel ls �
 labels_read d [] h = reads_nil d
 labels_read d (l ∷ ls) h = reads_more d d d l ls (h.0.1 d) (labels_read d ls h.1)
 
+-- the same segment and the same address
+same_put : (put : Segment → ℕ → Draft) (s t : Segment) (n m : ℕ) → s ≡ t → n ≡ m → put s n ≡ put t m
+same_put put s t n m same next = λ i. put (same i) (next i)
+
 -- the words of a segment with relocation
-pub words_with : (x : Remarks) (p : Part) (i : ℕ) (put : Segment → Draft) (start flag at : ℕ) (s : Segment)
+pub words_with : (x : Remarks) (p : Part) (i : ℕ) (put : Segment → ℕ → Draft) (a : Addresses) (flag at : ℕ) (s : Segment)
     (ws : List ℕ) (rs : List Reloc) → AreRemarks x →
-    Enters put start flag → eqb flag 0 ≡ true → at ≡ start + 2 * length s.words → length rs ≡ length ws →
-    AllByRecursion IsWord ws → AreRelocs rs →
-    length s.words + length ws < 32768 → Reads (put s) (word_lines x p i at ws rs) (put (joined s ws rs))
-words_with x p i put start flag at s [] [] are enters on place same words relocs room =
-    subst (λ (t : Segment). Reads (put s) (x.labels p i) (put t)) (joined_nil s) (labels_read (put s) (x.labels p i) (are.labels p i))
-words_with x p i put start flag at s [] (r ∷ rs) are enters on place same words relocs room = absurd (omega arith)
-words_with x p i put start flag at s (w ∷ ws) [] are enters on place same words relocs room = absurd (omega arith)
-words_with x p i put start flag at s (w ∷ ws) (r ∷ rs) are enters on place same words relocs room =
-    let place_here : at % 65536 ≡ (start + 2 * length s.words) % 65536 = omega arith in
+    Enters put a flag → eqb flag 0 ≡ true → length rs ≡ length ws →
+    AllByRecursion IsWord ws → AreRelocs rs → length s.words + length ws < 32768 →
+    Reads (put s (at % 65536)) (word_lines x p i at ws rs) (put (joined s ws rs) ((at + 2 * length ws) % 65536))
+words_with x p i put a flag at s [] [] are enters on same words relocs room =
+    subst (λ (d : Draft). Reads (put s (at % 65536)) (x.labels p i) d)
+    (same_put put s (joined s [] []) (at % 65536) ((at + 2 * 0) % 65536) (joined_nil s) (omega arith))
+    (labels_read (put s (at % 65536)) (x.labels p i) (are.labels p i))
+words_with x p i put a flag at s [] (r ∷ rs) are enters on same words relocs room = absurd (omega arith)
+words_with x p i put a flag at s (w ∷ ws) [] are enters on same words relocs room = absurd (omega arith)
+words_with x p i put a flag at s (w ∷ ws) (r ∷ rs) are enters on same words relocs room =
     let here = at % 65536 in
-    let a = six_digits here in
+    let f = six_digits here in
     let b = six_digits w in
     let k = octal r.0 in
     let note = x.word p i in
     let line = word_line note here w (Some r) in
-    let form = gap 1 a (gap (wide 4 k) b (k ++ remarked note)) in
+    let form = gap 1 f (gap (wide 4 k) b (k ++ remarked note)) in
     let t : Segment = with_word s w (r ∷ []) in
     let last = column (from_fourth form) in
-    let found : row_read (put s) (row_of line) ≡ Ok (put t) =
-    ap (λ (l : List ℕ). row_read (put s) (row_of l)) (line_with note here w r)
-    ∙ ap (row_read (put s)) (row_three 1 (wide 4 k) a b k note (number_column a (octal_digits here))
+    let found : row_read (put s here) (row_of line) ≡ Ok (put t ((here + 2) % 65536)) =
+    ap (λ (l : List ℕ). row_read (put s here) (row_of l)) (line_with note here w r)
+    ∙ ap (row_read (put s here)) (row_three 1 (wide 4 k) f b k note (number_column f (octal_digits here))
     (number_column b (octal_digits w)) (number_column k (short_digits r.0)))
-    ∙ enters s a b k last (octal_digits here)
-    ∙ ap (λ (y : Result Segment Mistake). y >>= (λ u. Ok (put u)))
-    (word_found start flag here w s (r ∷ []) a b k last (octal_again here (omega arith)) (octal_again w words.0)
-    (relocs_there flag r on relocs.0) place_here (omega arith)) in
+    ∙ enters s here f b k last (octal_digits here)
+    ∙ ap (λ (y : Result Segment Mistake). y >>= (λ u. Ok (put u ((here + 2) % 65536))))
+    (word_found a flag here w s (r ∷ []) f b k last (octal_again here (omega arith)) (octal_again w words.0)
+    (relocs_there flag r on relocs.0) (omega arith)) in
     let long : length (s.words ++ w ∷ []) ≡ length s.words + 1 = length-append s.words (w ∷ []) in
-    let rest =
-    words_with x p (i + 1) put start flag (at + 2) t ws rs are enters on (omega arith) (omega arith) words.1 relocs.1 (omega arith) in
-    let last_draft = put (joined s (w ∷ ws) (r ∷ rs)) in
+    let rest = words_with x p (i + 1) put a flag (at + 2) t ws rs are enters on (omega arith) words.1 relocs.1 (omega arith) in
     let others = word_lines x p (i + 1) (at + 2) ws rs in
-    reads_both (put s) (put s) last_draft (x.labels p i) (line ∷ others) (labels_read (put s) (x.labels p i) (are.labels p i))
-    (reads_more (put s) (put t) last_draft line others found
-    (subst (λ (u : Segment). Reads (put t) others (put u)) (joined_more s w (r ∷ []) rs ws) rest))
+    let last_draft = put (joined s (w ∷ ws) (r ∷ rs)) ((at + 2 * length (w ∷ ws)) % 65536) in
+    let start = same_put put t t ((at + 2) % 65536) ((here + 2) % 65536) refl (omega arith) in
+    let end =
+    same_put put (joined t ws rs) (joined s (w ∷ ws) (r ∷ rs)) ((at + 2 + 2 * length ws) % 65536) ((at + 2 * length (w ∷ ws)) % 65536)
+    (joined_more s w (r ∷ []) rs ws) (omega arith) in
+    reads_both (put s here) (put s here) last_draft (x.labels p i) (line ∷ others) (labels_read (put s here) (x.labels p i) (are.labels p i))
+    (reads_more (put s here) (put t ((here + 2) % 65536)) last_draft line others found
+    (subst (λ (d : Draft). Reads d others last_draft) start
+    (subst (λ (d : Draft). Reads (put t ((at + 2) % 65536)) others d) end rest)))
 
 -- the words of a segment without relocation
-pub words_alone : (x : Remarks) (p : Part) (i : ℕ) (put : Segment → Draft) (start flag at : ℕ) (s : Segment) (ws : List ℕ) → AreRemarks x →
-    Enters put start flag → eqb flag 0 ≡ false → at ≡ start + 2 * length s.words → AllByRecursion IsWord ws →
-    length s.words + length ws < 32768 → Reads (put s) (word_lines x p i at ws []) (put (joined s ws []))
-words_alone x p i put start flag at s [] are enters off place words room =
-    subst (λ (t : Segment). Reads (put s) (x.labels p i) (put t)) (joined_nil s) (labels_read (put s) (x.labels p i) (are.labels p i))
-words_alone x p i put start flag at s (w ∷ ws) are enters off place words room =
-    let place_here : at % 65536 ≡ (start + 2 * length s.words) % 65536 = omega arith in
+pub words_alone : (x : Remarks) (p : Part) (i : ℕ) (put : Segment → ℕ → Draft) (a : Addresses) (flag at : ℕ) (s : Segment)
+    (ws : List ℕ) → AreRemarks x → Enters put a flag → eqb flag 0 ≡ false → AllByRecursion IsWord ws → length s.words + length ws < 32768 →
+    Reads (put s (at % 65536)) (word_lines x p i at ws []) (put (joined s ws []) ((at + 2 * length ws) % 65536))
+words_alone x p i put a flag at s [] are enters off words room =
+    subst (λ (d : Draft). Reads (put s (at % 65536)) (x.labels p i) d)
+    (same_put put s (joined s [] []) (at % 65536) ((at + 2 * 0) % 65536) (joined_nil s) (omega arith))
+    (labels_read (put s (at % 65536)) (x.labels p i) (are.labels p i))
+words_alone x p i put a flag at s (w ∷ ws) are enters off words room =
     let here = at % 65536 in
-    let a = six_digits here in
+    let f = six_digits here in
     let b = six_digits w in
     let note = x.word p i in
     let line = word_line note here w None in
-    let form = gap 1 a (b ++ remarked note) in
+    let form = gap 1 f (b ++ remarked note) in
     let t : Segment = with_word s w [] in
     let third = column (from_third form) in
     let last = column (from_fourth form) in
-    let found : row_read (put s) (row_of line) ≡ Ok (put t) =
-    ap (λ (l : List ℕ). row_read (put s) (row_of l)) (line_alone note here w)
-    ∙ ap (row_read (put s)) (row_two 1 a b note (number_column a (octal_digits here)) (number_column b (octal_digits w)))
-    ∙ enters s a b third last (octal_digits here)
-    ∙ ap (λ (y : Result Segment Mistake). y >>= (λ u. Ok (put u)))
-    (word_found start flag here w s [] a b third last (octal_again here (omega arith)) (octal_again w words.0)
-    (relocs_none flag third off) place_here (omega arith)) in
+    let found : row_read (put s here) (row_of line) ≡ Ok (put t ((here + 2) % 65536)) =
+    ap (λ (l : List ℕ). row_read (put s here) (row_of l)) (line_alone note here w)
+    ∙ ap (row_read (put s here)) (row_two 1 f b note (number_column f (octal_digits here)) (number_column b (octal_digits w)))
+    ∙ enters s here f b third last (octal_digits here)
+    ∙ ap (λ (y : Result Segment Mistake). y >>= (λ u. Ok (put u ((here + 2) % 65536))))
+    (word_found a flag here w s [] f b third last (octal_again here (omega arith)) (octal_again w words.0)
+    (relocs_none flag third off) (omega arith)) in
     let long : length (s.words ++ w ∷ []) ≡ length s.words + 1 = length-append s.words (w ∷ []) in
-    let rest = words_alone x p (i + 1) put start flag (at + 2) t ws are enters off (omega arith) words.1 (omega arith) in
-    let last_draft = put (joined s (w ∷ ws) []) in
+    let rest = words_alone x p (i + 1) put a flag (at + 2) t ws are enters off words.1 (omega arith) in
     let others = word_lines x p (i + 1) (at + 2) ws [] in
-    reads_both (put s) (put s) last_draft (x.labels p i) (line ∷ others) (labels_read (put s) (x.labels p i) (are.labels p i))
-    (reads_more (put s) (put t) last_draft line others found
-    (subst (λ (u : Segment). Reads (put t) others (put u)) (joined_more s w [] [] ws) rest))
+    let last_draft = put (joined s (w ∷ ws) []) ((at + 2 * length (w ∷ ws)) % 65536) in
+    let start = same_put put t t ((at + 2) % 65536) ((here + 2) % 65536) refl (omega arith) in
+    let end =
+    same_put put (joined t ws []) (joined s (w ∷ ws) []) ((at + 2 + 2 * length ws) % 65536) ((at + 2 * length (w ∷ ws)) % 65536)
+    (joined_more s w [] [] ws) (omega arith) in
+    reads_both (put s here) (put s here) last_draft (x.labels p i) (line ∷ others) (labels_read (put s here) (x.labels p i) (are.labels p i))
+    (reads_more (put s here) (put t ((here + 2) % 65536)) last_draft line others found
+    (subst (λ (d : Draft). Reads d others last_draft) start
+    (subst (λ (d : Draft). Reads (put t ((at + 2) % 65536)) others d) end rest)))
 
 -- symbols
 symbol_found : (n : ℕ) (done : List Symbol) (s : Symbol) (f g k m : List ℕ) →
-    number f ≡ Ok n → name_of g ≡ Ok s.name → number k ≡ Ok s.type_bits → number m ≡ Ok s.value → n ≡ length done → length done < 5461 →
-    symbol_entry done (record { first = f; second = g; third = k; fourth = m }) ≡ Ok (done ++ s ∷ [])
-symbol_found n done s f g k m hf hg hk hm place room = search rules
+    number f ≡ Ok n → name_of g ≡ Ok s.name → number k ≡ Ok s.type_bits → number m ≡ Ok s.value → length done < 5461 →
+    symbol_entry n done (record { first = f; second = g; third = k; fourth = m }) ≡ Ok (done ++ s ∷ [])
+symbol_found n done s f g k m hf hg hk hm room = search rules
+
+abbrev pub in_symbols : Draft → List Symbol → ℕ → Draft
+in_symbols d ss n = record d { section = InSymbols; next = n; symbols = ss }
+
+same_table : (d : Draft) (xs ys : List Symbol) (n m : ℕ) → xs ≡ ys → n ≡ m → in_symbols d xs n ≡ in_symbols d ys m
+same_table d xs ys n m same next = λ i. in_symbols d (same i) (next i)
 
 pub symbols_read : (x : Remarks) (d : Draft) (n : ℕ) (done ss : List Symbol) → n ≡ length done →
     AllByRecursion IsSymbol ss → length done + length ss < 5462 →
-    Reads (record d { section = InSymbols; symbols = done }) (symbol_lines x n ss) (record d { section = InSymbols; symbols = done ++ ss })
+    Reads (in_symbols d done n) (symbol_lines x n ss) (in_symbols d (done ++ ss) (n + length ss))
 symbols_read x d n done [] place are room =
-    subst (λ (y : List Symbol). Reads (record d { section = InSymbols; symbols = done }) []
-    (record d { section = InSymbols; symbols = y })) (sym (append-nil done))
-    (reads_nil (record d { section = InSymbols; symbols = done }))
+    subst (λ (e : Draft). Reads (in_symbols d done n) [] e)
+    (same_table d done (done ++ []) n (n + 0) (sym (append-nil done)) (omega arith)) (reads_nil (in_symbols d done n))
 symbols_read x d n done (s ∷ ss) place are room =
-    let from : Draft = record d { section = InSymbols; symbols = done } in
-    let next : Draft = record d { section = InSymbols; symbols = done ++ s ∷ [] } in
-    let last : Draft = record d { section = InSymbols; symbols = done ++ s ∷ ss } in
+    let from : Draft = in_symbols d done n in
+    let next : Draft = in_symbols d (done ++ s ∷ []) ((n + 1) % 65536) in
+    let last : Draft = in_symbols d (done ++ s ∷ ss) (n + length (s ∷ ss)) in
     let a = octal n in
     let b = printable_name s.name in
     let c = octal s.type_bits in
@@ -179,11 +210,16 @@ symbols_read x d n done (s ∷ ss) place are room =
     (number_column a (short_digits n)) (name_column s.name) (number_column c (short_digits s.type_bits))
     (number_column e (octal_digits s.value)))
     ∙ entry_row from a b c e (short_digits n)
-    ∙ ap (λ (y : Result (List Symbol) Mistake). y >>= (λ ys. Ok (record from { symbols = ys })))
+    ∙ ap (λ (y : Result (List Symbol) Mistake). y >>= (λ ys. Ok (record from { symbols = ys; next = (n + 1) % 65536 })))
     (symbol_found n done s a b c e (short_again n (omega arith)) (name_again s.name are.0.name)
-    (short_again s.type_bits are.0.type_bits) (octal_again s.value are.0.value) place (omega arith)) in
+    (short_again s.type_bits are.0.type_bits) (octal_again s.value are.0.value) (omega arith)) in
     let long : length (done ++ s ∷ []) ≡ length done + 1 = length-append done (s ∷ []) in
     let rest = symbols_read x d (n + 1) (done ++ s ∷ []) ss (omega arith) are.1 (omega arith) in
-    reads_more from next last (symbol_line x n s) (symbol_lines x (n + 1) ss) found
-    (subst (λ (y : List Symbol). Reads next (symbol_lines x (n + 1) ss) (record d { section = InSymbols; symbols = y }))
-    (append_assoc done (s ∷ []) ss) rest)
+    let others = symbol_lines x (n + 1) ss in
+    let start = same_table d (done ++ s ∷ []) (done ++ s ∷ []) (n + 1) ((n + 1) % 65536) refl (omega arith) in
+    let end =
+    same_table d ((done ++ s ∷ []) ++ ss) (done ++ s ∷ ss) (n + 1 + length ss) (n + length (s ∷ ss)) (append_assoc done (s ∷ []) ss)
+    (omega arith) in
+    reads_more from next last (symbol_line x n s) others found
+    (subst (λ (e : Draft). Reads e others last) start
+    (subst (λ (e : Draft). Reads (in_symbols d (done ++ s ∷ []) (n + 1)) others e) end rest))

@@ -1,14 +1,19 @@
 -- What has been read of a listing so far, and the file that it makes. (a.out(5))
+--
+-- Next is the address of the next word of the section, or the number of the next symbol.
 use Rattle.std.specs.Prelude.{ℕ, ◌*◌, List, [], length}
 use Rattle.aout_core.specs.{declared.reloc.Reloc.Reloc, declared.symbol.Symbol.Symbol, Contents.Contents}
 use Rattle.listings.specs.{declared.fault.Section.Section, declared.fault.Section.TheVariants.InHeader}
+use Rattle.listings.specs.declared.draft.Addresses.{Addresses}
 
 pub record Segment : Type 0 where
   pub words : List ℕ
   pub relocs : List Reloc
 
 pub record Draft : Type 0 where
+  pub addresses : Addresses
   pub section : Section
+  pub next : ℕ
   pub magic : ℕ
   pub bss : ℕ
   pub entry : ℕ
@@ -21,10 +26,12 @@ pub record Draft : Type 0 where
 abbrev pub empty_segment : Segment
 empty_segment = record { words = []; relocs = [] }
 
-abbrev pub empty_draft : Draft
-empty_draft =
+abbrev pub empty_draft : Addresses → Draft
+empty_draft addresses =
     record {
+      addresses = addresses;
       section = InHeader;
+      next = 0;
       magic = 0o407;
       bss = 0;
       entry = 0;

@@ -2,6 +2,7 @@
 use Rattle.std.specs.{Prelude.◌≡◌, Prelude.ℕ, Prelude.◌≤◌, Prelude.List, Prelude.Ok, List.AllByRecursion}
 use Rattle.aout_core.specs.{declared.symbol.Symbol.Symbol, Contents.Contents, Contents.IsSound, declared.part.Part.Part}
 use Rattle.listings.specs.{Columns.row_of, Drafts.Draft, Listing.Remarks, Listing.listing, Reading.row_read, Reading.read}
+use Rattle.listings.specs.declared.draft.Addresses.{Addresses}
 
 -- no newline, and no other byte below the blank
 abbrev pub IsLine : List ℕ → Type 0
@@ -18,6 +19,6 @@ pub record AreRemarks (x : Remarks) : Type 0 where
   pub word : (p : Part) (i : ℕ) → IsLine (x.word p i)
   pub symbol : (s : Symbol) → IsLine (x.symbol s)
 
--- whatever is remarked in it, if each remark is one line and a reader skips each label
+-- whatever is remarked in it, if each remark is one line and a reader skips each label; also if addresses are computed
 abbrev pub ListingLaw : Type 0
-ListingLaw = (x : Remarks) (c : Contents) → AreRemarks x → IsSound c → read (listing x c) ≡ Ok c
+ListingLaw = (a : Addresses) (x : Remarks) (c : Contents) → AreRemarks x → IsSound c → read a (listing x c) ≡ Ok c

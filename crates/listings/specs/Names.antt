@@ -1,10 +1,10 @@
 -- Names in bytes that print, as they are read. (own choice)
 --
 -- A byte that prints is itself, except the blank and the backslash. A backslash and three octal digits are any byte.
-use Rattle.std.specs.Prelude.{ℕ, ◌+◌, ◌-◌, ◌*◌, nat_lt, eqb, if◌then◌else◌, List, [], ◌∷◌, ◌++◌, take, Result, Ok, Err}
+use Rattle.std.specs.Prelude.{ℕ, ◌+◌, ◌-◌, ◌*◌, nat_lt, eqb, if◌then◌else◌, List, [], ◌∷◌, ◌++◌, length, take, Result, Ok, Err}
 use Rattle.aout_core.specs.Names.{before_nul}
 use Rattle.listings.specs.{declared.fault.Reason.Reason, declared.fault.Reason.TheVariants.Missing}
-use Rattle.listings.specs.{declared.fault.Reason.TheVariants.BadName, Octal.is_digit}
+use Rattle.listings.specs.{declared.fault.Reason.TheVariants.BadName, declared.fault.Reason.TheVariants.LongName, Octal.is_digit}
 use Rattle.texts.specs.Names.{is_printable}
 
 -- the bytes of a name, after those of `out`; `left` digits of an escaped byte are still to come, and those before them make `sum`
@@ -19,11 +19,20 @@ bytes_from out left sum (b ∷ bs) =
     else Err BadName)
     else Err BadName)
 
-abbrev pub cut_name : Result (List ℕ) Reason → Result (List ℕ) Reason
-cut_name (Ok bytes) = Ok (take 8 (before_nul bytes))
-cut_name (Err e) = Err e
+abbrev pub cut_name : List ℕ → List ℕ
+cut_name bytes = take 8 (before_nul bytes)
 
--- the name in a column, cut at a NUL and at eight bytes
+-- at most eight bytes, and nothing after a NUL
+abbrev pub whole_name : List ℕ → Result (List ℕ) Reason
+whole_name bytes =
+    if nat_lt 8 (length bytes) then Err LongName
+    else (if nat_lt (1 + length (cut_name bytes)) (length bytes) then Err BadName else Ok (cut_name bytes))
+
+abbrev pub whole_if : Result (List ℕ) Reason → Result (List ℕ) Reason
+whole_if (Ok bytes) = whole_name bytes
+whole_if (Err e) = Err e
+
+-- the name in a column
 abbrev pub name_of : List ℕ → Result (List ℕ) Reason
 name_of [] = Err Missing
-name_of (b ∷ bs) = cut_name (bytes_from [] 0 0 (b ∷ bs))
+name_of (b ∷ bs) = whole_if (bytes_from [] 0 0 (b ∷ bs))

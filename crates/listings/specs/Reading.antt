@@ -2,11 +2,15 @@
 --
 -- A row that begins with a digit belongs to the section that was opened last. Any other row begins with a word. A row without columns,
 -- one that begins with a slash and a label are skipped. Columns after those that a row needs are not read.
-use Rattle.std.specs.Prelude.{ℕ, ◌+◌, ◌*◌, ◌%◌, Bool, ◌&&◌, ◌||◌, nat_le, nat_lt, nat_eq, eqb, if◌then◌else◌, List, [], ◌∷◌, ◌++◌, length}
-use Rattle.std.specs.Prelude.{Result, Ok, Err, codes}
+--
+-- After a mistake reading goes on. The row with the mistake adds nothing to the file, but the next address follows its own.
+use Rattle.std.specs.Prelude.{ℕ, ◌+◌, ◌%◌, Bool, true, false, ◌&&◌, ◌||◌, nat_le, nat_lt, nat_eq, eqb, if◌then◌else◌, List, [], ◌∷◌, ◌++◌, length}
+use Rattle.std.specs.Prelude.{Result, Ok, Err, Option, Some, None, codes}
 use Rattle.std.specs.{Cmp.Lexicographic.pointwise, List.starts_with, List.ends_with}
 use Rattle.aout_core.specs.{declared.reloc.Reloc.Reloc, declared.symbol.Symbol.Symbol, Contents.Contents, Contents.is_magic}
-use Rattle.aout_core.specs.{Addresses.data_start}
+use Rattle.aout_core.specs.Addresses.{data_start}
+use Rattle.listings.specs.declared.draft.Addresses.{Addresses}
+use Rattle.listings.specs.declared.draft.Addresses.TheVariants.{Compared, Computed}
 use Rattle.listings.specs.declared.fault.Reason.TheVariants.{WrongAddress, WrongNumber, TooManyWords, TooManySymbols, NoSection}
 use Rattle.listings.specs.declared.fault.Reason.TheVariants.{UnknownWord, OutOfOrder, TooLate, AfterTable, NoMagic, OddSize}
 use Rattle.listings.specs.declared.fault.Section.TheVariants.{InHeader, InText, InData, InSymbols}
@@ -37,34 +41,40 @@ relocs_of flag third = if eqb flag 0 then in_column 2 (number third) >>= (λ n. 
 abbrev pub with_word : Segment → ℕ → List Reloc → Segment
 with_word s w rs = record { words = s.words ++ w ∷ []; relocs = s.relocs ++ rs }
 
--- a word of a segment that begins at this address
-abbrev pub word_entry : ℕ → ℕ → Segment → Row → Result Segment Mistake
-word_entry start flag s r =
+-- any address is right if addresses are computed
+abbrev pub is_right : Addresses → ℕ → ℕ → Bool
+is_right Compared at next = eqb at next
+is_right Computed at next = true
+
+-- a word of a segment, at the next address
+abbrev pub word_entry : Addresses → ℕ → ℕ → Segment → Row → Result Segment Mistake
+word_entry a next flag s r =
     in_column 0 (number r.first) >>= λ at.
     in_column 1 (number r.second) >>= λ w.
     relocs_of flag r.third >>= λ rs.
     if nat_lt (length s.words) 32767
-    then (if eqb at ((start + 2 * length s.words) % 65536) then Ok (with_word s w rs) else Err (0, WrongAddress))
+    then (if is_right a at next then Ok (with_word s w rs) else Err (0, WrongAddress next))
     else Err (0, TooManyWords)
 
-abbrev pub symbol_entry : List Symbol → Row → Result (List Symbol) Mistake
-symbol_entry ss r =
+abbrev pub symbol_entry : ℕ → List Symbol → Row → Result (List Symbol) Mistake
+symbol_entry next ss r =
     in_column 0 (number r.first) >>= λ n.
     in_column 1 (name_of r.second) >>= λ name.
     in_column 2 (number r.third) >>= λ type.
     in_column 3 (number r.fourth) >>= λ value.
     if nat_lt (length ss) 5461
-    then (if eqb n (length ss) then Ok (ss ++ (let s : Symbol = record { name = name; type_bits = type; value = value } in s) ∷ [])
-    else Err (0, WrongNumber))
+    then (if eqb n next then Ok (ss ++ (let s : Symbol = record { name = name; type_bits = type; value = value } in s) ∷ [])
+    else Err (0, WrongNumber next))
     else Err (0, TooManySymbols)
 
 -- a row that begins with a digit
 abbrev pub entry_in : Section → Draft → Row → Result Draft Mistake
 entry_in InHeader d r = Err (0, NoSection)
-entry_in InText d r = word_entry 0 d.flag d.text_part r >>= λ s. Ok (record d { text_part = s })
+entry_in InText d r =
+    word_entry d.addresses d.next d.flag d.text_part r >>= λ s. Ok (record d { text_part = s; next = (d.next + 2) % 65536 })
 entry_in InData d r =
-    word_entry (data_start d.magic (2 * length d.text_part.words)) d.flag d.data_part r >>= λ s. Ok (record d { data_part = s })
-entry_in InSymbols d r = symbol_entry d.symbols r >>= λ ss. Ok (record d { symbols = ss })
+    word_entry d.addresses d.next d.flag d.data_part r >>= λ s. Ok (record d { data_part = s; next = (d.next + 2) % 65536 })
+entry_in InSymbols d r = symbol_entry d.next d.symbols r >>= λ ss. Ok (record d { symbols = ss; next = (d.next + 1) % 65536 })
 
 abbrev pub is_word : List ℕ → List ℕ → Bool
 is_word a b = pointwise nat_eq a b
@@ -88,8 +98,13 @@ rank InText = 1
 rank InData = 2
 rank InSymbols = 3
 
+-- the first address or number of a section: data follow the text
+abbrev pub first_in : Section → Draft → ℕ
+first_in InData d = data_start d.magic d.next % 65536
+first_in _ d = 0
+
 abbrev pub opened : Section → Draft → Result Draft Mistake
-opened s d = if nat_lt (rank d.section) (rank s) then Ok (record d { section = s }) else Err (0, OutOfOrder)
+opened s d = if nat_lt (rank d.section) (rank s) then Ok (record d { section = s; next = first_in s d }) else Err (0, OutOfOrder)
 
 -- before the first section
 abbrev pub only_first : Section → Result Draft Mistake → Result Draft Mistake
@@ -125,6 +140,10 @@ is_label r =
     (is_word r.second [] && ends_with eqb r.first (codes ":"))
     || (is_word r.second (codes "=") && starts_with eqb r.third (codes ".+"))
 
+abbrev pub begins_with_digit : List ℕ → Bool
+begins_with_digit [] = false
+begins_with_digit (b ∷ bs) = is_decimal b
+
 abbrev pub row_by : List ℕ → Draft → Row → Result Draft Mistake
 row_by [] d r = Ok d
 row_by (b ∷ bs) d r = if eqb b 47 then Ok d else (if is_decimal b then entry_in d.section d r else (if is_label r then Ok d else named d r))
@@ -132,18 +151,72 @@ row_by (b ∷ bs) d r = if eqb b 47 then Ok d else (if is_decimal b then entry_i
 abbrev pub row_read : Draft → Row → Result Draft Mistake
 row_read d r = row_by r.first d r
 
-abbrev pub in_line : {A : Type 0} → ℕ → List ℕ → Result A Mistake → Result A Fault
-in_line n line (Ok x) = Ok x
-in_line n line (Err m) = Err (record { line = n; column = column_place m.0 line; reason = m.1 })
+-- ---- mistakes
 
-abbrev pub lines_read : ℕ → Draft → List (List ℕ) → Result Draft Fault
-lines_read n d [] = Ok d
-lines_read n d (l ∷ ls) = in_line n l (row_read d (row_of l)) >>= λ e. lines_read (n + 1) e ls
+-- the address or number that a row has, or the next one
+abbrev pub own : ℕ → Result ℕ Reason → ℕ
+own next (Ok n) = n
+own next (Err reason) = next
 
-abbrev pub file_of : Result Draft Fault → Result Contents Fault
-file_of (Ok d) = Ok (finished d)
-file_of (Err fault) = Err fault
+abbrev pub next_after : Section → ℕ → ℕ → ℕ
+next_after InHeader next n = next
+next_after InSymbols next n = (n + 1) % 65536
+next_after _ next n = (n + 2) % 65536
 
--- the file that a listing describes, or its first mistake
-abbrev pub read : List ℕ → Result Contents Fault
-read text = file_of (lines_read 1 empty_draft (lines_in text))
+-- a draft after a row with a mistake
+abbrev pub passed : Draft → Row → Draft
+passed d r = if begins_with_digit r.first then record d { next = next_after d.section d.next (own d.next (number r.first)) } else d
+
+-- the mistakes of a listing, at least one
+pub record Mistakes : Type 0 where
+  pub first : Fault
+  pub others : List Fault
+
+-- the mistakes so far, and with a further one; after the first at most nine are kept
+pub record Noted : Type 0 where
+  pub first : Option Fault
+  pub others : List Fault
+
+abbrev pub noted_by : Option Fault → List Fault → Fault → Noted
+noted_by None others f = record { first = Some f; others = others }
+noted_by (Some g) others f = record { first = Some g; others = if nat_lt (length others) 9 then others ++ f ∷ [] else others }
+
+-- ---- lines
+
+-- what has been read before the line of this number
+pub record State : Type 0 where
+  pub number : ℕ
+  pub draft : Draft
+  pub noted : Noted
+
+abbrev pub fault_at : ℕ → List ℕ → Mistake → Fault
+fault_at n line m = record { line = n; column = column_place m.0 line; reason = m.1 }
+
+abbrev pub line_by : State → List ℕ → Result Draft Mistake → State
+line_by s l (Ok d) = record { number = s.number + 1; draft = d; noted = s.noted }
+line_by s l (Err m) = record {
+  number = s.number + 1;
+  draft = passed s.draft (row_of l);
+  noted = noted_by s.noted.first s.noted.others (fault_at s.number l m);
+}
+
+abbrev pub line_read : State → List ℕ → State
+line_read s l = line_by s l (row_read s.draft (row_of l))
+
+abbrev pub lines_read : State → List (List ℕ) → State
+lines_read s [] = s
+lines_read s (l ∷ ls) = lines_read (line_read s l) ls
+
+abbrev pub at_first_line : Addresses → State
+at_first_line a = record { number = 1; draft = empty_draft a; noted = record { first = None; others = [] } }
+
+abbrev pub file_by : Draft → Option Fault → List Fault → Result Contents Mistakes
+file_by d None others = Ok (finished d)
+file_by d (Some f) others = Err (record { first = f; others = others })
+
+abbrev pub file_of : State → Result Contents Mistakes
+file_of s = file_by s.draft s.noted.first s.noted.others
+
+-- the file that a listing describes, or its first ten mistakes
+abbrev pub read : Addresses → List ℕ → Result Contents Mistakes
+read a text = file_of (lines_read (at_first_line a) (lines_in text))

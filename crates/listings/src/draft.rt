@@ -7,6 +7,15 @@ use crate::fault::Section;
 use aout_core::{Reloc, Symbol};
 use std::alloc::Global;
 
+/// What is done with the address that a listing has for a word. (own choice)
+#[derive(Clone, Copy, Debug, PartialEq, Eq)]
+pub enum Addresses {
+    /// It has to be that of the next word.
+    Compared,
+    /// Any address is taken for that of the next word.
+    Computed,
+}
+
 /// The words of a segment, and the relocation words.
 #[derive(Drop)]
 pub(crate) struct SegmentDraft {
@@ -17,7 +26,9 @@ pub(crate) struct SegmentDraft {
 /// What has been read of a file.
 #[derive(Drop)]
 pub(crate) struct FileDraft {
+    pub(crate) addresses: Addresses,
     pub(crate) section: Section,
+    pub(crate) next: u16,
     pub(crate) magic: u16,
     pub(crate) bss: u16,
     pub(crate) entry: u16,
@@ -30,11 +41,13 @@ pub(crate) struct FileDraft {
 
 impl FileDraft {
     /// Nothing has been read.
-    pub(crate) fn new(alloc: Global) -> FileDraft
-        ensures { draft_of result ≡ empty_draft }
+    pub(crate) fn new(alloc: Global, addresses: Addresses) -> FileDraft
+        ensures { draft_of result ≡ empty_draft addresses }
     {
         FileDraft {
+            addresses,
             section: Section::InHeader,
+            next: 0,
             magic: 0o407,
             bss: 0,
             entry: 0,

@@ -1,11 +1,14 @@
 //! Why a listing was not read, and where.
 ghost use Rattle.std.specs.Prelude.{◌≡◌};
 ghost use Rattle.aout_core.specs.Refusals.{refused};
+ghost use Rattle.texts.specs.Texts.{Puts};
+ghost use Rattle.texts.specs.Numbers.{six_digits};
+ghost use Rattle.listings.specs.ReasonTexts.{next_text};
 ghost use Rattle.listings.specs.declared.fault.RowFault.TheVariants.{Memory};
 
 use aout_core::Refused;
 use std::alloc::{AllocError, AllocFailed};
-use thiserror::Error;
+use texts::{OctalBuffer, Text, six_digits};
 
 /// The part of a listing that a line belongs to.
 #[derive(Clone, Copy, Debug, PartialEq, Eq)]
@@ -31,8 +34,7 @@ pub(crate) enum Word {
 }
 
 /// Why a line of a listing is wrong. (own choice)
-#[derive(Clone, Copy, Debug, PartialEq, Eq, Error)]
-#[error("{}", self.text())]
+#[derive(Clone, Copy, Debug, PartialEq, Eq)]
 pub enum Reason {
     /// The line has no such column.
     Missing,
@@ -40,12 +42,12 @@ pub enum Reason {
     NotOctal,
     /// The number is over 177777.
     TooLarge,
-    /// A byte of the name does not print, or a backslash is not followed by three octal digits up to 377.
+    /// A byte of the name does not print, a backslash is not followed by three octal digits up to 377, or a byte follows a NUL.
     BadName,
-    /// The address is not that of the next word of the section.
-    WrongAddress,
-    /// The number is not that of the next symbol.
-    WrongNumber,
+    /// The address is not that of the next word of the section, which is this one.
+    WrongAddress(u16),
+    /// The number is not that of the next symbol, which is this one.
+    WrongNumber(u16),
     /// The section has 32,767 words already.
     TooManyWords,
     /// The table has 5,461 symbols already.
@@ -64,38 +66,62 @@ pub enum Reason {
     NoMagic,
     /// The size of bss is odd.
     OddSize,
+    /// The name has more than 8 bytes.
+    LongName,
+}
+
+/// Puts which address or number is next.
+fn put_next(line: &mut Text, front: &str, digits: &[u8])
+    ensures { Puts line.old line.new (next_text front.now digits.now) }
+{
+    line.put(front);
+    line.put_bytes(digits);
+    line.put(" is next");
+}
+
+/// Puts which address is next.
+fn put_next_address(line: &mut Text, front: &str, next: u16)
+    ensures { Puts line.old line.new (next_text front.now (six_digits next)) }
+{
+    put_next(line, front, &six_digits(u32::from(next)));
 }
 
 impl Reason {
-    ghost use Rattle.std.specs.Prelude.{◌≡◌};
-    ghost use Rattle.aout_core.specs.Refusals.{refused};
+    ghost use Rattle.texts.specs.Texts.{Puts};
     ghost use Rattle.listings.specs.ReasonTexts.{reason_text};
 
-    /// What is said of the line. (own choice)
-    pub fn text(self) -> &'static str
-        ensures { result.now ≡ reason_text self }
+    /// Appends what is said of the line. (own choice)
+    pub fn put(self, line: &mut Text)
+        ensures { Puts line.old line.new (reason_text self) }
     {
         match self {
-            Reason::Missing => "a column is missing",
-            Reason::NotOctal => "not an octal number",
-            Reason::TooLarge => "over 177777",
-            Reason::BadName => "bad byte in a name",
-            Reason::WrongAddress => "the address does not follow",
-            Reason::WrongNumber => "the number does not follow",
-            Reason::TooManyWords => "more than 32767 words",
-            Reason::TooManySymbols => "more than 5461 symbols",
-            Reason::NoSection => "text, data or symbols is missing",
-            Reason::UnknownWord => "unknown word",
-            Reason::OutOfOrder => "text, data and symbols are not in this order",
-            Reason::TooLate => "magic and flag come before text, data and symbols",
-            Reason::AfterTable => "only symbols can follow symbols",
-            Reason::NoMagic => "bad magic number",
-            Reason::OddSize => "odd size",
+            Reason::Missing => line.put("a column is missing"),
+            Reason::NotOctal => line.put("not an octal number"),
+            Reason::TooLarge => line.put("over 177777"),
+            Reason::BadName => line.put("bad byte in a name"),
+            Reason::WrongAddress(next) => {
+                put_next_address(line, "the address does not follow: ", next);
+            }
+            Reason::WrongNumber(next) => {
+                let mut buffer = OctalBuffer::new();
+                let digits = buffer.format(u64::from(next));
+                put_next(line, "the number does not follow: ", digits);
+            }
+            Reason::TooManyWords => line.put("more than 32767 words"),
+            Reason::TooManySymbols => line.put("more than 5461 symbols"),
+            Reason::NoSection => line.put("text, data or symbols is missing"),
+            Reason::UnknownWord => line.put("unknown word"),
+            Reason::OutOfOrder => line.put("text, data and symbols are not in this order"),
+            Reason::TooLate => line.put("magic and flag come before text, data and symbols"),
+            Reason::AfterTable => line.put("only symbols can follow symbols"),
+            Reason::NoMagic => line.put("bad magic number"),
+            Reason::OddSize => line.put("odd size"),
+            Reason::LongName => line.put("more than 8 bytes in a name"),
         }
     }
 }
 
-/// The first mistake of a listing. Lines are counted from 1, and so are columns, in bytes. (own choice)
+/// A mistake of a listing. Lines are counted from 1, and so are columns, in bytes. (own choice)
 #[derive(Clone, Copy, Debug, PartialEq, Eq)]
 pub struct Fault {
     pub line: usize,
@@ -103,13 +129,20 @@ pub struct Fault {
     pub reason: Reason,
 }
 
+/// The mistakes of a listing by their lines: the first, and at most nine others. (own choice)
+#[derive(Debug, Drop)]
+pub struct Mistakes {
+    pub first: Fault,
+    pub others: Vec<Fault>,
+}
+
 /// Why a listing was not read. (own choice)
-#[derive(Clone, Copy, Debug, PartialEq, Eq)]
+#[derive(Debug, Drop)]
 pub enum ListingFault {
-    /// Memory ran out for the file.
+    /// Memory ran out for the file or for its mistakes.
     Memory(Refused),
-    /// The first mistake.
-    Wrong(Fault),
+    /// It has mistakes.
+    Wrong(Mistakes),
 }
 
 /// Why a row was not read.

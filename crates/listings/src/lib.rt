@@ -2,14 +2,15 @@
 //!
 //! ```rust
 //! match write_listing(alloc, file, &Nothing) {
-//!     Ok(text) => read_listing(alloc, &text),
+//!     Ok(text) => read_listing(alloc, Addresses::Compared, &text),
 //!     Err(error) => Err(ListingFault::Memory(Refused::from(error))),
 //! }
 //! ```
 //!
 //! Types:
 //!
-//! - `ListingFault`, `Fault`, `Reason`: why a listing was not read: its first mistake, by line, column and reason
+//! - `ListingFault`, `Mistakes`, `Fault`, `Reason`: why a listing was not read: up to ten mistakes, by line, column and reason
+//! - `Addresses`: whether the addresses of a listing are compared or computed
 //! - `Remark`, `Nothing`: what a listing remarks beside the file, and no remarks
 //!
 //! Functions:
@@ -44,7 +45,8 @@ mod remark;
 mod rows;
 mod write;
 
-pub use fault::{Fault, ListingFault, Reason};
+pub use draft::Addresses;
+pub use fault::{Fault, ListingFault, Mistakes, Reason};
 pub use read::read_listing;
 pub use remark::{Nothing, Remark};
 pub use write::write_listing;

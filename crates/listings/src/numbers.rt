@@ -3,7 +3,7 @@ ghost use Rattle.std.specs.Prelude.{◌≡◌, ◌≢◌, ℕ, List, [], ◌∷�
 ghost use Rattle.aout_core.specs.Refusals.{refused};
 ghost use Rattle.listings.specs.declared.fault.RowFault.TheVariants.{Memory};
 ghost use Rattle.listings.specs.Octal.{number};
-ghost use Rattle.listings.specs.Names.{bytes_from, name_of};
+ghost use Rattle.listings.specs.Names.{bytes_from, whole_name, name_of};
 ghost use Rattle.listings.specs.Reading.{in_column};
 ghost use Rattle.listings.specs.internal.Answers.{Fails, Found};
 
@@ -88,6 +88,20 @@ fn bytes_of(alloc: Global, place: usize, column: &[u8]) -> Result<Vec<u8>, RowFa
     }
 }
 
+/// The name of these bytes, if none is lost.
+fn whole_name(bytes: &[u8]) -> Result<Name, Reason>
+    ensures { result ≡ whole_name bytes.now }
+{
+    if bytes.len() > 8 {
+        return Err(Reason::LongName);
+    }
+    let name = Name::from_bytes(bytes);
+    if bytes.len() > 1 + name.as_bytes().len() {
+        return Err(Reason::BadName);
+    }
+    Ok(name)
+}
+
 /// The name in a column.
 pub(crate) fn name_at(alloc: Global, place: usize, column: &[u8]) -> Result<Name, RowFault>
     ensures { Found (λ n. n) result (in_column place (name_of column.now)) }
@@ -96,5 +110,8 @@ pub(crate) fn name_at(alloc: Global, place: usize, column: &[u8]) -> Result<Name
         return Err(RowFault::Wrong(place, Reason::Missing));
     }
     let bytes = bytes_of(alloc, place, column)?;
-    Ok(Name::from_bytes(&bytes))
+    match whole_name(&bytes) {
+        Ok(name) => Ok(name),
+        Err(reason) => Err(RowFault::Wrong(place, reason)),
+    }
 }

@@ -1,5 +1,5 @@
 //! Reads the listing of a file.
-ghost use Rattle.std.specs.Prelude.{◌≡◌, IfOk, IfErr};
+ghost use Rattle.std.specs.Prelude.{◌≡◌, ◌⊎◌, ◌+◌, IfOk, IfErr, IsSome};
 ghost use Rattle.aout_core.specs.Contents.{Contents, IsSound};
 ghost use Rattle.aout_core.specs.Refusals.{refused};
 ghost use Rattle.listings.specs.declared.fault.ListingFault.TheVariants.{Memory};
@@ -8,58 +8,95 @@ ghost use Rattle.texts.specs.Lines.{lines_in};
 ghost use Rattle.listings.specs.Drafts.{finished};
 ghost use Rattle.listings.specs.Listing.{Remarks, listing};
 ghost use Rattle.listings.specs.Laws.{AreRemarks};
-ghost use Rattle.listings.specs.Reading.{in_line, row_read, lines_read, read};
-ghost use Rattle.listings.specs.MemoryWanted.{IsEntry, ListingMayRunOut, MayRunOutInLines};
+ghost use Rattle.listings.specs.Reading.{noted_by, line_read, lines_read, read};
+ghost use Rattle.listings.specs.MemoryWanted.{IsEntry, IsLater, ListingMayRunOut, MayRunOutInLines};
 ghost use Rattle.listings.specs.Said.{Gives, Says};
 ghost use Rattle.listings.specs.internal.DraftParts.{draft_of};
-ghost use Rattle.listings.specs.internal.Lines.{Goes};
+ghost use Rattle.listings.specs.internal.Lines.{noted_of, state_of};
 ghost use Rattle.listings.specs.internal.Whole.{IsDraft};
 
 use crate::columns::{column_place, cut_line};
-use crate::draft::FileDraft;
-use crate::fault::{Fault, ListingFault, RowFault};
-use crate::rows::read_row;
-use aout_core::{File, Header, Parts};
+use crate::draft::{Addresses, FileDraft};
+use crate::fault::{Fault, ListingFault, Mistakes, RowFault};
+use crate::rows::{pass, read_row};
+use aout_core::{File, Header, Parts, Refused};
 use std::alloc::Global;
+
+/// The mistakes so far: the first, and up to nine others.
+#[derive(Drop)]
+struct Noting {
+    first: Option<Fault>,
+    others: Vec<Fault>,
+}
+
+/// Notes a mistake.
+fn note(noting: &mut Noting, fault: Fault) -> Result<(), Refused>
+    ensures ok { IfOk result (λ u.
+        noted_of noting.new ≡ noted_by noting.old.first noting.old.others.items fault) }
+    ensures memory { IfErr result (λ r. IsSome noting.old.first) }
+{
+    if noting.first.is_none() {
+        noting.first = Some(fault);
+        return Ok(());
+    }
+    if noting.others.len() < 9 {
+        noting.others.push(fault)?;
+    }
+    Ok(())
+}
 
 /// Reads a line, by its number.
 fn read_line(
     alloc: Global,
     draft: &mut FileDraft,
+    noting: &mut Noting,
     number: usize,
     line: &[u8],
-) -> Result<(), ListingFault>
-    requires { IsDraft (draft_of draft.old) }
-    ensures goes { Goes (draft_of draft.new) result
-        (in_line number line.now (row_read (draft_of draft.old) (row_of line.now))) }
-    ensures memory { IfErr result (λ fault.
-        fault ≡ Memory refused → IsEntry (draft_of draft.old) (row_of line.now)) }
+) -> Result<(), Refused>
+    ensures goes { IfOk result (λ u. state_of (number + 1) draft.new noting.new
+        ≡ line_read (state_of number draft.old noting.old) line.now) }
+    ensures memory { IfErr result (λ r. IsEntry (draft_of draft.old) (row_of line.now)
+        ⊎ IsLater (state_of number draft.old noting.old) (row_of line.now)) }
 {
     match read_row(alloc, draft, line) {
         Ok(()) => Ok(()),
-        Err(RowFault::Memory(refused)) => Err(ListingFault::Memory(refused)),
-        Err(RowFault::Wrong(place, reason)) => Err(ListingFault::Wrong(Fault {
-            line: number,
-            column: column_place(place, line),
-            reason,
-        })),
+        Err(RowFault::Memory(refused)) => Err(refused),
+        Err(RowFault::Wrong(place, reason)) => {
+            pass(draft, line);
+            let column = column_place(place, line);
+            note(
+                noting,
+                Fault {
+                    line: number,
+                    column,
+                    reason,
+                },
+            )
+        }
     }
 }
 
 /// Reads all lines.
-fn read_lines(alloc: Global, draft: &mut FileDraft, text: &[u8]) -> Result<(), ListingFault>
+fn read_lines(
+    alloc: Global,
+    draft: &mut FileDraft,
+    noting: &mut Noting,
+    text: &[u8],
+) -> Result<(), Refused>
     requires { IsDraft (draft_of draft.old) }
-    ensures goes { Goes (draft_of draft.new) result
-        (lines_read 1 (draft_of draft.old) (lines_in text.now)) }
+    ensures draft { IfOk result (λ u. draft_of draft.new
+        ≡ (lines_read (state_of 1 draft.old noting.old) (lines_in text.now)).draft) }
+    ensures noted { IfOk result (λ u. noted_of noting.new
+        ≡ (lines_read (state_of 1 draft.old noting.old) (lines_in text.now)).noted) }
     ensures whole { IfOk result (λ u. IsDraft (draft_of draft.new)) }
-    ensures memory { IfErr result (λ fault.
-        fault ≡ Memory refused → MayRunOutInLines (draft_of draft.old) (lines_in text.now)) }
+    ensures memory { IfErr result (λ r.
+        MayRunOutInLines (state_of 1 draft.old noting.old) (lines_in text.now)) }
 {
     let mut rest = text;
     let mut number = 1usize;
     while !rest.is_empty() {
         let (line, others) = cut_line(rest);
-        read_line(alloc, draft, number, line)?;
+        read_line(alloc, draft, noting, number, line)?;
         number += 1;
         rest = others;
     }
@@ -72,7 +109,9 @@ fn finish(draft: FileDraft) -> File
     ensures { result ≡ finished (draft_of draft) }
 {
     let FileDraft {
+        addresses: _,
         section: _,
+        next: _,
         magic,
         bss,
         entry,
@@ -101,24 +140,39 @@ fn finish(draft: FileDraft) -> File
     })
 }
 
-fn read_all(alloc: Global, text: &[u8]) -> Result<File, ListingFault>
-    ensures says { Says result (read text.now) }
-    ensures memory { IfErr result (λ fault. fault ≡ Memory refused → ListingMayRunOut text.now) }
+fn read_all(alloc: Global, addresses: Addresses, text: &[u8]) -> Result<File, ListingFault>
+    ensures says { Says result (read addresses text.now) }
+    ensures memory { IfErr result (λ fault.
+        fault ≡ Memory refused → ListingMayRunOut addresses text.now) }
 {
-    let mut draft = FileDraft::new(alloc);
-    read_lines(alloc, &mut draft, text)?;
-    Ok(finish(draft))
+    let mut draft = FileDraft::new(alloc, addresses);
+    let mut noting = Noting {
+        first: None,
+        others: Vec::new(alloc),
+    };
+    if let Err(refused) = read_lines(alloc, &mut draft, &mut noting, text) {
+        return Err(ListingFault::Memory(refused));
+    }
+    match noting.first {
+        Some(first) => Err(ListingFault::Wrong(Mistakes {
+            first,
+            others: noting.others,
+        })),
+        None => Ok(finish(draft)),
+    }
 }
 
-/// Makes the file of a listing. The listing that `write_listing` makes of a file gives that file, whatever is remarked in it.
-/// (own choice)
+/// Makes the file of a listing. The listing that `write_listing` makes of a file gives that file, whatever is remarked in it. After a
+/// mistake reading goes on. (own choice)
 ///
-/// Errors: `Wrong` with the first mistake of the listing; `Memory` if memory runs out for a word or a symbol.
-pub fn read_listing(alloc: Global, text: &[u8]) -> Result<File, ListingFault>
-    ensures says { Says result (read text.now) }
-    ensures memory { IfErr result (λ fault. fault ≡ Memory refused → ListingMayRunOut text.now) }
+/// Errors: `Wrong` with the mistakes of the listing, at most ten; `Memory` if memory runs out for a word, a symbol, or a mistake
+/// after the first.
+pub fn read_listing(alloc: Global, addresses: Addresses, text: &[u8]) -> Result<File, ListingFault>
+    ensures says { Says result (read addresses text.now) }
+    ensures memory { IfErr result (λ fault.
+        fault ≡ Memory refused → ListingMayRunOut addresses text.now) }
     ensures again { (x : Remarks) (c : Contents) → AreRemarks x → IsSound c → text.now ≡ listing x c
         → Gives result c }
 {
-    read_all(alloc, text)
+    read_all(alloc, addresses, text)
 }

@@ -1,22 +1,21 @@
 //! Reads a row of a listing into a draft.
-ghost use Rattle.std.specs.Prelude.{◌≡◌, ◌≢◌, ◌<◌, ◌^◌, ◌*◌, length, option_to_list, Ok, IfErr, IsTrue};
+ghost use Rattle.std.specs.Prelude.{◌≡◌, ◌≢◌, option_to_list, Ok, IfErr, IsTrue};
 ghost use Rattle.std.specs.Cmp.Lexicographic.{pointwise};
 ghost use Rattle.listings.specs.Columns.{row_of};
 ghost use Rattle.listings.specs.internal.Rows.{row_in};
 ghost use Rattle.listings.specs.declared.fault.RowFault.TheVariants.{Memory};
-ghost use Rattle.listings.specs.declared.fault.Section.TheVariants.{InHeader};
+ghost use Rattle.listings.specs.declared.fault.Section.TheVariants.{InHeader, InText, InData, InSymbols};
 ghost use Rattle.listings.specs.declared.fault.Word.TheVariants.{Bss, Magic, Flag};
 ghost use Rattle.listings.specs.Octal.{number};
-ghost use Rattle.aout_core.specs.Addresses.{data_start};
 ghost use Rattle.aout_core.specs.Refusals.{refused};
-ghost use Rattle.listings.specs.Reading.{in_column, relocs_of, with_word, word_entry, symbol_entry, entry_in, is_word, word_in, rank, opened, named_by, named, is_label, row_read};
+ghost use Rattle.listings.specs.Reading.{in_column, relocs_of, with_word, is_right, word_entry, symbol_entry, entry_in, is_word, word_in, rank, first_in, opened, named_by, named, is_label, begins_with_digit, row_read};
+ghost use Rattle.listings.specs.Reading.{own, next_after, passed};
 ghost use Rattle.listings.specs.MemoryWanted.{IsEntry};
 ghost use Rattle.listings.specs.internal.DraftParts.{segment_of, draft_of};
-ghost use Rattle.listings.specs.internal.Whole.{IsDraft};
 ghost use Rattle.listings.specs.internal.Answers.{Found, Leaves};
 
 use crate::columns::{Columns, columns_of};
-use crate::draft::{FileDraft, SegmentDraft};
+use crate::draft::{Addresses, FileDraft, SegmentDraft};
 use crate::fault::{Reason, RowFault, Section, Word};
 use crate::numbers::{name_at, number_at};
 use aout_core::{Reloc, Symbol, data_start, is_magic};
@@ -36,7 +35,7 @@ fn reloc_of(flag: u16, third: &[u8]) -> Result<Option<Reloc>, RowFault>
 
 /// Adds a word and its relocation word.
 fn add_word(segment: &mut SegmentDraft, word: u16, reloc: Option<Reloc>) -> Result<(), RowFault>
-    ensures { Leaves (segment_of segment.new) result
+    ensures { Leaves (segment_of segment.old) (segment_of segment.new) result
         (Ok (with_word (segment_of segment.old) word (option_to_list reloc))) }
 {
     segment.words.push(word)?;
@@ -46,45 +45,58 @@ fn add_word(segment: &mut SegmentDraft, word: u16, reloc: Option<Reloc>) -> Resu
     }
 }
 
-/// Reads a word of a segment that begins at an address.
+/// Whether a word may have an address, if this one is next.
+fn is_right(addresses: Addresses, at: u16, next: u16) -> bool
+    ensures { result ≡ is_right addresses at next }
+{
+    match addresses {
+        Addresses::Compared => at == next,
+        Addresses::Computed => true,
+    }
+}
+
+/// Reads a word of a segment, at the next address.
 fn word_entry(
-    start: usize,
+    addresses: Addresses,
+    next: u16,
     flag: u16,
     segment: &mut SegmentDraft,
     columns: Columns,
 ) -> Result<(), RowFault>
-    requires { start < 2 ^ 32 }
-    ensures { Leaves (segment_of segment.new) result
-        (word_entry start flag (segment_of segment.old) (row_in columns.entry)) }
+    ensures { Leaves (segment_of segment.old) (segment_of segment.new) result
+        (word_entry addresses next flag (segment_of segment.old) (row_in columns.entry)) }
 {
     let at = number_at(0, columns.first)?;
     let word = number_at(1, columns.second)?;
     let reloc = reloc_of(flag, columns.third)?;
-    let count = segment.words.len();
-    if count >= 32767 {
+    if segment.words.len() >= 32767 {
         return Err(RowFault::Wrong(0, Reason::TooManyWords));
     }
-    if usize::from(at) != (start + 2 * count) % 65536 {
-        return Err(RowFault::Wrong(0, Reason::WrongAddress));
+    if !is_right(addresses, at, next) {
+        return Err(RowFault::Wrong(0, Reason::WrongAddress(next)));
     }
     add_word(segment, word, reloc)
 }
 
 /// Reads an entry of the symbol table.
-fn symbol_entry(alloc: Global, symbols: &mut Vec<Symbol>, columns: Columns) -> Result<(), RowFault>
-    ensures { Leaves symbols.new.items result
-        (symbol_entry symbols.old.items (row_in columns.entry)) }
+fn symbol_entry(
+    alloc: Global,
+    next: u16,
+    symbols: &mut Vec<Symbol>,
+    columns: Columns,
+) -> Result<(), RowFault>
+    ensures { Leaves symbols.old.items symbols.new.items result
+        (symbol_entry next symbols.old.items (row_in columns.entry)) }
 {
     let number = number_at(0, columns.first)?;
     let name = name_at(alloc, 1, columns.second)?;
     let type_bits = number_at(2, columns.third)?;
     let value = number_at(3, columns.fourth)?;
-    let count = symbols.len();
-    if count >= 5461 {
+    if symbols.len() >= 5461 {
         return Err(RowFault::Wrong(0, Reason::TooManySymbols));
     }
-    if usize::from(number) != count {
-        return Err(RowFault::Wrong(0, Reason::WrongNumber));
+    if number != next {
+        return Err(RowFault::Wrong(0, Reason::WrongNumber(next)));
     }
     let symbol = Symbol {
         name,
@@ -94,21 +106,62 @@ fn symbol_entry(alloc: Global, symbols: &mut Vec<Symbol>, columns: Columns) -> R
     Ok(symbols.push(symbol)?)
 }
 
+/// Reads a word of the text.
+fn text_entry(draft: &mut FileDraft, columns: Columns) -> Result<(), RowFault>
+    ensures { Leaves (draft_of draft.old) (draft_of draft.new) result
+        (entry_in InText (draft_of draft.old) (row_in columns.entry)) }
+{
+    let next = draft.next;
+    word_entry(
+        draft.addresses,
+        next,
+        draft.flag,
+        &mut draft.text_part,
+        columns,
+    )?;
+    draft.next = next.wrapping_add(2);
+    Ok(())
+}
+
+/// Reads a word of the data.
+fn data_entry(draft: &mut FileDraft, columns: Columns) -> Result<(), RowFault>
+    ensures { Leaves (draft_of draft.old) (draft_of draft.new) result
+        (entry_in InData (draft_of draft.old) (row_in columns.entry)) }
+{
+    let next = draft.next;
+    word_entry(
+        draft.addresses,
+        next,
+        draft.flag,
+        &mut draft.data_part,
+        columns,
+    )?;
+    draft.next = next.wrapping_add(2);
+    Ok(())
+}
+
+/// Reads a symbol.
+fn table_entry(alloc: Global, draft: &mut FileDraft, columns: Columns) -> Result<(), RowFault>
+    ensures { Leaves (draft_of draft.old) (draft_of draft.new) result
+        (entry_in InSymbols (draft_of draft.old) (row_in columns.entry)) }
+{
+    let next = draft.next;
+    symbol_entry(alloc, next, &mut draft.symbols, columns)?;
+    draft.next = next.wrapping_add(1);
+    Ok(())
+}
+
 /// Reads a row that begins with a digit.
 fn entry_in(alloc: Global, draft: &mut FileDraft, columns: Columns) -> Result<(), RowFault>
-    requires { IsDraft (draft_of draft.old) }
-    ensures left { Leaves (draft_of draft.new) result
+    ensures left { Leaves (draft_of draft.old) (draft_of draft.new) result
         (entry_in draft.old.section (draft_of draft.old) (row_in columns.entry)) }
     ensures memory { IfErr result (λ fault. fault ≡ Memory refused → draft.old.section ≢ InHeader) }
 {
     match draft.section {
         Section::InHeader => Err(RowFault::Wrong(0, Reason::NoSection)),
-        Section::InText => word_entry(0, draft.flag, &mut draft.text_part, columns),
-        Section::InData => {
-            let start = data_start(draft.magic, 2 * draft.text_part.words.len());
-            word_entry(start, draft.flag, &mut draft.data_part, columns)
-        }
-        Section::InSymbols => symbol_entry(alloc, &mut draft.symbols, columns),
+        Section::InText => text_entry(draft, columns),
+        Section::InData => data_entry(draft, columns),
+        Section::InSymbols => table_entry(alloc, draft, columns),
     }
 }
 
@@ -161,21 +214,32 @@ fn rank(section: Section) -> u8
     }
 }
 
+/// The first address or number of a section.
+fn first_in(section: Section, draft: &FileDraft) -> u16
+    ensures { result ≡ first_in section (draft_of draft.now) }
+{
+    match section {
+        Section::InData => (data_start(draft.magic, usize::from(draft.next)) % 65536) as u16,
+        Section::InHeader | Section::InText | Section::InSymbols => 0,
+    }
+}
+
 /// Opens a section.
 fn open(draft: &mut FileDraft, section: Section) -> Result<(), RowFault>
-    ensures left { Leaves (draft_of draft.new) result (opened section (draft_of draft.old)) }
+    ensures left { Leaves (draft_of draft.old) (draft_of draft.new) result (opened section (draft_of draft.old)) }
     ensures no_memory { IfErr result (λ fault. fault ≢ Memory refused) }
 {
     if rank(draft.section) >= rank(section) {
         return Err(RowFault::Wrong(0, Reason::OutOfOrder));
     }
+    draft.next = first_in(section, draft);
     draft.section = section;
     Ok(())
 }
 
 /// Takes the size of bss.
 fn take_bss(draft: &mut FileDraft, second: &[u8]) -> Result<(), RowFault>
-    ensures left { Leaves (draft_of draft.new) result
+    ensures left { Leaves (draft_of draft.old) (draft_of draft.new) result
         (named_by Bss (draft_of draft.old) (in_column 1 (number second.now))) }
     ensures no_memory { IfErr result (λ fault. fault ≢ Memory refused) }
 {
@@ -189,7 +253,7 @@ fn take_bss(draft: &mut FileDraft, second: &[u8]) -> Result<(), RowFault>
 
 /// Takes the magic number.
 fn take_magic(draft: &mut FileDraft, second: &[u8]) -> Result<(), RowFault>
-    ensures left { Leaves (draft_of draft.new) result
+    ensures left { Leaves (draft_of draft.old) (draft_of draft.new) result
         (named_by Magic (draft_of draft.old) (in_column 1 (number second.now))) }
     ensures no_memory { IfErr result (λ fault. fault ≢ Memory refused) }
 {
@@ -206,7 +270,7 @@ fn take_magic(draft: &mut FileDraft, second: &[u8]) -> Result<(), RowFault>
 
 /// Takes the flag.
 fn take_flag(draft: &mut FileDraft, second: &[u8]) -> Result<(), RowFault>
-    ensures left { Leaves (draft_of draft.new) result
+    ensures left { Leaves (draft_of draft.old) (draft_of draft.new) result
         (named_by Flag (draft_of draft.old) (in_column 1 (number second.now))) }
     ensures no_memory { IfErr result (λ fault. fault ≢ Memory refused) }
 {
@@ -219,7 +283,7 @@ fn take_flag(draft: &mut FileDraft, second: &[u8]) -> Result<(), RowFault>
 
 /// Takes what a word says.
 fn take_word(draft: &mut FileDraft, word: Word, second: &[u8]) -> Result<(), RowFault>
-    ensures left { Leaves (draft_of draft.new) result
+    ensures left { Leaves (draft_of draft.old) (draft_of draft.new) result
         (named_by word (draft_of draft.old) (in_column 1 (number second.now))) }
     ensures no_memory { IfErr result (λ fault. fault ≢ Memory refused) }
 {
@@ -244,7 +308,7 @@ fn take_word(draft: &mut FileDraft, word: Word, second: &[u8]) -> Result<(), Row
 
 /// Reads a row that begins with a word.
 fn named(draft: &mut FileDraft, columns: Columns) -> Result<(), RowFault>
-    ensures left { Leaves (draft_of draft.new) result
+    ensures left { Leaves (draft_of draft.old) (draft_of draft.new) result
         (named (draft_of draft.old) (row_in columns.entry)) }
     ensures no_memory { IfErr result (λ fault. fault ≢ Memory refused) }
 {
@@ -262,10 +326,19 @@ fn is_label(columns: Columns) -> bool
         || (is_word(columns.second, b"=") && columns.third.starts_with(b".+"))
 }
 
+/// Whether a row is a word, a symbol, or a mistake in its place.
+fn begins_with_digit(first: &[u8]) -> bool
+    ensures { result ≡ begins_with_digit first.now }
+{
+    match first.first() {
+        Some(byte) => *byte >= b'0' && *byte <= b'9',
+        None => false,
+    }
+}
+
 /// Reads a row.
 pub(crate) fn read_row(alloc: Global, draft: &mut FileDraft, line: &[u8]) -> Result<(), RowFault>
-    requires { IsDraft (draft_of draft.old) }
-    ensures left { Leaves (draft_of draft.new) result
+    ensures left { Leaves (draft_of draft.old) (draft_of draft.new) result
         (row_read (draft_of draft.old) (row_of line.now)) }
     ensures memory { IfErr result (λ fault.
         fault ≡ Memory refused → IsEntry (draft_of draft.old) (row_of line.now)) }
@@ -284,4 +357,36 @@ pub(crate) fn read_row(alloc: Global, draft: &mut FileDraft, line: &[u8]) -> Res
         return Ok(());
     }
     named(draft, columns)
+}
+
+/// The address or number that a row has, or the next one.
+fn own(next: u16, first: &[u8]) -> u16
+    ensures { result ≡ own next (number first.now) }
+{
+    match number_at(0, first) {
+        Ok(number) => number,
+        Err(_) => next,
+    }
+}
+
+/// The address or number after that of a row with a mistake.
+fn next_after(section: Section, next: u16, number: u16) -> u16
+    ensures { result ≡ next_after section next number }
+{
+    match section {
+        Section::InHeader => next,
+        Section::InText | Section::InData => number.wrapping_add(2),
+        Section::InSymbols => number.wrapping_add(1),
+    }
+}
+
+/// Passes a row with a mistake.
+pub(crate) fn pass(draft: &mut FileDraft, line: &[u8])
+    ensures { draft_of draft.new ≡ passed (draft_of draft.old) (row_of line.now) }
+{
+    let columns = columns_of(line);
+    if begins_with_digit(columns.first) {
+        let number = own(draft.next, columns.first);
+        draft.next = next_after(draft.section, draft.next, number);
+    }
 }

@@ -7,6 +7,7 @@ ghost use Rattle.texts.specs.Texts.{Puts};
 ghost use Rattle.listings.specs.Listing.{gap, wide, word_columns, word_line, word_lines, symbol_numbers, symbol_line, symbol_lines};
 ghost use Rattle.listings.specs.Listing.{named_line, unusual, head_lines, text_lines, data_lines, bss_lines, table_lines, listing};
 ghost use Rattle.listings.specs.Reading.{read};
+ghost use Rattle.listings.specs.declared.draft.Addresses.TheVariants.{Compared};
 
 use crate::remark::Remark;
 use aout_core::laws::sound_law;
@@ -294,7 +295,7 @@ pub fn write_listing<R: Remark>(
     remarks: &R,
 ) -> Result<Vec<u8>, AllocError>
     ensures lists { IfOk result (λ v. v.items ≡ listing (R.said remarks.now) file.now) }
-    ensures again { IfOk result (λ v. read v.items ≡ Ok file.now) }
+    ensures again { IfOk result (λ v. read Compared v.items ≡ Ok file.now) }
 {
     sound_law(file);
     listing_of(alloc, file, remarks)

@@ -2,48 +2,54 @@
 --
 -- The system is asked whether the output is the listing before a file is opened, and a file is stored only if the listing has no
 -- mistake. If memory runs out, that is the answer; it does so after a file was to be stored only if it was not stored.
-use Rattle.std.specs.Prelude.{ℕ, false, if◌then◌else◌, List, [], ◌∷◌, Option, Result, Ok, Err}
+use Rattle.std.specs.Prelude.{ℕ, false, codes, if◌then◌else◌, List, [], ◌∷◌, Option, Result, Ok, Err}
 use Rattle.std.specs.Borrow.{Bor}
-use Rattle.aout_core.specs.Contents.{Contents}
-use Rattle.listings.specs.{Reading.read, declared.fault.Fault.Fault as Mistake}
+use Rattle.aout_core.specs.{Contents.Contents, Words.letter_of}
+use Rattle.listings.specs.{Reading.read, Reading.Mistakes, declared.draft.Addresses.Addresses}
+use Rattle.listings.specs.declared.draft.Addresses.TheVariants.{Compared, Computed}
 use Rattle.surroundings.specs.Answers.{IsPerformed, fault_line, only_errors}
 use Rattle.surroundings.specs.Programs.{AnswersGiven, Finds, Reads, Step, Stores, Then}
-use Rattle.surroundings.specs.{Answer.Answer, Arguments.Given, Arguments.if_given, Arguments.given_in, Events.Surroundings, Events.stored, Nodes.ChecksOutput}
+use Rattle.surroundings.specs.{Answer.Answer, Arguments.Given, Arguments.has_letter, Arguments.if_given, Arguments.given_in}
+use Rattle.surroundings.specs.{Events.Surroundings, Events.stored, Nodes.ChecksOutput}
 use Rattle.surroundings.specs.declared.reasons.Reason.{Reason}
 use Rattle.surroundings.specs.declared.reasons.Reason.TheVariants.{NotTwoFiles}
-use Rattle.v7_object.specs.Lines.{help, mistake_line, nothing_said, program, says_something, usage}
+use Rattle.v7_object.specs.Lines.{help, mistake_lines, nothing_said, program, says_something, usage}
 
 -- what the arguments ask for: to make the file of a listing at a path
 pub record Call : Type 0 where
+  pub addresses : Addresses
   pub listing : List ℕ
   pub to : List ℕ
 
 -- two paths
-abbrev pub making_of : List (List ℕ) → Result Call Reason
-making_of (listing ∷ to ∷ []) = Ok (record { listing = listing; to = to })
-making_of _ = Err NotTwoFiles
+abbrev pub making_of : Addresses → List (List ℕ) → Result Call Reason
+making_of addresses (listing ∷ to ∷ []) = Ok (record { addresses = addresses; listing = listing; to = to })
+making_of addresses _ = Err NotTwoFiles
+
+-- with -n addresses are computed
+abbrev pub addresses_in : Given → Addresses
+addresses_in given = if has_letter given.letters (letter_of (codes "n")) then Computed else Compared
 
 abbrev pub making_in : Given → Result Call Reason
-making_in given = making_of given.paths
+making_in given = making_of (addresses_in given) given.paths
 
 -- the same as the code has them
-abbrev pub result_in : Result (Bor (List ℕ) × Bor (List ℕ)) Reason → Result Call Reason
-result_in (Ok paths) = Ok (record { listing = paths.0.now; to = paths.1.now })
+abbrev pub result_in : Result (Addresses × Bor (List ℕ) × Bor (List ℕ)) Reason → Result Call Reason
+result_in (Ok made) = Ok (record { addresses = made.0; listing = made.1.now; to = made.2.now })
 result_in (Err reason) = Err reason
 
--- there are no options
 abbrev pub making_asked : List (List ℕ) → Result Call Reason
-making_asked words = if_given (given_in [] [] words) making_in
+making_asked words = if_given (given_in (codes "n") [] words) making_in
 
--- the file that a listing is read as, or its first mistake, with the status 1
-abbrev pub file_of : List ℕ → Result Contents Mistake → Result Contents Answer
+-- the file that a listing is read as, or its mistakes, with the status 1
+abbrev pub file_of : List ℕ → Result Contents Mistakes → Result Contents Answer
 file_of path (Ok file) = Ok file
-file_of path (Err mistake) = Err (only_errors (mistake_line path mistake) 1)
+file_of path (Err mistakes) = Err (only_errors (mistake_lines path mistakes) 1)
 
 -- one that has no line but remarks is refused
-abbrev pub file_in : List ℕ → List ℕ → Result Contents Answer
-file_in path text =
-    if says_something false text then file_of path (read text) else Err (only_errors (fault_line program path nothing_said) 1)
+abbrev pub file_in : Addresses → List ℕ → List ℕ → Result Contents Answer
+file_in addresses path text =
+    if says_something false text then file_of path (read addresses text) else Err (only_errors (fault_line program path nothing_said) 1)
 
 -- a file is stored, once there is memory for the answer
 abbrev pub IsStoring : List ℕ → Contents → Step Answer
@@ -54,7 +60,7 @@ abbrev pub IsMaking : Call → Step Answer
 IsMaking call =
     Then (ChecksOutput program call.listing call.to) (λ _.
     Then (Reads program call.listing) (λ bytes.
-    Then (Finds (file_in call.listing bytes)) (λ file.
+    Then (Finds (file_in call.addresses call.listing bytes)) (λ file.
     IsStoring call.to file)))
 
 -- what the arguments ask for is done, and its answer is written

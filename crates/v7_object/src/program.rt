@@ -2,10 +2,11 @@
 ghost use Rattle.std.specs.Prelude.{◌≡◌, map, string_bytes};
 ghost use Rattle.surroundings.specs.Programs.{AnswersGiven, DoesWords};
 ghost use Rattle.v7_object.specs.Lines.{help, program, usage};
-ghost use Rattle.v7_object.specs.Runs.{IsMaking, PerformsObject, making_asked, making_in, result_in};
+ghost use Rattle.v7_object.specs.Runs.{IsMaking, PerformsObject, addresses_in, making_asked, making_in, result_in};
 
 use crate::help::{HELP, USAGE};
 use crate::making::make_file;
+use listings::Addresses;
 use std::alloc::Global;
 use std::io::Write;
 use surroundings::{
@@ -16,12 +17,23 @@ use surroundings::{
 /// The name of the program.
 pub(crate) const NAME: &str = "v7-object";
 
-/// The paths of a listing and of its file, if there are two paths.
-fn making_in(given: &Given) -> Result<(&str, &str), Reason>
+/// What is done with addresses.
+fn addresses_in(given: &Given) -> Addresses
+    ensures { result ≡ addresses_in given.now }
+{
+    if given.has(b'n') {
+        Addresses::Computed
+    } else {
+        Addresses::Compared
+    }
+}
+
+/// What is done with addresses, and the paths of a listing and of its file, if there are two paths.
+fn making_in(given: &Given) -> Result<(Addresses, &str, &str), Reason>
     ensures { result_in result ≡ making_in given.now }
 {
     match given.paths() {
-        [listing, to] => Ok((listing.as_str(), to.as_str())),
+        [listing, to] => Ok((addresses_in(given), listing.as_str(), to.as_str())),
         _ => Err(Reason::NotTwoFiles),
     }
 }
@@ -33,7 +45,7 @@ fn answer_given<O: Office>(alloc: Global, office: &mut O, given: &Given) -> Resu
         (O.history office.old) (O.history office.new) result }
 {
     match making_in(given) {
-        Ok((listing, to)) => make_file(alloc, office, listing, to),
+        Ok((addresses, listing, to)) => make_file(alloc, office, addresses, listing, to),
         Err(reason) => Ok(refused_answer(alloc, NAME, USAGE, reason)?),
     }
 }
@@ -44,7 +56,7 @@ fn answer_words<O: Office>(alloc: Global, office: &mut O, words: &[String]) -> R
     ensures { DoesWords program usage IsMaking (making_asked (map string_bytes words.now))
         (O.history office.old) (O.history office.new) result }
 {
-    match given_in(alloc, b"", b"", words)? {
+    match given_in(alloc, b"n", b"", words)? {
         Ok(given) => answer_given(alloc, office, &given),
         Err(reason) => Ok(refused_answer(alloc, NAME, USAGE, reason)?),
     }

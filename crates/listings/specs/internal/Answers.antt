@@ -1,4 +1,4 @@
--- What the functions that read rows return: what the definitions give, unless memory ran out.
+-- What the functions that read rows return: what the definitions give, unless memory ran out. A mistake changes nothing.
 use Rattle.std.specs.Prelude.{◌≡◌, Result, Ok, Err}
 use Rattle.listings.specs.{declared.fault.RowFault.RowFault, declared.fault.RowFault.TheVariants.Memory}
 use Rattle.listings.specs.{declared.fault.RowFault.TheVariants.Wrong, Reading.Mistake}
@@ -12,7 +12,11 @@ abbrev pub Found : {X Y : Type 0} → (X → Y) → Result X RowFault → Result
 Found view (Ok x) found = found ≡ Ok (view x)
 Found view (Err e) found = Fails e found
 
--- the value that is left
-abbrev pub Leaves : {X Y : Type 0} → Y → Result X RowFault → Result Y Mistake → Type 0
-Leaves left (Ok x) found = found ≡ Ok left
-Leaves left (Err e) found = Fails e found
+abbrev pub Keeps : {Y : Type 0} → Y → Y → RowFault → Type 0
+Keeps old left (Memory _) = Unit {0}
+Keeps old left (Wrong k reason) = left ≡ old
+
+-- the value that was, and the value that is left
+abbrev pub Leaves : {X Y : Type 0} → Y → Y → Result X RowFault → Result Y Mistake → Type 0
+Leaves old left (Ok x) found = found ≡ Ok left
+Leaves old left (Err e) found = Fails e found × Keeps old left e

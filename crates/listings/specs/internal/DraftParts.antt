@@ -6,7 +6,9 @@ segment_of s = record { words = s.words.items; relocs = s.relocs.items }
 
 abbrev pub draft_of : FileDraft → Draft
 draft_of d = record {
+  addresses = d.addresses;
   section = d.section;
+  next = d.next;
   magic = d.magic;
   bss = d.bss;
   entry = d.entry;

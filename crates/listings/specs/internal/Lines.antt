@@ -1,12 +1,10 @@
--- What the functions that read lines return.
-use Rattle.std.specs.Prelude.{◌≡◌, Result, Ok, Err}
-use Rattle.listings.specs.{declared.fault.Fault.Fault, declared.fault.ListingFault.ListingFault}
-use Rattle.listings.specs.{declared.fault.ListingFault.TheVariants.Memory, declared.fault.ListingFault.TheVariants.Wrong, Drafts.Draft}
+-- What the code has read, by the definitions.
+use Rattle.std.specs.Prelude.{ℕ}
+use Rattle.listings.specs.{declared.draft.FileDraft.FileDraft, declared.read.Noting.Noting, Reading.State, Reading.Noted}
+use Rattle.listings.specs.internal.DraftParts.{draft_of}
 
-abbrev pub Stops : ListingFault → Result Draft Fault → Type 0
-Stops (Memory _) found = Unit {0}
-Stops (Wrong fault) found = found ≡ Err fault
+abbrev pub noted_of : Noting → Noted
+noted_of n = record { first = n.first; others = n.others.items }
 
-abbrev pub Goes : {X : Type 0} → Draft → Result X ListingFault → Result Draft Fault → Type 0
-Goes left (Ok x) found = found ≡ Ok left
-Goes left (Err e) found = Stops e found
+abbrev pub state_of : ℕ → FileDraft → Noting → State
+state_of number draft noting = record { number = number; draft = draft_of draft; noted = noted_of noting }

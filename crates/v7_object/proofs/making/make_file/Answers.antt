@@ -8,7 +8,7 @@ pub returns : goal.returns
 returns g c =
     let same : c.deref.result.now ≡ c.in_ok-text.text.items = search rules in
     let between = g.O.Office.history c.read_whole.new.office in
-    let found = subst (λ text. file_in c.args.listing.now text ≡ Ok c.in_ok-file.file) same c.in_ok-file.ensures.ok in
+    let found = subst (λ text. file_in c.args.addresses c.args.listing.now text ≡ Ok c.in_ok-file.file) same c.in_ok-file.ensures.ok in
     inr (
       tt,
       g.O.Office.history c.check_output.new.office,
@@ -24,7 +24,7 @@ returns-in_err-file g c =
     let same : c.deref.result.now ≡ c.in_ok-text.text.items = search rules in
     let between = g.O.Office.history c.read_whole.new.office in
     let fault = c.in_err-file.field-0.0 in
-    let found = subst (λ text. Faults (file_in c.args.listing.now text) fault) same c.in_err-file.ensures.err in
+    let found = subst (λ text. Faults (file_in c.args.addresses c.args.listing.now text) fault) same c.in_err-file.ensures.err in
     inr (
       tt,
       g.O.Office.history c.check_output.new.office,
