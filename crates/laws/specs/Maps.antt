@@ -13,7 +13,7 @@ use Rattle.link_maps.specs.{declared.places.Places.Places, declared.references.R
 use Rattle.link_maps.specs.Members.{capped, first_places, member_of, places_from, start_in}
 use Rattle.instructions.specs.declared.unix.Decoder.TheVariants.{Unix}
 use Rattle.disassemblies.specs.Starts.{starts}
-use Rattle.link_maps.specs.{Leads.aim_of, References.relocs_of, References.segment_of_part, References.words_of}
+use Rattle.link_maps.specs.{Leads.aim_of, References.part_words, References.relocs_of, References.segment_of_part}
 use Rattle.link_maps.specs.{Uses.Use, Uses.uses_in_order, declared.leads.Aim.Aim}
 use Rattle.link_maps.specs.declared.leads.Aim.TheVariants.{Numbered, Addressed}
 use Rattle.tool_options.specs.Choices.{Choices}
@@ -50,7 +50,7 @@ pub record LeadsTo (k : Contents) (part : Part) (offset : ℕ) (s : Symbol) : Ty
   pub reloc : Reloc
   pub is_there : slice_get (relocs_of k part) i ≡ Some reloc
   pub word : ℕ
-  pub word_there : slice_get (words_of k part) i ≡ Some word
+  pub word_there : slice_get (part_words k part) i ≡ Some word
   pub aim : Aim
   pub leads : aim_of (starts Unix k) k part offset reloc word ≡ Some aim
   pub number : ℕ

@@ -19,7 +19,7 @@ use Rattle.instructions.specs.{Operands.takes_word, Relocated.is_relocated, Text
 use Rattle.disassemblies.specs.Naming.{is_at}
 use Rattle.link_maps.specs.{declared.leads.Aim.Aim, declared.leads.Lead.Lead, declared.references.ReferringWord.ReferringWord}
 use Rattle.link_maps.specs.declared.leads.Aim.TheVariants.{Numbered, Addressed}
-use Rattle.link_maps.specs.References.{address_in, line_of, reference_at, relocs_of, words_of}
+use Rattle.link_maps.specs.References.{address_in, line_of, part_words, reference_at, relocs_of}
 
 -- ---- words that a link relocates
 
@@ -97,7 +97,7 @@ leads_in starts o part offset (r ∷ rs) (w ∷ ws) =
     lead_by part offset (aim_of starts o part offset r w) ++ leads_in starts o part (plus offset 2) rs ws
 
 abbrev pub leads_of : List Bool → Contents → Part → List Lead
-leads_of starts o part = leads_in starts o part 0 (relocs_of o part) (words_of o part)
+leads_of starts o part = leads_in starts o part 0 (relocs_of o part) (part_words o part)
 
 -- those of text, and then those of data
 abbrev pub leads : List Bool → Contents → List Lead

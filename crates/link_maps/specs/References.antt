@@ -24,9 +24,9 @@ abbrev pub relocs_of : Contents → Part → List Reloc
 relocs_of o Text = o.text_reloc
 relocs_of o Data = o.data_reloc
 
-abbrev pub words_of : Contents → Part → List ℕ
-words_of o Text = o.text_words
-words_of o Data = o.data_words
+abbrev pub part_words : Contents → Part → List ℕ
+part_words o Text = o.text_words
+part_words o Data = o.data_words
 
 -- ---- labels
 

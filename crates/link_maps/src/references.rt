@@ -7,7 +7,7 @@ ghost use Rattle.disassemblies.specs.Starts.{starts};
 ghost use Rattle.instructions.specs.declared.unix.Decoder.TheVariants.{Unix};
 ghost use Rattle.link_session.specs.Starts.{own};
 ghost use Rattle.link_maps.specs.Leads.{reference_if, references_to};
-ghost use Rattle.link_maps.specs.References.{address_in, before_line, line_of, reference_at, relocs_of, segment_of_part, text_of_line, words_of};
+ghost use Rattle.link_maps.specs.References.{address_in, before_line, line_of, part_words, reference_at, relocs_of, segment_of_part, text_of_line};
 
 use crate::labels::Labels;
 use crate::leads::{Lead, leads_in};
@@ -50,7 +50,7 @@ pub(crate) fn relocs_of(file: &File, part: Part) -> &[Reloc]
 
 /// The words of a part.
 pub(crate) fn part_words(file: &File, part: Part) -> &[u16]
-    ensures { result.now ≡ words_of file.now part }
+    ensures { result.now ≡ part_words file.now part }
 {
     match part {
         Part::Text => file.text_words(),
