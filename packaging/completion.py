@@ -3,8 +3,7 @@
 
 usage: packaging/completion.py FOLDER      writes v7.bash and _v7
 
-The meanings are those of the help of v7, and for the other programs, whose help is a usage, the first sentence of the manual. An option
-that one of the two has, and the other lacks, is an error.
+The meanings are those of the help.
 """
 import os
 import re
@@ -13,11 +12,9 @@ import sys
 sys.path.insert(1, os.path.dirname(os.path.dirname(os.path.abspath(__file__))))
 from tests.lib.files import TOP, read, write  # noqa: E402
 
-# the source of the usage of each program but v7
-USAGES = {"v7-explain": "v7_explain/src/program.rt", "v7-from-gnu": "v7_from_gnu/src/help.rt", "v7-lesson": "v7_lesson/src/arguments.rt",
-          "v7-object": "v7_object/src/help.rt"}
-# options that belong to another one, which the list of the manual leaves out
-BESIDE = {"v7-explain": {"-R": (None, "With -l, looks into folders"), "-y": ("NAME", "With -m, traces a name")}}
+# the source of the help of each program but v7
+HELP = {"v7-explain": "v7_explain/src/help.rt", "v7-from-gnu": "v7_from_gnu/src/help.rt", "v7-lesson": "v7_lesson/src/help.rt",
+        "v7-object": "v7_object/src/help.rt"}
 SHOWN = {"--help": (None, "Shows how to call it"), "--version": (None, "Shows the version")}
 # the files that a program takes, and what the values of options are; anything else is a file
 TAKES = {"v7 ld": "*.o", "v7-lesson": "*.o", "v7-object": "*.lst", "v7 session": "none", "v7 help": "none"}
@@ -30,39 +27,9 @@ def strings(path):
     return {name: text.replace("\\n", "\n") for name, text in found}
 
 
-def plain(line):
-    """A line of the manual without its macros."""
-    if not line.startswith("."):
-        return line
-    words = re.findall(r'"[^"]*"|\S+', line[1:])
-    shown, hyphen = [], ""
-    for word in words[1:] if words[0] != "Fl" else words:
-        if word == "Fl":
-            hyphen = "-"
-        elif word in ("Ar", "Ql", "Pa", "Em", "Xr", "Cm"):
-            hyphen = ""
-        elif re.match(r"[.,;:)]$", word) and shown:
-            shown[-1] += word
-        elif not (words[0] == "Xr" and word.isdigit()):
-            shown.append(hyphen + word.strip('"'))
-    return " ".join(shown)
-
-
-def manual_options(program):
-    """The options of a program in its manual, each with its value and its meaning."""
-    options = {}
-    for heads, text in re.findall(r"^\.It ((?:Fl \w(?: Ar \w+)?(?: , )?)+)\n((?:(?!\.It|\.El).*\n)*)", read(f"{TOP}/man/{program}.1"), re.M):
-        sentence = re.split(r"[;.:](?: |$)", " ".join(map(plain, text.split("\n"))).replace(program, "").strip())[0]
-        for letter, value in re.findall(r"Fl (\w)(?: Ar (\w+))?", heads):
-            options[f"-{letter}"] = value.upper() or None, re.sub(r" +", " ", sentence)
-    return {**options, **BESIDE.get(program, {})}
-
-
-def usage_options(path):
-    """The options of a program in its usage."""
-    usage = next(text for text in strings(path).values() if "--help | --version" in text)
-    letters = re.findall(r"-(\w+)(?![\w-])", re.sub(r"v7-[\w-]+|--\w+", "", usage))
-    return {f"-{letter}" for group in letters for letter in group}
+def options_of(page):
+    """The options of a page of help, each with its value and its meaning."""
+    return {option: (value or None, meaning) for option, value, meaning in re.findall(r"^  (-\w)(?: ([A-Z]+))?  +(.*)", page, re.M)}
 
 
 def tables():
@@ -72,14 +39,10 @@ def tables():
     found = {"v7": {**{tool: (None, meaning) for tool, meaning in tools.items()}, "help": (None, "shows the help of a command"), **SHOWN},
              "v7 help": {tool: (None, meaning) for tool, meaning in tools.items()}}
     for tool in tools:
-        rows = re.findall(r"^  (-\w)(?: ([A-Z]+))?  +(.*)", pages[tool.upper()], re.M)
-        found[f"v7 {tool}"] = {option: (value or None, meaning) for option, value, meaning in rows}
+        found[f"v7 {tool}"] = options_of(pages[tool.upper()])
     found["v7 session"] = {option: row for option, row in found["v7 ld"].items() if option != "-o"}
-    for program, path in USAGES.items():
-        found[program] = manual_options(program)
-        if found[program].keys() != usage_options(path):
-            sys.exit(f"{program}: the manual and the usage differ in {sorted(found[program].keys() ^ usage_options(path))}")
-        found[program].update(SHOWN)
+    for program, path in HELP.items():
+        found[program] = {**options_of(strings(path)["HELP"]), **SHOWN}
     for tool in tools:
         found[f"v7 {tool}"]["--help"] = SHOWN["--help"]
     return found
@@ -152,7 +115,7 @@ def bash(found):
         rows = [f"{option} {kind_of(value)} {meaning}" for option, (value, meaning) in options.items()]
         rows.append(f"files {TAKES.get(command, 'file')}")
         cases.append(f"    {quoted(command)}) cat <<'END' ;;\n" + "\n".join(rows) + "\nEND\n")
-    return BASH % ("".join(cases), " ".join(["v7", *USAGES]))
+    return BASH % ("".join(cases), " ".join(["v7", *HELP]))
 
 
 def files_of(kind):
@@ -174,7 +137,7 @@ def zsh(found):
         if command != "v7":
             cases.append(f"{quoted(command)}) _arguments -s {' '.join(map(quoted, rows))} ;;\n")
     choices = " ".join(quoted(f"{name}:{meaning}") for name, (_, meaning) in found["v7"].items())
-    return ZSH % (" ".join(["v7", *USAGES]), choices, "".join(cases))
+    return ZSH % (" ".join(["v7", *HELP]), choices, "".join(cases))
 
 
 def texts():

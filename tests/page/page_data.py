@@ -412,7 +412,7 @@ def refusals(tools, files):
     for words in ([], ["-p"], ["-p", tools.page], ["-p", tools.page, "-q", files[0]], ["-n", files[0]], ["-n", "0", files[0]], ["-n", "3", files[0]],
                   ["-x", files[0]]):
         done = subprocess.run([tools.lesson, *words], capture_output=True, text=True)
-        same(f"v7-lesson {words}", (done.returncode, done.stdout, done.stderr[:11]), (2, "", "v7-lesson: "))
+        same(f"v7-lesson {words}", (done.returncode, done.stdout, done.stderr.splitlines()[-1][:11]), (2, "", "v7-lesson: "))
 
 
 def largest_page(tools, files):

@@ -42,8 +42,6 @@ WANTED = [
     ("v7-lesson -n 1 -q less", ["lessons.txt"]),
     ("?v7-lesson -n", ["-n"]),
 ]
-# options that are not in a list of the manual
-BESIDE = {"v7-explain": {"-R", "-y"}}
 ASK = r"""
 . "$1"; shift
 COMP_TYPE=$1; shift
@@ -74,8 +72,8 @@ def check_bash(file):
         same(f"bash: {typed}", sorted(bash(file, typed)), sorted(wanted))
     for command in ("v7 ld", "v7 nm", "v7-explain", "v7-from-gnu", "v7-lesson"):
         offered = bash(file, f"?{command} -")
-        wanted = options_of(command.replace(" ", "-")) | BESIDE.get(command, set())
-        same(f"bash: {command}", {line.split(" ")[0] for line in offered if not line.startswith("--")}, wanted)
+        shown = {line.split(" ")[0] for line in offered if not line.startswith("--")}
+        same(f"bash: {command}", shown, options_of(command.replace(" ", "-")))
         terminal.holds(f"bash: {command}: a meaning for each", all(re.fullmatch(r"\S+  \(\w.{8,}\)", line) for line in offered))
         same(f"bash: {command}: without the list", bash(file, f"{command} -"), [line.split(" ")[0] for line in offered])
         count += len(offered)
@@ -108,7 +106,7 @@ def check_zsh(folder):
         return [rf"^(-. +)?{name} +(-. +)?-- \w" for name in sorted(names)]
 
     for typed, wanted in (("v7 ld -", explained(options_of("v7-ld"))), ("v7 ", explained(terminal.TOOLS)), ("v7 ld ma", ["v7 ld main.o"]),
-                          ("v7-explain -", explained(options_of("v7-explain") | BESIDE["v7-explain"]))):
+                          ("v7-explain -", explained(options_of("v7-explain")))):
         same(f"zsh: {typed}: not shown", zsh(folder, typed, wanted), [])
 
 

@@ -5,7 +5,7 @@ The terminal is a pseudo-terminal, by the module `pty`. What is expected here is
 v7-session(1). Options are those of the manual pages. Random command lines, always the same, show that a reason is given for those
 that v7 refuses, and for no others.
 
-tier: check, 25 seconds; programs: v7 v7-explain v7-from-gnu v7-object; for: crates/v7 crates/command_words crates/v7_object crates/v7_from_gnu man/v7.1 man/v7-session.1
+tier: check, 25 seconds; programs: v7 v7-explain v7-from-gnu v7-lesson v7-object; for: crates/v7 crates/command_words crates/surroundings man
 """
 import os
 import pty
@@ -19,7 +19,6 @@ from tests.lib.files import TOP, read, room, write
 from tests.lib.programs import program, ran
 
 TOOLS = ["ld", "nm", "session", "size", "strip"]
-BESIDE = ["v7-object", "v7-from-gnu"]
 SECONDS = 10
 RANDOM_LINES = 400
 
@@ -57,6 +56,40 @@ REASONS = [
     (["ld", *(f"-ux{number}" for number in range(65)), "a.o"], "ld: -u takes at most 64 different names"),
     (["ld", "-rs", "-z", "--no"], "ld: -r and -s exclude each other"),
     ([b"nm", b"\xe9"], "an argument is not UTF-8"),
+]
+# the same of the programs beside v7, and the line that follows the usage
+BESIDE = {
+    "v7-explain": [
+        ("", "it needs a file"), ("-z a.o", "there is no option -z"),
+        ("a.o --list", "an option has one letter, but for --help and --version"), ("a.o -o", "-o needs the next argument as its value"),
+        ("-o a -o b c.o", "-o takes one value"), ("-o a b.o c.o", "-o is for one file"), ("-dc a.o", "-d and -c exclude each other"),
+        ("-R a.o", "-R needs -l"), ("a.o -m b.o", "-m has to be the first argument"),
+        ("-m -z a.o", "ld does not take the arguments after -m")],
+    "v7-object": [
+        ("", "it takes two files"), ("a", "it takes two files"), ("a b c", "it takes two files"), ("-- -x", "it takes two files"),
+        ("-", "it takes two files"), ("-x a b", "there is no option -x"), ("a b -yx", "there is no option -y"),
+        ("a -\u00e9 b", "there is no option -\\303"), ("a --x b", "an option has one letter, but for --help and --version"),
+        ("--- a b", "an option has one letter, but for --help and --version")],
+    "v7-from-gnu": [
+        ("", "it takes two files"), ("a", "it takes two files"), ("-S a b c", "it takes two files"), ("-o a", "it needs a file"),
+        ("-o", "-o needs the next argument as its value"), ("-oq a b", "-o needs the next argument as its value"),
+        ("-o a -o b c", "-o takes one value"), ("a b -z", "there is no option -z"), ("-Sz a b", "there is no option -z"),
+        ("a b --x", "an option has one letter, but for --help and --version")],
+    "v7-lesson": [
+        ("", "it needs a file"), ("-z a.o", "there is no option -z"),
+        ("a.o --step", "an option has one letter, but for --help and --version"), ("a.o -n", "-n needs the next argument as its value"),
+        ("-n 0 a.o", "-n needs a number from 1 on"), ("-n x a.o", "-n needs a number from 1 on"),
+        ("-n 1 -n 1 a.o", "-n takes one value"), ("-q a b.o", "-q needs -p"), ("-p a b.o -c", "-p and -c exclude each other"),
+        ("-n 1 a.o -p b", "-n and -p exclude each other")],
+}
+# commands that are the same: options may follow paths, and be joined
+SAME = [
+    ("v7 nm -g main.o", "v7 nm main.o -g"), ("v7 ld -x -X main.o twice.o count.o", "v7 ld main.o twice.o count.o -xX"),
+    ("v7-explain -d main.o", "v7-explain main.o -d"), ("v7-explain -c -t main.o k.o", "v7-explain main.o -tc k.o"),
+    ("v7-explain -l -R .", "v7-explain . -Rl"), ("v7-explain -o copy.lst main.o", "v7-explain main.o -o copy.lst"),
+    ("v7-object -- main.lst copy.o", "v7-object main.lst copy.o --"),
+    ("v7-from-gnu -S -q squares.gnu copy.o", "v7-from-gnu squares.gnu copy.o -Sq"),
+    ("v7-lesson -c -n 2 main.o twice.o", "v7-lesson main.o twice.o -cn 2"),
 ]
 # arguments that ask for help
 HELP = [([], None), (["help"], None), (["help", "all"], None), (["--help"], None), (["ld", "-r", "--help"], "ld")]
@@ -216,14 +249,27 @@ def check_page(words, tool, page):
 
 
 def check_beside():
-    """The help of the programs beside v7, anywhere before `--`. Their options may follow the paths."""
+    """The programs beside v7: help, anywhere before `--`, and why arguments are refused."""
     examples = set()
-    for name in BESIDE:
+    for name, reasons in BESIDE.items():
         for words in (["--help"], ["x", "--help"], ["-q", "--help", "--"]):
             status, page, error = ran(program(name), *words)
             same(f"{name} {words}: standard error and status", (error, status), (b"", 0))
             examples.update(check_text(f"{name} {words}", name, name, plain(page)))
+        usage = plain(page).partition("\n\n")[0] + f"\n       {name} --help | --version\n"
+        for words, reason in reasons:
+            status, output, error = ran(program(name), *words.split())
+            same(f"{name} {words}", (plain(error), output, status), (f"{usage}{name}: {reason}\n", b"", 2))
     return sorted(examples)
+
+
+def check_orders():
+    """Commands that are the same write the same."""
+    for command, other in SAME:
+        name, *words = command.split()
+        done = ran(program(name), *words)
+        holds(f"{command}: status", done[0] < 2)
+        same(f"{other}", ran(program(name), *other.split()[1:]), done)
 
 
 def run_example(command):
@@ -245,6 +291,7 @@ def check_help():
     same("--version", at_terminal(["--version"]), ("", f"v7 {version}\n", 0))
     for command in [*sorted(examples), *check_beside()]:
         run_example(command)
+    check_orders()
     for words in [words for words, _ in HELP] + [["--version"]]:
         same(f"{words}: through pipes", through_pipes(words), ("v7: usage\n", "", 2))
     return len(HELP) + 1 + 3 * len(BESIDE)
@@ -259,7 +306,7 @@ def check_reasons():
             where = f"v7 {words[0]} --help shows how to call it"
         same(f"{words}", at_terminal(words), (f"v7: usage\n{reason}\n{where}\n", "", 2))
         same(f"{words}: through pipes", through_pipes(words), ("v7: usage\n", "", 2))
-    return len(REASONS)
+    return len(REASONS) + sum(map(len, BESIDE.values()))
 
 
 WORDS = ["-r", "-s", "-x", "-X", "-n", "-i", "-d", "-o", "-e", "-u", "-g", "-p", "-z", "-", "--", "--long", "", "-rs", "-xXd", "-gn", "-upr",

@@ -3,8 +3,8 @@ use Rattle.std.proofs.Common.{◌≡◌, ℕ, List, Option, Some, None, refl, sy
 use Rattle.std.specs.Prelude.{Result, Ok, Err}
 use Rattle.aout_core.specs.Refusals.{refused}
 use Rattle.surroundings.specs.{Arguments.Given, Arguments.if_given}
-use Rattle.surroundings.specs.{declared.shown.Shown.Shown, Answer.Answer, Answers.IsShownOr, Answers.says_reason, Answers.says_usage}
-use Rattle.surroundings.specs.{Answers.shows, Events.History, Programs.Calls, Programs.CallsOr, Programs.DoesWords, Programs.Step, declared.answer.Fault.Fault}
+use Rattle.surroundings.specs.{declared.shown.Shown.Shown, Answer.Answer, Answers.IsShownOr, Answers.says_reason}
+use Rattle.surroundings.specs.{Answers.shows, Events.History, Programs.CallsOr, Programs.DoesWords, Programs.Step, declared.answer.Fault.Fault}
 use Rattle.surroundings.specs.declared.answer.Fault.TheVariants as faults
 use Rattle.surroundings.specs.declared.reasons.Reason.{Reason}
 
@@ -29,42 +29,34 @@ is_not_shown program usage asked old new result rest is h =
 
 pub ruleset by_shown = (is_shown, is_shown_out, is_not_shown)
 
-module _ {C : Type 0} (usage : List ℕ) (Does : C → Step Answer) (asked : Option C) where
+module _ {C : Type 0} (program usage : List ℕ) (Does : C → Step Answer) (asked : Result C Reason) where
   -- nothing is asked for
-  pub no_call : (h : History) (answer : Answer) → asked ≡ None → answer ≡ says_usage usage → Calls usage Does asked h h (Ok answer)
-  no_call h answer is e =
-      subst (λ (call : Option C). Calls usage Does call h h (Ok answer)) (sym is)
+  pub no_call : (reason : Reason) (h : History) (answer : Answer) → asked ≡ Err reason → answer ≡ says_reason program usage reason →
+      CallsOr program usage Does asked h h (Ok answer)
+  no_call reason h answer is e =
+      subst (λ (by : Result C Reason). CallsOr program usage Does by h h (Ok answer)) (sym is)
       (refl, inl (ap (λ (a : Answer). let ok : Result Answer Fault = Ok a in ok) e))
 
   -- a call is asked for, and done
-  pub one_call : (call : C) (old new : History) (result : Result Answer Fault) → asked ≡ Some call → Does call old new result →
-      Calls usage Does asked old new result
-  one_call call old new result is h = subst (λ (by : Option C). Calls usage Does by old new result) (sym is) h
+  pub one_call : (call : C) (old new : History) (result : Result Answer Fault) → asked ≡ Ok call → Does call old new result →
+      CallsOr program usage Does asked old new result
+  one_call call old new result is h = subst (λ (by : Result C Reason). CallsOr program usage Does by old new result) (sym is) h
 
-pub ruleset by_call = (no_call, one_call)
-
-module _ {C : Type 0} (program usage : List ℕ) (Does : C → Step Answer) (asked : Result C Reason) where
   -- the arguments are refused
   pub no_words : (reason : Reason) (h : History) (answer : Answer) → asked ≡ Err reason → answer ≡ says_reason program usage reason →
       DoesWords program usage Does asked h h (Ok answer)
-  no_words reason h answer is e =
-      inr (
-        asked,
-        h,
-        (refl, refl),
-        subst (λ (by : Result C Reason). CallsOr program usage Does by h h (Ok answer)) (sym is)
-            (refl, inl (ap (λ (a : Answer). let ok : Result Answer Fault = Ok a in ok) e)),
-      )
+  no_words reason h answer is e = inr (asked, h, (refl, refl), no_call reason h answer is e)
 
   -- the call that they ask for is done
   pub some_words : (call : C) (old new : History) (result : Result Answer Fault) → asked ≡ Ok call → Does call old new result →
       DoesWords program usage Does asked old new result
-  some_words call old new result is h =
-      inr (asked, old, (refl, refl), subst (λ (by : Result C Reason). CallsOr program usage Does by old new result) (sym is) h)
+  some_words call old new result is h = inr (asked, old, (refl, refl), one_call call old new result is h)
 
   -- memory runs out for them
   pub words_out : (h : History) → DoesWords program usage Does asked h h (Err (faults.Memory refused))
   words_out h = inl (faults.Memory refused, (refl, refl), refl)
+
+pub ruleset by_call = (no_call, one_call)
 
 pub ruleset by_words = (no_words, some_words, words_out)
 

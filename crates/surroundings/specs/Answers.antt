@@ -1,5 +1,6 @@
 -- What a program answers, and what of it goes out. (own choice)
 use Rattle.std.specs.Prelude.{◌≡◌, ◌⊎◌, ℕ, Bool, List, [], ◌++◌, if◌then◌else◌, ◌∷◌, Option, Some, None, Result, Ok, Err, bytes_eq, codes}
+use Rattle.std.specs.Option.{option_or}
 use Rattle.aout_core.specs.{Refusals.refused, Wires.Latched}
 use Rattle.surroundings.specs.{declared.shown.Shown.Shown, declared.shown.Shown.TheVariants.Help, declared.shown.Shown.TheVariants.Version}
 use Rattle.surroundings.specs.{Reasons.reason_text, declared.reasons.Reason.Reason}
@@ -26,10 +27,6 @@ failed_at program path text = only_errors (fault_line program path text) 2
 abbrev pub HasAnswer : Fault → Answer → Type 0
 HasAnswer fault answer = (fault ≡ Answered answer) ⊎ (fault ≡ Memory refused)
 
--- the usage of a program, as the answer to arguments that ask for nothing
-abbrev pub says_usage : List ℕ → Answer
-says_usage usage = only_errors usage 2
-
 -- the usage of a program, and why its arguments are refused
 unfoldable pub refusal_text : List ℕ → List ℕ → Reason → List ℕ
 refusal_text program usage reason = usage ++ program ++ codes ": " ++ reason_text reason ++ codes "\n"
@@ -41,14 +38,10 @@ says_reason program usage reason = only_errors (refusal_text program usage reaso
 abbrev pub shown_by : List ℕ → Option Shown
 shown_by word = if bytes_eq word (codes "--help") then Some Help else (if bytes_eq word (codes "--version") then Some Version else None)
 
-abbrev pub or_later : Option Shown → Option Shown → Option Shown
-or_later None later = later
-or_later (Some shown) later = Some shown
-
 -- what the first argument asks that asks for something, before `--`
 abbrev pub shown_in : List (List ℕ) → Option Shown
 shown_in [] = None
-shown_in (word ∷ words) = if bytes_eq word (codes "--") then None else or_later (shown_by word) (shown_in words)
+shown_in (word ∷ words) = if bytes_eq word (codes "--") then None else option_or (shown_by word) (shown_in words)
 
 -- what a program shows in place of its work
 abbrev pub shown_text : List ℕ → List ℕ → Shown → List ℕ

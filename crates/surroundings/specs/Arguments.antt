@@ -3,12 +3,12 @@
 -- An argument that begins with a hyphen has letters of options, in any order with paths. A letter that takes a value is the last one of
 -- its argument, comes once, and has the next argument as its value, which does not begin with a hyphen. A hyphen alone is a path, and
 -- after `--` all arguments are paths.
-use Rattle.std.specs.Prelude.{ℕ, eqb, Bool, true, false, if◌then◌else◌, codes, List, [], ◌∷◌, ◌++◌}
+use Rattle.std.specs.Prelude.{ℕ, eqb, Bool, true, false, not, ◌&&◌, if◌then◌else◌, codes, List, [], ◌∷◌, ◌++◌}
 use Rattle.std.specs.Prelude.{Option, Some, None, option_map, find, Result, Ok, Err}
 use Rattle.std.specs.List.{list_any}
 use Rattle.aout_core.specs.Words.{letter_of}
 use Rattle.surroundings.specs.declared.reasons.Reason.{Reason}
-use Rattle.surroundings.specs.declared.reasons.Reason.TheVariants.{NoOption, NoLongOption, NoValue, SecondValue}
+use Rattle.surroundings.specs.declared.reasons.Reason.TheVariants.{NoOption, NoLongOption, NoValue, SecondValue, Excluded}
 
 -- What was read so far: the letters of options in order, each value with its letter, and the paths. A letter may wait for its value. After
 -- `--` the options have ended.
@@ -109,30 +109,18 @@ value_in values letter = option_map (λ v. v.1) (find (λ v. eqb v.0 letter) val
 abbrev pub value_of : Given → ℕ → Option (List ℕ)
 value_of g letter = value_in g.values letter
 
--- ---- options of one letter, before the paths
+-- ---- letters that exclude each other
 
-abbrev pub one_letter : Option (List ℕ) → Option ℕ
-one_letter (Some (letter ∷ [])) = Some letter
-one_letter _ = None
+abbrev pub first_in : List ℕ → List ℕ → Option ℕ
+first_in set letters = find (λ letter. has_letter set letter) letters
 
--- the letter of the option that arguments begin with, if it has one letter, and the arguments after it
-abbrev pub letter_in : List (List ℕ) → Option (ℕ × List (List ℕ))
-letter_in [] = None
-letter_in (word ∷ words) = option_map (λ letter. (letter, words)) (one_letter (letters_of word))
+abbrev pub other_in : List ℕ → ℕ → List ℕ → Option ℕ
+other_in set first letters = find (λ letter. not (eqb letter first) && has_letter set letter) letters
 
--- the arguments after the option of this letter, if they begin with it
-abbrev pub rest_if : ℕ → Option (ℕ × List (List ℕ)) → Option (List (List ℕ))
-rest_if letter None = None
-rest_if letter (Some option) = if eqb option.0 letter then Some option.1 else None
+abbrev pub excluded_after : List ℕ → List ℕ → Option ℕ → Option Reason
+excluded_after set letters None = None
+excluded_after set letters (Some first) = option_map (Excluded first) (other_in set first letters)
 
-abbrev pub after_letter : ℕ → List (List ℕ) → Option (List (List ℕ))
-after_letter letter words = rest_if letter (letter_in words)
-
--- these are paths: there is one, and the first is not an option
-abbrev pub paths_if : Option (List ℕ) → List (List ℕ) → Option (List (List ℕ))
-paths_if (Some letters) words = None
-paths_if None words = Some words
-
-abbrev pub paths_in : List (List ℕ) → Option (List (List ℕ))
-paths_in [] = None
-paths_in (word ∷ words) = paths_if (letters_of word) (word ∷ words)
+-- of the letters of a set only one may be given: the first of them, and the first other one
+abbrev pub excluded_in : List ℕ → Given → Option Reason
+excluded_in set g = excluded_after set g.letters (first_in set g.letters)

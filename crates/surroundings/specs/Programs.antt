@@ -3,7 +3,7 @@
 -- A program goes step by step. A step may ask the system for something. It finds something, or has a fault, and then no further step
 -- is made.
 use Rattle.std.specs.Prelude.{◌≡◌, ◌⊎◌, ℕ, List, [], ◌∷◌, Option, Some, None, Result, Ok, Err}
-use Rattle.surroundings.specs.Answers.{AnswersOr, AnswersStored, Checks, Faults, IsShownOr, says_reason, says_usage, shown_in}
+use Rattle.surroundings.specs.Answers.{AnswersOr, AnswersStored, Checks, Faults, IsShownOr, says_reason, shown_in}
 use Rattle.surroundings.specs.{Answer.Answer, Events.Event, Events.Extends, Events.History, Sources.EndsReading, Sources.ReadsAt}
 use Rattle.surroundings.specs.{declared.reasons.Reason.Reason, Sources.stored_text, declared.answer.Fault.Fault, declared.office.Stored.Stored}
 
@@ -39,16 +39,6 @@ Stores program path event answer old new result =
     (what : Stored) × Extends old new (event what ∷ []) × AnswersStored program path answer (stored_text what) result
 
 -- ---- the program
-
--- the call that the arguments ask for is done, or the usage of the program goes to standard error
-abbrev pub Calls : {C : Type 0} → List ℕ → (C → Step Answer) → Option C → Step Answer
-Calls usage Does None old new result = (new ≡ old) × AnswersOr result (says_usage usage)
-Calls usage Does (Some call) old new result = Does call old new result
-
--- what the arguments ask for is shown or done
-abbrev pub AnswersWords : {C : Type 0} → List ℕ → List ℕ → (C → Step Answer) → (List (List ℕ) → Option C) → List (List ℕ) → Step Answer
-AnswersWords program usage Does asked_in words old new result =
-    IsShownOr program usage (shown_in words) old new result (Calls usage Does (asked_in words) old new result)
 
 -- the call that the arguments ask for is done, or the usage of the program goes to standard error, and why they are refused
 abbrev pub CallsOr : {C : Type 0} → List ℕ → List ℕ → (C → Step Answer) → Result C Reason → Step Answer

@@ -3,7 +3,7 @@ ghost use Rattle.std.specs.Prelude.{◌≡◌, ◌++◌, [], false, IfOk};
 ghost use Rattle.aout_core.specs.Refusals.{refused};
 ghost use Rattle.aout_core.specs.Wires.{Writes};
 ghost use Rattle.surroundings.specs.declared.answer.Fault.TheVariants.{Memory};
-ghost use Rattle.surroundings.specs.Answers.{AnswersStored, Gives, HasAnswer, answer_in, errors_unless, failed_at, fault_answer, only_errors, says_reason, says_usage, status_unless};
+ghost use Rattle.surroundings.specs.Answers.{AnswersStored, Gives, HasAnswer, answer_in, errors_unless, failed_at, fault_answer, only_errors, says_reason, status_unless};
 ghost use Rattle.surroundings.specs.Sources.{stored_text};
 
 use crate::lines::{put_fault_line, put_why_refused};
@@ -88,15 +88,6 @@ pub fn fault_at(alloc: Global, program: &str, path: &str, text: &str) -> Fault
         Ok(answer) => Fault::Answered(answer),
         Err(error) => Fault::from(error),
     }
-}
-
-/// The answer to arguments that ask for nothing: how the program is called, on standard error. (own choice)
-pub fn usage_answer(alloc: Global, usage: &str) -> Result<Answer, AllocError>
-    ensures { IfOk result (λ a. a ≡ says_usage usage.now) }
-{
-    let mut errors = Text::new(alloc);
-    errors.put(usage);
-    error_answer(alloc, errors, 2)
 }
 
 /// The answer to arguments that are refused: how the program is called, and why they are refused. (own choice)

@@ -1,6 +1,6 @@
 //! What arguments give a program: letters of options, the values of some of them, and paths.
 ghost use Rattle.std.specs.Prelude.{◌≡◌, Ok, map, option_map, string_bytes, IfOk, OnOk};
-ghost use Rattle.surroundings.specs.Arguments.{given_in, has_letter, letters_of, letter_read, letters_read, long_read, next_letter, nothing_given, option_read, plain_read, value_of, valued_read, with_letter, with_path, with_value, word_by, word_read};
+ghost use Rattle.surroundings.specs.Arguments.{excluded_in, first_in, given_in, has_letter, letters_of, letter_read, letters_read, long_read, next_letter, nothing_given, option_read, other_in, plain_read, value_of, valued_read, with_letter, with_path, with_value, word_by, word_read};
 ghost use Rattle.surroundings.specs.internal.Readings.{after};
 
 use crate::arguments::letters_of;
@@ -42,6 +42,30 @@ fn has_letter(letters: &[u8], letter: u8) -> bool
     letters.contains(&letter)
 }
 
+/// The first of some letters that is in a set.
+fn first_in(set: &[u8], letters: &[u8]) -> Option<u8>
+    ensures { result ≡ first_in set.now letters.now }
+{
+    for letter in letters {
+        if has_letter(set, *letter) {
+            return Some(*letter);
+        }
+    }
+    None
+}
+
+/// The first of some letters that is in a set, and is another one than this.
+fn other_in(set: &[u8], first: u8, letters: &[u8]) -> Option<u8>
+    ensures { result ≡ other_in set.now first letters.now }
+{
+    for letter in letters {
+        if *letter != first && has_letter(set, *letter) {
+            return Some(*letter);
+        }
+    }
+    None
+}
+
 impl Given {
     /// Nothing yet.
     fn new(alloc: Global) -> Given
@@ -80,6 +104,15 @@ impl Given {
             }
         }
         None
+    }
+
+    /// Why letters are refused of which only one may be given: two of them are.
+    pub fn excluded_in(&self, set: &[u8]) -> Option<Reason>
+        ensures { result ≡ excluded_in set.now self.now }
+    {
+        let first = first_in(set, &self.letters)?;
+        let other = other_in(set, first, &self.letters)?;
+        Some(Reason::Excluded(first, other))
     }
 
     /// Adds a path.

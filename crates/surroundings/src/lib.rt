@@ -13,8 +13,6 @@
 //! Functions:
 //!
 //! - `words`, `readable_words`: the arguments of a program, which are UTF-8, or may be any bytes
-//! - `letters_of`, `letter_in`, `after_letter`, `paths_in`: the letters of an option, the option that arguments begin with, the arguments
-//!   after it, and arguments that are paths
 //! - `given_in`: the letters of options in the arguments, their values, and paths; or why the arguments are refused
 //! - `hold_streams`: keeps files from the descriptors of closed standard streams
 //! - `end`: the status of a program that ended, or could not begin
@@ -23,7 +21,8 @@
 //! - `stored_text`: what is said of a file that was not stored
 //! - `nodes_at`, `is_input`, `check_output`: the files to which paths lead; whether an output is one of the inputs, and refuses it
 //! - `shown_in`, `show`: what the arguments ask a program to show of itself; shows it
-//! - `error_answer`, `fault_at`, `usage_answer`, `refused_answer`, `shown_answer`, `answer_stored`: answers
+//! - `refuse`: says why arguments are refused
+//! - `error_answer`, `fault_at`, `refused_answer`, `shown_answer`, `answer_stored`: answers
 //! - `put_line_front`, `put_fault_line`: the lines in which a program says something of a path
 //! - `put_object_fault`: why a file is not an object, in such a line
 //! - `give`: writes an answer
@@ -44,10 +43,8 @@ mod shown;
 mod sources;
 mod standard_error;
 
-pub use answer::{
-    Answer, Fault, answer_stored, error_answer, fault_at, give, refused_answer, usage_answer,
-};
-pub use arguments::{after_letter, letter_in, letters_of, paths_in, readable_words, words};
+pub use answer::{Answer, Fault, answer_stored, error_answer, fault_at, give, refused_answer};
+pub use arguments::{readable_words, words};
 pub use disk::{Disk, store_on, store_text_on};
 pub use given::{Given, given_in};
 pub use held::{end, hold_streams};
@@ -56,6 +53,6 @@ pub use nodes::{Node, Nodes, check_output, is_input, nodes_at};
 pub use office::{Office, Stored, stored_text};
 pub use outputs::Outputs;
 pub use reasons::Reason;
-pub use shown::{Shown, VERSION, show, shown_answer, shown_in};
+pub use shown::{Shown, VERSION, refuse, show, shown_answer, shown_in};
 pub use sources::read_whole;
 pub use standard_error::StandardError;

@@ -1,5 +1,5 @@
 //! Why arguments are refused.
-ghost use Rattle.surroundings.specs.Reasons.{about_option, option_text, reason_text};
+ghost use Rattle.surroundings.specs.Reasons.{about_both, about_option, option_text, reason_text};
 ghost use Rattle.texts.specs.Texts.{Puts};
 
 use texts::Text;
@@ -15,8 +15,20 @@ pub enum Reason {
     NoValue(u8),
     /// The option of this letter is given twice, and takes one value.
     SecondValue(u8),
+    /// The value of the option of this letter is not a number from 1 on.
+    NotANumber(u8),
+    /// The options of these letters exclude each other.
+    Excluded(u8, u8),
+    /// The option of the first letter is given without that of the second.
+    Needs(u8, u8),
+    /// The option of this letter is not the first argument.
+    NotFirst(u8),
+    /// The arguments after the option of this letter are not those of `ld`.
+    NotOfLd(u8),
     /// There is no file.
     NoFile,
+    /// There is not just one file, with the option of this letter.
+    NotOneFile(u8),
     /// There are not just two files.
     NotTwoFiles,
 }
@@ -40,6 +52,17 @@ fn put_about(line: &mut Text, front: &str, letter: u8, back: &str)
     line.put(back);
 }
 
+/// Puts the letters of two options, with a text after each.
+#[tactic(auto, unfolding(crate::specs::Reasons::about_both))]
+fn put_about_both(line: &mut Text, one: u8, between: &str, other: u8, back: &str)
+    ensures { Puts line.old line.new (about_both one between.now other back.now) }
+{
+    put_option(line, one);
+    line.put(between);
+    put_option(line, other);
+    line.put(back);
+}
+
 /// Puts why arguments are refused. (own choice)
 pub(crate) fn put_reason(line: &mut Text, reason: Reason)
     ensures { Puts line.old line.new (reason_text reason) }
@@ -54,7 +77,17 @@ pub(crate) fn put_reason(line: &mut Text, reason: Reason)
             " needs the next argument as its value",
         ),
         Reason::SecondValue(letter) => put_about(line, "", letter, " takes one value"),
+        Reason::NotANumber(letter) => put_about(line, "", letter, " needs a number from 1 on"),
+        Reason::Excluded(one, other) => {
+            put_about_both(line, one, " and ", other, " exclude each other");
+        }
+        Reason::Needs(one, other) => put_about_both(line, one, " needs ", other, ""),
+        Reason::NotFirst(letter) => put_about(line, "", letter, " has to be the first argument"),
+        Reason::NotOfLd(letter) => {
+            put_about(line, "ld does not take the arguments after ", letter, "");
+        }
         Reason::NoFile => line.put("it needs a file"),
+        Reason::NotOneFile(letter) => put_about(line, "", letter, " is for one file"),
         Reason::NotTwoFiles => line.put("it takes two files"),
     }
 }

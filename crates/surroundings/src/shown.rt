@@ -2,12 +2,13 @@
 ghost use Rattle.std.specs.Prelude.{◌≡◌, ◌≤◌, map, string_bytes, IfOk};
 ghost use Rattle.surroundings.specs.Answers.{shown_by, shown_in, shows};
 
-use crate::answer::{Answer, Fault, give};
+use crate::answer::{Answer, Fault, give, refused_answer};
 use crate::outputs::Outputs;
+use crate::reasons::Reason;
 use crate::standard_error::StandardError;
 use aout_core::Wire;
 use std::alloc::{AllocError, AllocGlobal, Global};
-use std::io;
+use std::io::{self, Printer};
 use std::rt::Runtime;
 use texts::Text;
 
@@ -74,15 +75,27 @@ pub fn shown_answer(
     })
 }
 
+/// The streams of a runtime.
+fn outputs_of<H: Runtime>(rt: &H) -> Outputs<Printer<'_, H>, StandardError<'_, H>> {
+    Outputs {
+        output: Wire::new(io::writer(rt)),
+        error: Wire::new(StandardError::new(rt)),
+    }
+}
+
 /// Shows the help of a program on standard output, or its name and version, and returns its status: 0, or 2 if standard output failed
 /// or memory ran out. (own choice)
 pub fn show<H: Runtime + AllocGlobal>(rt: &H, program: &str, help: &str, shown: Shown) -> u8
     ensures { result ≤ 2 }
 {
-    let mut outputs = Outputs {
-        output: Wire::new(io::writer(rt)),
-        error: Wire::new(StandardError::new(rt)),
-    };
     let answer = shown_answer(rt.alloc(), program, help, shown).map_err(Fault::from);
-    give(program, &answer, &mut outputs)
+    give(program, &answer, &mut outputs_of(rt))
+}
+
+/// Says on standard error how a program is called, and why its arguments are refused, and returns its status: 2. (own choice)
+pub fn refuse<H: Runtime + AllocGlobal>(rt: &H, program: &str, usage: &str, reason: Reason) -> u8
+    ensures { result ≡ 2 }
+{
+    let answer = refused_answer(rt.alloc(), program, usage, reason).map_err(Fault::from);
+    give(program, &answer, &mut outputs_of(rt))
 }

@@ -2,12 +2,14 @@
 use Rattle.std.proofs.Common.{◌≡◌, ℕ, ◌-◌, ◌≤◌, Bool, true, List, [], ◌∷◌, ◌++◌, length, map, take, drop, get_or, Option, Some, None}
 use Rattle.std.proofs.Common.{refl, sym, ap, ◌∙◌, subst, inl, inr, arith}
 use Rattle.std.proofs.lemmas.List.{take_all}
-use Rattle.std.specs.Prelude.{Err, Result, String, string_bytes, if◌then◌else◌}
+use Rattle.std.specs.Prelude.{Ok, Err, Result, String, string_bytes, if◌then◌else◌}
 use Rattle.std.specs.declared.alloc.Global.{Global}
 use Rattle.aout_core.specs.{Names.before_nul, Refusals.refused}
-use Rattle.surroundings.proofs.ShownLemmas.{no_call, one_call}
-use Rattle.surroundings.specs.{declared.shown.Shown.Shown, Answer.Answer, Answers.IsShownOr, Events.History, Programs.Calls, declared.answer.Fault.Fault}
-use Rattle.v7_explain.specs.{Calls.Mapping, Calls.mapping, Calls.mapping_after, Files.program, Joined.usage, Maps.IsMapCall, Runs.IsCall, Runs.MapsAsked}
+use Rattle.surroundings.proofs.ShownLemmas.{no_call, one_call, some_words}
+use Rattle.surroundings.specs.{Answer.Answer, Events.History, Programs.CallsOr, Programs.DoesWords, declared.answer.Fault.Fault}
+use Rattle.surroundings.specs.declared.reasons.Reason.{Reason}
+use Rattle.v7_explain.specs.Calls.{Mapping, after_map, asked_in, asked_or, map_link, mapping, mapping_after}
+use Rattle.v7_explain.specs.{Files.program, Help.usage, Maps.IsMapCall, Runs.IsCall, Runs.MapsAsked}
 use Rattle.v7_explain.specs.{Walks.Folders, declared.arguments.Call.Call as Code, internal.Asked.asks_for_name, internal.Asked.call_in}
 use Rattle.surroundings.specs.declared.answer.Fault.TheVariants as faults
 
@@ -16,15 +18,26 @@ pub call_done : (folders : Option Folders) (call same : Code) (old new : History
     IsCall folders (call_in same) old new result → IsCall folders (call_in call) old new result
 call_done folders call same old new result is h = subst (λ (it : Code). IsCall folders (call_in it) old new result) (sym is) h
 
--- memory runs out for what is to be shown
-pub shown_out : (asked : Option Shown) (shown : Shown) (h : History) (result : Result Answer Fault) (rest : Type 0) →
-    asked ≡ Some shown → result ≡ Err (faults.Memory refused) → IsShownOr program usage asked h h result rest
-shown_out asked shown h result rest is memory =
-    subst (λ (by : Option Shown). IsShownOr program usage by h h result rest) (sym is) (refl, inr memory)
+-- the arguments are of a map
+pub of_map : (folders : Option Folders) (words rest : List (List ℕ)) (old new : History) (result : Result Answer Fault) →
+    after_map words ≡ Some rest → MapsAsked rest old new result → DoesWords program usage (IsCall folders) (asked_in words) old new result
+of_map folders words rest old new result is h =
+    subst (λ (by : Option (List (List ℕ))). DoesWords program usage (IsCall folders) (asked_or by words) old new result) (sym is)
+    (some_words program usage (IsCall folders) (Ok (map_link rest)) (map_link rest) old new result refl h)
 
-out_of : (asked : Option Mapping) (h : History) → Calls usage (λ m. IsMapCall m.names m.words) asked h h (Err (faults.Memory refused))
-out_of None h = (refl, inr refl)
-out_of (Some m) h = inl (refl, refl)
+-- the arguments are not of a map
+pub of_files : (folders : Option Folders) (words : List (List ℕ)) (old new : History) (result : Result Answer Fault) →
+    after_map words ≡ None → DoesWords program usage (IsCall folders) (asked_or None words) old new result →
+    DoesWords program usage (IsCall folders) (asked_in words) old new result
+of_files folders words old new result is h =
+    subst (λ (by : Option (List (List ℕ))). DoesWords program usage (IsCall folders) (asked_or by words) old new result) (sym is) h
+
+pub ruleset by_first = (of_map, of_files)
+
+out_of : (asked : Result Mapping Reason) (h : History) →
+    CallsOr program usage (λ m. IsMapCall m.names m.words) asked h h (Err (faults.Memory refused))
+out_of (Err reason) h = (refl, inr refl)
+out_of (Ok m) h = inl (refl, refl)
 
 -- one name more
 pub name_taken : (names words rest : List (List ℕ)) (word name : List ℕ) → words ≡ word ∷ name ∷ rest → asks_for_name words ≡ true →
@@ -32,7 +45,7 @@ pub name_taken : (names words rest : List (List ℕ)) (word name : List ℕ) →
 name_taken names words rest word name are asks =
     ap (mapping_after names) are
     ∙ ap (λ (b : Bool).
-    if b then mapping_after (names ++ take 8 (before_nul name) ∷ []) rest else Some (record { names = names; words = word ∷ name ∷ rest }))
+    if b then mapping_after (names ++ take 8 (before_nul name) ∷ []) rest else Ok (record { names = names; words = word ∷ name ∷ rest }))
     (sym (ap asks_for_name are) ∙ asks)
 
 -- as the code has it

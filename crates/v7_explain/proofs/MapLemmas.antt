@@ -16,10 +16,10 @@ use Rattle.link_maps.proofs.{LinkLemmas.shows_link, TakingLemmas.none_split, Tak
 use Rattle.link_out.specs.Inputs.{Cause, Refusal, at_path, linked, not_added, of_input}
 use Rattle.link_out.specs.{Steps.and_then, declared.linked.LinkFault.LinkFault, declared.linked.Linked.Linked, function.Link.Outcome}
 use Rattle.link_session.specs.{Labelled.Labelled, Labelled.objects, Sessions.nothing_kept, Undo.Kept}
-use Rattle.surroundings.specs.{Answer.Answer, Answers.AnswersOr, Answers.says_usage, Events.History, declared.answer.Fault.Fault}
+use Rattle.surroundings.specs.{Answer.Answer, Answers.AnswersOr, Events.History, declared.answer.Fault.Fault}
 use Rattle.tool_options.specs.Choices.{Choices}
-use Rattle.v7_explain.specs.Joined.{either, usage}
-use Rattle.v7_explain.specs.Maps.{AreTaken, HaveObjects, IsMap, IsMapCall, IsMapping, IsTaking, MapsCall, answer_of, link_words, nothing_taken}
+use Rattle.v7_explain.specs.Joined.{either}
+use Rattle.v7_explain.specs.Maps.{AreTaken, HaveObjects, IsMap, IsMapCall, IsMapping, IsTaking, MapsCall, answer_of, link_words, not_of_ld, nothing_taken}
 use Rattle.v7_explain.specs.Maps.{status_linked}
 use Rattle.v7_explain.specs.internal.Takes.{IsMapAnswer, KeepsSplit, TakesAll, status_made, status_mapped}
 use Rattle.v7_explain.proofs.TakingLemmas.{taking_memory}
@@ -140,7 +140,7 @@ map_call_out names words old new result same memory = inl (same, memory)
 
 -- they ask for no call
 pub map_call_none : (names words all : List (List ℕ)) (old new : History) (result : Result Answer Fault) → all ≡ link_words words →
-    AsksForNone all Usage → new ≡ old → AnswersOr result (says_usage usage) → IsMapCall names words old new result
+    AsksForNone all Usage → new ≡ old → AnswersOr result not_of_ld → IsMapCall names words old new result
 map_call_none names words all old new result same none still answers =
     inr (inl (subst (λ (ws : List (List ℕ)). AsksForNone ws Usage) same none, still, answers))
 
@@ -162,7 +162,7 @@ map_call_made names words all call old new result same whole asked dashes maps =
 pub maps_other : (asked : List (List ℕ)) (call : Call) (old new : History) (result : Result Answer Fault) →
     ((options : Choices) → (forced : List (List ℕ)) → (out : String Global) → (files : Vec (String Global) Global) →
     call ≡ Ld options forced out files → ⊥) →
-    new ≡ old → AnswersOr result (says_usage usage) → MapsCall asked call old new result
+    new ≡ old → AnswersOr result not_of_ld → MapsCall asked call old new result
 maps_other asked (Ld options forced out files) old new result never still answers = absurd (never options forced out files refl)
 maps_other asked (Nm options files) old new result never still answers = (still, answers)
 maps_other asked (Size files) old new result never still answers = (still, answers)

@@ -1,14 +1,20 @@
 -- What the arguments of v7-explain ask for. (own choice)
 --
--- An option has one letter, and comes before the paths. With no option the files at these paths are listed.
-use Rattle.std.specs.Prelude.{ℕ, ◌==◌, if◌then◌else◌, bytes_eq, codes, List, [], ◌∷◌, ◌++◌, take, Option, Some, None, option_map}
+-- Options and paths may be in any order, but for -m, which is the first argument: those after it are of a map. With no option the files
+-- at these paths are listed.
+use Rattle.std.specs.Prelude.{ℕ, Bool, ◌&&◌, not, if◌then◌else◌, bytes_eq, codes, List, [], ◌∷◌, ◌++◌, take}
+use Rattle.std.specs.Prelude.{Option, Some, None, Result, Ok, Err}
+use Rattle.std.specs.Option.{option_or}
 use Rattle.aout_core.specs.{Names.before_nul, Words.letter_of}
 use Rattle.explanations.specs.declared.rows.Base.TheVariants.{Octal, Hexadecimal}
 use Rattle.instructions.specs.declared.unix.Decoder.TheVariants.{Pdp11, Unix}
-use Rattle.surroundings.specs.Arguments.{after_letter, letter_in, paths_in}
+use Rattle.surroundings.specs.Arguments.{Given, excluded_in, given_in, has_letter, if_given, value_of}
+use Rattle.surroundings.specs.declared.reasons.Reason.{Reason}
+use Rattle.surroundings.specs.declared.reasons.Reason.TheVariants.{Needs, NoFile, NoValue, NotFirst, NotOneFile}
+use Rattle.suspicions.specs.declared.evidence.Evidence.{Evidence}
 use Rattle.suspicions.specs.declared.evidence.Evidence.TheVariants.{Flow, Promise}
 use Rattle.v7_explain.specs.declared.explaining.Mode.TheVariants.{Listing, Show, Check, Inventory}
-use Rattle.v7_explain.specs.{declared.explaining.Mode.Mode, declared.views.View.TheVariants.Instructions}
+use Rattle.v7_explain.specs.{declared.explaining.Mode.Mode, declared.views.View.View, declared.views.View.TheVariants.Instructions}
 use Rattle.v7_explain.specs.{declared.views.View.TheVariants.Rows}
 
 -- to explain files, or those in folders, to store the listing of a file, or the map that the arguments after -m ask for
@@ -18,57 +24,82 @@ pub data Call : Type 0 where
   store : List ℕ → List ℕ → Call
   map_link : List (List ℕ) → Call
 
-abbrev pub explaining : Mode → List (List ℕ) → Option Call
-explaining mode words = option_map (explain mode) (paths_in words)
+abbrev pub has : Given → List ℕ → Bool
+has given letter = has_letter given.letters (letter_of letter)
 
-abbrev pub walking : List (List ℕ) → Option Call
-walking words = option_map walk (paths_in words)
+-- there is a path
+abbrev pub explaining : Mode → List (List ℕ) → Result Call Reason
+explaining mode [] = Err NoFile
+explaining mode (path ∷ paths) = Ok (explain mode (path ∷ paths))
 
--- after -l, with -R in front of the paths or without it
-abbrev pub inventory_of : Option (List (List ℕ)) → List (List ℕ) → Option Call
-inventory_of (Some rest) words = walking rest
-inventory_of None words = explaining Inventory words
+abbrev pub walking : List (List ℕ) → Result Call Reason
+walking [] = Err NoFile
+walking (path ∷ paths) = Ok (walk (path ∷ paths))
 
-abbrev pub inventory : List (List ℕ) → Option Call
-inventory words = inventory_of (after_letter (letter_of (codes "R")) words) words
+-- with -R in folders too
+abbrev pub inventory : Given → Result Call Reason
+inventory given = if has given (codes "R") then walking given.paths else explaining Inventory given.paths
 
--- after -c, with -t in front of the paths or without it
-abbrev pub checking_of : Option (List (List ℕ)) → List (List ℕ) → Option Call
-checking_of (Some rest) words = explaining (Check Promise) rest
-checking_of None words = explaining (Check Flow) words
+-- with -t all of a text is instructions
+abbrev pub evidence_in : Given → Evidence
+evidence_in given = if has given (codes "t") then Promise else Flow
 
-abbrev pub checking : List (List ℕ) → Option Call
-checking words = checking_of (after_letter (letter_of (codes "t")) words) words
+-- of one file
+abbrev pub storing : List ℕ → List (List ℕ) → Result Call Reason
+storing to (path ∷ []) = Ok (store to path)
+storing to _ = Err (NotOneFile (letter_of (codes "o")))
 
--- after -o, the path of the listing, which may begin with a hyphen, and one path
-abbrev pub storing_at : List ℕ → Option (List (List ℕ)) → Option Call
-storing_at to (Some (path ∷ [])) = Some (store to path)
-storing_at to _ = None
+-- how files are shown that are not listed
+abbrev pub view_in : Given → Option View
+view_in given =
+    if has given (codes "d") then Some (Instructions Unix)
+    else (if has given (codes "p") then Some (Instructions Pdp11)
+    else (if has given (codes "s") then Some (Rows Octal) else (if has given (codes "x") then Some (Rows Hexadecimal) else None)))
 
-abbrev pub storing : List (List ℕ) → Option Call
-storing [] = None
-storing (to ∷ words) = storing_at to (paths_in words)
+-- with -o the listing of a file is stored at its value
+abbrev pub listing_at : Given → Option (List ℕ) → Result Call Reason
+listing_at given None = explaining (Listing (evidence_in given)) given.paths
+listing_at given (Some to) = storing to given.paths
 
--- after the option of this letter
-abbrev pub asked_by : ℕ → List (List ℕ) → Option Call
-asked_by letter words =
-    if letter == letter_of (codes "c") then checking words
-    else (if letter == letter_of (codes "d") then explaining (Show (Instructions Unix)) words
-    else (if letter == letter_of (codes "l") then inventory words
-    else (if letter == letter_of (codes "m") then Some (map_link words)
-    else (if letter == letter_of (codes "o") then storing words
-    else (if letter == letter_of (codes "p") then explaining (Show (Instructions Pdp11)) words
-    else (if letter == letter_of (codes "s") then explaining (Show (Rows Octal)) words
-    else (if letter == letter_of (codes "t") then explaining (Listing Promise) words
-    else (if letter == letter_of (codes "x") then explaining (Show (Rows Hexadecimal)) words else None))))))))
+abbrev pub listing_as : Given → Option View → Result Call Reason
+listing_as given (Some view) = explaining (Show view) given.paths
+listing_as given None = listing_at given (value_of given (letter_of (codes "o")))
 
--- the option that the arguments begin with, or with none these paths
-abbrev pub asked_or : Option (ℕ × List (List ℕ)) → List (List ℕ) → Option Call
-asked_or (Some option) words = asked_by option.0 option.1
-asked_or None words = explaining (Listing Flow) words
+abbrev pub listing_by : Given → Result Call Reason
+listing_by given = listing_as given (view_in given)
 
-abbrev pub asked_in : List (List ℕ) → Option Call
-asked_in words = asked_or (letter_in words) words
+-- the options ask for this, if none excludes another
+abbrev pub asked_by : Given → Result Call Reason
+asked_by given =
+    if has given (codes "c") then explaining (Check (evidence_in given)) given.paths
+    else (if has given (codes "l") then inventory given else listing_by given)
+
+-- why options are refused: only one may be given of the letters that ask for something, and -t is for listings and -c
+abbrev pub misuse_in : Given → Option Reason
+misuse_in given =
+    if has given (codes "m") then Some (NotFirst (letter_of (codes "m")))
+    else (if has given (codes "y") then Some (Needs (letter_of (codes "y")) (letter_of (codes "m")))
+    else (if has given (codes "R") && not (has given (codes "l")) then Some (Needs (letter_of (codes "R")) (letter_of (codes "l")))
+    else option_or (excluded_in (codes "cdlopsx") given) (excluded_in (codes "dloptsx") given)))
+
+abbrev pub call_unless : Option Reason → Given → Result Call Reason
+call_unless (Some reason) given = Err reason
+call_unless None given = asked_by given
+
+abbrev pub call_of : Given → Result Call Reason
+call_of given = call_unless (misuse_in given) given
+
+-- the arguments after -m, if that is the first one
+abbrev pub after_map : List (List ℕ) → Option (List (List ℕ))
+after_map [] = None
+after_map (word ∷ words) = if bytes_eq word (codes "-m") then Some words else None
+
+abbrev pub asked_or : Option (List (List ℕ)) → List (List ℕ) → Result Call Reason
+asked_or (Some rest) words = Ok (map_link rest)
+asked_or None words = if_given (given_in (codes "cdlmpRstxy") (codes "o") words) call_of
+
+abbrev pub asked_in : List (List ℕ) → Result Call Reason
+asked_in words = asked_or (after_map words) words
 
 -- ---- the arguments of a map
 
@@ -79,12 +110,13 @@ pub record Mapping : Type 0 where
 
 -- -y and a word ask for a name, the word up to its first NUL and its eighth byte, after the names so far; the other words are the
 -- arguments of ld. With -y alone there is no map
-abbrev pub mapping_after : List (List ℕ) → List (List ℕ) → Option Mapping
-mapping_after names [] = Some (record { names = names; words = [] })
-mapping_after names (word ∷ []) = if bytes_eq word (codes "-y") then None else Some (record { names = names; words = word ∷ [] })
+abbrev pub mapping_after : List (List ℕ) → List (List ℕ) → Result Mapping Reason
+mapping_after names [] = Ok (record { names = names; words = [] })
+mapping_after names (word ∷ []) =
+    if bytes_eq word (codes "-y") then Err (NoValue (letter_of (codes "y"))) else Ok (record { names = names; words = word ∷ [] })
 mapping_after names (word ∷ name ∷ rest) =
     if bytes_eq word (codes "-y") then mapping_after (names ++ take 8 (before_nul name) ∷ []) rest
-    else Some (record { names = names; words = word ∷ name ∷ rest })
+    else Ok (record { names = names; words = word ∷ name ∷ rest })
 
-abbrev pub mapping : List (List ℕ) → Option Mapping
+abbrev pub mapping : List (List ℕ) → Result Mapping Reason
 mapping words = mapping_after [] words

@@ -1,11 +1,6 @@
 -- Answers of v7-explain, one after another. (own choice)
-use Rattle.std.specs.Prelude.{ℕ, Bool, true, false, max, List, [], ◌++◌, codes}
+use Rattle.std.specs.Prelude.{Bool, true, false, max, [], ◌++◌}
 use Rattle.surroundings.specs.{Answer.Answer, Answers.only_errors}
-
-abbrev pub usage : List ℕ
-usage =
-    codes "usage: v7-explain [-c [-t]|-d|-l|-p|-s|-t|-x] FILE...\n       v7-explain -l -R PATH...\n       v7-explain -o LISTING FILE\n"
-    ++ codes "       v7-explain -m [-y NAME]... [OPTIONS OF LD] FILE...\n       v7-explain --help | --version\n"
 
 abbrev pub nothing_said : Answer
 nothing_said = only_errors [] 0

@@ -1,4 +1,5 @@
 pub mod Files
+pub mod Help
 pub mod Joined
 pub mod Maps
 pub mod Calls

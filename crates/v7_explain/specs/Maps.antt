@@ -3,7 +3,7 @@
 -- The files are those that `ld` takes with the same arguments. Each is read whole before the next one is opened. There is a map if all are
 -- objects; else the answer has a line for each that is not. If names are asked for, the map has only these.
 use Rattle.std.specs.Prelude.{◌≡◌, ◌⊎◌, ℕ, List, [], ◌∷◌, ◌++◌, eqb, map, max, Option, Result, Ok, Err, codes, string_bytes}
-use Rattle.aout_core.specs.{Contents.Contents, Decoding.decode, FaultTexts.object_text, FaultTexts.read_text, Refusals.refused}
+use Rattle.aout_core.specs.{Contents.Contents, Decoding.decode, FaultTexts.object_text, FaultTexts.read_text, Refusals.refused, Words.letter_of}
 use Rattle.command_words.specs.Calls.{AsksForNone, IsAsked, IsWhole, dashes_in, files_of}
 use Rattle.command_words.specs.{declared.fault.WordsFault.TheVariants.Usage, declared.words.Call.Call, declared.words.Call.TheVariants.Ld}
 use Rattle.link_maps.specs.{Links.ShowsLink, Maps.IsMapOf, Members.all_of, Taking.split, Taking.split_of}
@@ -12,10 +12,11 @@ use Rattle.link_out.specs.Inputs.{Cause, Refusal, bad_file, bad_object, linked, 
 use Rattle.link_out.specs.{function.Link.Outcome, function.Reports.status_of}
 use Rattle.link_session.specs.Labelled.{Labelled}
 use Rattle.map_texts.specs.MapTexts.{absent_names, map_text, names_map}
-use Rattle.surroundings.specs.{Answer.Answer, Answers.AnswersOr, Answers.failed_at, Answers.only_errors, Answers.says_usage, Events.History}
+use Rattle.surroundings.specs.{Answer.Answer, Answers.AnswersOr, Answers.failed_at, Answers.only_errors, Answers.says_reason, Events.History}
 use Rattle.surroundings.specs.{Events.Extends, Events.opened, Sources.ReadsAt, Sources.unread_text, declared.answer.Fault.Fault}
+use Rattle.surroundings.specs.{declared.reasons.Reason.Reason, declared.reasons.Reason.TheVariants.NotOfLd}
 use Rattle.tool_options.specs.Choices.{Choices}
-use Rattle.v7_explain.specs.{Files.line_of, Files.program, Joined.either, Joined.joined, Joined.nothing_said, Joined.usage}
+use Rattle.v7_explain.specs.{Files.line_of, Files.program, Joined.either, Joined.joined, Joined.nothing_said, Help.usage}
 use Rattle.surroundings.specs.declared.answer.Fault.TheVariants as faults
 
 -- ---- objects
@@ -117,10 +118,14 @@ IsMapping asked forced choices paths old new result =
     (IsTaking old new nothing_taken paths (Err (faults.Memory refused)) × (result ≡ Err (faults.Memory refused)))
     ⊎ ((taken : Taken) × IsTaking old new nothing_taken paths (Ok taken) × MapsTaken asked forced choices result taken)
 
+-- the arguments are not those of ld
+abbrev pub not_of_ld : Answer
+not_of_ld = says_reason program usage (NotOfLd (letter_of (codes "m")))
+
 -- the files of a call of ld are mapped
 abbrev pub MapsCall : List (List ℕ) → Call → History → History → Result Answer Fault → Type 0
 MapsCall asked (Ld options forced out files) old new result = IsMapping asked forced options (map string_bytes files.items) old new result
-MapsCall asked _ old new result = (new ≡ old) × AnswersOr result (says_usage usage)
+MapsCall asked _ old new result = (new ≡ old) × AnswersOr result not_of_ld
 
 abbrev pub link_words : List (List ℕ) → List (List ℕ)
 link_words words = codes "ld" ∷ words
@@ -129,6 +134,6 @@ link_words words = codes "ld" ∷ words
 abbrev pub IsMapCall : List (List ℕ) → List (List ℕ) → History → History → Result Answer Fault → Type 0
 IsMapCall asked words old new result =
     ((new ≡ old) × (result ≡ Err (faults.Memory refused)))
-    ⊎ (AsksForNone (link_words words) Usage × (new ≡ old) × AnswersOr result (says_usage usage))
+    ⊎ (AsksForNone (link_words words) Usage × (new ≡ old) × AnswersOr result not_of_ld)
     ⊎ ((call : Call) × IsWhole call × IsAsked (link_words words) call × (dashes_in (link_words words) ≡ dashes_in (files_of call))
     × (((new ≡ old) × (result ≡ Err (faults.Memory refused))) ⊎ MapsCall asked call old new result))

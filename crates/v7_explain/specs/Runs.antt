@@ -6,13 +6,14 @@ use Rattle.std.specs.Prelude.{◌≡◌, ◌⊎◌, ℕ, true, false, eqb, List,
 use Rattle.aout_core.specs.Refusals.{refused}
 use Rattle.surroundings.specs.Answers.{AnswersOr, IsPerformed, failed_at, only_errors}
 use Rattle.surroundings.specs.Events.{History, Extends, Surroundings, opened, written}
-use Rattle.surroundings.specs.Programs.{AnswersWords, Calls, Finds, Reads, Step, Stores, Then}
+use Rattle.surroundings.specs.Programs.{AnswersGiven, CallsOr, Finds, Reads, Step, Stores, Then}
 use Rattle.surroundings.specs.Sources.{ReadsAt, unread_text}
 use Rattle.surroundings.specs.{Answer.Answer, Nodes.ChecksOutput, declared.answer.Fault.Fault}
 use Rattle.suspicions.specs.declared.evidence.Evidence.TheVariants.{Flow}
 use Rattle.v7_explain.specs.Calls.{Call, asked_in, explain, map_link, mapping, store, walk}
 use Rattle.v7_explain.specs.Files.{checked, inventoried, listed, program, viewed}
-use Rattle.v7_explain.specs.Joined.{either, joined, nothing_said, usage}
+use Rattle.v7_explain.specs.Help.{help, usage}
+use Rattle.v7_explain.specs.Joined.{either, joined, nothing_said}
 use Rattle.v7_explain.specs.declared.explaining.Mode.TheVariants.{Listing, Show, Check, Inventory}
 use Rattle.v7_explain.specs.{Maps.IsMapCall, Walks.AreWalked, Walks.Folders, declared.explaining.Mode.Mode}
 use Rattle.surroundings.specs.declared.answer.Fault.TheVariants as faults
@@ -71,9 +72,9 @@ StoresListing to path =
 
 -- ---- the program
 
--- the map of the names and of the link that the arguments after -m ask for, or the usage of the program
+-- the map of the names and of the link that the arguments after -m ask for
 abbrev pub MapsAsked : List (List ℕ) → Step Answer
-MapsAsked words = Calls usage (λ asked. IsMapCall asked.names asked.words) (mapping words)
+MapsAsked words = CallsOr program usage (λ asked. IsMapCall asked.names asked.words) (mapping words)
 
 -- what the arguments ask for
 abbrev pub IsCall : Option Folders → Call → Step Answer
@@ -86,4 +87,4 @@ IsCall folders (map_link words) old new result = MapsAsked words old new result
 abbrev pub PerformsExplain : {W E : Type 0} → (W → Option (List ℕ)) → (E → Option (List ℕ)) → Option Folders → List (List ℕ) →
     Surroundings W E → Surroundings W E → ℕ → Type 0
 PerformsExplain contents error_contents folders words before after status =
-    IsPerformed contents error_contents program (AnswersWords program usage (IsCall folders) asked_in words) before after status
+    IsPerformed contents error_contents program (AnswersGiven program help usage (IsCall folders) asked_in words) before after status

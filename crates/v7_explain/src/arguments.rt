@@ -1,16 +1,16 @@
 //! What the arguments ask for.
 ghost use Rattle.std.specs.Prelude.{◌≡◌, map, option_map, string_bytes};
-ghost use Rattle.v7_explain.specs.Calls.{asked_by, asked_in, checking, explaining, inventory, storing, walking};
-ghost use Rattle.v7_explain.specs.internal.Asked.{call_in};
+ghost use Rattle.v7_explain.specs.Calls.{after_map, asked_by, call_of, evidence_in, explaining, inventory, listing_by, misuse_in, storing, view_in, walking};
+ghost use Rattle.v7_explain.specs.internal.Asked.{result_in};
 
 use crate::explaining::Mode;
 use crate::views::View;
 use explanations::Base;
 use instructions::Decoder;
-use surroundings::{after_letter, letter_in, paths_in};
+use surroundings::{Given, Reason};
 use suspicions::Evidence;
 
-/// What the arguments ask for.
+/// What the arguments ask for, but for a map.
 #[derive(Clone, Copy)]
 pub(crate) enum Call<'a> {
     /// To explain the files at these paths.
@@ -19,81 +19,139 @@ pub(crate) enum Call<'a> {
     Walk(&'a [String]),
     /// To store the listing of a file: its path, and that of the file.
     Store(&'a str, &'a str),
-    /// The map that these arguments ask for.
-    MapLink(&'a [String]),
 }
 
-/// To explain files, if these are paths.
-fn explaining(mode: Mode, words: &[String]) -> Option<Call<'_>>
-    ensures { option_map call_in result ≡ explaining mode (map string_bytes words.now) }
+/// To explain the files at these paths, if there is one.
+fn explaining(mode: Mode, paths: &[String]) -> Result<Call<'_>, Reason>
+    ensures { result_in result ≡ explaining mode (map string_bytes paths.now) }
 {
-    Some(Call::Explain(mode, paths_in(words)?))
+    if paths.is_empty() {
+        return Err(Reason::NoFile);
+    }
+    Ok(Call::Explain(mode, paths))
 }
 
-/// The inventory of the files in folders, if these are paths.
-fn walking(words: &[String]) -> Option<Call<'_>>
-    ensures { option_map call_in result ≡ walking (map string_bytes words.now) }
+/// The inventory of the files in folders, if there is a path.
+fn walking(paths: &[String]) -> Result<Call<'_>, Reason>
+    ensures { result_in result ≡ walking (map string_bytes paths.now) }
 {
-    Some(Call::Walk(paths_in(words)?))
+    if paths.is_empty() {
+        return Err(Reason::NoFile);
+    }
+    Ok(Call::Walk(paths))
 }
 
-/// The inventory of files, or of those in folders after `-R`.
-fn inventory(words: &[String]) -> Option<Call<'_>>
-    ensures { option_map call_in result ≡ inventory (map string_bytes words.now) }
+/// The inventory of files, or of those in folders with `-R`.
+fn inventory(given: &Given) -> Result<Call<'_>, Reason>
+    ensures { result_in result ≡ inventory given.now }
 {
-    match after_letter(words, b'R') {
-        Some(rest) => walking(rest),
-        None => explaining(Mode::Inventory, words),
+    if given.has(b'R') {
+        return walking(given.paths());
+    }
+    explaining(Mode::Inventory, given.paths())
+}
+
+/// The evidence for what is sure: with `-t` the promise that all of a text is instructions.
+fn evidence_in(given: &Given) -> Evidence
+    ensures { result ≡ evidence_in given.now }
+{
+    if given.has(b't') {
+        Evidence::Promise
+    } else {
+        Evidence::Flow
     }
 }
 
-/// What is odd in files, or by the promise that their texts are all instructions, after `-t`.
-fn checking(words: &[String]) -> Option<Call<'_>>
-    ensures { option_map call_in result ≡ checking (map string_bytes words.now) }
+/// To store the listing of the file at this path, if it is the only one.
+fn storing<'a>(to: &'a str, paths: &'a [String]) -> Result<Call<'a>, Reason>
+    ensures { result_in result ≡ storing to.now (map string_bytes paths.now) }
 {
-    match after_letter(words, b't') {
-        Some(rest) => explaining(Mode::Check(Evidence::Promise), rest),
-        None => explaining(Mode::Check(Evidence::Flow), words),
+    match paths {
+        [path] => Ok(Call::Store(to, path.as_str())),
+        _ => Err(Reason::NotOneFile(b'o')),
     }
 }
 
-/// To store a listing, if these are its path and that of a file.
-fn storing(words: &[String]) -> Option<Call<'_>>
-    ensures { option_map call_in result ≡ storing (map string_bytes words.now) }
+/// How files are shown that are not listed.
+fn view_in(given: &Given) -> Option<View>
+    ensures { result ≡ view_in given.now }
 {
-    let [to, rest @ ..] = words else {
-        return None;
-    };
-    match paths_in(rest)? {
-        [path] => Some(Call::Store(to.as_str(), path.as_str())),
+    if given.has(b'd') {
+        return Some(View::Instructions(Decoder::Unix));
+    }
+    if given.has(b'p') {
+        return Some(View::Instructions(Decoder::Pdp11));
+    }
+    if given.has(b's') {
+        return Some(View::Rows(Base::Octal));
+    }
+    if given.has(b'x') {
+        return Some(View::Rows(Base::Hexadecimal));
+    }
+    None
+}
+
+/// The files as listings, of which one is stored with `-o`; or shown in another way.
+fn listing_by(given: &Given) -> Result<Call<'_>, Reason>
+    ensures { result_in result ≡ listing_by given.now }
+{
+    if let Some(view) = view_in(given) {
+        return explaining(Mode::Show(view), given.paths());
+    }
+    match given.value_of(b'o') {
+        Some(to) => storing(to, given.paths()),
+        None => explaining(Mode::Listing(evidence_in(given)), given.paths()),
+    }
+}
+
+/// What options ask for of which none excludes another.
+fn asked_by(given: &Given) -> Result<Call<'_>, Reason>
+    ensures { result_in result ≡ asked_by given.now }
+{
+    if given.has(b'c') {
+        return explaining(Mode::Check(evidence_in(given)), given.paths());
+    }
+    if given.has(b'l') {
+        return inventory(given);
+    }
+    listing_by(given)
+}
+
+/// Why options are refused: `-m` is not the first argument, one needs another, or one excludes another.
+fn misuse_in(given: &Given) -> Option<Reason>
+    ensures { result ≡ misuse_in given.now }
+{
+    if given.has(b'm') {
+        return Some(Reason::NotFirst(b'm'));
+    }
+    if given.has(b'y') {
+        return Some(Reason::Needs(b'y', b'm'));
+    }
+    if given.has(b'R') && !given.has(b'l') {
+        return Some(Reason::Needs(b'R', b'l'));
+    }
+    given
+        .excluded_in(b"cdlopsx")
+        .or(given.excluded_in(b"dloptsx"))
+}
+
+/// What is given asks for this.
+pub(crate) fn call_of(given: &Given) -> Result<Call<'_>, Reason>
+    ensures { result_in result ≡ call_of given.now }
+{
+    match misuse_in(given) {
+        Some(reason) => Err(reason),
+        None => asked_by(given),
+    }
+}
+
+/// The arguments after `-m`, if that is the first one.
+pub(crate) fn after_map(words: &[String]) -> Option<&[String]>
+    ensures { option_map (λ rest. map string_bytes rest.now) result
+        ≡ after_map (map string_bytes words.now) }
+{
+    match words {
+        [first, rest @ ..] if first.as_str() == "-m" => Some(rest),
         _ => None,
-    }
-}
-
-/// What the option of this letter asks for with the arguments after it.
-fn asked_by(letter: u8, rest: &[String]) -> Option<Call<'_>>
-    ensures { option_map call_in result ≡ asked_by letter (map string_bytes rest.now) }
-{
-    match letter {
-        b'c' => checking(rest),
-        b'd' => explaining(Mode::Show(View::Instructions(Decoder::Unix)), rest),
-        b'l' => inventory(rest),
-        b'm' => Some(Call::MapLink(rest)),
-        b'o' => storing(rest),
-        b'p' => explaining(Mode::Show(View::Instructions(Decoder::Pdp11)), rest),
-        b's' => explaining(Mode::Show(View::Rows(Base::Octal)), rest),
-        b't' => explaining(Mode::Listing(Evidence::Promise), rest),
-        b'x' => explaining(Mode::Show(View::Rows(Base::Hexadecimal)), rest),
-        _ => None,
-    }
-}
-
-/// What arguments ask for: an option of one letter with those after it, or without an option a listing of each file.
-pub(crate) fn asked_in(words: &[String]) -> Option<Call<'_>>
-    ensures { option_map call_in result ≡ asked_in (map string_bytes words.now) }
-{
-    match letter_in(words) {
-        Some((letter, rest)) => asked_by(letter, rest),
-        None => explaining(Mode::Listing(Evidence::Flow), words),
     }
 }

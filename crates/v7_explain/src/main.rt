@@ -8,6 +8,7 @@ mod checking;
 mod disk_folders;
 mod explaining;
 mod folders;
+mod help;
 mod inventory;
 mod listing;
 mod map;
@@ -19,15 +20,16 @@ mod views;
 
 use aout_core::Wire;
 use disk_folders::DiskFolders;
-use program::{NAME, USAGE, perform};
+use help::USAGE;
+use program::{NAME, perform};
+use std::io;
 use std::process::ExitCode;
-use std::{env, io};
-use surroundings::{Disk, Outputs, StandardError, end, hold_streams, words};
+use surroundings::{Disk, Outputs, StandardError, end, hold_streams, readable_words};
 
 /// The status of the program. The streams are held until it has ended.
 fn run(rt: &HostRuntime) -> io::Result<u8> {
     let _held = hold_streams(rt)?;
-    let words = words(rt.alloc(), env::args(rt)?)?;
+    let words = readable_words(rt.alloc(), rt)?;
     let mut outputs = Outputs {
         output: Wire::new(io::writer(rt)),
         error: Wire::new(StandardError::new(rt)),

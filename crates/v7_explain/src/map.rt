@@ -3,13 +3,14 @@ ghost use Rattle.std.specs.Prelude.{◌≡◌, ◌⊎◌, IfOk, Err, map, string
 ghost use Rattle.aout_core.specs.Refusals.{refused};
 ghost use Rattle.map_texts.specs.MapTexts.{absent_names};
 ghost use Rattle.surroundings.specs.declared.answer.Fault.TheVariants.{Memory};
-ghost use Rattle.v7_explain.specs.Maps.{IsMapCall, IsMapping, MapsCall, link_words, status_with, text_asked};
+ghost use Rattle.v7_explain.specs.Maps.{IsMapCall, IsMapping, MapsCall, link_words, not_of_ld, status_with, text_asked};
 ghost use Rattle.v7_explain.specs.Runs.{MapsAsked};
 ghost use Rattle.v7_explain.specs.internal.Takes.{IsMapAnswer, status_mapped};
 
 use crate::asked::take_names;
+use crate::help::USAGE;
 use crate::map_objects::take_objects;
-use crate::program::USAGE;
+use crate::program::NAME;
 use aout_core::Name;
 use command_words::{Call, WordsFault, parse};
 use link_maps::{LinkMap, Objects, map_of};
@@ -17,7 +18,7 @@ use link_out::Options;
 use link_session::Forced;
 use map_texts::{absent_names, map_text, names_map};
 use std::alloc::{AllocError, Global};
-use surroundings::{Answer, Fault, Office, usage_answer};
+use surroundings::{Answer, Fault, Office, Reason, refused_answer};
 
 /// The status of a map: 0 for a link with nothing to report; 1 for one that is refused too.
 fn status_of(map: &LinkMap) -> u8
@@ -115,6 +116,13 @@ fn link_words(alloc: Global, words: &[String]) -> Result<Vec<String>, AllocError
     Ok(all)
 }
 
+/// The answer to arguments after `-m` that are not those of `ld`.
+fn not_of_ld(alloc: Global) -> Result<Answer, AllocError>
+    ensures { IfOk result (λ a. a ≡ not_of_ld) }
+{
+    refused_answer(alloc, NAME, USAGE, Reason::NotOfLd(b'm'))
+}
+
 /// The map of the link that a call asks for, if it is one of `ld`.
 fn map_call<O: Office>(
     alloc: Global,
@@ -132,7 +140,7 @@ fn map_call<O: Office>(
             files,
             ..
         } => map_link(alloc, office, asked, forced, options, files),
-        _ => Ok(usage_answer(alloc, USAGE)?),
+        _ => Ok(not_of_ld(alloc)?),
     }
 }
 
@@ -149,7 +157,7 @@ fn map_words<O: Office>(
 {
     match parse(alloc, link_words(alloc, words)?) {
         Ok(call) => map_call(alloc, office, asked, &call),
-        Err(WordsFault::Usage) => Ok(usage_answer(alloc, USAGE)?),
+        Err(WordsFault::Usage) => Ok(not_of_ld(alloc)?),
         Err(WordsFault::Memory(refused)) => Err(Fault::Memory(refused)),
     }
 }
@@ -167,6 +175,6 @@ pub(crate) fn map_files<O: Office>(
     let mut names = Vec::new(alloc);
     match take_names(&mut names, words)? {
         Some(rest) => map_words(alloc, office, &names, rest),
-        None => Ok(usage_answer(alloc, USAGE)?),
+        None => Ok(refused_answer(alloc, NAME, USAGE, Reason::NoValue(b'y'))?),
     }
 }

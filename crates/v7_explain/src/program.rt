@@ -1,31 +1,26 @@
 //! The program, over any files and any streams.
-ghost use Rattle.std.specs.Prelude.{map, string_bytes};
-ghost use Rattle.surroundings.specs.Programs.{AnswersWords, Calls};
-ghost use Rattle.v7_explain.specs.Calls.{asked_in};
+ghost use Rattle.std.specs.Prelude.{None, map, string_bytes};
+ghost use Rattle.surroundings.specs.Programs.{AnswersGiven, DoesWords};
+ghost use Rattle.v7_explain.specs.Calls.{asked_in, asked_or, call_of};
 ghost use Rattle.v7_explain.specs.Files.{program};
-ghost use Rattle.v7_explain.specs.Joined.{usage};
+ghost use Rattle.v7_explain.specs.Help.{help, usage};
 ghost use Rattle.v7_explain.specs.Runs.{IsCall, PerformsExplain};
 ghost use Rattle.v7_explain.specs.internal.Asked.{call_in};
 
-use crate::arguments::{Call, asked_in};
+use crate::arguments::{Call, after_map, call_of};
 use crate::explaining::{explain_each, explain_walked};
 use crate::folders::Folders;
+use crate::help::{HELP, USAGE};
 use crate::map::map_files;
 use crate::storing::store_listing;
 use std::alloc::Global;
 use std::io::Write;
-use surroundings::{Answer, Fault, Office, Outputs, give, shown_answer, shown_in, usage_answer};
+use surroundings::{
+    Answer, Fault, Given, Office, Outputs, give, given_in, refused_answer, shown_answer, shown_in,
+};
 
 /// The name of the program.
 pub(crate) const NAME: &str = "v7-explain";
-
-/// How it is called.
-pub(crate) const USAGE: &str = "usage: v7-explain [-c [-t]|-d|-l|-p|-s|-t|-x] FILE...
-       v7-explain -l -R PATH...
-       v7-explain -o LISTING FILE
-       v7-explain -m [-y NAME]... [OPTIONS OF LD] FILE...
-       v7-explain --help | --version
-";
 
 /// Does a call.
 #[tactic(auto, using(crate::proofs::AskedLemmas::call_done))]
@@ -42,40 +37,75 @@ fn do_call<O: Office, F: Folders>(
         Call::Explain(mode, paths) => explain_each(alloc, office, mode, paths),
         Call::Walk(paths) => explain_walked(alloc, office, folders, paths),
         Call::Store(to, path) => store_listing(alloc, office, to, path),
-        Call::MapLink(words) => map_files(alloc, office, words),
     }
 }
 
-/// Does the call that the arguments ask for.
-#[tactic(auto, using(surroundings::proofs::ShownLemmas::by_call))]
-fn answer_call<O: Office, F: Folders>(
+/// Does the call that is asked for, if one is.
+#[tactic(auto, using(surroundings::proofs::ShownLemmas::by_words))]
+fn answer_given<O: Office, F: Folders>(
+    alloc: Global,
+    office: &mut O,
+    folders: &F,
+    given: &Given,
+) -> Result<Answer, Fault>
+    ensures { DoesWords program usage (IsCall (F.folders folders.now)) (call_of given.now)
+        (O.history office.old) (O.history office.new) result }
+{
+    match call_of(given) {
+        Ok(call) => do_call(alloc, office, folders, call),
+        Err(reason) => Ok(refused_answer(alloc, NAME, USAGE, reason)?),
+    }
+}
+
+/// Does what arguments ask for that do not begin with `-m`.
+#[tactic(auto, using(surroundings::proofs::ShownLemmas::by_read))]
+fn answer_read<O: Office, F: Folders>(
     alloc: Global,
     office: &mut O,
     folders: &F,
     words: &[String],
 ) -> Result<Answer, Fault>
-    ensures { Calls usage (IsCall (F.folders folders.now)) (asked_in (map string_bytes words.now))
+    ensures { DoesWords program usage (IsCall (F.folders folders.now))
+        (asked_or None (map string_bytes words.now))
         (O.history office.old) (O.history office.new) result }
 {
-    match asked_in(words) {
-        Some(call) => do_call(alloc, office, folders, call),
-        None => Ok(usage_answer(alloc, USAGE)?),
+    match given_in(alloc, b"cdlmpRstxy", b"o", words)? {
+        Ok(given) => answer_given(alloc, office, folders, &given),
+        Err(reason) => Ok(refused_answer(alloc, NAME, USAGE, reason)?),
+    }
+}
+
+/// Does what the arguments ask for.
+#[tactic(auto, using(crate::proofs::AskedLemmas::by_first))]
+fn answer_words<O: Office, F: Folders>(
+    alloc: Global,
+    office: &mut O,
+    folders: &F,
+    words: &[String],
+) -> Result<Answer, Fault>
+    ensures { DoesWords program usage (IsCall (F.folders folders.now))
+        (asked_in (map string_bytes words.now)) (O.history office.old) (O.history office.new) result }
+{
+    match after_map(words) {
+        Some(rest) => map_files(alloc, office, rest),
+        None => answer_read(alloc, office, folders, words),
     }
 }
 
 /// Does what the arguments ask for, and returns what is written at the end.
+#[tactic(auto, using(surroundings::proofs::ShownLemmas::by_shown))]
 fn answer<O: Office, F: Folders>(
     alloc: Global,
     office: &mut O,
     folders: &F,
     words: &[String],
 ) -> Result<Answer, Fault>
-    ensures { AnswersWords program usage (IsCall (F.folders folders.now)) asked_in
+    ensures { AnswersGiven program help usage (IsCall (F.folders folders.now)) asked_in
         (map string_bytes words.now) (O.history office.old) (O.history office.new) result }
 {
     match shown_in(words) {
-        Some(shown) => Ok(shown_answer(alloc, NAME, USAGE, shown)?),
-        None => answer_call(alloc, office, folders, words),
+        Some(shown) => Ok(shown_answer(alloc, NAME, HELP, shown)?),
+        None => answer_words(alloc, office, folders, words),
     }
 }
 

@@ -6,5 +6,6 @@ pub mod Steps
 pub mod Walks
 pub mod Prose
 pub mod Choices
+pub mod Calls
 pub mod Answers
 pub mod Scripts

@@ -8,6 +8,7 @@ mod decoded;
 mod files;
 mod fronts;
 mod given;
+mod help;
 mod json;
 mod keys;
 mod lines;
@@ -31,26 +32,48 @@ mod symbols;
 mod walk;
 
 use anyhow::{Error, Result};
-use arguments::{Call, SYNOPSIS, arguments_given, called};
+use arguments::{Call, call_of};
+use help::{HELP, USAGE};
 use link_session::Session;
 use page::write_page;
 use std::process::ExitCode;
 use steps::play;
-use surroundings::show;
+use surroundings::{Given, given_in, readable_words, refuse, show, shown_in};
 
-/// Does what the arguments ask for, and returns the status.
-fn run(rt: &HostRuntime, session: &mut Session) -> Result<u8> {
-    let arguments = arguments_given(rt)?;
-    match called(&arguments)? {
-        Call::Show(shown) => return Ok(show(rt, "v7-lesson", SYNOPSIS, shown)),
-        Call::Steps { shown, files } => play(rt, session, files, shown)?,
+/// The name of the program.
+const NAME: &str = "v7-lesson";
+
+/// Does a call.
+fn do_call(rt: &HostRuntime, session: &mut Session, call: Call<'_>) -> Result<()> {
+    match call {
+        Call::Steps { shown, files } => play(rt, session, files, shown),
         Call::Page {
             folder,
             questions,
             files,
-        } => write_page(rt, session, folder, questions, files)?,
+        } => write_page(rt, session, folder, questions, files),
+    }
+}
+
+/// Does the call that is asked for, if one is, and returns the status.
+fn run_given(rt: &HostRuntime, session: &mut Session, given: &Given) -> Result<u8> {
+    match call_of(given) {
+        Ok(call) => do_call(rt, session, call)?,
+        Err(reason) => return Ok(refuse(rt, NAME, USAGE, reason)),
     }
     Ok(0)
+}
+
+/// Does what the arguments ask for, and returns the status.
+fn run(rt: &HostRuntime, session: &mut Session) -> Result<u8> {
+    let words = readable_words(rt.alloc(), rt)?;
+    if let Some(shown) = shown_in(&words) {
+        return Ok(show(rt, NAME, HELP, shown));
+    }
+    match given_in(rt.alloc(), b"c", b"npq", &words)? {
+        Ok(given) => run_given(rt, session, &given),
+        Err(reason) => Ok(refuse(rt, NAME, USAGE, reason)),
+    }
 }
 
 /// The end of the line of a refused request for memory. `anyhow` keeps no more of an error than its text.
@@ -58,12 +81,12 @@ const REFUSED: &str = "memory allocation failed\n";
 
 /// Reports an error, and returns the status for it.
 fn fail(rt: &HostRuntime, error: &Error) -> u8 {
-    match format!(in rt.alloc(); "v7-lesson: {error}\n") {
+    match format!(in rt.alloc(); "{NAME}: {error}\n") {
         Ok(text) if !text.as_str().ends_with(REFUSED) => {
             let _ = rt.eprint(text.as_str());
         }
         _ => {
-            let _ = rt.eprint("v7-lesson: no memory\n");
+            let _ = eprintln!(rt; "{NAME}: no memory");
         }
     }
     2
