@@ -420,7 +420,7 @@ enum v7_map_use_kind {
     V7_MAKES_COMMON = 2, /* one that makes it a common, with its size as `offset` */
     V7_WANTS = 3,        /* another symbol */
     V7_FORCES = 4,       /* a forced name */
-    V7_TEXT_WORD = 5,    /* a word of text, or of data, that refers to the name */
+    V7_TEXT_WORD = 5,    /* a word of text, or of data, that leads to the name */
     V7_DATA_WORD = 6
 };
 struct v7_map_use { /* those of a name one after another, in the order of the objects; words follow their symbol */

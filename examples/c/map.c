@@ -241,10 +241,12 @@ static void print_uses(size_t from, size_t end)
     for (i = from; i < end; i++) {
         if (map->uses[i].kind == V7_FORCES)
             printf("    %-12s-u\n", "used in");
-        if (map->uses[i].kind != V7_MAKES_COMMON && map->uses[i].kind != V7_WANTS)
+        if (map->uses[i].kind > V7_WANTS)
             continue;
         for (words = 0; i + words + 1 < end && map->uses[i + words + 1].kind >= V7_TEXT_WORD; words++)
             ;
+        if (words == 0 && map->uses[i].kind == V7_DEFINES)
+            continue;
         printf("    %-12s%s (%zu)\n", "used in", paths[map->uses[i].object], words);
         for (; words > 0; words--)
             print_word(&map->uses[++i]);

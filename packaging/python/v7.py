@@ -137,7 +137,7 @@ class MapName(NamedTuple):
 
 
 class MapUse(NamedTuple):
-    """A symbol of an object, or a word that refers to it: the numbers of the object and of the name, one of DEFINES to DATA_WORD, and of
+    """A symbol of an object, or a word that leads to it: the numbers of the object and of the name, one of DEFINES to DATA_WORD, and of
     a word its address and its place, the place of its line, and the label before that with the bytes beyond it. The place of a
     symbol is its value. A forced name has no object."""
 

@@ -29,7 +29,8 @@ NAMES = ["_a", "_b", "_c", "_main", "_long_na", "long_nax", "a", "x", "_forced",
 # the names that a link defines
 OWN = {"_etext", "_edata", "_end"}
 # first words of one to three words, one that begins no instruction, and words like those of operands
-WORDS = [0o000207, 0o005200, 0o004767, 0o004737, 0o012700, 0o016167, 0o016767, 0o012737, 0o013737, 0o170006, 2, 0o177772, 0o177776]
+WORDS = [0o000207, 0o005200, 0o004767, 0o004737, 0o012700, 0o016167, 0o016767, 0o012737, 0o013737, 0o170006, 2, 0o177772, 0o177776, 0o000401,
+         0o001376, 0o077002, 0o005077, 0o104404]
 
 
 def run(*words):
@@ -56,17 +57,45 @@ def explain(*words):
 
 class RandomObject:
     """An object: how many words it has of text, data and bss, and symbols as name, type word and value. Each reference is a word, a
-    symbol's number and the bit of the pc; and the words of its text, if they are not 0."""
+    symbol's number and the bit of the pc; and the words of its text, if they are not 0. Each own reference is a word, a segment from 2 for
+    text to 4 for bss, an address and the bit of the pc."""
 
-    def __init__(self, text, data, bss, symbols, references, words=()):
+    def __init__(self, text, data, bss, symbols, references, words=(), own=()):
         self.text, self.data, self.bss, self.symbols, self.references = text, data, bss, symbols, references
         self.words = list(words) or [0] * text
         relocation = [0] * (text + data)
         for word, number, pc in references:
             relocation[word] = 0o10 + 16 * number + pc
+        values = self.words + [0] * data
+        for word, segment, address, pc in own:
+            relocation[word] = 2 * (segment - 1) + pc
+            values[word] = (address - pc * (2 * word + 2)) & 0o177777
+        self.words, self.values, self.relocation = values[:text], values, relocation
         table = [(name.encode("latin-1").ljust(8, b"\0"), kind, value) for name, kind, value in symbols]
-        in_data = [0] * data
-        self.file = disassembly.File(self.words, relocation[:text], table, 0o407, in_data, relocation[text:], 2 * bss)
+        self.file = disassembly.File(self.words, relocation[:text], table, 0o407, values[text:], relocation[text:], 2 * bss)
+
+    def lead(self, word):
+        """Where a word leads: to the symbol of a number, as (8, number); or to an address of text, data or bss, as (2 to 4, address)."""
+        relocation, value, after = self.relocation[word], self.values[word], 2 * word + 2
+        if relocation >> 1 & 7 == 4:
+            return 8, relocation >> 4
+        if relocation >> 1 & 7:
+            return (relocation >> 1 & 7) + 1, (value + (relocation & 1) * after) & 0o177777
+        if word >= self.text or relocation & 1:
+            return None
+        first = self.file.owner(word)
+        name, fields = disassembly.FOUND.get(self.words[word if first is None else first], ("", []))
+        if first is None:
+            steps = [value if value < 128 else value - 256 for letter, value in fields if letter == "B"] + [
+                -value for letter, value in fields if letter == "O"]
+            return (2, (after + 2 * steps[0]) & 0o177777) if steps else None
+        operands = [field for letter, field in fields if disassembly.has_word(letter, field)]
+        return (2, (value + after) & 0o177777) if name != "sys" and operands[word - first - 1] in (0o67, 0o77) else None
+
+    def words_to(self, number):
+        """The words that lead to the symbol of this number."""
+        _, kind, value = self.symbols[number]
+        return [word for word in range(self.text + self.data) if self.lead(word) in ((8, number), (kind & 0o37, value))]
 
     def write(self, path):
         write(path, self.file.encoded())
@@ -86,7 +115,11 @@ def random_object(dice):
         symbols.append((name, kind, value))
     expected = [number for number, symbol in enumerate(symbols) if symbol[1] == 0o40]
     references = [(word, dice.choice(expected), dice.randrange(2)) for word in range(text + data) if expected and dice.randrange(2)]
-    return RandomObject(text, data, bss, symbols, references, [dice.choice(WORDS) for _ in range(text)])
+    taken = {word for word, *_ in references}
+    placed = [(kind & 0o37, value) for _, kind, value in symbols if kind & 0o37 in (2, 3, 4)]
+    own = [(word, *dice.choice(placed), dice.randrange(2)) for word in range(text + data)
+           if placed and word not in taken and dice.randrange(3) == 0]
+    return RandomObject(text, data, bss, symbols, references, [dice.choice(WORDS) for _ in range(text)], own)
 
 
 # what follows a title in its line, and the first line of a part that begins with one of titles
@@ -128,17 +161,17 @@ def listed(objects, says, item):
     lists = {}
     for place, given in enumerate(objects):
         for number, symbol in enumerate(given.symbols):
-            if symbol[1] & 0o40 and says(symbol):
-                count = sum(1 for _, to, _ in given.references if to == number)
+            count = len(given.words_to(number))
+            if symbol[1] & 0o40 and says(symbol, count):
                 lists.setdefault(symbol[0], []).append(item(f"{place}.o", symbol, count))
     return lists
 
 
 def check_lists(what, names, objects):
     """The lists of the externals are those of the objects as they were made."""
-    defined = listed(objects, lambda s: s[1] & 0o37, lambda path, s, n: path)
-    commons = listed(objects, lambda s: s[1] == 0o40 and s[2], lambda path, s, n: f"{path} ({s[2]})")
-    used = listed(objects, lambda s: s[1] == 0o40, lambda path, s, n: f"{path} ({n})")
+    defined = listed(objects, lambda s, n: s[1] & 0o37, lambda path, s, n: path)
+    commons = listed(objects, lambda s, n: s[1] == 0o40 and s[2], lambda path, s, n: f"{path} ({s[2]})")
+    used = listed(objects, lambda s, n: s[1] == 0o40 or n, lambda path, s, n: f"{path} ({n})")
     for name, (_, lists, _) in names.items():
         expected = {
             "defined in": defined.get(name, [])[:1],
@@ -152,8 +185,12 @@ def check_lists(what, names, objects):
 
 
 def label_before(given, segment, address):
-    """The nearest name that an object gives to an address of a segment, and how far it is; of several the first of the table."""
-    before = [(value, name) for name, kind, value in given.symbols if kind & 0o37 == segment and value <= address]
+    """The nearest name that an object gives to an address of a segment, and how far it is; of several the first of the table. In text a
+    function comes first: an external, or a name that C gives it."""
+    all_before = [(value, name, kind & 0o40 or name.startswith("_")) for name, kind, value in given.symbols
+                  if kind & 0o37 == segment and value <= address]
+    functions = [(value, name) for value, name, is_function in all_before if is_function and segment == 2]
+    before = functions or [(value, name) for value, name, _ in all_before]
     if not before:
         return ""
     near = max(value for value, _ in before)
@@ -178,8 +215,8 @@ def check_words(what, names, found, objects, asked=None):
     for place, (row, given) in enumerate(zip(found["Objects"][1:], objects)):
         starts = {"text": int(row.split()[0], 8), "data": int(row.split()[2], 8)}
         for number, symbol in enumerate(given.symbols):
-            lines = [word_line(given, starts, word) for word, to, _ in given.references if to == number]
-            if lines and (asked is None or symbol[0] in asked):
+            lines = [word_line(given, starts, word) for word in given.words_to(number)]
+            if symbol[1] & 0o40 and lines and (asked is None or symbol[0] in asked):
                 expected.setdefault(symbol[0], {})[f"{place}.o"] = lines
     same(f"{what}: words", {name: words for name, (_, _, words) in names.items() if words}, expected)
     return sum(len(lines) for words in expected.values() for lines in words.values())
@@ -538,9 +575,15 @@ def planted_odd():
     with_change(": undefined; there is ", ": undefined; there is _", lambda: [check_random(link) for link in range(LINKS)])
 
 
+def planted_place():
+    """Maps in which a label hides the function that a place is in."""
+    with_change("  _main+2: ", "  x: ", lambda: [check_random(link) for link in range(LINKS)])
+
+
 def main():
     examples = check_examples()
     notices(planted)
+    notices(planted_place)
     notices(planted_odd)
     ODD.clear()
     words = sum(check_random(link) for link in range(LINKS))

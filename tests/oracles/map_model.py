@@ -48,20 +48,49 @@ def line_starts(file):
 
 
 def label_before(file, segment, address):
-    """The nearest label up to an address, and the bytes beyond it."""
-    best = None
+    """The nearest label up to an address, and the bytes beyond it; in text that of a function before others."""
+    best, best_is_function = None, False
     for symbol in file.symbols:
-        if symbol.segment == segment and symbol.value <= address and (best is None or best.value < symbol.value):
-            best = symbol
+        if symbol.segment != segment or symbol.value > address:
+            continue
+        is_function = segment == model.TEXT and bool(symbol.type & model.EXTERNAL or symbol.name.startswith(b"_"))
+        if best is None or (is_function, symbol.value) > (best_is_function, best.value):
+            best, best_is_function = symbol, is_function
     return (text(best.name), address - best.value) if best else (None, 0)
 
 
+def text_target(words, line, place):
+    """Where a word of text without relocation leads, as the target of a branch or of an operand that counts from the pc; its line begins
+    at the first place."""
+    name, fields = disassembly.FOUND.get(words[line], ("", []))
+    after = 2 * place + 2
+    if line == place:
+        steps = [value - 256 * (value > 127) for letter, value in fields if letter == "B"] + [-value for letter, value in fields if letter == "O"]
+        return (after + 2 * steps[0]) % model.WORD if steps else None
+    operands = [value for letter, value in fields if disassembly.has_word(letter, value)]
+    return (words[place] + after) % model.WORD if name != "sys" and operands[place - line - 1] in (0o67, 0o77) else None
+
+
+def lead_of(file, starts, segment, place):
+    """Where a word leads: to the symbol of a number, or to an address of a segment."""
+    word, relocation = file.words[segment][place]
+    refers = relocation & model.KIND
+    if refers == model.NAMED:
+        return model.NAMED, relocation // model.NUMBER
+    if model.REFERS.get(refers) in model.SEGMENTS:
+        return model.REFERS[refers], (word + (relocation & model.PC) * (file.start(segment) + 2 * place + 2)) % model.WORD
+    if segment != model.TEXT or relocation & 0o17:
+        return None
+    return model.TEXT, text_target([word for word, _ in file.words[model.TEXT]], starts[2 * place] // 2, place)
+
+
 def words_of(file, object_number, name_number, number, at):
-    """The words of an object that refer to the symbol of this number."""
-    starts = line_starts(file)
+    """The words of an object that lead to the symbol of this number."""
+    starts, symbol = line_starts(file), file.symbols[number]
+    aims = (model.NAMED, number), (symbol.kind, symbol.value)
     for segment, kind in ((model.TEXT, v7.TEXT_WORD), (model.DATA, v7.DATA_WORD)):
-        for place, (_, relocation) in enumerate(file.words[segment]):
-            if relocation & model.KIND == model.NAMED and relocation // model.NUMBER == number:
+        for place in range(len(file.words[segment])):
+            if lead_of(file, starts, segment, place) in aims:
                 line = starts[2 * place] if segment == model.TEXT else 2 * place
                 label, beyond = label_before(file, segment, (line + file.start(segment)) % model.WORD)
                 yield v7.MapUse(object_number, name_number, kind, at[segment] + 2 * place, 2 * place, line, label, beyond)

@@ -10,9 +10,10 @@ use Rattle.link_session.specs.{Labelled.Labelled, Labelled.objects, Limits.limit
 use Rattle.tool_options.specs.{declared.options.Layout.TheVariants.Pure, Choices.Choices}
 use Rattle.link_out.specs.{Results.Outcome, function.Link.link}
 use Rattle.link_maps.specs.{declared.places.Places.Places, declared.references.ReferringWord.ReferringWord}
+use Rattle.link_maps.specs.declared.leads.Aim.TheVariants.{Numbered}
 use Rattle.link_maps.specs.{Members.capped, Members.start_in, Uses.Use, Uses.uses_in_order}
 use Rattle.laws.specs.CoreLaws.{IsPlace}
-use Rattle.laws.specs.Maps.{AddressesAreOfTheFile, HasWord, IsOfName, IsShown, NoWordIsMissing, RefersTo, WordsReferToTheirName, places_mapped}
+use Rattle.laws.specs.Maps.{AddressesAreOfTheFile, HasWord, IsOfName, IsShown, NoWordIsMissing, LeadsTo, WordsLeadToTheirName, places_mapped}
 use Rattle.conformance.specs.Samples.{sym as entry, object, _twice, L1, main_o, twice_o, count_o, plain, with_layout}
 use Rattle.conformance.proofs.{IsomorphismExamples.all_good, OrderExamples.main_first, OrderExamples.one}
 
@@ -57,36 +58,48 @@ data_elsewhere law =
     let sum : 0o20000 ≡ 0o16 = place.sum in absurd (omega (arith, sum))
 
 -- the call of `_twice` is in the map
-call : RefersTo main_o Text 6 (entry _twice 0o40 0)
-call = record { i = 3; place = refl; reloc = record { 0 = 0o31 }; is_there = refl; kind = refl; symbol = refl }
+call : LeadsTo main_o Text 6 (entry _twice 0o40 0)
+call = record {
+  i = 3;
+  place = refl;
+  reloc = record { 0 = 0o31 };
+  is_there = refl;
+  word = 0o177770;
+  word_there = refl;
+  aim = Numbered 1;
+  leads = refl;
+  number = 1;
+  symbol = refl;
+  hits = refl;
+}
 
 call_listed : NoWordIsMissing → HasWord (uses_in_order [] main_first) 0 Text 6 (entry _twice 0o40 0)
 call_listed law = law [] main_first all_good refl [] main_o (twice_o ∷ count_o ∷ []) refl Text 6 (entry _twice 0o40 0) refl call
 
--- and it refers to `_twice`
-call_refers : (missing : NoWordIsMissing) → WordsReferToTheirName →
+-- and it leads to `_twice`
+call_refers : (missing : NoWordIsMissing) → WordsLeadToTheirName →
     (let found = call_listed missing in IsOfName main_first found.used found.word)
 call_refers missing law =
     let found = call_listed missing in law [] main_first all_good refl found.used found.word found.is_there found.under
 
 -- which `main.o` does not define
-abbrev WordsReferToDefinitions : Type 0
-WordsReferToDefinitions =
+abbrev WordsLeadToDefinitions : Type 0
+WordsLeadToDefinitions =
     (forced : List (List ℕ)) (os : List Contents) → AllByRecursion IsObject os → limit_passed forced os ≡ None →
     (used : Use) (word : ReferringWord) → Contains (uses_in_order forced os) used → Contains used.references word →
     used.symbol.type_bits ≢ 0o40
 
-undefined_called : NoWordIsMissing → WordsReferToDefinitions → ⊥
+undefined_called : NoWordIsMissing → WordsLeadToDefinitions → ⊥
 undefined_called missing law =
     let found = call_listed missing in
     law [] main_first all_good refl found.used found.word found.is_there found.under (ap (λ (s : Symbol). s.type_bits) found.symbol)
 
--- a word that refers by its number to a local symbol, as in no object, is in no map
+-- a word that leads by its number to a local symbol, as in no object, is in no map
 abbrev NoWordOfAnySymbolIsMissing : Type 0
 NoWordOfAnySymbolIsMissing =
     (forced : List (List ℕ)) (os : List Contents) → limit_passed forced os ≡ None →
     (before : List Contents) (k : Contents) (after : List Contents) → os ≡ before ++ k ∷ after →
-    (part : Part) (offset : ℕ) (s : Symbol) → RefersTo k part offset s → HasWord (uses_in_order forced os) (length before) part offset s
+    (part : Part) (offset : ℕ) (s : Symbol) → LeadsTo k part offset s → HasWord (uses_in_order forced os) (length before) part offset s
 
 abbrev local_o : Contents
 local_o = object [] [] (0 ∷ []) (0o10 ∷ []) 0 (entry L1 0o03 0 ∷ [])
@@ -94,5 +107,17 @@ local_o = object [] [] (0 ∷ []) (0o10 ∷ []) 0 (entry L1 0o03 0 ∷ [])
 local_word_missing : NoWordOfAnySymbolIsMissing → ⊥
 local_word_missing law =
     let found = law [] (local_o ∷ []) refl [] local_o [] refl Data 0 (entry L1 0o03 0)
-    (record { i = 0; place = refl; reloc = record { 0 = 0o10 }; is_there = refl; kind = refl; symbol = refl }) in
+    (record {
+      i = 0;
+      place = refl;
+      reloc = record { 0 = 0o10 };
+      is_there = refl;
+      word = 0;
+      word_there = refl;
+      aim = Numbered 0;
+      leads = refl;
+      number = 0;
+      symbol = refl;
+      hits = refl;
+    }) in
     let none : found.is_there.0 < 0 = found.is_there.1 in absurd (omega (arith, none))

@@ -1,17 +1,21 @@
 -- What the map of a link has to do with the linked file. (ld(1), a.out(5))
 --
 -- The map of objects has the places of their segments, `places_mapped`, and their uses of names, `uses_in_order` of Uses: a symbol of an
--- object, with the words that refer to it. The objects are those that a session accepts.
+-- object, with the words that lead to it. The objects are those that a session accepts.
 use Rattle.std.specs.Prelude.{◌≡◌, ℕ, ◌*◌, ◌<◌, true, List, ◌∷◌, ◌++◌, length, map, Some, None, Ok, slice_get}
 use Rattle.std.specs.List.{AllByRecursion, Contains}
-use Rattle.aout_core.specs.{Contents.Contents, WellFormed.is_external, WellFormed.kind_of, WellFormed.symbol_number}
-use Rattle.aout_core.specs.{declared.part.Part.Part, declared.reloc.Kind.TheVariants.External, declared.reloc.Reloc.Reloc}
+use Rattle.aout_core.specs.{Contents.Contents, WellFormed.is_external, WellFormed.masked_type, WellFormed.segment_number}
+use Rattle.aout_core.specs.{declared.part.Part.Part, declared.reloc.Reloc.Reloc}
 use Rattle.aout_core.specs.{declared.symbol.Segment.TheVariants.BssSeg, declared.symbol.Symbol.Symbol}
 use Rattle.link_session.specs.{Labelled.Labelled, Labelled.objects, Limits.limit_passed, Sessions.IsObject}
 use Rattle.link_out.specs.{function.Link.link, function.Plans.plan, Results.Outcome}
 use Rattle.link_maps.specs.{declared.places.Places.Places, declared.references.ReferringWord.ReferringWord}
 use Rattle.link_maps.specs.Members.{capped, first_places, member_of, places_from, start_in}
-use Rattle.link_maps.specs.{References.relocs_of, References.segment_of_part, Uses.Use, Uses.uses_in_order}
+use Rattle.instructions.specs.declared.unix.Decoder.TheVariants.{Unix}
+use Rattle.disassemblies.specs.Starts.{starts}
+use Rattle.link_maps.specs.{Leads.aim_of, References.relocs_of, References.segment_of_part, References.part_words}
+use Rattle.link_maps.specs.{Uses.Use, Uses.uses_in_order, declared.leads.Aim.Aim}
+use Rattle.link_maps.specs.declared.leads.Aim.TheVariants.{Numbered, Addressed}
 use Rattle.tool_options.specs.Choices.{Choices}
 use Rattle.laws.specs.CoreLaws.{IsPlace}
 
@@ -34,16 +38,26 @@ AddressesAreOfTheFile =
     link forced (objects es) o ≡ Ok x → (before : List Contents) (k : Contents) (after : List Contents) →
     objects es ≡ before ++ k ∷ after → IsShown x.file (before ++ k ∷ after) before k (places_mapped forced o es)
 
--- the word so many bytes after the first of a part of the object refers, by the number in its relocation word, to this symbol
-pub record RefersTo (k : Contents) (part : Part) (offset : ℕ) (s : Symbol) : Type 0 where
+-- a word that leads there leads to the symbol of this number: by the number, or the symbol is at the address of the segment
+abbrev pub Hits : Aim → ℕ → Symbol → Type 0
+Hits (Numbered n) number s = n ≡ number
+Hits (Addressed segment address) number s = (masked_type s ≡ segment_number segment) × (s.value ≡ address)
+
+-- the word so many bytes after the first of a part of the object leads to this symbol of it, by its relocation word or as it is in the text
+pub record LeadsTo (k : Contents) (part : Part) (offset : ℕ) (s : Symbol) : Type 0 where
   pub i : ℕ
   pub place : offset ≡ 2 * i
   pub reloc : Reloc
   pub is_there : slice_get (relocs_of k part) i ≡ Some reloc
-  pub kind : kind_of reloc ≡ Some External
-  pub symbol : slice_get k.symbols (symbol_number reloc) ≡ Some s
+  pub word : ℕ
+  pub word_there : slice_get (part_words k part) i ≡ Some word
+  pub aim : Aim
+  pub leads : aim_of (starts Unix k) k part offset reloc word ≡ Some aim
+  pub number : ℕ
+  pub symbol : slice_get k.symbols number ≡ Some s
+  pub hits : Hits aim number s
 
--- a word of one of the objects, which refers to the symbol under which it is
+-- a word of one of the objects, which leads to the symbol under which it is
 pub record IsOfName (os : List Contents) (used : Use) (word : ReferringWord) : Type 0 where
   pub before : List Contents
   pub k : Contents
@@ -51,11 +65,11 @@ pub record IsOfName (os : List Contents) (used : Use) (word : ReferringWord) : T
   pub all : os ≡ before ++ k ∷ after
   pub object : used.object ≡ Some (length before)
   pub outer : is_external used.symbol ≡ true
-  pub refers : RefersTo k word.part word.offset used.symbol
+  pub leads : LeadsTo k word.part word.offset used.symbol
 
--- each word of the map refers to its name
-abbrev pub WordsReferToTheirName : Type 0
-WordsReferToTheirName =
+-- each word of the map leads to its name
+abbrev pub WordsLeadToTheirName : Type 0
+WordsLeadToTheirName =
     (forced : List (List ℕ)) (os : List Contents) → AllByRecursion IsObject os → limit_passed forced os ≡ None →
     (used : Use) (word : ReferringWord) → Contains (uses_in_order forced os) used → Contains used.references word → IsOfName os used word
 
@@ -70,10 +84,10 @@ pub record HasWord (uses : List Use) (number : ℕ) (part : Part) (offset : ℕ)
   pub in_part : word.part ≡ part
   pub place : word.offset ≡ offset
 
--- no word that refers by its number to an external symbol is missing
+-- no word that leads to an external symbol is missing
 abbrev pub NoWordIsMissing : Type 0
 NoWordIsMissing =
     (forced : List (List ℕ)) (os : List Contents) → AllByRecursion IsObject os → limit_passed forced os ≡ None →
     (before : List Contents) (k : Contents) (after : List Contents) → os ≡ before ++ k ∷ after →
-    (part : Part) (offset : ℕ) (s : Symbol) → is_external s ≡ true → RefersTo k part offset s →
+    (part : Part) (offset : ℕ) (s : Symbol) → is_external s ≡ true → LeadsTo k part offset s →
     HasWord (uses_in_order forced os) (length before) part offset s

@@ -7,7 +7,7 @@ ghost use Rattle.laws.specs.ReachedInstructions.{ReachedInstructionsAreKept, Sur
 ghost use Rattle.laws.specs.CleanPrograms.{CleanObjectsMakeCleanPrograms};
 ghost use Rattle.laws.specs.Listings.{UndefinedAreListed, UndefinedLines, RowLines, ExternalsAreListed, SizesAreSums};
 ghost use Rattle.laws.specs.Isomorphism.{PlacesAreApart, PlacesAreLoaded, BytesHavePlaces, OrdersAreRenumbered, LinksAreIsomorphic};
-ghost use Rattle.laws.specs.Maps.{AddressesAreOfTheFile, NoWordIsMissing, WordsReferToTheirName};
+ghost use Rattle.laws.specs.Maps.{AddressesAreOfTheFile, NoWordIsMissing, WordsLeadToTheirName};
 ghost use Rattle.laws.specs.Orders.{OrderAddsAlike, OrderLinksAlike, OrderRefusesAlike, OrderKeepsSizes, OrderReportsAlike, OrderKeepsMeanings, OrderKeepsReferents};
 
 /// Which byte is at which address when a linked file is loaded: `core` of specs/Core, for the space of instructions and that of
@@ -185,11 +185,12 @@ pub fn isomorphism_law()
 ///
 /// - `addresses`: if there is a link, the map has each byte of text, data and bss of each object at the address of its place in the
 ///   file, where `words` and `bss` of `core_law` have it.
-/// - `words`: each word of the map is a word of the object that the map names, and its relocation word has the number of the symbol
-///   under which it is. That symbol is external.
-/// - `missing`: each word of an object whose relocation word has the number of an external symbol is in the map, under this symbol.
+/// - `words`: each word of the map is a word of the object that the map names, and leads to the symbol under which it is. That symbol is
+///   external. A word leads to a symbol by the number in its relocation word, or by an address: its relocation word has the segment of the
+///   symbol, or no link changes the word, which is a branch or counts from the pc.
+/// - `missing`: each word of an object that leads to an external symbol of it is in the map, under this symbol.
 pub fn map_law()
     ensures addresses { AddressesAreOfTheFile }
-    ensures words { WordsReferToTheirName }
+    ensures words { WordsLeadToTheirName }
     ensures missing { NoWordIsMissing }
 {}

@@ -6,12 +6,9 @@ use Rattle.std.proofs.lemmas.List.Sorted.{IsStrictWeakOrder-flip, IsStrictWeakOr
 use Rattle.std.specs.declared.cmp.Ordering.TheVariants.{Less, Equal, Greater}
 use Rattle.std.specs.List.Sorted.{IsSortedBy, IsPartitionedBy, IsPartitionPoint}
 use Rattle.std.specs.{Cmp.IsStrictWeakOrder, Ordering.nat_cmp, Ordering.is_lt, declared.cmp.Ordering.Ordering}
-use Rattle.aout_core.specs.{declared.symbol.Symbol.Symbol, declared.symbol.Segment.Segment, Contents.Contents, Words.plus}
-use Rattle.aout_core.specs.{declared.part.Part.Part}
+use Rattle.aout_core.specs.{declared.symbol.Symbol.Symbol, declared.symbol.Segment.Segment}
 use Rattle.symtools.specs.NmLists.{inserted, in_order}
-use Rattle.link_session.specs.Starts.{own}
-use Rattle.link_maps.specs.declared.references.Before.{Before}
-use Rattle.link_maps.specs.References.{segment_of_part, is_nearer, nearer, nearest, before, before_line}
+use Rattle.link_maps.specs.References.{is_nearer, nearer, nearest}
 use Rattle.link_maps.specs.internal.Labels.{is_of, is_higher, AreLabels, first_from}
 
 -- the nearer of two labels, and the first of two at one address
@@ -118,16 +115,6 @@ nearest_among segment address symbols labels h =
     ap (first_from address) h.are
     ∙ either_none (first_from address (in_order is_higher (filter (is_of segment) symbols)))
     ∙ sym (nearest_sorted segment address None symbols)
-
--- the label before a line
-pub line_label : (o : Contents) (part : Part) (line address : ℕ) (labels : List Symbol) (found : Option Before) →
-    AreLabels (segment_of_part part) o.symbols labels →
-    address ≡ plus line (own o (segment_of_part part)) → found ≡ before address (first_from address labels) →
-    found ≡ before_line o part line
-line_label o part line address labels found h at is =
-    is
-    ∙ ap (before address) (nearest_among (segment_of_part part) address o.symbols labels h)
-    ∙ ap (λ (a : ℕ). before a (nearest (segment_of_part part) a None o.symbols)) at
 
 -- the order of the labels, and the search among them
 pub higher_order : IsStrictWeakOrder is_higher

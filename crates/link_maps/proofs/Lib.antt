@@ -1,6 +1,6 @@
 pub mod LabelLemmas
+pub mod LeadLemmas
 pub mod LinkLemmas
-pub mod ListLemmas
 pub mod MemberLemmas
 pub mod OddityLemmas
 pub mod PaddedLemmas

@@ -1,6 +1,8 @@
 -- The definitions that the contracts of this crate are written in.
 pub mod References
+pub mod Leads
 pub mod Uses
+pub mod Scopes
 pub mod Members
 pub mod Taking
 pub mod Rows

@@ -59,8 +59,9 @@ abbrev pub calls_from : List Contents → Use → Option ℕ → List Oddity
 calls_from os u None = []
 calls_from os u (Some object) = calls_in (slice_get os object) (name_of u) object u.references
 
+-- those in the object that defines the name are seen in it alone
 abbrev pub calls_by : List Contents → Use → List Oddity
-calls_by os u = calls_from os u u.object
+calls_by os u = if is_definition u then [] else calls_from os u u.object
 
 abbrev pub calls : List Contents → List Use → List Oddity
 calls os us = if is_stored (telling us) then flat_map (calls_by os) us else []

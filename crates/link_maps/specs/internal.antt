@@ -1,4 +1,3 @@
 pub mod Groups
 pub mod Known
 pub mod Labels
-pub mod Lists

@@ -20,6 +20,7 @@
 
 mod gather;
 mod labels;
+mod leads;
 mod limit_records;
 mod map;
 mod map_records;
@@ -43,5 +44,5 @@ pub use oddities::{Oddity, oddities_of};
 pub use outcome::{Outcome, largest_number, row_of};
 pub use places::Places;
 pub use records::{ObjectRecord, UseRecord, padded, uses_of_name};
-pub use references::{Before, ReferringWord, put_line_of};
-pub use uses::Use;
+pub use references::{Before, LinedFile, ReferringWord, put_line_of};
+pub use uses::{Scope, Use, put_uses};

@@ -119,11 +119,14 @@ fn put_words(
     Ok(())
 }
 
-/// Appends the calls by the words of a use.
+/// Appends the calls by the words of a use, unless its object defines the name.
 fn put_calls_by(found: &mut Vec<Oddity>, all: &Objects, used: &Use) -> Result<(), AllocError>
     ensures { OnOk result
         (found.new.items ≡ found.old.items ++ calls_by (objects (all_of all.now)) used.now) }
 {
+    if used.is_definition() {
+        return Ok(());
+    }
     let Some(number) = used.object else {
         return Ok(());
     };

@@ -1,18 +1,21 @@
-//! The words of an object that refer to a symbol, each with its line and the label before that.
-ghost use Rattle.std.specs.Prelude.{◌≡◌, ◌++◌, [], length, replicate, IfOk, OnOk};
+//! The words of an object that lead to a symbol, each with its line and the label before that.
+ghost use Rattle.std.specs.Prelude.{◌≡◌, ◌++◌, ◌∷◌, [], IfOk, OnOk};
+ghost use Rattle.std.specs.List.{flat_map};
 ghost use Rattle.texts.specs.Texts.{Puts};
 ghost use Rattle.std.specs.List.Sorted.{IsSortedBy};
-ghost use Rattle.aout_core.specs.WellFormed.{kind_of};
+ghost use Rattle.disassemblies.specs.Starts.{starts};
+ghost use Rattle.instructions.specs.declared.unix.Decoder.TheVariants.{Unix};
 ghost use Rattle.link_session.specs.Starts.{own};
-ghost use Rattle.link_maps.specs.References.{segment_of_part, relocs_of, before, line_of, text_of_line, before_line, is_external_kind, reference_by, references_of};
-ghost use Rattle.link_maps.specs.internal.Labels.{is_higher, first_from, AreSorted};
-ghost use Rattle.link_maps.specs.internal.Lists.{lists_of, each_more, by_symbol};
+ghost use Rattle.link_maps.specs.Leads.{reference_if, references_to};
+ghost use Rattle.link_maps.specs.References.{address_in, before_line, line_of, reference_at, relocs_of, segment_of_part, text_of_line, part_words};
 
-use crate::labels::nearest;
-use aout_core::{File, Kind, Name, Part, Reloc, Symbol};
-use disassemblies::{NamedFile, line_start, put_line_text};
+use crate::labels::Labels;
+use crate::leads::{Lead, leads_in};
+use aout_core::{File, Name, Part, Reloc, Segment, Symbol};
+use disassemblies::{NamedFile, line_start, line_starts, put_line_text};
 use instructions::Decoder;
 use std::alloc::{AllocError, Global};
+use std::marker::Model;
 use texts::Text;
 
 /// The label before a line.
@@ -23,7 +26,7 @@ pub struct Before {
     pub bytes: u16,
 }
 
-/// A word that refers to a symbol.
+/// A word that leads to a symbol.
 #[derive(Clone, Copy, Debug)]
 pub struct ReferringWord {
     pub part: Part,
@@ -31,40 +34,36 @@ pub struct ReferringWord {
     pub offset: u16,
     /// The place at which the line begins that has the word: an instruction or a plain word of text. A word of data is a line.
     pub line: u16,
-    /// The nearest label of the object where the line begins or before it, in the same segment.
+    /// The nearest label of the object where the line begins or before it, in the same segment. In text that of a function comes first.
     pub before: Option<Before>,
 }
 
-/// An object, for each word of its text, whether a line begins there, and its labels, the highest address first.
-#[derive(Clone, Copy)]
-pub(crate) struct Lined<'a> {
-    pub(crate) file: &'a File,
-    pub(crate) starts: &'a [bool],
-    pub(crate) text_labels: &'a [Symbol],
-    pub(crate) data_labels: &'a [Symbol],
-}
-
-/// The label before an address, among the labels of a segment.
-fn label_before(labels: &[Symbol], address: u16) -> Option<Before>
-    requires { IsSortedBy is_higher labels.now }
-    ensures { result ≡ before address (first_from address labels.now) }
-{
-    match nearest(labels, address) {
-        Some(label) => Some(Before {
-            name: label.name,
-            bytes: address.saturating_sub(label.value),
-        }),
-        None => None,
-    }
-}
-
 /// The relocation words of a part.
-fn relocs_of(file: &File, part: Part) -> &[Reloc]
+pub(crate) fn relocs_of(file: &File, part: Part) -> &[Reloc]
     ensures { result.now ≡ relocs_of file.now part }
 {
     match part {
         Part::Text => file.text_reloc(),
         Part::Data => file.data_reloc(),
+    }
+}
+
+/// The words of a part.
+pub(crate) fn part_words(file: &File, part: Part) -> &[u16]
+    ensures { result.now ≡ part_words file.now part }
+{
+    match part {
+        Part::Text => file.text_words(),
+        Part::Data => file.data_words(),
+    }
+}
+
+fn segment_of(part: Part) -> Segment
+    ensures { result ≡ segment_of_part part }
+{
+    match part {
+        Part::Text => Segment::TextSeg,
+        Part::Data => Segment::DataSeg,
     }
 }
 
@@ -78,26 +77,20 @@ fn start_of(file: &File, part: Part) -> u16
     }
 }
 
+/// The address in its object of what is so many bytes after the first of a part.
+pub(crate) fn address_in(file: &File, part: Part, offset: u16) -> u16
+    ensures { result ≡ address_in file.now part offset }
+{
+    offset.wrapping_add(start_of(file, part))
+}
+
 /// The place at which the line begins that has a word, both in bytes.
-fn line_of(starts: &[bool], part: Part, offset: u16) -> u16
+pub(crate) fn line_of(starts: &[bool], part: Part, offset: u16) -> u16
     ensures { result ≡ line_of starts.now part offset }
 {
     match part {
         Part::Text => (2 * line_start(starts, usize::from(offset / 2))) as u16,
         Part::Data => offset,
-    }
-}
-
-/// The label before a line.
-fn before_line(lined: &Lined<'_>, part: Part, line: u16) -> Option<Before>
-    requires { AreSorted lined.now.file.now.symbols lined.now.text_labels.now
-        lined.now.data_labels.now }
-    ensures { result ≡ before_line lined.now.file.now part line }
-{
-    let address = line.wrapping_add(start_of(lined.file, part));
-    match part {
-        Part::Text => label_before(lined.text_labels, address),
-        Part::Data => label_before(lined.data_labels, address),
     }
 }
 
@@ -119,89 +112,124 @@ pub fn put_line_of(text: &mut Text, named: &NamedFile<'_>, reference: &Referring
     }
 }
 
-/// An empty list for each of so many symbols.
-fn empty_lists(alloc: Global, count: usize) -> Result<Vec<Vec<ReferringWord>>, AllocError>
-    ensures { IfOk result (λ lists. lists_of lists.items ≡ replicate count []) }
-{
-    let mut lists = Vec::new(alloc);
-    for _ in 0..count {
-        lists.push(Vec::new(alloc))?;
-    }
-    Ok(lists)
+/// An object whose lines are found by the words in them, its labels by their addresses, and its words by where they lead.
+#[derive(Drop)]
+pub struct LinedFile<'a> {
+    file: &'a File,
+    line_starts: Vec<bool>,
+    labels: Labels<'a>,
+    leading: Vec<Lead>,
 }
 
-/// Whether a word with this relocation word refers to a symbol.
-fn has_symbol(reloc: Reloc) -> bool
-    ensures { result ≡ is_external_kind (kind_of reloc) }
-{
-    matches!(reloc.kind(), Some(Kind::External))
+impl<'a> Model for LinedFile<'a> {
+    ghost use Rattle.std.specs.Prelude.{◌≡◌};
+    ghost use Rattle.aout_core.specs.Contents.{Contents};
+    ghost use Rattle.disassemblies.specs.Starts.{starts};
+    ghost use Rattle.instructions.specs.declared.unix.Decoder.TheVariants.{Unix};
+    ghost use Rattle.link_maps.specs.Leads.{leads};
+
+    ghost Value = { Contents };
+
+    ghost view = { λ l. l.file.now };
+
+    ghost invariant = { λ l. (l.line_starts.items ≡ starts Unix l.file.now) × (l.labels.symbols.now ≡ l.file.now.symbols)
+        × (l.leading.items ≡ leads (starts Unix l.file.now) l.file.now) };
 }
 
-/// Appends a word to the list of the symbol that it refers to, if it refers to one of these.
-fn put_word(
-    lists: &mut Vec<Vec<ReferringWord>>,
-    lined: &Lined<'_>,
-    part: Part,
-    offset: u16,
-    reloc: Reloc,
-) -> Result<(), AllocError>
-    requires { AreSorted lined.now.file.now.symbols lined.now.text_labels.now
-        lined.now.data_labels.now }
-    ensures { OnOk result (lists_of lists.new.items
-        ≡ each_more (λ n. reference_by lined.now.starts.now lined.now.file.now part n offset reloc)
-        0 (lists_of lists.old.items)) }
-{
-    if !has_symbol(reloc) {
-        return Ok(());
+impl<'a> LinedFile<'a> {
+    /// An object, after its lines are found and its labels sorted. An error: out of memory.
+    pub fn new(alloc: Global, file: &'a File) -> Result<LinedFile<'a>, AllocError>
+        ensures { IfOk result (λ l. l ≡ file.now) }
+    {
+        let starts = line_starts(alloc, Decoder::Unix, file)?;
+        let leading = leads_in(alloc, file, &starts)?;
+        Ok(LinedFile {
+            file,
+            line_starts: starts,
+            labels: Labels::new(alloc, file.symbols())?,
+            leading,
+        })
     }
-    let line = line_of(lined.starts, part, offset);
-    let before = before_line(lined, part, line);
-    if let Some(list) = lists.get_mut(usize::from(reloc.number())) {
-        list.push(ReferringWord {
-            part,
-            offset,
+
+    /// The object.
+    pub fn file(&self) -> &'a File
+        ensures { result.now ≡ self.now }
+    {
+        self.file
+    }
+
+    /// The label before what is so many bytes after the first of a part.
+    fn before(&self, part: Part, offset: u16) -> Option<Before>
+        ensures { result ≡ before_line self.now part offset }
+    {
+        self.labels
+            .before(segment_of(part), address_in(self.file, part, offset))
+    }
+
+    /// Appends a word that leads somewhere.
+    fn put_word(&self, found: &mut Vec<ReferringWord>, lead: &Lead) -> Result<(), AllocError>
+        ensures { OnOk result (found.new.items ≡ found.old.items
+            ++ reference_at (starts Unix self.now) self.now lead.now.part lead.now.offset ∷ []) }
+    {
+        let line = line_of(&self.line_starts, lead.part, lead.offset);
+        let before = self.before(lead.part, line);
+        found.push(ReferringWord {
+            part: lead.part,
+            offset: lead.offset,
             line,
             before,
         })?;
+        Ok(())
     }
-    Ok(())
-}
 
-/// Appends the words of a part, each to the list of the symbol that it refers to.
-fn put_words(
-    lists: &mut Vec<Vec<ReferringWord>>,
-    lined: &Lined<'_>,
-    part: Part,
-) -> Result<(), AllocError>
-    requires { AreSorted lined.now.file.now.symbols lined.now.text_labels.now
-        lined.now.data_labels.now }
-    ensures { OnOk result (lists_of lists.new.items
-        ≡ each_more (λ n. references_of lined.now.starts.now lined.now.file.now part n) 0
-        (lists_of lists.old.items)) }
-{
-    let relocs = relocs_of(lined.file, part);
-    let mut offset = 0u16;
-    for reloc in relocs {
-        put_word(lists, lined, part, offset, *reloc)?;
-        offset = offset.wrapping_add(2);
+    /// Appends a word that leads somewhere, if it leads to the symbol with a number.
+    fn put_if(
+        &self,
+        found: &mut Vec<ReferringWord>,
+        number: usize,
+        symbol: &Symbol,
+        lead: &Lead,
+    ) -> Result<(), AllocError>
+        ensures { OnOk result (found.new.items ≡ found.old.items
+            ++ reference_if (starts Unix self.now) self.now number symbol.now lead.now) }
+    {
+        if !lead.aim.leads_to(number, symbol) {
+            return Ok(());
+        }
+        self.put_word(found, lead)
     }
-    Ok(())
-}
 
-/// For each symbol of an object the words that refer to it, in the order of their places, text before data.
-///
-/// An error: out of memory.
-pub(crate) fn references_by_symbol(
-    alloc: Global,
-    lined: &Lined<'_>,
-) -> Result<Vec<Vec<ReferringWord>>, AllocError>
-    requires { AreSorted lined.now.file.now.symbols lined.now.text_labels.now
-        lined.now.data_labels.now }
-    ensures { IfOk result (λ lists. lists_of lists.items
-        ≡ by_symbol lined.now.starts.now lined.now.file.now 0 (length lined.now.file.now.symbols)) }
-{
-    let mut lists = empty_lists(alloc, lined.file.symbols().len())?;
-    put_words(&mut lists, lined, Part::Text)?;
-    put_words(&mut lists, lined, Part::Data)?;
-    Ok(lists)
+    /// Appends those of these words that lead to the symbol with a number.
+    fn put_words(
+        &self,
+        found: &mut Vec<ReferringWord>,
+        leading: &[Lead],
+        number: usize,
+        symbol: &Symbol,
+    ) -> Result<(), AllocError>
+        ensures { OnOk result (found.new.items ≡ found.old.items
+            ++ flat_map (reference_if (starts Unix self.now) self.now number symbol.now) leading.now) }
+    {
+        for lead in leading {
+            self.put_if(found, number, symbol, lead)?;
+        }
+        Ok(())
+    }
+
+    /// The words of the object that lead to the symbol with a number, in the order of their places, text before data.
+    ///
+    /// An error: out of memory.
+    pub(crate) fn references_to(
+        &self,
+        alloc: Global,
+        number: usize,
+        symbol: &Symbol,
+    ) -> Result<Vec<ReferringWord>, AllocError>
+        ensures { IfOk result (λ words.
+            words.items ≡ references_to (starts Unix self.now) self.now number symbol.now) }
+    {
+        let mut found = Vec::new(alloc);
+        self.put_words(&mut found, &self.leading, number, symbol)?;
+        Ok(found)
+    }
 }

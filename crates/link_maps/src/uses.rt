@@ -1,21 +1,21 @@
-//! The uses of names: the symbols that define a name or want it, and the words that refer to it.
-ghost use Rattle.std.specs.Prelude.{◌≡◌, ◌++◌, length, map, OnOk};
+//! The uses of names: the symbols that define a name or want it, and the words that lead to it.
+ghost use Rattle.std.specs.Prelude.{◌≡◌, ◌++◌, map, OnOk};
+ghost use Rattle.disassemblies.specs.Starts.{starts};
+ghost use Rattle.instructions.specs.declared.unix.Decoder.TheVariants.{Unix};
 ghost use Rattle.symtools.specs.NmLists.{in_order};
-ghost use Rattle.link_maps.specs.Uses.{uses_in, forced_use, is_before};
-ghost use Rattle.link_maps.specs.internal.Lists.{lists_of, use_with, uses_with};
+ghost use Rattle.link_maps.specs.Uses.{forced_use, is_before, use_by, uses_in};
+ghost use Rattle.link_maps.specs.Scopes.{is_in_scope};
 
-use crate::labels::labels_of;
-use crate::references::{Lined, ReferringWord, references_by_symbol};
-use aout_core::{File, Name, Segment, Symbol};
-use disassemblies::line_starts;
-use instructions::Decoder;
+use crate::references::{LinedFile, ReferringWord};
+use aout_core::{File, Name, Symbol};
+use indexmap::IndexSet;
 use std::alloc::{AllocError, Global};
 use std::marker::Model;
 
 /// The type word of a symbol that is external and undefined. (a.out(5))
 const UNDEFINED_EXTERNAL: u16 = 0o40;
 
-/// A use of a name: an external symbol of an object, and the words of the object that refer to it.
+/// A use of a name: a symbol of an object, and the words of the object that lead to it.
 #[derive(Debug, Drop)]
 pub struct Use {
     /// The object, counted from 0; none for a forced name.
@@ -62,64 +62,65 @@ pub(crate) fn put_forced(
     Ok(())
 }
 
-/// Appends the use by a symbol, if it is external.
-fn put_use(
-    uses: &mut Vec<Use>,
-    object: usize,
-    symbol: &Symbol,
-    references: Vec<ReferringWord>,
-) -> Result<(), AllocError>
-    ensures { OnOk result
-        (uses.new.items ≡ uses.old.items ++ use_with object symbol.now references.items) }
+/// Which symbols of an object count as uses.
+#[derive(Clone, Copy)]
+pub enum Scope<'a> {
+    /// The externals.
+    Externals,
+    /// The locals with one of these names.
+    Locals(&'a IndexSet<Name>),
+}
+
+/// Whether a symbol counts.
+fn is_in_scope(scope: &Scope<'_>, symbol: &Symbol) -> bool
+    ensures { result ≡ is_in_scope scope.now symbol.now }
 {
-    if !symbol.is_external() {
+    match scope {
+        Scope::Externals => symbol.is_external(),
+        Scope::Locals(names) => !symbol.is_external() && names.contains(&symbol.name),
+    }
+}
+
+/// Appends the use by the symbol with a number, if that counts.
+fn put_use(
+    alloc: Global,
+    uses: &mut Vec<Use>,
+    scope: &Scope<'_>,
+    object: usize,
+    lined: &LinedFile<'_>,
+    number: usize,
+    symbol: &Symbol,
+) -> Result<(), AllocError>
+    ensures { OnOk result (uses.new.items ≡ uses.old.items
+        ++ use_by (is_in_scope scope.now) object (starts Unix lined.now) lined.now number symbol.now) }
+{
+    if !is_in_scope(scope, symbol) {
         return Ok(());
     }
     uses.push(Use {
         object: Some(object),
         symbol: *symbol,
-        references,
+        references: lined.references_to(alloc, number, symbol)?,
     })?;
     Ok(())
 }
 
-/// Appends the uses by the symbols of an object, each with its list of words.
-fn put_symbols(
-    uses: &mut Vec<Use>,
-    object: usize,
-    symbols: &[Symbol],
-    lists: Vec<Vec<ReferringWord>>,
-) -> Result<(), AllocError>
-    requires { length lists.items ≡ length symbols.now }
-    ensures { OnOk result
-        (uses.new.items ≡ uses.old.items ++ uses_with object symbols.now (lists_of lists.items)) }
-{
-    for (number, references) in lists.into_iter().enumerate() {
-        put_use(uses, object, &symbols[number], references)?;
-    }
-    Ok(())
-}
-
-/// Appends the uses in an object.
-pub(crate) fn put_uses(
+/// Appends the uses in an object, of its externals or of some of its locals. An error: out of memory.
+pub fn put_uses(
     alloc: Global,
     uses: &mut Vec<Use>,
+    scope: &Scope<'_>,
     object: usize,
     file: &File,
 ) -> Result<(), AllocError>
-    ensures { OnOk result (uses.new.items ≡ uses.old.items ++ uses_in object file.now) }
+    ensures { OnOk result
+        (uses.new.items ≡ uses.old.items ++ uses_in (is_in_scope scope.now) object file.now) }
 {
-    let starts = line_starts(alloc, Decoder::Unix, file)?;
-    let text_labels = labels_of(alloc, file.symbols(), Segment::TextSeg)?;
-    let data_labels = labels_of(alloc, file.symbols(), Segment::DataSeg)?;
-    let lined = Lined {
-        file,
-        starts: &starts,
-        text_labels: &text_labels,
-        data_labels: &data_labels,
-    };
-    let lists = references_by_symbol(alloc, &lined)?;
-    put_symbols(uses, object, file.symbols(), lists)
+    let lined = LinedFile::new(alloc, file)?;
+    for (number, symbol) in file.symbols().iter().enumerate() {
+        put_use(alloc, uses, scope, object, &lined, number, symbol)?;
+    }
+    Ok(())
 }
 
 /// Sorts by name; uses of one name keep their order.

@@ -1,7 +1,7 @@
 -- The text of the map of a link, as v7-explain -m writes it. (own choice)
 --
 -- What becomes of the link, the limits, where the segments lie, the names that stay undefined or are multiply defined, what is odd, the
--- objects, and all externals. Each name has the objects that define it, make it a common and mention it, with the words that refer to it.
+-- objects, and all externals. Each name has the objects that define it, make it a common and use it, with the words that lead to it.
 -- If names are asked for, the text has only what becomes of the link, these externals, and those names that the link does not have.
 use Rattle.std.specs.Prelude.{ℕ, suc, ◌-◌, Bool, true, false, not, ◌||◌, eqb, nat_lt, if◌then◌else◌, codes, decimal, List, []}
 use Rattle.std.specs.Prelude.{◌∷◌, ◌++◌, length, map, take, filter, slice_get, Option, Some, None, option_map, Result, Ok, Err}
@@ -305,7 +305,7 @@ part_text Data = codes "data"
 unfoldable pub word_text : Part → ℕ → List ℕ
 word_text part address = codes "                " ++ part_text part ++ codes " " ++ padded_octal address
 
--- a word that refers to a name: its address, the label before it, and of text the instruction
+-- a word that leads to a name: its address, the label before it, and of text the instruction
 unfoldable pub reference_line : Contents → Places → ReferringWord → List ℕ
 reference_line o at r =
     word_text r.part (capped (start_in at r.part) r.offset) ++ before_text r.before ++ instruction_if r.part o at r ++ codes "\n"
@@ -327,7 +327,7 @@ references_at k n rs = references_by (slice_get k.link_map.places.items n) (slic
 abbrev pub references_text : Mapped → Use → List ℕ
 references_text k u = references_at k (number_of u.object) u.references
 
--- an object that mentions a name, with the number of words that refer to it; -u for a forced name
+-- an object that uses a name, with the number of words that lead to it; -u for a forced name
 unfoldable pub mention_line : List ℕ → ℕ → List ℕ
 mention_line path count = item_text (codes "used in") path ++ count_text count
 
@@ -338,8 +338,12 @@ mention_by None count = item_text (codes "used in") (codes "-u\n")
 unfoldable pub mention_text : Mapped → Use → List ℕ
 mention_text k u = mention_by (label_of k.link_map.members.items u.object) (length u.references) ++ references_text k u
 
+-- an object that defines a name uses it by the words in it
+abbrev pub is_mention : Use → Bool
+is_mention u = not (is_definition u) || nat_lt 0 (length u.references)
+
 abbrev pub mention_if : Mapped → Use → List ℕ
-mention_if k u = if is_definition u then [] else mention_text k u
+mention_if k u = if is_mention u then mention_text k u else []
 
 abbrev pub mentions_text : Mapped → List Use → List ℕ
 mentions_text k us = flat_map (mention_if k) us

@@ -1,4 +1,4 @@
-//! Names of the map: who defines a name, who makes it a common, and who refers to it.
+//! Names of the map: who defines a name, who makes it a common, and who uses it.
 ghost use Rattle.std.specs.Prelude.{◌≡◌, ◌||◌, option_map, slice_get};
 ghost use Rattle.link_maps.specs.Records.{reserved_in};
 ghost use Rattle.texts.specs.Texts.{Puts};
@@ -6,7 +6,7 @@ ghost use Rattle.tool_options.specs.NameLists.{is_among};
 ghost use Rattle.map_texts.specs.MapTexts.{bare_address, before_text, beyond_text, common_line, common_text, commons_text, definer_if};
 ghost use Rattle.map_texts.specs.MapTexts.{definer_label, definer_line, definers_text, front_by, group_text, has_name, instruction_if};
 ghost use Rattle.map_texts.specs.MapTexts.{instruction_text, is_asked_by, is_multiple_by, known_text, label_of, label_text, mention_by};
-ghost use Rattle.map_texts.specs.MapTexts.{mention_if, mention_line, mention_text, mentions_text, name_line, names_text, part_text, path_of};
+ghost use Rattle.map_texts.specs.MapTexts.{is_mention, mention_if, mention_line, mention_text, mentions_text, name_line, names_text, part_text, path_of};
 ghost use Rattle.map_texts.specs.MapTexts.{place_if, reference_line, reference_lines, references_text, row_of, symbol_text, title_if};
 ghost use Rattle.map_texts.specs.MapTexts.{titled_text, word_text};
 
@@ -214,7 +214,7 @@ fn part_text(part: Part) -> &'static str
     }
 }
 
-/// Adds a word that refers to a name: the part that has it, and its address.
+/// Adds a word that leads to a name: the part that has it, and its address.
 #[tactic(auto, unfolding(crate::specs::MapTexts::word_text))]
 fn put_word(text: &mut Text, part: Part, address: u64)
     ensures { Puts text.old text.new (word_text part address) }
@@ -225,7 +225,7 @@ fn put_word(text: &mut Text, part: Part, address: u64)
     text.put_padded_octal(address);
 }
 
-/// Adds the line of a word that refers to a name: its address, the label before it, and of text the instruction.
+/// Adds the line of a word that leads to a name: its address, the label before it, and of text the instruction.
 #[tactic(auto, unfolding(crate::specs::MapTexts::reference_line))]
 fn put_reference(text: &mut Text, file: &NamedFile<'_>, places: &Places, reference: &ReferringWord)
     ensures { Puts text.old text.new (reference_line file.now places.now reference.now) }
@@ -240,7 +240,7 @@ fn put_reference(text: &mut Text, file: &NamedFile<'_>, places: &Places, referen
     text.put("\n");
 }
 
-/// Adds the lines of words that refer to a name.
+/// Adds the lines of words that lead to a name.
 fn put_lines(text: &mut Text, file: &NamedFile<'_>, places: &Places, references: &[ReferringWord])
     ensures { Puts text.old text.new (reference_lines file.now places.now references.now) }
 {
@@ -249,7 +249,7 @@ fn put_lines(text: &mut Text, file: &NamedFile<'_>, places: &Places, references:
     }
 }
 
-/// Adds the lines of the words of an object that refer to a name.
+/// Adds the lines of the words of an object that lead to a name.
 fn put_references(text: &mut Text, names: &Names<'_>, used: &Use)
     ensures { Puts text.old text.new (references_text names.now used.now) }
 {
@@ -263,7 +263,7 @@ fn put_references(text: &mut Text, names: &Names<'_>, used: &Use)
     put_lines(text, file, places, &used.references);
 }
 
-/// Adds the line of an object that mentions a name, with the number of words that refer to it.
+/// Adds the line of an object that uses a name, with the number of words that lead to it.
 #[tactic(auto, unfolding(crate::specs::MapTexts::mention_line))]
 fn put_mention_line(text: &mut Text, path: &str, count: u64)
     ensures { Puts text.old text.new (mention_line path.now count) }
@@ -272,7 +272,7 @@ fn put_mention_line(text: &mut Text, path: &str, count: u64)
     put_count(text, count);
 }
 
-/// Adds who mentions a name: an object, or the option that forces it.
+/// Adds who uses a name: an object, or the option that forces it.
 fn put_mentioner(text: &mut Text, path: Option<&str>, count: u64)
     ensures { Puts text.old text.new (mention_by (option_map (λ path. path.now) path.entry) count) }
 {
@@ -282,7 +282,7 @@ fn put_mentioner(text: &mut Text, path: Option<&str>, count: u64)
     }
 }
 
-/// Adds an object that mentions a name, with the number of words that refer to it, and then these.
+/// Adds an object that uses a name, with the number of words that lead to it, and then these.
 #[tactic(auto, unfolding(crate::specs::MapTexts::mention_text))]
 fn put_mention(text: &mut Text, names: &Names<'_>, used: &Use)
     ensures { Puts text.old text.new (mention_text names.now used.now) }
@@ -292,16 +292,23 @@ fn put_mention(text: &mut Text, names: &Names<'_>, used: &Use)
     put_references(text, names, used);
 }
 
-/// Adds an object that mentions a name, unless it defines it.
+/// Whether an object uses a name: one that defines it does so by the words in it.
+fn is_mention(used: &Use) -> bool
+    ensures { result ≡ is_mention used.now }
+{
+    !used.is_definition() || 0 < used.references.len()
+}
+
+/// Adds an object, if it uses a name.
 fn put_mention_if(text: &mut Text, names: &Names<'_>, used: &Use)
     ensures { Puts text.old text.new (mention_if names.now used.now) }
 {
-    if !used.is_definition() {
+    if is_mention(used) {
         put_mention(text, names, used);
     }
 }
 
-/// Adds the objects that mention a name.
+/// Adds the objects that use a name.
 fn put_mentions(text: &mut Text, names: &Names<'_>, uses: &[Use])
     ensures { Puts text.old text.new (mentions_text names.now uses.now) }
 {

@@ -1,8 +1,8 @@
 -- The labels of a segment, the highest address first, and the search among them.
 use Rattle.std.specs.Prelude.{◌≡◌, ℕ, Bool, eqb, nat_lt, if◌then◌else◌, List, [], ◌∷◌, filter, Option, Some, None}
 use Rattle.std.specs.List.Sorted.{IsSortedBy}
-use Rattle.aout_core.specs.{declared.symbol.Symbol.Symbol, declared.symbol.Segment.Segment, declared.symbol.Segment.TheVariants.TextSeg}
-use Rattle.aout_core.specs.{declared.symbol.Segment.TheVariants.DataSeg, WellFormed.segment_of, WellFormed.segment_number}
+use Rattle.aout_core.specs.{declared.symbol.Symbol.Symbol, declared.symbol.Segment.Segment}
+use Rattle.aout_core.specs.{WellFormed.segment_of, WellFormed.segment_number}
 use Rattle.symtools.specs.NmLists.{in_order}
 
 abbrev pub is_of : Segment → Symbol → Bool
@@ -15,11 +15,6 @@ is_higher s t = nat_lt t.value s.value
 pub record AreLabels (segment : Segment) (symbols labels : List Symbol) : Type 0 where
   pub are : labels ≡ in_order is_higher (filter (is_of segment) symbols)
   pub fall : IsSortedBy is_higher labels
-
--- those of text and those of data
-pub record AreSorted (symbols in_text in_data : List Symbol) : Type 0 where
-  pub text : AreLabels TextSeg symbols in_text
-  pub «data» : AreLabels DataSeg symbols in_data
 
 -- the first that is not above an address
 abbrev pub first_from : ℕ → List Symbol → Option Symbol

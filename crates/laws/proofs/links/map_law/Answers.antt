@@ -1,5 +1,4 @@
 use Rattle.std.proofs.Common.{length, refl}
-use Rattle.aout_core.specs.WellFormed.{symbol_number}
 use Rattle.disassemblies.specs.Starts.{starts}
 use Rattle.instructions.specs.declared.unix.Decoder.TheVariants.{Unix}
 use Rattle.link_maps.specs.Uses.{use_of}
@@ -14,11 +13,11 @@ pub returns-clause-words : goal.returns-clause-words
 returns-clause-words c = λ forced os good passed. words_of_names forced os (small_objects forced os good passed)
 
 pub returns-clause-missing : goal.returns-clause-missing
-returns-clause-missing c = λ forced os good passed before k after split part offset s outer refers.
+returns-clause-missing c = λ forced os good passed before k after split part offset s outer it.
     let small = small_objects forced os good passed in
-    let listed = word_listed k (small before k after split) (starts Unix k) part offset s refers in record {
-      used = use_of (length before) (starts Unix k) k (symbol_number refers.reloc) s;
-      is_there = word_of_name forced os small before k after split part offset s outer refers;
+    let listed = word_listed k (small before k after split) part offset s it in record {
+      used = use_of (length before) (starts Unix k) k it.number s;
+      is_there = word_of_name forced os small before k after split part offset s outer it;
       object = refl;
       symbol = refl;
       word = listed.0;

@@ -1,0 +1,12 @@
+use Rattle.std.proofs.Common.{◌∙◌, ap}
+use Rattle.aout_core.specs.declared.symbol.Segment.TheVariants.{TextSeg}
+use Rattle.link_maps.specs.internal.Labels.{first_from}
+use Rattle.link_maps.proofs.LabelLemmas.{nearest_among}
+use Rattle.link_maps.proofs.labels.Labels.nearest_in_text.Goals as goal
+
+pub returns : goal.returns
+returns c =
+    let labels = c.args.self.now in
+    let symbols = labels.symbols.now in
+    c.nearest.ensures ∙ ap (first_from c.args.address) c.deref.ensures.value
+    ∙ nearest_among TextSeg c.args.address symbols labels.text.items labels.of_text

@@ -1,0 +1,222 @@
+//! Where the words of an object lead.
+ghost use Rattle.std.specs.Prelude.{◌≡◌, ◌++◌, slice_get, IfOk, OnOk};
+ghost use Rattle.aout_core.specs.WellFormed.{kind_of};
+ghost use Rattle.disassemblies.specs.Naming.{is_at};
+ghost use Rattle.link_maps.specs.Leads.{aim_by, aim_of, branch_by, branch_of, instruction_by, is_from_pc, lead_by, leads, leads_of, leads_to};
+ghost use Rattle.link_maps.specs.Leads.{operand_at, operand_target, target_in, text_aim, text_target, unmoved_aim};
+
+use crate::references::{address_in, line_of, part_words, relocs_of};
+use aout_core::{File, Kind, Part, Reloc, Segment, Symbol, pc_target};
+use instructions::{Instruction, Operand, branch_back_target, branch_target, is_relocated};
+use std::alloc::{AllocError, Global};
+
+/// Where a word leads.
+#[derive(Clone, Copy, Debug)]
+pub enum Aim {
+    /// To the symbol with this number.
+    Numbered(u16),
+    /// To an address of a segment of the object.
+    Addressed(Segment, u16),
+}
+
+/// A word that leads somewhere, by its place in its part in bytes.
+#[derive(Clone, Copy, Debug)]
+pub struct Lead {
+    pub part: Part,
+    pub offset: u16,
+    pub aim: Aim,
+}
+
+/// Where a word leads by its relocation word, which finds an address. (a.out(5))
+fn aim_by(reloc: Reloc, address: u16) -> Option<Aim>
+    ensures { result ≡ aim_by (kind_of reloc) reloc address }
+{
+    match reloc.kind() {
+        Some(Kind::External) => Some(Aim::Numbered(reloc.number())),
+        Some(Kind::TextSeg) => Some(Aim::Addressed(Segment::TextSeg, address)),
+        Some(Kind::DataSeg) => Some(Aim::Addressed(Segment::DataSeg, address)),
+        Some(Kind::BssSeg) => Some(Aim::Addressed(Segment::BssSeg, address)),
+        _ => None,
+    }
+}
+
+/// Where an instruction at an address branches by an operand.
+fn branch_by(address: u16, operand: Option<Operand>) -> Option<u16>
+    ensures { result ≡ branch_by address operand }
+{
+    match operand {
+        Some(Operand::Forward(offset)) => Some(branch_target(address, offset)),
+        Some(Operand::Backward(offset)) => Some(branch_back_target(address, offset)),
+        _ => None,
+    }
+}
+
+/// Where an instruction at an address branches.
+fn branch_of(address: u16, instruction: &Instruction) -> Option<u16>
+    ensures { result ≡ branch_of address instruction.now }
+{
+    match branch_by(address, instruction.first) {
+        Some(target) => Some(target),
+        None => branch_by(address, instruction.second),
+    }
+}
+
+/// The operand that has the word so many words after the first of an instruction.
+fn operand_at(instruction: &Instruction, count: u16) -> Option<Operand>
+    ensures { result ≡ operand_at instruction.now count }
+{
+    match instruction.first {
+        Some(first) if first.takes_word() && count == 1 => Some(first),
+        _ => instruction.second,
+    }
+}
+
+/// Whether the machine adds the address after the word of an operand to it.
+fn is_from_pc(operand: Option<Operand>) -> bool
+    ensures { result ≡ is_from_pc operand }
+{
+    match operand {
+        Some(Operand::General(mode, register)) => match mode.addressing(register) {
+            Some(addressing) => addressing.counts_from_pc(),
+            None => false,
+        },
+        _ => false,
+    }
+}
+
+/// Where the word of an operand at an address leads.
+fn operand_target(operand: Option<Operand>, word: u16, address: u16) -> Option<u16>
+    ensures { result ≡ operand_target operand word address }
+{
+    if is_from_pc(operand) {
+        Some(pc_target(word, address))
+    } else {
+        None
+    }
+}
+
+/// The instruction that the word at a place begins.
+fn instruction_at(words: &[u16], place: usize) -> Option<Instruction>
+    ensures { result ≡ instruction_by (slice_get words.now place) }
+{
+    Instruction::from_first_word(*words.get(place)?)
+}
+
+/// Where a word of an instruction leads; both are at addresses.
+fn target_in(instruction: Option<Instruction>, line: u16, address: u16, word: u16) -> Option<u16>
+    ensures { result ≡ target_in instruction line address word }
+{
+    let instruction = instruction?;
+    if line == address {
+        return branch_of(address, &instruction);
+    }
+    let count = address.saturating_sub(line) / 2;
+    operand_target(operand_at(&instruction, count), word, address)
+}
+
+/// Where a word of text leads that no link changes, by its line: the target of a branch, or an operand that counts from the pc. (as(1))
+fn text_target(file: &File, line: u16, offset: u16, word: u16) -> Option<u16>
+    ensures { result ≡ text_target file.now line offset word }
+{
+    let instruction = instruction_at(file.text_words(), usize::from(line / 2));
+    target_in(instruction, line, offset, word)
+}
+
+fn text_aim(address: Option<u16>) -> Option<Aim>
+    ensures { result ≡ text_aim address }
+{
+    Some(Aim::Addressed(Segment::TextSeg, address?))
+}
+
+/// Where a word leads that no link changes.
+fn unmoved_aim(file: &File, starts: &[bool], part: Part, offset: u16, word: u16) -> Option<Aim>
+    ensures { result ≡ unmoved_aim starts.now file.now part offset word }
+{
+    match part {
+        Part::Text => {
+            let line = line_of(starts, part, offset);
+            text_aim(text_target(file, line, offset, word))
+        }
+        Part::Data => None,
+    }
+}
+
+/// Where a word with a relocation word leads.
+fn aim_of(
+    file: &File,
+    starts: &[bool],
+    part: Part,
+    offset: u16,
+    reloc: Reloc,
+    word: u16,
+) -> Option<Aim>
+    ensures { result ≡ aim_of starts.now file.now part offset reloc word }
+{
+    if !is_relocated(Some(reloc)) {
+        return unmoved_aim(file, starts, part, offset, word);
+    }
+    aim_by(reloc, reloc.target(word, address_in(file, part, offset)))
+}
+
+/// Appends a word, if it leads somewhere.
+fn put_lead(
+    found: &mut Vec<Lead>,
+    part: Part,
+    offset: u16,
+    aim: Option<Aim>,
+) -> Result<(), AllocError>
+    ensures { OnOk result (found.new.items ≡ found.old.items ++ lead_by part offset aim) }
+{
+    if let Some(aim) = aim {
+        found.push(Lead { part, offset, aim })?;
+    }
+    Ok(())
+}
+
+/// Appends the words of a part that lead somewhere.
+fn put_leads(
+    found: &mut Vec<Lead>,
+    file: &File,
+    starts: &[bool],
+    part: Part,
+) -> Result<(), AllocError>
+    ensures { OnOk result
+        (found.new.items ≡ found.old.items ++ leads_of starts.now file.now part) }
+{
+    let mut offset = 0u16;
+    for (reloc, word) in relocs_of(file, part).iter().zip(part_words(file, part)) {
+        let aim = aim_of(file, starts, part, offset, *reloc, *word);
+        put_lead(found, part, offset, aim)?;
+        offset = offset.wrapping_add(2);
+    }
+    Ok(())
+}
+
+/// The words of an object that lead somewhere, in the order of their places, text before data. An error: out of memory.
+pub(crate) fn leads_in(alloc: Global, file: &File, starts: &[bool]) -> Result<Vec<Lead>, AllocError>
+    ensures { IfOk result (λ found. found.items ≡ leads starts.now file.now) }
+{
+    let mut found = Vec::new(alloc);
+    put_leads(&mut found, file, starts, Part::Text)?;
+    put_leads(&mut found, file, starts, Part::Data)?;
+    Ok(found)
+}
+
+/// Whether a symbol is at an address of a segment.
+fn is_at(symbol: &Symbol, segment: Segment, address: u16) -> bool
+    ensures { result ≡ is_at segment address symbol.now }
+{
+    symbol.type_bits % 0o40 == segment.number() && symbol.value == address
+}
+
+impl Aim {
+    /// Whether it is the symbol with a number.
+    pub(crate) fn leads_to(&self, number: usize, symbol: &Symbol) -> bool
+        ensures { result ≡ leads_to self.now number symbol.now }
+    {
+        match self {
+            Aim::Numbered(one) => usize::from(*one) == number,
+            Aim::Addressed(segment, address) => is_at(symbol, *segment, *address),
+        }
+    }
+}
