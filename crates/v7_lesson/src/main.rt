@@ -23,8 +23,10 @@ mod prose;
 mod questions;
 mod row_list;
 mod rows;
+mod same;
 mod shapes;
 mod sources;
+mod stage;
 mod states;
 mod steps;
 mod symbols;
@@ -43,7 +45,7 @@ fn run(rt: &HostRuntime, session: &mut Session) -> Result<u8> {
     let arguments = arguments_given(rt)?;
     match called(&arguments)? {
         Call::Show(shown) => return Ok(show(rt, "v7-lesson", SYNOPSIS, shown)),
-        Call::Steps { shown, files } => play(rt, session, files, shown)?,
+        Call::Steps { shown, files } => play(rt, files, shown)?,
         Call::Page {
             folder,
             questions,
