@@ -4,7 +4,8 @@
 use Rattle.std.specs.Prelude.{ℕ, List, [], ◌∷◌, ◌++◌, map, Option, Some, None, slice_get, codes}
 use Rattle.link_session.specs.{declared.cell.Cell.Cell, declared.state.State.State, Image.Image, Undo.Kept, Undo.image_of}
 use Rattle.session_states.specs.{Items.each, StateLines.bss_line, StateLines.cell_row, StateLines.external_line, StateLines.multiple_line}
-use Rattle.v7_lesson.specs.{Instructions.merged_instructions, Meant.place_text}
+use Rattle.v7_lesson.specs.{Instructions.merged_instructions, Meant.place_text, declared.rows.RowKind.RowKind}
+use Rattle.v7_lesson.specs.declared.rows.RowKind.TheVariants as kinds
 
 -- the row of this index; after the last one, an empty one
 abbrev pub row_in : Option (List ℕ) → List ℕ
@@ -52,3 +53,10 @@ rows_by m instructions = record {
 
 abbrev pub rows_of : Kept → Rows
 rows_of s = rows_by (image_of s) (merged_instructions s.entries)
+
+-- the rows of a kind
+abbrev pub rows_in : RowKind → Rows → List (List ℕ)
+rows_in kinds.Text r = r.text_rows
+rows_in kinds.Data r = r.data_rows
+rows_in kinds.Name r = r.names
+rows_in kinds.Multiple r = r.multiples

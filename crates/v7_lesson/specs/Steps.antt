@@ -2,11 +2,11 @@
 --
 -- A row that a step changed is shown as it was, with `-` in front, and then as it is, with `+`. A row that is new was not there
 -- before, and one that went is not there any more. Marks are shown with the whole state alone: they remember what has a `-`.
-use Rattle.std.specs.Prelude.{ℕ, Bool, true, ◌&&◌, eqb, if◌then◌else◌, List, [], ◌∷◌, ◌++◌, Option, Some, None, codes, bytes_eq}
+use Rattle.std.specs.Prelude.{ℕ, Bool, true, false, eqb, if◌then◌else◌, List, [], ◌∷◌, ◌++◌, Option, Some, None, codes, bytes_eq}
 use Rattle.std.specs.List.{concat}
 use Rattle.link_session.specs.{Sessions.newest, Undo.Kept, Undo.image_of}
 use Rattle.session_states.specs.{Items.each, StateLines.mark_line, StateLines.nothing_line}
-use Rattle.v7_lesson.specs.{declared.steps.Shown.Shown, Rows.Rows, Rows.rows_of}
+use Rattle.v7_lesson.specs.{Rows.Rows, Rows.rows_of}
 
 -- all rows, kind after kind
 abbrev pub all_rows : Rows → List ℕ
@@ -45,22 +45,15 @@ changes before after =
 abbrev pub title : List ℕ → List ℕ → List ℕ
 title edit label = edit ++ codes " " ++ label ++ codes "\n"
 
-abbrev pub whole_step : List ℕ → List ℕ → Kept → List ℕ
-whole_step edit label after = title edit label ++ whole_state after
+-- what is shown of a step: what it changed, or the whole state after it
+abbrev pub step_shown : Bool → Kept → Kept → List ℕ
+step_shown true before after = changes (rows_of before) (rows_of after)
+step_shown false before after = whole_state after
 
-abbrev pub changed_step : List ℕ → List ℕ → Rows → Kept → List ℕ
-changed_step edit label before after = title edit label ++ changes before (rows_of after)
-
--- what is shown of a step: what it changed of these rows, if they are given, and else the whole state
-abbrev pub step_text : List ℕ → List ℕ → Option Rows → Kept → List ℕ
-step_text edit label None after = whole_step edit label after
-step_text edit label (Some before) after = changed_step edit label before after
+abbrev pub step_text : List ℕ → List ℕ → Bool → Kept → Kept → List ℕ
+step_text edit label only_changes before after = title edit label ++ step_shown only_changes before after
 
 -- whether the step of this number is shown
 abbrev pub is_shown : Option ℕ → ℕ → Bool
 is_shown None step = true
 is_shown (Some only) step = eqb only step
-
--- the rows that are kept before a step, to compare those after it with them
-abbrev pub rows_before : Shown → Kept → ℕ → Option Rows
-rows_before shown s step = if shown.only_changes && is_shown shown.only step then Some (rows_of s) else None

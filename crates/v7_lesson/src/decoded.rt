@@ -1,14 +1,13 @@
 //! The instructions of the objects' texts.
-ghost use Rattle.std.specs.Prelude.{◌≡◌, ◌<◌, ◌++◌, false, length, IfOk, OnOk};
+ghost use Rattle.std.specs.Prelude.{◌≡◌, ◌<◌, ◌++◌, false, length, OnOk};
 ghost use Rattle.instructions.specs.declared.unix.Decoder.TheVariants.{Pdp11};
 ghost use Rattle.disassemblies.specs.Starts.{starts};
-ghost use Rattle.v7_lesson.specs.Instructions.{instruction_at, instructions, merged_instructions};
+ghost use Rattle.v7_lesson.specs.Instructions.{instruction_at, instructions};
 
 use crate::row_list::RowList;
 use aout_core::File;
 use disassemblies::{NamedFile, is_start, line_starts, put_line_text, unix_line_in};
 use instructions::{Decoder, Line, UnixLine};
-use link_session::Session;
 use session_states::JsonWriter;
 use std::alloc::{AllocError, Global};
 use texts::Text;
@@ -33,7 +32,11 @@ fn instruction_at(alloc: Global, file: &NamedFile<'_>, lines: &[bool], place: us
 }
 
 /// Adds for each word of a file's text the instruction that begins there; an empty row if none does. An error: out of memory.
-fn push_instructions(alloc: Global, rows: &mut RowList, file: &File) -> Result<(), AllocError>
+pub(crate) fn push_instructions(
+    alloc: Global,
+    rows: &mut RowList,
+    file: &File,
+) -> Result<(), AllocError>
     ensures { OnOk result (rows.new ≡ rows.old ++ instructions file.now) }
 {
     let named = NamedFile::new(alloc, file)?;
@@ -42,17 +45,6 @@ fn push_instructions(alloc: Global, rows: &mut RowList, file: &File) -> Result<(
         rows.push(instruction_at(alloc, &named, &starts, place))?;
     }
     Ok(())
-}
-
-/// The instructions of the objects, for the words of the merged text. An error: out of memory.
-pub(crate) fn merged_instructions(alloc: Global, session: &Session) -> Result<RowList, AllocError>
-    ensures { IfOk result (λ rows. rows ≡ merged_instructions session.now.entries) }
-{
-    let mut all = RowList::new(alloc);
-    for entry in session.entries() {
-        push_instructions(alloc, &mut all, entry.object().file())?;
-    }
-    Ok(all)
 }
 
 /// Adds the instructions of a text, by the indices of their first words.

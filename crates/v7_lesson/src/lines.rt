@@ -1,35 +1,35 @@
 //! What is shown of a step, as lines.
-ghost use Rattle.std.specs.Prelude.{◌≡◌, IfOk};
+ghost use Rattle.std.specs.Prelude.{◌≡◌, ◌++◌, false, IfOk};
 ghost use Rattle.std.specs.List.{concat};
 ghost use Rattle.texts.specs.Texts.{Puts};
-ghost use Rattle.v7_lesson.specs.Rows.{rows_of};
-ghost use Rattle.v7_lesson.specs.Steps.{all_rows, changed_row, changed_rows, changed_step, changes, signed, step_text, title, whole_state, whole_step};
+ghost use Rattle.v7_lesson.specs.Rows.{row_at, rows_in, rows_of};
+ghost use Rattle.v7_lesson.specs.Steps.{all_rows, changed_row, changed_rows, changes, signed, step_shown, step_text, title, whole_state};
 
-use crate::row_list::RowList;
-use crate::rows::{StateRows, rows_of};
-use link_session::Session;
-use session_states::{nothing_line, put_marks};
+use crate::rows::RowKind;
+use crate::same::is_same_row;
+use crate::stage::Stage;
+use session_states::{nothing_line, put_bss, put_marks};
 use std::alloc::{AllocError, Global};
 use texts::Text;
 
-/// Appends rows.
-fn put_rows(text: &mut Text, rows: &RowList)
-    ensures { Puts text.old text.new (concat rows.now) }
+/// Appends the rows of one kind.
+fn put_rows(text: &mut Text, state: &Stage, kind: RowKind)
+    ensures { Puts text.old text.new (concat (rows_in kind (rows_of state.now))) }
 {
-    for index in 0..rows.len() {
-        text.put_bytes(rows.row(index));
+    for index in 0..state.count(kind) {
+        state.put_row(text, kind, index);
     }
 }
 
 /// Appends the rows of a state, kind after kind.
-fn put_all_rows(text: &mut Text, rows: &StateRows)
-    ensures { Puts text.old text.new (all_rows rows.now) }
+fn put_all_rows(text: &mut Text, state: &Stage)
+    ensures { Puts text.old text.new (all_rows (rows_of state.now)) }
 {
-    put_rows(text, &rows.text_rows);
-    put_rows(text, &rows.data_rows);
-    text.put_bytes(&rows.bss);
-    put_rows(text, &rows.names);
-    put_rows(text, &rows.multiples);
+    put_rows(text, state, RowKind::Text);
+    put_rows(text, state, RowKind::Data);
+    put_bss(text, state.session().bss_total());
+    put_rows(text, state, RowKind::Name);
+    put_rows(text, state, RowKind::Multiple);
 }
 
 /// Appends a row with a sign in place of its first blank; nothing if it is empty.
@@ -52,24 +52,60 @@ fn put_changed_row(text: &mut Text, before: &[u8], after: &[u8])
     }
 }
 
-/// Appends the rows of one kind that differ before a step and after it.
-fn put_changed_rows(text: &mut Text, before: &RowList, after: &RowList)
-    ensures { Puts text.old text.new (changed_rows before.now after.now) }
+/// Appends a row that was made before a step and after it, if they differ.
+fn put_made_rows(text: &mut Text, before: Text, after: Text)
+    ensures { text.new.is_cut ≡ false → (text.old.is_cut ≡ false) × (before.is_cut ≡ false)
+        × (after.is_cut ≡ false)
+        × (text.new.bytes ≡ text.old.bytes ++ changed_row before.bytes after.bytes) }
 {
-    for index in 0..before.len().max(after.len()) {
-        put_changed_row(text, before.row(index), after.row(index));
+    match (before.finish(), after.finish()) {
+        (Ok(before), Ok(after)) => put_changed_row(text, &before, &after),
+        (Err(error), _) | (_, Err(error)) => text.cut(error),
     }
 }
 
-/// Appends what a step changed.
-fn put_changes(text: &mut Text, before: &StateRows, after: &StateRows)
-    ensures { Puts text.old text.new (changes before.now after.now) }
+/// Appends the row of this index before a step and after it, if they differ. A row that is known to be the same is not made.
+fn put_changed_at(text: &mut Text, before: &Stage, after: &Stage, kind: RowKind, index: usize)
+    ensures { Puts text.old text.new (changed_row (row_at (rows_in kind (rows_of before.now)) index)
+        (row_at (rows_in kind (rows_of after.now)) index)) }
 {
-    put_changed_rows(text, &before.text_rows, &after.text_rows);
-    put_changed_rows(text, &before.data_rows, &after.data_rows);
-    put_changed_row(text, &before.bss, &after.bss);
-    put_changed_rows(text, &before.names, &after.names);
-    put_changed_rows(text, &before.multiples, &after.multiples);
+    if !is_same_row(before, after, kind, index) {
+        let alloc = text.allocator();
+        put_made_rows(
+            text,
+            before.row(alloc, kind, index),
+            after.row(alloc, kind, index),
+        );
+    }
+}
+
+/// Appends the rows of one kind that differ before a step and after it.
+fn put_changed_rows(text: &mut Text, before: &Stage, after: &Stage, kind: RowKind)
+    ensures { Puts text.old text.new
+        (changed_rows (rows_in kind (rows_of before.now)) (rows_in kind (rows_of after.now))) }
+{
+    for index in 0..before.count(kind).max(after.count(kind)) {
+        put_changed_at(text, before, after, kind, index);
+    }
+}
+
+/// Appends the row of bss before a step and after it, if they differ.
+fn put_changed_bss(text: &mut Text, before: &Stage, after: &Stage)
+    ensures { Puts text.old text.new (changed_row (rows_of before.now).bss (rows_of after.now).bss) }
+{
+    let alloc = text.allocator();
+    put_made_rows(text, before.bss_row(alloc), after.bss_row(alloc));
+}
+
+/// Appends what a step changed.
+fn put_changes(text: &mut Text, before: &Stage, after: &Stage)
+    ensures { Puts text.old text.new (changes (rows_of before.now) (rows_of after.now)) }
+{
+    put_changed_rows(text, before, after, RowKind::Text);
+    put_changed_rows(text, before, after, RowKind::Data);
+    put_changed_bss(text, before, after);
+    put_changed_rows(text, before, after, RowKind::Name);
+    put_changed_rows(text, before, after, RowKind::Multiple);
 }
 
 /// Appends the first line of a step: what is done, and the label of the object.
@@ -82,60 +118,41 @@ fn put_title(text: &mut Text, edit: &str, label: &str)
     text.put("\n");
 }
 
-/// Appends the whole state of a session, which has these rows.
-fn put_whole_state(text: &mut Text, session: &Session, rows: &StateRows)
-    requires { rows.now ≡ rows_of session.now }
-    ensures { Puts text.old text.new (whole_state session.now) }
+/// Appends the whole state.
+fn put_whole_state(text: &mut Text, state: &Stage)
+    ensures { Puts text.old text.new (whole_state state.now) }
 {
+    let session = state.session();
     text.put(nothing_line(session.entries()));
-    put_all_rows(text, rows);
+    put_all_rows(text, state);
     put_marks(text, session);
 }
 
-/// A step and the whole state after it. An error: out of memory.
-fn whole_step(
-    alloc: Global,
-    edit: &str,
-    label: &str,
-    session: &Session,
-) -> Result<Vec<u8>, AllocError>
-    ensures { IfOk result (λ text. text.items ≡ whole_step edit.now label.now session.now) }
+/// Appends what a step changed, or the whole state after it.
+fn put_shown(text: &mut Text, only_changes: bool, before: &Stage, after: &Stage)
+    ensures { Puts text.old text.new (step_shown only_changes before.now after.now) }
 {
-    let mut text = Text::new(alloc);
-    put_title(&mut text, edit, label);
-    put_whole_state(&mut text, session, &rows_of(alloc, session)?);
-    text.finish()
+    if only_changes {
+        put_changes(text, before, after);
+    } else {
+        put_whole_state(text, after);
+    }
 }
 
-/// A step and what it changed, where these are the rows of the state before it. An error: out of memory.
-fn changed_step(
-    alloc: Global,
-    edit: &str,
-    label: &str,
-    before: &StateRows,
-    session: &Session,
-) -> Result<Vec<u8>, AllocError>
-    ensures { IfOk result (λ text.
-        text.items ≡ changed_step edit.now label.now before.now session.now) }
-{
-    let mut text = Text::new(alloc);
-    put_title(&mut text, edit, label);
-    put_changes(&mut text, before, &rows_of(alloc, session)?);
-    text.finish()
-}
-
-/// A step as it is shown: by what it changed, if the rows of the state before it are given. An error: out of memory.
+/// A step as it is shown: by what it changed, or by the whole state after it. An error: out of memory.
 pub(crate) fn step_text(
     alloc: Global,
     edit: &str,
     label: &str,
-    before: Option<StateRows>,
-    session: &Session,
+    only_changes: bool,
+    before: &Stage,
+    after: &Stage,
 ) -> Result<Vec<u8>, AllocError>
-    ensures { IfOk result (λ text. text.items ≡ step_text edit.now label.now before session.now) }
+    ensures { IfOk result (λ text.
+        text.items ≡ step_text edit.now label.now only_changes before.now after.now) }
 {
-    match before {
-        Some(before) => changed_step(alloc, edit, label, &before, session),
-        None => whole_step(alloc, edit, label, session),
-    }
+    let mut text = Text::new(alloc);
+    put_title(&mut text, edit, label);
+    put_shown(&mut text, only_changes, before, after);
+    text.finish()
 }

@@ -24,8 +24,10 @@ mod prose;
 mod questions;
 mod row_list;
 mod rows;
+mod same;
 mod shapes;
 mod sources;
+mod stage;
 mod states;
 mod steps;
 mod symbols;
@@ -46,7 +48,7 @@ const NAME: &str = "v7-lesson";
 /// Does a call.
 fn do_call(rt: &HostRuntime, session: &mut Session, call: Call<'_>) -> Result<()> {
     match call {
-        Call::Steps { shown, files } => play(rt, session, files, shown),
+        Call::Steps { shown, files } => play(rt, files, shown),
         Call::Page {
             folder,
             questions,

@@ -20,7 +20,7 @@ impl Model for RowList {
 }
 
 impl RowList {
-    ghost use Rattle.std.specs.Prelude.{◌≡◌, ◌++◌, ◌∷◌, [], false, length, map, OnOk};
+    ghost use Rattle.std.specs.Prelude.{◌≡◌, ◌++◌, ◌∷◌, [], false, length, map, take, OnOk};
     ghost use Rattle.v7_lesson.specs.Rows.{row_at};
 
     /// No rows.
@@ -55,6 +55,13 @@ impl RowList {
             Some(row) => row,
             None => &[],
         }
+    }
+
+    /// The first of these rows, so many.
+    pub(crate) fn truncate(&mut self, count: usize)
+        ensures { self.new ≡ take count self.old }
+    {
+        self.rows.truncate(count);
     }
 
     /// The rows.

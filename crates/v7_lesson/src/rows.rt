@@ -1,36 +1,25 @@
 //! The rows of a state.
-ghost use Rattle.std.specs.Prelude.{◌≡◌, ◌≤◌, ◌<◌, ◌*◌, length, IfOk};
+ghost use Rattle.std.specs.Prelude.{◌≡◌, ◌≤◌, ◌<◌, ◌*◌, false, length, slice_get};
 ghost use Rattle.link_session.specs.Undo.{image_of};
 ghost use Rattle.texts.specs.Texts.{Puts};
-ghost use Rattle.v7_lesson.specs.Rows.{instruction_text, multiple_rows, name_rows, rows_of, word_row, word_rows};
-ghost use Rattle.session_states.specs.StateLines.{bss_line};
+ghost use Rattle.v7_lesson.specs.Rows.{instruction_text, multiple_rows, name_rows, row_at, rows_in, rows_of, word_row, word_rows};
 
-use crate::decoded::merged_instructions;
 use crate::meant::put_place;
 use crate::row_list::RowList;
+use crate::stage::Stage;
 use aout_core::Name;
-use link_session::{Cell, Session};
+use link_session::{Cell, Session, State};
 use session_states::{put_bss, put_cell_row, put_external, put_multiple};
-use std::alloc::{AllocError, Global};
-use std::marker::Model;
+use std::alloc::Global;
 use texts::Text;
 
-/// The rows of a state, by kinds.
-#[derive(Drop)]
-pub(crate) struct StateRows {
-    pub(crate) text_rows: RowList,
-    pub(crate) data_rows: RowList,
-    pub(crate) bss: Vec<u8>,
-    pub(crate) names: RowList,
-    pub(crate) multiples: RowList,
-}
-
-impl Model for StateRows {
-    ghost use Rattle.v7_lesson.specs.Rows.{Rows};
-
-    ghost Value = { Rows };
-
-    ghost view = { λ r. record { text_rows = r.text_rows; data_rows = r.data_rows; bss = r.bss.items; names = r.names; multiples = r.multiples } };
+/// A kind of rows; bss has one row, and no kind.
+#[derive(Clone, Copy)]
+pub(crate) enum RowKind {
+    Text,
+    Data,
+    Name,
+    Multiple,
 }
 
 /// Appends an instruction after its word, if there is one.
@@ -62,73 +51,102 @@ fn put_word_row(
     text.put("\n");
 }
 
-/// The rows of the words of a segment, which have these instructions. An error: out of memory.
-fn word_rows(
-    alloc: Global,
+/// Appends the row of this index of a segment, if there is one.
+fn put_word(
+    text: &mut Text,
     session: &Session,
     segment: &str,
     instructions: &RowList,
     cells: &[Cell],
-) -> Result<RowList, AllocError>
+    index: usize,
+)
     requires { 2 * length cells.now ≤ 65534 }
-    ensures { IfOk result (λ l.
-        l ≡ word_rows (image_of session.now) segment.now instructions.now cells.now) }
+    ensures { Puts text.old text.new (row_at
+        (word_rows (image_of session.now) segment.now instructions.now cells.now) index) }
 {
-    let mut rows = RowList::new(alloc);
-    for (index, cell) in cells.iter().enumerate() {
-        let mut row = Text::new(alloc);
-        put_word_row(&mut row, session, segment, instructions, index, *cell);
-        rows.push(row)?;
+    if let Some(cell) = cells.get(index) {
+        put_word_row(text, session, segment, instructions, index, *cell);
     }
-    Ok(rows)
 }
 
-/// The rows of the externals. An error: out of memory.
-fn name_rows(alloc: Global, session: &Session) -> Result<RowList, AllocError>
-    ensures { IfOk result (λ l. l ≡ name_rows (image_of session.now).externals) }
+/// The external of this index, if there is one.
+pub(crate) fn external_at(session: &Session, index: usize) -> Option<(Name, State)>
+    ensures { result ≡ slice_get (image_of session.now).externals index }
 {
-    let mut rows = RowList::new(alloc);
-    for (name, state) in session.externals() {
-        let mut row = Text::new(alloc);
-        put_external(&mut row, &name, state);
-        rows.push(row)?;
+    if index < usize::from(session.external_count()) {
+        session.external(index as u16)
+    } else {
+        None
     }
-    Ok(rows)
 }
 
-/// The rows of the names that are multiply defined. An error: out of memory.
-fn multiple_rows(alloc: Global, names: &[Name]) -> Result<RowList, AllocError>
-    ensures { IfOk result (λ l. l ≡ multiple_rows names.now) }
+/// Appends the row of the external of this index, if there is one.
+fn put_name(text: &mut Text, session: &Session, index: usize)
+    ensures { Puts text.old text.new (row_at (name_rows (image_of session.now).externals) index) }
 {
-    let mut rows = RowList::new(alloc);
-    for name in names {
-        let mut row = Text::new(alloc);
-        put_multiple(&mut row, name);
-        rows.push(row)?;
+    if let Some((name, state)) = external_at(session, index) {
+        put_external(text, &name, state);
     }
-    Ok(rows)
 }
 
-/// The row of bss. An error: out of memory.
-fn bss_row(alloc: Global, session: &Session) -> Result<Vec<u8>, AllocError>
-    ensures { IfOk result (λ row. row.items ≡ bss_line (image_of session.now).bss_total) }
+/// Appends the row of the name of this index that is multiply defined, if there is one.
+fn put_repeated(text: &mut Text, names: &[Name], index: usize)
+    ensures { Puts text.old text.new (row_at (multiple_rows names.now) index) }
 {
-    let mut row = Text::new(alloc);
-    put_bss(&mut row, session.bss_total());
-    row.finish()
+    if let Some(name) = names.get(index) {
+        put_multiple(text, name);
+    }
 }
 
-/// The rows of the state of a session. An error: out of memory.
-pub(crate) fn rows_of(alloc: Global, session: &Session) -> Result<StateRows, AllocError>
-    ensures { IfOk result (λ rows. rows ≡ rows_of session.now) }
-{
-    let instructions = merged_instructions(alloc, session)?;
-    let none = RowList::new(alloc);
-    Ok(StateRows {
-        text_rows: word_rows(alloc, session, "text ", &instructions, session.text_cells())?,
-        data_rows: word_rows(alloc, session, "data ", &none, session.data_cells())?,
-        bss: bss_row(alloc, session)?,
-        names: name_rows(alloc, session)?,
-        multiples: multiple_rows(alloc, session.multiples())?,
-    })
+impl Stage {
+    /// How many rows of a kind there are.
+    pub(crate) fn count(&self, kind: RowKind) -> usize
+        ensures { result ≡ length (rows_in kind (rows_of self.now)) }
+    {
+        let session = self.session();
+        match kind {
+            RowKind::Text => session.text_cells().len(),
+            RowKind::Data => session.data_cells().len(),
+            RowKind::Name => usize::from(session.external_count()),
+            RowKind::Multiple => session.multiples().len(),
+        }
+    }
+
+    /// Appends the row of this index, if there is one.
+    pub(crate) fn put_row(&self, text: &mut Text, kind: RowKind, index: usize)
+        ensures { Puts text.old text.new (row_at (rows_in kind (rows_of self.now)) index) }
+    {
+        let session = self.session();
+        match kind {
+            RowKind::Text => {
+                let cells = session.text_cells();
+                put_word(text, session, "text ", self.instructions(), cells, index);
+            }
+            RowKind::Data => {
+                let none = RowList::new(text.allocator());
+                put_word(text, session, "data ", &none, session.data_cells(), index);
+            }
+            RowKind::Name => put_name(text, session, index),
+            RowKind::Multiple => put_repeated(text, session.multiples(), index),
+        }
+    }
+
+    /// The row of this index; an empty one if there are fewer.
+    pub(crate) fn row(&self, alloc: Global, kind: RowKind, index: usize) -> Text
+        ensures { result.is_cut ≡ false
+            → result.bytes ≡ row_at (rows_in kind (rows_of self.now)) index }
+    {
+        let mut row = Text::new(alloc);
+        self.put_row(&mut row, kind, index);
+        row
+    }
+
+    /// The row of bss; an empty one if there is none.
+    pub(crate) fn bss_row(&self, alloc: Global) -> Text
+        ensures { result.is_cut ≡ false → result.bytes ≡ (rows_of self.now).bss }
+    {
+        let mut row = Text::new(alloc);
+        put_bss(&mut row, self.session().bss_total());
+        row
+    }
 }
