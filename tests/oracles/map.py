@@ -596,5 +596,8 @@ def main():
 if __name__ == "__main__":
     V7, EXPLAIN, MAP = program("v7"), program("v7-explain"), [os.path.abspath(path) for path in sys.argv[1:2]]
     LINKS = int(sys.argv[2]) if len(sys.argv) > 2 else 200
+    if MAP:
+        # libv7 shows text as plain instructions, and so no system calls
+        WORDS.remove(0o104404)
     with room():
         main()
