@@ -6,7 +6,8 @@ use Rattle.aout_core.specs.Contents.{Contents}
 use Rattle.link_maps.specs.{Records.by_name, Members.Member, Members.all_of, Members.left_of, Uses.Use}
 use Rattle.link_maps.specs.{declared.members.Objects.Objects, declared.places.Places.Places}
 use Rattle.link_session.specs.Labelled.{Labelled, objects}
-use Rattle.map_texts.specs.MapTexts.{Mapped, group_text, has_name, member_lines, part_from}
+use Rattle.map_texts.specs.Members.{member_lines}
+use Rattle.map_texts.specs.Names.{Mapped, group_text, has_name, part_from}
 use Rattle.map_texts.specs.declared.names.Section.{Section}
 
 -- no objects are left, or no places of objects

@@ -3,7 +3,7 @@ use Rattle.std.proofs.Common.{◌≡◌, Bool, true, false, cond, nat_lt, ◌==�
 use Rattle.std.proofs.lemmas.List.Sorted.{IsStrictWeakOrder-flip, IsStrictWeakOrder-by_number}
 use Rattle.std.specs.declared.cmp.Ordering.TheVariants.{Less, Equal, Greater}
 use Rattle.std.specs.{Cmp.IsStrictWeakOrder, Ordering.nat_cmp, Ordering.is_lt, declared.cmp.Ordering.Ordering}
-use Rattle.map_texts.specs.{MapTexts.is_larger, declared.limits.Sized.Sized}
+use Rattle.map_texts.specs.{Limits.is_larger, declared.limits.Sized.Sized}
 
 pub larger_order : IsStrictWeakOrder is_larger
 larger_order = IsStrictWeakOrder-flip _ (IsStrictWeakOrder-by_number (λ (s : Sized). s.bytes))

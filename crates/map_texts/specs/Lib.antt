@@ -1,2 +1,9 @@
 -- The definitions that the contracts of this crate are written in.
-pub mod MapTexts
+pub mod Pieces
+pub mod Outcomes
+pub mod Limits
+pub mod Segments
+pub mod Members
+pub mod Names
+pub mod Oddities
+pub mod Whole

@@ -4,7 +4,7 @@ ghost use Rattle.link_maps.specs.Uses.{name_of};
 ghost use Rattle.texts.specs.Texts.{Puts};
 ghost use Rattle.tool_options.specs.NameLists.{is_among};
 ghost use Rattle.link_maps.specs.Oddities.{each_once};
-ghost use Rattle.map_texts.specs.MapTexts.{absent_line, absent_lines, absent_names};
+ghost use Rattle.map_texts.specs.Whole.{absent_line, absent_lines, absent_names};
 
 use crate::pieces::put_name;
 use aout_core::Name;
@@ -75,7 +75,7 @@ pub fn absent_names(alloc: Global, map: &LinkMap, asked: &[Name]) -> Result<Vec<
 }
 
 /// Adds that a link does not have a name.
-#[tactic(auto, unfolding(crate::specs::MapTexts::absent_line))]
+#[tactic(auto, unfolding(crate::specs::Whole::absent_line))]
 fn put_absent(text: &mut Text, name: &Name)
     ensures { Puts text.old text.new (absent_line name.now) }
 {

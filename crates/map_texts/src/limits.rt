@@ -2,8 +2,8 @@
 ghost use Rattle.std.specs.Prelude.{◌≡◌, take, IfOk, OnOk};
 ghost use Rattle.symtools.specs.NmLists.{in_order};
 ghost use Rattle.texts.specs.Texts.{Puts};
-ghost use Rattle.map_texts.specs.MapTexts.{bytes_of, header_sizes, is_larger, largest_text, left_text, limit_label, limit_line};
-ghost use Rattle.map_texts.specs.MapTexts.{limit_lines, limits_text, path_text, sized_at, sized_from, sized_line, sized_lines};
+ghost use Rattle.map_texts.specs.Limits.{bytes_of, header_sizes, is_larger, largest_text, left_text, limit_label, limit_line, limit_lines};
+ghost use Rattle.map_texts.specs.Limits.{limits_text, path_text, sized_at, sized_from, sized_line, sized_lines};
 
 use crate::pieces::{put_number, put_size};
 use aout_core::Header;
@@ -43,7 +43,7 @@ fn put_left(text: &mut Text, limit: &LimitRecord)
 }
 
 /// Adds a line: what is used of a limit, and what is left or over.
-#[tactic(auto, unfolding(crate::specs::MapTexts::limit_line))]
+#[tactic(auto, unfolding(crate::specs::Limits::limit_line))]
 fn put_limit(text: &mut Text, limit: &LimitRecord)
     ensures { Puts text.old text.new (limit_line limit.now) }
 {
@@ -121,7 +121,7 @@ fn largest_objects(alloc: Global, members: &[Member]) -> Result<Vec<Sized>, Allo
 }
 
 /// Adds the sizes of the segments of an object.
-#[tactic(auto, unfolding(crate::specs::MapTexts::header_sizes))]
+#[tactic(auto, unfolding(crate::specs::Limits::header_sizes))]
 fn put_header_sizes(text: &mut Text, header: &Header)
     ensures { Puts text.old text.new (header_sizes header.now) }
 {
@@ -132,7 +132,7 @@ fn put_header_sizes(text: &mut Text, header: &Header)
 }
 
 /// Adds the path of an object.
-#[tactic(auto, unfolding(crate::specs::MapTexts::path_text))]
+#[tactic(auto, unfolding(crate::specs::Limits::path_text))]
 fn put_path(text: &mut Text, path: &str)
     ensures { Puts text.old text.new (path_text path.now) }
 {
@@ -142,7 +142,7 @@ fn put_path(text: &mut Text, path: &str)
 }
 
 /// Adds the line of an object.
-#[tactic(auto, unfolding(crate::specs::MapTexts::sized_line))]
+#[tactic(auto, unfolding(crate::specs::Limits::sized_line))]
 fn put_sized(text: &mut Text, member: &Member)
     ensures { Puts text.old text.new (sized_line member.now) }
 {

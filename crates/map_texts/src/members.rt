@@ -1,6 +1,6 @@
 //! The part of the map with its objects, and where the segments of each lie.
 ghost use Rattle.texts.specs.Texts.{Puts};
-ghost use Rattle.map_texts.specs.MapTexts.{member_line, member_lines, members_text, path_gap, place_text};
+ghost use Rattle.map_texts.specs.Members.{member_line, member_lines, members_text, path_gap, place_text};
 
 use crate::pieces::put_size;
 use link_maps::{LinkMap, Member, Places};
@@ -10,7 +10,7 @@ use texts::Text;
 const PATH: usize = 33;
 
 /// Adds where a segment of an object begins, and its size.
-#[tactic(auto, unfolding(crate::specs::MapTexts::place_text))]
+#[tactic(auto, unfolding(crate::specs::Members::place_text))]
 fn put_place(text: &mut Text, address: u64, bytes: u16)
     ensures { Puts text.old text.new (place_text address bytes) }
 {
@@ -31,7 +31,7 @@ fn put_gap(text: &mut Text, path: &str)
 }
 
 /// Adds the line of an object.
-#[tactic(auto, unfolding(crate::specs::MapTexts::member_line))]
+#[tactic(auto, unfolding(crate::specs::Members::member_line))]
 fn put_member(text: &mut Text, member: &Member, at: &Places)
     ensures { Puts text.old text.new (member_line member.now at.now) }
 {

@@ -3,12 +3,11 @@ ghost use Rattle.std.specs.Prelude.{◌≡◌, ◌||◌, option_map, slice_get};
 ghost use Rattle.link_maps.specs.Records.{reserved_in};
 ghost use Rattle.texts.specs.Texts.{Puts};
 ghost use Rattle.tool_options.specs.NameLists.{is_among};
-ghost use Rattle.map_texts.specs.MapTexts.{bare_address, before_text, beyond_text, common_line, common_text, commons_text, definer_if};
-ghost use Rattle.map_texts.specs.MapTexts.{definer_label, definer_line, definers_text, front_by, group_text, has_name, instruction_if};
-ghost use Rattle.map_texts.specs.MapTexts.{instruction_text, is_asked_by, is_multiple_by, known_text, label_of, label_text, mention_by};
-ghost use Rattle.map_texts.specs.MapTexts.{is_mention, mention_if, mention_line, mention_text, mentions_text, name_line, names_text, part_text, path_of};
-ghost use Rattle.map_texts.specs.MapTexts.{place_if, reference_line, reference_lines, references_text, row_of, symbol_text, title_if};
-ghost use Rattle.map_texts.specs.MapTexts.{titled_text, word_text};
+ghost use Rattle.map_texts.specs.Names.{bare_address, before_text, beyond_text, common_line, common_text, commons_text, definer_if, definer_label};
+ghost use Rattle.map_texts.specs.Names.{definer_line, definers_text, front_by, group_text, has_name, instruction_if, instruction_text, is_asked_by};
+ghost use Rattle.map_texts.specs.Names.{is_mention, is_multiple_by, known_text, label_of, label_text, mention_by, mention_if, mention_line};
+ghost use Rattle.map_texts.specs.Names.{mention_text, mentions_text, name_line, names_text, part_text, path_of, place_if, reference_line};
+ghost use Rattle.map_texts.specs.Names.{reference_lines, references_text, row_of, symbol_text, title_if, titled_text, word_text};
 
 use crate::pieces::{put_count, put_front, put_item};
 use aout_core::{Name, Part, Symbol};
@@ -33,7 +32,7 @@ pub(crate) struct Names<'a> {
 }
 
 impl<'a> Model for Names<'a> {
-    ghost use Rattle.map_texts.specs.MapTexts.{Mapped};
+    ghost use Rattle.map_texts.specs.Names.{Mapped};
 
     ghost Value = { Mapped };
 
@@ -61,7 +60,7 @@ fn path_of<'a>(members: &'a [Member], used: &Use) -> &'a str
 }
 
 /// Adds the line of an object that defines a name.
-#[tactic(auto, unfolding(crate::specs::MapTexts::definer_line))]
+#[tactic(auto, unfolding(crate::specs::Names::definer_line))]
 fn put_definer(text: &mut Text, label: &str, path: &str)
     ensures { Puts text.old text.new (definer_line label.now path.now) }
 {
@@ -97,7 +96,7 @@ fn put_definers(text: &mut Text, members: &[Member], uses: &[Use])
 }
 
 /// Adds the line of an object that makes a name a common, with its size in bytes.
-#[tactic(auto, unfolding(crate::specs::MapTexts::common_line))]
+#[tactic(auto, unfolding(crate::specs::Names::common_line))]
 fn put_common_line(text: &mut Text, path: &str, bytes: u16)
     ensures { Puts text.old text.new (common_line path.now bytes) }
 {
@@ -134,7 +133,7 @@ fn put_beyond(text: &mut Text, bytes: u16)
 }
 
 /// Adds a label, and how far beyond it a line begins.
-#[tactic(auto, unfolding(crate::specs::MapTexts::label_text))]
+#[tactic(auto, unfolding(crate::specs::Names::label_text))]
 fn put_label(text: &mut Text, before: &Before)
     ensures { Puts text.old text.new (label_text before.now) }
 {
@@ -153,7 +152,7 @@ fn put_before(text: &mut Text, before: &Option<Before>)
 }
 
 /// Adds an address after two blanks.
-#[tactic(auto, unfolding(crate::specs::MapTexts::bare_address))]
+#[tactic(auto, unfolding(crate::specs::Names::bare_address))]
 fn put_bare_address(text: &mut Text, address: u64)
     ensures { Puts text.old text.new (bare_address address) }
 {
@@ -171,7 +170,7 @@ fn put_place(text: &mut Text, before: &Option<Before>, address: u64)
 }
 
 /// Adds where the instruction is that has a word of text, by the label before it or else by its address, and the instruction.
-#[tactic(auto, unfolding(crate::specs::MapTexts::instruction_text))]
+#[tactic(auto, unfolding(crate::specs::Names::instruction_text))]
 fn put_instruction(
     text: &mut Text,
     file: &NamedFile<'_>,
@@ -215,7 +214,7 @@ fn part_text(part: Part) -> &'static str
 }
 
 /// Adds a word that leads to a name: the part that has it, and its address.
-#[tactic(auto, unfolding(crate::specs::MapTexts::word_text))]
+#[tactic(auto, unfolding(crate::specs::Names::word_text))]
 fn put_word(text: &mut Text, part: Part, address: u64)
     ensures { Puts text.old text.new (word_text part address) }
 {
@@ -226,7 +225,7 @@ fn put_word(text: &mut Text, part: Part, address: u64)
 }
 
 /// Adds the line of a word that leads to a name: its address, the label before it, and of text the instruction.
-#[tactic(auto, unfolding(crate::specs::MapTexts::reference_line))]
+#[tactic(auto, unfolding(crate::specs::Names::reference_line))]
 fn put_reference(text: &mut Text, file: &NamedFile<'_>, places: &Places, reference: &ReferringWord)
     ensures { Puts text.old text.new (reference_line file.now places.now reference.now) }
 {
@@ -264,7 +263,7 @@ fn put_references(text: &mut Text, names: &Names<'_>, used: &Use)
 }
 
 /// Adds the line of an object that uses a name, with the number of words that lead to it.
-#[tactic(auto, unfolding(crate::specs::MapTexts::mention_line))]
+#[tactic(auto, unfolding(crate::specs::Names::mention_line))]
 fn put_mention_line(text: &mut Text, path: &str, count: u64)
     ensures { Puts text.old text.new (mention_line path.now count) }
 {
@@ -283,7 +282,7 @@ fn put_mentioner(text: &mut Text, path: Option<&str>, count: u64)
 }
 
 /// Adds an object that uses a name, with the number of words that lead to it, and then these.
-#[tactic(auto, unfolding(crate::specs::MapTexts::mention_text))]
+#[tactic(auto, unfolding(crate::specs::Names::mention_text))]
 fn put_mention(text: &mut Text, names: &Names<'_>, used: &Use)
     ensures { Puts text.old text.new (mention_text names.now used.now) }
 {
@@ -341,7 +340,7 @@ fn put_row(text: &mut Text, row: Option<Symbol>, symbol: &Symbol)
 }
 
 /// Adds the line of a name as `nm` has it; without its address if the link is refused.
-#[tactic(auto, unfolding(crate::specs::MapTexts::name_line))]
+#[tactic(auto, unfolding(crate::specs::Names::name_line))]
 fn put_line(text: &mut Text, row: Option<Symbol>, symbol: &Symbol)
     ensures { Puts text.old text.new (name_line row symbol.now) }
 {
@@ -351,7 +350,7 @@ fn put_line(text: &mut Text, row: Option<Symbol>, symbol: &Symbol)
 }
 
 /// Adds the line of a name, and its lists.
-#[tactic(auto, unfolding(crate::specs::MapTexts::symbol_text))]
+#[tactic(auto, unfolding(crate::specs::Names::symbol_text))]
 fn put_symbol(text: &mut Text, names: &Names<'_>, symbol: &Symbol, uses: &[Use])
     ensures { Puts text.old text.new (symbol_text names.now symbol.now uses.now) }
 {
@@ -448,7 +447,7 @@ fn put_title(text: &mut Text, is_titled: bool, title: &str)
 }
 
 /// Adds all that is known of a name, after the title of its part.
-#[tactic(auto, unfolding(crate::specs::MapTexts::titled_text))]
+#[tactic(auto, unfolding(crate::specs::Names::titled_text))]
 fn put_titled(text: &mut Text, names: &Names<'_>, title: &str, is_titled: bool, uses: &[Use])
     ensures { Puts text.old text.new (titled_text names.now title.now is_titled uses.now) }
 {

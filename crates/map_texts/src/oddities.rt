@@ -1,8 +1,9 @@
 //! What is odd in a link, and that none of its objects shows alone.
 ghost use Rattle.std.specs.Prelude.{◌≡◌, Some, slice_get};
 ghost use Rattle.texts.specs.Texts.{Puts};
-ghost use Rattle.map_texts.specs.MapTexts.{called_text, label_of, or_nothing, odd_lines, odd_part, odd_text, odd_title, oddities_text, said_line, text_address};
-ghost use Rattle.map_texts.specs.MapTexts.{underscore_text};
+ghost use Rattle.map_texts.specs.Names.{label_of, or_nothing};
+ghost use Rattle.map_texts.specs.Oddities.{called_text, odd_lines, odd_part, odd_text, odd_title, oddities_text, said_line, text_address};
+ghost use Rattle.map_texts.specs.Oddities.{underscore_text};
 
 use crate::names::label_of;
 use crate::pieces::put_name;
@@ -11,7 +12,7 @@ use link_maps::{LinkMap, Member, Objects, Oddity, Places, oddities_of};
 use texts::Text;
 
 /// Adds a name, and what is said of it.
-#[tactic(auto, unfolding(crate::specs::MapTexts::said_line))]
+#[tactic(auto, unfolding(crate::specs::Oddities::said_line))]
 fn put_said(text: &mut Text, name: &Name, said: &str)
     ensures { Puts text.old text.new (said_line name.now said.now) }
 {
@@ -40,7 +41,7 @@ fn path_at(members: &[Member], object: usize) -> &str
 }
 
 /// Adds that a name is data, and where a call or a jump goes to it.
-#[tactic(auto, unfolding(crate::specs::MapTexts::called_text))]
+#[tactic(auto, unfolding(crate::specs::Oddities::called_text))]
 fn put_called(text: &mut Text, map: &LinkMap, name: &Name, object: usize, offset: u16)
     ensures { Puts text.old text.new (called_text map.now name.now object offset) }
 {
@@ -52,7 +53,7 @@ fn put_called(text: &mut Text, map: &LinkMap, name: &Name, object: usize, offset
 }
 
 /// Adds that a name is undefined, and that there is one that is the same but for an underscore.
-#[tactic(auto, unfolding(crate::specs::MapTexts::underscore_text))]
+#[tactic(auto, unfolding(crate::specs::Oddities::underscore_text))]
 fn put_underscore(text: &mut Text, missing: &Name, there: &Name)
     ensures { Puts text.old text.new (underscore_text missing.now there.now) }
 {
@@ -95,7 +96,7 @@ fn put_odd_lines(text: &mut Text, map: &LinkMap, found: &[Oddity])
 }
 
 /// Adds what is odd, after its title.
-#[tactic(auto, unfolding(crate::specs::MapTexts::odd_part))]
+#[tactic(auto, unfolding(crate::specs::Oddities::odd_part))]
 fn put_odd_part(text: &mut Text, map: &LinkMap, found: &[Oddity])
     ensures { Puts text.old text.new (odd_part map.now found.now) }
 {

@@ -1,9 +1,8 @@
 //! What becomes of the link: a file, or why there is none.
 ghost use Rattle.std.specs.Prelude.{◌≡◌, length};
 ghost use Rattle.texts.specs.Texts.{Puts};
-ghost use Rattle.map_texts.specs.MapTexts.{becomes_text, entry_line, entry_lines, entry_point_text, file_line, first_label, head_text, objects_word};
-ghost use Rattle.map_texts.specs.MapTexts.{linked_text, made_line, made_text, magic_text, not_made, outcome_text, refused_text};
-ghost use Rattle.map_texts.specs.MapTexts.{whether_text};
+ghost use Rattle.map_texts.specs.Outcomes.{becomes_text, entry_line, entry_lines, entry_point_text, file_line, first_label, head_text, linked_text};
+ghost use Rattle.map_texts.specs.Outcomes.{made_line, made_text, magic_text, not_made, objects_word, outcome_text, refused_text, whether_text};
 
 use crate::pieces::{put_name, put_octal_word};
 use aout_core::{Header, Name};
@@ -22,7 +21,7 @@ fn whether_text(status: u8) -> &'static str
 }
 
 /// Adds that an entry point is not in text.
-#[tactic(auto, unfolding(crate::specs::MapTexts::entry_line))]
+#[tactic(auto, unfolding(crate::specs::Outcomes::entry_line))]
 fn put_entry(text: &mut Text, name: &Name)
     ensures { Puts text.old text.new (entry_line name.now) }
 {
@@ -41,7 +40,7 @@ fn put_entry_if(text: &mut Text, name: &Option<Name>)
 }
 
 /// Adds the magic number of a file.
-#[tactic(auto, unfolding(crate::specs::MapTexts::magic_text))]
+#[tactic(auto, unfolding(crate::specs::Outcomes::magic_text))]
 fn put_magic(text: &mut Text, magic: u16)
     ensures { Puts text.old text.new (magic_text magic) }
 {
@@ -50,7 +49,7 @@ fn put_magic(text: &mut Text, magic: u16)
 }
 
 /// Adds the entry point of a file.
-#[tactic(auto, unfolding(crate::specs::MapTexts::entry_point_text))]
+#[tactic(auto, unfolding(crate::specs::Outcomes::entry_point_text))]
 fn put_entry_point(text: &mut Text, entry_point: u16)
     ensures { Puts text.old text.new (entry_point_text entry_point) }
 {
@@ -68,7 +67,7 @@ fn put_file(text: &mut Text, header: &Header)
 }
 
 /// Adds that a link is made, and whether there is something to report.
-#[tactic(auto, unfolding(crate::specs::MapTexts::made_line))]
+#[tactic(auto, unfolding(crate::specs::Outcomes::made_line))]
 fn put_made_line(text: &mut Text, status: u8)
     ensures { Puts text.old text.new (made_line status) }
 {
@@ -78,7 +77,7 @@ fn put_made_line(text: &mut Text, status: u8)
 }
 
 /// Adds what becomes of a link that is made.
-#[tactic(auto, unfolding(crate::specs::MapTexts::made_text))]
+#[tactic(auto, unfolding(crate::specs::Outcomes::made_text))]
 fn put_made(text: &mut Text, linked: &Linked)
     ensures { Puts text.old text.new (made_text linked.now) }
 {
@@ -88,7 +87,7 @@ fn put_made(text: &mut Text, linked: &Linked)
 }
 
 /// Adds why there is no link.
-#[tactic(auto, unfolding(crate::specs::MapTexts::not_made))]
+#[tactic(auto, unfolding(crate::specs::Outcomes::not_made))]
 fn put_not_made(text: &mut Text, fault: LinkFault)
     ensures { Puts text.old text.new (not_made fault) }
 {
@@ -127,7 +126,7 @@ fn first_label(refused: &Refused) -> &str
 }
 
 /// Adds why an object is refused.
-#[tactic(auto, unfolding(crate::specs::MapTexts::refused_text))]
+#[tactic(auto, unfolding(crate::specs::Outcomes::refused_text))]
 fn put_refused(text: &mut Text, refused: &Refused)
     ensures { Puts text.old text.new (refused_text refused.now) }
 {
@@ -160,7 +159,7 @@ fn objects_word(count: usize) -> &'static str
 }
 
 /// Adds how many objects there are, and what becomes of the link.
-#[tactic(auto, unfolding(crate::specs::MapTexts::head_text))]
+#[tactic(auto, unfolding(crate::specs::Outcomes::head_text))]
 pub(crate) fn put_head(text: &mut Text, map: &LinkMap, objects: &Objects)
     ensures { Puts text.old text.new
         (head_text (length map.now.members.items) objects.now.refused map.now.outcome) }

@@ -2,8 +2,7 @@
 ghost use Rattle.texts.specs.Names.{printable_bytes};
 ghost use Rattle.texts.specs.Numbers.{six_digits};
 ghost use Rattle.texts.specs.Texts.{Puts};
-ghost use Rattle.map_texts.specs.MapTexts.{count_text, item_text, number_text, symbol_front};
-ghost use Rattle.map_texts.specs.MapTexts.{value_text};
+ghost use Rattle.map_texts.specs.Pieces.{count_text, item_text, number_text, symbol_front, value_text};
 
 use aout_core::{Name, Symbol};
 use itoa::Buffer;
@@ -22,7 +21,7 @@ fn put_value(text: &mut Text, symbol: &Symbol, is_placed: bool)
 }
 
 /// Adds the value and the letter of a symbol.
-#[tactic(auto, unfolding(crate::specs::MapTexts::symbol_front))]
+#[tactic(auto, unfolding(crate::specs::Pieces::symbol_front))]
 pub(crate) fn put_front(text: &mut Text, symbol: &Symbol, is_placed: bool)
     ensures { Puts text.old text.new (symbol_front is_placed symbol.now) }
 {
@@ -33,7 +32,7 @@ pub(crate) fn put_front(text: &mut Text, symbol: &Symbol, is_placed: bool)
 }
 
 /// Adds an item of a list, after the label of the list. Its line does not end here.
-#[tactic(auto, unfolding(crate::specs::MapTexts::item_text))]
+#[tactic(auto, unfolding(crate::specs::Pieces::item_text))]
 pub(crate) fn put_item(text: &mut Text, label: &str, item: &str)
     ensures { Puts text.old text.new (item_text label.now item.now) }
 {
@@ -71,7 +70,7 @@ pub(crate) fn put_number(text: &mut Text, width: usize, number: u64)
 }
 
 /// Adds a number in decimal in parentheses, and ends the line.
-#[tactic(auto, unfolding(crate::specs::MapTexts::count_text))]
+#[tactic(auto, unfolding(crate::specs::Pieces::count_text))]
 pub(crate) fn put_count(text: &mut Text, count: u64)
     ensures { Puts text.old text.new (count_text count) }
 {

@@ -1,6 +1,6 @@
 //! The part of the map with where its segments lie.
 ghost use Rattle.texts.specs.Texts.{Puts};
-ghost use Rattle.map_texts.specs.MapTexts.{range_text, segment_line, segments_if, segments_text};
+ghost use Rattle.map_texts.specs.Segments.{range_text, segment_line, segments_if, segments_text};
 
 use crate::pieces::put_number;
 use link_maps::Outcome;
@@ -8,7 +8,7 @@ use link_out::Bases;
 use texts::Text;
 
 /// Adds where a segment begins and ends, and its size.
-#[tactic(auto, unfolding(crate::specs::MapTexts::range_text))]
+#[tactic(auto, unfolding(crate::specs::Segments::range_text))]
 fn put_range(text: &mut Text, start: u64, end: u64)
     ensures { Puts text.old text.new (range_text start end) }
 {
@@ -20,7 +20,7 @@ fn put_range(text: &mut Text, start: u64, end: u64)
 }
 
 /// Adds a line of the segments.
-#[tactic(auto, unfolding(crate::specs::MapTexts::segment_line))]
+#[tactic(auto, unfolding(crate::specs::Segments::segment_line))]
 fn put_segment(text: &mut Text, label: &str, start: u64, end: u64)
     ensures { Puts text.old text.new (segment_line label.now start end) }
 {
@@ -30,7 +30,7 @@ fn put_segment(text: &mut Text, label: &str, start: u64, end: u64)
 }
 
 /// Adds where the segments lie.
-#[tactic(auto, unfolding(crate::specs::MapTexts::segments_text))]
+#[tactic(auto, unfolding(crate::specs::Segments::segments_text))]
 fn put_segments(text: &mut Text, bases: &Bases)
     ensures { Puts text.old text.new (segments_text bases.now) }
 {

@@ -3,8 +3,8 @@ ghost use Rattle.std.specs.Prelude.{◌≡◌, ◌++◌, IfOk, OnOk};
 ghost use Rattle.link_maps.specs.Members.{all_of};
 ghost use Rattle.link_session.specs.Labelled.{objects};
 ghost use Rattle.texts.specs.Texts.{Puts};
-ghost use Rattle.map_texts.specs.MapTexts.{asked_text, faults_text, is_refused, largest_if, limits_in, map_text, names_map, sizes_text};
-ghost use Rattle.map_texts.specs.MapTexts.{whole_text};
+ghost use Rattle.map_texts.specs.Segments.{is_refused, largest_if};
+ghost use Rattle.map_texts.specs.Whole.{asked_text, faults_text, limits_in, map_text, names_map, sizes_text, whole_text};
 
 use crate::asked::{each_once, put_absent_names};
 use crate::limits::{put_largest, put_limits};
@@ -55,7 +55,7 @@ fn put_limits_of(text: &mut Text, map: &LinkMap, objects: &Objects, options: &Op
 }
 
 /// Adds the limits, the largest objects of a link that is refused, and the segments.
-#[tactic(auto, unfolding(crate::specs::MapTexts::sizes_text))]
+#[tactic(auto, unfolding(crate::specs::Whole::sizes_text))]
 fn put_sizes(text: &mut Text, map: &LinkMap, objects: &Objects, options: &Options)
     ensures { Puts text.old text.new (sizes_text options.now objects.now map.now) }
 {
@@ -103,7 +103,7 @@ fn files_of<'a>(alloc: Global, all: &'a Objects) -> Result<Vec<NamedFile<'a>>, A
 }
 
 /// Adds the names that stay undefined, and those that are multiply defined.
-#[tactic(auto, unfolding(crate::specs::MapTexts::faults_text))]
+#[tactic(auto, unfolding(crate::specs::Whole::faults_text))]
 fn put_faults(text: &mut Text, names: &Names<'_>)
     ensures { Puts text.old text.new (faults_text names.now) }
 {
@@ -112,7 +112,7 @@ fn put_faults(text: &mut Text, names: &Names<'_>)
 }
 
 /// Adds the whole map.
-#[tactic(auto, unfolding(crate::specs::MapTexts::whole_text))]
+#[tactic(auto, unfolding(crate::specs::Whole::whole_text))]
 fn put_whole(text: &mut Text, names: &Names<'_>, options: &Options)
     ensures { Puts text.old text.new (whole_text options.now names.now) }
 {
@@ -146,7 +146,7 @@ pub fn map_text(
 }
 
 /// Adds what becomes of the link, the externals that are asked for, and the names that are absent.
-#[tactic(auto, unfolding(crate::specs::MapTexts::asked_text))]
+#[tactic(auto, unfolding(crate::specs::Whole::asked_text))]
 fn put_asked(text: &mut Text, names: &Names<'_>, absent: &[Name])
     ensures { Puts text.old text.new (asked_text names.now absent.now) }
 {

@@ -11,7 +11,7 @@ use Rattle.link_maps.specs.{declared.map.LinkMap.LinkMap, declared.members.Objec
 use Rattle.link_out.specs.Inputs.{Cause, Refusal, bad_file, bad_object, linked, object_in}
 use Rattle.link_out.specs.{function.Link.Outcome, function.Reports.status_of}
 use Rattle.link_session.specs.Labelled.{Labelled}
-use Rattle.map_texts.specs.MapTexts.{absent_names, map_text, names_map}
+use Rattle.map_texts.specs.Whole.{absent_names, map_text, names_map}
 use Rattle.surroundings.specs.{Answer.Answer, Answers.AnswersOr, Answers.failed_at, Answers.only_errors, Answers.says_reason, Events.History}
 use Rattle.surroundings.specs.{Events.Extends, Events.opened, Sources.ReadsAt, Sources.unread_text, declared.answer.Fault.Fault}
 use Rattle.surroundings.specs.{declared.reasons.Reason.Reason, declared.reasons.Reason.TheVariants.NotOfLd}

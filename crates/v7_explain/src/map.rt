@@ -1,7 +1,7 @@
 //! The map of a link, made or refused.
 ghost use Rattle.std.specs.Prelude.{◌≡◌, ◌⊎◌, IfOk, Err, map, string_bytes};
 ghost use Rattle.aout_core.specs.Refusals.{refused};
-ghost use Rattle.map_texts.specs.MapTexts.{absent_names};
+ghost use Rattle.map_texts.specs.Whole.{absent_names};
 ghost use Rattle.surroundings.specs.declared.answer.Fault.TheVariants.{Memory};
 ghost use Rattle.v7_explain.specs.Maps.{IsMapCall, IsMapping, MapsCall, link_words, not_of_ld, status_with, text_asked};
 ghost use Rattle.v7_explain.specs.Runs.{MapsAsked};

@@ -1,4 +1,4 @@
-use Rattle.map_texts.specs.MapTexts.{absent_line}
+use Rattle.map_texts.specs.Whole.{absent_line}
 use Rattle.map_texts.proofs.PutLemmas.{puts_three}
 use Rattle.map_texts.proofs.asked.put_absent.Goals as goal
 

@@ -1,5 +1,5 @@
 use Rattle.std.proofs.Common.{◌≡◌, ◌++◌, drop, false}
-use Rattle.map_texts.specs.MapTexts.{absent_lines}
+use Rattle.map_texts.specs.Whole.{absent_lines}
 use Rattle.map_texts.proofs.asked.put_absent_names.Given as goal
 
 abbrev pub invariant-loop-name : goal.invariant-loop-name

@@ -3,7 +3,7 @@ use Rattle.std.specs.Prelude.{take}
 use Rattle.symtools.specs.NmLists.{in_order}
 use Rattle.texts.specs.Texts.{Puts}
 use Rattle.texts.proofs.PutLemmas.{puts_both}
-use Rattle.map_texts.specs.MapTexts.{is_larger, sized_from, sized_lines}
+use Rattle.map_texts.specs.Limits.{is_larger, sized_from, sized_lines}
 use Rattle.map_texts.proofs.limits.put_largest.Goals as goal
 
 pub returns-in-Ok : goal.returns-in-Ok

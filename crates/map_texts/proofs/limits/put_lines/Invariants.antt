@@ -1,5 +1,5 @@
 use Rattle.std.proofs.Common.{◌≡◌, ◌++◌, drop, false}
-use Rattle.map_texts.specs.MapTexts.{limit_lines}
+use Rattle.map_texts.specs.Limits.{limit_lines}
 use Rattle.map_texts.proofs.limits.put_lines.Given as goal
 
 abbrev pub invariant-loop-limit : goal.invariant-loop-limit

@@ -1,5 +1,5 @@
 use Rattle.std.proofs.Common.{◌≡◌, ◌++◌, drop, false}
-use Rattle.map_texts.specs.MapTexts.{sized_lines}
+use Rattle.map_texts.specs.Limits.{sized_lines}
 use Rattle.map_texts.proofs.limits.put_sizes.Given as goal
 
 abbrev pub invariant-loop-sized : goal.invariant-loop-sized

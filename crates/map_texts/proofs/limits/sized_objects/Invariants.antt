@@ -1,5 +1,5 @@
 use Rattle.std.proofs.Common.{◌≡◌, ◌++◌, drop}
-use Rattle.map_texts.specs.MapTexts.{sized_from}
+use Rattle.map_texts.specs.Limits.{sized_from}
 use Rattle.map_texts.proofs.limits.sized_objects.Given as goal
 
 -- the objects so far, and those that are left

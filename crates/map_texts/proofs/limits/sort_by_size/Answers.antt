@@ -1,6 +1,6 @@
 use Rattle.std.proofs.{Common.rules, lemmas.List.Sorted.answers_always, lemmas.Result.on_ok_weaker}
 use Rattle.symtools.proofs.SortLemmas.{in_order-from_sort}
-use Rattle.map_texts.specs.MapTexts.{is_larger}
+use Rattle.map_texts.specs.Limits.{is_larger}
 use Rattle.map_texts.proofs.SizeLemmas.{larger_order, compared}
 use Rattle.map_texts.proofs.limits.sort_by_size.Goals as goal
 

@@ -1,6 +1,6 @@
 use Rattle.std.proofs.Common.{◌≡◌, ◌++◌, false}
 use Rattle.std.specs.Slice.Iter.{iter_rest}
-use Rattle.map_texts.specs.MapTexts.{member_lines}
+use Rattle.map_texts.specs.Members.{member_lines}
 use Rattle.map_texts.proofs.members.put_member_lines.Given as goal
 
 -- the lines so far, and those of the objects that are left

@@ -1,7 +1,7 @@
 use Rattle.std.proofs.Common.{rules}
 use Rattle.texts.specs.Texts.{Puts}
 use Rattle.texts.proofs.PutLemmas.{puts_both}
-use Rattle.map_texts.specs.MapTexts.{member_lines}
+use Rattle.map_texts.specs.Members.{member_lines}
 use Rattle.map_texts.proofs.members.put_members.Goals as goal
 
 pub returns : goal.returns

@@ -1,5 +1,5 @@
 use Rattle.std.proofs.Common.{◌≡◌, ◌++◌, drop, false}
-use Rattle.map_texts.specs.MapTexts.{commons_text}
+use Rattle.map_texts.specs.Names.{commons_text}
 use Rattle.map_texts.proofs.names.put_commons.Given as goal
 
 abbrev pub invariant-loop-used : goal.invariant-loop-used

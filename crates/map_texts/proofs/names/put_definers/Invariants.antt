@@ -1,5 +1,5 @@
 use Rattle.std.proofs.Common.{◌≡◌, ◌++◌, drop, false}
-use Rattle.map_texts.specs.MapTexts.{definers_from, definers_text}
+use Rattle.map_texts.specs.Names.{definers_from, definers_text}
 use Rattle.map_texts.proofs.names.put_definers.Given as goal
 
 abbrev pub invariant-loop-used : goal.invariant-loop-used

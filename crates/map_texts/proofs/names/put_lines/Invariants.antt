@@ -1,5 +1,5 @@
 use Rattle.std.proofs.Common.{◌≡◌, ◌++◌, drop, false}
-use Rattle.map_texts.specs.MapTexts.{reference_lines}
+use Rattle.map_texts.specs.Names.{reference_lines}
 use Rattle.map_texts.proofs.names.put_lines.Given as goal
 
 abbrev pub invariant-loop-reference : goal.invariant-loop-reference

@@ -1,5 +1,5 @@
 use Rattle.std.proofs.Common.{◌<◌, ◌++◌, length, rules}
-use Rattle.map_texts.specs.MapTexts.{names_text}
+use Rattle.map_texts.specs.Names.{names_text}
 use Rattle.link_maps.proofs.RecordLemmas.{first_name}
 use Rattle.map_texts.proofs.MapTextLemmas.{part_step}
 use Rattle.map_texts.proofs.names.put_names.Goals as goal

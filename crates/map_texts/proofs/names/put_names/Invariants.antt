@@ -1,6 +1,6 @@
 use Rattle.std.proofs.Common.{◌≡◌, ◌++◌, false, length}
 use Rattle.link_maps.specs.Records.{by_name}
-use Rattle.map_texts.specs.MapTexts.{names_text, part_from}
+use Rattle.map_texts.specs.Names.{names_text, part_from}
 use Rattle.map_texts.proofs.names.put_names.Given as goal
 
 -- the text so far, and the names that are left

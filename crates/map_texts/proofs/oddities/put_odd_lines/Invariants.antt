@@ -1,5 +1,5 @@
 use Rattle.std.proofs.Common.{◌≡◌, ◌++◌, drop, false}
-use Rattle.map_texts.specs.MapTexts.{odd_lines}
+use Rattle.map_texts.specs.Oddities.{odd_lines}
 use Rattle.map_texts.proofs.oddities.put_odd_lines.Given as goal
 
 abbrev pub invariant-loop-odd : goal.invariant-loop-odd

@@ -1,4 +1,4 @@
-use Rattle.map_texts.specs.MapTexts.{entry_line}
+use Rattle.map_texts.specs.Outcomes.{entry_line}
 use Rattle.map_texts.proofs.PutLemmas.{puts_three}
 use Rattle.map_texts.proofs.outcomes.put_entry.Goals as goal
 

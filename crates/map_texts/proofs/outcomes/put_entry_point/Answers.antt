@@ -1,4 +1,4 @@
-use Rattle.map_texts.specs.MapTexts.{entry_point_text}
+use Rattle.map_texts.specs.Outcomes.{entry_point_text}
 use Rattle.map_texts.proofs.PutLemmas.{puts_three}
 use Rattle.map_texts.proofs.outcomes.put_entry_point.Goals as goal
 

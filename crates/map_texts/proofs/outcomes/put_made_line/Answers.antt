@@ -1,6 +1,6 @@
 use Rattle.std.proofs.Common.{rules}
 use Rattle.texts.specs.Texts.{Puts}
-use Rattle.map_texts.specs.MapTexts.{made_line, whether_text}
+use Rattle.map_texts.specs.Outcomes.{made_line, whether_text}
 use Rattle.map_texts.proofs.PutLemmas.{puts_three}
 use Rattle.map_texts.proofs.outcomes.put_made_line.Goals as goal
 

@@ -1,7 +1,8 @@
 use Rattle.std.proofs.Common.{length, rules}
 use Rattle.texts.proofs.PutLemmas.{puts_both}
 use Rattle.texts.specs.Texts.{Puts}
-use Rattle.map_texts.specs.MapTexts.{asked_text, head_text}
+use Rattle.map_texts.specs.Outcomes.{head_text}
+use Rattle.map_texts.specs.Whole.{asked_text}
 use Rattle.map_texts.proofs.PutLemmas.{puts_three}
 use Rattle.map_texts.proofs.whole.put_asked.Goals as goal
 

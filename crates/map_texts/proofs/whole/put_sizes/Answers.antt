@@ -1,6 +1,7 @@
 use Rattle.std.proofs.Common.{rules}
 use Rattle.texts.specs.Texts.{Puts}
-use Rattle.map_texts.specs.MapTexts.{is_refused, largest_if, sizes_text}
+use Rattle.map_texts.specs.Segments.{is_refused, largest_if}
+use Rattle.map_texts.specs.Whole.{sizes_text}
 use Rattle.map_texts.proofs.PutLemmas.{puts_three}
 use Rattle.map_texts.proofs.whole.put_sizes.Goals as goal
 

@@ -1,7 +1,10 @@
 use Rattle.std.proofs.Common.{length, rules}
 use Rattle.texts.proofs.PutLemmas.{puts_both}
 use Rattle.texts.specs.Texts.{Puts}
-use Rattle.map_texts.specs.MapTexts.{head_text, members_text, oddities_text, sizes_text, whole_text}
+use Rattle.map_texts.specs.Members.{members_text}
+use Rattle.map_texts.specs.Oddities.{oddities_text}
+use Rattle.map_texts.specs.Outcomes.{head_text}
+use Rattle.map_texts.specs.Whole.{sizes_text, whole_text}
 use Rattle.map_texts.proofs.PutLemmas.{puts_three}
 use Rattle.map_texts.proofs.whole.put_whole.Goals as goal
 
