@@ -67,14 +67,16 @@ class Programs:
         return remarks == found and listing.split("\n") == [line for line in lines if not line.startswith("/")] and v7.listing(again) == listing
 
     def listed(self, text):
-        """Whether a listing makes the file that v7-object makes, or has the mistake that it reports."""
+        """Whether a listing makes the file that v7-object makes, or has the first of the mistakes that it reports."""
         write("in.lst", text.encode("latin-1"))
         write("out.o", b"")
         said, made = self.run("v7-object", "in.lst", "out.o")[1], given(v7.from_listing, text)
         if not isinstance(made, v7.Fault):
             return made == read_bytes("out.o") and said == ""
-        mistake = MISTAKE.fullmatch(said.rstrip("\n"))
-        return mistake is not None and (made.place, made.word) == (int(mistake[1]), int(mistake[2])) and 61 <= made.fault <= 75
+        mistakes = [MISTAKE.fullmatch(line) for line in said.rstrip("\n").split("\n")]
+        if not all(mistakes) or len(mistakes) > 10 or not 61 <= made.fault <= 76:
+            return False
+        return (made.place, made.word) == (int(mistakes[0][1]), int(mistakes[0][2]))
 
     def converted(self, data):
         """Whether an object is converted as v7-from-gnu converts it, with each of its options, or refused at the byte that it reports."""

@@ -170,14 +170,15 @@ def check_notes(data, status, text):
 
 
 def listed(kind):
-    """The listing has all notes and all lines of the text, and makes the file again."""
+    """The listing has all notes and all lines of text and data, and makes the file again."""
     (file,), (data,) = KINDS[kind], encoded(kind).values()
     paths = written(encoded(kind))
     status, text, errors = answer("v7-explain", *paths)
     same("errors", errors, "")
     check_notes(data, status, text)
     lines = [line for line in text.split("\n") if not line.startswith("/")]
-    same("text", lines[lines.index("text") + 1:lines.index("data")], file.listing())
+    end = next(at for at, line in enumerate(lines) if line.startswith("bss "))
+    same("text and data", lines[lines.index("text") + 1:end], file.listing())
     write("listing", text)
     same("v7-object", answer("v7-object", "listing", "again"), (0, "", ""))
     same("the file again", read_bytes("again"), data)
