@@ -413,7 +413,7 @@ class File:
             place += length
         lines += self.labels(2 * place, 0) + ["data"]
         for place, word in enumerate(self.data):
-            address = self.data_start + 2 * place
+            address = (self.data_start + 2 * place) % 0o200000
             relocation = None if self.relocation is None else self.data_relocation[place]
             relocated = relocation is not None and relocation & 0o17 != 0
             said = self.said(address, word, relocation) if relocated else self.begun(place)
