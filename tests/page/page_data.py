@@ -87,13 +87,15 @@ class Tools:
         return [int(offset, 8) - 2 for offset in re.findall(r"text ([0-7]{6}) .*: jsr pc,", self.map_of(files))]
 
     def uses(self, files):
-        """For each name how many words refer to it, by the map of a link."""
-        uses, name = {}, ""
+        """For each name how many words of objects that do not define it refer to it, by the map of a link."""
+        uses, name, definer = {}, "", ""
         for line in self.map_of(files).partition("\nExternals\n")[2].splitlines():
             found = re.match(r"[0-7 ]{6} [A-Za-z] (\S+)$", line)
-            name = found[1] if found else name
-            used = re.match(r"    (?:used in    )? +\S+ \((\d+)\)$", line) if "common in" not in line else None
-            uses[name] = uses.get(name, 0) + (int(used[1]) if used else 0)
+            name, definer = (found[1], "") if found else (name, definer)
+            defined = re.match(r"    defined in  (\S+)$", line)
+            definer = defined[1] if defined else definer
+            used = re.match(r"    (?:used in    )? +(\S+) \((\d+)\)$", line) if "common in" not in line else None
+            uses[name] = uses.get(name, 0) + (int(used[2]) if used and used[1] != definer else 0)
         return uses
 
     def nm(self, file):
