@@ -152,10 +152,10 @@ test:
 gate:
 	python3 -m tests.costs.gate_times rt ci
 
-# the cheapest first, so that a fault shows early. The gate leaves the programs that the tests of `check` run. A wrong body that is not
-# refused is printed, and ends nothing but check-all: in the form that they have now, those of some crates have not been tried yet
+# the cheapest first, so that a fault shows early. The gate leaves the programs that the tests of `check` run. Of crates that have changed,
+# as many wrong bodies are tried as half an hour allows
 check:
-	@MINUTES=30 python3 -m tests parts 'make quick' 'make test' 'make gate' '$(if $(MORE),,-)make check-wrong-bodies' \
+	@MINUTES=30 python3 -m tests parts 'make quick' 'make test' 'make gate' 'make check-wrong-bodies' \
 		'make all lib build/library_uses' 'python3 -m tests check' $(MORE)
 
 # all wrong bodies, in place of those of crates that have changed

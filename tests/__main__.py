@@ -144,12 +144,12 @@ def run_parts(*commands):
         if state and f"{state} {command}" in passed:
             rows.append(f"passed before      {command}")
             continue
-        failed = subprocess.run(command.removeprefix("-"), shell=True, check=False).returncode
+        failed = subprocess.run(command, shell=True, check=False).returncode
         rows.append(f"{(time.monotonic() - begun) / 60:6.1f} minutes{' FAILED' * bool(failed):7} {command}")
-        if failed and not command.startswith("-"):
+        if failed:
             status = 1
             break
-        if state and not failed:
+        if state:
             os.makedirs("build", exist_ok=True)
             with open(PARTS, "a", encoding="utf-8") as file:
                 file.write(f"{state} {command}\n")
