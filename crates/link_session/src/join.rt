@@ -15,7 +15,7 @@ use crate::cell::Cell;
 use crate::chain::{Link, grow_heads};
 use crate::entry::Entry;
 use crate::mark::Mark;
-use crate::mention::{Table, count_external, enter_all};
+use crate::mention::{Table, enter_all};
 use crate::merged::{Externals, Merged};
 use crate::relocate::{Scope, Shifts, Words, append_cells, next_shifts};
 use crate::session::UndoRecord;
@@ -91,6 +91,7 @@ fn reserve_names(
 }
 
 /// Requests memory for an object. An error changes nothing but capacity.
+#[tactic(auto, using(crate::proofs::PlaceLemmas::filter_le))]
 fn reserve_all(
     image: &mut Merged,
     marks: &mut Vec<Mark>,
@@ -120,7 +121,7 @@ fn reserve_all(
     ensures places_space { OnOk result
         (vec_len places.new + length file.now.symbols ≤ vec_capacity places.new) }
 {
-    let entries = count_external(file.symbols());
+    let names = file.symbols().len();
     let text = file.text_words().len();
     let data = file.data_words().len();
     reserve_cells(&mut image.text_cells, &mut image.text_links, text)?;
@@ -130,9 +131,9 @@ fn reserve_all(
         &mut image.heads,
         &mut image.multiples,
         marks,
-        entries,
+        names,
     )?;
-    places.reserve(file.symbols().len())
+    places.reserve(names)
 }
 
 /// Appends heads for the object's new names, and then its own cells and its bss. There is space for them.

@@ -170,13 +170,6 @@ fn enter(
     place as u16
 }
 
-/// How many of the symbols are external.
-pub(crate) fn count_external(symbols: &[Symbol]) -> usize
-    ensures { result ≡ length (filter is_external symbols.now) }
-{
-    symbols.iter().filter(|symbol| symbol.is_external()).count()
-}
-
 /// Enters all external symbols of an object, in order, and appends the place of each symbol's name. There is space for
 /// them.
 pub(crate) fn enter_all(

@@ -130,10 +130,7 @@ pub(crate) fn segment_target(segment: Segment) -> Target
 fn place_of(places: &[u16], number: u16) -> u16
     ensures { result ≡ slice_index_or places.now number no_place }
 {
-    match places.get(number as usize) {
-        Some(place) => *place,
-        None => NO_PLACE,
-    }
+    places.get(number as usize).copied().unwrap_or(NO_PLACE)
 }
 
 /// What a reference to the external at a place adds to a word, and its target.
@@ -169,6 +166,13 @@ fn own_cell(scope: &Scope<'_>, own_shift: u16, word: u16, reloc: Reloc) -> Cell
     ensures { result ≡ placed_cell scope.now.externals.now.entries scope.now.places.now
         scope.now.shifts own_shift word reloc }
 {
+    if reloc.0 == 0 {
+        return Cell {
+            value: word,
+            target: Target::Absolute,
+            pc: false,
+        };
+    }
     let (offset, target) = reference(scope, reloc);
     let pc = reloc.is_pc();
     let start = if pc { own_shift } else { 0 };
@@ -222,10 +226,11 @@ fn fill_cells(
     ensures heads { heads.new
         ≡ (threaded (place_at own.now.segment) before (own_placed scope.now own.now) heads.old).1 }
 {
+    let segment = own.segment;
     let own_shift = scope.shifts.of(own.segment);
     for (i, word) in own.words.iter().enumerate() {
         let cell = own_cell(scope, own_shift, *word, own.relocs[i]);
-        let place = place_at(own.segment, (before + i) as u16);
+        let place = place_at(segment, (before + i) as u16);
         link_cell(links, i, heads, cell.target, place);
         cells[i] = cell;
     }
