@@ -3,11 +3,12 @@
 usage: python3 -m tools.shorten CRATE [FILE ..]      the files of crates/CRATE/proofs, by their path there; without, all of them
        python3 -m tools.shorten --try                on a small crate of its own: a long proof is shortened, and a false lemma refused
 
-A candidate is a copy of a lemma, or of an answer, under another name (`zz1`) beside it, in which a tactic stands for a part of several
-lines: the value of a clause, of a field or of a `let`, or what follows a `let`. Nothing cites a candidate, so one check of a copy of the
-crate judges all. At the end of each file stands a false lemma: where it is not refused, the file was not read, and stays as it is.
-Then `rt tidy` proves the crate anew. It puts the files back where that fails, and its time shows what the tactics cost. Where a lemma
-carries an idea, keep the written proof. The crates below have to be proved. A large crate takes half an hour.
+A candidate is a copy of a lemma, or of an answer, under another name (`zz1`) beside it. In some a tactic stands for a part of several
+lines: the value of a clause, of a field or of a `let`, or what follows a `let`. In others one last clause, with `_` for arguments that
+differ, stands for all clauses with the same value. Nothing cites a candidate, so one check of a copy of the crate judges all. At the end
+of each file stands a false lemma: where it is not refused, the file was not read, and stays as it is. Then `rt tidy` proves the crate
+anew. It puts the files back where that fails, and its time shows what the tactics cost. Where a lemma carries an idea, keep the written
+proof. The crates below have to be proved. A large crate takes half an hour.
 """
 import collections
 import os
@@ -23,15 +24,21 @@ from tests.lib.rattle import crates_in
 DECLARED = re.compile(r"^( *)(?:pub )?((?!module|record|let|in\b|where)[^\s:(){},.]+) : ")
 IMPORTED = re.compile(r"^(?:pub )?use ([^\s{]+)\.\{([^}]*)\}", re.M)
 WORD = re.compile(r"[^\s(){}\[\],;]+")
+ARGUMENT = re.compile(r"(?:[^\s(){}]|\((?:[^()]|\((?:[^()]|\([^()]*\))*\))*\)|\{[^{}]*\})+")
 # what a tactic needs, by the module that has it
 NEEDED = {"common_steps": "lemmas.Grind", "arith": "Common", "rules": "Common", "◌≡◌": "Common"}
 FALSE = "zzfalse : (a b : Prim.Native.Nat.ℕ) → a ≡ b\nzzfalse a b = search rules\n"
-TRIED = """use Rattle.std.proofs.Common.{ℕ, ◌≡◌, refl, sym}
+TRIED = """use Rattle.std.proofs.Common.{ℕ, ◌≡◌, refl, sym, Bool, true, false, ◌&&◌}
 
 pub turned : (a b : ℕ) → a ≡ b → b ≡ a
 turned a b e =
     let other : b ≡ a = sym e in
     other
+
+pub front : (t u : Bool) → (t && u) ≡ true → t ≡ true
+front true u e = refl
+front false true e = absurd cc
+front false false e = absurd cc
 """
 
 
@@ -114,6 +121,31 @@ def parts(proof):
                 yield last + 1, end, " " * depth, ";" * proof[end].endswith(";")
 
 
+def clauses(name, proof):
+    """The clauses of a proof: the first line and the last, the arguments, and the value; or none, where one has a block `where`."""
+    found, at = [], 0
+    while at < len(proof):
+        last, value = end_of(proof, at, indent(proof[0]) + 1), value_at(proof[at])
+        if not value or not proof[at].lstrip().startswith(f"{name} ") or any(it.strip() == "where" for it in proof[at:last + 1]):
+            return []
+        found.append((at, last, ARGUMENT.findall(proof[at][:value - 1])[1:], "\n".join([proof[at][value:], *proof[at + 1:last + 1]])))
+        at = last + 1
+    return found
+
+
+def merged(lemma, proof):
+    """Proofs in which one last clause stands for all with the same value: the first line and the last that change, and the new ones."""
+    for name, _, begin, end in [(lemma, 0, 0, len(proof) - 1), *lemmas(proof)]:
+        found = clauses(name, proof[begin:end + 1])
+        for value in dict.fromkeys(it[3] for it in found):
+            same = [it for it in found if it[3] == value]
+            if 1 < len(same) < len(found) and len({len(it[2]) for it in same}) == 1:
+                given = [word[0] if len(set(word)) == 1 else "_" for word in zip(*(it[2] for it in same))]
+                others = [line for it in found if it[3] != value and it > same[0] for line in proof[begin + it[0]:begin + it[1] + 1]]
+                one = " " * indent(proof[begin]) + " ".join([name, *given]) + " =" + value
+                yield begin + same[0][0], end, [*others, *one.split("\n")]
+
+
 def with_imports(text):
     """A text with the imports that the tactics need."""
     names = {name.split(".")[-1].strip() for _, names in IMPORTED.findall(text) for name in names.split(",")}
@@ -131,17 +163,19 @@ def candidates(path, text, number):
     for name, start, proof, last in lemmas(lines):
         out, done, body = out + lines[done:last + 1], last + 1, lines[proof:last + 1]
         helpers = {it[2] for it in map(DECLARED.match, body) if it}
+        tried = list(merged(name, body))
         for first, end, before, after in parts(body):
             inside = "\n".join(body[first:end + 1])
             is_whole = sum(map(inside.count, "({[")) == sum(map(inside.count, ")}]"))
             for tactic in tactics(inside[value_at(inside):], (known | helpers) - {name}, name) if is_whole else ():
-                new = wrapped(before + tactic + after)
-                it = Candidate(f"zz{number + len(made)}", path, start, first, end, new, end - first + 1 - len(new))
-                if it.saves > 0:
-                    copy = "\n".join([*lines[start:proof], *body[:first], *it.lines, *body[end + 1:]])
-                    copy = re.sub(rf"(?<![^\s(){{}}\[\],;]){re.escape(name)}(?![^\s(){{}}\[\],;.])", it.name, copy)
-                    out += ["", re.sub(r"^( *)pub ", r"\1", copy)]
-                    made.append(it)
+                tried.append((first, end, wrapped(before + tactic + after)))
+        for first, end, new in tried:
+            it = Candidate(f"zz{number + len(made)}", path, start, first, end, new, end - first + 1 - len(new))
+            if it.saves > 0:
+                copy = "\n".join([*lines[start:proof], *body[:first], *it.lines, *body[end + 1:]])
+                copy = re.sub(rf"(?<![^\s(){{}}\[\],;]){re.escape(name)}(?![^\s(){{}}\[\],;.])", it.name, copy)
+                out += ["", re.sub(r"^( *)pub ", r"\1", copy)]
+                made.append(it)
         known.add(name)
     return with_imports("\n".join([*out, *lines[done:], FALSE])), made
 
@@ -189,12 +223,13 @@ def shorten(top, crate, *paths):
 
 
 def tried():
-    """Whether a long proof in a small crate is shortened; without its false lemma refused, nothing would be."""
+    """Whether in a small crate a long proof is shortened, and two clauses become one; without a false lemma refused, none would be."""
     with tempfile.TemporaryDirectory() as top:
         for path, text in (("crates.txt", "tried:\n"), ("crates/tried/src/lib.rt", "//! Tried.\n#![tactic(auto)]\n"),
                            ("crates/tried/proofs/Lib.antt", "pub mod Turned\n"), ("crates/tried/proofs/Turned.antt", TRIED)):
             write(f"{top}/{path}", text)
-        return shorten(top, "tried", "Turned.antt") and "other" not in read(f"{top}/crates/tried/proofs/Turned.antt")
+        is_proved = shorten(top, "tried", "Turned.antt")
+        return is_proved and not re.search("other|front false true", read(f"{top}/crates/tried/proofs/Turned.antt"))
 
 
 if __name__ == "__main__":

@@ -1,4 +1,5 @@
 -- Each place of a program of clean objects that control reaches is a reached place of one of them.
+use Rattle.instructions.proofs.LineLemmas.{from_place}
 use Rattle.std.proofs.Common.{◌≡◌, ◌≢◌, ℕ, zero, suc, ◌+◌, ◌*◌, ◌/◌, ◌%◌, ◌<◌, ◌≤◌, inl, inr, Bool, true, false, ◌||◌, ◌&&◌, not, eqb}
 use Rattle.std.proofs.Common.{if◌then◌else◌, List, [], ◌∷◌, ◌++◌, length, map, drop, Option, Some, None, refl, sym, ◌∙◌, ap, subst, arith}
 use Rattle.std.proofs.Common.{append_assoc}
@@ -41,7 +42,7 @@ use Rattle.laws.specs.CleanPrograms.{TextSymbol, RefersToOwnText, RefersToText, 
 use Rattle.laws.specs.CleanPrograms.{CleanObjectsMakeCleanPrograms}
 use Rattle.laws.proofs.{InstructionLemmas.text_within, InstructionLemmas.word_small, InstructionPlaceLemmas.instructions_there, LoadedLemmas.whole_words}
 use Rattle.laws.proofs.{LoadedLemmas.word_there, LoadedLemmas.found_in, OperandPlaceLemmas.one_word}
-use Rattle.laws.proofs.ReachedInstructionLemmas.{decoded, words_from, value_small, reached_instructions_kept, sure_places_begin}
+use Rattle.laws.proofs.ReachedInstructionLemmas.{decoded, value_small, reached_instructions_kept, sure_places_begin}
 use Rattle.laws.proofs.FlowLemmas.{Lines, Calls, Instructs, Ends, whole_at, lines_at}
 use Rattle.laws.proofs.LeadLemmas.{or-nothing, placed, place_is, Within, call_leads, JumpBy, instruction_leads}
 use Rattle.aout_core.specs.declared.reloc.Kind.TheVariants as kinds
@@ -148,16 +149,11 @@ own_jump_of : (k : Contents) (place : ℕ) (x : Option Operand) (word : Option �
     addressing_of x ≡ Some way → IsDirect way → slice_get k.text_reloc place ≡ Some r → kind_said way r ≡ Some kinds.TextSeg →
     (is_relocated (Some r) ≡ true → is_pc_relative r ≡ counts_from_pc way) →
     jump_of k place x word ≡ Some (machine_value way (2 * place + 2) (number word))
-own_jump_of k place None word way r small mode direct at said bit = absurd cc
 own_jump_of k place (Some (operands.General m register)) word way r small mode direct at said bit =
     ap (λ (o : Option Reloc). jump_by o (2 * place + 2) (number word) (addressing m register)) at
     ∙ ap (λ (o : Option Addressing). jump_by (Some r) (2 * place + 2) (number word) o) mode
     ∙ jumps_own r (2 * place + 2) (number word) small way direct said bit
-own_jump_of k place (Some (operands.Accumulator v)) word way r small mode direct at said bit = absurd cc
-own_jump_of k place (Some (operands.Register v)) word way r small mode direct at said bit = absurd cc
-own_jump_of k place (Some (operands.Forward v)) word way r small mode direct at said bit = absurd cc
-own_jump_of k place (Some (operands.Backward v)) word way r small mode direct at said bit = absurd cc
-own_jump_of k place (Some (operands.Number v)) word way r small mode direct at said bit = absurd cc
+own_jump_of k place _ word way r small mode direct at said bit = absurd cc
 
 not_immediate : (way : Addressing) → IsDirect way → is_immediate way ≡ true → ⊥
 not_immediate Immediate (inl e) h = absurd cc
@@ -457,7 +453,7 @@ module _ (forced : List (List ℕ)) (before : List Contents) (k : Contents) (aft
         let place = sure_below Promise k i sure in
         let w : ℕ = slice_index k.text_words i in
         let f : List ℕ = drop (i + 1) k.text_words in
-        let here : drop i k.text_words ≡ slice_index k.text_words i ∷ drop (i + 1) k.text_words = words_from k.text_words i place in
+        let here : drop i k.text_words ≡ slice_index k.text_words i ∷ drop (i + 1) k.text_words = from_place k.text_words i place in
         let whole = (sure_places Promise k clean.quiet i sure).0 in
         let uncut = whole_at k i w f here still whole in
         let t = instructions_there forced before k after o x good clean.words l i w f here still uncut in

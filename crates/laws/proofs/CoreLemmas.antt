@@ -104,9 +104,7 @@ segments_apart h space BssSeg BssSeg a p q = refl
 segments_apart h space Undefined two a p q = absurd (let bad : false ≡ true = p in cc)
 segments_apart h space Absolute two a p q = absurd (let bad : false ≡ true = p in cc)
 segments_apart h space Other two a p q = absurd (let bad : false ≡ true = p in cc)
-segments_apart h space one Undefined a p q = absurd (let bad : false ≡ true = q in cc)
-segments_apart h space one Absolute a p q = absurd (let bad : false ≡ true = q in cc)
-segments_apart h space one Other a p q = absurd (let bad : false ≡ true = q in cc)
+segments_apart h space one _ a p q = absurd (let bad : false ≡ true = q in cc)
 
 module _ (file : Contents) (space : Space) (address byte : ℕ) where
   loaded_in : (segment : Segment) → is_in file.header space segment address ≡ true →
@@ -131,9 +129,7 @@ module _ (file : Contents) (space : Space) (address byte : ℕ) where
   core_at BssSeg p e =
       λ i. first_of (loaded_out TextSeg (λ q. text_or_bss file.header space address q p) i)
       (first_of (loaded_out DataSeg (λ q. data_or_bss file.header space address q p) i) ((loaded_in BssSeg p ∙ e) i))
-  core_at Undefined p e = absurd (let bad : false ≡ true = p in cc)
-  core_at Absolute p e = absurd (let bad : false ≡ true = p in cc)
-  core_at Other p e = absurd (let bad : false ≡ true = p in cc)
+  core_at _ p e = absurd (let bad : false ≡ true = p in cc)
 
   -- and each byte of the core is one of a segment
   pub record IsByteOf (segment : Segment) : Type 0 where

@@ -91,18 +91,13 @@ module _ (k l : Contents) (sizes : (segment : Segment) → size_of segment k ≡
 
   -- the two lists of objects are as long, segment by segment
   pub as_long : (before after : List Contents) → AreAsLong (before ++ k ∷ after) (before ++ l ∷ after)
-  as_long before after Undefined = refl
-  as_long before after Absolute = refl
-  as_long before after Other = refl
   as_long before after TextSeg = same_totals before after TextSeg
   as_long before after DataSeg = same_totals before after DataSeg
   as_long before after BssSeg = same_totals before after BssSeg
+  as_long before after _ = refl
 
   -- after the same objects they are moved alike
   pub own_shift : (before : List Contents) (segment : Segment) → shift before k segment ≡ shift before l segment
-  own_shift before Undefined = refl
-  own_shift before Absolute = refl
-  own_shift before Other = refl
-  own_shift before TextSeg = refl
   own_shift before DataSeg = ap (λ (n : ℕ). minus (total DataSeg before) n) (sizes TextSeg)
   own_shift before BssSeg = λ i. minus (total BssSeg before) (plus (sizes TextSeg i) (sizes DataSeg i))
+  own_shift before _ = refl

@@ -77,9 +77,6 @@ module _ (forced : List (List ℕ)) (before : List Contents) (k l : Contents) (a
 
       by_keep : (keep : Keep) → o.keep ≡ keep → DifferAt (length (kept_locals o before)) (length (kept_locals o (k ∷ [])))
           (rows_kept keep (local_rows p os ++ external_rows p)) (rows_kept keep (local_rows p ps ++ external_rows p))
-      by_keep All e = with_all
-      by_keep NotL e = with_all
-      by_keep Externals e = with_all
       by_keep Nothing e = record {
         front = [];
         own = [];
@@ -91,6 +88,7 @@ module _ (forced : List (List ℕ)) (before : List Contents) (k l : Contents) (a
         counts = none (k ∷ []) e;
         as_many = none (k ∷ []) e;
       }
+      by_keep _ e = with_all
 
   table_counted : length (table p os) ≡ length (table q ps)
   table_counted =
@@ -123,8 +121,7 @@ module _ (forced : List (List ℕ)) (before : List Contents) (k l : Contents) (a
       by_tests true u v w x y e f = refl
       by_tests false true v w x y e f = refl
       by_tests false false false false x y e f = tt
-      by_tests false false true w x y e f = absurd (cc)
-      by_tests false false false true x y e f = absurd (cc)
+      by_tests false false _ _ x y e f = absurd (cc)
 
   -- with -r a fault that refuses the one refuses the other, but for `SymbolNumber`
   pub refused_alike : (fault : LinkFault) → fault ≢ SymbolNumber → link forced os o ≡ Err fault → link forced ps o ≡ Err fault
@@ -139,10 +136,9 @@ module _ (forced : List (List ℕ)) (before : List Contents) (k l : Contents) (a
           cond t (Err DoesNotFit) (cond u (Err TooManySymbols) (cond v (Err SymbolNumber) (Ok x))) in a) ≡ Err fault →
           (let a : Result Outcome LinkFault = cond t (Err DoesNotFit) (cond u (Err TooManySymbols) (cond w (Err SymbolNumber) (Ok y))) in a)
           ≡ Err fault
-      by_tests true u v w x y e = e
-      by_tests false true v w x y e = e
       by_tests false false true w x y e = absurd (others (let same : fault ≡ SymbolNumber = cc in same))
       by_tests false false false w x y e = absurd (cc)
+      by_tests _ _ v w x y e = e
 
   -- the file
 

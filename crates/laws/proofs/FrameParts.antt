@@ -35,12 +35,10 @@ locals_of b keep earlier c = map (moved_local b earlier c) (filter (is_kept_loca
 
 value_same : (b : Bases) (xs ys : List Contents) (c : Contents) → AreAsLong xs ys → (segment : Segment) (value : ℕ) →
     moved_value b xs c segment value ≡ moved_value b ys c segment value
-value_same b xs ys c h Undefined value = refl
-value_same b xs ys c h Absolute value = refl
-value_same b xs ys c h Other value = refl
 value_same b xs ys c h TextSeg value = ap (λ (n : ℕ). plus value (plus (base b TextSeg) n)) (shift_same xs ys c TextSeg h)
 value_same b xs ys c h DataSeg value = ap (λ (n : ℕ). plus value (plus (base b DataSeg) n)) (shift_same xs ys c DataSeg h)
 value_same b xs ys c h BssSeg value = ap (λ (n : ℕ). plus value (plus (base b BssSeg) n)) (shift_same xs ys c BssSeg h)
+value_same b xs ys c h _ value = refl
 
 locals_same : (b : Bases) (keep : Keep) (xs ys : List Contents) (c : Contents) → AreAsLong xs ys →
     locals_of b keep xs c ≡ locals_of b keep ys c

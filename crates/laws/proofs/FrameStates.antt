@@ -31,9 +31,8 @@ near_updated (Defined g m) (Defined h n) c d e f = e
 near_updated (Defined g m) (Wanted n) c d e f = absurd e
 near_updated (Wanted m) (Defined h n) c d e f = absurd e
 near_updated (Wanted m) (Wanted n) (Defined g x) (Defined h y) e f = f
-near_updated (Wanted m) (Wanted n) (Defined g x) (Wanted y) e f = absurd f
-near_updated (Wanted m) (Wanted n) (Wanted x) (Defined h y) e f = absurd f
 near_updated (Wanted m) (Wanted n) (Wanted x) (Wanted y) e f = λ i. max (e i) (f i)
+near_updated (Wanted m) (Wanted n) _ _ e f = absurd f
 
 -- what symbols say of names, by where the segments of their object are
 abbrev pub said_by : (Segment → ℕ) → Symbol → Mention
@@ -42,19 +41,14 @@ said_by at s = record { name = s.name; says = statement_by at (segment_of s) s.v
 near_said : (at : Segment → ℕ) (segment : Segment) (v w : ℕ) → (segment ≡ Undefined → v ≡ w) →
     AreNear (statement_by at segment v) (statement_by at segment w)
 near_said at Undefined v w e = e refl
-near_said at Absolute v w e = refl
-near_said at TextSeg v w e = refl
-near_said at DataSeg v w e = refl
-near_said at BssSeg v w e = refl
-near_said at Other v w e = refl
+near_said at _ v w e = refl
 
 -- the state of a name by one mention of it
 near_once : (a b : State) → AreNear a b → AreNear (state_by (first_of (definition_by a) None) (max (size_wanted_by a) 0))
     (state_by (first_of (definition_by b) None) (max (size_wanted_by b) 0))
 near_once (Defined g m) (Defined h n) e = e
-near_once (Defined g m) (Wanted n) e = absurd e
-near_once (Wanted m) (Defined h n) e = absurd e
 near_once (Wanted m) (Wanted n) e = ap (λ (x : ℕ). max x 0) e
+near_once _ _ e = absurd e
 
 module _ (at : Segment → ℕ) where
   same_segment : (s t : Symbol) → IsRevalued s t → segment_of s ≡ segment_of t
@@ -68,9 +62,8 @@ module _ (at : Segment → ℕ) where
   -- symbols with other values mention the same names
   pub names_revalued : (ss ts : List Symbol) → AreRevalued ss ts → names_of (map (said_by at) ss) ≡ names_of (map (said_by at) ts)
   names_revalued [] [] h = refl
-  names_revalued [] (t ∷ ts) h = absurd h
-  names_revalued (s ∷ ss) [] h = absurd h
   names_revalued (s ∷ ss) (t ∷ ts) h = λ i. h.0.name i ∷ names_revalued ss ts h.1 i
+  names_revalued _ _ h = absurd h
 
   -- the mentions of a name give it states that are near
   pub near_states : (ss ts : List Symbol) → AreRevalued ss ts → (name : List ℕ) →

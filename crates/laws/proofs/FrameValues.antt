@@ -31,22 +31,19 @@ use Rattle.laws.proofs.{FrameBytes.beside_same, FrameParts.locals_differ}
 
 near_size : (a b : State) → AreNear a b → common_size a ≡ common_size b
 near_size (Defined g m) (Defined h n) e = refl
-near_size (Defined g m) (Wanted n) e = absurd e
-near_size (Wanted m) (Defined h n) e = absurd e
 near_size (Wanted m) (Wanted n) e = ap (λ (x : ℕ). common_size (Wanted x)) e
+near_size _ _ e = absurd e
 
 near_undefined : (a b : State) → AreNear a b → is_undefined a ≡ is_undefined b
 near_undefined (Defined g m) (Defined h n) e = refl
-near_undefined (Defined g m) (Wanted n) e = absurd e
-near_undefined (Wanted m) (Defined h n) e = absurd e
 near_undefined (Wanted m) (Wanted n) e = ap (λ (x : ℕ). eqb x 0) e
+near_undefined _ _ e = absurd e
 
 near_bound : (o : Choices) (b : Bases) (m : ℕ) (name : List ℕ) (s t : State) → AreNear s t →
     (final_at o b m name s).bound ≡ (final_at o b m name t).bound
 near_bound o b m name (Defined g x) (Defined h y) e = ap (λ (z : Segment). let r : Option Segment = Some z in r) e
-near_bound o b m name (Defined g x) (Wanted y) e = absurd e
-near_bound o b m name (Wanted x) (Defined h y) e = absurd e
 near_bound o b m name (Wanted x) (Wanted y) e = ap (λ (z : ℕ). (final_at o b m name (Wanted z)).bound) e
+near_bound o b m name _ _ e = absurd e
 
 back_again : (n place : ℕ) → n ≤ place → n + (place - n) ≡ place
 back_again n place h = omega arith

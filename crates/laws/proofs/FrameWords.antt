@@ -25,12 +25,10 @@ module _ (x y : Outcome) (k l m : Contents) (xs ys f g : List Contents)
     (entries : (name : List ℕ) → (entry_of x.file.symbols name ≡ entry_of y.file.symbols name) ⊎ IsRedefined k l name)
     (long : AreAsLong xs ys) (front_long : AreAsLong f g) (totals : (segment : Segment) → total segment f ≡ total segment g) where
   moves : (segment : Segment) → move_in x.file.header xs f m segment ≡ move_in y.file.header ys g m segment
-  moves Undefined = refl
-  moves Absolute = refl
-  moves Other = refl
   moves TextSeg = λ i. minus (0 + front_long TextSeg i) (own m TextSeg)
   moves DataSeg = λ i. minus (base_in (header i) (long BssSeg i) DataSeg + front_long DataSeg i) (own m DataSeg)
   moves BssSeg = λ i. minus (base_in (header i) (long BssSeg i) BssSeg + front_long BssSeg i) (own m BssSeg)
+  moves _ = refl
 
   -- what is added to it for a name that is redefined
   record FollowsBy (r : Reloc) (a b : ℕ) : Type 0 where

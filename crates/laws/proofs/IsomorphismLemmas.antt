@@ -40,9 +40,7 @@ in_its_space file DataSeg of_instructions address has = one_space file has addre
 in_its_space file DataSeg of_data address has = refl
 in_its_space file BssSeg of_instructions address has = one_space file has address
 in_its_space file BssSeg of_data address has = refl
-in_its_space file Undefined space address has = absurd (let bad : false ≡ true = has in cc)
-in_its_space file Absolute space address has = absurd (let bad : false ≡ true = has in cc)
-in_its_space file Other space address has = absurd (let bad : false ≡ true = has in cc)
+in_its_space file _ space address has = absurd (let bad : false ≡ true = has in cc)
 
 -- the low byte of a word, or the high one
 abbrev byte_of : ℕ → ℕ → ℕ
@@ -85,10 +83,7 @@ word_of k is DataSeg has n h =
     let w = get_inside k.data_words (n / 2) inside in
     let r = reloc_inside k.data_reloc (n / 2) (omega (arith, inside, long)) in
     record { w = w.0; r = r.0; word = w.1; reloc = r.1 }
-word_of k is Undefined has n h = absurd has
-word_of k is Absolute has n h = absurd has
-word_of k is BssSeg has n h = absurd has
-word_of k is Other has n h = absurd has
+word_of k is _ has n h = absurd has
 
 -- one link
 
@@ -153,9 +148,7 @@ module _ (forced : List (List ℕ)) (os : List Contents) (o : Choices) (x : Outc
   loaded_place lays (of_object number DataSeg n) space address l =
       let h = word_of l.is.object (is_object number l.is.object l.is.is) DataSeg tt n l.is.inside in
       (_, ap (λ (a : ℕ). core x.file space a) l.at ∙ byte_at number l.is.object l.is.is DataSeg n h space l.in)
-  loaded_place lays (of_object number Undefined n) space address l = absurd (omega (arith, l.is.inside))
-  loaded_place lays (of_object number Absolute n) space address l = absurd (omega (arith, l.is.inside))
-  loaded_place lays (of_object number Other n) space address l = absurd (omega (arith, l.is.inside))
+  loaded_place lays _ space address l = absurd (omega (arith, l.is.inside))
 
   -- a definition gives its address
   defined_value : (name : List ℕ) (number : ℕ) (segment : Segment) (n : ℕ) →
@@ -202,15 +195,13 @@ missing_is_none name = by_tests (bytes_eq name etext) (bytes_eq name edata) (byt
 
 unmoved_target : (to : ℕ → ℕ) (t : Target) → IsNoPlace t → moved_target to t ≡ t
 unmoved_target to (to_place place) none = absurd none
-unmoved_target to (to_end segment) none = refl
-unmoved_target to to_nothing none = refl
+unmoved_target to _ none = refl
 
 missing_is : (forced : List (List ℕ)) (os : List Contents) (o : Choices) (file : Contents) (name : List ℕ) →
     Means forced os o file name missing → (t : Target) → missing_target name ≡ t → IsNoPlace t →
     IsTargetOf forced os o file name t
 missing_is forced os o file name m (to_place place) e none = absurd none
-missing_is forced os o file name m (to_end segment) e none = (m, e)
-missing_is forced os o file name m to_nothing e none = (m, e)
+missing_is forced os o file name m _ e none = (m, e)
 
 missing_value : (o : Choices) → o.relocatable ≡ false → (file : Contents) (os : List Contents) (name : List ℕ) →
     entry_of file.symbols name ≡ Some (undefined_row file.header o name) →
@@ -518,9 +509,7 @@ module _ (forced : List (List ℕ)) (os ps : List Contents) (o : Choices) (layou
   same_byte (of_object number BssSeg n) free s t a b l k = same_zero (of_object number BssSeg n) refl refl s t a b l k
   same_byte (of_object number TextSeg n) free s t a b l k = same_word_byte number TextSeg tt n free s t a b l k
   same_byte (of_object number DataSeg n) free s t a b l k = same_word_byte number DataSeg tt n free s t a b l k
-  same_byte (of_object number Undefined n) free s t a b l k = absurd (omega (arith, l.is.inside))
-  same_byte (of_object number Absolute n) free s t a b l k = absurd (omega (arith, l.is.inside))
-  same_byte (of_object number Other n) free s t a b l k = absurd (omega (arith, l.is.inside))
+  same_byte _ free s t a b l k = absurd (omega (arith, l.is.inside))
 
 -- for `isomorphism_law`: two links of the same objects differ only in where these are
 pub links_isomorphic : LinksAreIsomorphic

@@ -2,7 +2,7 @@
 use Rattle.std.proofs.Common.{◌≡◌, ◌≢◌, ℕ, zero, suc, ◌+◌, ◌-◌, ◌%◌, ◌<◌, ◌≤◌, ◌⊎◌, inl, inr, Bool, true, false, cond, ◌||◌, eqb, nat_lt}
 use Rattle.std.proofs.Common.{List, [], ◌∷◌, take, drop, Option, Some, None, refl, sym, ◌∙◌, ap, subst, arith}
 use Rattle.std.proofs.lemmas.Bool.{ltb-true, ltb-false, eqb-true}
-use Rattle.std.proofs.{lemmas.Option.same_Some, lemmas.Slice.Eq.bytes_eq-Decides}
+use Rattle.std.proofs.{lemmas.Option.same_Some, lemmas.Slice.Eq.bytes_eq-Decides, Math.Bool.or-true}
 use Rattle.std.specs.{Prelude.slice_get, Prelude.sum_by, Prelude.bytes_eq, Prelude.Ok, List.AllByRecursion}
 use Rattle.aout_core.specs.declared.symbol.Segment.TheVariants.{Undefined, Absolute, TextSeg, DataSeg, BssSeg, Other}
 use Rattle.aout_core.specs.{declared.symbol.Symbol.Symbol, declared.symbol.Segment.Segment, Contents.Contents, Addresses.data_start_in}
@@ -40,11 +40,7 @@ place_once (m ∷ ns) (suc i) n once e = by_test (bytes_eq n m) refl (place_once
     among (k ∷ ns) zero e =
         let same : k ≡ n = same_Some k n e in
         ap (λ (t : Bool). t || is_among ns n) (ap (λ (j : List ℕ). bytes_eq n j) same ∙ own_name n)
-    among (k ∷ ns) (suc i) e = ap (λ (t : Bool). bytes_eq n k || t) (among ns i e) ∙ or_true (bytes_eq n k)
-      where
-        or_true : (t : Bool) → (t || true) ≡ true
-        or_true true = refl
-        or_true false = refl
+    among (k ∷ ns) (suc i) e = ap (λ (t : Bool). bytes_eq n k || t) (among ns i e) ∙ or-true (bytes_eq n k)
 
     by_test : (t : Bool) → bytes_eq n m ≡ t → place_of n ns ≡ i → cond (bytes_eq n m) 0 (place_of n ns + 1) ≡ suc i
     by_test true f rest = absurd (let same : n ≡ m = (bytes_eq-Decides n m).0 f in
@@ -149,9 +145,6 @@ module _ (forced : List (List ℕ)) (os : List Contents) (o : Choices) (x : Outc
     object_in : (number : ℕ) (segment : Segment) (n : ℕ) (space : Space) → IsInObject os number segment n →
         has_segment x.file.header.magic segment space ≡ true →
         is_in x.file.header space segment (address_at x.file os (of_object number segment n)) ≡ true
-    object_in number Undefined n space is has = absurd (omega (arith, is.inside))
-    object_in number Absolute n space is has = absurd (omega (arith, is.inside))
-    object_in number Other n space is has = absurd (omega (arith, is.inside))
     object_in number TextSeg n space is has =
         byte_in forced os o x good linked (take number os) is.object (drop (suc number) os)
         (cut os number is.object is.is) space TextSeg has n is.inside
@@ -161,6 +154,7 @@ module _ (forced : List (List ℕ)) (os : List Contents) (o : Choices) (x : Outc
     object_in number BssSeg n space is has =
         byte_in forced os o x good linked (take number os) is.object (drop (suc number) os)
         (cut os number is.object is.is) space BssSeg has n is.inside
+    object_in number _ n space is has = absurd (omega (arith, is.inside))
 
     common_in : (name : List ℕ) (n : ℕ) (space : Space) → IsInCommon forced os name n → has_segment x.file.header.magic
         BssSeg space ≡ true → is_in x.file.header space BssSeg (address_at x.file os (of_common name n)) ≡ true

@@ -1,5 +1,6 @@
 -- Where a line of a program leads: within the text of its object, or by a jump or a call.
-use Rattle.std.proofs.Common.{◌≡◌, ℕ, suc, ◌+◌, ◌-◌, ◌*◌, ◌/◌, ◌%◌, ◌<◌, ◌≤◌, ◌⊎◌, inl, inr, Bool, true, false, ◌||◌, ◌&&◌, eqb, nat_lt}
+use Rattle.std.proofs.Math.Bool.{and-false}
+use Rattle.std.proofs.Common.{◌≡◌, ℕ, suc, ◌+◌, ◌-◌, ◌*◌, ◌/◌, ◌%◌, ◌<◌, ◌≤◌, ◌⊎◌, inl, inr, Bool, true, false, ◌||◌, eqb, nat_lt}
 use Rattle.std.proofs.Common.{if◌then◌else◌, List, ◌∷◌, length, drop, Option, Some, None, refl, sym, ◌∙◌, ap, subst, arith}
 use Rattle.std.proofs.{lemmas.Option.same_Some, lemmas.Bool.and_parts, lemmas.Bool.and_from, lemmas.Bool.or_cases, lemmas.Bool.eqb-true}
 use Rattle.std.proofs.lemmas.Bool.{eq-eqb, lt-ltb, or_left, or_right}
@@ -111,12 +112,8 @@ call_leads file k start p i q c at whole parent e = elim (or_cases
 
 -- control comes to the line after an instruction of the program only if it does in the object
 
-nothing-and : (b : Bool) → (b && false) ≡ false
-nothing-and true = refl
-nothing-and false = refl
-
 no_csv : (file : Contents) (p : ℕ) → calls_csv (stripped file) p ≡ false
-no_csv file p = nothing-and (calls_by_r5 (slice_get file.text_words p))
+no_csv file p = and-false (calls_by_r5 (slice_get file.text_words p))
 
 more_comes_back : (a b : Bool) → (a || false) ≡ true → (a || b) ≡ true
 more_comes_back true b e = refl
@@ -224,26 +221,18 @@ pub record GoesBy (operation : Operation) (place q : ℕ) (x : Option Operand) (
 module _ (file : Contents) (operation : Operation) (place q : ℕ) (x : Option Operand) (word : Option ℕ) (fits : 2 * q < 65536) where
   by_way : jumps operation ≡ true → (o : Option Addressing) → addressing_of x ≡ o →
       is_place q (jump_by None (2 * place + 2) (number word) o) ≡ true → GoesBy operation place q x word
-  by_way j None m e = absurd cc
   by_way j (Some Relative) m e =
       record { jumps = j; way = Relative; mode = m; direct = inl refl; value = placed q (plus (number word) (2 * place + 2)) e }
   by_way j (Some Absolute) m e =
       let is : number word ≡ 2 * q = placed q (number word) e in
       record { jumps = j; way = Absolute; mode = m; direct = inr refl; value = let v : number word % 65536 ≡ 2 * q = omega arith in v }
-  by_way j (Some Immediate) m e = absurd cc
-  by_way j (Some RelativeDeferred) m e = absurd cc
-  by_way j (Some Indexed) m e = absurd cc
+  by_way j _ m e = absurd cc
 
 by_operand : (file : Contents) (operation : Operation) (place q : ℕ) (x : Option Operand) (word : Option ℕ) → 2 * q < 65536 →
     jumps operation ≡ true → is_place q (jump_of (stripped file) place x word) ≡ true → GoesBy operation place q x word
-by_operand file operation place q None word fits j e = absurd cc
 by_operand file operation place q (Some (operands.General m r)) word fits j e =
     by_way file operation place q (Some (operands.General m r)) word fits j (addressing m r) refl e
-by_operand file operation place q (Some (operands.Accumulator v)) word fits j e = absurd cc
-by_operand file operation place q (Some (operands.Register v)) word fits j e = absurd cc
-by_operand file operation place q (Some (operands.Forward v)) word fits j e = absurd cc
-by_operand file operation place q (Some (operands.Backward v)) word fits j e = absurd cc
-by_operand file operation place q (Some (operands.Number v)) word fits j e = absurd cc
+by_operand file operation place q _ word fits j e = absurd cc
 
 goes_by : (file : Contents) (operation : Operation) (place q : ℕ) (x : Option Operand) (word : Option ℕ) → 2 * q < 65536 →
     is_place q (jump (stripped file) operation place x word) ≡ true → GoesBy operation place q x word

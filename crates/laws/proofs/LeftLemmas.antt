@@ -47,10 +47,9 @@ takes_but_last forced more [] h = ap without_last h
 takes_but_last forced more (i ∷ is) h = takes_less forced [] more i is h
 
 inputs_but_last : (left : List Opened) → inputs_opened (without_last left) ≡ without_last (inputs_opened left)
-inputs_but_last [] = refl
-inputs_but_last (f ∷ []) = refl
 inputs_but_last (f ∷ (g ∷ fs)) =
     ap (λ (is : List Input). record { path = f.0; known = f.1; has_failed = false } ∷ is) (inputs_but_last (g ∷ fs))
+inputs_but_last _ = refl
 
 -- ---- line by line
 

@@ -48,10 +48,7 @@ module _ {W E : Type 0} (out_contents : W → Option (List ℕ)) (error_contents
   by_call forced o r status is (Session options names) same run =
       subst (λ (c : Choices). HasRun forced c r) same.0
       (subst (λ (ns : List (List ℕ)). HasRun ns options r) same.1 (by_session names options r status is run))
-  by_call forced o r status is (Ld options names output files) same run = absurd same
-  by_call forced o r status is (Nm options files) same run = absurd same
-  by_call forced o r status is (Size files) same run = absurd same
-  by_call forced o r status is (Strip files) same run = absurd same
+  by_call forced o r status is _ same run = absurd same
 
   pub lines_law : LinesLaw out_contents error_contents
   lines_law forced o r asks well = by_result well.performs.0 well.performs.1 well.performs.2
@@ -93,14 +90,7 @@ module _ {W E : Type 0} (out_contents : W → Option (List ℕ)) (error_contents
   stops_first script lines faults.ManyLines h = all_first script lines (Some many_lines) h
   stops_first script lines faults.ScriptFailed h = h
   stops_first script lines (faults.Memory _) h = named_first script lines h
-  stops_first script lines faults.Usage h = absurd h
-  stops_first script lines (faults.CannotOpen path) h = absurd h
-  stops_first script lines (faults.BadFile path fault) h = absurd h
-  stops_first script lines (faults.BadObject path fault) h = absurd h
-  stops_first script lines (faults.NotAdded path fault) h = absurd h
-  stops_first script lines (faults.NotLinked fault) h = absurd h
-  stops_first script lines (faults.CannotCreate path) h = absurd h
-  stops_first script lines faults.WriteFailed h = absurd h
+  stops_first script lines _ h = absurd h
 
   ends_first : (script : Option (List ℕ)) (runs : List LineRun) (result : Result ℕ CliFault) → EndsAfter script runs result →
       AreFirst script (lines_asked runs)
@@ -162,10 +152,7 @@ module _ {W E : Type 0} (out_contents : W → Option (List ℕ)) (error_contents
   answered_call forced o r result (Session options names) same run =
       subst (λ (c : Choices). HasAnswered forced c r) same.0
       (subst (λ (ns : List (List ℕ)). HasAnswered ns options r) same.1 (answered_session names options r result run))
-  answered_call forced o r result (Ld options names output files) same run = absurd same
-  answered_call forced o r result (Nm options files) same run = absurd same
-  answered_call forced o r result (Size files) same run = absurd same
-  answered_call forced o r result (Strip files) same run = absurd same
+  answered_call forced o r result _ same run = absurd same
 
   pub answers_law : AnswersLaw out_contents error_contents
   answers_law forced o r asks performs = by_words performs.1

@@ -54,14 +54,13 @@ found_bytes disk f g bytes at read there given =
 pub same_found : (disk : Disk) (found left : List Opened) → paths_of found ≡ paths_of left → AreGiven disk found →
     AreThere disk left → found ≡ left
 same_found disk [] [] paths gives there = refl
-same_found disk [] (g ∷ gs) paths gives there = absurd (cc)
-same_found disk (f ∷ fs) [] paths gives there = absurd (cc)
 same_found disk (f ∷ fs) (g ∷ gs) paths gives there =
     let at : f.0 ≡ g.0 = cc in
     let rest : paths_of fs ≡ paths_of gs = cc in
     let first : f ≡ g = found_bytes disk f g there.0.bytes at there.0.read there.0.there gives.0 in
     let others : fs ≡ gs = same_found disk fs gs rest gives.1 there.1 in
     λ i. first i ∷ others i
+same_found disk _ _ paths gives there = absurd (cc)
 
 -- the bytes that are left link as the objects that the session keeps do
 linked_left : (disk : Disk) (forced : List (List ℕ)) (o : Choices) (left : List Opened) (k : undo.Kept) → AreThere disk left →
@@ -132,30 +131,21 @@ Reason cause fault = (cli_text fault ≡ link_text cause) ⊎ CannotRead fault
 
 reason : (cause : LinkFault) (fault : CliFault) →
     (let answer : Result Outcome Refusal = Err (not_linked cause) in IsTrueOf (said_by fault) answer) → Reason cause fault
-reason cause faults.Usage h = absurd h
-reason cause (faults.CannotOpen path) h = absurd h
 reason cause (faults.BadFile path reads.Device) h = inr tt
-reason cause (faults.BadFile path (reads.Memory _)) h = absurd h
 reason cause (faults.BadFile path reads.ShortHeader) h = absurd (cc)
 reason cause (faults.BadFile path reads.BadMagic) h = absurd (cc)
 reason cause (faults.BadFile path reads.OddSize) h = absurd (cc)
 reason cause (faults.BadFile path reads.Truncated) h = absurd (cc)
 reason cause (faults.BadObject path fault) h = absurd (cc)
-reason cause (faults.NotAdded path (adds.Memory _)) h = absurd h
 reason cause (faults.NotAdded path adds.TextFull) h = absurd (cc)
 reason cause (faults.NotAdded path adds.DataFull) h = absurd (cc)
 reason cause (faults.NotAdded path adds.BssFull) h = absurd (cc)
 reason cause (faults.NotAdded path adds.NamesFull) h = absurd (cc)
-reason cause (faults.NotLinked (links.Memory _)) h = absurd h
 reason cause (faults.NotLinked links.DoesNotFit) h = let same : cause ≡ links.DoesNotFit = cc in inl (ap link_text (sym same))
 reason cause (faults.NotLinked links.TooManySymbols) h = let same : cause ≡ links.TooManySymbols = cc in inl (ap link_text (sym same))
 reason cause (faults.NotLinked links.SymbolNumber) h = let same : cause ≡ links.SymbolNumber = cc in inl (ap link_text (sym same))
-reason cause (faults.CannotCreate path) h = absurd h
-reason cause faults.WriteFailed h = absurd h
 reason cause (faults.Memory _) h = inr tt
-reason cause faults.LongLine h = absurd h
-reason cause faults.ManyLines h = absurd h
-reason cause faults.ScriptFailed h = absurd h
+reason cause _ h = absurd h
 
 module _ {W E : Type 0} (out_contents : W → Option (List ℕ)) (error_contents : E → Option (List ℕ)) where
   -- ---- any ld
@@ -181,10 +171,7 @@ module _ {W E : Type 0} (out_contents : W → Option (List ℕ)) (error_contents
             l.output_before l.output_after) run;
         ends = ends;
       }
-      by_call (Nm options files) same run = absurd same
-      by_call (Size files) same run = absurd same
-      by_call (Strip files) same run = absurd same
-      by_call (Session options names) same run = absurd same
+      by_call _ same run = absurd same
 
       by_words : (asks : AsksToLink l.words forced o q paths) →
           RunsWords out_contents l.words l.script (Some l.earlier) (Some (l.earlier ++ l.events)) result l.output_before l.output_after → LdRan
@@ -268,26 +255,15 @@ module _ {W E : Type 0} (out_contents : W → Option (List ℕ)) (error_contents
     no_reason (faults.CannotOpen path) h = tt
     no_reason (faults.BadFile path reads.Device) h = tt
     no_reason (faults.BadFile path (reads.Memory _)) h = absurd h
-    no_reason (faults.BadFile path reads.ShortHeader) h = absurd (cc)
-    no_reason (faults.BadFile path reads.BadMagic) h = absurd (cc)
-    no_reason (faults.BadFile path reads.OddSize) h = absurd (cc)
-    no_reason (faults.BadFile path reads.Truncated) h = absurd (cc)
-    no_reason (faults.BadObject path fault) h = absurd (cc)
     no_reason (faults.NotAdded path (adds.Memory _)) h = absurd h
-    no_reason (faults.NotAdded path adds.TextFull) h = absurd (cc)
-    no_reason (faults.NotAdded path adds.DataFull) h = absurd (cc)
-    no_reason (faults.NotAdded path adds.BssFull) h = absurd (cc)
-    no_reason (faults.NotAdded path adds.NamesFull) h = absurd (cc)
     no_reason (faults.NotLinked (links.Memory _)) h = absurd h
-    no_reason (faults.NotLinked links.DoesNotFit) h = absurd (cc)
-    no_reason (faults.NotLinked links.TooManySymbols) h = absurd (cc)
-    no_reason (faults.NotLinked links.SymbolNumber) h = absurd (cc)
     no_reason (faults.CannotCreate path) h = absurd h
     no_reason faults.WriteFailed h = absurd h
     no_reason (faults.Memory _) h = tt
     no_reason faults.LongLine h = absurd h
     no_reason faults.ManyLines h = absurd h
     no_reason faults.ScriptFailed h = absurd h
+    no_reason _ h = absurd (cc)
 
     ended_by : (output : String Global) → string_bytes output ≡ q → IsLinkRun out_contents forced o output (paths_of left) (Some l.earlier)
         (Some (l.earlier ++ l.events)) result l.output_before l.output_after → Ended

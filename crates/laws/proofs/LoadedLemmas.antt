@@ -1,5 +1,6 @@
 -- What a link puts into the core: words, zeros, and nothing else.
-use Rattle.std.proofs.Common.{◌≡◌, ◌≢◌, ℕ, zero, suc, ◌+◌, ◌-◌, ◌*◌, ◌/◌, ◌%◌, ◌<◌, ◌≤◌, ◌⊎◌, inl, inr, Bool, true, false, cond, eqb, List}
+use Rattle.instructions.proofs.AlikeLemmas.{get_inside}
+use Rattle.std.proofs.Common.{◌≡◌, ◌≢◌, ℕ, zero, ◌+◌, ◌-◌, ◌*◌, ◌/◌, ◌%◌, ◌<◌, ◌≤◌, ◌⊎◌, inl, inr, Bool, true, false, cond, eqb, List}
 use Rattle.std.proofs.Common.{[], ◌∷◌, ◌++◌, length, Some, refl, sym, ◌∙◌, ap, subst, arith}
 use Rattle.std.proofs.lemmas.Bool.{ltb-true, ltb-false, eqb-true, eqb-false}
 use Rattle.std.proofs.{lemmas.List.Sums.sum_by-append, lemmas.Option.slice_get_within, lemmas.Option.same_Some}
@@ -53,17 +54,12 @@ module _ (h : Header) (os before : List Contents) (k : Contents) where
       record { sum = refl; symbol = place_sum (own k DataSeg) n (base_in h (total BssSeg os) DataSeg + total DataSeg before) }
   place_at BssSeg has n =
       record { sum = refl; symbol = place_sum (own k BssSeg) n (base_in h (total BssSeg os) BssSeg + total BssSeg before) }
-  place_at Undefined has n = absurd has
-  place_at Absolute has n = absurd has
-  place_at Other has n = absurd has
+  place_at _ has n = absurd has
 
 pub words_have_place : (segment : Segment) → HasWords segment → HasPlace segment
 words_have_place TextSeg has = tt
 words_have_place DataSeg has = tt
-words_have_place Undefined has = absurd has
-words_have_place Absolute has = absurd has
-words_have_place BssSeg has = absurd has
-words_have_place Other has = absurd has
+words_have_place _ has = absurd has
 
 -- the magic of a link
 
@@ -97,9 +93,8 @@ pub spaces_are_one : (forced : List (List ℕ)) (os : List Contents) (o : Choice
 spaces_are_one forced os o x apart linked = one_space x.file (ap has_one_space (sym (magic_is forced os o x linked)) ∙ one o.layout apart)
   where
     one : (layout : Layout) → layout ≢ Split → has_one_space (magic_of layout) ≡ true
-    one Plain apart = refl
-    one Pure apart = refl
     one Split apart = absurd (apart refl)
+    one _ apart = refl
 
 -- a word of a segment stands in its core
 module _ (file : Contents) (space : Space) where
@@ -107,10 +102,7 @@ module _ (file : Contents) (space : Space) where
       (segment_byte file segment (2 * n) ≡ Some (w % 256)) × (segment_byte file segment (2 * n + 1) ≡ Some (w / 256))
   bytes TextSeg has n w e = (low_byte file.text_words n w e, high_byte file.text_words n w e)
   bytes DataSeg has n w e = (low_byte file.data_words n w e, high_byte file.data_words n w e)
-  bytes Undefined has n w e = absurd has
-  bytes Absolute has n w e = absurd has
-  bytes BssSeg has n w e = absurd has
-  bytes Other has n w e = absurd has
+  bytes _ has n w e = absurd has
 
   pub word_there : (segment : Segment) → HasWords segment → has_segment file.header.magic segment space ≡ true →
       2 * length (segment_words segment file) ≡ bytes_of file.header segment →
@@ -176,18 +168,12 @@ module _ (forced : List (List ℕ)) (os : List Contents) (o : Choices) (x : Outc
   segment_filled : (segment : Segment) → HasWords segment → 2 * length (segment_words segment x.file) ≡ bytes_of x.file.header segment
   segment_filled TextSeg has = full.text_words ∙ sym full.text
   segment_filled DataSeg has = full.data_words ∙ sym full.data
-  segment_filled Undefined has = absurd has
-  segment_filled Absolute has = absurd has
-  segment_filled BssSeg has = absurd has
-  segment_filled Other has = absurd has
+  segment_filled _ has = absurd has
 
   start : (segment : Segment) → HasWords segment → base_in x.file.header (total BssSeg os) segment ≡ first_address x.file.header segment
   start TextSeg has = refl
   start DataSeg has = refl
-  start Undefined has = absurd has
-  start Absolute has = absurd has
-  start BssSeg has = absurd has
-  start Other has = absurd has
+  start _ has = absurd has
 
   module _ (before : List Contents) (k : Contents) (after : List Contents) (all : os ≡ before ++ k ∷ after) where
     front : AllByRecursion IsObject before
@@ -302,19 +288,11 @@ part_at segment (k ∷ ks) n h = by_test (nat_lt n (size_of segment k)) refl (pa
           inside = p.inside;
         }
 
-element : (ws : List ℕ) (i : ℕ) → i < length ws → (w : ℕ) × (slice_get ws i ≡ Some w)
-element [] i h = absurd (omega arith)
-element (w ∷ ws) zero h = (w, refl)
-element (w ∷ ws) (suc i) h = element ws i (omega arith)
-
 object_long : (segment : Segment) → HasWords segment → (k : Contents) → IsObject k →
     2 * length (segment_words segment k) ≡ size_of segment k
 object_long TextSeg has k h = h.fits.text
 object_long DataSeg has k h = h.fits.data
-object_long Undefined has k h = absurd has
-object_long Absolute has k h = absurd has
-object_long BssSeg has k h = absurd has
-object_long Other has k h = absurd has
+object_long _ has k h = absurd has
 
 -- a byte of text or data is of a word of an object
 of_word : (h : Header) (os : List Contents) (space : Space) (segment : Segment) → HasWords segment →
@@ -325,7 +303,7 @@ of_word h os space segment has good start size address inside =
     (below address (first_address h segment) (bytes_of h segment) (total segment os) inside.from inside.before size) in
     let object : IsObject p.k =
     (all_split IsObject p.before (p.k ∷ p.after) (subst (λ (ys : List Contents). AllByRecursion IsObject ys) p.all good)).1.0 in
-    let found = element (segment_words segment p.k) (p.j / 2)
+    let found = get_inside (segment_words segment p.k) (p.j / 2)
     (half p.j (length (segment_words segment p.k)) (size_of segment p.k) p.inside (object_long segment has p.k object)) in
     record {
       before = p.before;
@@ -429,25 +407,19 @@ pub words_loaded : (forced : List (List ℕ)) (before : List Contents) (k : Cont
     AllByRecursion IsObject (before ++ k ∷ after) → o.keep ≢ Nothing → link forced (before ++ k ∷ after) o ≡ Ok x →
     (segment : Segment) (i w : ℕ) (r : Reloc) → slice_get (segment_words segment k) i ≡ Some w →
     slice_get (segment_relocs segment k) i ≡ Some r → IsLoaded x.file x.file.symbols (before ++ k ∷ after) before k segment i w r
-words_loaded forced before k after o x good others linked Undefined i w r ew er = absurd (cc)
-words_loaded forced before k after o x good others linked Absolute i w r ew er = absurd (cc)
-words_loaded forced before k after o x good others linked BssSeg i w r ew er = absurd (cc)
-words_loaded forced before k after o x good others linked Other i w r ew er = absurd (cc)
 words_loaded forced before k after o x good others linked TextSeg i w r ew er =
     loaded_word forced (before ++ k ∷ after) o x good linked before k after refl x.file.symbols TextSeg tt i w r
     (words_relocated forced before k after o x good others linked TextSeg i w r ew er)
 words_loaded forced before k after o x good others linked DataSeg i w r ew er =
     loaded_word forced (before ++ k ∷ after) o x good linked before k after refl x.file.symbols DataSeg tt i w r
     (words_relocated forced before k after o x good others linked DataSeg i w r ew er)
+words_loaded forced before k after o x good others linked _ i w r ew er = absurd (cc)
 
 -- only text and data have words
 pub words_there : (segment : Segment) (k : Contents) (i w : ℕ) → slice_get (segment_words segment k) i ≡ Some w → HasWords segment
 words_there TextSeg k i w e = tt
 words_there DataSeg k i w e = tt
-words_there Undefined k i w e = absurd (cc)
-words_there Absolute k i w e = absurd (cc)
-words_there BssSeg k i w e = absurd (cc)
-words_there Other k i w e = absurd (cc)
+words_there _ k i w e = absurd (cc)
 
 -- each word of a link is relocated by the rows of its relation
 relocated_in : (forced : List (List ℕ)) (os : List Contents) (o : Choices) (x : Outcome) (l : IsLinkedFrom forced os o x)
@@ -456,10 +428,7 @@ relocated_in : (forced : List (List ℕ)) (os : List Contents) (o : Choices) (x 
     slice_get (segment_relocs segment k) i ≡ Some r → IsRelocated x.file l.rows os before k segment i w r
 relocated_in forced os o x l before k after all TextSeg i w r ew er = l.text before k after all i w r ew er
 relocated_in forced os o x l before k after all DataSeg i w r ew er = l.data before k after all i w r ew er
-relocated_in forced os o x l before k after all Undefined i w r ew er = absurd (cc)
-relocated_in forced os o x l before k after all Absolute i w r ew er = absurd (cc)
-relocated_in forced os o x l before k after all BssSeg i w r ew er = absurd (cc)
-relocated_in forced os o x l before k after all Other i w r ew er = absurd (cc)
+relocated_in forced os o x l before k after all _ i w r ew er = absurd (cc)
 
 -- the same by the rows of the relation of linking, so also for a link that keeps no symbols
 pub words_of_rows : (forced : List (List ℕ)) (before : List Contents) (k : Contents) (after : List Contents) (o : Choices) (x : Outcome) →

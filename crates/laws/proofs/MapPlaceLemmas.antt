@@ -47,14 +47,12 @@ small_passed forced os h =
         else (if b then Some BssFull
         else (if nat_lt 65535 (length (externals forced os)) then Some NamesFull
         else None)))) ≡ None → IsSmall os
-    by_tests true e d f b g h = absurd (cc)
-    by_tests false e true f b g h = absurd (cc)
-    by_tests false e false f true g h = absurd (cc)
     by_tests false e false f false g h = record {
       text = ltb-false 65534 (total TextSeg os) e;
       «data» = ltb-false 65534 (total DataSeg os) f;
       bss = ltb-false 65534 (total BssSeg os) g;
     }
+    by_tests _ e _ f _ g h = absurd (cc)
 
 object_in_total : (segment : Segment) (before : List Contents) (k : Contents) (after : List Contents) →
     size_of segment k ≤ total segment (before ++ k ∷ after)

@@ -129,8 +129,6 @@ module _ (line_starts : List Bool) (k : Contents) (part : Part) where
       2 * (i + length rs) ≤ 65534 → slice_get rs j ≡ Some r → slice_get ws j ≡ Some w →
       aim_of line_starts k part (2 * (i + j)) r w ≡ Some aim →
       Contains (leads_in line_starts k part offset rs ws) (record { part = part; offset = 2 * (i + j); aim = aim })
-  lead_there [] ws i offset j r w aim is fits there word_there leads = absurd (cc)
-  lead_there (x ∷ rs) [] i offset j r w aim is fits there word_there leads = absurd (cc)
   lead_there (x ∷ rs) (y ∷ ws) i offset zero r w aim is fits there word_there leads =
       let same : x ≡ r = cc in
       let same_word : y ≡ w = cc in
@@ -150,6 +148,7 @@ module _ (line_starts : List Bool) (k : Contents) (part : Part) where
       (subst (λ (n : ℕ). Contains (leads_in line_starts k part (plus offset 2) rs ws) (record { part = part; offset = n; aim = aim })) step
       (lead_there rs ws (i + 1) (plus offset 2) j r w aim (next_offset i offset is (omega (arith, fits))) (omega (arith, fits)) there word_there
       (ap (λ (n : ℕ). aim_of line_starts k part n r w) step ∙ leads)))
+  lead_there _ _ i offset j r w aim is fits there word_there leads = absurd (cc)
 
 -- a word leads to a symbol as the map has it
 both_true : (a b : Bool) → a && b ≡ true → (a ≡ true) × (b ≡ true)

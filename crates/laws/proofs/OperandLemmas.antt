@@ -63,10 +63,7 @@ module _ (file : Contents) (rows : List Symbol) (os before : List Contents) (k :
         (minus (plus w l.added) (cond (is_pc_relative r) (move_in file.header os before k DataSeg) 0))) l.place.sum
         ∙ by_pc (is_pc_relative r) (base_in file.header (total BssSeg os) DataSeg + total DataSeg before) (own k DataSeg) (2 * i) w l.added;
   }
-  loaded_finds Undefined has i w r l = absurd has
-  loaded_finds Absolute has i w r l = absurd has
-  loaded_finds BssSeg has i w r l = absurd has
-  loaded_finds Other has i w r l = absurd has
+  loaded_finds _ has i w r l = absurd has
 
 -- names
 
@@ -103,9 +100,8 @@ module _ (forced : List (List ℕ)) (os : List Contents) (o : Choices) (unkept :
           (bound_at BssSeg (plus p.at.data_end (common_offset p.mentions name))) in f.address)
           ≡ (let f : Final = cond z (cond r (waiting 0) (reserved_or_waiting p.at name))
           (bound_at BssSeg (plus p.at.data_end (common_offset p.mentions name))) in f.written)
-      by_tests true true = refl
       by_tests true false = reserved_written p.at name
-      by_tests false r = refl
+      by_tests _ _ = refl
 
   value_in : (name : List ℕ) → address_in (external_row p name) ≡ (external_row p name).value
   value_in name = row_address forced os o name ∙ written_by name (state (mentions forced os) name)
@@ -284,9 +280,7 @@ byte_in forced os o x good linked front c back all space segment there n inside 
           under_commons (data_start_in x.file.header + x.file.header.data_size) x.file.header.bss_size (total BssSeg os)
           (total BssSeg front) c.header.bss_size (total BssSeg back) n (sum BssSeg) full.bss h;
     })
-    by_segment Undefined has h = absurd (omega arith)
-    by_segment Absolute has h = absurd (omega arith)
-    by_segment Other has h = absurd (omega arith)
+    by_segment _ has h = absurd (omega arith)
 
 -- for `operand_law`: if no name is multiply defined, a call of a name arrives at its definition
 pub calls_arrive : (forced : List (List ℕ)) (os : List Contents) (o : Choices) (x : Outcome) →

@@ -123,20 +123,15 @@ IsDistance a r kind =
     (counts_from_pc a ≡ true) × (is_pc_relative r ≡ false) × (kind_of r ≡ Some kinds.Absolute) × (kind ≡ kinds.TextSeg)
 
 text_of : (found : Option Kind) (kind : Kind) → within_text found ≡ Some kind → (found ≡ Some kinds.Absolute) × (kind ≡ kinds.TextSeg)
-text_of None kind e = absurd cc
 text_of (Some kinds.Absolute) kind e = (refl, same_Some kind kinds.TextSeg (sym e))
-text_of (Some kinds.TextSeg) kind e = absurd cc
-text_of (Some kinds.DataSeg) kind e = absurd cc
-text_of (Some kinds.BssSeg) kind e = absurd cc
-text_of (Some kinds.External) kind e = absurd cc
+text_of _ kind e = absurd cc
 
 suits_by : (a : Addressing) (r : Reloc) (kind : Kind) (relative pc : Bool) → counts_from_pc a ≡ relative → is_pc_relative r ≡ pc →
     (if relative then (if pc then kind_of r else within_text (kind_of r)) else (if pc then None else kind_of r)) ≡ Some kind →
     Suits a r kind ⊎ IsDistance a r kind
-suits_by a r kind true true e f h = inl (f ∙ sym e, h)
 suits_by a r kind true false e f h = let t = text_of (kind_of r) kind h in inr (e, f, t.0, t.1)
 suits_by a r kind false true e f h = absurd cc
-suits_by a r kind false false e f h = inl (f ∙ sym e, h)
+suits_by a r kind _ _ e f h = inl (f ∙ sym e, h)
 
 suits : (a : Addressing) (r : Reloc) (kind : Kind) → kind_meant a r ≡ Some kind → Suits a r kind ⊎ IsDistance a r kind
 suits a r kind h = suits_by a r kind (counts_from_pc a) (is_pc_relative r) refl refl h
@@ -158,9 +153,7 @@ distance_value a e i w address word move f there = by_mode a e
         machine_value a (address + 2) word ≡ plus move (machine_value a (2 * i + 2) w)
     by_mode Relative e = sums
     by_mode RelativeDeferred e = sums
-    by_mode Absolute e = absurd cc
-    by_mode Immediate e = absurd cc
-    by_mode Indexed e = absurd cc
+    by_mode _ e = absurd cc
 
 -- what the machine makes of a word whose pc bit suits its addressing
 suited_value : (a : Addressing) (r : Reloc) → is_pc_relative r ≡ counts_from_pc a → (i w address word more : ℕ) →
@@ -271,23 +264,15 @@ when_pc true way a e = refl
 when_pc false way a e = absurd cc
 
 has_its_word : (m : Mode) (r : Register) (a : Addressing) → addressing m r ≡ Some a → has_word m r ≡ true
-has_its_word Direct r a e = absurd cc
-has_its_word Deferred r a e = absurd cc
 has_its_word Increment r a e = when_pc (is_pc r) Immediate a e
 has_its_word IncrementDeferred r a e = when_pc (is_pc r) Absolute a e
-has_its_word Decrement r a e = absurd cc
-has_its_word DecrementDeferred r a e = absurd cc
 has_its_word Index r a e = refl
 has_its_word IndexDeferred r a e = refl
+has_its_word _ r a e = absurd cc
 
 pub takes_its_word : (operand : Option Operand) (a : Addressing) → addressing_of operand ≡ Some a → takes_word operand ≡ true
-takes_its_word None a e = absurd cc
 takes_its_word (Some (operands.General m r)) a e = has_its_word m r a e
-takes_its_word (Some (operands.Accumulator v)) a e = absurd cc
-takes_its_word (Some (operands.Register r)) a e = absurd cc
-takes_its_word (Some (operands.Forward v)) a e = absurd cc
-takes_its_word (Some (operands.Backward v)) a e = absurd cc
-takes_its_word (Some (operands.Number v)) a e = absurd cc
+takes_its_word _ a e = absurd cc
 
 -- its word is in the text
 word_inside : (ws : List ℕ) (i w : ℕ) (following : List ℕ) → drop i ws ≡ w ∷ following → (instruction : Instruction) →

@@ -16,12 +16,8 @@ alone word = let e : word % 65536 ≡ (0 + word) % 65536 = omega arith in e
 pub machine_is : (a : Addressing) (pc : Bool) → pc ≡ counts_from_pc a → (address word : ℕ) →
     machine_value a (address + 2) word ≡ operand pc address word
 machine_is Relative true e address word = with_next address word
-machine_is Relative false e address word = absurd cc
 machine_is RelativeDeferred true e address word = with_next address word
-machine_is RelativeDeferred false e address word = absurd cc
-machine_is Absolute true e address word = absurd cc
 machine_is Absolute false e address word = alone word
-machine_is Immediate true e address word = absurd cc
 machine_is Immediate false e address word = alone word
-machine_is Indexed true e address word = absurd cc
 machine_is Indexed false e address word = alone word
+machine_is _ _ e address word = absurd cc

@@ -1,5 +1,6 @@
 -- The instructions at the sure places of an object, in a program, if nothing is suspicious for sure in the object.
-use Rattle.std.proofs.Common.{◌≡◌, ℕ, zero, suc, ◌+◌, ◌*◌, ◌/◌, ◌%◌, ◌<◌, Bool, true, false, inl, inr, List, [], ◌∷◌, ◌++◌, length, drop}
+use Rattle.instructions.proofs.LineLemmas.{from_place}
+use Rattle.std.proofs.Common.{◌≡◌, ℕ, zero, suc, ◌+◌, ◌*◌, ◌/◌, ◌%◌, Bool, true, false, inl, inr, List, [], ◌∷◌, ◌++◌, length, drop}
 use Rattle.std.proofs.Common.{Option, Some, None, refl, sym, ◌∙◌, ap, subst, arith}
 use Rattle.std.proofs.{lemmas.Bool.le-ltb, lemmas.Bool.eqb-true, lemmas.Option.same_Some}
 use Rattle.std.specs.Prelude.{slice_get, slice_index, nat_lt, eqb, cond, if◌then◌else◌, Ok}
@@ -34,16 +35,6 @@ use Rattle.laws.proofs.{InstructionLemmas.moves_low, InstructionPlaceLemmas.inst
 use Rattle.aout_core.specs.declared.symbol.Segment.TheVariants as segs
 use Rattle.aout_core.specs.declared.reloc.Kind.TheVariants as kinds
 use Rattle.instructions.specs.declared.operand.Operand.TheVariants as operands
-
--- the word at a place, and those after it
-words_after : (ws : List ℕ) (i : ℕ) → i < length ws → drop i ws ≡ slice_index ws i ∷ drop (suc i) ws
-words_after [] i h = absurd (omega arith)
-words_after (w ∷ ws) zero h = refl
-words_after (w ∷ ws) (suc i) h = words_after ws i (omega arith)
-
--- splits the words from a place on into the first and the others
-pub words_from : (ws : List ℕ) (i : ℕ) → i < length ws → drop i ws ≡ slice_index ws i ∷ drop (i + 1) ws
-words_from ws i h = let e : suc i ≡ i + 1 = omega arith in words_after ws i h ∙ ap (λ (n : ℕ). slice_index ws i ∷ drop n ws) e
 
 head_of : (ws : List ℕ) (i w : ℕ) (more : List ℕ) → drop i ws ≡ w ∷ more →
     line_of (instruction_of (slice_index ws i)) (slice_index ws i) (drop (suc i) ws) ≡ line_of (instruction_of w) w more
@@ -157,21 +148,13 @@ operand_suits k i w following here instruction is whole still modes operand p pl
 suits_way : (a : Addressing) (pc : Bool) → (is_immediate a ≡ false → pc ≡ counts_from_pc a) → (is_immediate a ≡ true → pc ≡ false) →
     pc ≡ counts_from_pc a
 suits_way Immediate pc other own = own refl
-suits_way Absolute pc other own = other refl
-suits_way Relative pc other own = other refl
-suits_way RelativeDeferred pc other own = other refl
-suits_way Indexed pc other own = other refl
+suits_way _ pc other own = other refl
 
 bit_suits : (k : Contents) (p : ℕ) (operand : Option Operand) (a : Addressing) (r : Reloc) → SuitsMode k p operand →
     addressing_of operand ≡ Some a → slice_get k.text_reloc p ≡ Some r → IsNoDistance k a p → is_relocated (Some r) ≡ true →
     is_pc_relative r ≡ counts_from_pc a
-bit_suits k p None a r s e at near moved = absurd cc
 bit_suits k p (Some (operands.General m register)) a r s e at near moved = suits_way a (is_pc_relative r) (s a r e at moved) (near r at)
-bit_suits k p (Some (operands.Accumulator v)) a r s e at near moved = absurd cc
-bit_suits k p (Some (operands.Register v)) a r s e at near moved = absurd cc
-bit_suits k p (Some (operands.Forward v)) a r s e at near moved = absurd cc
-bit_suits k p (Some (operands.Backward v)) a r s e at near moved = absurd cc
-bit_suits k p (Some (operands.Number v)) a r s e at near moved = absurd cc
+bit_suits k p _ a r s e at near moved = absurd cc
 
 -- what an operand word refers to
 
@@ -202,19 +185,17 @@ meant_by relative pc found = if relative then (if pc then found else within_text
 
 meant_if_same : (relative pc : Bool) (found : Option Kind) → pc ≡ relative → meant_by relative pc found ≡ found
 meant_if_same true true found e = refl
-meant_if_same true false found e = absurd cc
-meant_if_same false true found e = absurd cc
 meant_if_same false false found e = refl
+meant_if_same _ _ found e = absurd cc
 
 abbrev number_or_distance : Bool → Kind
 number_or_distance relative = if relative then kinds.TextSeg else kinds.Absolute
 
 meant_alone : (relative pc : Bool) (found : Option Kind) → pc ≡ false → found ≡ Some kinds.Absolute →
     meant_by relative pc found ≡ Some (number_or_distance relative)
-meant_alone true true found e f = absurd cc
 meant_alone true false found e f = ap within_text f
-meant_alone false true found e f = absurd cc
 meant_alone false false found e f = f
+meant_alone _ true found e f = absurd cc
 
 said_alone : (relative : Bool) →
     (if relative then (let k : Option Kind = Some kinds.TextSeg in k) else Some kinds.Absolute) ≡ Some (number_or_distance relative)
@@ -244,9 +225,7 @@ said_by a r kind false e is bit =
 pub value_small : (a : Addressing) (next w : ℕ) → machine_value a next w ≡ (0 + machine_value a next w) % 65536
 value_small Relative next w = let e : (w + next) % 65536 ≡ (0 + (w + next) % 65536) % 65536 = omega arith in e
 value_small RelativeDeferred next w = let e : (w + next) % 65536 ≡ (0 + (w + next) % 65536) % 65536 = omega arith in e
-value_small Absolute next w = let e : w % 65536 ≡ (0 + w % 65536) % 65536 = omega arith in e
-value_small Immediate next w = let e : w % 65536 ≡ (0 + w % 65536) % 65536 = omega arith in e
-value_small Indexed next w = let e : w % 65536 ≡ (0 + w % 65536) % 65536 = omega arith in e
+value_small _ next w = let e : w % 65536 ≡ (0 + w % 65536) % 65536 = omega arith in e
 
 same_number : (n value address : ℕ) → n ≡ (0 + n) % 65536 → value ≡ address % 65536 → plus (0 + n) 0 ≡ address % 65536 → value ≡ n
 same_number n value address small is there = let p : (0 + n + 0) % 65536 ≡ address % 65536 = there in omega arith
@@ -336,7 +315,7 @@ sure_places_begin e k none i s own =
       w = w;
       following = drop (i + 1) k.text_words;
       instruction = b.instruction;
-      here = words_from k.text_words i (sure_below e k i s);
+      here = from_place k.text_words i (sure_below e k i s);
       is = b.is;
       whole = b.whole;
     }

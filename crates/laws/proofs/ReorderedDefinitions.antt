@@ -110,9 +110,6 @@ definition_found forced os name g n e =
 stated_again : (before front : List Contents) (k : Contents) (segment : Segment) (value : ℕ) (g : Segment) (n : ℕ) →
     statement before k segment value ≡ Defined g n → (m : ℕ) × (statement front k segment value ≡ Defined g m)
 stated_again before front k Undefined value g n e = absurd (let bad : Wanted value ≡ Defined g n = e in cc)
-stated_again before front k Absolute value g n e =
-    let same : Absolute ≡ g = cc in
-    (plus value (shift front k Absolute), ap (λ (s : Segment). Defined s (plus value (shift front k Absolute))) same)
 stated_again before front k TextSeg value g n e =
     let same : TextSeg ≡ g = cc in
     (plus value (shift front k TextSeg), ap (λ (s : Segment). Defined s (plus value (shift front k TextSeg))) same)
@@ -122,7 +119,7 @@ stated_again before front k DataSeg value g n e =
 stated_again before front k BssSeg value g n e =
     let same : BssSeg ≡ g = cc in
     (plus value (shift front k BssSeg), ap (λ (s : Segment). Defined s (plus value (shift front k BssSeg))) same)
-stated_again before front k Other value g n e =
+stated_again before front k _ value g n e =
     let same : Absolute ≡ g = cc in
     (plus value (shift front k Absolute), ap (λ (s : Segment). Defined s (plus value (shift front k Absolute))) same)
 

@@ -56,8 +56,7 @@ module _ (forced : List (List ℕ)) (os ps : List Contents) (o : Choices) (same 
       ≡ Err fault
   refused_alike true u v w x y fault e h = h
   refused_alike false true v w x y fault e h = h
-  refused_alike false false false w x y fault e h = absurd (cc)
-  refused_alike false false true w x y fault e h = absurd (cc)
+  refused_alike false false _ w x y fault e h = absurd (cc)
 
   refused : (fault : LinkFault) → o.relocatable ≡ false → link forced os o ≡ Err fault → link forced ps o ≡ Err fault
   refused fault r h =

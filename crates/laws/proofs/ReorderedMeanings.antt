@@ -55,11 +55,9 @@ module _ (forced : List (List ℕ)) (os : List Contents) (o : Choices) where
           (cond d (bound_at DataSeg p.at.data_end) (cond e (bound_at BssSeg p.at.bss_end) (waiting 0)))))
           ≡ cond r (shown name 0o40 0) (cond t (shown name 0o42 h.text_size) (cond d (shown name 0o43 (data_start_in h + h.data_size))
           (cond e (shown name 0o44 (data_start_in h + h.data_size + h.bss_size)) (shown name 0o40 0))))
-      by_tests true t d e = refl
-      by_tests false true d e = refl
       by_tests false false true e = ap (λ (n : ℕ). shown name 0o43 n) data_ends
       by_tests false false false true = ap (λ (n : ℕ). shown name 0o44 n) bss_ends
-      by_tests false false false false = refl
+      by_tests _ _ _ _ = refl
 
   undefined_shown : (name : List ℕ) → state (mentions forced os) name ≡ Wanted 0 → external_row p name ≡ undefined_row h o name
   undefined_shown name e = ap (λ (s : State). row_at name (final_by p name s)) e ∙ undefined_same name

@@ -85,11 +85,10 @@ open_anywhere name before front k s h same = by_segment (segment_of s) (h same)
     by_segment : (segment : Segment) → ((g : Segment) (n : ℕ) → statement before k segment s.value ≢ Defined g n) →
         (g : Segment) (n : ℕ) → statement front k segment s.value ≢ Defined g n
     by_segment Undefined h g n e = absurd (let bad : Wanted s.value ≡ Defined g n = e in cc)
-    by_segment Absolute h g n e = h Absolute (plus s.value (shift before k Absolute)) refl
     by_segment TextSeg h g n e = h TextSeg (plus s.value (shift before k TextSeg)) refl
     by_segment DataSeg h g n e = h DataSeg (plus s.value (shift before k DataSeg)) refl
     by_segment BssSeg h g n e = h BssSeg (plus s.value (shift before k BssSeg)) refl
-    by_segment Other h g n e = h Absolute (plus s.value (shift before k Absolute)) refl
+    by_segment _ h g n e = h Absolute (plus s.value (shift before k Absolute)) refl
 
 most_anywhere : (name : List ℕ) (most : ℕ) → IsPlaceless (WantsAtMost name most)
 most_anywhere name most before front k s h same = by_segment (segment_of s) (h same)
@@ -97,11 +96,10 @@ most_anywhere name most before front k s h same = by_segment (segment_of s) (h s
     by_segment : (segment : Segment) → ((n : ℕ) → statement before k segment s.value ≡ Wanted n → n ≤ most) → (n : ℕ) →
         statement front k segment s.value ≡ Wanted n → n ≤ most
     by_segment Undefined h n e = h n e
-    by_segment Absolute h n e = absurd (let bad : Defined Absolute (plus s.value (shift front k Absolute)) ≡ Wanted n = e in cc)
     by_segment TextSeg h n e = absurd (let bad : Defined TextSeg (plus s.value (shift front k TextSeg)) ≡ Wanted n = e in cc)
     by_segment DataSeg h n e = absurd (let bad : Defined DataSeg (plus s.value (shift front k DataSeg)) ≡ Wanted n = e in cc)
     by_segment BssSeg h n e = absurd (let bad : Defined BssSeg (plus s.value (shift front k BssSeg)) ≡ Wanted n = e in cc)
-    by_segment Other h n e = absurd (let bad : Defined Absolute (plus s.value (shift front k Absolute)) ≡ Wanted n = e in cc)
+    by_segment _ h n e = absurd (let bad : Defined Absolute (plus s.value (shift front k Absolute)) ≡ Wanted n = e in cc)
 
 -- where no mention defines the name none is the first to
 pub none_first : (ms : List Mention) (name : List ℕ) (segment : Segment) (offset : ℕ) →
@@ -165,11 +163,10 @@ module _ (forced : List (List ℕ)) (os ps : List Contents) (same : IsPermutatio
       ∙ sym (is_among-externals ns name)
     where
       by_tests : (t : Bool) → is_among (names_of ms) name ≡ t → (u : Bool) → is_among (names_of ns) name ≡ u → t ≡ u
-      by_tests true te true ue = refl
-      by_tests false te false ue = refl
       by_tests true te false ue =
           absurd (let bad : true ≡ false = sym te ∙ unnamed_too forced ps os (IsPermutation-sym os ps same) name ue in cc)
       by_tests false te true ue = absurd (let bad : true ≡ false = sym ue ∙ unnamed_too forced os ps same name te in cc)
+      by_tests _ te _ ue = refl
 
   -- the externals are the same, in another order
   pub names_reordered : IsPermutation (names_by_first_mention (mentions forced os)) (names_by_first_mention (mentions forced ps))

@@ -40,9 +40,8 @@ later_on disk (written path text what ∷ events) then h = later_on (with_file d
 later_on disk (looked path found ∷ events) then h = later_on disk events then h
 
 all_but_last : {A : Type 0} (P : A → Type 0) (xs : List A) → AllByRecursion P xs → AllByRecursion P (without_last xs)
-all_but_last P [] h = tt
-all_but_last P (x ∷ []) h = tt
 all_but_last P (x ∷ (y ∷ ys)) h = (h.0, all_but_last P (y ∷ ys) h.1)
+all_but_last P _ h = tt
 
 module _ (disk : Disk) (all : List Event) where
   -- if nothing is stored at the path of a file, it gave the bytes that the disk had there
@@ -59,24 +58,15 @@ module _ (disk : Disk) (all : List Event) where
 
   opened_gave : (now : Disk) (events more : List Event) → Agrees now → IsOn now (events ++ more) →
       AllByRecursion Gave (opened_by events)
-  opened_gave now [] more agrees on = tt
-  opened_gave now (opened path None ∷ events) more agrees on = tt
   opened_gave now (opened path (Some known) ∷ events) more agrees on =
       (λ h. subst (λ (d : Option (List ℕ)). IfSome d (λ bytes. known ≡ Some bytes)) (agrees path h) on.0, tt)
-  opened_gave now (stored path file what ∷ events) more agrees on = tt
-  opened_gave now (written path text what ∷ events) more agrees on = tt
-  opened_gave now (looked path found ∷ events) more agrees on = tt
+  opened_gave now _ more agrees on = tt
 
   line_gave : (a : Asked) (b : Bool) (events : List Event) (left : List Opened) → AllByRecursion Gave left →
       AllByRecursion Gave (opened_by events) → AllByRecursion Gave (left_by a b events left)
   line_gave (to_add path) true events left h k = all_append Gave left (opened_by events) h k
-  line_gave (to_add path) false events left h k = h
   line_gave to_withdraw true events left h k = all_but_last Gave left h
-  line_gave to_withdraw false events left h k = h
-  line_gave for_externals b events left h k = h
-  line_gave for_undefined b events left h k = h
-  line_gave (to_link path) b events left h k = h
-  line_gave for_nothing b events left h k = h
+  line_gave _ _ events left h k = h
 
   lines_gave : (now : Disk) (left : List Opened) (runs : List LineRun) (more : List Event) → Agrees now → AreAmong (events_of runs) →
       IsOn now (events_of runs ++ more) → AllByRecursion Gave left → AllByRecursion Gave (left_after left runs)

@@ -106,11 +106,8 @@ reported_by p name (Wanted size) h r =
         (cond z (cond r (waiting 0) (cond t (bound_at TextSeg p.at.text_end) (cond d (bound_at DataSeg p.at.data_end)
         (cond e (bound_at BssSeg p.at.bss_end) (waiting 0))))) (cond (not r || c) (bound_at BssSeg a) (waiting size)))
     by_tests a z true h c t d e = absurd (cc)
-    by_tests a false false h c t d e = inr (refl, refl)
-    by_tests a true false h c true d e = inr (refl, refl)
-    by_tests a true false h c false true e = inr (refl, refl)
-    by_tests a true false h c false false true = inr (refl, refl)
     by_tests a true false h c false false false = inl (refl, refl)
+    by_tests a _ false h c _ _ _ = inr (refl, refl)
 
 module _ (forced : List (List ℕ)) (os : List Contents) (o : Choices) where
   abbrev p : Plan

@@ -112,13 +112,11 @@ record DoesTheSame (r t : LineRun) : Type 0 where
 
 adds_names : (old new : Kept) (v : Verdict) → AddsIf v old new → new.forced ≡ old.forced
 adds_names old new done h = h.1.forced
-adds_names old new refused h = ap (λ (k : Kept). k.forced) h
-adds_names old new (to_store x) h = ap (λ (k : Kept). k.forced) h
+adds_names old new _ h = ap (λ (k : Kept). k.forced) h
 
 withdraws_names : (old new : Kept) (v : Verdict) → WithdrawsIf v old new → new.forced ≡ old.forced
 withdraws_names old new done h = h.1.forced
-withdraws_names old new refused h = ap (λ (k : Kept). k.forced) h
-withdraws_names old new (to_store x) h = ap (λ (k : Kept). k.forced) h
+withdraws_names old new _ h = ap (λ (k : Kept). k.forced) h
 
 -- an addition of known bytes, if neither memory nor the device fails
 add_done : (known : Option (List ℕ)) (bytes : List ℕ) (old : Kept) (path : List ℕ) (did : Stepped) (r : LineRun) → known ≡ Some bytes →
@@ -234,8 +232,6 @@ record RunTheSame (rs ts : List LineRun) : Type 0 where
 run_the_same : (o : Choices) (old twin new other : Kept) (rs ts : List LineRun) → Alike twin old → Chains o old rs new →
     Chains o twin ts other → lines_asked ts ≡ lines_asked rs → AreGivenTheSame rs ts → RunTheSame rs ts
 run_the_same o old twin new other [] [] same h k lines gives = record { answers = refl; events = refl; status = refl }
-run_the_same o old twin new other [] (t ∷ ts) same h k lines gives = absurd gives
-run_the_same o old twin new other (r ∷ rs) [] same h k lines gives = absurd gives
 run_the_same o old twin new other (r ∷ rs) (t ∷ ts) same h k lines gives =
     let asks : t.line ≡ r.line = cc in
     let later : lines_asked ts ≡ lines_asked rs = cc in
@@ -248,6 +244,7 @@ run_the_same o old twin new other (r ∷ rs) (t ∷ ts) same h k lines gives =
       events = λ i. one.events i ++ rest.events i;
       status = λ i. max (one.status i) (rest.status i);
     }
+run_the_same o old twin new other _ _ same h k lines gives = absurd gives
 
 -- ---- the law: the lines before the two, the two, which give the state back, and the lines after them
 
